@@ -75,3 +75,6 @@ impl Space for FileSpace {
         Err(DeviceFault)
     }
 }
+
+#[cfg(test)]
+mod tests;

@@ -17,3 +17,6 @@ pub use number::{BitFault, read_number};
 pub use order::Order;
 pub use paged::{Memory, Paged};
 pub use space::{DeviceFault, Space};
+
+#[cfg(test)]
+mod spaces;

@@ -157,3 +157,6 @@ impl<S: Space> Space for Paged<S> {
         Ok(())
     }
 }
+
+#[cfg(test)]
+mod tests;
