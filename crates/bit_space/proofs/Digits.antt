@@ -111,7 +111,7 @@ binary_high (suc width) j a n h =
     let e : (a * 2 ^ j + n) / 2 ^ width % 2 ≡ n / 2 ^ width % 2 = high_digit_at width j (j - suc width) a n (omega arith) in
     rw (e, binary_high width j a n (omega arith)) refl
 
-numeral_first : (d p tail : ℕ) → (2 * 0 + d) * p + tail ≡ d * p + tail
+pub numeral_first : (d p tail : ℕ) → (2 * 0 + d) * p + tail ≡ d * p + tail
 numeral_first d p tail = omega arith
 
 -- digits are those of their numeral

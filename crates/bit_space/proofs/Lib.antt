@@ -2,3 +2,5 @@ pub mod Digits
 pub mod Turned
 pub mod Windows
 pub mod Pages
+pub mod Signs
+pub mod Rows

@@ -53,7 +53,7 @@ first_group n xs h =
     let t : nat_le (length xs) 8 ≡ false = lt-leb (length xs) 8 h in
     rw t refl
 
-last_in_front : (g : List ℕ) (gs : List (List ℕ)) → concat (reverse (g ∷ gs)) ≡ concat (reverse gs) ++ g
+pub last_in_front : (g : List ℕ) (gs : List (List ℕ)) → concat (reverse (g ∷ gs)) ≡ concat (reverse gs) ++ g
 last_in_front g gs = rw (reverse_onto gs g [], concat-append (reverse gs) (g ∷ []), append-nil g) refl
 
 little_step : (count n last : ℕ) (xs : List ℕ) → length xs ≡ 8 * suc count + last → 0 < last → AreDigits xs

@@ -25,7 +25,7 @@ window_below window lead width cut h e =
     let l : length xs ≡ width = length-range (bits_of window) lead width (omega (arith, length-bits_of window)) in
     rw e (subst (λ k. numeral xs < 2 ^ k) l (numeral_below xs (range_digits (bits_of window) lead (lead + width) (bits_of_digits window))))
 
-known_bytes : (o : Option (List ℕ)) (bits : List ℕ) → option_map bits_of o ≡ Some bits → (bytes : List ℕ) × (o ≡ Some bytes) × (bits ≡ bits_of bytes)
+pub known_bytes : (o : Option (List ℕ)) (bits : List ℕ) → option_map bits_of o ≡ Some bits → (bytes : List ℕ) × (o ≡ Some bytes) × (bits ≡ bits_of bytes)
 known_bytes None bits e = cc
 known_bytes (Some bytes) bits e = (bytes, refl, cc)
 

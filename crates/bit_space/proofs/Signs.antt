@@ -1,0 +1,86 @@
+-- The digits of a number in either order, and its sign.
+use Rattle.std.proofs.Common.{◌≡◌, ℕ, zero, suc, ◌+◌, ◌*◌, ◌^◌, ◌<◌, Bool, true, false, List, [], ◌∷◌, length, take, drop, reverse, Some, refl, sym, ap, ◌∙◌, arith}
+use Rattle.std.specs.Prelude.{nat_le, nat_lt, if◌then◌else◌, pos, ◌-ℤ◌}
+use Rattle.std.specs.List.{concat}
+use Rattle.std.proofs.lemmas.Bool.{lt-ltb, le-ltb}
+use Rattle.std.proofs.lemmas.Int.{ints}
+use Rattle.std.proofs.lemmas.List.{append-nil, length-append, take-append-drop}
+use Rattle.std.proofs.Math.Nat.{pow-succ'}
+use Rattle.bit_space.specs.declared.order.Order.{Order}
+use Rattle.bit_space.specs.declared.order.Order.TheVariants.{Big, Little}
+use Rattle.bit_space.specs.Bits.{numeral_onto, numeral, groups_from, digits, number, signed_numeral, signed_number, with_sign}
+use Rattle.bit_space.specs.SpaceView.{SpaceView, known_bits, IsWhole}
+use Rattle.bit_space.proofs.Digits.{AreDigits, digits_both, digits_front, digits_back, numeral_below, onto_numeral, bits_of_digits, length-bits_of}
+use Rattle.bit_space.proofs.Turned.{last_in_front}
+use Rattle.bit_space.proofs.Windows.{known_bytes}
+
+length_if : (small : Bool) (bits : List ℕ) (rest : List (List ℕ)) → length (concat (reverse rest)) ≡ length (drop 8 bits) → length (concat (reverse (if small then bits ∷ [] else take 8 bits ∷ rest))) ≡ length bits
+length_if true bits rest e = ap length (append-nil bits)
+length_if false bits rest e =
+    let w : length (take 8 bits) + length (drop 8 bits) ≡ length bits = sym (length-append (take 8 bits) (drop 8 bits)) ∙ ap length (take-append-drop 8 bits) in
+    rw (last_in_front (take 8 bits) rest, length-append (concat (reverse rest)) (take 8 bits), e) (omega (arith, w))
+
+length_groups : (n : ℕ) (bits : List ℕ) → length (concat (reverse (groups_from n bits))) ≡ length bits
+unfolding groups_from
+length_groups zero bits = ap length (append-nil bits)
+length_groups (suc n) bits = length_if (nat_le (length bits) 8) bits (groups_from n (drop 8 bits)) (length_groups n (drop 8 bits))
+
+digits_if : (small : Bool) (bits : List ℕ) (rest : List (List ℕ)) → AreDigits bits → AreDigits (concat (reverse rest)) → AreDigits (concat (reverse (if small then bits ∷ [] else take 8 bits ∷ rest)))
+digits_if true bits rest h g = rw (append-nil bits) h
+digits_if false bits rest h g = rw (last_in_front (take 8 bits) rest) (digits_both (concat (reverse rest)) (take 8 bits) g (digits_front 8 bits h))
+
+digits_groups : (n : ℕ) (bits : List ℕ) → AreDigits bits → AreDigits (concat (reverse (groups_from n bits)))
+unfolding groups_from
+digits_groups zero bits h = rw (append-nil bits) h
+digits_groups (suc n) bits h = digits_if (nat_le (length bits) 8) bits (groups_from n (drop 8 bits)) h (digits_groups n (drop 8 bits) (digits_back 8 bits h))
+
+-- a number has as many digits as bits
+pub length-digits : (order : Order) (bits : List ℕ) → length (digits order bits) ≡ length bits
+unfolding digits
+length-digits Big bits = refl
+length-digits Little bits = length_groups (length bits) bits
+
+pub digits_digits : (order : Order) (bits : List ℕ) → AreDigits bits → AreDigits (digits order bits)
+unfolding digits
+digits_digits Big bits h = h
+digits_digits Little bits h = digits_groups (length bits) bits h
+
+-- a number is below two to the power of its bits
+pub number_of_bits_below : (order : Order) (bits : List ℕ) → AreDigits bits → number order bits < 2 ^ length bits
+unfolding number
+number_of_bits_below order bits h = rw (sym (length-digits order bits)) (numeral_below (digits order bits) (digits_digits order bits h))
+
+sign_plus : (n p q m : ℕ) → q ≡ 2 * p → n < p → m ≡ n → pos n -ℤ pos (0 * p) ≡ (if nat_lt (2 * m) q then pos m else pos m -ℤ pos q)
+sign_plus n p q m e h f =
+    let t : nat_lt (2 * m) q ≡ true = lt-ltb (2 * m) q (omega arith) in
+    rw (t, f) (omega (arith, ints))
+
+same_difference : (n k m q : ℕ) → m + k ≡ n + q → pos n -ℤ pos k ≡ pos m -ℤ pos q
+same_difference n k m q e = omega (arith, ints)
+
+sign_minus : (n p q m : ℕ) → q ≡ 2 * p → m ≡ p + n → pos n -ℤ pos (1 * p) ≡ (if nat_lt (2 * m) q then pos m else pos m -ℤ pos q)
+sign_minus n p q m e f =
+    let t : nat_lt (2 * m) q ≡ false = le-ltb (2 * m) q (omega arith) in
+    rw t (same_difference n (1 * p) m q (omega arith))
+
+-- the sign from the number without one
+pub signed_from : (xs : List ℕ) → AreDigits xs → signed_numeral xs ≡ with_sign (length xs) (numeral xs)
+unfolding signed_numeral numeral_onto
+signed_from [] h = refl
+signed_from (zero ∷ xs) h = sign_plus (numeral xs) (2 ^ length xs) (2 ^ suc (length xs)) (numeral (0 ∷ xs)) (pow-succ' 2 (length xs)) (numeral_below xs h.1) refl
+signed_from (suc zero ∷ xs) h =
+    sign_minus (numeral xs) (2 ^ length xs) (2 ^ suc (length xs)) (numeral (1 ∷ xs)) (pow-succ' 2 (length xs)) (onto_numeral 1 xs ∙ omega arith)
+signed_from (suc (suc d) ∷ xs) h = absurd (omega (arith, h.0))
+
+pub signed_is : (order : Order) (bits : List ℕ) → AreDigits bits → signed_number order bits ≡ with_sign (length bits) (number order bits)
+unfolding signed_number number
+signed_is order bits h = rw (sym (length-digits order bits)) (signed_from (digits order bits) (digits_digits order bits h))
+
+-- what is known of a space's bits
+pub known_digits : (view : SpaceView) (bits : List ℕ) → known_bits view ≡ Some bits → AreDigits bits
+known_digits view bits e = let b = known_bytes view.bytes bits e in rw b.2 (bits_of_digits b.0)
+
+pub known_length : (view : SpaceView) (bits : List ℕ) → IsWhole view → known_bits view ≡ Some bits → length bits ≡ 8 * view.len
+known_length view bits w e =
+    let b = known_bytes view.bytes bits e in
+    rw b.2 (length-bits_of b.0 ∙ ap (λ n. 8 * n) (w b.0 b.1))
