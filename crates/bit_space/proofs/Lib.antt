@@ -4,3 +4,4 @@ pub mod Windows
 pub mod Pages
 pub mod Signs
 pub mod Rows
+pub mod Failures

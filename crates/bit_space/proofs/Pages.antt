@@ -106,6 +106,3 @@ filled_more {before} {now} at done k n into part kept h l s g count e = record {
 -- the whole
 pub filled_all : {view : SpaceView} (at done : ℕ) (into : List ℕ) → Filled view at done into → done ≡ length into → (bytes : List ℕ) → view.bytes ≡ Some bytes → into ≡ slice_range bytes at (at + length into)
 filled_all {view} at done into h e bytes k = sym (take-length into) ∙ subst (λ n. take n into ≡ slice_range bytes at (at + n)) e (h.same bytes k)
-
-pub keeps_all : {a b c : SpaceView} → Keeps a b → Keeps b c → Keeps a c
-keeps_all k h = record { len = h.len ∙ k.len; bytes = h.bytes ∙ k.bytes; failures = omega (arith, k.failures, h.failures) }

@@ -46,7 +46,10 @@ const WINDOW: usize = 9;
 
 /// Reads the number, without a sign, of the `width` bits from bit `pos` on, 1 to 64 of them.
 ///
-/// It takes one step first. Where the bits are inside the space it reads their bytes once.
+/// It takes one step first, and is refused with `Limit` exactly where none is left. It then is
+/// refused with `End` exactly where the bits are not all inside the space. Else it reads their
+/// bytes by one call of `read_at`, and is refused with `Device` only where the space's count of
+/// failures rose.
 pub fn read_number<S: Space>(
     space: &mut S,
     pos: u64,

@@ -1,6 +1,7 @@
 use Rattle.std.proofs.Common.{ℕ, arith}
 use Rattle.std.proofs.lemmas.List.{length-take, length-drop}
-use Rattle.bit_space.proofs.Pages.{keeps_all, filled_more}
+use Rattle.bit_space.proofs.Failures.{keeps_all}
+use Rattle.bit_space.proofs.Pages.{filled_more}
 use Rattle.bit_space.proofs.paged.PagedSpace.read_at.Goals as goal
 
 pub loop-done-preserved : goal.loop-done-preserved
