@@ -3,8 +3,9 @@
 ghost use Rattle.std.specs.Prelude.{◌≡◌, ◌+◌, ◌^◌, ◌<◌};
 ghost use Rattle.bit_space.specs.SpaceView.{unknown, unknown_whole};
 
-use crate::{DeviceFault, MemSpace, Space};
+use crate::{BitFault, DeviceFault, MemSpace, Meter, Order, Space, read_number};
 use std::alloc::Global;
+use std::process::Abort;
 
 /// A space in memory of these bytes.
 pub fn memory(alloc: Global, bytes: &[u8]) -> Option<MemSpace> {
@@ -19,6 +20,20 @@ pub fn numbered(alloc: Global, length: usize) -> Option<MemSpace> {
         bytes.push((at % 251) as u8).ok()?;
     }
     MemSpace::new(bytes).ok()
+}
+
+/// Reads a number, which is to be as wanted.
+pub fn reads<S: Space>(
+    rt: &impl Abort,
+    space: &mut S,
+    bits: (u64, u8, Order),
+    meter: &mut Meter,
+    wanted: Result<u64, BitFault>,
+) {
+    let (pos, width, order) = bits;
+    assert!(rt; 1 <= width && width <= 64);
+    let found = read_number(space, pos, width, order, meter);
+    assert_eq!(rt; found, wanted, "{width} bits at {pos}, {order:?}");
 }
 
 /// Counts the reads of a space.

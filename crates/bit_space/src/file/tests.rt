@@ -1,6 +1,7 @@
 //! A file that is there, one that is cut short, and paths that are no files.
 
-use crate::{BitFault, FileSpace, Meter, OpenFault, Order, Space, read_number};
+use crate::spaces::reads;
+use crate::{BitFault, FileSpace, Meter, OpenFault, Order, Space};
 use std::env::temp_dir;
 use std::fs::{self, OpenOptions};
 use std::process;
@@ -28,29 +29,38 @@ fn files(rt: HostRuntime) -> Result<(), Fail> {
     let mut meter = Meter::new(100);
     let mut space = FileSpace::open(&rt, path.as_str()).ok().ok_or("open")?;
     assert_eq!(rt; space.len(), 3);
-    assert_eq!(rt;
-        read_number(&mut space, 0, 24, Order::Big, &mut meter),
-        Ok(0x010203)
+    reads(
+        &rt,
+        &mut space,
+        (0, 24, Order::Big),
+        &mut meter,
+        Ok(0x010203),
     );
-    assert_eq!(rt;
-        read_number(&mut space, 4, 12, Order::Little, &mut meter),
-        Ok(0x210)
+    reads(
+        &rt,
+        &mut space,
+        (4, 12, Order::Little),
+        &mut meter,
+        Ok(0x210),
     );
-    assert_eq!(rt;
-        read_number(&mut space, 8, 24, Order::Big, &mut meter),
-        Err(BitFault::End)
+    reads(
+        &rt,
+        &mut space,
+        (8, 24, Order::Big),
+        &mut meter,
+        Err(BitFault::End),
     );
     cut_short(&rt, path.as_str(), 1)?;
     assert_eq!(rt; space.len(), 3);
-    assert_eq!(rt;
-        read_number(&mut space, 0, 16, Order::Big, &mut meter),
-        Err(BitFault::Device)
+    reads(
+        &rt,
+        &mut space,
+        (0, 16, Order::Big),
+        &mut meter,
+        Err(BitFault::Device),
     );
     assert_eq!(rt; space.failures, 1);
-    assert_eq!(rt;
-        read_number(&mut space, 0, 8, Order::Big, &mut meter),
-        Ok(1)
-    );
+    reads(&rt, &mut space, (0, 8, Order::Big), &mut meter, Ok(1));
     assert_eq!(rt; space.failures, 1);
     assert_eq!(rt; meter.steps(), 5);
     fs::remove_file(&rt, path.as_str())?;

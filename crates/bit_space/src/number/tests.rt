@@ -1,19 +1,8 @@
 //! Values from outside, refusals, and one read for a number.
 
-use crate::spaces::{Counted, Shifting, memory};
-use crate::{BitFault, MemSpace, Meter, Order, Space, read_number};
-use std::process::Abort;
+use crate::spaces::{Counted, Shifting, memory, reads};
+use crate::{BitFault, Meter, Order, Space};
 use std::test::Fail;
-
-/// Reads a number from memory, with one step.
-fn number_of(rt: &impl Abort, space: &mut MemSpace, pos: u64, width: u8, order: Order) -> u64 {
-    assert!(rt; 1 <= width && width <= 64);
-    let mut meter = Meter::new(1);
-    let number = read_number(space, pos, width, order, &mut meter);
-    assert_eq!(rt; meter.steps(), 1);
-    assert_eq!(rt; meter.made(), 0);
-    number.expect(rt, "a number")
-}
 
 /// Bit position, width, and the number in big and in little order, worked out from the groups.
 const NUMBERS: [(u64, u8, u64, u64); 43] = [
@@ -69,32 +58,46 @@ fn numbers_at_any_bit(rt: HostRuntime) -> Result<(), Fail> {
         0x87,
     ];
     let mut space = memory(rt.alloc(), &bytes).ok_or("memory")?;
+    let mut meter = Meter::new(86);
     for (pos, width, big, little) in NUMBERS {
-        let found = number_of(&rt, &mut space, pos, width, Order::Big);
-        assert_eq!(rt; found, big, "{width} bits at {pos}, big");
-        let found = number_of(&rt, &mut space, pos, width, Order::Little);
-        assert_eq!(rt; found, little, "{width} bits at {pos}, little");
+        reads(
+            &rt,
+            &mut space,
+            (pos, width, Order::Big),
+            &mut meter,
+            Ok(big),
+        );
+        reads(
+            &rt,
+            &mut space,
+            (pos, width, Order::Little),
+            &mut meter,
+            Ok(little),
+        );
     }
+    assert_eq!(rt; meter.steps(), 86);
     Ok(())
 }
 
 #[test]
-fn numbers_of_the_manual(rt: HostRuntime) -> Result<(), Fail> {
+fn numbers_worked_by_hand(rt: HostRuntime) -> Result<(), Fail> {
+    let mut meter = Meter::new(6);
     let mut space = memory(rt.alloc(), &[0x34, 0x12]).ok_or("memory")?;
-    assert_eq!(rt; number_of(&rt, &mut space, 0, 12, Order::Big), 833);
-    assert_eq!(rt; number_of(&rt, &mut space, 0, 12, Order::Little), 308);
+    reads(&rt, &mut space, (0, 12, Order::Big), &mut meter, Ok(833));
+    reads(&rt, &mut space, (0, 12, Order::Little), &mut meter, Ok(308));
     let mut space = memory(rt.alloc(), &[0x12, 0x34]).ok_or("memory")?;
-    assert_eq!(rt; number_of(&rt, &mut space, 0, 16, Order::Little), 13330);
-    assert_eq!(rt; number_of(&rt, &mut space, 0, 16, Order::Big), 4660);
-    let mut space = memory(
-        rt.alloc(),
-        &[0x01, 0x23, 0x45, 0x67, 0x89, 0xab, 0xcd, 0xef, 0x01],
-    )
-    .ok_or("memory")?;
-    assert_eq!(rt;
-        number_of(&rt, &mut space, 4, 64, Order::Big),
-        1_311_768_467_463_790_320
+    reads(
+        &rt,
+        &mut space,
+        (0, 16, Order::Little),
+        &mut meter,
+        Ok(13330),
     );
+    reads(&rt, &mut space, (0, 16, Order::Big), &mut meter, Ok(4660));
+    let bytes = [0x01, 0x23, 0x45, 0x67, 0x89, 0xab, 0xcd, 0xef, 0x01];
+    let mut space = memory(rt.alloc(), &bytes).ok_or("memory")?;
+    let wanted = Ok(1_311_768_467_463_790_320);
+    reads(&rt, &mut space, (4, 64, Order::Big), &mut meter, wanted);
     Ok(())
 }
 
@@ -103,37 +106,49 @@ fn refuses_in_order(rt: HostRuntime) -> Result<(), Fail> {
     let mut space = memory(rt.alloc(), &[0xff, 0xfe]).ok_or("memory")?;
     let mut meter = Meter::new(3);
     assert_eq!(rt; meter.limit(), 3);
-    assert_eq!(rt;
-        read_number(&mut space, 0, 16, Order::Big, &mut meter),
-        Ok(0xfffe)
-    );
+    reads(&rt, &mut space, (0, 16, Order::Big), &mut meter, Ok(0xfffe));
+    assert!(rt; meter.made() < meter.steps());
     meter.note_made();
     assert_eq!(rt; meter.made(), 1);
-    assert_eq!(rt;
-        read_number(&mut space, 1, 16, Order::Big, &mut meter),
-        Err(BitFault::End)
+    reads(
+        &rt,
+        &mut space,
+        (1, 16, Order::Big),
+        &mut meter,
+        Err(BitFault::End),
     );
-    assert_eq!(rt;
-        read_number(&mut space, u64::MAX, 64, Order::Big, &mut meter),
-        Err(BitFault::End)
+    reads(
+        &rt,
+        &mut space,
+        (u64::MAX, 64, Order::Big),
+        &mut meter,
+        Err(BitFault::End),
     );
     assert_eq!(rt; meter.steps(), 3);
-    assert_eq!(rt;
-        read_number(&mut space, 0, 16, Order::Big, &mut meter),
-        Err(BitFault::Limit)
+    reads(
+        &rt,
+        &mut space,
+        (0, 16, Order::Big),
+        &mut meter,
+        Err(BitFault::Limit),
     );
-    assert_eq!(rt;
-        read_number(&mut space, u64::MAX, 64, Order::Big, &mut meter),
-        Err(BitFault::Limit)
+    reads(
+        &rt,
+        &mut space,
+        (u64::MAX, 64, Order::Big),
+        &mut meter,
+        Err(BitFault::Limit),
     );
     assert_eq!(rt; meter.steps(), 3);
     assert!(rt; meter.tick().is_err());
     let mut empty = memory(rt.alloc(), &[]).ok_or("memory")?;
     assert_eq!(rt; empty.len(), 0);
-    let mut meter = Meter::new(1);
-    assert_eq!(rt;
-        read_number(&mut empty, 0, 1, Order::Little, &mut meter),
-        Err(BitFault::End)
+    reads(
+        &rt,
+        &mut empty,
+        (0, 1, Order::Little),
+        &mut Meter::new(1),
+        Err(BitFault::End),
     );
     Ok(())
 }
@@ -142,19 +157,35 @@ fn refuses_in_order(rt: HostRuntime) -> Result<(), Fail> {
 fn reads_once(rt: HostRuntime) -> Result<(), Fail> {
     let mut meter = Meter::new(100);
     let mut space = Shifting::new(16);
-    let number = read_number(&mut space, 4, 64, Order::Big, &mut meter);
-    assert_eq!(rt; number, Ok(0x1010_1010_1010_1010));
-    let number = read_number(&mut space, 4, 64, Order::Big, &mut meter);
-    assert_eq!(rt; number, Ok(0x2020_2020_2020_2020));
+    reads(
+        &rt,
+        &mut space,
+        (4, 64, Order::Big),
+        &mut meter,
+        Ok(0x1010_1010_1010_1010),
+    );
+    reads(
+        &rt,
+        &mut space,
+        (4, 64, Order::Big),
+        &mut meter,
+        Ok(0x2020_2020_2020_2020),
+    );
     let mut space = Counted::new(memory(rt.alloc(), &[1, 2, 3]).ok_or("memory")?);
-    assert_eq!(rt;
-        read_number(&mut space, 3, 17, Order::Little, &mut meter),
-        Ok(0x1008)
+    reads(
+        &rt,
+        &mut space,
+        (3, 17, Order::Little),
+        &mut meter,
+        Ok(0x1008),
     );
     assert_eq!(rt; space.reads(), 1);
-    assert_eq!(rt;
-        read_number(&mut space, 9, 16, Order::Little, &mut meter),
-        Err(BitFault::End)
+    reads(
+        &rt,
+        &mut space,
+        (9, 16, Order::Little),
+        &mut meter,
+        Err(BitFault::End),
     );
     assert_eq!(rt; space.reads(), 1);
     Ok(())

@@ -1,22 +1,30 @@
 //! The bytes and the reads of pages, refused memory, and reads that fail.
 
-use crate::spaces::{Counted, Failing, numbered};
+use crate::spaces::{Counted, Failing, numbered, reads};
 use crate::{BitFault, MemSpace, Meter, Order, Paged, Space, read_number};
+use std::alloc::Global;
 use std::test::Fail;
+
+/// Pages over the bytes 0 to 250, again and again, that count the reads.
+fn counted_pages(alloc: Global, length: usize) -> Option<Paged<Counted<MemSpace>>> {
+    Paged::new(alloc, Counted::new(numbered(alloc, length)?)).ok()
+}
 
 #[test]
 fn pages_give_the_bytes(rt: HostRuntime) -> Result<(), Fail> {
     let mut bytes = vec![in rt.alloc(); 0u8; 4095]?;
     bytes.push(0x12)?;
     bytes.push(0x34)?;
-    let mut paged = Paged::new(rt.alloc(), MemSpace::new(bytes).ok().ok_or("length")?)
-        .ok()
-        .ok_or("memory")?;
+    let space = MemSpace::new(bytes).ok().ok_or("length")?;
+    let mut paged = Paged::new(rt.alloc(), space).ok().ok_or("memory")?;
     assert_eq!(rt; paged.len(), 4097);
     let mut meter = Meter::new(1);
-    assert_eq!(rt;
-        read_number(&mut paged, 32760, 16, Order::Big, &mut meter),
-        Ok(4660)
+    reads(
+        &rt,
+        &mut paged,
+        (32760, 16, Order::Big),
+        &mut meter,
+        Ok(4660),
     );
     assert_eq!(rt; meter.steps(), 1);
     Ok(())
@@ -24,30 +32,39 @@ fn pages_give_the_bytes(rt: HostRuntime) -> Result<(), Fail> {
 
 #[test]
 fn pages_are_kept(rt: HostRuntime) -> Result<(), Fail> {
-    let alloc = rt.alloc();
     let mut meter = Meter::new(100_000);
-    let mut paged = Paged::new(alloc, Counted::new(numbered(alloc, 8192).ok_or("memory")?))
-        .ok()
-        .ok_or("memory")?;
+    let mut paged = counted_pages(rt.alloc(), 8192).ok_or("memory")?;
     for at in 0..8192 {
-        let number = read_number(&mut paged, 8 * at, 8, Order::Big, &mut meter);
-        assert_eq!(rt; number, Ok(at % 251), "byte {at}");
+        reads(
+            &rt,
+            &mut paged,
+            (8 * at, 8, Order::Big),
+            &mut meter,
+            Ok(at % 251),
+        );
     }
     assert_eq!(rt; paged.inner.reads(), 2);
-    let mut paged = Paged::new(
-        alloc,
-        Counted::new(numbered(alloc, 17 * 4096).ok_or("memory")?),
-    )
-    .ok()
-    .ok_or("memory")?;
+    let mut paged = counted_pages(rt.alloc(), 17 * 4096).ok_or("memory")?;
     for page in 0..16u64 {
-        let number = read_number(&mut paged, 32768 * page, 8, Order::Big, &mut meter);
-        assert_eq!(rt; number, Ok(4096 * page % 251), "page {page}");
+        let wanted = Ok(4096 * page % 251);
+        reads(
+            &rt,
+            &mut paged,
+            (32768 * page, 8, Order::Big),
+            &mut meter,
+            wanted,
+        );
     }
     assert_eq!(rt; paged.inner.reads(), 16);
     for page in [0u64, 16, 0, 1] {
-        let number = read_number(&mut paged, 32768 * page, 8, Order::Big, &mut meter);
-        assert_eq!(rt; number, Ok(4096 * page % 251), "page {page} again");
+        let wanted = Ok(4096 * page % 251);
+        reads(
+            &rt,
+            &mut paged,
+            (32768 * page, 8, Order::Big),
+            &mut meter,
+            wanted,
+        );
     }
     assert_eq!(rt; paged.inner.reads(), 18);
     Ok(())
@@ -71,56 +88,62 @@ fn pages_across(rt: HostRuntime) -> Result<(), Fail> {
     Ok(())
 }
 
-/// Whether all numbers of a paged space are right, at the first and at a later reading. Where an
-/// allocation is refused meanwhile they are the same.
+/// Where an allocation is refused meanwhile the numbers are the same.
 #[test]
 fn pages_without_memory(rt: HostRuntime) -> Result<(), Fail> {
-    let alloc = rt.alloc();
-    let Some(space) = numbered(alloc, 9000) else {
-        return Ok(());
-    };
-    let Ok(mut paged) = Paged::new(alloc, Counted::new(space)) else {
+    let Some(mut paged) = counted_pages(rt.alloc(), 9000) else {
         return Ok(());
     };
     let mut meter = Meter::new(100_000);
     for at in [0u64, 1, 4095, 4096, 8999, 0, 8191, 8192] {
-        let number = read_number(&mut paged, 8 * at, 8, Order::Big, &mut meter);
-        assert_eq!(rt; number, Ok(at % 251), "byte {at}");
+        reads(
+            &rt,
+            &mut paged,
+            (8 * at, 8, Order::Big),
+            &mut meter,
+            Ok(at % 251),
+        );
     }
     assert!(rt; paged.inner.reads() <= 4);
     Ok(())
 }
 
 #[test]
-fn failures_pass_through(rt: HostRuntime) -> Result<(), Fail> {
-    let alloc = rt.alloc();
+fn failures_without_pages(rt: HostRuntime) -> Result<(), Fail> {
     for failing in 1..=4u64 {
         let mut meter = Meter::new(1000);
-        let mut space = Failing::new(numbered(alloc, 9000).ok_or("memory")?, failing);
+        let space = numbered(rt.alloc(), 9000).ok_or("memory")?;
+        let mut space = Failing::new(space, failing);
         for read in 1..=5u64 {
             let number = read_number(&mut space, 4088 * 8, 64, Order::Big, &mut meter);
-            assert_eq!(rt; number.is_err(), read == failing, "plain, read {read}");
+            assert_eq!(rt;
+                number.is_err(),
+                read == failing,
+                "read {read} of {failing}"
+            );
             assert_eq!(rt; space.failures(), u64::from(read >= failing));
             assert_eq!(rt; meter.steps(), read);
         }
     }
+    Ok(())
+}
+
+#[test]
+fn failures_under_pages(rt: HostRuntime) -> Result<(), Fail> {
     for failing in 1..=3u64 {
         let mut meter = Meter::new(1000);
-        let space = Failing::new(numbered(alloc, 9000).ok_or("memory")?, failing);
-        let mut paged = Paged::new(alloc, space).ok().ok_or("memory")?;
-        let mut failed = 0u64;
-        for at in [0u64, 4100, 8200] {
-            let number = read_number(&mut paged, 8 * at, 8, Order::Big, &mut meter);
-            if number == Err(BitFault::Device) {
-                failed = failed.wrapping_add(1);
+        let space = numbered(rt.alloc(), 9000).ok_or("memory")?;
+        let space = Failing::new(space, failing);
+        let mut paged = Paged::new(rt.alloc(), space).ok().ok_or("memory")?;
+        for read in 1..=3u64 {
+            let at = 4100 * (read - 1);
+            let bits = (8 * at, 8, Order::Big);
+            if read == failing {
+                reads(&rt, &mut paged, bits, &mut meter, Err(BitFault::Device));
                 assert_eq!(rt; paged.inner.failures(), 1);
-                let again = read_number(&mut paged, 8 * at, 8, Order::Big, &mut meter);
-                assert_eq!(rt; again, Ok(at % 251), "byte {at} again");
-            } else {
-                assert_eq!(rt; number, Ok(at % 251), "byte {at}");
             }
+            reads(&rt, &mut paged, bits, &mut meter, Ok(at % 251));
         }
-        assert_eq!(rt; failed, 1, "failing at {failing}");
         assert_eq!(rt; meter.steps(), 4);
         assert_eq!(rt; paged.inner.failures(), 1);
     }
