@@ -1,2 +1,9 @@
+pub mod Levels
+pub mod Limits
+pub mod Operators
+pub mod Pickles
+pub mod ReadExpressions
+pub mod Reading
+pub mod Show
 pub mod Tokens
 pub mod Tree

@@ -1,0 +1,6 @@
+//! The parser.
+
+mod expressions;
+pub mod fault;
+mod operators;
+mod reading;
