@@ -1,1 +1,5 @@
 pub mod Chain
+pub mod ExpressionsAgain
+pub mod FrontFacts
+pub mod OperatorFacts
+pub mod Results
