@@ -1,5 +1,6 @@
 pub mod Chain
 pub mod ExpressionsAgain
+pub mod ExpressionsSound
 pub mod FrontFacts
 pub mod OperatorFacts
 pub mod Results

@@ -1,5 +1,5 @@
 -- What is known of an answer, step by step.
-use Rattle.std.proofs.Common.{◌≡◌, refl, subst, sym, Result, Ok, Err}
+use Rattle.std.proofs.Common.{◌≡◌, Bool, true, false, cond, refl, subst, Result, Ok, Err}
 use Rattle.pickle_syntax.specs.Reading.{Fault, ◌>>=◌}
 
 abbrev ok : {A : Type 0} → A → Result A Fault
@@ -23,3 +23,8 @@ fault Good Bad f b = record { good = λ y e. absurd cc; bad = λ d e. let same :
 pub then : {A B : Type 0} {GoodA : A → Type 0} {BadA : Fault → Type 0} {GoodB : B → Type 0} {BadB : Fault → Type 0} (r : Result A Fault) (f : A → Result B Fault) → Outcome GoodA BadA r → ((x : A) → r ≡ Ok x → GoodA x → Outcome GoodB BadB (f x)) → ((d : Fault) → BadA d → BadB d) → Outcome GoodB BadB (r >>= f)
 then (Ok x) f o more less = more x refl (o.good x refl)
 then (Err d) f o more less = fault _ _ d (less d (o.bad d refl))
+
+-- one of two answers
+pub either : {A : Type 0} {Good : A → Type 0} {Bad : Fault → Type 0} (b : Bool) (x y : Result A Fault) → (b ≡ true → Outcome Good Bad x) → (b ≡ false → Outcome Good Bad y) → Outcome Good Bad (cond b x y)
+either true x y l r = l refl
+either false x y l r = r refl
