@@ -87,20 +87,20 @@ module _ (sub : Reader) (room : ℕ) (law : HasLaw sub room) where
   operand_by_law : (s : Sign) (rest : List Token) (r : Start) → StartIs r s → Outcome (Reads (room + 1) 13 (Mark s ∷ rest)) (Refused (room + 1) (Mark s ∷ rest)) (operand_by sub rest r)
   operand_by_law s rest start.Bracket is =
       then (sub 1 rest) (λ e. expect sign.CloseParen e.1 >>= λ after. Ok (Bracket e.0, after)) (law 1 rest (omega arith) (omega arith))
-        (λ e _ inner. then (expect sign.CloseParen e.1) (λ after. Ok (Bracket e.0, after)) (expect_law sign.CloseParen e.1)
-          (λ after _ close.
-              let low = inner.low in
-              let shown = shown_closed [] (show e.0) (Mark s ∷ rest) rest e.1 after (Mark sign.OpenParen) (Mark sign.CloseParen) (ap (λ (m : Sign). Mark m ∷ rest) is) inner.shown close in
-              value _ _ (Bracket e.0, after) (record { shown = shown; fine = inner.fine; high = omega arith; low = omega arith }))
-          (refused_wrong (room + 1) (Mark s ∷ rest)))
-        (refused_more room (room + 1) rest (Mark s ∷ rest) (λ h. omega arith))
+      (λ e _ inner. then (expect sign.CloseParen e.1) (λ after. Ok (Bracket e.0, after)) (expect_law sign.CloseParen e.1)
+      (λ after _ close.
+      let low = inner.low in
+      let shown = shown_closed [] (show e.0) (Mark s ∷ rest) rest e.1 after (Mark sign.OpenParen) (Mark sign.CloseParen) (ap (λ (m : Sign). Mark m ∷ rest) is) inner.shown close in
+      value _ _ (Bracket e.0, after) (record { shown = shown; fine = inner.fine; high = omega arith; low = omega arith }))
+      (refused_wrong (room + 1) (Mark s ∷ rest)))
+      (refused_more room (room + 1) rest (Mark s ∷ rest) (λ h. omega arith))
   operand_by_law s rest (start.Prefix op) is =
       then (sub 13 rest) (λ e. Ok (Before op e.0, e.1)) (law 13 rest (omega arith) (omega arith))
-        (λ e _ inner.
-            let low = inner.low in
-            let shown : Mark s ∷ rest ≡ show (Before op e.0) ++ e.1 = ap (λ (m : Sign). Mark m ∷ rest) is ∙ ap (λ (l : List Token). Mark (prefix_sign op) ∷ l) inner.shown in
-            value _ _ (Before op e.0, e.1) (record { shown = shown; fine = (inner.fine, inner.high); high = omega arith; low = omega arith }))
-        (refused_more room (room + 1) rest (Mark s ∷ rest) (λ h. omega arith))
+      (λ e _ inner.
+      let low = inner.low in
+      let shown : Mark s ∷ rest ≡ show (Before op e.0) ++ e.1 = ap (λ (m : Sign). Mark m ∷ rest) is ∙ ap (λ (l : List Token). Mark (prefix_sign op) ∷ l) inner.shown in
+      value _ _ (Before op e.0, e.1) (record { shown = shown; fine = (inner.fine, inner.high); high = omega arith; low = omega arith }))
+      (refused_more room (room + 1) rest (Mark s ∷ rest) (λ h. omega arith))
   operand_by_law s rest start.Nothing is = fault _ _ Wrong tt
 
   operand_law : (toks : List Token) → Outcome (Reads (room + 1) 13 toks) (Refused (room + 1) toks) (operand_at sub toks)
@@ -119,53 +119,53 @@ module _ (sub : Reader) (room : ℕ) (law : HasLaw sub room) where
       let m = level_middle op in
       let most = m.most in
       then (sub (level op + 1) (drop 1 toks)) (λ right. Ok (Between op left right.0, right.1)) (law (level op + 1) (drop 1 toks) (omega arith) (omega arith))
-        (λ r _ right.
-            let low2 = right.low in
-            let shown = shown_two (show left) (show r.0) toks (drop 1 toks) r.1 (Mark (infix_sign op)) front right.shown in
-            value _ _ (Between op left r.0, r.1) (record { read = record { shown = shown; fine = (fine, right.fine, high, right.high); high = own; low = omega arith }; deeper = omega arith }))
-        (λ d w. w)
+      (λ r _ right.
+      let low2 = right.low in
+      let shown = shown_two (show left) (show r.0) toks (drop 1 toks) r.1 (Mark (infix_sign op)) front right.shown in
+      value _ _ (Between op left r.0, r.1) (record { read = record { shown = shown; fine = (fine, right.fine, high, right.high); high = own; low = omega arith }; deeper = omega arith }))
+      (λ d w. w)
   step_law least left toks next.Choice fine low own high front =
       then (sub 1 (drop 1 toks)) (λ x. expect sign.Colon x.1 >>= λ after. sub 1 after >>= λ y. Ok (Choice left x.0 y.0, y.1)) (law 1 (drop 1 toks) (omega arith) (omega arith))
-        (λ x _ first. then (expect sign.Colon x.1) (λ after. sub 1 after >>= λ y. Ok (Choice left x.0 y.0, y.1)) (expect_law sign.Colon x.1)
-          (λ after _ colon. then (sub 1 after) (λ y. Ok (Choice left x.0 y.0, y.1)) (law 1 after (omega arith) (omega arith))
-            (λ y _ second.
-                let low2 = first.low in
-                let low3 = second.low in
-                let shown = shown_three (show left) (show x.0) (show y.0) toks (drop 1 toks) x.1 after y.1 (Mark sign.Question) (Mark sign.Colon) front first.shown colon second.shown in
-                value _ _ (Choice left x.0 y.0, y.1) (record { read = record { shown = shown; fine = (fine, first.fine, second.fine, high); high = own; low = omega arith }; deeper = omega arith }))
-            (refused_later room room (drop 1 toks) (show x.0 ++ Mark sign.Colon ∷ []) after (first.shown ∙ ap (λ (l : List Token). show x.0 ++ l) colon ∙ sym (append_assoc (show x.0) (Mark sign.Colon ∷ []) after)) (omega arith)))
-          (refused_wrong room (drop 1 toks)))
-        (λ d w. w)
+      (λ x _ first. then (expect sign.Colon x.1) (λ after. sub 1 after >>= λ y. Ok (Choice left x.0 y.0, y.1)) (expect_law sign.Colon x.1)
+      (λ after _ colon. then (sub 1 after) (λ y. Ok (Choice left x.0 y.0, y.1)) (law 1 after (omega arith) (omega arith))
+      (λ y _ second.
+      let low2 = first.low in
+      let low3 = second.low in
+      let shown = shown_three (show left) (show x.0) (show y.0) toks (drop 1 toks) x.1 after y.1 (Mark sign.Question) (Mark sign.Colon) front first.shown colon second.shown in
+      value _ _ (Choice left x.0 y.0, y.1) (record { read = record { shown = shown; fine = (fine, first.fine, second.fine, high); high = own; low = omega arith }; deeper = omega arith }))
+      (refused_later room room (drop 1 toks) (show x.0 ++ Mark sign.Colon ∷ []) after (first.shown ∙ ap (λ (l : List Token). show x.0 ++ l) colon ∙ sym (append_assoc (show x.0) (Mark sign.Colon ∷ []) after)) (omega arith)))
+      (refused_wrong room (drop 1 toks)))
+      (λ d w. w)
   step_law least left toks next.Index fine low own high front =
       then (sub 1 (drop 1 toks)) (λ i. expect sign.CloseBracket i.1 >>= λ after. Ok (Index left i.0, after)) (law 1 (drop 1 toks) (omega arith) (omega arith))
-        (λ i _ index. then (expect sign.CloseBracket i.1) (λ after. Ok (Index left i.0, after)) (expect_law sign.CloseBracket i.1)
-          (λ after _ close.
-              let low2 = index.low in
-              let shown = shown_closed (show left) (show i.0) toks (drop 1 toks) i.1 after (Mark sign.OpenBracket) (Mark sign.CloseBracket) front index.shown close in
-              value _ _ (Index left i.0, after) (record { read = record { shown = shown; fine = (fine, index.fine, high); high = own; low = omega arith }; deeper = omega arith }))
-          (refused_wrong room (drop 1 toks)))
-        (λ d w. w)
+      (λ i _ index. then (expect sign.CloseBracket i.1) (λ after. Ok (Index left i.0, after)) (expect_law sign.CloseBracket i.1)
+      (λ after _ close.
+      let low2 = index.low in
+      let shown = shown_closed (show left) (show i.0) toks (drop 1 toks) i.1 after (Mark sign.OpenBracket) (Mark sign.CloseBracket) front index.shown close in
+      value _ _ (Index left i.0, after) (record { read = record { shown = shown; fine = (fine, index.fine, high); high = own; low = omega arith }; deeper = omega arith }))
+      (refused_wrong room (drop 1 toks)))
+      (λ d w. w)
   step_law least left toks next.Select fine low own high front =
       then (name_at (drop 1 toks)) (λ n. Ok (After left (Select n.0), n.1)) (name_law (drop 1 toks))
-        (λ n _ e.
-            let shown = shown_two (show left) (Named n.0 ∷ []) toks (drop 1 toks) n.1 (Mark sign.Dot) front e in
-            value _ _ (After left (Select n.0), n.1) (record { read = record { shown = shown; fine = (fine, high); high = own; low = omega arith }; deeper = omega arith }))
-        (refused_wrong room (drop 1 toks))
+      (λ n _ e.
+      let shown = shown_two (show left) (Named n.0 ∷ []) toks (drop 1 toks) n.1 (Mark sign.Dot) front e in
+      value _ _ (After left (Select n.0), n.1) (record { read = record { shown = shown; fine = (fine, high); high = own; low = omega arith }; deeper = omega arith }))
+      (refused_wrong room (drop 1 toks))
   step_law least left toks next.Unit fine low own high front =
       then (unit_at (drop 1 toks)) (λ u. Ok (After left (InUnit u.0), u.1)) (unit_law (drop 1 toks))
-        (λ u _ e.
-            let shown = shown_two (show left) (show_unit u.0 ∷ []) toks (drop 1 toks) u.1 (Mark sign.Hash) front e in
-            value _ _ (After left (InUnit u.0), u.1) (record { read = record { shown = shown; fine = (fine, high); high = own; low = omega arith }; deeper = omega arith }))
-        (refused_wrong room (drop 1 toks))
+      (λ u _ e.
+      let shown = shown_two (show left) (show_unit u.0 ∷ []) toks (drop 1 toks) u.1 (Mark sign.Hash) front e in
+      value _ _ (After left (InUnit u.0), u.1) (record { read = record { shown = shown; fine = (fine, high); high = own; low = omega arith }; deeper = omega arith }))
+      (refused_wrong room (drop 1 toks))
   step_law least left toks (next.Attribute a) fine low own high front =
       let shown = shown_two (show left) [] toks (drop 1 toks) (drop 1 toks) (token.AttributeOf a) front refl in
       value _ _ (After left (tree.AttributeOf a), drop 1 toks) (record { read = record { shown = shown; fine = (fine, high); high = own; low = omega arith }; deeper = omega arith })
   step_law least left toks next.Convert fine low own high front =
       then (target_at (drop 1 toks)) (λ t. Ok (After left (Convert t.0), t.1)) (target_law (drop 1 toks))
-        (λ t _ e.
-            let shown = shown_two (show left) (show_target t.0) toks (drop 1 toks) t.1 (Reserved word.As) front e in
-            value _ _ (After left (Convert t.0), t.1) (record { read = record { shown = shown; fine = (fine, high); high = own; low = omega arith }; deeper = omega arith }))
-        (refused_wrong room (drop 1 toks))
+      (λ t _ e.
+      let shown = shown_two (show left) (show_target t.0) toks (drop 1 toks) t.1 (Reserved word.As) front e in
+      value _ _ (After left (Convert t.0), t.1) (record { read = record { shown = shown; fine = (fine, high); high = own; low = omega arith }; deeper = omega arith }))
+      (refused_wrong room (drop 1 toks))
   step_law least left toks next.Nothing fine low own high front = fault _ _ Wrong tt
 
   some_token : (toks : List Token) → 1 ≤ own_of (next_of toks) → 1 ≤ length toks
@@ -176,26 +176,26 @@ module _ (sub : Reader) (room : ℕ) (law : HasLaw sub room) where
   unfolding chain
   chain_law zero least left toks pos fine high low enough =
       either (goes_on least left (next_of toks)) (Err Deep) (Ok (left, toks))
-        (λ p.
-            let tests = and_parts (leb least (own_of (next_of toks))) (leb (left_of (next_of toks)) (level_of left)) p in
-            fault _ _ Deep (omega (arith, depth_shown left, some_token toks (omega (arith, leb-true _ _ tests.0)), length-append (show left) toks)))
-        (λ p. value _ _ (left, toks) (record { shown = refl; fine = fine; high = high; low = low }))
+      (λ p.
+      let tests = and_parts (leb least (own_of (next_of toks))) (leb (left_of (next_of toks)) (level_of left)) p in
+      fault _ _ Deep (omega (arith, depth_shown left, some_token toks (omega (arith, leb-true _ _ tests.0)), length-append (show left) toks)))
+      (λ p. value _ _ (left, toks) (record { shown = refl; fine = fine; high = high; low = low }))
   chain_law (suc n) least left toks pos fine high low enough =
       either (goes_on least left (next_of toks)) (cond (ltb room (depth left)) (Err Deep) (step_at sub left (drop 1 toks) (next_of toks) >>= λ x. chain sub room n least x.0 x.1)) (Ok (left, toks))
-        (λ p.
-            let tests = and_parts (leb least (own_of (next_of toks))) (leb (left_of (next_of toks)) (level_of left)) p in
-            let some = some_token toks (omega (arith, leb-true _ _ tests.0)) in
-            either (ltb room (depth left)) (Err Deep) (step_at sub left (drop 1 toks) (next_of toks) >>= λ x. chain sub room n least x.0 x.1)
-              (λ q. fault _ _ Deep (omega (arith, depth_shown left, ltb-true _ _ q, length-append (show left) toks)))
-              (λ q. then (step_at sub left (drop 1 toks) (next_of toks)) (λ x. chain sub room n least x.0 x.1)
-                (step_law least left toks (next_of toks) fine (ltb-false room (depth left) q) (leb-true _ _ tests.0) (leb-true _ _ tests.1) (front_is toks))
-                (λ x _ one.
-                    let r = one.read in
-                    let deeper = one.deeper in
-                    let more = chain_law n least x.0 x.1 pos r.fine r.high r.low (omega arith) in
-                    subst (λ (l : List Token). Outcome (Reads (room + 1) least l) (Refused (room + 1) l) (chain sub room n least x.0 x.1)) (sym r.shown) more)
-                (refused_more room (room + 1) (drop 1 toks) (show left ++ toks) (λ h. omega (arith, length-drop 1 toks, length-append (show left) toks, depth_shown left, depth_pos left)))))
-        (λ p. value _ _ (left, toks) (record { shown = refl; fine = fine; high = high; low = low }))
+      (λ p.
+      let tests = and_parts (leb least (own_of (next_of toks))) (leb (left_of (next_of toks)) (level_of left)) p in
+      let some = some_token toks (omega (arith, leb-true _ _ tests.0)) in
+      either (ltb room (depth left)) (Err Deep) (step_at sub left (drop 1 toks) (next_of toks) >>= λ x. chain sub room n least x.0 x.1)
+      (λ q. fault _ _ Deep (omega (arith, depth_shown left, ltb-true _ _ q, length-append (show left) toks)))
+      (λ q. then (step_at sub left (drop 1 toks) (next_of toks)) (λ x. chain sub room n least x.0 x.1)
+      (step_law least left toks (next_of toks) fine (ltb-false room (depth left) q) (leb-true _ _ tests.0) (leb-true _ _ tests.1) (front_is toks))
+      (λ x _ one.
+      let r = one.read in
+      let deeper = one.deeper in
+      let more = chain_law n least x.0 x.1 pos r.fine r.high r.low (omega arith) in
+      subst (λ (l : List Token). Outcome (Reads (room + 1) least l) (Refused (room + 1) l) (chain sub room n least x.0 x.1)) (sym r.shown) more)
+      (refused_more room (room + 1) (drop 1 toks) (show left ++ toks) (λ h. omega (arith, length-drop 1 toks, length-append (show left) toks, depth_shown left, depth_pos left)))))
+      (λ p. value _ _ (left, toks) (record { shown = refl; fine = fine; high = high; low = low }))
 
 pub expression_law : (room least : ℕ) (toks : List Token) → 1 ≤ least → least ≤ 13 → Outcome (Reads room least toks) (Refused room toks) (expression_at room least toks)
 unfolding expression_at
@@ -204,9 +204,9 @@ expression_law zero least (t ∷ toks) pos most = fault _ _ Deep (omega arith)
 expression_law (suc room) least toks pos most =
     let is : room + 1 ≡ suc room = omega arith in
     subst (λ (k : ℕ). Outcome (Reads k least toks) (Refused k toks) (operand_at (expression_at room) toks >>= λ x. chain (expression_at room) room room least x.0 x.1)) is
-      (then (operand_at (expression_at room) toks) (λ x. chain (expression_at room) room room least x.0 x.1) (operand_law (expression_at room) room (expression_law room) toks)
-        (λ x _ first.
-            let high = first.high in
-            let more = chain_law (expression_at room) room (expression_law room) room least x.0 x.1 pos first.fine (omega arith) first.low (omega (arith, depth_pos x.0)) in
-            subst (λ (l : List Token). Outcome (Reads (room + 1) least l) (Refused (room + 1) l) (chain (expression_at room) room room least x.0 x.1)) (sym first.shown) more)
-        (λ d w. w))
+    (then (operand_at (expression_at room) toks) (λ x. chain (expression_at room) room room least x.0 x.1) (operand_law (expression_at room) room (expression_law room) toks)
+    (λ x _ first.
+    let high = first.high in
+    let more = chain_law (expression_at room) room (expression_law room) room least x.0 x.1 pos first.fine (omega arith) first.low (omega (arith, depth_pos x.0)) in
+    subst (λ (l : List Token). Outcome (Reads (room + 1) least l) (Refused (room + 1) l) (chain (expression_at room) room room least x.0 x.1)) (sym first.shown) more)
+    (λ d w. w))

@@ -128,14 +128,14 @@ offset_law : (toks : List Token) → Outcome (ShowsTarget (Opens opener.Offset �
 unfolding offset_at
 offset_law toks =
     then (reference_at toks) (λ r. expect sign.Comma r.1 >>= λ comma. unit_at comma >>= λ u. expect sign.Greater u.1 >>= λ after. Ok (ToOffset r.0 u.0, after)) (reference_law toks)
-      (λ r _ e. then (expect sign.Comma r.1) (λ comma. unit_at comma >>= λ u. expect sign.Greater u.1 >>= λ after. Ok (ToOffset r.0 u.0, after)) (expect_law sign.Comma r.1)
-        (λ comma _ f. then (unit_at comma) (λ u. expect sign.Greater u.1 >>= λ after. Ok (ToOffset r.0 u.0, after)) (unit_law comma)
-          (λ u _ g. then (expect sign.Greater u.1) (λ after. Ok (ToOffset r.0 u.0, after)) (expect_law sign.Greater u.1)
-            (λ after _ h. value _ _ (ToOffset r.0 u.0, after) (offset_joins toks (show_reference r.0) r.1 comma u.1 after (show_unit u.0) e f g h))
-            (λ d w. w))
-          (λ d w. w))
-        (λ d w. w))
-      (λ d w. w)
+    (λ r _ e. then (expect sign.Comma r.1) (λ comma. unit_at comma >>= λ u. expect sign.Greater u.1 >>= λ after. Ok (ToOffset r.0 u.0, after)) (expect_law sign.Comma r.1)
+    (λ comma _ f. then (unit_at comma) (λ u. expect sign.Greater u.1 >>= λ after. Ok (ToOffset r.0 u.0, after)) (unit_law comma)
+    (λ u _ g. then (expect sign.Greater u.1) (λ after. Ok (ToOffset r.0 u.0, after)) (expect_law sign.Greater u.1)
+    (λ after _ h. value _ _ (ToOffset r.0 u.0, after) (offset_joins toks (show_reference r.0) r.1 comma u.1 after (show_unit u.0) e f g h))
+    (λ d w. w))
+    (λ d w. w))
+    (λ d w. w))
+    (λ d w. w)
 
 plain_law : (toks : List Token) → Outcome (ShowsTarget toks) IsWrong (reference_at toks >>= λ r. Ok (ToReference r.0, r.1))
 plain_law toks = then (reference_at toks) (λ r. Ok (ToReference r.0, r.1)) (reference_law toks) (λ r _ e. value _ _ (ToReference r.0, r.1) e) (λ d w. w)

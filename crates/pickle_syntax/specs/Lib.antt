@@ -3,6 +3,7 @@ pub mod Limits
 pub mod Operators
 pub mod Pickles
 pub mod ReadExpressions
+pub mod ReadForms
 pub mod Reading
 pub mod Show
 pub mod Tokens

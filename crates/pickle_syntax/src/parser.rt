@@ -2,5 +2,7 @@
 
 mod expressions;
 pub mod fault;
+mod fields;
 mod operators;
 mod reading;
+mod types;

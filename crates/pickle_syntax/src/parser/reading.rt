@@ -3,7 +3,7 @@
 ghost use Rattle.std.specs.Prelude.{◌≡◌};
 ghost use Rattle.pickle_syntax.specs.Tokens.{tokens_of};
 ghost use Rattle.pickle_syntax.specs.Tree.{reference_tree, target_tree};
-ghost use Rattle.pickle_syntax.specs.Reading.{Gives, IsRest, after_sign, after_word, expect, name_at, width_at, reference_at, unit_named, unit_at, offset_at, target_at};
+ghost use Rattle.pickle_syntax.specs.Reading.{Gives, IsRest, after_sign, after_word, needed, expect, name_at, width_at, reference_at, unit_named, unit_at, offset_at, target_at};
 
 use crate::parser::fault::Stop;
 use crate::token::{Kind, Number, Opener, Sign, Word};
@@ -37,6 +37,15 @@ pub fn expect(tokens: &[Kind], sign: Sign) -> Result<&[Kind], Stop>
     ensures { Gives (λ x. tokens_of x.now) result (expect sign (tokens_of tokens.now)) }
 {
     match after_sign(tokens, sign) {
+        Some(rest) => Ok(rest),
+        None => Err(Stop::Syntax(tokens.len())),
+    }
+}
+
+pub fn expect_word(tokens: &[Kind], word: Word) -> Result<&[Kind], Stop>
+    ensures { Gives (λ x. tokens_of x.now) result (needed (after_word word (tokens_of tokens.now))) }
+{
+    match after_word(tokens, word) {
         Some(rest) => Ok(rest),
         None => Err(Stop::Syntax(tokens.len())),
     }
