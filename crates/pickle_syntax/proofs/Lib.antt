@@ -1,7 +1,9 @@
 pub mod Chain
+pub mod DeclarationSteps
 pub mod ExpressionsAgain
 pub mod ExpressionsSound
 pub mod FieldSteps
+pub mod FormsAgain
 pub mod FrontFacts
 pub mod OperatorFacts
 pub mod Results

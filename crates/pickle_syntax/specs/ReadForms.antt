@@ -1,5 +1,5 @@
 -- Reading types, fields and pickles, as functions on lists.
-use Rattle.std.specs.Prelude.{ℕ, zero, suc, ◌+◌, true, false, nat_lt, if◌then◌else◌, Option, Some, None, List, [], ◌∷◌, Result, Ok, Err}
+use Rattle.std.specs.Prelude.{ℕ, zero, suc, ◌+◌, Bool, true, false, nat_lt, if◌then◌else◌, Option, Some, None, List, [], ◌∷◌, Result, Ok, Err}
 use Rattle.pickle_syntax.specs.declared.token.Word.{Word}
 use Rattle.pickle_syntax.specs.declared.token.Word.TheVariants as word
 use Rattle.pickle_syntax.specs.declared.token.Sign.{Sign}
@@ -154,11 +154,15 @@ abbrev pub with_declaration : DeclarationTree → Result (List DeclarationTree) 
 with_declaration d (Ok ds) = Ok (d ∷ ds)
 with_declaration d (Err e) = Err e
 
+abbrev pub is_over : List Token → Bool
+is_over [] = true
+is_over (t ∷ rest) = false
+
 -- at most so many declarations, to the end
 unfoldable pub declarations_at : Limits → ℕ → List Token → Result (List DeclarationTree) Fault
 declarations_at limits n [] = Ok []
 declarations_at limits zero (t ∷ rest) = Err Many
 declarations_at limits (suc n) (t ∷ rest) = declaration_at limits (t ∷ rest) >>= λ d. with_declaration d.0 (declarations_at limits n d.1)
 
-unfoldable pub pickle_at : Limits → List Token → Result (List DeclarationTree) Fault
+abbrev pub pickle_at : Limits → List Token → Result (List DeclarationTree) Fault
 pickle_at limits tokens = declarations_at limits limits.declarations tokens
