@@ -4,6 +4,7 @@ pub mod ExpressionsAgain
 pub mod ExpressionsSound
 pub mod FieldSteps
 pub mod FormsAgain
+pub mod FormsSound
 pub mod FrontFacts
 pub mod OperatorFacts
 pub mod Results

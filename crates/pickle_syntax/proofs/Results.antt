@@ -28,3 +28,7 @@ then (Err d) f o more less = fault _ _ d (less d (o.bad d refl))
 pub either : {A : Type 0} {Good : A → Type 0} {Bad : Fault → Type 0} (b : Bool) (x y : Result A Fault) → (b ≡ true → Outcome Good Bad x) → (b ≡ false → Outcome Good Bad y) → Outcome Good Bad (cond b x y)
 either true x y l r = l refl
 either false x y l r = r refl
+
+-- the same answer, of which less is said
+pub then_all : {A : Type 0} {Good More : A → Type 0} {Bad Worse : Fault → Type 0} (r : Result A Fault) → Outcome Good Bad r → ((x : A) → Good x → More x) → ((f : Fault) → Bad f → Worse f) → Outcome More Worse r
+then_all r o more less = record { good = λ x e. more x (o.good x e); bad = λ f e. less f (o.bad f e) }
