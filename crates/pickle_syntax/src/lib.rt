@@ -1,5 +1,6 @@
 //! Pickles as text: tokens and the syntax tree.
 #![tactic(auto)]
 
+pub mod lexer;
 pub mod token;
 pub mod tree;

@@ -1,0 +1,9 @@
+//! Pickles as text, cut into tokens.
+
+mod blanks;
+pub mod bytes;
+pub mod fault;
+mod pieces;
+mod signs;
+mod texts;
+mod words;
