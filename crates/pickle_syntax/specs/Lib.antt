@@ -4,4 +4,5 @@ pub mod Words
 pub mod Signs
 pub mod Blanks
 pub mod Texts
+pub mod Numbers
 pub mod Tree

@@ -3,6 +3,7 @@
 mod blanks;
 pub mod bytes;
 pub mod fault;
+pub mod numbers;
 mod pieces;
 mod signs;
 mod texts;
