@@ -1,3 +1,4 @@
 pub mod Blanks
 pub mod Texts
 pub mod Numbers
+pub mod Lexed

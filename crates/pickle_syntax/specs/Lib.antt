@@ -5,4 +5,5 @@ pub mod Signs
 pub mod Blanks
 pub mod Texts
 pub mod Numbers
+pub mod Lexing
 pub mod Tree

@@ -137,7 +137,11 @@ fn has_value(signed: bool, width: u8, value: u64) -> bool
     requires { width ≤ 64 }
     ensures { result ≡ has_value signed width value }
 {
-    let bits = if signed { width.saturating_sub(1) } else { width };
+    let bits = if signed {
+        width.saturating_sub(1)
+    } else {
+        width
+    };
     bits == 64 || value < 1u64 << bits
 }
 
