@@ -2,3 +2,9 @@ pub mod Blanks
 pub mod Texts
 pub mod Numbers
 pub mod Lexed
+pub mod Classes
+pub mod WordLaws
+pub mod Chains
+pub mod Cuts
+pub mod SignLaws
+pub mod CommentLaws

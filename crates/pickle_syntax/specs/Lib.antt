@@ -6,4 +6,5 @@ pub mod Blanks
 pub mod Texts
 pub mod Numbers
 pub mod Lexing
+pub mod Pieces
 pub mod Tree
