@@ -20,3 +20,8 @@ begun spelling bytes x y more size is others = elim (tested (starts_with ◌==�
     | inl hit ↦ subst (Begins spelling bytes) hit.1 (record { front = rw (← size) ((starts_is Decides-eqb bytes (spelling x.0) (starts_with ◌==◌ bytes (spelling x.0)) refl).0 hit.0); size = size })
     | inr e ↦ others e
   ]
+
+-- what a test chose
+pub chosen : {A : Type 0} (b : Bool) (x y z : A) → cond b x y ≡ z → ((b ≡ true) × (x ≡ z)) ⊎ ((b ≡ false) × (y ≡ z))
+chosen true x y z e = inl (refl, e)
+chosen false x y z e = inr (refl, e)

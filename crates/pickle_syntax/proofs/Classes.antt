@@ -49,3 +49,7 @@ starts_blank b h = rw h refl
 
 pub starts_word : (b : ℕ) → is_in class.Letter b ≡ true → starts b ≡ start.Word
 starts_word b h = rw (blank_not_letter b h, h) refl
+
+-- what doesn't begin with a slash begins no comment
+pub other_front : (b : ℕ) (rest : List ℕ) → b ≢ 47 → (more : List ℕ) → b ∷ rest ≢ 47 ∷ 42 ∷ more
+other_front b rest other more e = other cc

@@ -8,3 +8,5 @@ pub mod Chains
 pub mod Cuts
 pub mod SignLaws
 pub mod CommentLaws
+pub mod PartLaws
+pub mod TextLaws

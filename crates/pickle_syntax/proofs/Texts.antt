@@ -19,7 +19,7 @@ with_front-nil (Ok x) = refl
 with_front-nil (Err f) = refl
 
 -- the rest of a part is passed
-text_skips : (quote left at : ℕ) (bytes : List ℕ) → text_from quote left at bytes ≡ text_from quote 0 (at + left) (drop left bytes)
+pub text_skips : (quote left at : ℕ) (bytes : List ℕ) → text_from quote left at bytes ≡ text_from quote 0 (at + left) (drop left bytes)
 unfolding text_from
 text_skips quote zero at [] = refl
 text_skips quote (suc left) at [] = refl
