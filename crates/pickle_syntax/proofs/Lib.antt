@@ -10,3 +10,5 @@ pub mod SignLaws
 pub mod CommentLaws
 pub mod PartLaws
 pub mod TextLaws
+pub mod Letters
+pub mod NumberLaws
