@@ -1,5 +1,5 @@
 -- One more operator.
-use Rattle.std.proofs.Common.{◌≡◌, ℕ, zero, suc, ◌+◌, ◌-◌, ◌<◌, ◌≤◌, Bool, true, false, cond, ltb, leb, List, [], ◌∷◌, drop, refl, sym, ap, ◌∙◌, arith, Result, Ok, Err}
+use Rattle.std.proofs.Common.{◌≡◌, ℕ, zero, suc, ◌-◌, ◌<◌, ◌≤◌, true, false, List, drop, refl, arith, Ok, Err}
 use Rattle.std.proofs.lemmas.Bool.{le-ltb, le-leb, lt-ltb}
 use Rattle.pickle_syntax.specs.Tokens.{Token}
 use Rattle.pickle_syntax.specs.Tree.{Tree}

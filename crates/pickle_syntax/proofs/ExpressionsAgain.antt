@@ -1,5 +1,5 @@
 -- What a well bracketed expression shows is read again.
-use Rattle.std.proofs.Common.{◌≡◌, ℕ, zero, suc, ◌+◌, ◌-◌, ◌<◌, ◌≤◌, false, List, [], ◌∷◌, ◌++◌, drop, refl, sym, ap, ◌∙◌, arith, Result, Ok, append_assoc}
+use Rattle.std.proofs.Common.{◌≡◌, ℕ, zero, suc, ◌+◌, ◌-◌, ◌<◌, ◌≤◌, false, List, [], ◌∷◌, ◌++◌, drop, refl, sym, ap, ◌∙◌, arith, Ok, append_assoc}
 use Rattle.pickle_syntax.specs.declared.token.Word.TheVariants as word
 use Rattle.pickle_syntax.specs.declared.token.Sign.TheVariants as sign
 use Rattle.pickle_syntax.specs.declared.parser.operators.Next.TheVariants as next
@@ -7,12 +7,12 @@ use Rattle.pickle_syntax.specs.Tokens.{Token, Reserved, Named, Numeral, Mark}
 use Rattle.pickle_syntax.specs.Tokens as token
 use Rattle.pickle_syntax.specs.Tree.{Select, InUnit, Convert, Tree, Literal, Name, Bracket, Before, Between, Choice, Index, After}
 use Rattle.pickle_syntax.specs.Tree as tree
-use Rattle.pickle_syntax.specs.Show.{show, show_suffix, show_unit, show_target, prefix_sign, infix_sign}
-use Rattle.pickle_syntax.specs.Levels.{level, level_of, level_of_suffix, IsWellBracketed}
+use Rattle.pickle_syntax.specs.Show.{show, show_unit, show_target, prefix_sign, infix_sign}
+use Rattle.pickle_syntax.specs.Levels.{level, level_of, IsWellBracketed}
 use Rattle.pickle_syntax.specs.Limits.{depth}
 use Rattle.pickle_syntax.specs.Operators.{next_of, own_of, left_of, goes_on}
-use Rattle.pickle_syntax.specs.Reading.{Fault, ◌>>=◌, Read, expect, after_sign, name_at}
-use Rattle.pickle_syntax.specs.ReadExpressions.{Reader, operand_at, step_at, chain, expression_at}
+use Rattle.pickle_syntax.specs.Reading.{◌>>=◌, Read, expect, after_sign, name_at}
+use Rattle.pickle_syntax.specs.ReadExpressions.{operand_at, step_at, chain, expression_at}
 use Rattle.pickle_syntax.proofs.Results.{ok_is}
 use Rattle.pickle_syntax.proofs.FrontFacts.{unit_again, target_again}
 use Rattle.pickle_syntax.proofs.Chain.{chain_more, chain_stops}

@@ -13,7 +13,7 @@ use Rattle.pickle_syntax.specs.Tokens as token
 use Rattle.pickle_syntax.specs.Tree.{Select, InUnit, Convert, Tree, Literal, Name, Bracket, Before, Between, Choice, Index, After, TreeSuffix}
 use Rattle.pickle_syntax.specs.Tree as tree
 use Rattle.pickle_syntax.specs.Show.{show, show_suffix, show_unit, show_target, prefix_sign, infix_sign}
-use Rattle.pickle_syntax.specs.Levels.{level, level_of, level_of_suffix, IsWellBracketed}
+use Rattle.pickle_syntax.specs.Levels.{level, level_of, IsWellBracketed}
 use Rattle.pickle_syntax.specs.Limits.{depth}
 use Rattle.pickle_syntax.specs.Operators.{start_of, next_of, own_of, left_of, goes_on}
 use Rattle.pickle_syntax.specs.Reading.{Fault, Wrong, Deep, Many, ◌>>=◌, expect, name_at, unit_at, target_at}

@@ -1,5 +1,5 @@
 -- Steps over the fields.
-use Rattle.std.proofs.Common.{◌≡◌, ℕ, zero, suc, ◌-◌, ◌<◌, ◌≤◌, List, [], ◌∷◌, ◌++◌, refl, sym, ap, ◌∙◌, arith, Some, None, Ok, Err}
+use Rattle.std.proofs.Common.{◌≡◌, ℕ, zero, suc, ◌-◌, ◌<◌, List, [], ◌∷◌, ◌++◌, refl, sym, ap, ◌∙◌, arith, Some, None, Ok, Err}
 use Rattle.std.specs.Prelude.{max}
 use Rattle.std.proofs.lemmas.List.{map_push}
 use Rattle.pickle_syntax.specs.declared.token.Sign.TheVariants as sign

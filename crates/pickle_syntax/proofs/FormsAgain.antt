@@ -1,8 +1,7 @@
 -- What a well bracketed type or pickle within the limits shows is read again.
-use Rattle.std.proofs.Common.{◌≡◌, ℕ, zero, suc, ◌-◌, ◌<◌, ◌≤◌, Bool, true, false, cond, ltb, Option, Some, None, List, [], ◌∷◌, ◌++◌, length, refl, ap, ◌∙◌, arith, Ok, append_assoc}
+use Rattle.std.proofs.Common.{◌≡◌, ℕ, zero, suc, ◌-◌, ◌<◌, ◌≤◌, Bool, true, false, Option, Some, None, List, [], ◌∷◌, ◌++◌, length, refl, ◌∙◌, arith, Ok, append_assoc}
 use Rattle.std.proofs.lemmas.Bool.{le-ltb}
 use Rattle.pickle_syntax.specs.declared.token.Word.TheVariants as word
-use Rattle.pickle_syntax.specs.declared.token.Opener.TheVariants as opener
 use Rattle.pickle_syntax.specs.declared.token.Sign.{Sign}
 use Rattle.pickle_syntax.specs.declared.token.Sign.TheVariants as sign
 use Rattle.pickle_syntax.specs.declared.tree.Prefix.{Prefix}
@@ -11,18 +10,17 @@ use Rattle.pickle_syntax.specs.declared.tree.Unit.{Unit as OffsetUnit}
 use Rattle.pickle_syntax.specs.declared.tree.ByteOrder.{ByteOrder}
 use Rattle.pickle_syntax.specs.declared.tree.ByteOrder.TheVariants as order
 use Rattle.pickle_syntax.specs.declared.parser.operators.Next.TheVariants as next
-use Rattle.pickle_syntax.specs.Tokens.{Token, Reserved, Named, Mark}
-use Rattle.pickle_syntax.specs.Tokens as token
+use Rattle.pickle_syntax.specs.Tokens.{Token, Reserved, Mark}
 use Rattle.pickle_syntax.specs.Tree.{TreeReference, Int, Uint, Called, ToReference, ToOffset, Literal, Name, Bracket, Before, Between, Choice, Index, After, Tree, FormTree, Plain, StringForm, OffsetForm, ArrayForm, StructForm, IntegralForm, UnionForm, FieldTrees, NoFields, FieldThen, FieldParts, FieldTree, DeclarationTree}
 use Rattle.pickle_syntax.specs.Tree as tree
-use Rattle.pickle_syntax.specs.Show.{prefix_sign, infix_sign, show_suffix, show, show_reference, show_target, show_optional, show_part, show_name, show_order, show_pinned, show_parts, show_form, show_fields, show_declaration, show_pickle}
+use Rattle.pickle_syntax.specs.Show.{prefix_sign, infix_sign, show_suffix, show, show_optional, show_part, show_name, show_order, show_form, show_fields, show_declaration, show_pickle}
 use Rattle.pickle_syntax.specs.Levels.{IsWellBracketed, IsOptionalWellBracketed, ArePartsWellBracketed, IsBase, IsFormWellBracketed, AreFieldsWellBracketed, IsPickleWellBracketed}
 use Rattle.pickle_syntax.specs.Limits.{Limits, depth, form_depth, fields_depth, field_count, IsOptionalWithin, ArePartsWithin, IsFormWithin, AreFieldsWithin, AreDeclarationsWithin, IsPickleWithin}
 use Rattle.pickle_syntax.specs.Operators.{next_of}
-use Rattle.pickle_syntax.specs.Reading.{Fault, Read, ◌>>=◌, after_sign, after_word, expect, name_at, width_at, reference_at, target_at}
-use Rattle.pickle_syntax.specs.ReadForms.{present_at, present_if, part_at, condition_at, bound_by, bound_at, FormReader, order_at, optional_name_at, field_at, fields_at, braced_at, struct_by, struct_at, pinned_at, base_at, suffix_by, suffix_at, form_at, declaration_at, declarations_at, pickle_at}
+use Rattle.pickle_syntax.specs.Reading.{Read, ◌>>=◌, after_sign, after_word, expect, name_at, width_at, reference_at, target_at}
+use Rattle.pickle_syntax.specs.ReadForms.{present_at, part_at, condition_at, bound_at, FormReader, order_at, optional_name_at, field_at, fields_at, braced_at, struct_at, pinned_at, base_at, suffix_at, form_at, declaration_at, declarations_at, pickle_at}
 use Rattle.pickle_syntax.proofs.ExpressionsAgain.{expression_again}
-use Rattle.pickle_syntax.proofs.FrontFacts.{reference_again, target_again}
+use Rattle.pickle_syntax.proofs.FrontFacts.{target_again}
 
 abbrev done : {A : Type 0} → A → List Token → Read A
 done x rest = Ok (x, rest)

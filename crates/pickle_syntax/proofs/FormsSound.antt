@@ -1,13 +1,12 @@
 -- What is read is shown by its tree, which is well bracketed and within the limits; what is refused as too deep or too long has many tokens.
-use Rattle.std.proofs.Common.{◌≡◌, ℕ, zero, suc, ◌+◌, ◌-◌, ◌<◌, ◌≤◌, Bool, true, false, cond, ltb, Option, Some, None, List, [], ◌∷◌, ◌++◌, length, refl, sym, ap, subst, ◌∙◌, arith, Result, Ok, Err, append_assoc, length-append}
+use Rattle.std.proofs.Common.{◌≡◌, ℕ, zero, suc, ◌+◌, ◌-◌, ◌<◌, ◌≤◌, true, false, ltb, Option, Some, None, List, [], ◌∷◌, ◌++◌, length, refl, sym, ap, subst, ◌∙◌, arith, Result, Ok, Err, append_assoc, length-append}
 use Rattle.std.proofs.lemmas.Bool.{ltb-true, ltb-false}
 use Rattle.pickle_syntax.specs.declared.token.Word.{Word}
 use Rattle.pickle_syntax.specs.declared.token.Word.TheVariants as word
 use Rattle.pickle_syntax.specs.declared.token.Sign.{Sign}
 use Rattle.pickle_syntax.specs.declared.token.Sign.TheVariants as sign
-use Rattle.pickle_syntax.specs.declared.tree.ByteOrder.{ByteOrder}
 use Rattle.pickle_syntax.specs.Tokens.{Token, Reserved, Named, Mark}
-use Rattle.pickle_syntax.specs.Tree.{Int, Uint, Called, TreeTarget, ToReference, ToOffset, Tree, FormTree, Plain, StringForm, OffsetForm, ArrayForm, StructForm, IntegralForm, UnionForm, FieldTrees, NoFields, FieldThen, FieldParts, FieldTree, DeclarationTree}
+use Rattle.pickle_syntax.specs.Tree.{Int, Uint, Called, TreeTarget, ToReference, ToOffset, Tree, FormTree, Plain, StringForm, OffsetForm, ArrayForm, StructForm, IntegralForm, UnionForm, FieldTrees, NoFields, FieldThen, FieldTree, DeclarationTree}
 use Rattle.pickle_syntax.specs.Show.{show, show_reference, show_target, show_optional, show_part, show_name, show_order, show_pinned, show_parts, show_form, show_fields, show_declaration, show_pickle}
 use Rattle.pickle_syntax.specs.Levels.{IsOptionalWellBracketed, ArePartsWellBracketed, IsBase, IsFormWellBracketed, AreFieldsWellBracketed, IsPickleWellBracketed}
 use Rattle.pickle_syntax.specs.Limits.{Limits, form_depth, fields_depth, field_count, IsOptionalWithin, ArePartsWithin, IsFormWithin, AreFieldsWithin, AreDeclarationsWithin}
@@ -91,8 +90,8 @@ present_law : (most : ℕ) (shows : Option Tree → List Token) (toks front rest
 unfolding present_at
 present_law most shows toks front rest is spells =
     then (expression_at most 1 rest) (λ e. Ok (Some e.0, e.1)) (expression_law most 1 rest (omega arith) (omega arith))
-      (λ e _ r. value _ _ (Some e.0, e.1) (record { shown = optional_joins toks front rest (show e.0) e.1 (shows (Some e.0)) is r.shown (spells e.0); fine = r.fine; low = r.low }))
-      (expression_later most rest toks (later front rest toks is))
+    (λ e _ r. value _ _ (Some e.0, e.1) (record { shown = optional_joins toks front rest (show e.0) e.1 (shows (Some e.0)) is r.shown (spells e.0); fine = r.fine; low = r.low }))
+    (expression_later most rest toks (later front rest toks is))
 
 part_law : (most : ℕ) (s : Sign) (toks : List Token) → Outcome (ReadsOptional (show_part (Mark s)) most toks) (Refused most toks) (part_at most s toks)
 unfolding part_at
@@ -124,10 +123,10 @@ bound_law most toks = by (after_sign sign.CloseBracket toks) refl
     by (Some rest) is = value _ _ (None, rest) (record { shown = after_sign_is sign.CloseBracket toks rest is; fine = tt; low = tt })
     by None is =
         then (present_at most toks) (λ e. expect sign.CloseBracket e.1 >>= λ after. Ok (e.0, after)) (present_law most show_optional toks [] toks refl (λ e. refl))
-          (λ e _ r. then (expect sign.CloseBracket e.1) (λ after. Ok (e.0, after)) (expect_law sign.CloseBracket e.1)
-            (λ after _ close. value _ _ (e.0, after) (record { shown = r.shown ∙ ap (λ (l : List Token). show_optional e.0 ++ l) close; fine = r.fine; low = r.low }))
-            (expression_wrong most toks))
-          (λ d w. w)
+        (λ e _ r. then (expect sign.CloseBracket e.1) (λ after. Ok (e.0, after)) (expect_law sign.CloseBracket e.1)
+        (λ after _ close. value _ _ (e.0, after) (record { shown = r.shown ∙ ap (λ (l : List Token). show_optional e.0 ++ l) close; fine = r.fine; low = r.low }))
+        (expression_wrong most toks))
+        (λ d w. w)
 
 -- ---- fields
 
@@ -248,30 +247,30 @@ module _ (limits : Limits) where
         let e1 = order_shown toks in
         let l1 = later (show_order (order_at toks).0) r1 toks e1 in
         then (sub r1) (λ f. part_at most sign.Colon (optional_name_at f.1).1 >>= λ c. part_at most sign.At c.1 >>= λ l. condition_at most l.1 >>= λ k. expect sign.Semicolon k.1 >>= λ after. Ok (record { form = f.0; parts = record { order = (order_at toks).0; name = (optional_name_at f.1).0; constraint = c.0; label = l.0; condition = k.0 } }, after)) (law r1)
-          (λ f _ form.
-              let r3 = (optional_name_at f.1).1 in
-              let e3 = optional_name_shown f.1 in
-              let l3 = later_still r3 f.1 toks (later (show_name (optional_name_at f.1).0) r3 f.1 e3) (later_still f.1 r1 toks (later (show_form f.0) f.1 r1 form.shown) l1) in
-              then (part_at most sign.Colon r3) (λ c. part_at most sign.At c.1 >>= λ l. condition_at most l.1 >>= λ k. expect sign.Semicolon k.1 >>= λ after. Ok (record { form = f.0; parts = record { order = (order_at toks).0; name = (optional_name_at f.1).0; constraint = c.0; label = l.0; condition = k.0 } }, after)) (part_law most sign.Colon r3)
-                (λ c _ constraint.
-                    let l4 = later_still c.1 r3 toks (later (show_part (Mark sign.Colon) c.0) c.1 r3 constraint.shown) l3 in
-                    then (part_at most sign.At c.1) (λ l. condition_at most l.1 >>= λ k. expect sign.Semicolon k.1 >>= λ after. Ok (record { form = f.0; parts = record { order = (order_at toks).0; name = (optional_name_at f.1).0; constraint = c.0; label = l.0; condition = k.0 } }, after)) (part_law most sign.At c.1)
-                      (λ l _ label.
-                          let l5 = later_still l.1 c.1 toks (later (show_part (Mark sign.At) l.0) l.1 c.1 label.shown) l4 in
-                          then (condition_at most l.1) (λ k. expect sign.Semicolon k.1 >>= λ after. Ok (record { form = f.0; parts = record { order = (order_at toks).0; name = (optional_name_at f.1).0; constraint = c.0; label = l.0; condition = k.0 } }, after)) (condition_law most l.1)
-                            (λ k _ condition.
-                                then (expect sign.Semicolon k.1) (λ after. Ok (record { form = f.0; parts = record { order = (order_at toks).0; name = (optional_name_at f.1).0; constraint = c.0; label = l.0; condition = k.0 } }, after)) (expect_law sign.Semicolon k.1)
-                                  (λ after _ end. value _ _ (record { form = f.0; parts = record { order = (order_at toks).0; name = (optional_name_at f.1).0; constraint = c.0; label = l.0; condition = k.0 } }, after) (record {
-                                    shown = field_joins toks (show_order (order_at toks).0) r1 (show_form f.0) f.1 (show_name (optional_name_at f.1).0) r3 (show_part (Mark sign.Colon) c.0) c.1 (show_part (Mark sign.At) l.0) l.1 (show_part (Reserved word.If) k.0) k.1 after e1 form.shown e3 constraint.shown label.shown condition.shown end;
-                                    fine = (form.fine, (constraint.fine, label.fine, condition.fine));
-                                    within = (form.within, (constraint.low, label.low, condition.low));
-                                    low = form.low;
-                                  }))
-                                  (refused_wrong many room toks))
-                            (refused_expression many room most l.1 toks enough l5))
-                      (refused_expression many room most c.1 toks enough l4))
-                (refused_expression many room most r3 toks enough l3))
-          (refused_later many room r1 toks l1)
+        (λ f _ form.
+        let r3 = (optional_name_at f.1).1 in
+        let e3 = optional_name_shown f.1 in
+        let l3 = later_still r3 f.1 toks (later (show_name (optional_name_at f.1).0) r3 f.1 e3) (later_still f.1 r1 toks (later (show_form f.0) f.1 r1 form.shown) l1) in
+        then (part_at most sign.Colon r3) (λ c. part_at most sign.At c.1 >>= λ l. condition_at most l.1 >>= λ k. expect sign.Semicolon k.1 >>= λ after. Ok (record { form = f.0; parts = record { order = (order_at toks).0; name = (optional_name_at f.1).0; constraint = c.0; label = l.0; condition = k.0 } }, after)) (part_law most sign.Colon r3)
+        (λ c _ constraint.
+        let l4 = later_still c.1 r3 toks (later (show_part (Mark sign.Colon) c.0) c.1 r3 constraint.shown) l3 in
+        then (part_at most sign.At c.1) (λ l. condition_at most l.1 >>= λ k. expect sign.Semicolon k.1 >>= λ after. Ok (record { form = f.0; parts = record { order = (order_at toks).0; name = (optional_name_at f.1).0; constraint = c.0; label = l.0; condition = k.0 } }, after)) (part_law most sign.At c.1)
+        (λ l _ label.
+        let l5 = later_still l.1 c.1 toks (later (show_part (Mark sign.At) l.0) l.1 c.1 label.shown) l4 in
+        then (condition_at most l.1) (λ k. expect sign.Semicolon k.1 >>= λ after. Ok (record { form = f.0; parts = record { order = (order_at toks).0; name = (optional_name_at f.1).0; constraint = c.0; label = l.0; condition = k.0 } }, after)) (condition_law most l.1)
+        (λ k _ condition.
+        then (expect sign.Semicolon k.1) (λ after. Ok (record { form = f.0; parts = record { order = (order_at toks).0; name = (optional_name_at f.1).0; constraint = c.0; label = l.0; condition = k.0 } }, after)) (expect_law sign.Semicolon k.1)
+        (λ after _ end. value _ _ (record { form = f.0; parts = record { order = (order_at toks).0; name = (optional_name_at f.1).0; constraint = c.0; label = l.0; condition = k.0 } }, after) (record {
+          shown = field_joins toks (show_order (order_at toks).0) r1 (show_form f.0) f.1 (show_name (optional_name_at f.1).0) r3 (show_part (Mark sign.Colon) c.0) c.1 (show_part (Mark sign.At) l.0) l.1 (show_part (Reserved word.If) k.0) k.1 after e1 form.shown e3 constraint.shown label.shown condition.shown end;
+          fine = (form.fine, (constraint.fine, label.fine, condition.fine));
+          within = (form.within, (constraint.low, label.low, condition.low));
+          low = form.low;
+        }))
+        (refused_wrong many room toks))
+        (refused_expression many room most l.1 toks enough l5))
+        (refused_expression many room most c.1 toks enough l4))
+        (refused_expression many room most r3 toks enough l3))
+        (refused_later many room r1 toks l1)
 
     unless_law : (n : ℕ) (toks : List Token) (r : Read FieldTrees) → Outcome (ReadsFields room n toks) (IsRefused n room toks) r → Outcome (ReadsFields room n toks) (IsRefused n room toks) (unless_closed (after_sign sign.CloseBrace toks) r)
     unless_law n toks r o = by (after_sign sign.CloseBrace toks) refl
@@ -285,19 +284,19 @@ module _ (limits : Limits) where
     fields_law zero toks few = unless_law zero toks (Err Many) (fault _ _ Many (omega arith))
     fields_law (suc n) toks few =
         unless_law (suc n) toks (field_at limits sub toks >>= λ f. with_field f.0 (fields_at limits sub n f.1))
-          (then (field_at limits sub toks) (λ f. with_field f.0 (fields_at limits sub n f.1)) (field_law toks)
-            (λ f _ one. with_field_law room n n (suc n) toks f (fields_at limits sub n f.1) (omega arith) one (fields_law n f.1 (omega arith)))
-            (refused_fewer (suc n) limits.fields room toks few))
+        (then (field_at limits sub toks) (λ f. with_field f.0 (fields_at limits sub n f.1)) (field_law toks)
+        (λ f _ one. with_field_law room n n (suc n) toks f (fields_at limits sub n f.1) (omega arith) one (fields_law n f.1 (omega arith)))
+        (refused_fewer (suc n) limits.fields room toks few))
 
     braced_law : (toks : List Token) → Outcome (ReadsBraced room toks) (IsRefused limits.fields room toks) (braced_at limits sub toks)
     unfolding braced_at
     braced_law toks =
         then (expect sign.OpenBrace toks) (λ after. fields_at limits sub limits.fields after) (expect_law sign.OpenBrace toks)
-          (λ after _ open_brace.
-              then_all (fields_at limits sub limits.fields after) (fields_law limits.fields after (omega arith))
-                (λ x r. record { inside = after; opens = open_brace; fields = r })
-                (refused_later limits.fields room after toks (later (Mark sign.OpenBrace ∷ []) after toks open_brace)))
-          (refused_wrong limits.fields room toks)
+        (λ after _ open_brace.
+        then_all (fields_at limits sub limits.fields after) (fields_law limits.fields after (omega arith))
+        (λ x r. record { inside = after; opens = open_brace; fields = r })
+        (refused_later limits.fields room after toks (later (Mark sign.OpenBrace ∷ []) after toks open_brace)))
+        (refused_wrong limits.fields room toks)
 
     struct_law : (toks : List Token) → Outcome (ReadsBase (room + 1) (Reserved word.Struct ∷ toks)) (IsRefused limits.fields (room + 1) (Reserved word.Struct ∷ toks)) (struct_at limits sub toks)
     unfolding struct_at
@@ -307,48 +306,48 @@ module _ (limits : Limits) where
         by (Some rest) is =
             let open_brace = after_sign_is sign.OpenBrace toks rest is in
             then (fields_at limits sub limits.fields rest) (λ fs. Ok (StructForm false fs.0, fs.1)) (fields_law limits.fields rest (omega arith))
-              (λ fs _ r.
-                  let low = r.low in
-                  let shown = braced_joins (Reserved word.Struct ∷ toks) (Reserved word.Struct ∷ []) rest (show_fields fs.0) fs.1 (ap (λ (l : List Token). Reserved word.Struct ∷ l) open_brace) r.shown in
-                  value _ _ (StructForm false fs.0, fs.1) (record { read = record { shown = shown; fine = r.fine; within = (r.few, r.within); low = omega arith }; base = tt }))
-              (λ d w. refused_inside limits.fields room (Reserved word.Struct) toks d (refused_later limits.fields room rest toks (later (Mark sign.OpenBrace ∷ []) rest toks open_brace) d w))
+            (λ fs _ r.
+            let low = r.low in
+            let shown = braced_joins (Reserved word.Struct ∷ toks) (Reserved word.Struct ∷ []) rest (show_fields fs.0) fs.1 (ap (λ (l : List Token). Reserved word.Struct ∷ l) open_brace) r.shown in
+            value _ _ (StructForm false fs.0, fs.1) (record { read = record { shown = shown; fine = r.fine; within = (r.few, r.within); low = omega arith }; base = tt }))
+            (λ d w. refused_inside limits.fields room (Reserved word.Struct) toks d (refused_later limits.fields room rest toks (later (Mark sign.OpenBrace ∷ []) rest toks open_brace) d w))
         by None is =
             then (reference_at toks) (λ r. braced_at limits sub r.1 >>= λ fs. Ok (IntegralForm r.0 fs.0, fs.1)) (reference_law toks)
-              (λ r _ reference.
-                  then (braced_at limits sub r.1) (λ fs. Ok (IntegralForm r.0 fs.0, fs.1)) (braced_law r.1)
-                    (λ fs _ b.
-                        let f = b.fields in
-                        let low = f.low in
-                        let begins : Reserved word.Struct ∷ toks ≡ (Reserved word.Struct ∷ show_reference r.0) ++ (Mark sign.OpenBrace ∷ b.inside) = ap (λ (l : List Token). Reserved word.Struct ∷ l) (reference ∙ ap (λ (l : List Token). show_reference r.0 ++ l) b.opens) in
-                        let shown = braced_joins (Reserved word.Struct ∷ toks) (Reserved word.Struct ∷ show_reference r.0) b.inside (show_fields fs.0) fs.1 begins f.shown in
-                        value _ _ (IntegralForm r.0 fs.0, fs.1) (record { read = record { shown = shown; fine = f.fine; within = (f.few, f.within); low = omega arith }; base = tt }))
-                    (λ d w. refused_inside limits.fields room (Reserved word.Struct) toks d (refused_later limits.fields room r.1 toks (later (show_reference r.0) r.1 toks reference) d w)))
-              (refused_wrong limits.fields (room + 1) (Reserved word.Struct ∷ toks))
+            (λ r _ reference.
+            then (braced_at limits sub r.1) (λ fs. Ok (IntegralForm r.0 fs.0, fs.1)) (braced_law r.1)
+            (λ fs _ b.
+            let f = b.fields in
+            let low = f.low in
+            let begins : Reserved word.Struct ∷ toks ≡ (Reserved word.Struct ∷ show_reference r.0) ++ (Mark sign.OpenBrace ∷ b.inside) = ap (λ (l : List Token). Reserved word.Struct ∷ l) (reference ∙ ap (λ (l : List Token). show_reference r.0 ++ l) b.opens) in
+            let shown = braced_joins (Reserved word.Struct ∷ toks) (Reserved word.Struct ∷ show_reference r.0) b.inside (show_fields fs.0) fs.1 begins f.shown in
+            value _ _ (IntegralForm r.0 fs.0, fs.1) (record { read = record { shown = shown; fine = f.fine; within = (f.few, f.within); low = omega arith }; base = tt }))
+            (λ d w. refused_inside limits.fields room (Reserved word.Struct) toks d (refused_later limits.fields room r.1 toks (later (show_reference r.0) r.1 toks reference) d w)))
+            (refused_wrong limits.fields (room + 1) (Reserved word.Struct ∷ toks))
 
     pinned_law : (toks : List Token) → Outcome (ReadsBase (room + 1) (Reserved word.Pinned ∷ toks)) (IsRefused limits.fields (room + 1) (Reserved word.Pinned ∷ toks)) (pinned_at limits sub toks)
     unfolding pinned_at
     pinned_law toks =
         then (needed (after_word word.Struct toks)) (λ after. braced_at limits sub after >>= λ fs. Ok (StructForm true fs.0, fs.1)) (word_law word.Struct toks)
-          (λ after _ is.
-              then (braced_at limits sub after) (λ fs. Ok (StructForm true fs.0, fs.1)) (braced_law after)
-                (λ fs _ b.
-                    let f = b.fields in
-                    let low = f.low in
-                    let begins : Reserved word.Pinned ∷ toks ≡ (Reserved word.Pinned ∷ Reserved word.Struct ∷ []) ++ (Mark sign.OpenBrace ∷ b.inside) = ap (λ (l : List Token). Reserved word.Pinned ∷ l) (is ∙ ap (λ (l : List Token). Reserved word.Struct ∷ l) b.opens) in
-                    let shown = braced_joins (Reserved word.Pinned ∷ toks) (Reserved word.Pinned ∷ Reserved word.Struct ∷ []) b.inside (show_fields fs.0) fs.1 begins f.shown in
-                    value _ _ (StructForm true fs.0, fs.1) (record { read = record { shown = shown; fine = f.fine; within = (f.few, f.within); low = omega arith }; base = tt }))
-                (λ d w. refused_inside limits.fields room (Reserved word.Pinned) toks d (refused_later limits.fields room after toks (later (Reserved word.Struct ∷ []) after toks is) d w)))
-          (refused_wrong limits.fields (room + 1) (Reserved word.Pinned ∷ toks))
+        (λ after _ is.
+        then (braced_at limits sub after) (λ fs. Ok (StructForm true fs.0, fs.1)) (braced_law after)
+        (λ fs _ b.
+        let f = b.fields in
+        let low = f.low in
+        let begins : Reserved word.Pinned ∷ toks ≡ (Reserved word.Pinned ∷ Reserved word.Struct ∷ []) ++ (Mark sign.OpenBrace ∷ b.inside) = ap (λ (l : List Token). Reserved word.Pinned ∷ l) (is ∙ ap (λ (l : List Token). Reserved word.Struct ∷ l) b.opens) in
+        let shown = braced_joins (Reserved word.Pinned ∷ toks) (Reserved word.Pinned ∷ Reserved word.Struct ∷ []) b.inside (show_fields fs.0) fs.1 begins f.shown in
+        value _ _ (StructForm true fs.0, fs.1) (record { read = record { shown = shown; fine = f.fine; within = (f.few, f.within); low = omega arith }; base = tt }))
+        (λ d w. refused_inside limits.fields room (Reserved word.Pinned) toks d (refused_later limits.fields room after toks (later (Reserved word.Struct ∷ []) after toks is) d w)))
+        (refused_wrong limits.fields (room + 1) (Reserved word.Pinned ∷ toks))
 
     union_law : (toks : List Token) → Outcome (ReadsBase (room + 1) (Reserved word.Union ∷ toks)) (IsRefused limits.fields (room + 1) (Reserved word.Union ∷ toks)) (braced_at limits sub toks >>= λ fs. Ok (UnionForm fs.0, fs.1))
     union_law toks =
         then (braced_at limits sub toks) (λ fs. Ok (UnionForm fs.0, fs.1)) (braced_law toks)
-          (λ fs _ b.
-              let f = b.fields in
-              let low = f.low in
-              let shown = braced_joins (Reserved word.Union ∷ toks) (Reserved word.Union ∷ []) b.inside (show_fields fs.0) fs.1 (ap (λ (l : List Token). Reserved word.Union ∷ l) b.opens) f.shown in
-              value _ _ (UnionForm fs.0, fs.1) (record { read = record { shown = shown; fine = f.fine; within = (f.few, f.within); low = omega arith }; base = tt }))
-          (refused_inside limits.fields room (Reserved word.Union) toks)
+        (λ fs _ b.
+        let f = b.fields in
+        let low = f.low in
+        let shown = braced_joins (Reserved word.Union ∷ toks) (Reserved word.Union ∷ []) b.inside (show_fields fs.0) fs.1 (ap (λ (l : List Token). Reserved word.Union ∷ l) b.opens) f.shown in
+        value _ _ (UnionForm fs.0, fs.1) (record { read = record { shown = shown; fine = f.fine; within = (f.few, f.within); low = omega arith }; base = tt }))
+        (refused_inside limits.fields room (Reserved word.Union) toks)
 
     word_form_law : (w : Word) (rest : List Token) → Outcome (ReadsBase (room + 1) (Reserved w ∷ rest)) (IsRefused limits.fields (room + 1) (Reserved w ∷ rest)) (word_form limits sub rest w)
     word_form_law word.String rest = value _ _ (StringForm, rest) (record { read = record { shown = refl; fine = tt; within = tt; low = omega arith }; base = tt })
@@ -360,8 +359,8 @@ module _ (limits : Limits) where
     plain_law : (toks : List Token) → Outcome (ReadsBase (room + 1) toks) (IsRefused limits.fields (room + 1) toks) (target_at toks >>= λ t. Ok (target_form t.0, t.1))
     plain_law toks =
         then (target_at toks) (λ t. Ok (target_form t.0, t.1)) (target_law toks)
-          (λ t _ e. value _ _ (target_form t.0, t.1) (by t.0 t.1 e))
-          (refused_wrong limits.fields (room + 1) toks)
+        (λ t _ e. value _ _ (target_form t.0, t.1) (by t.0 t.1 e))
+        (refused_wrong limits.fields (room + 1) toks)
       where
         by : (t : TreeTarget) (rest : List Token) → toks ≡ show_target t ++ rest → ReadsBase (room + 1) toks (target_form t, rest)
         by (ToReference r) rest e = record { read = record { shown = e; fine = tt; within = tt; low = omega arith }; base = tt }
@@ -384,12 +383,12 @@ module _ (limits : Limits) where
           let starts = after_sign_is sign.OpenBracket toks rest is in
           let e : all ≡ (show_form f ++ Mark sign.OpenBracket ∷ []) ++ rest = r.shown ∙ ap (λ (l : List Token). show_form f ++ l) starts ∙ sym (append_assoc (show_form f) (Mark sign.OpenBracket ∷ []) rest) in
           either (ltb room (form_depth f)) (Err Deep) (bound_at limits.expression_depth rest >>= λ b. Ok (ArrayForm f b.0, b.1))
-            (λ p. fault _ _ Deep (deep (ltb-true _ _ p) e))
-            (λ p.
-                let shallow = ltb-false room (form_depth f) p in
-                then (bound_at limits.expression_depth rest) (λ b. Ok (ArrayForm f b.0, b.1)) (bound_law limits.expression_depth rest)
-                  (λ x _ bound. value _ _ (ArrayForm f x.0, x.1) (record { shown = array_joins all (show_form f) toks rest (show_optional x.0) x.1 r.shown starts bound.shown; fine = (b.base, r.fine, bound.fine); within = (r.within, bound.low); low = omega (arith, shallow) }))
-                  (refused_expression limits.fields (room + 1) limits.expression_depth rest all enough (later (show_form f ++ Mark sign.OpenBracket ∷ []) rest all e)))
+          (λ p. fault _ _ Deep (deep (ltb-true _ _ p) e))
+          (λ p.
+          let shallow = ltb-false room (form_depth f) p in
+          then (bound_at limits.expression_depth rest) (λ b. Ok (ArrayForm f b.0, b.1)) (bound_law limits.expression_depth rest)
+          (λ x _ bound. value _ _ (ArrayForm f x.0, x.1) (record { shown = array_joins all (show_form f) toks rest (show_optional x.0) x.1 r.shown starts bound.shown; fine = (b.base, r.fine, bound.fine); within = (r.within, bound.low); low = omega (arith, shallow) }))
+          (refused_expression limits.fields (room + 1) limits.expression_depth rest all enough (later (show_form f ++ Mark sign.OpenBracket ∷ []) rest all e)))
         where
           deep : room < form_depth f → all ≡ (show_form f ++ Mark sign.OpenBracket ∷ []) ++ rest → room + 1 < length all
           deep h e = rw e (omega (arith, form_depth_shown f, length-append (show_form f) (Mark sign.OpenBracket ∷ []), length-append (show_form f ++ Mark sign.OpenBracket ∷ []) rest))
@@ -401,9 +400,9 @@ module _ (limits : Limits) where
   form_law (suc room) toks enough =
       let is : room + 1 ≡ suc room = omega arith in
       subst (λ (k : ℕ). Outcome (ReadsForm k toks) (IsRefused limits.fields k toks) (base_at limits (form_at limits room) toks >>= λ f. suffix_at limits room f.0 f.1)) is
-        (then (base_at limits (form_at limits room) toks) (λ f. suffix_at limits room f.0 f.1) (base_law (form_at limits room) room (omega arith) (λ toks. form_law room toks (omega arith)) toks)
-          (λ f _ b. suffix_law room toks f.1 f.0 (omega arith) b)
-          (λ d w. w))
+      (then (base_at limits (form_at limits room) toks) (λ f. suffix_at limits room f.0 f.1) (base_law (form_at limits room) room (omega arith) (λ toks. form_law room toks (omega arith)) toks)
+      (λ f _ b. suffix_law room toks f.1 f.0 (omega arith) b)
+      (λ d w. w))
 
   -- ---- pickles
 
@@ -419,18 +418,18 @@ module _ (limits : Limits) where
       let many = limits.fields in
       let room = limits.form_depth in
       then (needed (after_word word.Type toks)) (λ start. name_at start >>= λ name. expect sign.Assign name.1 >>= λ assign. form_at limits limits.form_depth assign >>= λ f. expect sign.Semicolon f.1 >>= λ after. Ok (record { name = name.0; form = f.0 }, after)) (word_law word.Type toks)
-        (λ start _ e1. then (name_at start) (λ name. expect sign.Assign name.1 >>= λ assign. form_at limits limits.form_depth assign >>= λ f. expect sign.Semicolon f.1 >>= λ after. Ok (record { name = name.0; form = f.0 }, after)) (name_law start)
-          (λ name _ e2. then (expect sign.Assign name.1) (λ assign. form_at limits limits.form_depth assign >>= λ f. expect sign.Semicolon f.1 >>= λ after. Ok (record { name = name.0; form = f.0 }, after)) (expect_law sign.Assign name.1)
-            (λ assign _ e3.
-                let front : toks ≡ (Reserved word.Type ∷ Named name.0 ∷ Mark sign.Assign ∷ []) ++ assign = e1 ∙ ap (λ (l : List Token). Reserved word.Type ∷ l) (e2 ∙ ap (λ (l : List Token). Named name.0 ∷ l) e3) in
-                then (form_at limits limits.form_depth assign) (λ f. expect sign.Semicolon f.1 >>= λ after. Ok (record { name = name.0; form = f.0 }, after)) (form_law limits.form_depth assign enough)
-                  (λ f _ form. then (expect sign.Semicolon f.1) (λ after. Ok (record { name = name.0; form = f.0 }, after)) (expect_law sign.Semicolon f.1)
-                    (λ after _ end. value _ _ (record { name = name.0; form = f.0 }, after) (record { shown = declaration_joins toks name.0 assign (show_form f.0) f.1 after front form.shown end; fine = form.fine; within = form.within; low = form.low }))
-                    (refused_wrong many room toks))
-                  (refused_later many room assign toks (later (Reserved word.Type ∷ Named name.0 ∷ Mark sign.Assign ∷ []) assign toks front)))
-            (refused_wrong many room toks))
-          (refused_wrong many room toks))
-        (refused_wrong many room toks)
+      (λ start _ e1. then (name_at start) (λ name. expect sign.Assign name.1 >>= λ assign. form_at limits limits.form_depth assign >>= λ f. expect sign.Semicolon f.1 >>= λ after. Ok (record { name = name.0; form = f.0 }, after)) (name_law start)
+      (λ name _ e2. then (expect sign.Assign name.1) (λ assign. form_at limits limits.form_depth assign >>= λ f. expect sign.Semicolon f.1 >>= λ after. Ok (record { name = name.0; form = f.0 }, after)) (expect_law sign.Assign name.1)
+      (λ assign _ e3.
+      let front : toks ≡ (Reserved word.Type ∷ Named name.0 ∷ Mark sign.Assign ∷ []) ++ assign = e1 ∙ ap (λ (l : List Token). Reserved word.Type ∷ l) (e2 ∙ ap (λ (l : List Token). Named name.0 ∷ l) e3) in
+      then (form_at limits limits.form_depth assign) (λ f. expect sign.Semicolon f.1 >>= λ after. Ok (record { name = name.0; form = f.0 }, after)) (form_law limits.form_depth assign enough)
+      (λ f _ form. then (expect sign.Semicolon f.1) (λ after. Ok (record { name = name.0; form = f.0 }, after)) (expect_law sign.Semicolon f.1)
+      (λ after _ end. value _ _ (record { name = name.0; form = f.0 }, after) (record { shown = declaration_joins toks name.0 assign (show_form f.0) f.1 after front form.shown end; fine = form.fine; within = form.within; low = form.low }))
+      (refused_wrong many room toks))
+      (refused_later many room assign toks (later (Reserved word.Type ∷ Named name.0 ∷ Mark sign.Assign ∷ []) assign toks front)))
+      (refused_wrong many room toks))
+      (refused_wrong many room toks))
+      (refused_wrong many room toks)
 
   pub record ReadsDeclarations (n : ℕ) (toks : List Token) (ds : List DeclarationTree) : Type 0 where
     pub shown : toks ≡ show_pickle ds
@@ -452,6 +451,7 @@ module _ (limits : Limits) where
     where
       e : toks ≡ (Reserved word.Type ∷ Named d.0.name ∷ Mark sign.Assign ∷ show_form d.0.form) ++ Mark sign.Semicolon ∷ d.1
       e = one.shown ∙ append_assoc (Reserved word.Type ∷ Named d.0.name ∷ Mark sign.Assign ∷ show_form d.0.form) (Mark sign.Semicolon ∷ []) d.1
+
       by : (f : Fault) → IsRefused many limits.form_depth d.1 f → IsRefused more limits.form_depth toks f
       by Wrong r = tt
       by Deep r = rw e (omega (arith, length-append (Reserved word.Type ∷ Named d.0.name ∷ Mark sign.Assign ∷ show_form d.0.form) (Mark sign.Semicolon ∷ d.1)))
@@ -464,5 +464,5 @@ module _ (limits : Limits) where
   declarations_law zero many (t ∷ toks) enough less few = fault _ _ Many (omega arith)
   declarations_law (suc n) many (t ∷ toks) enough less few =
       then (declaration_at limits (t ∷ toks)) (λ d. with_declaration d.0 (declarations_at limits n d.1)) (declaration_law (t ∷ toks) enough)
-        (λ d _ one. with_declaration_law n (many - 1) many (t ∷ toks) d (declarations_at limits n d.1) (omega arith) one (declarations_law n (many - 1) d.1 enough (omega arith) (omega arith)))
-        (refused_fewer many limits.fields limits.form_depth (t ∷ toks) less)
+      (λ d _ one. with_declaration_law n (many - 1) many (t ∷ toks) d (declarations_at limits n d.1) (omega arith) one (declarations_law n (many - 1) d.1 enough (omega arith) (omega arith)))
+      (refused_fewer many limits.fields limits.form_depth (t ∷ toks) less)

@@ -7,4 +7,12 @@ pub mod ReadForms
 pub mod Reading
 pub mod Show
 pub mod Tokens
+pub mod Bytes
+pub mod Words
+pub mod Signs
+pub mod Blanks
+pub mod Texts
+pub mod Numbers
+pub mod Lexing
+pub mod Pieces
 pub mod Tree

@@ -1,6 +1,10 @@
 -- The tokens that are a pickle.
-use Rattle.std.specs.Prelude.{ℕ, ◌+◌, ◌≡◌, List, [], ◌∷◌}
+use Rattle.std.specs.Prelude.{ℕ, ◌+◌, ◌-◌, ◌≤◌, ◌≡◌, ⊤, List, [], ◌∷◌}
 use Rattle.pickle_syntax.specs.declared.token.Sign.TheVariants as sign
+use Rattle.pickle_syntax.specs.declared.parser.fault.Stop.{Stop}
+use Rattle.pickle_syntax.specs.declared.parser.fault.Stop.TheVariants as stop
+use Rattle.pickle_syntax.specs.declared.parser.fault.ParseFault.{ParseFault}
+use Rattle.pickle_syntax.specs.declared.parser.fault.ParseFault.TheVariants as fault
 use Rattle.pickle_syntax.specs.Tokens.{Token, Mark}
 use Rattle.pickle_syntax.specs.Tree.{DeclarationTree}
 use Rattle.pickle_syntax.specs.Show.{show_pickle}
@@ -21,3 +25,17 @@ abbrev pub semicolons : List Token → ℕ
 semicolons [] = 0
 semicolons (Mark sign.Semicolon ∷ rest) = 1 + semicolons rest
 semicolons (_ ∷ rest) = semicolons rest
+
+-- the fault of a reading that stopped, over so many tokens
+abbrev pub fault_of : Stop → ℕ → ParseFault
+fault_of (stop.Syntax left) count = fault.Syntax (count - left)
+fault_of stop.TooDeep count = fault.TooDeep
+fault_of stop.TooMany count = fault.TooMany
+fault_of stop.Memory count = fault.Memory
+
+-- a place is one of so many tokens, or their end
+abbrev pub IsPlaceWithin : ℕ → ParseFault → Type 0
+IsPlaceWithin count (fault.Syntax token) = token ≤ count
+IsPlaceWithin count fault.TooDeep = ⊤
+IsPlaceWithin count fault.TooMany = ⊤
+IsPlaceWithin count fault.Memory = ⊤

@@ -1,6 +1,5 @@
 -- Reading an expression, as a function on lists.
 use Rattle.std.specs.Prelude.{ℕ, zero, suc, ◌+◌, nat_lt, if◌then◌else◌, List, [], ◌∷◌, drop, Ok, Err}
-use Rattle.pickle_syntax.specs.declared.token.Sign.{Sign}
 use Rattle.pickle_syntax.specs.declared.token.Sign.TheVariants as sign
 use Rattle.pickle_syntax.specs.declared.parser.operators.Start.{Start}
 use Rattle.pickle_syntax.specs.declared.parser.operators.Start.TheVariants as start

@@ -1,4 +1,4 @@
-use Rattle.std.proofs.Common.{◌≡◌, ◌-◌, ◌<◌, ◌≤◌, ◌∙◌, sym, arith, vec_len}
+use Rattle.std.proofs.Common.{◌≡◌, ◌-◌, ◌<◌, ◌∙◌, arith, vec_len}
 use Rattle.pickle_syntax.specs.Tokens.{tokens_of}
 use Rattle.pickle_syntax.specs.Tree.{field_tree, fields_tree}
 use Rattle.pickle_syntax.specs.Limits.{standard}

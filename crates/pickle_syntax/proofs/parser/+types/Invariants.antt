@@ -1,4 +1,4 @@
-use Rattle.std.proofs.Common.{◌≡◌, ◌≤◌, ℕ, ◌+◌, ◌-◌, ◌*◌, vec_len}
+use Rattle.std.proofs.Common.{◌≡◌, ◌≤◌, ◌+◌, ◌-◌, ◌*◌, vec_len}
 use Rattle.pickle_syntax.specs.Tokens.{tokens_of}
 use Rattle.pickle_syntax.specs.Tree.{fields_tree}
 use Rattle.pickle_syntax.specs.Limits.{standard, fields_depth}

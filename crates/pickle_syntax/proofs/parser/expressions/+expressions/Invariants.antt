@@ -1,4 +1,4 @@
-use Rattle.std.proofs.Common.{ℕ, ◌+◌, ◌*◌, ◌≡◌, ◌≤◌}
+use Rattle.std.proofs.Common.{◌+◌, ◌*◌, ◌≡◌, ◌≤◌}
 use Rattle.pickle_syntax.specs.Tokens.{tokens_of}
 use Rattle.pickle_syntax.specs.Tree.{expression_tree}
 use Rattle.pickle_syntax.specs.ReadExpressions.{expression_at, chain}
