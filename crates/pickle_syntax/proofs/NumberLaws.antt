@@ -1,18 +1,22 @@
 -- Numbers are cut by the rules.
-use Rattle.std.proofs.Common.{◌≡◌, ℕ, ◌+◌, ◌<◌, ◌≤◌, Bool, true, false, cond, ltb, List, [], ◌∷◌, ◌++◌, length, take, drop, get_or, refl, sym, ap, ◌∙◌, subst, arith, inl, inr, not, ◌||◌, ◌&&◌, Option, Some, None, Ok, append_assoc, length-append}
-use Rattle.std.specs.Prelude.{◌⊎◌, ◌==◌, slice_index}
+use Rattle.std.proofs.Common.{◌≡◌, ◌≢◌, ℕ, zero, suc, ◌+◌, ◌-◌, ◌<◌, ◌≤◌, Bool, true, false, cond, eqb, ltb, List, [], ◌∷◌, ◌++◌, length, take, drop, get_or, refl, sym, ap, ◌∙◌, subst, arith, inl, inr, not, ◌||◌, ◌&&◌, Option, Some, None, Result, Ok, Err, append_assoc, length-append}
+use Rattle.std.specs.Prelude.{codes, ◌⊎◌, ◌==◌, slice_index}
 use Rattle.std.specs.List.{prefix_len}
-use Rattle.std.proofs.lemmas.List.{get_or-drop}
+use Rattle.std.proofs.lemmas.List.{get_or-drop, take-append-drop}
+use Rattle.std.proofs.lemmas.List.Folds.{length-prefix_len}
 use Rattle.std.proofs.Math.Seq.{drop-append_seam, take-append_seam}
-use Rattle.std.proofs.lemmas.Bool.{ne_eqb, lt-ltb, and_left, and_right}
+use Rattle.std.proofs.lemmas.Bool.{eqb-true, eqb-false, ne_eqb, lt-ltb, ltb-true, cases_Bool, and_parts, or_cases, or_parts, cases_eq, both_ways, and_left, and_right}
+use Rattle.std.proofs.lemmas.Bool.Decides.{nat_tests}
 use Rattle.pickle_syntax.specs.declared.lexer.bytes.Class.TheVariants as class
+use Rattle.pickle_syntax.specs.declared.lexer.fault.LexFaultKind.TheVariants.{BadNumber}
 use Rattle.pickle_syntax.specs.declared.lexer.numbers.Suffix as code
 use Rattle.pickle_syntax.specs.declared.token.Number.{Number}
-use Rattle.pickle_syntax.specs.Bytes.{digit_of, is_in}
-use Rattle.pickle_syntax.specs.Numbers.{base_of, start_of, value_after, width_of, is_sign, suffix_of, suffix_at, has_value, typed, checked, digits_at, number_at}
+use Rattle.pickle_syntax.specs.Bytes.{Fault, digit_of, is_in}
+use Rattle.pickle_syntax.specs.Numbers.{Read, base_of, start_of, value_after, width_of, is_sign, suffix_of, suffix_at, has_value, typed, checked, digits_at, number_at}
 use Rattle.pickle_syntax.specs.Pieces.{AllIn, begins, Suffix, NoSuffix, SignLetter, WidthLetter, SignAndWidth, WidthAndSign, suffix_bytes, suffix_signed, suffix_width, width_for, IsSuffix, IsPrefix, Decimal, Hexadecimal, Octal, Binary, IsNumber}
-use Rattle.pickle_syntax.proofs.Classes.{run_is}
-use Rattle.pickle_syntax.proofs.Letters.{word_digit, word_bit, width_sign, word_x, word_o, word_b, digit_x, digit_o, digit_b, sign_x, sign_o, sign_b, sign_bit, width_x, width_o, after_sign, after_width, after_word}
+use Rattle.pickle_syntax.proofs.Classes.{run_is, run_all, run_stops}
+use Rattle.pickle_syntax.proofs.Chains.{chosen}
+use Rattle.pickle_syntax.proofs.Letters.{word_sign, word_width, word_digit, word_bit, width_sign, word_x, word_o, word_b, digit_x, digit_o, digit_b, sign_x, sign_o, sign_b, sign_bit, width_x, width_o, after_sign, after_width, after_word}
 
 -- the width that a suffix names, or 0
 width_or_none : Option ℕ → ℕ
@@ -83,7 +87,7 @@ digits_read at base start digits s after n low all ends is apart ev es ew held =
     let tail = suffix_bytes s ++ after in
     let len : length digits ≡ prefix_len (is_in (class.Digit base)) (digits ++ tail) = sym (run_is (class.Digit base) digits tail all (no_digits base s after low ends apart)) in
     let joined : digits_at at base start (digits ++ tail) ≡ checked at (value_after base 0 digits) (written s) (start + length digits) (slice_index after 0) =
-    digits_join at base start (digits ++ tail) tail (length digits) (value_after base 0 digits) (written s) (slice_index after 0) len (sym (drop-append_seam digits tail)) (sym (suffix_reads s after is apart)) (ap (value_after base 0) (sym (take-append_seam digits tail))) (sym (byte_behind (suffix_bytes s) after)) in
+        digits_join at base start (digits ++ tail) tail (length digits) (value_after base 0 digits) (written s) (slice_index after 0) len (sym (drop-append_seam digits tail)) (sym (suffix_reads s after is apart)) (ap (value_after base 0) (sym (take-append_seam digits tail))) (sym (byte_behind (suffix_bytes s) after)) in
     let same : typed_number (value_after base 0 digits) s ≡ n = number_same n (value_after base 0 digits) s is ev es ew in
     let fits : has_value (suffix_signed s) (typed (value_after base 0 digits) (written s)) (value_after base 0 digits) ≡ true = ap (λ (m : Number). has_value m.signed m.width m.value) same ∙ held in
     joined ∙ checked_ok at (value_after base 0 digits) (written s) (start + length digits) (slice_index after 0) (after_word after apart) fits ∙ ap (λ (m : Number). Ok (m, start + length digits + length (suffix_bytes s))) same
@@ -171,11 +175,11 @@ number_reads at n front after k apart =
     let low = low_base k.base k.prefix k.prefixed in
     let all : AllIn (class.Digit k.base) digits = (digit_in k.base k.first k.digit, k.more) in
     let regroup : front ++ after ≡ k.prefix ++ k.first ∷ (k.digits ++ tail) =
-    ap (λ (l : List ℕ). l ++ after) k.written ∙ append_assoc (k.prefix ++ digits) (suffix_bytes k.suffix) after ∙ append_assoc k.prefix digits tail in
+        ap (λ (l : List ℕ). l ++ after) k.written ∙ append_assoc (k.prefix ++ digits) (suffix_bytes k.suffix) after ∙ append_assoc k.prefix digits tail in
     let size : length k.prefix + length digits + length (suffix_bytes k.suffix) ≡ length front =
-    omega (arith, ap length k.written, length-append (k.prefix ++ digits) (suffix_bytes k.suffix), length-append k.prefix digits) in
+        omega (arith, ap length k.written, length-append (k.prefix ++ digits) (suffix_bytes k.suffix), length-append k.prefix digits) in
     let none : k.base ≡ 10 → IsNoPrefix (slice_index (k.digits ++ tail) 0) (slice_index (k.digits ++ tail) 1) =
-    λ e. none_digits k.digits k.suffix after (subst (λ (b : ℕ). AllIn (class.Digit b) k.digits) e k.more) k.suffixed apart in
+        λ e. none_digits k.digits k.suffix after (subst (λ (b : ℕ). AllIn (class.Digit b) k.digits) e k.more) k.suffixed apart in
     rw regroup (prefix_reads at k.base k.prefix k.first (k.digits ++ tail) k.prefixed k.digit none
-    ∙ digits_read at k.base (length k.prefix) digits k.suffix after n low all k.ends k.suffixed apart k.value k.signed k.width k.held
-    ∙ ap (λ (m : ℕ). Ok (n, m)) size)
+      ∙ digits_read at k.base (length k.prefix) digits k.suffix after n low all k.ends k.suffixed apart k.value k.signed k.width k.held
+      ∙ ap (λ (m : ℕ). Ok (n, m)) size)

@@ -14,6 +14,8 @@ mod fields;
 mod operators;
 mod pickle;
 mod reading;
+#[cfg(test)]
+mod tests;
 mod types;
 
 use crate::lexer::Tokens;
