@@ -4,16 +4,21 @@ ghost use Rattle.std.specs.Prelude.{◌≡◌, ◌+◌, ◌<◌, ◌≤◌, drop
 ghost use Rattle.pickle_syntax.specs.Tokens.{tokens_of};
 ghost use Rattle.pickle_syntax.specs.Tree.{expression_tree, suffix_tree, After};
 ghost use Rattle.pickle_syntax.specs.declared.parser.fault.Stop.TheVariants.{Memory};
+ghost use Rattle.pickle_syntax.specs.declared.parser.operators.Start.TheVariants as start;
+ghost use Rattle.pickle_syntax.specs.declared.parser.operators.Next.TheVariants as next;
 ghost use Rattle.pickle_syntax.specs.Limits;
 ghost use Rattle.pickle_syntax.specs.Reading.{Gives};
-ghost use Rattle.pickle_syntax.specs.ReadExpressions.{operand_at, step_at, chain, expression_at};
+ghost use Rattle.pickle_syntax.specs.ReadExpressions.{operand_by, operand_at, step_at, chain, expression_at};
 
 use crate::parser::fault::Stop;
 use crate::parser::operators::{Next, Start, goes_on, level, level_of, next_of, start_of};
 use crate::parser::reading::{expect, name_at, target_at, unit_at};
 use crate::token::{Kind, Sign};
-use crate::tree::{Expression, Suffix};
+use crate::tree::{Expression, Infix, Prefix, Suffix};
 use std::alloc::Global;
+
+/// The least level of what an operator before its operand takes.
+const PREFIX_LEVEL: u8 = 13;
 
 /// An expression, and its depth.
 #[derive(Drop)]
@@ -21,6 +26,33 @@ pub struct Found {
     pub expression: Expression,
     pub depth: u8,
     ghost measured: { depth ≡ Limits.depth (expression_tree expression) },
+}
+
+/// What follows `(`.
+#[cycle(expressions)]
+fn bracketed(alloc: Global, room: u8, tokens: &[Kind]) -> Result<(Found, &[Kind]), Stop>
+    requires { room < 255 }
+    ensures read { Gives (λ x. (expression_tree x.0.expression, tokens_of x.1.now)) result (operand_by (expression_at room) (tokens_of tokens.now) start.Bracket) }
+    ensures low { IfOk result (λ x. x.0.depth ≤ room + 1) }
+{
+    let (inner, rest) = expression(alloc, room, 1, tokens)?;
+    let rest = expect(rest, Sign::CloseParen)?;
+    let depth = inner.depth + 1;
+    let expression = Expression::Bracket(Box::new(alloc, inner.expression)?);
+    Ok((Found { expression, depth }, rest))
+}
+
+/// What follows an operator before its operand.
+#[cycle(expressions)]
+fn prefixed(alloc: Global, room: u8, op: Prefix, tokens: &[Kind]) -> Result<(Found, &[Kind]), Stop>
+    requires { room < 255 }
+    ensures read { Gives (λ x. (expression_tree x.0.expression, tokens_of x.1.now)) result (operand_by (expression_at room) (tokens_of tokens.now) (start.Prefix op)) }
+    ensures low { IfOk result (λ x. x.0.depth ≤ room + 1) }
+{
+    let (inner, rest) = expression(alloc, room, PREFIX_LEVEL, tokens)?;
+    let depth = inner.depth + 1;
+    let expression = Expression::Prefix(op, Box::new(alloc, inner.expression)?);
+    Ok((Found { expression, depth }, rest))
 }
 
 /// What begins an expression: a literal, a name, a bracket, or a prefix with its operand.
@@ -75,19 +107,8 @@ fn operand(alloc: Global, room: u8, tokens: &[Kind]) -> Result<(Found, &[Kind]),
                 ))
             }
             Kind::Sign(sign) => match start_of(*sign) {
-                Start::Bracket => {
-                    let (inner, rest) = expression(alloc, room, 1, rest)?;
-                    let rest = expect(rest, Sign::CloseParen)?;
-                    let depth = inner.depth + 1;
-                    let expression = Expression::Bracket(Box::new(alloc, inner.expression)?);
-                    Ok((Found { expression, depth }, rest))
-                }
-                Start::Prefix(op) => {
-                    let (inner, rest) = expression(alloc, room, 13, rest)?;
-                    let depth = inner.depth + 1;
-                    let expression = Expression::Prefix(op, Box::new(alloc, inner.expression)?);
-                    Ok((Found { expression, depth }, rest))
-                }
+                Start::Bracket => bracketed(alloc, room, rest),
+                Start::Prefix(op) => prefixed(alloc, room, op, rest),
                 Start::Nothing => Err(Stop::Syntax(tokens.len())),
             },
             _ => Err(Stop::Syntax(tokens.len())),
@@ -117,6 +138,77 @@ fn with_suffix(alloc: Global, left: Found, suffix: Suffix) -> Result<Found, Stop
     })
 }
 
+/// What follows an operator between two operands.
+#[cycle(expressions)]
+#[tactic(auto, unfolding(crate::specs::ReadExpressions::step_at))]
+fn infix<'a>(
+    alloc: Global,
+    room: u8,
+    left: Found,
+    op: Infix,
+    rest: &'a [Kind],
+) -> Result<(Found, &'a [Kind]), Stop>
+    requires room { room < 255 }
+    requires left { left.depth ≤ room }
+    ensures read { Gives (λ x. (expression_tree x.0.expression, tokens_of x.1.now)) result (step_at (expression_at room) (expression_tree left.expression) (tokens_of rest.now) (next.Infix op)) }
+    ensures low { IfOk result (λ x. x.0.depth ≤ room + 1) }
+{
+    let (right, rest) = expression(alloc, room, level(op) + 1, rest)?;
+    let depth = left.depth.max(right.depth) + 1;
+    let left = Box::new(alloc, left.expression)?;
+    let right = Box::new(alloc, right.expression)?;
+    let expression = Expression::Infix(op, left, right);
+    Ok((Found { expression, depth }, rest))
+}
+
+/// What follows `?`.
+#[cycle(expressions)]
+#[tactic(auto, unfolding(crate::specs::ReadExpressions::step_at))]
+fn choice<'a>(
+    alloc: Global,
+    room: u8,
+    left: Found,
+    rest: &'a [Kind],
+) -> Result<(Found, &'a [Kind]), Stop>
+    requires room { room < 255 }
+    requires left { left.depth ≤ room }
+    ensures read { Gives (λ x. (expression_tree x.0.expression, tokens_of x.1.now)) result (step_at (expression_at room) (expression_tree left.expression) (tokens_of rest.now) next.Choice) }
+    ensures low { IfOk result (λ x. x.0.depth ≤ room + 1) }
+{
+    let (yes, rest) = expression(alloc, room, 1, rest)?;
+    let rest = expect(rest, Sign::Colon)?;
+    let (no, rest) = expression(alloc, room, 1, rest)?;
+    let depth = left.depth.max(yes.depth.max(no.depth)) + 1;
+    let left = Box::new(alloc, left.expression)?;
+    let yes = Box::new(alloc, yes.expression)?;
+    let no = Box::new(alloc, no.expression)?;
+    let expression = Expression::Choice(left, yes, no);
+    Ok((Found { expression, depth }, rest))
+}
+
+/// What follows `[`.
+#[cycle(expressions)]
+#[tactic(auto, unfolding(crate::specs::ReadExpressions::step_at))]
+fn index<'a>(
+    alloc: Global,
+    room: u8,
+    left: Found,
+    rest: &'a [Kind],
+) -> Result<(Found, &'a [Kind]), Stop>
+    requires room { room < 255 }
+    requires left { left.depth ≤ room }
+    ensures read { Gives (λ x. (expression_tree x.0.expression, tokens_of x.1.now)) result (step_at (expression_at room) (expression_tree left.expression) (tokens_of rest.now) next.Index) }
+    ensures low { IfOk result (λ x. x.0.depth ≤ room + 1) }
+{
+    let (index, rest) = expression(alloc, room, 1, rest)?;
+    let rest = expect(rest, Sign::CloseBracket)?;
+    let depth = left.depth.max(index.depth) + 1;
+    let left = Box::new(alloc, left.expression)?;
+    let index = Box::new(alloc, index.expression)?;
+    let expression = Expression::Index(left, index);
+    Ok((Found { expression, depth }, rest))
+}
+
 /// The operator after an operand, with what follows it.
 #[cycle(expressions)]
 #[tactic(auto, unfolding(crate::specs::ReadExpressions::step_at))]
@@ -124,8 +216,8 @@ fn step<'a>(
     alloc: Global,
     room: u8,
     left: Found,
-    rest: &'a [Kind],
     next: Next,
+    rest: &'a [Kind],
 ) -> Result<(Found, &'a [Kind]), Stop>
     requires room { room < 255 }
     requires left { left.depth ≤ room }
@@ -133,34 +225,9 @@ fn step<'a>(
     ensures low { IfOk result (λ x. x.0.depth ≤ room + 1) }
 {
     match next {
-        Next::Infix(op) => {
-            let (right, rest) = expression(alloc, room, level(op) + 1, rest)?;
-            let depth = left.depth.max(right.depth) + 1;
-            let left = Box::new(alloc, left.expression)?;
-            let right = Box::new(alloc, right.expression)?;
-            let expression = Expression::Infix(op, left, right);
-            Ok((Found { expression, depth }, rest))
-        }
-        Next::Choice => {
-            let (x, rest) = expression(alloc, room, 1, rest)?;
-            let rest = expect(rest, Sign::Colon)?;
-            let (y, rest) = expression(alloc, room, 1, rest)?;
-            let depth = left.depth.max(x.depth.max(y.depth)) + 1;
-            let left = Box::new(alloc, left.expression)?;
-            let x = Box::new(alloc, x.expression)?;
-            let y = Box::new(alloc, y.expression)?;
-            let expression = Expression::Choice(left, x, y);
-            Ok((Found { expression, depth }, rest))
-        }
-        Next::Index => {
-            let (index, rest) = expression(alloc, room, 1, rest)?;
-            let rest = expect(rest, Sign::CloseBracket)?;
-            let depth = left.depth.max(index.depth) + 1;
-            let left = Box::new(alloc, left.expression)?;
-            let index = Box::new(alloc, index.expression)?;
-            let expression = Expression::Index(left, index);
-            Ok((Found { expression, depth }, rest))
-        }
+        Next::Infix(op) => infix(alloc, room, left, op, rest),
+        Next::Choice => choice(alloc, room, left, rest),
+        Next::Index => index(alloc, room, left, rest),
         Next::Select => {
             let (name, rest) = name_at(alloc, rest)?;
             let found = with_suffix(alloc, left, Suffix::Select(name))?;
@@ -214,7 +281,7 @@ fn chain<'a>(
         if room < left.depth {
             return Err(Stop::TooDeep);
         }
-        let (more, after) = step(alloc, room, left, after_first(rest), next)?;
+        let (more, after) = step(alloc, room, left, next, after_first(rest))?;
         left = more;
         rest = after;
         steps -= 1;
