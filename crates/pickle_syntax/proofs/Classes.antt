@@ -1,0 +1,55 @@
+-- Classes of bytes, and runs of them.
+use Rattle.std.proofs.Common.{◌≡◌, ◌≢◌, ℕ, zero, suc, ◌+◌, ◌-◌, ◌*◌, ◌<◌, ◌≤◌, Bool, true, false, cond, ltb, eqb, List, [], ◌∷◌, ◌++◌, length, take, drop, refl, sym, ap, ◌∙◌, arith, inl, inr, not, ◌||◌, ◌&&◌}
+use Rattle.std.specs.Prelude.{◌⊎◌}
+use Rattle.std.specs.List.{prefix_len}
+use Rattle.std.proofs.lemmas.Bool.{cases_Bool, or_cases, eqb-true, and_parts, leb-true}
+use Rattle.std.proofs.lemmas.Bool.Decides.{nat_tests}
+use Rattle.pickle_syntax.specs.declared.lexer.bytes.Class.{Class}
+use Rattle.pickle_syntax.specs.declared.lexer.bytes.Class.TheVariants as class
+use Rattle.pickle_syntax.specs.declared.lexer.bytes.Start.TheVariants as start
+use Rattle.pickle_syntax.specs.Bytes.{digit_of, is_in, starts}
+use Rattle.pickle_syntax.specs.Pieces.{AllIn, begins}
+
+-- bytes of a class at the front are no more than the run there
+pub run_reaches : (c : Class) (front after : List ℕ) → AllIn c front → length front ≤ prefix_len (is_in c) (front ++ after)
+run_reaches c [] after all = omega arith
+run_reaches c (b ∷ front) after all = rw all.0 (omega (arith, run_reaches c front after all.1))
+
+-- a run ends where the class does
+pub run_is : (c : Class) (front after : List ℕ) → AllIn c front → begins c after ≡ false → prefix_len (is_in c) (front ++ after) ≡ length front
+run_is c [] [] all ends = refl
+run_is c [] (a ∷ after) all ends = rw ends refl
+run_is c (b ∷ front) after all ends = rw all.0 (omega (arith, run_is c front after all.1 ends))
+
+one_more : (n : ℕ) → 1 + n ≡ suc n
+one_more n = omega arith
+
+pub run_all : (c : Class) (bytes : List ℕ) → AllIn c (take (prefix_len (is_in c) bytes) bytes)
+run_all c [] = tt
+run_all c (b ∷ bytes) = elim (cases_Bool (is_in c b)) [
+    | inl hit ↦ rw (hit, one_more (prefix_len (is_in c) bytes)) (hit, run_all c bytes)
+    | inr miss ↦ rw miss tt
+  ]
+
+pub run_stops : (c : Class) (bytes : List ℕ) → begins c (drop (prefix_len (is_in c) bytes) bytes) ≡ false
+run_stops c [] = refl
+run_stops c (b ∷ bytes) = elim (cases_Bool (is_in c b)) [
+    | inl hit ↦ rw (hit, one_more (prefix_len (is_in c) bytes)) (run_stops c bytes)
+    | inr miss ↦ rw miss miss
+  ]
+
+pub blank_not_letter : (b : ℕ) → is_in class.Letter b ≡ true → is_in class.Blank b ≡ false
+blank_not_letter b h = grind (arith, nat_tests)
+
+pub digit_range : (b : ℕ) → digit_of b < 10 → (48 ≤ b) × (b ≤ 57)
+digit_range b h = grind (arith, nat_tests)
+
+pub starts_blank : (b : ℕ) → is_in class.Blank b ≡ true → starts b ≡ start.Blank
+starts_blank b h = rw h refl
+
+pub starts_word : (b : ℕ) → is_in class.Letter b ≡ true → starts b ≡ start.Word
+starts_word b h = rw (blank_not_letter b h, h) refl
+
+-- what doesn't begin with a slash begins no comment
+pub other_front : (b : ℕ) (rest : List ℕ) → b ≢ 47 → (more : List ℕ) → b ∷ rest ≢ 47 ∷ 42 ∷ more
+other_front b rest other more e = other cc

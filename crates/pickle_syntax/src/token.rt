@@ -1,0 +1,97 @@
+//! What the lexer finds.
+
+/// A reserved word.
+#[derive(Clone, Copy, PartialEq, Eq, Debug)]
+pub enum Word {
+    Type,
+    Struct,
+    Union,
+    Pinned,
+    Big,
+    Little,
+    If,
+    As,
+    String,
+}
+
+/// What opens a type that has a size or a unit.
+#[derive(Clone, Copy, PartialEq, Eq, Debug)]
+pub enum Opener {
+    /// `int<`
+    Int,
+    /// `uint<`
+    Uint,
+    /// `offset<`
+    Offset,
+}
+
+/// An attribute of a value.
+#[derive(Clone, Copy, PartialEq, Eq, Debug)]
+pub enum Attribute {
+    /// `'length`
+    Length,
+    /// `'size`
+    Size,
+}
+
+/// A sign.
+#[derive(Clone, Copy, PartialEq, Eq, Debug)]
+pub enum Sign {
+    OpenBrace,
+    CloseBrace,
+    OpenParen,
+    CloseParen,
+    OpenBracket,
+    CloseBracket,
+    Semicolon,
+    Comma,
+    Dot,
+    Colon,
+    Question,
+    At,
+    Hash,
+    Assign,
+    Plus,
+    Minus,
+    Star,
+    Slash,
+    Percent,
+    Tilde,
+    Bang,
+    And,
+    Or,
+    Caret,
+    Less,
+    Greater,
+    EqualEqual,
+    BangEqual,
+    LessEqual,
+    GreaterEqual,
+    ShiftLeft,
+    ShiftRight,
+    AndAnd,
+    OrOr,
+}
+
+/// The value of a number, and its type: a width in bits and whether it has a sign.
+#[derive(Clone, Copy, PartialEq, Eq, Debug)]
+pub struct Number {
+    pub value: u64,
+    pub width: u8,
+    pub signed: bool,
+}
+
+/// A token, without its place.
+#[derive(Drop)]
+pub enum Kind {
+    Word(Word),
+    Name(Vec<u8>),
+    Opener(Opener),
+    Number(Number),
+    /// The byte of a character such as `'a'`, of type `uint<8>`.
+    Character(u8),
+    /// The bytes of a text, its escapes resolved.
+    Text(Vec<u8>),
+    Attribute(Attribute),
+    Sign(Sign),
+}
