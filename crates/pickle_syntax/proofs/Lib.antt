@@ -12,3 +12,4 @@ pub mod PartLaws
 pub mod TextLaws
 pub mod Letters
 pub mod NumberLaws
+pub mod PieceLaws
