@@ -158,6 +158,20 @@ slash_fails at (c ∷ rest) f is = by (eqb c 47) (eqb c 42) refl refl is
     by false true et eu e = InComment rest (rw (eqb-true c 42 eu) refl) (block_fails at (block_len rest) f e)
     by false false et eu e = Elsewhere 47 (c ∷ rest) refl (omega arith) (λ e. omega (arith, e)) (no_block (c ∷ rest) (λ more f. (let g : c ≡ 42 = cc in let h : eqb c 42 ≡ true = rw g refl in cc))) (sign_piece_fails at 47 (c ∷ rest) f e)
 
+pub open_comment_bad : (at : ℕ) (rest : List ℕ) (f : Fault) → slash_piece at (42 ∷ rest) ≡ Err f → f ≡ (Unclosed, at)
+unfolding slash_piece
+open_comment_bad at rest f is = block_fails at (block_len rest) f is
+
+pub slash_bad : (at : ℕ) (rest : List ℕ) (f : Fault) → ((more : List ℕ) → 47 ∷ rest ≢ 47 ∷ 42 ∷ more) → slash_piece at rest ≡ Err f → f ≡ (BadByte, at)
+unfolding slash_piece
+slash_bad at [] f none is = sign_piece_fails at 47 [] f is
+slash_bad at (c ∷ rest) f none is = by (eqb c 47) (eqb c 42) refl refl is
+  where
+    by : (t u : Bool) → eqb c 47 ≡ t → eqb c 42 ≡ u → cond t (Ok (None, 2 + prefix_len (is_in class.Line) rest)) (cond u (block_piece at (block_len rest)) (sign_piece at 47 (c ∷ rest))) ≡ Err f → f ≡ (BadByte, at)
+    by true u et eu e = absurd cc
+    by false true et eu e = absurd (none rest (rw (eqb-true c 42 eu) refl))
+    by false false et eu e = sign_piece_fails at 47 (c ∷ rest) f e
+
 -- a comment at the front is cut
 line_reads : (at : ℕ) (rest : List ℕ) → piece_at at (47 ∷ 47 ∷ rest) ≡ Ok (None, 2 + prefix_len (is_in class.Line) rest)
 unfolding piece_at slash_piece

@@ -13,3 +13,4 @@ pub mod TextLaws
 pub mod Letters
 pub mod NumberLaws
 pub mod PieceLaws
+pub mod LexedLaws

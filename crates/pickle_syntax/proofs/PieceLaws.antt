@@ -27,7 +27,7 @@ use Rattle.pickle_syntax.proofs.TextLaws.{text_cuts, text_fails, text_reaches, a
 use Rattle.pickle_syntax.proofs.NumberLaws.{number_reads, number_front, number_bad}
 
 -- what a number cuts
-abbrev number_cut : numbers.Read → Cut
+abbrev pub number_cut : numbers.Read → Cut
 number_cut n = (Some (Numeral n.0), n.1)
 
 some_first : (b : ℕ) (rest front after : List ℕ) → b ∷ rest ≡ front ++ after → (n : Number) → IsNumber n front → 1 ≤ length front
@@ -41,7 +41,7 @@ number_cuts at b rest cut (Ok (n, len)) digit er e =
     let f : (Some (Numeral n), len) ≡ cut = cc in
     subst (λ (c : Cut). Cuts c (b ∷ rest)) f (record { front = k.front; after = k.after; whole = k.whole; size = k.size; some = omega (arith, k.size, some_first b rest k.front k.after k.whole n k.is); is = (k.is, k.apart) })
 
-number_fails : (at b : ℕ) (rest : List ℕ) (f : Fault) (r : Result numbers.Read Fault) → number_at at (b ∷ rest) ≡ r → (r >>= λ n. Ok (number_cut n)) ≡ Err f → f ≡ (BadNumber, at)
+pub number_fails : (at b : ℕ) (rest : List ℕ) (f : Fault) (r : Result numbers.Read Fault) → number_at at (b ∷ rest) ≡ r → (r >>= λ n. Ok (number_cut n)) ≡ Err f → f ≡ (BadNumber, at)
 number_fails at b rest f (Ok n) er e = absurd cc
 number_fails at b rest f (Err g) er e = (let h : g ≡ f = cc in sym h ∙ number_bad at (b ∷ rest) g er)
 
@@ -91,7 +91,7 @@ digit_first base first prefix more bytes (Octal e (inr f)) digit g = record { fi
 digit_first base first prefix more bytes (Binary e (inl f)) digit g = record { first = 48; rest = 98 ∷ first ∷ more; is = g ∙ rw f refl; digit = omega arith }
 digit_first base first prefix more bytes (Binary e (inr f)) digit g = record { first = 48; rest = 66 ∷ first ∷ more; is = g ∙ rw f refl; digit = omega arith }
 
-number_at_front : (at b : ℕ) (rest : List ℕ) → digit_of b < 10 → piece_at at (b ∷ rest) ≡ (number_at at (b ∷ rest) >>= λ n. Ok (number_cut n))
+pub number_at_front : (at b : ℕ) (rest : List ℕ) → digit_of b < 10 → piece_at at (b ∷ rest) ≡ (number_at at (b ∷ rest) >>= λ n. Ok (number_cut n))
 unfolding piece_at
 number_at_front at b rest digit = rw (starts_number b digit) refl
 
