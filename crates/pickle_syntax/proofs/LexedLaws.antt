@@ -106,3 +106,133 @@ fault_cut at bytes f none is = by (piece_at at bytes) refl
     by : (r : Result Cut Fault) → piece_at at bytes ≡ r → r ≡ Err f
     by (Ok cut) e = (let c = cuts_any at bytes cut e in absurd (none cut.0 c.front c.after (sym c.whole) c.is))
     by (Err g) e = ap (λ (h : Fault). Err h) (fault_same at bytes f g is e)
+
+-- pieces that stand one after the other are read one after the other
+piece_before : (at len : ℕ) (o : Option Token) (ts : List Token) (ss : List Span) (r : Lexed) → with_piece at (o, len) (with_before ts ss r) ≡ with_before (token_list o ++ ts) (span_list o at len ++ ss) r
+piece_before at len o ts ss (Ok x) = rw (append_assoc (token_list o) ts x.0, append_assoc (span_list o at len) ss x.1) refl
+piece_before at len o ts ss (Err f) = refl
+
+one_piece : (at : ℕ) (o : Option Token) (front after bytes : List ℕ) → bytes ≡ front ++ after → IsLongest o front after → lexed_from 0 at bytes ≡ with_piece at (o, length front) (lexed_from 0 (at + length front) after)
+one_piece at o front after bytes e l =
+    let k = longest_cut at o front after l in
+    let within : length front ≤ length (front ++ after) = omega (arith, length-append front after) in
+    rw e (piece_on at (length front) o (front ++ after) k.1 within k.0 ∙ rw (drop-append_seam front after) refl)
+
+pieces_read : (ps : List Piece) (at : ℕ) (bytes rest : List ℕ) → pieces ps bytes rest → lexed_from 0 at bytes ≡ with_before (tokens_in ps) (spans_in at ps) (lexed_from 0 (place_after at ps) rest)
+pieces_read [] at bytes rest e = rw e (sym (before_none (lexed_from 0 at rest)))
+pieces_read (p ∷ ps) at bytes rest e =
+    one_piece at p.token p.bytes e.0 bytes e.1 e.2
+    ∙ ap (with_piece at (p.token, length p.bytes)) (pieces_read ps (at + length p.bytes) e.0 rest e.3)
+    ∙ piece_before at (length p.bytes) p.token (tokens_in ps) (spans_in (at + length p.bytes) ps) (lexed_from 0 (place_after (at + length p.bytes) ps) rest)
+
+nothing : (at : ℕ) → lexed_from 0 at [] ≡ Ok ([], [])
+unfolding lexed_from
+nothing at = refl
+
+tokens_read : (at : ℕ) (bytes : List ℕ) (x : List Token × List Span) → AreTokens at bytes x → lexed_from 0 at bytes ≡ Ok x
+tokens_read at bytes x k =
+    let ps = k.0 in
+    pieces_read ps at bytes [] k.1 ∙ rw (nothing (place_after at ps), append-nil (tokens_in ps), append-nil (spans_in at ps), ← k.2, ← k.3) refl
+
+faulty : (at : ℕ) (bytes : List ℕ) (f : Fault) → HasNoPiece bytes → IsFaultAt at bytes f → 1 ≤ length bytes → lexed_from 0 at bytes ≡ Err f
+unfolding lexed_from
+faulty at [] f none is some = absurd (omega (arith, some))
+faulty at (b ∷ rest) f none is some = rw (fault_cut at (b ∷ rest) f none is) refl
+
+fault_some : (at : ℕ) (bytes : List ℕ) (f : Fault) → IsFaultAt at bytes f → 1 ≤ length bytes
+fault_some at bytes f (InNumber b rest e digit h) = rw e (omega arith)
+fault_some at bytes f (InComment rest e h) = rw e (omega arith)
+fault_some at bytes f (InText values parts rest e are ends) = rw e (omega arith)
+fault_some at bytes f (Elsewhere b rest e high quote none h) = rw e (omega arith)
+
+fault_read : (at : ℕ) (bytes : List ℕ) (f : Fault) → IsFirstFault at bytes f → lexed_from 0 at bytes ≡ Err f
+fault_read at bytes f k =
+    let ps = k.0 in
+    pieces_read ps at bytes k.1 k.2 ∙ rw (faulty (place_after at ps) k.1 f k.3 k.4 (fault_some (place_after at ps) k.1 f k.4)) refl
+
+-- what is read stands in pieces
+Meets : ℕ → List ℕ → Lexed → Type 0
+Meets at bytes (Ok x) = AreTokens at bytes x
+Meets at bytes (Err f) = IsFirstFault at bytes f
+
+joined : (at len : ℕ) (o : Option Token) (front after : List ℕ) (r : Lexed) → len ≡ length front → IsLongest o front after → Meets (at + len) after r → Meets at (front ++ after) (with_piece at (o, len) r)
+unfolding Meets
+joined at len o front after (Ok x) e l m =
+    let p : Piece = record { token = o; bytes = front } in
+    let place : at + len ≡ at + length front = ap (λ (n : ℕ). at + n) e in
+    (p ∷ m.0, (after, refl, l, m.1), ap (λ (ts : List Token). token_list o ++ ts) m.2, ap (λ (n : ℕ). span_list o at n ++ x.1) e ∙ ap (λ (ss : List Span). span_list o at (length front) ++ ss) (m.3 ∙ ap (λ (n : ℕ). spans_in n m.0) place))
+joined at len o front after (Err f) e l m =
+    let p : Piece = record { token = o; bytes = front } in
+    let place : at + len ≡ at + length front = ap (λ (n : ℕ). at + n) e in
+    (p ∷ m.0, m.1, (after, refl, l, m.2), m.3, subst (λ (n : ℕ). IsFaultAt (place_after n m.0) m.1 f) place m.4)
+
+dropped : (n : ℕ) (bytes front after : List ℕ) → bytes ≡ front ++ after → length front ≡ n → drop n bytes ≡ after
+dropped n bytes front after e size = rw (e, ← size) (drop-append_seam front after)
+
+piece_meets : (at b : ℕ) (rest : List ℕ) (r : Result Cut Fault) → piece_at at (b ∷ rest) ≡ r → ((left : ℕ) → Meets (at + 1 + left) (drop left rest) (lexed_from left (at + 1) rest)) → Meets at (b ∷ rest) (r >>= λ p. with_piece at p (lexed_from (p.1 - 1) (at + 1) rest))
+unfolding Meets
+piece_meets at b rest (Err f) e more = ([], b ∷ rest, refl, fault_none at (b ∷ rest) f e, fails at b rest f e)
+piece_meets at b rest (Ok (o, zero)) e more = absurd (let c = cuts at b rest (o, 0) e in omega (arith, c.some))
+piece_meets at b rest (Ok (o, suc n)) e more =
+    let c = cuts at b rest (o, suc n) e in
+    let f : suc n - 1 ≡ n = omega arith in
+    let g : at + 1 + n ≡ at + suc n = omega arith in
+    let after : drop n rest ≡ c.after = dropped (suc n) (b ∷ rest) c.front c.after c.whole c.size in
+    let m : Meets (at + suc n) c.after (lexed_from n (at + 1) rest) = subst (λ (l : List ℕ). Meets (at + suc n) l (lexed_from n (at + 1) rest)) after (subst (λ (k : ℕ). Meets k (drop n rest) (lexed_from n (at + 1) rest)) g (more n)) in
+    let all : Meets at (c.front ++ c.after) (with_piece at (o, suc n) (lexed_from n (at + 1) rest)) = joined at (suc n) o c.front c.after (lexed_from n (at + 1) rest) (sym c.size) (cut_longest at (b ∷ rest) (o, suc n) c e) m in
+    rw f (subst (λ (l : List ℕ). Meets at l (with_piece at (o, suc n) (lexed_from n (at + 1) rest))) (sym c.whole) all)
+
+lexed_meets : (left at : ℕ) (bytes : List ℕ) → Meets (at + left) (drop left bytes) (lexed_from left at bytes)
+unfolding Meets lexed_from
+lexed_meets zero at [] = ([], refl, refl, refl)
+lexed_meets (suc left) at [] = ([], refl, refl, refl)
+lexed_meets (suc left) at (b ∷ rest) = (let e : at + suc left ≡ at + 1 + left = omega arith in rw e (lexed_meets left (at + 1) rest))
+lexed_meets zero at (b ∷ rest) =
+    let e : at + 0 ≡ at = omega arith in
+    rw e (piece_meets at b rest (piece_at at (b ∷ rest)) refl (λ left. lexed_meets left (at + 1) rest))
+
+meets_tokens : (bytes : List ℕ) (x : List Token × List Span) (r : Lexed) → Meets 0 bytes r → r ≡ Ok x → AreTokens 0 bytes x
+unfolding Meets
+meets_tokens bytes x (Ok y) m e = (let f : y ≡ x = cc in subst (AreTokens 0 bytes) f m)
+meets_tokens bytes x (Err f) m e = absurd cc
+
+meets_fault : (bytes : List ℕ) (f : Fault) (r : Lexed) → Meets 0 bytes r → r ≡ Err f → IsFirstFault 0 bytes f
+unfolding Meets
+meets_fault bytes f (Ok y) m e = absurd cc
+meets_fault bytes f (Err g) m e = (let h : g ≡ f = cc in subst (IsFirstFault 0 bytes) h m)
+
+from_start : (bytes : List ℕ) → Meets 0 bytes (lexed_from 0 0 bytes)
+from_start bytes = (let e : 0 + 0 ≡ 0 = omega arith in subst (λ (n : ℕ). Meets n bytes (lexed_from 0 0 bytes)) e (lexed_meets 0 0 bytes))
+
+-- all of it, with the limit on the bytes
+split : (b : Bool) (r : Lexed) (x : List Token × List Span) → cond b (Err (TooLong, 1048576)) r ≡ Ok x → (b ≡ false) × (r ≡ Ok x)
+split true r x e = absurd cc
+split false r x e = (refl, e)
+
+split_fault : (b : Bool) (r : Lexed) (f : Fault) → cond b (Err (TooLong, 1048576)) r ≡ Err f → ((b ≡ true) × (f ≡ (TooLong, 1048576))) ⊎ ((b ≡ false) × (r ≡ Err f))
+split_fault true r f e = inl (refl, cc)
+split_fault false r f e = inr (refl, e)
+
+pub tokens_are : (bytes : List ℕ) (x : List Token × List Span) → (lexed bytes ≡ Ok x) ↔ IsLexed bytes x
+unfolding lexed
+tokens_are bytes x = (there, back)
+  where
+    there : cond (ltb 1048576 (length bytes)) (Err (TooLong, 1048576)) (lexed_from 0 0 bytes) ≡ Ok x → IsLexed bytes x
+    there e = (let k = split (ltb 1048576 (length bytes)) (lexed_from 0 0 bytes) x e in (ltb-false 1048576 (length bytes) k.0, meets_tokens bytes x (lexed_from 0 0 bytes) (from_start bytes) k.1))
+
+    back : IsLexed bytes x → cond (ltb 1048576 (length bytes)) (Err (TooLong, 1048576)) (lexed_from 0 0 bytes) ≡ Ok x
+    back k = rw (le-ltb 1048576 (length bytes) k.0) (tokens_read 0 bytes x k.1)
+
+pub faults_are : (bytes : List ℕ) (f : Fault) → (lexed bytes ≡ Err f) ↔ IsLexFault bytes f
+unfolding lexed
+faults_are bytes f = (there, back)
+  where
+    there : cond (ltb 1048576 (length bytes)) (Err (TooLong, 1048576)) (lexed_from 0 0 bytes) ≡ Err f → IsLexFault bytes f
+    there e = elim (split_fault (ltb 1048576 (length bytes)) (lexed_from 0 0 bytes) f e) [
+        | inl k ↦ inl (ltb-true 1048576 (length bytes) k.0, k.1)
+        | inr k ↦ inr (ltb-false 1048576 (length bytes) k.0, meets_fault bytes f (lexed_from 0 0 bytes) (from_start bytes) k.1)
+      ]
+
+    back : IsLexFault bytes f → cond (ltb 1048576 (length bytes)) (Err (TooLong, 1048576)) (lexed_from 0 0 bytes) ≡ Err f
+    back (inl k) = rw (lt-ltb 1048576 (length bytes) k.0, k.1) refl
+    back (inr k) = rw (le-ltb 1048576 (length bytes) k.0) (fault_read 0 bytes f k.1)
