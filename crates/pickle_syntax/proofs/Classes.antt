@@ -1,6 +1,5 @@
 -- Classes of bytes, and runs of them.
-use Rattle.std.proofs.Common.{◌≡◌, ◌≢◌, ℕ, zero, suc, ◌+◌, ◌-◌, ◌*◌, ◌<◌, ◌≤◌, Bool, true, false, cond, ltb, eqb, List, [], ◌∷◌, ◌++◌, length, take, drop, refl, sym, ap, ◌∙◌, subst, arith, inl, inr, not, ◌||◌, ◌&&◌}
-use Rattle.std.specs.Prelude.{◌⊎◌}
+use Rattle.std.proofs.Common.{◌≡◌, ◌≢◌, ℕ, suc, ◌+◌, ◌<◌, ◌≤◌, Bool, true, false, cond, ltb, eqb, List, [], ◌∷◌, ◌++◌, length, take, drop, refl, subst, arith, inl, inr}
 use Rattle.std.specs.List.{prefix_len}
 use Rattle.std.proofs.lemmas.Bool.{cases_Bool, eqb-true, eqb-false, ltb-true, ltb-false, lt-ltb}
 use Rattle.std.proofs.lemmas.Bool.Decides.{nat_tests}
@@ -28,16 +27,16 @@ one_more n = omega arith
 pub run_all : (c : Class) (bytes : List ℕ) → AllIn c (take (prefix_len (is_in c) bytes) bytes)
 run_all c [] = tt
 run_all c (b ∷ bytes) = elim (cases_Bool (is_in c b)) [
-    | inl hit ↦ rw (hit, one_more (prefix_len (is_in c) bytes)) (hit, run_all c bytes)
-    | inr miss ↦ rw miss tt
-  ]
+  | inl hit ↦ rw (hit, one_more (prefix_len (is_in c) bytes)) (hit, run_all c bytes)
+  | inr miss ↦ rw miss tt
+]
 
 pub run_stops : (c : Class) (bytes : List ℕ) → begins c (drop (prefix_len (is_in c) bytes) bytes) ≡ false
 run_stops c [] = refl
 run_stops c (b ∷ bytes) = elim (cases_Bool (is_in c b)) [
-    | inl hit ↦ rw (hit, one_more (prefix_len (is_in c) bytes)) (run_stops c bytes)
-    | inr miss ↦ rw miss miss
-  ]
+  | inl hit ↦ rw (hit, one_more (prefix_len (is_in c) bytes)) (run_stops c bytes)
+  | inr miss ↦ rw miss miss
+]
 
 pub blank_not_letter : (b : ℕ) → is_in class.Letter b ≡ true → is_in class.Blank b ≡ false
 blank_not_letter b h = grind (arith, nat_tests)

@@ -1,19 +1,22 @@
 -- A pickle is cut by the rules: the lexer's answer is the only one that they allow.
-use Rattle.std.proofs.Common.{◌≡◌, ◌≢◌, ℕ, zero, suc, ◌+◌, ◌-◌, ◌<◌, ◌≤◌, Bool, true, false, cond, ltb, List, [], ◌∷◌, ◌++◌, length, drop, refl, sym, ap, ◌∙◌, subst, arith, inl, inr, Option, Some, None, Result, Ok, Err, length-append, append_assoc}
-use Rattle.std.specs.Prelude.{◌⊎◌, ◌↔◌}
-use Rattle.std.proofs.Math.Seq.{drop-append_seam}
+use Rattle.std.proofs.Common.{◌≡◌, ◌≢◌, ℕ, zero, suc, ◌+◌, ◌-◌, ◌≤◌, Bool, true, false, cond, ltb, List, [], ◌∷◌, ◌++◌, length, take, drop, refl, sym, ap, ◌∙◌, subst, arith, inl, inr, Option, Some, None, Result, Ok, Err, length-append, append_assoc}
+use Rattle.std.specs.Prelude.{◌⊎◌, ◌↔◌, IfOk, IfErr}
+use Rattle.std.proofs.Math.Seq.{drop-append_seam, take-append_seam}
 use Rattle.std.proofs.lemmas.List.{append-nil}
-use Rattle.std.proofs.lemmas.Bool.{ltb-true, ltb-false, lt-ltb, le-ltb, cases_Bool}
+use Rattle.std.proofs.lemmas.Bool.{ltb-true, ltb-false, lt-ltb, le-ltb}
 use Rattle.pickle_syntax.specs.declared.lexer.bytes.Start.{Start}
 use Rattle.pickle_syntax.specs.declared.lexer.bytes.Start.TheVariants as start
-use Rattle.pickle_syntax.specs.declared.lexer.fault.LexFaultKind.TheVariants.{BadByte, TooLong}
-use Rattle.pickle_syntax.specs.Tokens.{Token}
-use Rattle.pickle_syntax.specs.Bytes.{Fault, ◌>>=◌, digit_of, starts}
+use Rattle.pickle_syntax.specs.declared.lexer.fault.LexFaultKind.{LexFaultKind}
+use Rattle.pickle_syntax.specs.declared.lexer.fault.LexFaultKind.TheVariants.{BadByte, Unclosed, BadNumber, TooLong, Memory}
+use Rattle.pickle_syntax.specs.declared.lexer.fault.LexFault.{LexFault}
+use Rattle.pickle_syntax.specs.declared.lexer.Tokens.{Tokens}
+use Rattle.pickle_syntax.specs.Tokens.{Token, tokens_of}
+use Rattle.pickle_syntax.specs.Bytes.{Fault, Fails, Gives, ◌>>=◌, digit_of, starts}
 use Rattle.pickle_syntax.specs.Words.{Cut}
 use Rattle.pickle_syntax.specs.Numbers.{number_at}
 use Rattle.pickle_syntax.specs.Blanks.{slash_piece}
-use Rattle.pickle_syntax.specs.Lexing.{Lexed, Span, piece_from, piece_at, token_list, span_list, with_piece, lexed_from, lexed}
-use Rattle.pickle_syntax.specs.Pieces.{IsPiece, IsLongest, HasNoPiece, IsFaultAt, InNumber, InComment, InText, Elsewhere, Piece, pieces, tokens_in, spans_in, place_after, AreTokens, IsFirstFault, IsLexed, IsLexFault}
+use Rattle.pickle_syntax.specs.Lexing.{Lexed, Span, piece_from, piece_at, token_list, span_list, with_piece, lexed_from, lexed, InOrder}
+use Rattle.pickle_syntax.specs.Pieces.{IsLongest, HasNoPiece, IsFaultAt, InNumber, InComment, InText, Elsewhere, Piece, pieces, tokens_in, spans_in, place_after, AreTokens, IsFirstFault, IsLexed, IsLexFault}
 use Rattle.pickle_syntax.proofs.Classes.{Tells, tells}
 use Rattle.pickle_syntax.proofs.Cuts.{Cuts, Reaches}
 use Rattle.pickle_syntax.proofs.Lexed.{with_before, before_none, piece_on}
@@ -44,13 +47,13 @@ pub cut_longest : (at : ℕ) (bytes : List ℕ) (cut : Cut) (c : Cuts cut bytes)
 cut_longest at bytes cut c e = record {
   is = c.is;
   longest = λ o front after f is.
-    (let k = reaches at o front after is in
-    let same : k.cut ≡ cut = reached_same at bytes cut o front after e (f ∙ sym c.whole) k in
-    omega (arith, k.far, c.size, ap (λ (x : Cut). x.1) same));
+      (let k = reaches at o front after is in
+      let same : k.cut ≡ cut = reached_same at bytes cut o front after e (f ∙ sym c.whole) k in
+      omega (arith, k.far, c.size, ap (λ (x : Cut). x.1) same));
   only = λ o is.
-    (let k = reaches at o c.front c.after is in
-    let same : k.cut ≡ cut = reached_same at bytes cut o c.front c.after e (sym c.whole) k in
-    k.same (c.size ∙ sym (ap (λ (x : Cut). x.1) same)) ∙ ap (λ (x : Cut). x.0) same);
+      (let k = reaches at o c.front c.after is in
+      let same : k.cut ≡ cut = reached_same at bytes cut o c.front c.after e (sym c.whole) k in
+      k.same (c.size ∙ sym (ap (λ (x : Cut). x.1) same)) ∙ ap (λ (x : Cut). x.0) same);
 }
 
 pub fault_none : (at : ℕ) (bytes : List ℕ) (f : Fault) → piece_at at bytes ≡ Err f → HasNoPiece bytes
@@ -229,10 +232,77 @@ faults_are bytes f = (there, back)
   where
     there : cond (ltb 1048576 (length bytes)) (Err (TooLong, 1048576)) (lexed_from 0 0 bytes) ≡ Err f → IsLexFault bytes f
     there e = elim (split_fault (ltb 1048576 (length bytes)) (lexed_from 0 0 bytes) f e) [
-        | inl k ↦ inl (ltb-true 1048576 (length bytes) k.0, k.1)
-        | inr k ↦ inr (ltb-false 1048576 (length bytes) k.0, meets_fault bytes f (lexed_from 0 0 bytes) (from_start bytes) k.1)
-      ]
+      | inl k ↦ inl (ltb-true 1048576 (length bytes) k.0, k.1)
+      | inr k ↦ inr (ltb-false 1048576 (length bytes) k.0, meets_fault bytes f (lexed_from 0 0 bytes) (from_start bytes) k.1)
+    ]
 
     back : IsLexFault bytes f → cond (ltb 1048576 (length bytes)) (Err (TooLong, 1048576)) (lexed_from 0 0 bytes) ≡ Err f
     back (inl k) = rw (lt-ltb 1048576 (length bytes) k.0, k.1) refl
     back (inr k) = rw (le-ltb 1048576 (length bytes) k.0) (fault_read 0 bytes f k.1)
+
+-- the laws at a place
+front_same : (front after other more : List ℕ) → length front ≡ length other → front ++ after ≡ other ++ more → front ≡ other
+front_same front after other more e f =
+    sym (take-append_seam front after) ∙ ap (take (length front)) f ∙ ap (λ (n : ℕ). take n (other ++ more)) e ∙ take-append_seam other more
+
+longest_at : (at : ℕ) (o : Option Token) (front after : List ℕ) → piece_at at (front ++ after) ≡ Ok (o, length front) → IsLongest o front after
+longest_at at o front after e =
+    let c = cuts_any at (front ++ after) (o, length front) e in
+    let f : c.front ≡ front = front_same c.front c.after front after c.size (sym c.whole) in
+    let g : c.after ≡ after = sym (drop-append_seam c.front c.after) ∙ ap (λ (n : ℕ). drop n (c.front ++ c.after)) c.size ∙ ap (drop (length front)) (sym c.whole) ∙ drop-append_seam front after in
+    subst (λ (l : List ℕ). IsLongest o front l) g (subst (λ (l : List ℕ). IsLongest o l c.after) f (cut_longest at (front ++ after) (o, length front) c e))
+
+pub pieces_are : (at : ℕ) (o : Option Token) (front after : List ℕ) → (piece_at at (front ++ after) ≡ Ok (o, length front)) ↔ IsLongest o front after
+pieces_are at o front after = (longest_at at o front after, λ l. (longest_cut at o front after l).0)
+
+pub none_are : (at : ℕ) (bytes : List ℕ) (f : Fault) → 1 ≤ length bytes → (piece_at at bytes ≡ Err f) ↔ (HasNoPiece bytes × IsFaultAt at bytes f)
+none_are at [] f some = absurd (omega (arith, some))
+none_are at (b ∷ rest) f some = (λ e. (fault_none at (b ∷ rest) f e, fails at b rest f e), λ k. fault_cut at (b ∷ rest) f k.0 k.1)
+
+-- the spans of pieces are in order
+later : (from to : ℕ) (spans : List Span) → from ≤ to → InOrder to spans → InOrder from spans
+later from to [] le h = tt
+later from to (s ∷ spans) le h = (omega (arith, h.0), h.1, h.2)
+
+spans_order : (at : ℕ) (ps : List Piece) (bytes rest : List ℕ) → pieces ps bytes rest → InOrder at (spans_in at ps)
+spans_order at [] bytes rest e = tt
+spans_order at (p ∷ ps) bytes rest e =
+    let more = spans_order (at + length p.bytes) ps e.0 rest e.3 in
+    one at p.token (length p.bytes) (spans_in (at + length p.bytes) ps) (longest_cut at p.token p.bytes e.0 e.2).1 more
+  where
+    one : (at : ℕ) (o : Option Token) (len : ℕ) (spans : List Span) → 1 ≤ len → InOrder (at + len) spans → InOrder at (span_list o at len ++ spans)
+    one at None len spans some h = later at (at + len) spans (omega arith) h
+    one at (Some t) len spans some h = (omega arith, omega (arith, some), h)
+
+-- what `lex` promises of what was found
+pub tokens_lexed : (bytes : List ℕ) (r : Result Tokens LexFault) → Gives (λ t. (tokens_of t.kinds.items, t.spans.items)) r (lexed bytes) → IfOk r (λ t. IsLexed bytes (tokens_of t.kinds.items, t.spans.items))
+tokens_lexed bytes (Ok t) given = (tokens_are bytes (tokens_of t.kinds.items, t.spans.items)).0 given
+tokens_lexed bytes (Err f) given = tt
+
+pub spans_ordered : (bytes : List ℕ) (r : Result Tokens LexFault) → Gives (λ t. (tokens_of t.kinds.items, t.spans.items)) r (lexed bytes) → IfOk r (λ t. InOrder 0 t.spans.items)
+spans_ordered bytes (Ok t) given =
+    let k = ((tokens_are bytes (tokens_of t.kinds.items, t.spans.items)).0 given).1 in
+    subst (InOrder 0) (sym k.3) (spans_order 0 k.0 bytes [] k.1)
+spans_ordered bytes (Err f) given = tt
+
+fault_from : (bytes : List ℕ) (kind : LexFaultKind) (at : ℕ) → Fails kind at (lexed bytes) → kind ≢ Memory → IsLexFault bytes (kind, at)
+fault_from bytes Memory at given other = absurd (other refl)
+fault_from bytes BadByte at given other = (faults_are bytes (BadByte, at)).0 given
+fault_from bytes Unclosed at given other = (faults_are bytes (Unclosed, at)).0 given
+fault_from bytes BadNumber at given other = (faults_are bytes (BadNumber, at)).0 given
+fault_from bytes TooLong at given other = (faults_are bytes (TooLong, at)).0 given
+
+pub fault_told : (bytes : List ℕ) (r : Result Tokens LexFault) → Gives (λ t. (tokens_of t.kinds.items, t.spans.items)) r (lexed bytes) → IfErr r (λ f. f.kind ≢ Memory → IsLexFault bytes (f.kind, f.at))
+fault_told bytes (Ok t) given = tt
+fault_told bytes (Err f) given = fault_from bytes f.kind f.at given
+
+memory_from : (bytes : List ℕ) (kind : LexFaultKind) (at : ℕ) → Fails kind at (lexed bytes) → kind ≡ Memory → at ≡ 0
+memory_from bytes Memory at given e = given
+memory_from bytes BadByte at given e = absurd cc
+memory_from bytes Unclosed at given e = absurd cc
+memory_from bytes BadNumber at given e = absurd cc
+memory_from bytes TooLong at given e = absurd cc
+
+pub memory_at : (bytes : List ℕ) (r : Result Tokens LexFault) → Gives (λ t. (tokens_of t.kinds.items, t.spans.items)) r (lexed bytes) → IfErr r (λ f. f.kind ≡ Memory → f.at ≡ 0)
+memory_at bytes (Ok t) given = tt
+memory_at bytes (Err f) given = memory_from bytes f.kind f.at given

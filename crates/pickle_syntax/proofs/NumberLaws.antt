@@ -1,12 +1,11 @@
 -- Numbers are cut by the rules.
-use Rattle.std.proofs.Common.{◌≡◌, ◌≢◌, ℕ, zero, suc, ◌+◌, ◌-◌, ◌<◌, ◌≤◌, Bool, true, false, cond, eqb, ltb, List, [], ◌∷◌, ◌++◌, length, take, drop, get_or, refl, sym, ap, ◌∙◌, subst, arith, inl, inr, not, ◌||◌, ◌&&◌, Option, Some, None, Result, Ok, Err, append_assoc, length-append}
-use Rattle.std.specs.Prelude.{codes, ◌⊎◌, ◌==◌, slice_index}
+use Rattle.std.proofs.Common.{◌≡◌, ℕ, suc, ◌+◌, ◌<◌, ◌≤◌, Bool, true, false, cond, ltb, List, [], ◌∷◌, ◌++◌, length, take, drop, get_or, refl, sym, ap, ◌∙◌, subst, arith, inl, inr, not, ◌||◌, ◌&&◌, Option, Some, None, Result, Ok, Err, append_assoc, length-append}
+use Rattle.std.specs.Prelude.{◌⊎◌, ◌==◌, slice_index}
 use Rattle.std.specs.List.{prefix_len}
 use Rattle.std.proofs.lemmas.List.{get_or-drop, take-append-drop}
 use Rattle.std.proofs.lemmas.List.Folds.{length-prefix_len}
 use Rattle.std.proofs.Math.Seq.{drop-append_seam, take-append_seam}
-use Rattle.std.proofs.lemmas.Bool.{eqb-true, eqb-false, ne_eqb, lt-ltb, ltb-true, cases_Bool, and_parts, or_cases, or_parts, cases_eq, both_ways, and_left, and_right}
-use Rattle.std.proofs.lemmas.Bool.Decides.{nat_tests}
+use Rattle.std.proofs.lemmas.Bool.{eqb-true, ne_eqb, lt-ltb, ltb-true, cases_Bool, and_parts, or_cases, cases_eq, and_left, and_right}
 use Rattle.pickle_syntax.specs.declared.lexer.bytes.Class.TheVariants as class
 use Rattle.pickle_syntax.specs.declared.lexer.fault.LexFaultKind.TheVariants.{BadNumber}
 use Rattle.pickle_syntax.specs.declared.lexer.numbers.Suffix as code
@@ -16,7 +15,7 @@ use Rattle.pickle_syntax.specs.Numbers.{Read, base_of, start_of, value_after, wi
 use Rattle.pickle_syntax.specs.Pieces.{AllIn, begins, Suffix, NoSuffix, SignLetter, WidthLetter, SignAndWidth, WidthAndSign, suffix_bytes, suffix_signed, suffix_width, width_for, IsSuffix, IsPrefix, Decimal, Hexadecimal, Octal, Binary, IsNumber}
 use Rattle.pickle_syntax.proofs.Classes.{run_is, run_all, run_stops}
 use Rattle.pickle_syntax.proofs.Chains.{chosen}
-use Rattle.pickle_syntax.proofs.Letters.{word_sign, word_width, word_digit, word_bit, width_sign, word_x, word_o, word_b, digit_x, digit_o, digit_b, sign_x, sign_o, sign_b, sign_bit, width_x, width_o, after_sign, after_width, after_word}
+use Rattle.pickle_syntax.proofs.Letters.{word_digit, word_bit, width_sign, word_x, word_o, word_b, digit_x, digit_o, digit_b, sign_x, sign_o, sign_b, sign_bit, width_x, width_o, after_sign, after_width, after_word}
 
 -- the width that a suffix names, or 0
 width_or_none : Option ℕ → ℕ
@@ -87,7 +86,7 @@ digits_read at base start digits s after n low all ends is apart ev es ew held =
     let tail = suffix_bytes s ++ after in
     let len : length digits ≡ prefix_len (is_in (class.Digit base)) (digits ++ tail) = sym (run_is (class.Digit base) digits tail all (no_digits base s after low ends apart)) in
     let joined : digits_at at base start (digits ++ tail) ≡ checked at (value_after base 0 digits) (written s) (start + length digits) (slice_index after 0) =
-        digits_join at base start (digits ++ tail) tail (length digits) (value_after base 0 digits) (written s) (slice_index after 0) len (sym (drop-append_seam digits tail)) (sym (suffix_reads s after is apart)) (ap (value_after base 0) (sym (take-append_seam digits tail))) (sym (byte_behind (suffix_bytes s) after)) in
+    digits_join at base start (digits ++ tail) tail (length digits) (value_after base 0 digits) (written s) (slice_index after 0) len (sym (drop-append_seam digits tail)) (sym (suffix_reads s after is apart)) (ap (value_after base 0) (sym (take-append_seam digits tail))) (sym (byte_behind (suffix_bytes s) after)) in
     let same : typed_number (value_after base 0 digits) s ≡ n = number_same n (value_after base 0 digits) s is ev es ew in
     let fits : has_value (suffix_signed s) (typed (value_after base 0 digits) (written s)) (value_after base 0 digits) ≡ true = ap (λ (m : Number). has_value m.signed m.width m.value) same ∙ held in
     joined ∙ checked_ok at (value_after base 0 digits) (written s) (start + length digits) (slice_index after 0) (after_word after apart) fits ∙ ap (λ (m : Number). Ok (m, start + length digits + length (suffix_bytes s))) same
@@ -175,14 +174,14 @@ number_reads at n front after k apart =
     let low = low_base k.base k.prefix k.prefixed in
     let all : AllIn (class.Digit k.base) digits = (digit_in k.base k.first k.digit, k.more) in
     let regroup : front ++ after ≡ k.prefix ++ k.first ∷ (k.digits ++ tail) =
-        ap (λ (l : List ℕ). l ++ after) k.written ∙ append_assoc (k.prefix ++ digits) (suffix_bytes k.suffix) after ∙ append_assoc k.prefix digits tail in
+    ap (λ (l : List ℕ). l ++ after) k.written ∙ append_assoc (k.prefix ++ digits) (suffix_bytes k.suffix) after ∙ append_assoc k.prefix digits tail in
     let size : length k.prefix + length digits + length (suffix_bytes k.suffix) ≡ length front =
-        omega (arith, ap length k.written, length-append (k.prefix ++ digits) (suffix_bytes k.suffix), length-append k.prefix digits) in
+    omega (arith, ap length k.written, length-append (k.prefix ++ digits) (suffix_bytes k.suffix), length-append k.prefix digits) in
     let none : k.base ≡ 10 → IsNoPrefix (slice_index (k.digits ++ tail) 0) (slice_index (k.digits ++ tail) 1) =
-        λ e. none_digits k.digits k.suffix after (subst (λ (b : ℕ). AllIn (class.Digit b) k.digits) e k.more) k.suffixed apart in
+    λ e. none_digits k.digits k.suffix after (subst (λ (b : ℕ). AllIn (class.Digit b) k.digits) e k.more) k.suffixed apart in
     rw regroup (prefix_reads at k.base k.prefix k.first (k.digits ++ tail) k.prefixed k.digit none
-      ∙ digits_read at k.base (length k.prefix) digits k.suffix after n low all k.ends k.suffixed apart k.value k.signed k.width k.held
-      ∙ ap (λ (m : ℕ). Ok (n, m)) size)
+    ∙ digits_read at k.base (length k.prefix) digits k.suffix after n low all k.ends k.suffixed apart k.value k.signed k.width k.held
+    ∙ ap (λ (m : ℕ). Ok (n, m)) size)
 
 -- a suffix at the front, the longest
 record SuffixFront (bytes : List ℕ) : Type 0 where
@@ -199,25 +198,25 @@ suffix_front : (bytes : List ℕ) → SuffixFront bytes
 unfolding suffix_of width_or_none
 suffix_front [] = record { suffix = NoSuffix; more = []; whole = refl; is = tt; reads = refl }
 suffix_front (c ∷ []) = elim (cases_Bool (is_sign c)) [
-    | inl sign ↦ record { suffix = SignLetter c; more = []; whole = refl; is = sign; reads = rw sign refl }
-    | inr other ↦ elim (cases_eq (width_of c) 0) [
-      | inl none ↦ record { suffix = NoSuffix; more = c ∷ []; whole = refl; is = tt; reads = rw (other, none) refl }
-      | inr some ↦ record { suffix = WidthLetter c; more = []; whole = refl; is = above (width_of c) some; reads = rw (other, ne_eqb (width_of c) 0 some) refl }
-    ]
+  | inl sign ↦ record { suffix = SignLetter c; more = []; whole = refl; is = sign; reads = rw sign refl }
+  | inr other ↦ elim (cases_eq (width_of c) 0) [
+    | inl none ↦ record { suffix = NoSuffix; more = c ∷ []; whole = refl; is = tt; reads = rw (other, none) refl }
+    | inr some ↦ record { suffix = WidthLetter c; more = []; whole = refl; is = above (width_of c) some; reads = rw (other, ne_eqb (width_of c) 0 some) refl }
   ]
+]
 suffix_front (c ∷ d ∷ rest) = elim (cases_Bool (is_sign c)) [
-    | inl sign ↦ elim (cases_eq (width_of d) 0) [
-      | inl none ↦ record { suffix = SignLetter c; more = d ∷ rest; whole = refl; is = sign; reads = rw (sign, none) refl }
-      | inr some ↦ record { suffix = SignAndWidth c d; more = rest; whole = refl; is = (sign, above (width_of d) some); reads = rw (sign, ne_eqb (width_of d) 0 some) refl }
-    ]
-    | inr other ↦ elim (cases_eq (width_of c) 0) [
-      | inl none ↦ record { suffix = NoSuffix; more = c ∷ d ∷ rest; whole = refl; is = tt; reads = rw (other, none) refl }
-      | inr some ↦ elim (cases_Bool (is_sign d)) [
-        | inl sign ↦ record { suffix = WidthAndSign c d; more = rest; whole = refl; is = (above (width_of c) some, sign); reads = rw (other, ne_eqb (width_of c) 0 some, sign) refl }
-        | inr none ↦ record { suffix = WidthLetter c; more = d ∷ rest; whole = refl; is = above (width_of c) some; reads = rw (other, ne_eqb (width_of c) 0 some, none) refl }
-      ]
+  | inl sign ↦ elim (cases_eq (width_of d) 0) [
+    | inl none ↦ record { suffix = SignLetter c; more = d ∷ rest; whole = refl; is = sign; reads = rw (sign, none) refl }
+    | inr some ↦ record { suffix = SignAndWidth c d; more = rest; whole = refl; is = (sign, above (width_of d) some); reads = rw (sign, ne_eqb (width_of d) 0 some) refl }
+  ]
+  | inr other ↦ elim (cases_eq (width_of c) 0) [
+    | inl none ↦ record { suffix = NoSuffix; more = c ∷ d ∷ rest; whole = refl; is = tt; reads = rw (other, none) refl }
+    | inr some ↦ elim (cases_Bool (is_sign d)) [
+      | inl sign ↦ record { suffix = WidthAndSign c d; more = rest; whole = refl; is = (above (width_of c) some, sign); reads = rw (other, ne_eqb (width_of c) 0 some, sign) refl }
+      | inr none ↦ record { suffix = WidthLetter c; more = d ∷ rest; whole = refl; is = above (width_of c) some; reads = rw (other, ne_eqb (width_of c) 0 some, none) refl }
     ]
   ]
+]
 
 -- what a number that was read says
 checked_is : (a b : Bool) (x y : Read) (f : Fault) → cond {A = Result Read Fault} (a || not b) (Err f) (Ok x) ≡ Ok y → (a ≡ false) × (b ≡ true) × (x ≡ y)
@@ -268,7 +267,7 @@ digits_front at base start digits n len e =
     let s = f.suffix in
     let next : slice_index f.more 0 ≡ slice_index after (length (suffix_bytes s)) = sym (ap (λ (l : List ℕ). slice_index l (length (suffix_bytes s))) f.whole ∙ byte_behind (suffix_bytes s) f.more) in
     let joined : digits_at at base start digits ≡ checked at value (written s) (start + k) (slice_index f.more 0) =
-        digits_join at base start digits after k value (written s) (slice_index f.more 0) refl refl (sym f.reads) refl next in
+    digits_join at base start digits after k value (written s) (slice_index f.more 0) refl refl (sym f.reads) refl next in
     let both = checked_is (is_in class.Word (slice_index f.more 0)) (has_value (suffix_signed s) (typed value (written s)) value) (typed_number value s, start + k + length (suffix_bytes s)) (n, len) (BadNumber, at) (sym joined ∙ e) in
     let same : typed_number value s ≡ n = ap (λ (x : Read). x.0) both.2 in
     let long : start + k + length (suffix_bytes s) ≡ len = ap (λ (x : Read). x.1) both.2 in
@@ -395,7 +394,7 @@ number_joins base len prefix first rest run after n digits prefixed digit whole 
     let front : List ℕ = prefix ++ first ∷ digits ++ suffix_bytes k.suffix in
     let tail : run ++ after ≡ (first ∷ digits) ++ (suffix_bytes k.suffix ++ k.more) = ap (λ (l : List ℕ). run ++ l) k.whole ∙ ap (λ (l : List ℕ). l ++ (suffix_bytes k.suffix ++ k.more)) runs in
     let joined : prefix ++ first ∷ rest ≡ front ++ k.more =
-        ap (λ (l : List ℕ). prefix ++ l) (whole ∙ tail) ∙ sym (append_assoc prefix (first ∷ digits) (suffix_bytes k.suffix ++ k.more)) ∙ sym (append_assoc (prefix ++ first ∷ digits) (suffix_bytes k.suffix) k.more) in
+    ap (λ (l : List ℕ). prefix ++ l) (whole ∙ tail) ∙ sym (append_assoc prefix (first ∷ digits) (suffix_bytes k.suffix ++ k.more)) ∙ sym (append_assoc (prefix ++ first ∷ digits) (suffix_bytes k.suffix) k.more) in
     record {
       front = front;
       after = k.more;
@@ -429,4 +428,4 @@ number_front at b rest n len digit e =
     let k = digits_front at f.base (length f.prefix) (f.first ∷ f.rest) n len (sym joined ∙ e) in
     let len_of = prefix_len (is_in (class.Digit f.base)) (f.first ∷ f.rest) in
     subst (NumberFront n len) (sym f.whole)
-      (number_joins f.base len f.prefix f.first f.rest (take len_of (f.first ∷ f.rest)) (drop len_of (f.first ∷ f.rest)) n (take (prefix_len (is_in (class.Digit f.base)) f.rest) f.rest) f.prefixed f.digit (sym (take-append-drop len_of (f.first ∷ f.rest))) (run_first f.base f.first f.rest f.digit) (run_all (class.Digit f.base) f.rest) k)
+    (number_joins f.base len f.prefix f.first f.rest (take len_of (f.first ∷ f.rest)) (drop len_of (f.first ∷ f.rest)) n (take (prefix_len (is_in (class.Digit f.base)) f.rest) f.rest) f.prefixed f.digit (sym (take-append-drop len_of (f.first ∷ f.rest))) (run_first f.base f.first f.rest f.digit) (run_all (class.Digit f.base) f.rest) k)

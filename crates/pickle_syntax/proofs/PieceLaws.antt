@@ -1,23 +1,20 @@
 -- What is cut at a place is the longest piece there; and where none is, the fault is the one that the rules name.
-use Rattle.std.proofs.Common.{◌≡◌, ◌≢◌, false, ℕ, zero, suc, ◌+◌, ◌-◌, ◌<◌, ◌≤◌, List, [], ◌∷◌, ◌++◌, length, drop, refl, sym, ap, ◌∙◌, subst, arith, inl, inr, Option, Some, None, Result, Ok, Err, length-append, append_assoc}
-use Rattle.std.specs.Prelude.{codes, ◌⊎◌}
-use Rattle.std.proofs.Math.Seq.{drop-append_seam}
+use Rattle.std.proofs.Common.{◌≡◌, false, ℕ, ◌<◌, ◌≤◌, List, [], ◌∷◌, ◌++◌, length, refl, sym, ap, ◌∙◌, subst, arith, inl, inr, Option, Some, None, Result, Ok, Err, length-append, append_assoc}
 use Rattle.pickle_syntax.specs.declared.lexer.bytes.Start.{Start}
 use Rattle.pickle_syntax.specs.declared.lexer.bytes.Start.TheVariants as start
 use Rattle.pickle_syntax.specs.declared.lexer.bytes.Class.TheVariants as class
-use Rattle.pickle_syntax.specs.declared.lexer.fault.LexFaultKind.TheVariants.{BadByte, Unclosed, BadNumber}
+use Rattle.pickle_syntax.specs.declared.lexer.fault.LexFaultKind.TheVariants.{BadNumber}
 use Rattle.pickle_syntax.specs.declared.token.Sign.{Sign}
 use Rattle.pickle_syntax.specs.declared.token.Sign.TheVariants as sign
 use Rattle.pickle_syntax.specs.declared.token.Number.{Number}
 use Rattle.pickle_syntax.specs.Tokens.{Token, Reserved, Named, Opens, Numeral, Mark}
 use Rattle.pickle_syntax.specs.Tokens as token
-use Rattle.pickle_syntax.specs.Bytes.{Fault, ◌>>=◌, digit_of, is_in, starts}
+use Rattle.pickle_syntax.specs.Bytes.{Fault, ◌>>=◌, digit_of, starts}
 use Rattle.pickle_syntax.specs.Words.{Cut, word_piece}
 use Rattle.pickle_syntax.specs.Numbers as numbers
 use Rattle.pickle_syntax.specs.Numbers.{number_at}
-use Rattle.pickle_syntax.specs.Texts.{text_from}
 use Rattle.pickle_syntax.specs.Lexing.{piece_from, piece_at}
-use Rattle.pickle_syntax.specs.Pieces.{begins, IsNumber, IsPrefix, Decimal, Hexadecimal, Octal, Binary, suffix_bytes, Spells, MayPrecede, IsPiece, IsLongest, HasNoPiece, IsFaultAt, InNumber, InComment, InText, Elsewhere, sign_spelling}
+use Rattle.pickle_syntax.specs.Pieces.{begins, IsNumber, IsPrefix, Decimal, Hexadecimal, Octal, Binary, suffix_bytes, Spells, MayPrecede, IsPiece, IsFaultAt, InNumber, Elsewhere, sign_spelling}
 use Rattle.pickle_syntax.proofs.Classes.{Tells, tells, starts_number, other_front}
 use Rattle.pickle_syntax.proofs.Cuts.{Cuts, Reaches}
 use Rattle.pickle_syntax.proofs.WordLaws.{word_cuts, reserved_reaches, named_reaches, opener_reaches}
@@ -103,7 +100,7 @@ number_reached at bytes n len k e =
 number_first : (n : Number) (front after : List ℕ) → IsNumber n front → DigitFirst (front ++ after)
 number_first n front after k =
     let whole : front ++ after ≡ k.prefix ++ k.first ∷ (k.digits ++ suffix_bytes k.suffix ++ after) =
-        ap (λ (l : List ℕ). l ++ after) k.written ∙ append_assoc (k.prefix ++ k.first ∷ k.digits) (suffix_bytes k.suffix) after ∙ append_assoc k.prefix (k.first ∷ k.digits) (suffix_bytes k.suffix ++ after) ∙ ap (λ (l : List ℕ). k.prefix ++ k.first ∷ l) (sym (append_assoc k.digits (suffix_bytes k.suffix) after)) in
+    ap (λ (l : List ℕ). l ++ after) k.written ∙ append_assoc (k.prefix ++ k.first ∷ k.digits) (suffix_bytes k.suffix) after ∙ append_assoc k.prefix (k.first ∷ k.digits) (suffix_bytes k.suffix ++ after) ∙ ap (λ (l : List ℕ). k.prefix ++ k.first ∷ l) (sym (append_assoc k.digits (suffix_bytes k.suffix) after)) in
     digit_first k.base k.first k.prefix (k.digits ++ suffix_bytes k.suffix ++ after) (front ++ after) k.prefixed k.digit whole
 
 number_reaches : (at : ℕ) (n : Number) (front after : List ℕ) → IsNumber n front → begins class.Word after ≡ false → Reaches (Some (Numeral n)) front (piece_at at (front ++ after))

@@ -1,9 +1,9 @@
 -- Texts, characters and attributes are cut by the rules.
-use Rattle.std.proofs.Common.{◌≡◌, ◌≢◌, ℕ, zero, suc, ◌+◌, ◌-◌, ◌<◌, ◌≤◌, Bool, true, false, cond, eqb, List, [], ◌∷◌, ◌++◌, length, drop, get_or, refl, sym, ap, ◌∙◌, subst, arith, inl, inr, Option, Some, None, Result, Ok, Err, append_assoc, length-append}
-use Rattle.std.specs.Prelude.{codes, ◌⊎◌, ◌==◌, slice_index}
+use Rattle.std.proofs.Common.{◌≡◌, ◌≢◌, ℕ, zero, suc, ◌+◌, ◌-◌, Bool, true, false, cond, eqb, List, [], ◌∷◌, ◌++◌, length, drop, get_or, refl, sym, ap, ◌∙◌, subst, arith, inl, inr, Option, Some, None, Result, Ok, Err, append_assoc, length-append}
+use Rattle.std.specs.Prelude.{codes, slice_index}
 use Rattle.std.proofs.lemmas.List.{get_or-drop}
 use Rattle.std.proofs.Math.Seq.{drop-append_seam}
-use Rattle.std.proofs.lemmas.Bool.{eqb-true, cases_Bool}
+use Rattle.std.proofs.lemmas.Bool.{eqb-true}
 use Rattle.pickle_syntax.specs.declared.lexer.texts.Part.{Part}
 use Rattle.pickle_syntax.specs.declared.lexer.texts.Part.TheVariants.{Closes, Byte, Bad, Breaks}
 use Rattle.pickle_syntax.specs.declared.lexer.fault.LexFaultKind.TheVariants.{BadByte, Unclosed}
@@ -15,7 +15,7 @@ use Rattle.pickle_syntax.specs.Bytes.{Fault, ◌>>=◌}
 use Rattle.pickle_syntax.specs.Words.{Cut, attribute_at}
 use Rattle.pickle_syntax.specs.Texts.{Read, part_at, with_byte, text_part, text_from, character_of, apostrophe_cut, apostrophe_piece}
 use Rattle.pickle_syntax.specs.Lexing.{piece_at}
-use Rattle.pickle_syntax.specs.Pieces.{IsPart, AreParts, IsCharacter, IsText, EndsBadly, IsPiece, IsFaultAt, InText, Elsewhere, attribute_spelling}
+use Rattle.pickle_syntax.specs.Pieces.{IsPart, AreParts, IsCharacter, IsText, EndsBadly, IsFaultAt, InText, Elsewhere, attribute_spelling}
 use Rattle.pickle_syntax.proofs.Chains.{Begins, begun}
 use Rattle.pickle_syntax.proofs.Classes.{other_front}
 use Rattle.pickle_syntax.proofs.Cuts.{Cuts, Reaches}

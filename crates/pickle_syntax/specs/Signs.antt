@@ -1,9 +1,9 @@
 -- Signs.
-use Rattle.std.specs.Prelude.{ℕ, Bool, ◌&&◌, if◌then◌else◌, ◌==◌, List, slice_index, Option, Some, None, Result, Ok, Err}
+use Rattle.std.specs.Prelude.{ℕ, ◌&&◌, if◌then◌else◌, ◌==◌, List, slice_index, Option, Some, None, Result, Ok, Err}
 use Rattle.pickle_syntax.specs.declared.lexer.fault.LexFaultKind.TheVariants.{BadByte}
 use Rattle.pickle_syntax.specs.declared.token.Sign.{Sign}
 use Rattle.pickle_syntax.specs.declared.token.Sign.TheVariants as sign
-use Rattle.pickle_syntax.specs.Tokens.{Token, Mark}
+use Rattle.pickle_syntax.specs.Tokens.{Mark}
 use Rattle.pickle_syntax.specs.Bytes.{Fault}
 use Rattle.pickle_syntax.specs.Words.{Cut}
 

@@ -1,5 +1,5 @@
 -- Words, and the openers and attributes that are spelled out.
-use Rattle.std.specs.Prelude.{ℕ, ◌+◌, Bool, if◌then◌else◌, ◌==◌, List, codes, Option, Some, None, option_map}
+use Rattle.std.specs.Prelude.{ℕ, if◌then◌else◌, ◌==◌, List, codes, Option, Some, None, option_map}
 use Rattle.std.specs.List.{prefix_len, take_while, starts_with}
 use Rattle.std.specs.Str.{bytes_eq}
 use Rattle.pickle_syntax.specs.declared.lexer.bytes.Class.TheVariants as class
