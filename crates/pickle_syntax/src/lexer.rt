@@ -14,6 +14,8 @@ pub mod laws;
 mod numbers;
 mod pieces;
 mod signs;
+#[cfg(test)]
+mod tests;
 mod texts;
 mod words;
 
