@@ -1,1 +1,2 @@
 pub mod OffsetWords
+pub mod DumpLines

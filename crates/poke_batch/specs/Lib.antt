@@ -1,1 +1,2 @@
 pub mod OffsetWord
+pub mod DumpText

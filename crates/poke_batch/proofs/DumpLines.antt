@@ -1,0 +1,115 @@
+-- Laws of the lines of a dump.
+use Rattle.std.proofs.Common.{◌≡◌, ◌≢◌, ℕ, zero, suc, ◌+◌, ◌-◌, ◌*◌, ◌/◌, ◌%◌, ◌^◌, ◌<◌, ◌≤◌, Bool, true, false, List, [], ◌∷◌, ◌++◌, length, take, drop, map, Option, Some, None, refl, sym, ◌∙◌, ap, subst, inl, inr, arith, rules, codes, add-one}
+use Rattle.std.specs.Prelude.{replicate, bit_and, slice_get}
+use Rattle.std.specs.List.{flat_map, range_with_len}
+use Rattle.std.specs.Int.Digits.{digits_of}
+use Rattle.std.proofs.lemmas.List.{append_assoc, append-nil, length-map, map-append, replicate_more, length-append, flat_map_more, map-id}
+use Rattle.std.proofs.lemmas.List.FromFn.{map-range_with_len_more}
+use Rattle.std.proofs.lemmas.Int.Digits.{digits_of_step, length-digits_of-le, number_lt, number_digits_of, all_below_base_digits_of}
+use Rattle.std.proofs.lemmas.Nat.{shr-shr, and_mask, pow-add, div_below}
+use Rattle.std.proofs.Math.Nat.{pow-suc, pow-le-pow_right, one-le-pow}
+use Rattle.poke_batch.specs.DumpText.{hex_digit, place_text, gap, two_digits, column, columns}
+
+-- the last `count` hexadecimal digits of n
+unfoldable pub hex_digits : ℕ → ℕ → List ℕ
+hex_digits zero n = []
+hex_digits (suc count) n = hex_digits count (n / 16) ++ hex_digit (n % 16) ∷ []
+
+pow_of_16 : (k : ℕ) → 2 ^ (4 * k) ≡ 16 ^ k
+pow_of_16 zero = refl
+pow_of_16 (suc k) =
+    let e : 4 * suc k ≡ 4 * k + 4 = omega arith in
+    ap (λ n. 2 ^ n) e ∙ pow-add 2 (4 * k) 4 ∙ ap (λ n. n * 16) (pow_of_16 k) ∙ sym (pow-suc 16 k)
+
+pow_pos_16 : (k : ℕ) → 0 < 16 ^ k
+pow_pos_16 k = one-le-pow k 16 (omega arith)
+
+sub_none : (k : ℕ) → k - 0 ≡ k
+sub_none k = omega arith
+
+hex_of : ℕ → List ℕ
+hex_of n = map hex_digit (digits_of 16 n)
+
+length_hex_of : (n : ℕ) → length (hex_of n) ≡ length (digits_of 16 n)
+unfolding hex_of
+length_hex_of n = length-map (digits_of 16 n) hex_digit
+
+hex_of_step : (n : ℕ) → 0 < n → hex_of n ≡ hex_of (n / 16) ++ hex_digit (n % 16) ∷ []
+unfolding hex_of
+hex_of_step n h = ap (map hex_digit) (digits_of_step 16 n (omega arith) h) ∙ map-append hex_digit (digits_of 16 (n / 16)) (n % 16 ∷ [])
+
+hex_of_zero : hex_of 0 ≡ []
+unfolding hex_of
+hex_of_zero = refl
+
+-- so many digits of a number that has no more are its own digits after zeros
+padded : (k n : ℕ) → n < 16 ^ k → hex_digits k n ≡ replicate (k - length (hex_of n)) 48 ++ hex_of n
+unfolding hex_digits
+padded zero n h = let e : n ≡ 0 = omega arith in rw (e, hex_of_zero) refl
+padded (suc k) zero h =
+    let zeros : hex_digits k 0 ≡ replicate (k - length (hex_of 0)) 48 ++ hex_of 0 = padded k 0 (pow_pos_16 k) in
+    let plain : replicate (k - length (hex_of 0)) 48 ++ hex_of 0 ≡ replicate k 48 = rw (hex_of_zero, sub_none k) (append-nil (replicate k 48)) in
+    ap (λ s. s ++ 48 ∷ []) (zeros ∙ plain) ∙ replicate_more k 48 ∙ rw (hex_of_zero, add-one, sub_none) (sym (append-nil (replicate (suc k) 48)))
+padded (suc k) (suc m) h =
+    let low : suc m / 16 < 16 ^ k = div_below (suc m) 16 (16 ^ k) (omega arith) (subst (λ x. suc m < x) (pow-suc 16 k) h) in
+    let front = padded k (suc m / 16) low in
+    let split : hex_of (suc m) ≡ hex_of (suc m / 16) ++ hex_digit (suc m % 16) ∷ [] = hex_of_step (suc m) (omega arith) in
+    let len : length (hex_of (suc m)) ≡ length (hex_of (suc m / 16)) + 1 = ap length split ∙ length-append (hex_of (suc m / 16)) (hex_digit (suc m % 16) ∷ []) in
+    let same : suc k - length (hex_of (suc m)) ≡ k - length (hex_of (suc m / 16)) = omega arith in
+    ap (λ s. s ++ hex_digit (suc m % 16) ∷ []) front
+    ∙ append_assoc (replicate (k - length (hex_of (suc m / 16))) 48) (hex_of (suc m / 16)) (hex_digit (suc m % 16) ∷ [])
+    ∙ ap (λ s. replicate (k - length (hex_of (suc m / 16))) 48 ++ s) (sym split)
+    ∙ ap (λ n. replicate n 48 ++ hex_of (suc m)) (sym same)
+
+-- a number that needs so many digits has as many
+length_needed : (count n : ℕ) → n < 16 ^ count → (0 < count → 16 ^ (count - 1) ≤ n) → length (hex_of n) ≡ count
+length_needed count n fits needed =
+    let most : length (digits_of 16 n) ≤ count = length-digits_of-le 16 count n (omega arith) fits in
+    let least : n < 16 ^ length (digits_of 16 n) =
+        subst (λ x. x < 16 ^ length (digits_of 16 n)) (number_digits_of 16 n (omega arith)) (number_lt 16 (digits_of 16 n) (all_below_base_digits_of 16 n (omega arith))) in
+    length_hex_of n ∙ squeeze count (length (digits_of 16 n)) most (λ small.
+      let up : 16 ^ length (digits_of 16 n) ≤ 16 ^ (count - 1) = pow-le-pow_right {n = 16} (omega arith) (omega arith) in
+      let low : 16 ^ (count - 1) ≤ n = needed (omega arith) in
+      omega arith)
+  where
+    squeeze : (a b : ℕ) → b ≤ a → ¬ (b < a) → b ≡ a
+    squeeze a b h k = omega arith
+
+-- the digits of a place, by their count
+pub place_is : (count place : ℕ) → 8 ≤ count → place < 2 ^ (4 * count) → (8 < count → 2 ^ (4 * (count - 1)) ≤ place) → hex_digits count place ≡ place_text place
+unfolding place_text hex_of
+place_is count place least fits needed =
+    let fits' : place < 16 ^ count = subst (λ x. place < x) (pow_of_16 count) fits in
+    let long : 8 < count → length (hex_of place) ≡ count =
+        λ h. length_needed count place fits' (λ _. subst (λ x. x ≤ place) (pow_of_16 (count - 1)) (needed h)) in
+    let zeros : count - length (hex_of place) ≡ 8 - length (hex_of place) = same_zeros count (length (hex_of place)) least long in
+    padded count place fits' ∙ ap (λ n. replicate n 48 ++ hex_of place) zeros
+  where
+    same_zeros : (count n : ℕ) → 8 ≤ count → (8 < count → n ≡ count) → count - n ≡ 8 - n
+    same_zeros count n least long = grind arith
+
+-- one digit more
+pub digit_more : (place count i : ℕ) → i < count → hex_digits (i + 1) (place / 2 ^ (4 * (count - (i + 1)))) ≡ hex_digits i (place / 2 ^ (4 * (count - i))) ++ hex_digit (bit_and (place / 2 ^ (4 * (count - 1 - i))) 15) ∷ []
+unfolding hex_digits
+digit_more place count i h =
+    let at : count - suc i ≡ count - 1 - i = omega arith in
+    let up : 4 * (count - suc i) + 4 ≡ 4 * (count - i) = omega arith in
+    let front : place / 2 ^ (4 * (count - suc i)) / 16 ≡ place / 2 ^ (4 * (count - i)) = shr-shr place (4 * (count - suc i)) 4 ∙ ap (λ k. place / 2 ^ k) up in
+    let last : place / 2 ^ (4 * (count - suc i)) % 16 ≡ bit_and (place / 2 ^ (4 * (count - 1 - i))) 15 = sym (and_mask (place / 2 ^ (4 * (count - suc i))) 4) ∙ ap (λ k. bit_and (place / 2 ^ (4 * k)) 15) at in
+    rw (add-one, front, last) refl
+
+-- a column after what stands before it
+pub column_some : (old bytes : List ℕ) (i byte high low : ℕ) → slice_get bytes i ≡ Some byte → high ≡ hex_digit (byte / 16) → low ≡ hex_digit (byte % 16) → old ++ gap i ++ high ∷ [] ++ low ∷ [] ≡ old ++ column bytes i
+column_some old bytes i byte high low e h l =
+    rw (e, h, l) (ap (λ s. s ++ hex_digit (byte % 16) ∷ []) (append_assoc old (gap i) (hex_digit (byte / 16) ∷ [])) ∙ append_assoc old (gap i ++ hex_digit (byte / 16) ∷ []) (hex_digit (byte % 16) ∷ []) ∙ ap (λ s. old ++ s) (append_assoc (gap i) (hex_digit (byte / 16) ∷ []) (hex_digit (byte % 16) ∷ [])))
+
+pub column_none : (old bytes : List ℕ) (i : ℕ) → slice_get bytes i ≡ None → old ++ gap i ++ 32 ∷ [] ++ 32 ∷ [] ≡ old ++ column bytes i
+column_none old bytes i e =
+    rw e (ap (λ s. s ++ 32 ∷ []) (append_assoc old (gap i) (32 ∷ [])) ∙ append_assoc old (gap i ++ 32 ∷ []) (32 ∷ []) ∙ ap (λ s. old ++ s) (append_assoc (gap i) (32 ∷ []) (32 ∷ [])))
+
+-- one column more
+pub range_more : (n : ℕ) → range_with_len 0 (n + 1) ≡ range_with_len 0 n ++ n ∷ []
+range_more n = sym (map-id (range_with_len 0 (n + 1))) ∙ map-range_with_len_more (λ x. x) 0 n n (omega arith) ∙ ap (λ s. s ++ n ∷ []) (map-id (range_with_len 0 n))
+
+pub flat_more : {A : Type 0} (f : ℕ → List A) (now was : List A) (n : ℕ) → now ≡ was ++ flat_map f (range_with_len 0 n) → now ++ f n ≡ was ++ flat_map f (range_with_len 0 (n + 1))
+flat_more f now was n e = ap (λ s. s ++ f n) e ∙ flat_map_more f was (range_with_len 0 n) n ∙ ap (λ s. was ++ flat_map f s) (sym (range_more n))

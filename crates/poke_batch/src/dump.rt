@@ -1,0 +1,2 @@
+//! Dumps of bytes, in lines of 16.
+mod line;
