@@ -1,0 +1,10 @@
+//! Maps the values that a pickle declares over a file's bits, and writes them as text.
+//!
+//! All output goes through one loop over the writer, [`write::put`]. Values and answers go to one writer, and refusals
+//! and faults, a line each, to another.
+#![tactic(auto)]
+
+pub mod lines;
+pub mod pickle;
+pub mod status;
+pub mod write;
