@@ -1,2 +1,4 @@
 pub mod OffsetWords
 pub mod DumpLines
+pub mod Parts
+pub mod Bytes

@@ -1,2 +1,5 @@
 pub mod OffsetWord
 pub mod DumpText
+pub mod Written
+pub mod Taken
+pub mod Lines

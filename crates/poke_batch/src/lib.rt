@@ -1,5 +1,12 @@
-//! Prints binary data as GNU poke's types describe it: the runs, the texts and the command line.
+//! Maps the values that a pickle declares over a file's bits, and writes them as text.
+//!
+//! All output goes through one loop over the writer, [`write::put`]. Values and answers go to one writer, and refusals
+//! and faults, a line each, to another.
 #![tactic(auto)]
 
 pub mod dump;
+pub mod lines;
 pub mod offset_word;
+pub mod pickle;
+pub mod status;
+pub mod write;
