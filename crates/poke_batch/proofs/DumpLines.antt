@@ -1,5 +1,5 @@
 -- Laws of the lines of a dump.
-use Rattle.std.proofs.Common.{◌≡◌, ◌≢◌, ℕ, zero, suc, ◌+◌, ◌-◌, ◌*◌, ◌/◌, ◌%◌, ◌^◌, ◌<◌, ◌≤◌, Bool, true, false, List, [], ◌∷◌, ◌++◌, length, take, drop, map, Option, Some, None, refl, sym, ◌∙◌, ap, subst, inl, inr, arith, rules, codes, add-one}
+use Rattle.std.proofs.Common.{◌≡◌, ℕ, zero, suc, ◌+◌, ◌-◌, ◌*◌, ◌/◌, ◌%◌, ◌^◌, ◌<◌, ◌≤◌, List, [], ◌∷◌, ◌++◌, length, map, Some, None, refl, sym, ◌∙◌, ap, subst, arith, add-one}
 use Rattle.std.specs.Prelude.{replicate, bit_and, slice_get}
 use Rattle.std.specs.List.{flat_map, range_with_len}
 use Rattle.std.specs.Int.Digits.{digits_of}
@@ -7,8 +7,8 @@ use Rattle.std.proofs.lemmas.List.{append_assoc, append-nil, length-map, map-app
 use Rattle.std.proofs.lemmas.List.FromFn.{map-range_with_len_more}
 use Rattle.std.proofs.lemmas.Int.Digits.{digits_of_step, length-digits_of-le, number_lt, number_digits_of, all_below_base_digits_of}
 use Rattle.std.proofs.lemmas.Nat.{shr-shr, and_mask, pow-add, div_below}
-use Rattle.std.proofs.Math.Nat.{pow-suc, pow-le-pow_right, one-le-pow}
-use Rattle.poke_batch.specs.DumpText.{hex_digit, place_text, gap, two_digits, column, columns}
+use Rattle.std.proofs.Math.Nat.{pow-suc, pow-le-pow_right, one-le-pow, div-one}
+use Rattle.poke_batch.specs.DumpText.{hex_digit, place_text, gap, column, columns, shown, line_text}
 
 -- the last `count` hexadecimal digits of n
 unfoldable pub hex_digits : ℕ → ℕ → List ℕ
@@ -66,11 +66,11 @@ length_needed : (count n : ℕ) → n < 16 ^ count → (0 < count → 16 ^ (coun
 length_needed count n fits needed =
     let most : length (digits_of 16 n) ≤ count = length-digits_of-le 16 count n (omega arith) fits in
     let least : n < 16 ^ length (digits_of 16 n) =
-        subst (λ x. x < 16 ^ length (digits_of 16 n)) (number_digits_of 16 n (omega arith)) (number_lt 16 (digits_of 16 n) (all_below_base_digits_of 16 n (omega arith))) in
+    subst (λ x. x < 16 ^ length (digits_of 16 n)) (number_digits_of 16 n (omega arith)) (number_lt 16 (digits_of 16 n) (all_below_base_digits_of 16 n (omega arith))) in
     length_hex_of n ∙ squeeze count (length (digits_of 16 n)) most (λ small.
-      let up : 16 ^ length (digits_of 16 n) ≤ 16 ^ (count - 1) = pow-le-pow_right {n = 16} (omega arith) (omega arith) in
-      let low : 16 ^ (count - 1) ≤ n = needed (omega arith) in
-      omega arith)
+    let up : 16 ^ length (digits_of 16 n) ≤ 16 ^ (count - 1) = pow-le-pow_right {n = 16} (omega arith) (omega arith) in
+    let low : 16 ^ (count - 1) ≤ n = needed (omega arith) in
+    omega arith)
   where
     squeeze : (a b : ℕ) → b ≤ a → ¬ (b < a) → b ≡ a
     squeeze a b h k = omega arith
@@ -81,7 +81,7 @@ unfolding place_text hex_of
 place_is count place least fits needed =
     let fits' : place < 16 ^ count = subst (λ x. place < x) (pow_of_16 count) fits in
     let long : 8 < count → length (hex_of place) ≡ count =
-        λ h. length_needed count place fits' (λ _. subst (λ x. x ≤ place) (pow_of_16 (count - 1)) (needed h)) in
+    λ h. length_needed count place fits' (λ _. subst (λ x. x ≤ place) (pow_of_16 (count - 1)) (needed h)) in
     let zeros : count - length (hex_of place) ≡ 8 - length (hex_of place) = same_zeros count (length (hex_of place)) least long in
     padded count place fits' ∙ ap (λ n. replicate n 48 ++ hex_of place) zeros
   where
@@ -113,3 +113,20 @@ range_more n = sym (map-id (range_with_len 0 (n + 1))) ∙ map-range_with_len_mo
 
 pub flat_more : {A : Type 0} (f : ℕ → List A) (now was : List A) (n : ℕ) → now ≡ was ++ flat_map f (range_with_len 0 n) → now ++ f n ≡ was ++ flat_map f (range_with_len 0 (n + 1))
 flat_more f now was n e = ap (λ s. s ++ f n) e ∙ flat_map_more f was (range_with_len 0 n) n ∙ ap (λ s. was ++ flat_map f s) (sym (range_more n))
+
+pub no_digit : (n : ℕ) → [] ≡ hex_digits 0 n
+unfolding hex_digits
+no_digit n = refl
+
+pub all_digits : (place count i : ℕ) → i ≡ count → hex_digits i (place / 2 ^ (4 * (count - i))) ≡ hex_digits count place
+all_digits place count i e =
+    let none : 4 * (count - i) ≡ 0 = omega arith in
+    rw (e, none_left count, div-one) refl
+  where
+    none_left : (count : ℕ) → 4 * (count - count) ≡ 0
+    none_left count = omega arith
+
+-- a line by its pieces
+pub line_is : (a b c d e f g h : List ℕ) (place : ℕ) (bytes : List ℕ) → a ≡ [] → b ≡ a ++ place_text place → c ≡ b ++ 58 ∷ [] → d ≡ c ++ columns bytes → e ≡ d ++ 32 ∷ [] → f ≡ e ++ 32 ∷ [] → g ≡ f ++ map shown bytes → h ≡ g ++ 10 ∷ [] → h ≡ line_text place bytes
+unfolding line_text
+line_is a b c d e f g h place bytes pa pb pc pd pe pf pg ph = rw (ph, pg, pf, pe, pd, pc, pb, pa) (ap (λ s. s ++ map shown bytes ++ 10 ∷ []) (append_assoc (place_text place ++ 58 ∷ [] ++ columns bytes) (32 ∷ []) (32 ∷ [])))

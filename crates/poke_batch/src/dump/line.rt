@@ -67,15 +67,12 @@ fn push_column(bytes: &[u8], i: usize, line: &mut ArrayVec<u8, LINE_ROOM>)
     ensures len { array_vec_len line.new ≤ array_vec_len line.old + 3 }
 {
     push_gap(i, line);
-    match bytes.get(i) {
-        Some(byte) => {
-            line.push(hex_digit(*byte >> 4));
-            line.push(hex_digit(*byte & 15));
-        }
-        None => {
-            line.push(b' ');
-            line.push(b' ');
-        }
+    if i < bytes.len() {
+        line.push(hex_digit(bytes[i] >> 4));
+        line.push(hex_digit(bytes[i] & 15));
+    } else {
+        line.push(b' ');
+        line.push(b' ');
     }
 }
 
@@ -104,5 +101,9 @@ fn hex_digit(value: u8) -> u8
     requires { value < 16 }
     ensures { result ≡ hex_digit value }
 {
-    if value < 10 { b'0' + value } else { b'a' - 10 + value }
+    if value < 10 {
+        b'0' + value
+    } else {
+        b'a' - 10 + value
+    }
 }

@@ -1,4 +1,4 @@
-use Rattle.std.proofs.Common.{ℕ, ◌-◌, ◌*◌, ◌^◌, ◌<◌, ◌≤◌}
+use Rattle.std.proofs.Common.{◌-◌, ◌*◌, ◌^◌, ◌<◌, ◌≤◌}
 use Rattle.poke_batch.proofs.dump.line.digit_count.Given as goal
 
 abbrev pub invariant-loop-count : goal.invariant-loop-count

@@ -1,4 +1,4 @@
-use Rattle.std.proofs.Common.{rules, arith, ◌≡◌, ◌∙◌, ap, subst, ◌++◌}
+use Rattle.std.proofs.Common.{arith, ◌≡◌, ◌∙◌, ap, ◌++◌}
 use Rattle.std.specs.List.{flat_map, range_with_len}
 use Rattle.poke_batch.specs.DumpText.{column, columns}
 use Rattle.poke_batch.proofs.DumpLines.{flat_more}
