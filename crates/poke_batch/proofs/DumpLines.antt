@@ -1,14 +1,20 @@
 -- Laws of the lines of a dump.
-use Rattle.std.proofs.Common.{◌≡◌, ℕ, zero, suc, ◌+◌, ◌-◌, ◌*◌, ◌/◌, ◌%◌, ◌^◌, ◌<◌, ◌≤◌, List, [], ◌∷◌, ◌++◌, length, map, Some, None, refl, sym, ◌∙◌, ap, subst, arith, add-one}
-use Rattle.std.specs.Prelude.{replicate, bit_and, slice_get}
+use Rattle.std.proofs.Common.{◌≡◌, ℕ, zero, suc, ◌+◌, ◌-◌, ◌*◌, ◌/◌, ◌%◌, ◌^◌, ◌<◌, ◌≤◌, List, [], ◌∷◌, ◌++◌, length, map, Some, None, refl, sym, ◌∙◌, ap, subst, arith, add-one, Option, take, drop, codes, inl, inr}
+use Rattle.std.specs.Io.KnownBytes.{Appends}
+use Rattle.poke_batch.specs.Written.{AppendsPart}
+use Rattle.std.proofs.KnownBytes.{Appends-trans}
+use Rattle.poke_batch.proofs.Parts.{part_first, part_next}
+use Rattle.std.specs.Prelude.{min, slice_range, replicate, bit_and, slice_get}
 use Rattle.std.specs.List.{flat_map, range_with_len}
 use Rattle.std.specs.Int.Digits.{digits_of}
-use Rattle.std.proofs.lemmas.List.{append_assoc, append-nil, length-map, map-append, replicate_more, length-append, flat_map_more, map-id}
+use Rattle.std.proofs.lemmas.List.{append_assoc, append-nil, length-map, map-append, replicate_more, length-append, flat_map_more, map-id, length-take, length-drop, drop-drop, take_min, take-take, take_all}
+use Rattle.std.proofs.lemmas.Slice.{between_is}
+use Rattle.std.proofs.lemmas.Bool.{cases_lt}
 use Rattle.std.proofs.lemmas.List.FromFn.{map-range_with_len_more}
 use Rattle.std.proofs.lemmas.Int.Digits.{digits_of_step, length-digits_of-le, number_lt, number_digits_of, all_below_base_digits_of}
 use Rattle.std.proofs.lemmas.Nat.{shr-shr, and_mask, pow-add, div_below}
-use Rattle.std.proofs.Math.Nat.{pow-suc, pow-le-pow_right, one-le-pow, div-one}
-use Rattle.poke_batch.specs.DumpText.{hex_digit, place_text, gap, column, columns, shown, line_text}
+use Rattle.std.proofs.Math.Nat.{pow-suc, pow-le-pow_right, one-le-pow, div-one, min-eq_left, min-eq_right}
+use Rattle.poke_batch.specs.DumpText.{hex_digit, place_text, gap, column, columns, shown, line_text, lines_text}
 
 -- the last `count` hexadecimal digits of n
 unfoldable pub hex_digits : ℕ → ℕ → List ℕ
@@ -130,3 +136,107 @@ all_digits place count i e =
 pub line_is : (a b c d e f g h : List ℕ) (place : ℕ) (bytes : List ℕ) → a ≡ [] → b ≡ a ++ place_text place → c ≡ b ++ 58 ∷ [] → d ≡ c ++ columns bytes → e ≡ d ++ 32 ∷ [] → f ≡ e ++ 32 ∷ [] → g ≡ f ++ map shown bytes → h ≡ g ++ 10 ∷ [] → h ≡ line_text place bytes
 unfolding line_text
 line_is a b c d e f g h place bytes pa pb pc pd pe pf pg ph = rw (ph, pg, pf, pe, pd, pc, pb, pa) (ap (λ s. s ++ map shown bytes ++ 10 ∷ []) (append_assoc (place_text place ++ 58 ∷ [] ++ columns bytes) (32 ∷ []) (32 ∷ [])))
+
+pub Appends-nil : (contents : Option (List ℕ)) → Appends contents contents []
+Appends-nil None = tt
+Appends-nil (Some xs) = sym (append-nil xs)
+
+-- a line is not empty, so nothing is a part of it
+pub line_part_none : (contents : Option (List ℕ)) (place : ℕ) (bytes : List ℕ) → AppendsPart contents contents (line_text place bytes)
+unfolding line_text
+line_part_none contents place bytes = record {
+  taken = [];
+  rest = line_text place bytes;
+  appends = Appends-nil contents;
+  whole = refl;
+  more = omega (arith, length-append (place_text place ++ codes ":" ++ columns bytes ++ codes "  " ++ map shown bytes) (10 ∷ []));
+}
+
+take_twice : (m n : ℕ) (xs : List ℕ) → take m (take n xs) ≡ take (min m n) xs
+take_twice m n xs = elim (cases_lt m n) [
+  | inl h ↦ take-take m n xs (omega arith) ∙ ap (λ k. take k xs) (sym (min-eq_left (omega arith)))
+  | inr h ↦ take_all m (take n xs) (omega (arith, length-take n xs)) ∙ ap (λ k. take k xs) (sym (min-eq_right (omega arith)))
+]
+
+-- the bytes of a line, and of the range that it is a line of
+line_bytes : (all : List ℕ) (from size i : ℕ) → take 16 (drop (16 * i) (take size (drop from all))) ≡ take (min 16 (min (from + size) (length all) - (from + 16 * i))) (drop (from + 16 * i) all)
+line_bytes all from size i =
+    let rest = drop (from + 16 * i) all in
+    let cut : drop (16 * i) (take size (drop from all)) ≡ take (size - 16 * i) rest = sym (between_is (drop from all) (16 * i) size) ∙ ap (take (size - 16 * i)) (drop-drop (16 * i) from all) in
+    let bound : min (min 16 (size - 16 * i)) (length rest) ≡ min 16 (min (from + size) (length all) - (from + 16 * i)) = ap (min (min 16 (size - 16 * i))) (length-drop (from + 16 * i) all) ∙ least size from i (length all) in
+    ap (take 16) cut ∙ take_twice 16 (size - 16 * i) rest ∙ sym (take_min (min 16 (size - 16 * i)) rest) ∙ ap (λ k. take k rest) bound
+  where
+    least : (size from i len : ℕ) → min (min 16 (size - 16 * i)) (len - (from + 16 * i)) ≡ min 16 (min (from + size) len - (from + 16 * i))
+    least size from i len = omega arith
+
+pub line_piece : (all : List ℕ) (from size i end count : ℕ) → end ≡ min (from + size) (length all) → count ≡ min (end - (from + 16 * i)) 16 → slice_range all (from + 16 * i) (from + 16 * i + count) ≡ take 16 (drop (16 * i) (take size (drop from all)))
+line_piece all from size i end count e n =
+    let same : from + 16 * i + count - (from + 16 * i) ≡ min 16 (min (from + size) (length all) - (from + 16 * i)) = omega arith in
+    ap (λ k. take k (drop (from + 16 * i) all)) same ∙ sym (line_bytes all from size i)
+
+-- the lines of a range, by their number
+lines_counted : (place n : ℕ) (bytes : List ℕ) → n ≡ (length bytes + 15) / 16 → flat_map (λ line. line_text (place + 16 * line) (take 16 (drop (16 * line) bytes))) (range_with_len 0 n) ≡ lines_text place bytes
+unfolding lines_text
+lines_counted place n bytes e = ap (λ k. flat_map (λ line. line_text (place + 16 * line) (take 16 (drop (16 * line) bytes))) (range_with_len 0 k)) e
+
+pub line_count : (all : List ℕ) (from size end n : ℕ) → end ≡ min (from + size) (length all) → n ≡ (end - from) / 16 + min 1 ((end - from) % 16) → n ≡ (length (take size (drop from all)) + 15) / 16
+line_count all from size end n e h =
+    let len : length (take size (drop from all)) ≡ end - from = length-take size (drop from all) ∙ ap (min size) (length-drop from all) ∙ cut_length size from (length all) end e in
+    h ∙ rounded (end - from) ∙ ap (λ k. (k + 15) / 16) (sym len)
+  where
+    cut_length : (size from len end : ℕ) → end ≡ min (from + size) len → min size (len - from) ≡ end - from
+    cut_length size from len end e = omega arith
+
+    rounded : (n : ℕ) → n / 16 + min 1 (n % 16) ≡ (n + 15) / 16
+    rounded n = omega arith
+
+flat_next : {A : Type 0} (f : ℕ → List A) (n : ℕ) → flat_map f (range_with_len 0 (n + 1)) ≡ flat_map f (range_with_len 0 n) ++ f n
+flat_next f n = sym (flat_more f (flat_map f (range_with_len 0 n)) [] n refl)
+
+-- a list by pieces, cut at one of them
+flat_cut : {A : Type 0} (f : ℕ → List A) (i d n : ℕ) → n ≡ i + 1 + d → (rest : List A) × (flat_map f (range_with_len 0 n) ≡ flat_map f (range_with_len 0 i) ++ f i ++ rest)
+flat_cut f i zero n e =
+    let last : n ≡ i + 1 = omega arith in
+    ([], ap (λ k. flat_map f (range_with_len 0 k)) last ∙ flat_next f i ∙ sym (append-nil (flat_map f (range_with_len 0 i) ++ f i)))
+flat_cut f i (suc d) n e =
+    let last : n ≡ (i + 1 + d) + 1 = omega arith in
+    let before = flat_cut f i d (i + 1 + d) refl in (
+      before.0 ++ f (i + 1 + d),
+      ap (λ k. flat_map f (range_with_len 0 k)) last ∙ flat_next f (i + 1 + d) ∙ ap (λ s. s ++ f (i + 1 + d)) before.1 ∙ append_assoc (flat_map f (range_with_len 0 i) ++ f i) before.0 (f (i + 1 + d)),
+    )
+
+-- the text of a line, of a range of bytes
+line_in : ℕ → ℕ → List ℕ → ℕ → List ℕ
+line_in from size all i = line_text (from + 16 * i) (take 16 (drop (16 * i) (take size (drop from all))))
+
+-- what a writer has after some of the lines
+pub lines_begun : ℕ → ℕ → List ℕ → ℕ → List ℕ
+lines_begun from size all i = flat_map (line_in from size all) (range_with_len 0 i)
+
+pub no_line : (from size : ℕ) (all : List ℕ) → lines_begun from size all 0 ≡ []
+unfolding lines_begun
+no_line from size all = refl
+
+pub line_more : (a b c : Option (List ℕ)) (all : List ℕ) (from size i end count : ℕ) → end ≡ min (from + size) (length all) → count ≡ min (end - (from + 16 * i)) 16
+    → Appends a b (lines_begun from size all i) → Appends b c (line_text (from + 16 * i) (slice_range all (from + 16 * i) (from + 16 * i + count))) → Appends a c (lines_begun from size all (i + 1))
+unfolding lines_begun line_in
+line_more a b c all from size i end count e n h g =
+    let piece = line_piece all from size i end count e n in
+    subst (λ s. Appends a c s) (sym (flat_next (line_in from size all) i)) (Appends-trans a b c _ _ h (subst (λ s. Appends b c (line_text (from + 16 * i) s)) piece g))
+
+lines_all : (all : List ℕ) (from size end n : ℕ) → end ≡ min (from + size) (length all) → n ≡ (end - from) / 16 + min 1 ((end - from) % 16) → lines_begun from size all n ≡ lines_text from (take size (drop from all))
+unfolding lines_begun line_in
+lines_all all from size end n e h = lines_counted from n (take size (drop from all)) (line_count all from size end n e h)
+
+pub lines_done : (a b : Option (List ℕ)) (all : List ℕ) (from size end n i : ℕ) → end ≡ min (from + size) (length all) → n ≡ (end - from) / 16 + min 1 ((end - from) % 16) → i ≡ n
+    → Appends a b (lines_begun from size all i) → Appends a b (lines_text from (take size (drop from all)))
+lines_done a b all from size end n i e h k g = subst (λ s. Appends a b s) (ap (lines_begun from size all) k ∙ lines_all all from size end n e h) g
+
+pub line_failed : (a b c : Option (List ℕ)) (all : List ℕ) (from size i end count n : ℕ) → end ≡ min (from + size) (length all) → count ≡ min (end - (from + 16 * i)) 16 → n ≡ (end - from) / 16 + min 1 ((end - from) % 16) → i < n
+    → Appends a b (lines_begun from size all i) → AppendsPart b c (line_text (from + 16 * i) (slice_range all (from + 16 * i) (from + 16 * i + count))) → AppendsPart a c (lines_text from (take size (drop from all)))
+unfolding lines_begun line_in
+line_failed a b c all from size i end count n e m k lt h g =
+    let piece = line_piece all from size i end count e m in
+    let cut = flat_cut (line_in from size all) i (n - (i + 1)) n (omega arith) in
+    let part = part_first a c _ cut.0 (part_next a b c _ _ h (subst (λ s. AppendsPart b c (line_text (from + 16 * i) s)) piece g)) in
+    subst (λ s. AppendsPart a c s) (sym cut.1 ∙ lines_all all from size end n e k) part
