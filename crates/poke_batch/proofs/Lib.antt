@@ -2,3 +2,4 @@ pub mod OffsetWords
 pub mod DumpLines
 pub mod Parts
 pub mod Bytes
+pub mod DumpRows

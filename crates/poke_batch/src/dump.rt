@@ -1,5 +1,7 @@
 //! Dumps of bytes, in lines of 16.
 mod line;
+#[cfg(test)]
+mod tests;
 
 ghost use Rattle.std.specs.Prelude.{◌≡◌, ℕ, ◌+◌, ◌-◌, ◌^◌, ◌<◌, ◌≤◌, List, Some, [], if◌then◌else◌, slice_range, take, drop, min, OnOk, OnErr, IfErr};
 ghost use Rattle.std.specs.Io.KnownBytes.{Appends};
