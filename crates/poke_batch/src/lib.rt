@@ -6,7 +6,9 @@
 
 pub mod dump;
 pub mod lines;
+pub mod mode;
 pub mod offset_word;
 pub mod pickle;
 pub mod status;
+pub mod words;
 pub mod write;
