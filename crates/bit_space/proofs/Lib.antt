@@ -1,3 +1,4 @@
 pub mod Digits
 pub mod Turned
 pub mod Windows
+pub mod Pages

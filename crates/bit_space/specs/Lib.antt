@@ -1,3 +1,4 @@
 pub mod Bits
 pub mod SpaceView
 pub mod Reading
+pub mod Pages

@@ -1,6 +1,6 @@
 -- What a caller can know of a space.
-use Rattle.std.specs.Prelude.{◌≡◌, ℕ, ◌-◌, ◌^◌, ◌<◌, ◌≤◌, List, Option, Some, [], length, option_map, unwrap_or}
-use Rattle.std.proofs.Common.{ap, sym}
+use Rattle.std.specs.Prelude.{◌≡◌, ℕ, ◌-◌, ◌^◌, ◌<◌, ◌≤◌, List, Option, Some, None, [], length, option_map, unwrap_or, MatchOption}
+use Rattle.std.proofs.Common.{ap, sym, subst}
 use Rattle.bit_space.specs.Bits.{bits_of}
 
 -- A space as its callers see it: its length in bytes, its bytes where they are known, and how
@@ -34,3 +34,10 @@ pub record Keeps (before after : SpaceView) : Type 0 where
   pub len : after.len ≡ before.len
   pub bytes : after.bytes ≡ before.bytes
   pub failures : before.failures ≤ after.failures
+
+-- a space whose bytes are not known
+abbrev pub unknown : ℕ → ℕ → SpaceView
+unknown len failures = record { len = len; bytes = None; failures = failures }
+
+pub unknown_whole : (len failures : ℕ) → IsWhole (unknown len failures)
+unknown_whole len failures bytes e = absurd (subst (λ (o : Option (List ℕ)). MatchOption o (Unit {0}) (λ _. ⊥)) e tt)

@@ -2,14 +2,21 @@
 
 //! Bytes at positions, counted reads, and the numbers that bits stand for.
 
+mod file;
 mod mem;
 mod meter;
 mod number;
 mod order;
+mod paged;
 mod space;
 
+pub use file::{FileSpace, OpenFault};
 pub use mem::{MemSpace, TooLong};
 pub use meter::{LimitPassed, Meter};
 pub use number::{BitFault, read_number};
 pub use order::Order;
+pub use paged::{Memory, Paged};
 pub use space::{DeviceFault, Space};
+
+#[cfg(test)]
+mod spaces;

@@ -135,3 +135,6 @@ fn turn(cut: u64, width: u8) -> u64
     }
     turned
 }
+
+#[cfg(test)]
+mod tests;

@@ -1,0 +1,161 @@
+//! Values from outside, refusals, and one read for a number.
+
+use crate::spaces::{Counted, Shifting, memory};
+use crate::{BitFault, MemSpace, Meter, Order, Space, read_number};
+use std::process::Abort;
+use std::test::Fail;
+
+/// Reads a number from memory, with one step.
+fn number_of(rt: &impl Abort, space: &mut MemSpace, pos: u64, width: u8, order: Order) -> u64 {
+    assert!(rt; 1 <= width && width <= 64);
+    let mut meter = Meter::new(1);
+    let number = read_number(space, pos, width, order, &mut meter);
+    assert_eq!(rt; meter.steps(), 1);
+    assert_eq!(rt; meter.made(), 0);
+    number.expect(rt, "a number")
+}
+
+/// Bit position, width, and the number in big and in little order, worked out from the groups.
+const NUMBERS: [(u64, u8, u64, u64); 43] = [
+    (0, 1, 0x0, 0x0),
+    (3, 1, 0x1, 0x1),
+    (5, 1, 0x0, 0x0),
+    (0, 3, 0x0, 0x0),
+    (1, 3, 0x1, 0x1),
+    (4, 3, 0x1, 0x1),
+    (2, 4, 0x4, 0x4),
+    (3, 4, 0x9, 0x9),
+    (5, 4, 0x4, 0x4),
+    (3, 7, 0x48, 0x48),
+    (6, 7, 0x46, 0x46),
+    (1, 8, 0x24, 0x24),
+    (4, 8, 0x23, 0x23),
+    (7, 8, 0x1a, 0x1a),
+    (0, 9, 0x24, 0x12),
+    (4, 9, 0x46, 0x23),
+    (5, 9, 0x8d, 0x146),
+    (1, 12, 0x246, 0x624),
+    (6, 12, 0x8d1, 0x18d),
+    (7, 12, 0x1a2, 0x21a),
+    (2, 15, 0x2468, 0x6848),
+    (7, 15, 0xd15, 0x151a),
+    (0, 16, 0x1234, 0x3412),
+    (3, 16, 0x91a2, 0xa291),
+    (5, 16, 0x468a, 0x8a46),
+    (0, 17, 0x2468, 0x3412),
+    (1, 17, 0x48d1, 0x16824),
+    (4, 17, 0x468a, 0x4523),
+    (2, 24, 0x48d159, 0x59d148),
+    (3, 24, 0x91a2b3, 0xb3a291),
+    (5, 24, 0x468acf, 0xcf8a46),
+    (3, 31, 0x48d159e2, 0x62b3a291),
+    (6, 31, 0x468acf13, 0x139e158d),
+    (1, 33, 0x48d159e2, 0xf1ac6824),
+    (4, 33, 0x468acf13, 0x189674523),
+    (7, 33, 0x3456789a, 0x4d3c2b1a),
+    (0, 40, 0x123456789a, 0x9a78563412),
+    (4, 40, 0x23456789ab, 0xab89674523),
+    (5, 40, 0x468acf1357, 0x5713cf8a46),
+    (6, 63, 0x468acf13579bde0b, 0xbbc37af269e158d),
+    (7, 63, 0xd159e26af37bc16, 0x16786f5e4d3c2b1a),
+    (2, 64, 0x48d159e26af37bc1, 0xc17bf36ae259d148),
+    (7, 64, 0x1a2b3c4d5e6f782d, 0x2d786f5e4d3c2b1a),
+];
+
+#[test]
+fn numbers_at_any_bit(rt: HostRuntime) -> Result<(), Fail> {
+    let bytes = [
+        0x12, 0x34, 0x56, 0x78, 0x9a, 0xbc, 0xde, 0xf0, 0x5a, 0xc3, 0x0f, 0xe1, 0x2d, 0x96, 0x4b,
+        0x87,
+    ];
+    let mut space = memory(rt.alloc(), &bytes).ok_or("memory")?;
+    for (pos, width, big, little) in NUMBERS {
+        let found = number_of(&rt, &mut space, pos, width, Order::Big);
+        assert_eq!(rt; found, big, "{width} bits at {pos}, big");
+        let found = number_of(&rt, &mut space, pos, width, Order::Little);
+        assert_eq!(rt; found, little, "{width} bits at {pos}, little");
+    }
+    Ok(())
+}
+
+#[test]
+fn numbers_of_the_manual(rt: HostRuntime) -> Result<(), Fail> {
+    let mut space = memory(rt.alloc(), &[0x34, 0x12]).ok_or("memory")?;
+    assert_eq!(rt; number_of(&rt, &mut space, 0, 12, Order::Big), 833);
+    assert_eq!(rt; number_of(&rt, &mut space, 0, 12, Order::Little), 308);
+    let mut space = memory(rt.alloc(), &[0x12, 0x34]).ok_or("memory")?;
+    assert_eq!(rt; number_of(&rt, &mut space, 0, 16, Order::Little), 13330);
+    assert_eq!(rt; number_of(&rt, &mut space, 0, 16, Order::Big), 4660);
+    let mut space = memory(
+        rt.alloc(),
+        &[0x01, 0x23, 0x45, 0x67, 0x89, 0xab, 0xcd, 0xef, 0x01],
+    )
+    .ok_or("memory")?;
+    assert_eq!(rt;
+        number_of(&rt, &mut space, 4, 64, Order::Big),
+        1_311_768_467_463_790_320
+    );
+    Ok(())
+}
+
+#[test]
+fn refuses_in_order(rt: HostRuntime) -> Result<(), Fail> {
+    let mut space = memory(rt.alloc(), &[0xff, 0xfe]).ok_or("memory")?;
+    let mut meter = Meter::new(3);
+    assert_eq!(rt; meter.limit(), 3);
+    assert_eq!(rt;
+        read_number(&mut space, 0, 16, Order::Big, &mut meter),
+        Ok(0xfffe)
+    );
+    meter.note_made();
+    assert_eq!(rt; meter.made(), 1);
+    assert_eq!(rt;
+        read_number(&mut space, 1, 16, Order::Big, &mut meter),
+        Err(BitFault::End)
+    );
+    assert_eq!(rt;
+        read_number(&mut space, u64::MAX, 64, Order::Big, &mut meter),
+        Err(BitFault::End)
+    );
+    assert_eq!(rt; meter.steps(), 3);
+    assert_eq!(rt;
+        read_number(&mut space, 0, 16, Order::Big, &mut meter),
+        Err(BitFault::Limit)
+    );
+    assert_eq!(rt;
+        read_number(&mut space, u64::MAX, 64, Order::Big, &mut meter),
+        Err(BitFault::Limit)
+    );
+    assert_eq!(rt; meter.steps(), 3);
+    assert!(rt; meter.tick().is_err());
+    let mut empty = memory(rt.alloc(), &[]).ok_or("memory")?;
+    assert_eq!(rt; empty.len(), 0);
+    let mut meter = Meter::new(1);
+    assert_eq!(rt;
+        read_number(&mut empty, 0, 1, Order::Little, &mut meter),
+        Err(BitFault::End)
+    );
+    Ok(())
+}
+
+#[test]
+fn reads_once(rt: HostRuntime) -> Result<(), Fail> {
+    let mut meter = Meter::new(100);
+    let mut space = Shifting::new(16);
+    let number = read_number(&mut space, 4, 64, Order::Big, &mut meter);
+    assert_eq!(rt; number, Ok(0x1010_1010_1010_1010));
+    let number = read_number(&mut space, 4, 64, Order::Big, &mut meter);
+    assert_eq!(rt; number, Ok(0x2020_2020_2020_2020));
+    let mut space = Counted::new(memory(rt.alloc(), &[1, 2, 3]).ok_or("memory")?);
+    assert_eq!(rt;
+        read_number(&mut space, 3, 17, Order::Little, &mut meter),
+        Ok(0x1008)
+    );
+    assert_eq!(rt; space.reads(), 1);
+    assert_eq!(rt;
+        read_number(&mut space, 9, 16, Order::Little, &mut meter),
+        Err(BitFault::End)
+    );
+    assert_eq!(rt; space.reads(), 1);
+    Ok(())
+}
