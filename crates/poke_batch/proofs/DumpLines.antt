@@ -133,9 +133,10 @@ all_digits place count i e =
     none_left count = omega arith
 
 -- a line by its pieces
-pub line_is : (a b c d e f g h : List ℕ) (place : ℕ) (bytes : List ℕ) → a ≡ [] → b ≡ a ++ place_text place → c ≡ b ++ 58 ∷ [] → d ≡ c ++ columns bytes → e ≡ d ++ 32 ∷ [] → f ≡ e ++ 32 ∷ [] → g ≡ f ++ map shown bytes → h ≡ g ++ 10 ∷ [] → h ≡ line_text place bytes
+pub line_is : (b c d e f g h : List ℕ) (place : ℕ) (bytes : List ℕ) → b ≡ place_text place → c ≡ b ++ 58 ∷ [] → d ≡ c ++ columns bytes → e ≡ d ++ 32 ∷ [] → f ≡ e ++ 32 ∷ [] → g ≡ f ++ map shown bytes → h ≡ g ++ 10 ∷ [] → h ≡ line_text place bytes
 unfolding line_text
-line_is a b c d e f g h place bytes pa pb pc pd pe pf pg ph = rw (ph, pg, pf, pe, pd, pc, pb, pa) (ap (λ s. s ++ map shown bytes ++ 10 ∷ []) (append_assoc (place_text place ++ 58 ∷ [] ++ columns bytes) (32 ∷ []) (32 ∷ [])))
+line_is b c d e f g h place bytes pb pc pd pe pf pg ph =
+    rw (ph, pg, pf, pe, pd, pc, pb) (ap (λ s. s ++ map shown bytes ++ 10 ∷ []) (append_assoc (place_text place ++ 58 ∷ [] ++ columns bytes) (32 ∷ []) (32 ∷ [])))
 
 pub Appends-nil : (contents : Option (List ℕ)) → Appends contents contents []
 Appends-nil None = tt

@@ -1,5 +1,5 @@
 -- Dumps worked out by hand, against the definition.
-use Rattle.std.proofs.Common.{◌≡◌, refl, true, false, codes, [], ◌∷◌, List, ℕ}
+use Rattle.std.proofs.Common.{◌≡◌, refl, true, false, codes, [], ◌∷◌}
 use Rattle.poke_batch.specs.DumpText.{dump_text, ruler_text, lines_text, line_text, place_text, columns}
 
 -- the last byte of a second line

@@ -12,7 +12,7 @@ ghost use Rattle.poke_batch.specs.declared.dump.DumpFault.TheVariants.{Device, W
 
 use crate::write::{WriteFault, put};
 use bit_space::{DeviceFault, Space};
-use line::line_of;
+use line::{LINE_ROOM, lay_out};
 use std::io::Write;
 use thiserror::Error;
 
@@ -116,6 +116,8 @@ fn put_line<S: Space, W: Write>(
     let mut window = [0u8; 16];
     let bytes = &mut window[..count];
     space.read_at(at, bytes)?;
-    put(w, line_of(at, bytes).as_slice())?;
+    let mut line = [0u8; LINE_ROOM];
+    let len = lay_out(at, bytes, &mut line);
+    put(w, &line[..len])?;
     Ok(())
 }

@@ -1,4 +1,4 @@
-use Rattle.std.proofs.Common.{arith, ◌≡◌, ◌∙◌, ap, ◌++◌}
+use Rattle.std.proofs.Common.{arith, ◌≡◌, ◌∙◌, ap, ◌++◌, take}
 use Rattle.std.specs.List.{flat_map, range_with_len}
 use Rattle.poke_batch.specs.DumpText.{column, columns}
 use Rattle.poke_batch.proofs.DumpLines.{flat_more}
@@ -6,10 +6,10 @@ use Rattle.poke_batch.proofs.dump.line.push_columns.Goals as goal
 
 pub loop-i-preserved : goal.loop-i-preserved
 loop-i-preserved c =
-    (c.push_column.ensures.items ∙ flat_more (column c.args.bytes.now) _ _ c.loop-i.i c.loop-i.invariant.0, omega arith)
+    (c.push_column-at.ensures.text ∙ flat_more (column c.args.bytes.now) _ _ c.loop-i.i c.loop-i.invariant.0, omega arith)
 
-pub returns-clause-items : goal.returns-clause-items
+pub returns-clause-text : goal.returns-clause-text
 unfolding columns
-returns-clause-items c =
+returns-clause-text c =
     let last : c.loop-i.i ≡ 16 = omega arith in
-    c.loop-i.invariant.0 ∙ ap (λ n. c.args.line.now.items ++ flat_map (column c.args.bytes.now) (range_with_len 0 n)) last
+    c.loop-i.invariant.0 ∙ ap (λ n. take c.args.start c.args.line.now ++ flat_map (column c.args.bytes.now) (range_with_len 0 n)) last
