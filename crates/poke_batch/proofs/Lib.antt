@@ -1,2 +1,4 @@
 pub mod Parts
 pub mod Bytes
+pub mod Tokens
+pub mod Declarations

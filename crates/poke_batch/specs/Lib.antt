@@ -1,3 +1,4 @@
 pub mod Written
 pub mod Taken
 pub mod Lines
+pub mod First

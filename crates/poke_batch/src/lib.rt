@@ -4,6 +4,7 @@
 //! and faults, a line each, to another.
 #![tactic(auto)]
 
+pub mod first;
 pub mod lines;
 pub mod pickle;
 pub mod status;
