@@ -2,3 +2,4 @@ pub mod Parts
 pub mod Bytes
 pub mod Tokens
 pub mod Declarations
+pub mod Outcomes

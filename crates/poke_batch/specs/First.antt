@@ -3,3 +3,5 @@ pub mod Tokens
 pub mod Declared
 pub mod Parts
 pub mod View
+pub mod Outcome
+pub mod Reading

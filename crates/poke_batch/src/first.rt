@@ -1,12 +1,14 @@
 //! Structs of unsigned integers of whole bytes, the only types that are mapped as yet.
 
 mod field;
+pub mod map;
 mod read;
 mod tokens;
 
 ghost use Rattle.std.specs.Prelude.{◌≡◌, ◌+◌, ◌*◌, length, IfOk};
+ghost use Rattle.poke_batch.specs.declared.first.ReadFault.TheVariants.{Memory};
 
-use std::alloc::Global;
+use std::alloc::{AllocError, AllocFailed, Global};
 use thiserror::Error;
 
 /// The most bytes of a pickle.
@@ -24,6 +26,22 @@ pub enum ReadFault {
     /// There was no memory for the type.
     #[error("fault Memory")]
     Memory,
+}
+
+impl From<AllocError> for ReadFault {
+    ghost from_gives = { λ _ fault. fault ≡ Memory };
+
+    fn from(_fault: AllocError) -> ReadFault {
+        ReadFault::Memory
+    }
+}
+
+impl<T: Drop> From<AllocFailed<T>> for ReadFault {
+    ghost from_gives = { λ _ fault. fault ≡ Memory };
+
+    fn from(_fault: AllocFailed<T>) -> ReadFault {
+        ReadFault::Memory
+    }
 }
 
 /// The type of one struct of unsigned integers.

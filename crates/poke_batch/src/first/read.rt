@@ -24,7 +24,7 @@ pub fn declaration(alloc: Global, text: &[u8]) -> Result<First, ReadFault>
     if !is_closed(rest) {
         return Err(ReadFault::NotYet);
     }
-    let name = Vec::from_slice(alloc, name).map_err(|_| ReadFault::Memory)?;
+    let name = Vec::from_slice(alloc, name)?;
     Ok(First { name, fields })
 }
 
@@ -97,7 +97,7 @@ fn fields(alloc: Global, text: &[u8]) -> Result<(Vec<Field>, &[u8]), ReadFault>
         if has_name(fields.as_slice(), field.name.as_slice()) {
             return Err(ReadFault::NotYet);
         }
-        fields.push(field).map_err(|_| ReadFault::Memory)?;
+        fields.push(field)?;
         rest = after;
     }
     Ok((fields, rest))
@@ -110,7 +110,7 @@ fn field(alloc: Global, text: &[u8]) -> Result<(Field, &[u8]), ReadFault>
     let Some((width, name, rest)) = field_tokens(text) else {
         return Err(ReadFault::NotYet);
     };
-    let name = Vec::from_slice(alloc, name).map_err(|_| ReadFault::Memory)?;
+    let name = Vec::from_slice(alloc, name)?;
     Ok((Field { name, width }, rest))
 }
 
