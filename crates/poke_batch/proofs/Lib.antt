@@ -3,3 +3,4 @@ pub mod Bytes
 pub mod Tokens
 pub mod Declarations
 pub mod Outcomes
+pub mod Texts

@@ -5,3 +5,4 @@ pub mod Parts
 pub mod View
 pub mod Outcome
 pub mod Reading
+pub mod Text

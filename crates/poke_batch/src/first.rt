@@ -3,6 +3,7 @@
 mod field;
 pub mod map;
 mod read;
+pub mod text;
 mod tokens;
 
 ghost use Rattle.std.specs.Prelude.{◌≡◌, ◌+◌, ◌*◌, length, IfOk};
@@ -66,10 +67,23 @@ impl First {
         read::declaration(alloc, text)
     }
 
+    /// The type's name.
+    pub fn name(&self) -> &[u8]
+        ensures { result.now ≡ name_of self.now }
+    {
+        self.name.as_slice()
+    }
+
     /// The most steps that a mapping takes, whatever the file holds.
     pub fn step_bound(&self) -> u128
         ensures { result ≡ 1 + 2 * length (members_of self.now) }
     {
         1 + 2 * self.fields.len() as u128
+    }
+
+    fn fields(&self) -> &[field::Field]
+        ensures { result.now ≡ self.now.fields.items }
+    {
+        self.fields.as_slice()
     }
 }

@@ -6,6 +6,7 @@
 
 pub mod first;
 pub mod lines;
+pub mod mode;
 pub mod pickle;
 pub mod status;
 pub mod write;
