@@ -3,3 +3,7 @@ pub mod DumpLines
 pub mod Parts
 pub mod Bytes
 pub mod DumpRows
+pub mod Tokens
+pub mod Declarations
+pub mod Outcomes
+pub mod Texts

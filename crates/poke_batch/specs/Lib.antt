@@ -4,3 +4,4 @@ pub mod Words
 pub mod Written
 pub mod Taken
 pub mod Lines
+pub mod First

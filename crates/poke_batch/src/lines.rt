@@ -94,9 +94,9 @@ fn put_placed<W: Write>(
     Ok(())
 }
 
-// a number and `tail`
+/// Writes the decimal digits of a number, and `tail`.
 #[tactic(auto, using(crate::proofs::Parts::written))]
-fn put_number<W: Write>(w: &mut W, number: u128, tail: &[u8]) -> Result<(), WriteFault>
+pub fn put_number<W: Write>(w: &mut W, number: u128, tail: &[u8]) -> Result<(), WriteFault>
     ensures ok { OnOk result (Appends (W.contents w.old) (W.contents w.new) (decimal number ++ tail.now)) }
     ensures err { OnErr result (AppendsPart (W.contents w.old) (W.contents w.new) (decimal number ++ tail.now)) }
 {
