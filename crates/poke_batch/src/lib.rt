@@ -5,12 +5,10 @@
 #![tactic(auto)]
 
 pub mod dump;
-pub mod lines;
-pub mod mode;
-pub mod offset_word;
 pub mod first;
 pub mod lines;
 pub mod mode;
+pub mod offset_word;
 pub mod pickle;
 pub mod status;
 pub mod words;
