@@ -4,3 +4,4 @@ pub mod Tokens
 pub mod Declarations
 pub mod Outcomes
 pub mod Texts
+pub mod Sayings

@@ -4,9 +4,12 @@
 //! and faults, a line each, to another.
 #![tactic(auto)]
 
+pub mod ask;
 pub mod first;
 pub mod lines;
 pub mod mode;
 pub mod pickle;
+pub mod run;
 pub mod status;
+pub mod tell;
 pub mod write;
