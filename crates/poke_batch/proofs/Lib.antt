@@ -7,3 +7,4 @@ pub mod Tokens
 pub mod Declarations
 pub mod Outcomes
 pub mod Texts
+pub mod Sayings

@@ -1,11 +1,11 @@
 -- Laws of what a struct means, and of a mapping that has come some way.
-use Rattle.std.proofs.Common.{◌≡◌, ◌⊎◌, ℕ, zero, suc, ◌+◌, ◌*◌, ◌<◌, ◌≤◌, List, [], ◌∷◌, ◌++◌, Option, Some, Result, Ok, Err, Bool, true, false, length, refl, sym, ◌∙◌, ap, subst, arith, add-one, inl, inr}
+use Rattle.std.proofs.Common.{◌≡◌, ◌⊎◌, ℕ, ◌+◌, ◌*◌, ◌<◌, ◌≤◌, List, [], ◌∷◌, ◌++◌, Some, Result, Ok, Err, true, false, length, refl, sym, ◌∙◌, ap, arith, inl, inr}
 use Rattle.std.specs.Prelude.{nat_le, slice_range, option_map}
 use Rattle.std.proofs.lemmas.Bool.{le-leb, lt-leb, cases_lt}
 use Rattle.std.proofs.lemmas.List.{append-nil}
 use Rattle.bit_space.specs.declared.order.Order.{Order}
 use Rattle.bit_space.specs.Bits.{bits_of, number}
-use Rattle.bit_space.specs.SpaceView.{SpaceView, IsWhole, Keeps, HasRisen, known_bits}
+use Rattle.bit_space.specs.SpaceView.{SpaceView, IsWhole, Keeps, known_bits}
 use Rattle.bit_space.specs.Reading.{MayRead}
 use Rattle.bit_space.proofs.Digits.{length-bits_of}
 use Rattle.poke_batch.specs.declared.first.map.FirstFault.{FirstFault}
@@ -94,25 +94,28 @@ field_stops order all start before view after bytes ns field fields at (End plac
     let lt : length bits < at + field.width = omega (arith, known_length before bytes whole known, keeps.len, f.2) in
     let e' : fields_outcome order bits all start ≡ fields_before ns (record { result = Err at; steps = 2; made = 0 }) = e ∙ ap (fields_before ns) (field_ends order bits field fields at lt) in
     rw (e', f.0) (record {
-  outcome = before_err ns at (record { result = Err at; steps = 2; made = 0 }) refl;
-  steps = omega (arith, ek, f.1, before_steps ns (record { result = Err at; steps = 2; made = 0 }));
-  made = omega (arith, ej, before_made ns (record { result = Err at; steps = 2; made = 0 }));
-  within = le;
-})
+      outcome = before_err ns at (record { result = Err at; steps = 2; made = 0 }) refl;
+      steps = omega (arith, ek, f.1, before_steps ns (record { result = Err at; steps = 2; made = 0 }));
+      made = omega (arith, ej, before_made ns (record { result = Err at; steps = 2; made = 0 }));
+      within = le;
+    })
 field_stops order all start before view after bytes ns field fields at (Limit place) limit limit1 k j k1 k2 j1 whole keeps known e el ek ej le f =
     let o = fields_outcome order (bits_of bytes) (field ∷ fields) at in
-    rw e (f.0, record {
-  more = omega (arith, el, ek, f.2, before_steps ns o, field_steps order (bits_of bytes) field fields at);
-  steps = f.1 ∙ el;
-  made = omega (arith, ej, before_made ns o);
-})
+    rw e (
+      f.0,
+      record {
+        more = omega (arith, el, ek, f.2, before_steps ns o, field_steps order (bits_of bytes) field fields at);
+        steps = f.1 ∙ el;
+        made = omega (arith, ej, before_made ns o);
+      },
+    )
 field_stops order all start before view after bytes ns field fields at Device limit limit1 k j k1 k2 j1 whole keeps known e el ek ej le f =
     let o = fields_outcome order (bits_of bytes) (field ∷ fields) at in
     rw e (record {
-  steps = omega (arith, ek, f.0, before_steps ns o, field_steps order (bits_of bytes) field fields at);
-  within = le;
-  made = omega (arith, ej, before_made ns o);
-})
+      steps = omega (arith, ek, f.0, before_steps ns o, field_steps order (bits_of bytes) field fields at);
+      within = le;
+      made = omega (arith, ej, before_made ns o);
+    })
 field_stops order all start before view after bytes ns field fields at Memory limit limit1 k j k1 k2 j1 whole keeps known e el ek ej le f = absurd f
 
 -- a field's number can't be kept
@@ -123,10 +126,10 @@ pub field_unkept : (order : Order) (all : List Member) (start : ℕ) (bytes ns :
 field_unkept order all start bytes ns field fields at limit k j k2 j1 e ek ej le =
     let o = fields_outcome order (bits_of bytes) (field ∷ fields) at in
     rw e (record {
-  steps = omega (arith, ek, before_steps ns o, field_steps order (bits_of bytes) field fields at);
-  within = le;
-  made = omega (arith, ej, before_made ns o);
-})
+      steps = omega (arith, ek, before_steps ns o, field_steps order (bits_of bytes) field fields at);
+      within = le;
+      made = omega (arith, ej, before_made ns o);
+    })
 
 pub Keeps-trans : (a b c : SpaceView) → Keeps a b → Keeps b c → Keeps a c
 Keeps-trans a b c h g = record { len = g.len ∙ h.len; bytes = g.bytes ∙ h.bytes; failures = omega (arith, h.failures, g.failures) }
@@ -163,19 +166,21 @@ struct_stops order fields at view bytes (End place) limit limit1 k k1 j j1 k' j'
     let o = fields_outcome order (bits_of bytes) fields at in
     rw (struct_inside order (bits_of bytes) fields at (omega (arith, known_length view bytes whole known, le)))
     (record {
-  outcome = s.outcome;
-  steps = omega (arith, s.steps, ek);
-  made = s.made ∙ ap (λ m. m + o.made) ej ∙ ap (λ r. j + struct_made r o.made) (sym s.outcome);
-  within = omega (arith, s.within, el);
-})
+      outcome = s.outcome;
+      steps = omega (arith, s.steps, ek);
+      made = s.made ∙ ap (λ m. m + o.made) ej ∙ ap (λ r. j + struct_made r o.made) (sym s.outcome);
+      within = omega (arith, s.within, el);
+    })
 struct_stops order fields at view bytes (Limit place) limit limit1 k k1 j j1 k' j' whole known le el ek ej s =
     let o = fields_outcome order (bits_of bytes) fields at in
-    rw (struct_inside order (bits_of bytes) fields at (omega (arith, known_length view bytes whole known, le)))
-    (s.0, record {
-  more = omega (arith, s.1.more, ek, el);
-  steps = s.1.steps ∙ el;
-  made = omega (arith, s.1.made, ej, made_more o.result o.made);
-})
+    rw (struct_inside order (bits_of bytes) fields at (omega (arith, known_length view bytes whole known, le))) (
+      s.0,
+      record {
+        more = omega (arith, s.1.more, ek, el);
+        steps = s.1.steps ∙ el;
+        made = omega (arith, s.1.made, ej, made_more o.result o.made);
+      },
+    )
 struct_stops order fields at view bytes Device limit limit1 k k1 j j1 k' j' whole known le el ek ej s =
     let o = fields_outcome order (bits_of bytes) fields at in
     rw (struct_inside order (bits_of bytes) fields at (omega (arith, known_length view bytes whole known, le)))
@@ -193,8 +198,8 @@ struct_done order fields at view bytes ns limit limit1 k k1 j j1 k2 j2 k' j' who
     let m : struct_made o.result o.made ≡ 1 + o.made = ap (λ r. struct_made r o.made) s.outcome in
     rw (struct_inside order (bits_of bytes) fields at (omega (arith, known_length view bytes whole known, le)))
     (record {
-  outcome = s.outcome;
-  steps = omega (arith, s.steps, ek, ek');
-  made = omega (arith, s.made, ej, ej', m);
-  within = omega (arith, s.within, el, ek');
-})
+      outcome = s.outcome;
+      steps = omega (arith, s.steps, ek, ek');
+      made = omega (arith, s.made, ej, ej', m);
+      within = omega (arith, s.within, el, ek');
+    })

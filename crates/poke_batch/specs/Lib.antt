@@ -5,3 +5,5 @@ pub mod Written
 pub mod Taken
 pub mod Lines
 pub mod First
+pub mod Told
+pub mod Runs

@@ -6,7 +6,7 @@ mod read;
 pub mod text;
 mod tokens;
 
-ghost use Rattle.std.specs.Prelude.{◌≡◌, ◌+◌, ◌*◌, length, IfOk};
+ghost use Rattle.std.specs.Prelude.{◌≡◌, ◌+◌, ◌*◌, ◌↔◌, length, IfOk, IsTrue};
 ghost use Rattle.poke_batch.specs.declared.first.ReadFault.TheVariants.{Memory};
 
 use std::alloc::{AllocError, AllocFailed, Global};
@@ -72,6 +72,13 @@ impl First {
         ensures { result.now ≡ name_of self.now }
     {
         self.name.as_slice()
+    }
+
+    /// Whether the type has this name.
+    pub fn is_named(&self, name: &[u8]) -> bool
+        ensures { IsTrue result ↔ (name.now ≡ name_of self.now) }
+    {
+        self.name() == name
     }
 
     /// The most steps that a mapping takes, whatever the file holds.

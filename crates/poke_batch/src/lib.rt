@@ -4,12 +4,15 @@
 //! and faults, a line each, to another.
 #![tactic(auto)]
 
+pub mod ask;
 pub mod dump;
 pub mod first;
 pub mod lines;
 pub mod mode;
 pub mod offset_word;
 pub mod pickle;
+pub mod run;
 pub mod status;
+pub mod tell;
 pub mod words;
 pub mod write;

@@ -11,9 +11,9 @@ IsFieldFault (Limit place) start at end before after limit k k' = (place ≡ sta
 IsFieldFault Device start at end before after limit k k' = (k' ≡ k + 2) × (end ≤ 8 * before.len) × HasRisen before.failures after.failures
 IsFieldFault Memory start at end before after limit k k' = ⊥
 
--- a fault that a device had comes only where the space's count of failures rose, and one of the limit only at it
-abbrev pub HasCause : FirstFault → (before after : SpaceView) (limit k' : ℕ) → Type 0
-HasCause (End place) before after limit k' = Unit {0}
-HasCause (Limit place) before after limit k' = k' ≡ limit
-HasCause Device before after limit k' = HasRisen before.failures after.failures
-HasCause Memory before after limit k' = Unit {0}
+-- a device's fault comes only where the space's count of failures rose, and the limit's only at it, told at the start
+abbrev pub HasCause : FirstFault → (start : ℕ) (before after : SpaceView) (limit k' : ℕ) → Type 0
+HasCause (End place) start before after limit k' = Unit {0}
+HasCause (Limit place) start before after limit k' = (place ≡ start) × (k' ≡ limit)
+HasCause Device start before after limit k' = HasRisen before.failures after.failures
+HasCause Memory start before after limit k' = Unit {0}

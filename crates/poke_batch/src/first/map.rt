@@ -55,13 +55,20 @@ impl<T: Drop> From<AllocFailed<T>> for FirstFault {
 }
 
 /// Maps the struct at bit `start`, a multiple of 8. Each field begins where the one before it ended.
-pub fn map_first<S: Space>(alloc: Global, first: &First, order: Order, start: u64, space: &mut S, meter: &mut Meter) -> Result<FirstValue, FirstFault>
+pub fn map_first<S: Space>(
+    alloc: Global,
+    first: &First,
+    order: Order,
+    start: u64,
+    space: &mut S,
+    meter: &mut Meter,
+) -> Result<FirstValue, FirstFault>
     requires { start % 8 ≡ 0 }
     ensures value { IfOk result (λ value. (bytes : List ℕ) → (S.view space.old).bytes ≡ Some bytes
         → Completes (struct_outcome order (bits_of bytes) (members_of first.now) start) (Ok (numbers_of value)) meter.old.limit meter.old.steps meter.old.made meter.new.steps meter.new.made) }
     ensures fault { IfErr result (λ fault. (bytes : List ℕ) → (S.view space.old).bytes ≡ Some bytes
         → Stops (struct_outcome order (bits_of bytes) (members_of first.now) start) start fault meter.old.limit meter.old.steps meter.old.made meter.new.steps meter.new.made) }
-    ensures cause { IfErr result (λ fault. HasCause fault (S.view space.old) (S.view space.new) meter.old.limit meter.new.steps) }
+    ensures cause { IfErr result (λ fault. HasCause fault start (S.view space.old) (S.view space.new) meter.old.limit meter.new.steps) }
     ensures bound { meter.new.steps ≤ meter.old.steps + (1 + 2 * length (members_of first.now)) }
     ensures left { meter.new.steps ≤ meter.old.limit }
     ensures limit { meter.new.limit ≡ meter.old.limit }
@@ -81,13 +88,20 @@ pub fn map_first<S: Space>(alloc: Global, first: &First, order: Order, start: u6
     Ok(FirstValue { numbers })
 }
 
-fn map_fields<S: Space>(alloc: Global, fields: &[Field], order: Order, start: u64, space: &mut S, meter: &mut Meter) -> Result<Vec<u64>, FirstFault>
+fn map_fields<S: Space>(
+    alloc: Global,
+    fields: &[Field],
+    order: Order,
+    start: u64,
+    space: &mut S,
+    meter: &mut Meter,
+) -> Result<Vec<u64>, FirstFault>
     requires { start ≤ 8 * (S.view space.old).len }
     ensures value { IfOk result (λ numbers. (bytes : List ℕ) → (S.view space.old).bytes ≡ Some bytes
         → Completes (fields_outcome order (bits_of bytes) (map member fields.now) start) (Ok numbers.items) meter.old.limit meter.old.steps meter.old.made meter.new.steps meter.new.made) }
     ensures fault { IfErr result (λ fault. (bytes : List ℕ) → (S.view space.old).bytes ≡ Some bytes
         → Stops (fields_outcome order (bits_of bytes) (map member fields.now) start) start fault meter.old.limit meter.old.steps meter.old.made meter.new.steps meter.new.made) }
-    ensures cause { IfErr result (λ fault. HasCause fault (S.view space.old) (S.view space.new) meter.old.limit meter.new.steps) }
+    ensures cause { IfErr result (λ fault. HasCause fault start (S.view space.old) (S.view space.new) meter.old.limit meter.new.steps) }
     ensures bound { meter.new.steps ≤ meter.old.steps + 2 * length fields.now }
     ensures limit { meter.new.limit ≡ meter.old.limit }
     ensures made { meter.new.made + meter.old.steps ≤ meter.old.made + meter.new.steps }
@@ -106,7 +120,14 @@ fn map_fields<S: Space>(alloc: Global, fields: &[Field], order: Order, start: u6
     Ok(numbers)
 }
 
-fn map_field<S: Space>(width: u8, order: Order, start: u64, at: u64, space: &mut S, meter: &mut Meter) -> Result<u64, FirstFault>
+fn map_field<S: Space>(
+    width: u8,
+    order: Order,
+    start: u64,
+    at: u64,
+    space: &mut S,
+    meter: &mut Meter,
+) -> Result<u64, FirstFault>
     requires some { 0 < width }
     requires most { width ≤ 64 }
     ensures value { IfOk result (λ n. MayRead (known_bits (S.view space.old)) order at width n) }

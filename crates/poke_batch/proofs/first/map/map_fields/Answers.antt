@@ -1,4 +1,4 @@
-use Rattle.std.proofs.Common.{◌≡◌, ℕ, ◌+◌, ◌*◌, ◌≤◌, List, Some, [], ◌∷◌, ◌++◌, length, map, drop, rules, arith, sym, ◌∙◌, ap}
+use Rattle.std.proofs.Common.{◌≡◌, ◌+◌, [], ◌∷◌, ◌++◌, map, drop, rules, arith, sym, ◌∙◌, ap}
 use Rattle.std.proofs.lemmas.List.{drop_more, length-append, drop_all}
 use Rattle.std.proofs.lemmas.Result.{err_from_is_err_and}
 use Rattle.bit_space.specs.Bits.{bits_of}
@@ -16,17 +16,17 @@ loop-field-preserved g c =
     let l = length-append c.loop-field.numbers.items (c.in_ok-number.number ∷ []) in
     let d : drop n c.args.fields.now ≡ f ∷ drop (n + 1) c.args.fields.now = drop_more c.args.fields.now n f c.loop-field-test.true ∙ ap (λ x. x ∷ drop (n + 1) c.args.fields.now) (sym c.field-item.is) in
     record {
-  keeps = Keeps-trans _ _ _ i.keeps c.map_field.ensures.keeps;
-  limit = c.note_made.ensures.limit ∙ c.map_field.ensures.limit ∙ i.limit;
-  count = rw e (omega (arith, l, i.count));
-  steps = rw e (omega (arith, l, i.steps, c.note_made.ensures.steps, c.in_ok-number.ensures.steps));
-  made = rw e (omega (arith, l, i.made, c.note_made.ensures.made, c.map_field.ensures.made));
-  inside = omega (arith, c.from-at.ensures, c.in_ok-number.ensures.inside, i.keeps.len);
-  so_far = λ bytes known.
-      rw (e, c.from-at.ensures) (further c.args.order (map member c.args.fields.now) c.args.start _ _ bytes c.loop-field.numbers.items (member f) (map member (drop (n + 1) c.args.fields.now)) c.loop-field.at c.in_ok-number.number
-      (g.met.S.Space.whole c.args.space.now) i.keeps known c.in_ok-number.ensures.inside c.in_ok-number.ensures.value
-      (i.so_far bytes known ∙ ap (λ ms. fields_before c.loop-field.numbers.items (fields_outcome c.args.order (bits_of bytes) ms c.loop-field.at)) (ap (map member) d)));
-}
+      keeps = Keeps-trans _ _ _ i.keeps c.map_field.ensures.keeps;
+      limit = c.note_made.ensures.limit ∙ c.map_field.ensures.limit ∙ i.limit;
+      count = rw e (omega (arith, l, i.count));
+      steps = rw e (omega (arith, l, i.steps, c.note_made.ensures.steps, c.in_ok-number.ensures.steps));
+      made = rw e (omega (arith, l, i.made, c.note_made.ensures.made, c.map_field.ensures.made));
+      inside = omega (arith, c.from-at.ensures, c.in_ok-number.ensures.inside, i.keeps.len);
+      so_far = λ bytes known.
+          rw (e, c.from-at.ensures) (further c.args.order (map member c.args.fields.now) c.args.start _ _ bytes c.loop-field.numbers.items (member f) (map member (drop (n + 1) c.args.fields.now)) c.loop-field.at c.in_ok-number.number
+          (g.met.S.Space.whole c.args.space.now) i.keeps known c.in_ok-number.ensures.inside c.in_ok-number.ensures.value
+          (i.so_far bytes known ∙ ap (λ ms. fields_before c.loop-field.numbers.items (fields_outcome c.args.order (bits_of bytes) ms c.loop-field.at)) (ap (map member) d)));
+    }
 
 pub returns-clause-value : goal.returns-clause-value
 returns-clause-value g c =

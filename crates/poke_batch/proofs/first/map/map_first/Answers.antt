@@ -1,6 +1,6 @@
-use Rattle.std.proofs.Common.{◌≡◌, ◌+◌, ◌*◌, ◌≤◌, map, refl, rules, arith, sym, ◌∙◌}
+use Rattle.std.proofs.Common.{◌≡◌, ◌+◌, refl, rules, arith}
 use Rattle.std.proofs.lemmas.Result.{err_from_is_err_and}
-use Rattle.poke_batch.specs.First.View.{member, members_of}
+use Rattle.poke_batch.specs.First.View.{members_of}
 use Rattle.poke_batch.proofs.Outcomes.{past_ends, no_step, struct_stops, struct_done}
 use Rattle.poke_batch.proofs.first.map.map_first.Goals as goal
 

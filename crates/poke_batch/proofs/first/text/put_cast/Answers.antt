@@ -1,7 +1,5 @@
-use Rattle.std.proofs.Common.{◌++◌, [], codes, decimal, rules, ◌≡◌}
-use Rattle.std.specs.Io.KnownBytes.{Appends}
+use Rattle.std.proofs.Common.{◌++◌, [], codes, decimal}
 use Rattle.std.proofs.lemmas.Result.{err_from_is_err_and}
-use Rattle.poke_batch.specs.Written.{AppendsPart}
 use Rattle.poke_batch.proofs.Parts.{part_first, part_next}
 use Rattle.poke_batch.proofs.first.text.put_cast.Goals as goal
 

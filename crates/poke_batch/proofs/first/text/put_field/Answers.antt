@@ -1,4 +1,4 @@
-use Rattle.std.proofs.Common.{◌++◌, codes}
+use Rattle.std.proofs.Common.{codes}
 use Rattle.std.proofs.lemmas.Result.{err_from_is_err_and}
 use Rattle.poke_batch.specs.First.Text.{comma, number_text}
 use Rattle.poke_batch.proofs.Parts.{part_first, part_next}

@@ -1,4 +1,4 @@
-use Rattle.std.proofs.Common.{true, map, drop, get_or, subst, arith}
+use Rattle.std.proofs.Common.{true, map, get_or, subst}
 use Rattle.std.proofs.lemmas.Result.{err_from_is_err_and}
 use Rattle.poke_batch.specs.First.Text.{field_text, fields_text}
 use Rattle.poke_batch.specs.First.View.{member}

@@ -1,4 +1,4 @@
-use Rattle.std.proofs.Common.{◌++◌, true, codes}
+use Rattle.std.proofs.Common.{true, codes}
 use Rattle.std.proofs.lemmas.Result.{err_from_is_err_and}
 use Rattle.poke_batch.specs.First.Text.{fields_text}
 use Rattle.poke_batch.specs.First.View.{name_of, members_of, numbers_of}
