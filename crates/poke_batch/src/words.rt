@@ -12,7 +12,7 @@ use crate::offset_word::offset_word;
 use bit_space::Order;
 use clap::ArgMatches;
 use clap::error::ErrorKind;
-use commands::{DEFAULT_LIMIT, program};
+use commands::{DEFAULT_LIMIT, PROGRAM, program};
 use std::alloc::{AllocError, Global};
 use thiserror::Error;
 
@@ -84,10 +84,21 @@ pub fn read_words(alloc: Global, words: Vec<String>) -> Result<Job, WordFault>
         let pickle = String::from_str(alloc, "-")?;
         return Ok(Job::Check { pickle });
     }
-    match program(alloc)?.try_get_matches_from(words.as_slice()) {
+    let named = after_name(alloc, words.as_slice())?;
+    match program(alloc)?.try_get_matches_from(named.as_slice()) {
         Ok(matches) => read_command(alloc, &matches),
         Err(error) => Err(told(alloc, &error)),
     }
+}
+
+// The words after the program's name, which clap's texts show.
+fn after_name<'a>(alloc: Global, words: &'a [String]) -> Result<Vec<&'a str>, AllocError> {
+    let mut named = Vec::new(alloc);
+    named.push(PROGRAM)?;
+    for word in words {
+        named.push(word.as_str())?;
+    }
+    Ok(named)
 }
 
 fn told(alloc: Global, error: &clap::Error) -> WordFault {

@@ -25,7 +25,11 @@ fn main(rt: HostRuntime) -> ExitCode {
         Err(fault) => tell_words(fault, &mut rt.stdout(), &mut rt.stderr(), &mut line),
     };
     let told = put(&mut rt.stderr(), line.as_slice());
-    let status = if told.is_ok() { status } else { Status::Outside };
+    let status = if told.is_ok() {
+        status
+    } else {
+        Status::Outside
+    };
     ExitCode::from(status as u8)
 }
 

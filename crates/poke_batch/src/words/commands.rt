@@ -3,6 +3,9 @@ use clap::builder::ValueParser;
 use clap::{Arg, ArgAction, Command};
 use std::alloc::{AllocError, Global};
 
+/// The program's name, by which it is installed.
+pub const PROGRAM: &str = "poke_batch";
+
 /// The steps that a mapping may take where no limit is given.
 pub const DEFAULT_LIMIT: u64 = 1_000_000_000;
 
@@ -77,10 +80,9 @@ Statuses:
 
 /// The program with its commands.
 pub fn program<'a>(alloc: Global) -> Result<Command<'a>, AllocError> {
-    Command::new(alloc, "poke_batch")
+    Command::new(alloc, PROGRAM)
         .about("Maps the types of GNU poke pickles over files and prints the values")
         .after_help(PROGRAM_HELP)
-        .no_binary_name(true)
         .subcommand_required(true)
         .subcommand(map(alloc)?)?
         .subcommand(bound(alloc)?)?

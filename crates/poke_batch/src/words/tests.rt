@@ -194,7 +194,7 @@ fn helps(rt: HostRuntime) -> Result<(), Fail> {
         (["-h"].as_slice(), ["Statuses:", "map", "dump"]),
         (
             ["map", "--help"].as_slice(),
-            ["Statuses:", "[default: 0#b]", "[default: big]"],
+            ["Usage: poke_batch map", "[default: 0#b]", "[default: big]"],
         ),
         (
             ["bound", "--help"].as_slice(),
