@@ -5,3 +5,4 @@ pub mod Declarations
 pub mod Outcomes
 pub mod Texts
 pub mod Sayings
+mod Rows
