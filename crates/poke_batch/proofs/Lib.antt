@@ -8,3 +8,4 @@ pub mod Declarations
 pub mod Outcomes
 pub mod Texts
 pub mod Sayings
+mod Rows

@@ -1,18 +1,20 @@
 -- Laws of what a struct means, and of a mapping that has come some way.
-use Rattle.std.proofs.Common.{◌≡◌, ◌⊎◌, ℕ, ◌+◌, ◌*◌, ◌<◌, ◌≤◌, List, [], ◌∷◌, ◌++◌, Some, Result, Ok, Err, true, false, length, refl, sym, ◌∙◌, ap, arith, inl, inr}
+use Rattle.std.proofs.Common.{◌≡◌, ◌⊎◌, ℕ, ◌+◌, ◌*◌, ◌<◌, ◌≤◌, List, [], ◌∷◌, ◌++◌, Some, Result, Ok, Err, true, false, length, refl, sym, ◌∙◌, ap, arith, inl, inr, map, drop, get_or}
 use Rattle.std.specs.Prelude.{nat_le, slice_range, option_map}
 use Rattle.std.proofs.lemmas.Bool.{le-leb, lt-leb, cases_lt}
-use Rattle.std.proofs.lemmas.List.{append-nil}
+use Rattle.std.proofs.lemmas.List.{append-nil, drop_more}
 use Rattle.bit_space.specs.declared.order.Order.{Order}
 use Rattle.bit_space.specs.Bits.{bits_of, number}
 use Rattle.bit_space.specs.SpaceView.{SpaceView, IsWhole, Keeps, known_bits}
 use Rattle.bit_space.specs.Reading.{MayRead}
 use Rattle.bit_space.proofs.Digits.{length-bits_of}
+use Rattle.poke_batch.specs.declared.first.field.Field.{Field}
 use Rattle.poke_batch.specs.declared.first.map.FirstFault.{FirstFault}
 use Rattle.poke_batch.specs.declared.first.map.FirstFault.TheVariants.{End, Limit, Device, Memory}
 use Rattle.poke_batch.specs.First.Declared.{Member}
 use Rattle.poke_batch.specs.First.Outcome.{Outcome, number_more, field_more, fields_outcome, struct_outcome, struct_of, struct_made, Completes, RunsOut, BreaksOff, Stops}
 use Rattle.poke_batch.specs.First.Reading.{IsFieldFault}
+use Rattle.poke_batch.specs.First.View.{member}
 
 -- an outcome after some fields whose numbers are known
 abbrev pub fields_before : List ℕ → Outcome → Outcome
@@ -203,3 +205,11 @@ struct_done order fields at view bytes ns limit limit1 k k1 j j1 k2 j2 k' j' who
       made = omega (arith, s.made, ej, ej', m);
       within = omega (arith, s.within, el, ek');
     })
+
+-- the fields from a place on are the one there and those after it
+pub fields_from : (fields : List Field) (n : ℕ) (field : Field) → n < length fields → field ≡ get_or fields n field → map member (drop n fields) ≡ member field ∷ map member (drop (n + 1) fields)
+fields_from fields n field lt is = ap (map member) (drop_more fields n field lt ∙ ap (λ f. f ∷ drop (n + 1) fields) (sym is))
+
+pub so_far_from : (order : Order) (bits ns : List ℕ) (o : Outcome) (rest : List Member) (field : Member) (fields : List Member) (at : ℕ)
+    → o ≡ fields_before ns (fields_outcome order bits rest at) → rest ≡ field ∷ fields → o ≡ fields_before ns (fields_outcome order bits (field ∷ fields) at)
+so_far_from order bits ns o rest field fields at e d = e ∙ ap (λ ms. fields_before ns (fields_outcome order bits ms at)) d

@@ -1,10 +1,10 @@
-use Rattle.std.proofs.Common.{◌≡◌, ◌+◌, [], ◌∷◌, ◌++◌, map, drop, rules, arith, sym, ◌∙◌, ap}
-use Rattle.std.proofs.lemmas.List.{drop_more, length-append, drop_all}
+use Rattle.std.proofs.Common.{◌≡◌, ◌+◌, [], ◌∷◌, ◌++◌, map, drop, rules, arith, ◌∙◌, ap}
+use Rattle.std.proofs.lemmas.List.{length-append, drop_all}
 use Rattle.std.proofs.lemmas.Result.{err_from_is_err_and}
 use Rattle.bit_space.specs.Bits.{bits_of}
 use Rattle.poke_batch.specs.First.Outcome.{fields_outcome}
 use Rattle.poke_batch.specs.First.View.{member}
-use Rattle.poke_batch.proofs.Outcomes.{fields_before, further, fields_done, field_stops, field_unkept, Keeps-trans}
+use Rattle.poke_batch.proofs.Outcomes.{further, fields_done, field_stops, field_unkept, Keeps-trans, fields_from, so_far_from}
 use Rattle.poke_batch.proofs.first.map.map_fields.Goals as goal
 
 pub loop-field-preserved : goal.loop-field-preserved
@@ -14,7 +14,7 @@ loop-field-preserved g c =
     let f = c.field-item.result in
     let e : c.push.new.self.items ≡ c.loop-field.numbers.items ++ c.in_ok-number.number ∷ [] = search rules in
     let l = length-append c.loop-field.numbers.items (c.in_ok-number.number ∷ []) in
-    let d : drop n c.args.fields.now ≡ f ∷ drop (n + 1) c.args.fields.now = drop_more c.args.fields.now n f c.loop-field-test.true ∙ ap (λ x. x ∷ drop (n + 1) c.args.fields.now) (sym c.field-item.is) in
+    let d = fields_from c.args.fields.now n f c.loop-field-test.true c.field-item.is in
     record {
       keeps = Keeps-trans _ _ _ i.keeps c.map_field.ensures.keeps;
       limit = c.note_made.ensures.limit ∙ c.map_field.ensures.limit ∙ i.limit;
@@ -25,7 +25,7 @@ loop-field-preserved g c =
       so_far = λ bytes known.
           rw (e, c.from-at.ensures) (further c.args.order (map member c.args.fields.now) c.args.start _ _ bytes c.loop-field.numbers.items (member f) (map member (drop (n + 1) c.args.fields.now)) c.loop-field.at c.in_ok-number.number
           (g.met.S.Space.whole c.args.space.now) i.keeps known c.in_ok-number.ensures.inside c.in_ok-number.ensures.value
-          (i.so_far bytes known ∙ ap (λ ms. fields_before c.loop-field.numbers.items (fields_outcome c.args.order (bits_of bytes) ms c.loop-field.at)) (ap (map member) d)));
+          (so_far_from c.args.order (bits_of bytes) c.loop-field.numbers.items _ _ (member f) (map member (drop (n + 1) c.args.fields.now)) c.loop-field.at (i.so_far bytes known) d));
     }
 
 pub returns-clause-value : goal.returns-clause-value
@@ -41,24 +41,24 @@ returns-in_err-number-clause-fault g c =
     let i = c.loop-field.invariant in
     let n = c.loop-field.field-index in
     let f = c.field-item.result in
-    let d : drop n c.args.fields.now ≡ f ∷ drop (n + 1) c.args.fields.now = drop_more c.args.fields.now n f c.loop-field-test.true ∙ ap (λ x. x ∷ drop (n + 1) c.args.fields.now) (sym c.field-item.is) in
+    let d = fields_from c.args.fields.now n f c.loop-field-test.true c.field-item.is in
     let p = err_from_is_err_and c.from_residual.result c.from_residual.ensures.1 in
     rw (p.1, p.2)
     (λ bytes known.
     field_stops c.args.order (map member c.args.fields.now) c.args.start _ _ _ bytes c.loop-field.numbers.items (member f) (map member (drop (n + 1) c.args.fields.now)) c.loop-field.at c.in_err-number.field-0.0 c.args.meter.now.limit c.loop-field.meter.limit c.args.meter.now.steps c.args.meter.now.made c.loop-field.meter.steps c.map_field.new.meter.steps c.map_field.new.meter.made
     (g.met.S.Space.whole c.args.space.now) i.keeps known
-    (i.so_far bytes known ∙ ap (λ ms. fields_before c.loop-field.numbers.items (fields_outcome c.args.order (bits_of bytes) ms c.loop-field.at)) (ap (map member) d))
-    i.limit i.steps (c.map_field.ensures.made ∙ i.made) (omega (arith, i.limit, c.map_field.ensures.limit)) c.in_err-number.ensures.fault)
+    (so_far_from c.args.order (bits_of bytes) c.loop-field.numbers.items _ _ (member f) (map member (drop (n + 1) c.args.fields.now)) c.loop-field.at (i.so_far bytes known) d)
+    i.limit i.steps (omega (arith, c.map_field.ensures.made, i.made)) (omega (arith, i.limit, c.map_field.ensures.limit)) c.in_err-number.ensures.fault)
 
 pub returns-in_err-push-clause-fault : goal.returns-in_err-push-clause-fault
 returns-in_err-push-clause-fault g c =
     let i = c.loop-field.invariant in
     let n = c.loop-field.field-index in
     let f = c.field-item.result in
-    let d : drop n c.args.fields.now ≡ f ∷ drop (n + 1) c.args.fields.now = drop_more c.args.fields.now n f c.loop-field-test.true ∙ ap (λ x. x ∷ drop (n + 1) c.args.fields.now) (sym c.field-item.is) in
+    let d = fields_from c.args.fields.now n f c.loop-field-test.true c.field-item.is in
     let p = err_from_is_err_and c.from_residual-in_err-push.result c.from_residual-in_err-push.ensures.1 in
     rw (p.1, p.2)
     (λ bytes known.
     field_unkept c.args.order (map member c.args.fields.now) c.args.start bytes c.loop-field.numbers.items (member f) (map member (drop (n + 1) c.args.fields.now)) c.loop-field.at c.args.meter.now.limit c.args.meter.now.steps c.args.meter.now.made c.map_field.new.meter.steps c.map_field.new.meter.made
-    (i.so_far bytes known ∙ ap (λ ms. fields_before c.loop-field.numbers.items (fields_outcome c.args.order (bits_of bytes) ms c.loop-field.at)) (ap (map member) d))
-    (omega (arith, i.steps, c.in_ok-number.ensures.steps)) (c.map_field.ensures.made ∙ i.made) (omega (arith, i.limit, c.map_field.ensures.limit)))
+    (so_far_from c.args.order (bits_of bytes) c.loop-field.numbers.items _ _ (member f) (map member (drop (n + 1) c.args.fields.now)) c.loop-field.at (i.so_far bytes known) d)
+    (omega (arith, i.steps, c.in_ok-number.ensures.steps)) (omega (arith, c.map_field.ensures.made, i.made)) (omega (arith, i.limit, c.map_field.ensures.limit)))
