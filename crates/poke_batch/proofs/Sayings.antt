@@ -1,0 +1,38 @@
+-- Laws of what a run says.
+use Rattle.std.proofs.Common.{◌≡◌, ◌%◌, ◌<◌, sym, subst, arith, ℕ, List, Option, Result, Ok, Err, inl, inr}
+use Rattle.std.specs.Prelude.{OnOk, OnErr, codes}
+use Rattle.std.specs.Io.KnownBytes.{Appends, Keeps}
+use Rattle.std.proofs.KnownBytes.{Keeps-refl}
+use Rattle.poke_batch.specs.declared.status.Status.{Status}
+use Rattle.poke_batch.specs.declared.status.Status.TheVariants.{Done, Outside}
+use Rattle.poke_batch.specs.declared.write.WriteFault.{WriteFault}
+use Rattle.poke_batch.specs.Lines.{fault_line}
+use Rattle.poke_batch.specs.Written.{AppendsPart}
+use Rattle.poke_batch.specs.First.Declared.{Member, Declares}
+use Rattle.poke_batch.specs.First.Outcome.{Outcome, Completes, RunsOut}
+use Rattle.poke_batch.specs.Runs.{IsAsked, IsWithin}
+use Rattle.poke_batch.specs.Told.{Saying, Text, Line, IsTold, Says, AppendsUpTo}
+
+-- a run that told a line
+pub line_says : (IsRight : Saying → Type 0) (line_status : Status) (line : List ℕ) (status : Status) (out err err' : Option (List ℕ))
+    → IsRight (Line line_status line) → IsTold line_status line status err err' → Says IsRight status out out err err'
+line_says IsRight line_status line status out err err' right told = record { saying = Line line_status line; right = right; said = (Keeps-refl out, told) }
+
+-- a run that wrote a text, or a part of it
+pub text_says : (IsRight : Saying → Type 0) (text : List ℕ) (status : Status) (out out' err err' : Option (List ℕ)) (written : Result (Unit {0}) WriteFault)
+    → IsRight (Text text) → OnOk written (Appends out out' text) → OnErr written (AppendsPart out out' text)
+    → OnOk written ((status ≡ Done) × Keeps err err') → OnErr written ((status ≡ Outside) × AppendsUpTo err err' (fault_line (codes "Write")))
+    → Says IsRight status out out' err err'
+text_says IsRight text status out out' err err' (Ok u) right whole part done failed = record { saying = Text text; right = right; said = inl (done.0, whole, done.1) }
+text_says IsRight text status out out' err err' (Err e) right whole part done failed = record { saying = Text text; right = right; said = inr (failed.0, part, failed.1) }
+
+pub asked : {pickle name declared : List ℕ} {members : List Member} {start : ℕ} → name ≡ declared → Declares pickle declared members → start % 8 ≡ 0 → IsAsked pickle name members start
+asked {pickle} {name} {declared} {members} {start} e d whole = record { declared = subst (λ n. Declares pickle n members) (sym e) d; bytes = whole }
+
+-- a call that began with no step taken completed within the limit
+pub within : {o : Outcome} {result : Result (List ℕ) ℕ} {limit limit1 k j k' j' : ℕ} → Completes o result limit1 k j k' j' → k ≡ 0 → limit1 ≡ limit → IsWithin o result limit
+within c none same = record { outcome = c.outcome; steps = omega (arith, c.steps, c.within, none, same) }
+
+-- one that ran out takes more steps than the limit
+pub beyond : {o : Outcome} {limit limit1 k j k' j' : ℕ} → RunsOut o limit1 k j k' j' → k ≡ 0 → limit1 ≡ limit → limit < o.steps
+beyond r none same = omega (arith, r.more, none, same)

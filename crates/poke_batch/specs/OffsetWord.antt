@@ -1,0 +1,20 @@
+-- Offsets as words of a command line.
+use Rattle.std.specs.Prelude.{◌≡◌, ℕ, ◌*◌, ◌≤◌, List, ◌∷◌, ◌++◌, ◌⊎◌, codes}
+use Rattle.std.specs.Str.Parse.{IsNumeral, digits_value}
+
+-- a unit of so many bits: `b`, `B`, or their number in decimal digits
+abbrev pub IsUnit : List ℕ → ℕ → Type 0
+IsUnit unit bits =
+    ((unit ≡ codes "b") × (bits ≡ 1))
+    ⊎ (((unit ≡ codes "B") × (bits ≡ 8))
+    ⊎ (IsNumeral 10 unit × (digits_value 10 unit ≡ bits) × (1 ≤ bits) × (bits ≤ 4294967295)))
+
+-- a word that names so many bits: a magnitude in decimal digits, `#` (byte 35), and the unit that it counts
+pub record IsOffsetWord (word : List ℕ) (bits : ℕ) : Type 0 where
+  pub magnitude : List ℕ
+  pub unit : List ℕ
+  pub unit_bits : ℕ
+  pub parts : word ≡ magnitude ++ 35 ∷ unit
+  pub number : IsNumeral 10 magnitude
+  pub counts : IsUnit unit unit_bits
+  pub product : digits_value 10 magnitude * unit_bits ≡ bits

@@ -1,0 +1,11 @@
+-- What words ask for.
+use Rattle.std.specs.Prelude.{◌≡◌, ℕ, List, string_bytes}
+use Rattle.poke_batch.specs.declared.words.Job.{Job}
+use Rattle.poke_batch.specs.declared.words.Job.TheVariants.{Map, Bound, Check, Dump}
+
+-- a check of the pickle with this name
+abbrev pub IsCheckOf : List ℕ → Job → Type 0
+IsCheckOf name (Map at order limit mode pickle type file) = ⊥
+IsCheckOf name (Bound pickle type bits) = ⊥
+IsCheckOf name (Check pickle) = string_bytes pickle ≡ name
+IsCheckOf name (Dump from size ruler file) = ⊥

@@ -1,0 +1,18 @@
+//! Maps the values that a pickle declares over a file's bits, and writes them as text.
+//!
+//! All output goes through one loop over the writer, [`write::put`]. Values and answers go to one writer, and refusals
+//! and faults, a line each, to another.
+#![tactic(auto)]
+
+pub mod ask;
+pub mod dump;
+pub mod first;
+pub mod lines;
+pub mod mode;
+pub mod offset_word;
+pub mod pickle;
+pub mod run;
+pub mod status;
+pub mod tell;
+pub mod words;
+pub mod write;

@@ -1,0 +1,189 @@
+//! The commands, their options, and the texts of their help.
+use clap::builder::ValueParser;
+use clap::{Arg, ArgAction, Command};
+use std::alloc::{AllocError, Global};
+
+/// The program's name, by which it is installed.
+pub const PROGRAM: &str = "poke_batch";
+
+/// The steps that a mapping may take where no limit is given.
+pub const DEFAULT_LIMIT: u64 = 1_000_000_000;
+
+const PROGRAM_HELP: &str = "\
+OFFSET is a number, # and a unit: b for bits, B for bytes, or a number of bits, as 8#b, 1#B or 2#4.
+
+Options of map:
+  --at OFFSET      where the value begins [default: 0#b]
+  --endian ORDER   byte order, big or little [default: big]
+  --limit N        the most steps of the mapping, 0 to 18446744073709551615 [default: 1000000000]
+  --mode MODE      how the value is written, flat [default: flat]
+
+Options of dump:
+  --from OFFSET    the first byte, in whole bytes [default: 0#B]
+  --size OFFSET    how much to dump at most, in whole bytes [default: 128#B]
+  --no-ruler       leave out the line above the bytes [default: it is written]
+
+Without words the program does `check -`.
+
+Example:
+  printf '\\001\\002\\003' > three.bin
+  echo 'type P = struct { uint<8> a; uint<16> b; };' | poke_batch map - P three.bin
+
+Statuses:
+  0  done
+  1  the mapping has a fault
+  2  refused: words, an offset, the pickle or the type's name
+  3  memory, a file, standard input or an output failed";
+
+const MAP_HELP: &str = "\
+OFFSET is a number, # and a unit: b for bits, B for bytes, or a number of bits, as 8#b, 1#B or 2#4.
+
+Example:
+  printf '\\001\\002\\003' > three.bin
+  echo 'type P = struct { uint<8> a; uint<16> b; };' | poke_batch map - P three.bin
+
+Statuses:
+  0  the value was written
+  1  the mapping has a fault, which is told with its place
+  2  refused: words, an offset, the pickle or the type's name
+  3  memory, a file, standard input or an output failed";
+
+const BOUND_HELP: &str = "\
+Example:
+  echo 'type P = struct { uint<8> a; uint<16> b; };' | poke_batch bound - P 24
+
+Statuses:
+  0  the two bounds were written
+  2  refused: words, the pickle or the type's name
+  3  memory, a file, standard input or an output failed";
+
+const CHECK_HELP: &str = "\
+Example:
+  echo 'type P = struct { uint<8> a; uint<16> b; };' | poke_batch check -
+
+Statuses:
+  0  the pickle is accepted, and the number of its types was written
+  2  refused: words or the pickle
+  3  memory, a file, standard input or an output failed";
+
+const DUMP_HELP: &str = "\
+OFFSET is a number, # and a unit: b for bits, B for bytes, or a number of bits, as 16#B or 2#4.
+
+Example:
+  printf 'Hello' > hello.bin
+  poke_batch dump --size 16#B hello.bin
+
+Statuses:
+  0  the bytes were written
+  2  refused: words or an offset
+  3  memory, a file or an output failed";
+
+/// The program with its commands.
+pub fn program<'a>(alloc: Global) -> Result<Command<'a>, AllocError> {
+    Command::new(alloc, PROGRAM)
+        .about("Maps the types of GNU poke pickles over files and prints the values")
+        .after_help(PROGRAM_HELP)
+        .subcommand_required(true)
+        .subcommand(map(alloc)?)?
+        .subcommand(bound(alloc)?)?
+        .subcommand(check(alloc)?)?
+        .subcommand(dump(alloc)?)
+}
+
+fn map<'a>(alloc: Global) -> Result<Command<'a>, AllocError> {
+    let orders = ["big", "little"].as_slice();
+    Command::new(alloc, "map")
+        .about("Maps a type over a file and prints the value")
+        .after_help(MAP_HELP)
+        .arg(offset(alloc, "at", "Where the value begins in FILE", "0#b"))?
+        .arg(option(alloc, "endian", "ORDER", "The byte order", "big").value_parser(orders))?
+        .arg(option(
+            alloc,
+            "limit",
+            "N",
+            "The most steps of the mapping, 0 to 18446744073709551615",
+            "1000000000",
+        )
+        .value_parser(clap::value_parser!(u64)))?
+        .arg(option(alloc, "mode", "MODE", "How the value is written", "flat").value_parser([
+            "flat",
+        ].as_slice()))?
+        .arg(pickle(alloc))?
+        .arg(name(alloc))?
+        .arg(file(alloc))
+}
+
+fn bound<'a>(alloc: Global) -> Result<Command<'a>, AllocError> {
+    let bits = Arg::new(alloc, "BITS")
+        .required(true)
+        .help("The size of a file in bits, 0 to 18446744073709551615")
+        .value_parser(clap::value_parser!(u64));
+    Command::new(alloc, "bound")
+        .about("Prints the most steps and slots that mapping a type over so many bits takes")
+        .after_help(BOUND_HELP)
+        .arg(pickle(alloc))?
+        .arg(name(alloc))?
+        .arg(bits)
+}
+
+fn check<'a>(alloc: Global) -> Result<Command<'a>, AllocError> {
+    Command::new(alloc, "check")
+        .about("Checks a pickle and prints the number of its types")
+        .after_help(CHECK_HELP)
+        .arg(pickle(alloc))
+}
+
+fn dump<'a>(alloc: Global) -> Result<Command<'a>, AllocError> {
+    let no_ruler = Arg::new(alloc, "no-ruler")
+        .long("no-ruler")
+        .action(ArgAction::SetTrue)
+        .help("Leave out the line above the bytes [default: it is written]");
+    Command::new(alloc, "dump")
+        .about("Prints the bytes of a file in hexadecimal digits and as text")
+        .after_help(DUMP_HELP)
+        .arg(offset(alloc, "from", "The first byte, in whole bytes", "0#B"))?
+        .arg(offset(
+            alloc,
+            "size",
+            "How much to dump at most, in whole bytes",
+            "128#B",
+        ))?
+        .arg(no_ruler)?
+        .arg(file(alloc))
+}
+
+fn option<'a>(
+    alloc: Global,
+    name: &'a str,
+    value: &'a str,
+    help: &'a str,
+    default: &'a str,
+) -> Arg<'a> {
+    Arg::new(alloc, name)
+        .long(name)
+        .value_name(value)
+        .help(help)
+        .default_value(default)
+}
+
+fn offset<'a>(alloc: Global, name: &'a str, help: &'a str, default: &'a str) -> Arg<'a> {
+    option(alloc, name, "OFFSET", help, default)
+}
+
+fn pickle<'a>(alloc: Global) -> Arg<'a> {
+    Arg::new(alloc, "PICKLE")
+        .required(true)
+        .help("The file of the pickle, or - for standard input")
+}
+
+fn name<'a>(alloc: Global) -> Arg<'a> {
+    Arg::new(alloc, "TYPE")
+        .required(true)
+        .help("The name of the type to map")
+}
+
+fn file<'a>(alloc: Global) -> Arg<'a> {
+    Arg::new(alloc, "FILE")
+        .required(true)
+        .help("The file of the bytes")
+}

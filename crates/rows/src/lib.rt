@@ -1,0 +1,15 @@
+//! Worked rows through the public calls, as tables in tests. Their values were worked out by hand.
+#![tactic(auto)]
+
+#[cfg(test)]
+mod declarations;
+#[cfg(test)]
+mod devices;
+#[cfg(test)]
+mod maps;
+#[cfg(test)]
+mod memory;
+#[cfg(test)]
+mod pickles;
+#[cfg(test)]
+mod streams;
