@@ -13,6 +13,7 @@ pub mod offset_word;
 pub mod pickle;
 pub mod run;
 pub mod status;
+pub mod syntax;
 pub mod tell;
 pub mod words;
 pub mod write;
