@@ -1,21 +1,20 @@
 -- Blanks and comments are cut by the rules.
-use Rattle.std.proofs.Common.{◌≡◌, ◌≢◌, ℕ, zero, suc, ◌+◌, ◌-◌, ◌<◌, ◌≤◌, Bool, true, false, cond, eqb, List, [], ◌∷◌, ◌++◌, length, take, drop, refl, sym, ap, ◌∙◌, subst, arith, inl, inr, ◌&&◌, Option, Some, None, Result, Ok, Err, append_assoc, length-append}
-use Rattle.std.specs.Prelude.{codes, ◌==◌, ◌⊎◌, slice_index, option_map}
+use Rattle.std.proofs.Common.{◌≡◌, ◌≢◌, ℕ, suc, ◌+◌, Bool, true, false, cond, eqb, List, [], ◌∷◌, ◌++◌, length, take, drop, refl, sym, ap, ◌∙◌, subst, arith, inl, inr, ◌&&◌, Option, Some, None, Ok, Err, append_assoc, length-append}
+use Rattle.std.specs.Prelude.{option_map}
 use Rattle.std.specs.List.{prefix_len}
 use Rattle.std.proofs.lemmas.Bool.{and_parts, eqb-true, cases_Bool, both_ways}
 use Rattle.std.proofs.lemmas.List.{take-append-drop}
 use Rattle.std.proofs.lemmas.List.Folds.{length-prefix_len}
 use Rattle.pickle_syntax.specs.declared.lexer.bytes.Class.TheVariants as class
-use Rattle.pickle_syntax.specs.declared.lexer.bytes.Start.TheVariants as start
 use Rattle.pickle_syntax.specs.declared.lexer.fault.LexFaultKind.TheVariants.{BadByte, Unclosed}
 use Rattle.pickle_syntax.specs.declared.token.Sign.TheVariants as sign
-use Rattle.pickle_syntax.specs.Tokens.{Token, Mark}
-use Rattle.pickle_syntax.specs.Bytes.{Fault, is_in, starts}
+use Rattle.pickle_syntax.specs.Tokens.{Mark}
+use Rattle.pickle_syntax.specs.Bytes.{Fault, is_in}
 use Rattle.pickle_syntax.specs.Words.{Cut}
 use Rattle.pickle_syntax.specs.Signs.{sign_piece, single_sign}
 use Rattle.pickle_syntax.specs.Blanks.{ends_block, block_len, block_piece, slash_piece}
 use Rattle.pickle_syntax.specs.Lexing.{piece_at}
-use Rattle.pickle_syntax.specs.Pieces.{AllIn, begins, IsBlank, IsLineComment, IsBlockComment, IsPiece, MayPrecede, IsFaultAt, InComment, Elsewhere}
+use Rattle.pickle_syntax.specs.Pieces.{IsBlank, IsLineComment, IsBlockComment, IsFaultAt, InComment, Elsewhere}
 use Rattle.pickle_syntax.proofs.Classes.{run_reaches, run_all, starts_blank}
 use Rattle.pickle_syntax.proofs.Cuts.{Cuts, Reaches}
 use Rattle.pickle_syntax.proofs.SignLaws.{sign_piece_cuts, sign_piece_fails, single_reaches}
@@ -95,11 +94,11 @@ block_reads (b ∷ inner) after first =
     misses : (b : ℕ) (inner after : List ℕ) → FirstEnd (b ∷ inner) → ends_block (b ∷ inner ++ 42 ∷ 47 ∷ after) 0 ≡ false
     misses b [] after first = elim (eqb b 42) as (λ t. (t && false) ≡ false) [ true ↦ refl | false ↦ refl ]
     misses b (c ∷ inner) after first = elim (cases_Bool (ends_block (b ∷ c ∷ inner ++ 42 ∷ 47 ∷ after) 0)) [
-        | inl hit ↦ (let both = pairs b c (inner ++ 42 ∷ 47 ∷ after) hit in
-            let e : inner ++ 42 ∷ 47 ∷ [] ≡ [] = first [] (inner ++ 42 ∷ 47 ∷ []) (rw (both.0, both.1) refl) in
-            absurd (omega (arith, simp length-append at (ap length e))))
-        | inr miss ↦ miss
-      ]
+      | inl hit ↦ (let both = pairs b c (inner ++ 42 ∷ 47 ∷ after) hit in
+          let e : inner ++ 42 ∷ 47 ∷ [] ≡ [] = first [] (inner ++ 42 ∷ 47 ∷ []) (rw (both.0, both.1) refl) in
+          absurd (omega (arith, simp length-append at (ap length e))))
+      | inr miss ↦ miss
+    ]
 
 -- what a slash cuts
 line_cuts : (rest : List ℕ) (cut : Cut) → (None, 2 + prefix_len (is_in class.Line) rest) ≡ cut → Cuts cut (47 ∷ 47 ∷ rest)
@@ -157,6 +156,20 @@ slash_fails at (c ∷ rest) f is = by (eqb c 47) (eqb c 42) refl refl is
     by true u et eu e = absurd cc
     by false true et eu e = InComment rest (rw (eqb-true c 42 eu) refl) (block_fails at (block_len rest) f e)
     by false false et eu e = Elsewhere 47 (c ∷ rest) refl (omega arith) (λ e. omega (arith, e)) (no_block (c ∷ rest) (λ more f. (let g : c ≡ 42 = cc in let h : eqb c 42 ≡ true = rw g refl in cc))) (sign_piece_fails at 47 (c ∷ rest) f e)
+
+pub open_comment_bad : (at : ℕ) (rest : List ℕ) (f : Fault) → slash_piece at (42 ∷ rest) ≡ Err f → f ≡ (Unclosed, at)
+unfolding slash_piece
+open_comment_bad at rest f is = block_fails at (block_len rest) f is
+
+pub slash_bad : (at : ℕ) (rest : List ℕ) (f : Fault) → ((more : List ℕ) → 47 ∷ rest ≢ 47 ∷ 42 ∷ more) → slash_piece at rest ≡ Err f → f ≡ (BadByte, at)
+unfolding slash_piece
+slash_bad at [] f none is = sign_piece_fails at 47 [] f is
+slash_bad at (c ∷ rest) f none is = by (eqb c 47) (eqb c 42) refl refl is
+  where
+    by : (t u : Bool) → eqb c 47 ≡ t → eqb c 42 ≡ u → cond t (Ok (None, 2 + prefix_len (is_in class.Line) rest)) (cond u (block_piece at (block_len rest)) (sign_piece at 47 (c ∷ rest))) ≡ Err f → f ≡ (BadByte, at)
+    by true u et eu e = absurd cc
+    by false true et eu e = absurd (none rest (rw (eqb-true c 42 eu) refl))
+    by false false et eu e = sign_piece_fails at 47 (c ∷ rest) f e
 
 -- a comment at the front is cut
 line_reads : (at : ℕ) (rest : List ℕ) → piece_at at (47 ∷ 47 ∷ rest) ≡ Ok (None, 2 + prefix_len (is_in class.Line) rest)

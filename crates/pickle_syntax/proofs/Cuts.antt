@@ -1,5 +1,5 @@
 -- What it is to cut by the rules.
-use Rattle.std.proofs.Common.{◌≡◌, ℕ, ◌≤◌, List, ◌++◌, length, Option, Result, Ok, Err}
+use Rattle.std.proofs.Common.{◌≡◌, ℕ, ◌≤◌, List, ◌++◌, length, Option, Result, Ok}
 use Rattle.pickle_syntax.specs.Tokens.{Token}
 use Rattle.pickle_syntax.specs.Bytes.{Fault}
 use Rattle.pickle_syntax.specs.Words.{Cut}

@@ -31,7 +31,7 @@ lexed_skips zero at (b ∷ rest) = let e : at + 0 ≡ at = omega arith in rw e r
 lexed_skips (suc left) at (b ∷ rest) = let e : at + suc left ≡ at + 1 + left = omega arith in rw e (lexed_skips left (at + 1) rest)
 
 -- one piece on
-piece_on : (at len : ℕ) (o : Option Token) (bytes : List ℕ) → 1 ≤ len → len ≤ length bytes → piece_at at bytes ≡ Ok (o, len) → lexed_from 0 at bytes ≡ with_piece at (o, len) (lexed_from 0 (at + len) (drop len bytes))
+pub piece_on : (at len : ℕ) (o : Option Token) (bytes : List ℕ) → 1 ≤ len → len ≤ length bytes → piece_at at bytes ≡ Ok (o, len) → lexed_from 0 at bytes ≡ with_piece at (o, len) (lexed_from 0 (at + len) (drop len bytes))
 unfolding lexed_from
 piece_on at len o [] some low is = absurd (omega arith)
 piece_on at zero o (b ∷ rest) some low is = absurd (omega arith)

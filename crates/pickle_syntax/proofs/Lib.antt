@@ -23,3 +23,5 @@ pub mod TextLaws
 pub mod Letters
 pub mod NumberLaws
 pub mod Parsed
+pub mod PieceLaws
+pub mod LexedLaws

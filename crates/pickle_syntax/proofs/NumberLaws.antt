@@ -1,12 +1,11 @@
 -- Numbers are cut by the rules.
-use Rattle.std.proofs.Common.{◌≡◌, ◌≢◌, ℕ, zero, suc, ◌+◌, ◌-◌, ◌<◌, ◌≤◌, Bool, true, false, cond, eqb, ltb, List, [], ◌∷◌, ◌++◌, length, take, drop, get_or, refl, sym, ap, ◌∙◌, subst, arith, inl, inr, not, ◌||◌, ◌&&◌, Option, Some, None, Result, Ok, Err, append_assoc, length-append}
-use Rattle.std.specs.Prelude.{codes, ◌⊎◌, ◌==◌, slice_index}
+use Rattle.std.proofs.Common.{◌≡◌, ℕ, suc, ◌+◌, ◌<◌, ◌≤◌, Bool, true, false, cond, ltb, List, [], ◌∷◌, ◌++◌, length, take, drop, get_or, refl, sym, ap, ◌∙◌, subst, arith, inl, inr, not, ◌||◌, ◌&&◌, Option, Some, None, Result, Ok, Err, append_assoc, length-append}
+use Rattle.std.specs.Prelude.{◌⊎◌, ◌==◌, slice_index}
 use Rattle.std.specs.List.{prefix_len}
 use Rattle.std.proofs.lemmas.List.{get_or-drop, take-append-drop}
 use Rattle.std.proofs.lemmas.List.Folds.{length-prefix_len}
 use Rattle.std.proofs.Math.Seq.{drop-append_seam, take-append_seam}
-use Rattle.std.proofs.lemmas.Bool.{eqb-true, eqb-false, ne_eqb, lt-ltb, ltb-true, cases_Bool, and_parts, or_cases, or_parts, cases_eq, both_ways, and_left, and_right}
-use Rattle.std.proofs.lemmas.Bool.Decides.{nat_tests}
+use Rattle.std.proofs.lemmas.Bool.{eqb-true, ne_eqb, lt-ltb, ltb-true, cases_Bool, and_parts, or_cases, cases_eq, and_left, and_right}
 use Rattle.pickle_syntax.specs.declared.lexer.bytes.Class.TheVariants as class
 use Rattle.pickle_syntax.specs.declared.lexer.fault.LexFaultKind.TheVariants.{BadNumber}
 use Rattle.pickle_syntax.specs.declared.lexer.numbers.Suffix as code
@@ -16,7 +15,7 @@ use Rattle.pickle_syntax.specs.Numbers.{Read, base_of, start_of, value_after, wi
 use Rattle.pickle_syntax.specs.Pieces.{AllIn, begins, Suffix, NoSuffix, SignLetter, WidthLetter, SignAndWidth, WidthAndSign, suffix_bytes, suffix_signed, suffix_width, width_for, IsSuffix, IsPrefix, Decimal, Hexadecimal, Octal, Binary, IsNumber}
 use Rattle.pickle_syntax.proofs.Classes.{run_is, run_all, run_stops}
 use Rattle.pickle_syntax.proofs.Chains.{chosen}
-use Rattle.pickle_syntax.proofs.Letters.{word_sign, word_width, word_digit, word_bit, width_sign, word_x, word_o, word_b, digit_x, digit_o, digit_b, sign_x, sign_o, sign_b, sign_bit, width_x, width_o, after_sign, after_width, after_word}
+use Rattle.pickle_syntax.proofs.Letters.{word_digit, word_bit, width_sign, word_x, word_o, word_b, digit_x, digit_o, digit_b, sign_x, sign_o, sign_b, sign_bit, width_x, width_o, after_sign, after_width, after_word}
 
 -- the width that a suffix names, or 0
 width_or_none : Option ℕ → ℕ
@@ -87,7 +86,7 @@ digits_read at base start digits s after n low all ends is apart ev es ew held =
     let tail = suffix_bytes s ++ after in
     let len : length digits ≡ prefix_len (is_in (class.Digit base)) (digits ++ tail) = sym (run_is (class.Digit base) digits tail all (no_digits base s after low ends apart)) in
     let joined : digits_at at base start (digits ++ tail) ≡ checked at (value_after base 0 digits) (written s) (start + length digits) (slice_index after 0) =
-        digits_join at base start (digits ++ tail) tail (length digits) (value_after base 0 digits) (written s) (slice_index after 0) len (sym (drop-append_seam digits tail)) (sym (suffix_reads s after is apart)) (ap (value_after base 0) (sym (take-append_seam digits tail))) (sym (byte_behind (suffix_bytes s) after)) in
+    digits_join at base start (digits ++ tail) tail (length digits) (value_after base 0 digits) (written s) (slice_index after 0) len (sym (drop-append_seam digits tail)) (sym (suffix_reads s after is apart)) (ap (value_after base 0) (sym (take-append_seam digits tail))) (sym (byte_behind (suffix_bytes s) after)) in
     let same : typed_number (value_after base 0 digits) s ≡ n = number_same n (value_after base 0 digits) s is ev es ew in
     let fits : has_value (suffix_signed s) (typed (value_after base 0 digits) (written s)) (value_after base 0 digits) ≡ true = ap (λ (m : Number). has_value m.signed m.width m.value) same ∙ held in
     joined ∙ checked_ok at (value_after base 0 digits) (written s) (start + length digits) (slice_index after 0) (after_word after apart) fits ∙ ap (λ (m : Number). Ok (m, start + length digits + length (suffix_bytes s))) same
@@ -175,11 +174,258 @@ number_reads at n front after k apart =
     let low = low_base k.base k.prefix k.prefixed in
     let all : AllIn (class.Digit k.base) digits = (digit_in k.base k.first k.digit, k.more) in
     let regroup : front ++ after ≡ k.prefix ++ k.first ∷ (k.digits ++ tail) =
-        ap (λ (l : List ℕ). l ++ after) k.written ∙ append_assoc (k.prefix ++ digits) (suffix_bytes k.suffix) after ∙ append_assoc k.prefix digits tail in
+    ap (λ (l : List ℕ). l ++ after) k.written ∙ append_assoc (k.prefix ++ digits) (suffix_bytes k.suffix) after ∙ append_assoc k.prefix digits tail in
     let size : length k.prefix + length digits + length (suffix_bytes k.suffix) ≡ length front =
-        omega (arith, ap length k.written, length-append (k.prefix ++ digits) (suffix_bytes k.suffix), length-append k.prefix digits) in
+    omega (arith, ap length k.written, length-append (k.prefix ++ digits) (suffix_bytes k.suffix), length-append k.prefix digits) in
     let none : k.base ≡ 10 → IsNoPrefix (slice_index (k.digits ++ tail) 0) (slice_index (k.digits ++ tail) 1) =
-        λ e. none_digits k.digits k.suffix after (subst (λ (b : ℕ). AllIn (class.Digit b) k.digits) e k.more) k.suffixed apart in
+    λ e. none_digits k.digits k.suffix after (subst (λ (b : ℕ). AllIn (class.Digit b) k.digits) e k.more) k.suffixed apart in
     rw regroup (prefix_reads at k.base k.prefix k.first (k.digits ++ tail) k.prefixed k.digit none
-      ∙ digits_read at k.base (length k.prefix) digits k.suffix after n low all k.ends k.suffixed apart k.value k.signed k.width k.held
-      ∙ ap (λ (m : ℕ). Ok (n, m)) size)
+    ∙ digits_read at k.base (length k.prefix) digits k.suffix after n low all k.ends k.suffixed apart k.value k.signed k.width k.held
+    ∙ ap (λ (m : ℕ). Ok (n, m)) size)
+
+-- a suffix at the front, the longest
+record SuffixFront (bytes : List ℕ) : Type 0 where
+  suffix : Suffix
+  more : List ℕ
+  whole : bytes ≡ suffix_bytes suffix ++ more
+  is : IsSuffix suffix
+  reads : suffix_at bytes ≡ written suffix
+
+above : (n : ℕ) → (n ≡ 0 → ⊥) → 0 < n
+above n h = omega (arith, h)
+
+suffix_front : (bytes : List ℕ) → SuffixFront bytes
+unfolding suffix_of width_or_none
+suffix_front [] = record { suffix = NoSuffix; more = []; whole = refl; is = tt; reads = refl }
+suffix_front (c ∷ []) = elim (cases_Bool (is_sign c)) [
+  | inl sign ↦ record { suffix = SignLetter c; more = []; whole = refl; is = sign; reads = rw sign refl }
+  | inr other ↦ elim (cases_eq (width_of c) 0) [
+    | inl none ↦ record { suffix = NoSuffix; more = c ∷ []; whole = refl; is = tt; reads = rw (other, none) refl }
+    | inr some ↦ record { suffix = WidthLetter c; more = []; whole = refl; is = above (width_of c) some; reads = rw (other, ne_eqb (width_of c) 0 some) refl }
+  ]
+]
+suffix_front (c ∷ d ∷ rest) = elim (cases_Bool (is_sign c)) [
+  | inl sign ↦ elim (cases_eq (width_of d) 0) [
+    | inl none ↦ record { suffix = SignLetter c; more = d ∷ rest; whole = refl; is = sign; reads = rw (sign, none) refl }
+    | inr some ↦ record { suffix = SignAndWidth c d; more = rest; whole = refl; is = (sign, above (width_of d) some); reads = rw (sign, ne_eqb (width_of d) 0 some) refl }
+  ]
+  | inr other ↦ elim (cases_eq (width_of c) 0) [
+    | inl none ↦ record { suffix = NoSuffix; more = c ∷ d ∷ rest; whole = refl; is = tt; reads = rw (other, none) refl }
+    | inr some ↦ elim (cases_Bool (is_sign d)) [
+      | inl sign ↦ record { suffix = WidthAndSign c d; more = rest; whole = refl; is = (above (width_of c) some, sign); reads = rw (other, ne_eqb (width_of c) 0 some, sign) refl }
+      | inr none ↦ record { suffix = WidthLetter c; more = d ∷ rest; whole = refl; is = above (width_of c) some; reads = rw (other, ne_eqb (width_of c) 0 some, none) refl }
+    ]
+  ]
+]
+
+-- what a number that was read says
+checked_is : (a b : Bool) (x y : Read) (f : Fault) → cond {A = Result Read Fault} (a || not b) (Err f) (Ok x) ≡ Ok y → (a ≡ false) × (b ≡ true) × (x ≡ y)
+checked_is true b x y f e = absurd cc
+checked_is false true x y f e = (refl, refl, cc)
+checked_is false false x y f e = absurd cc
+
+checked_bad : (a b : Bool) (x : Read) (f g : Fault) → cond {A = Result Read Fault} (a || not b) (Err f) (Ok x) ≡ Err g → f ≡ g
+checked_bad true b x f g e = cc
+checked_bad false true x f g e = absurd cc
+checked_bad false false x f g e = cc
+
+width_is : (n : Number) (value : ℕ) (s : Suffix) → IsSuffix s → typed_number value s ≡ n → n.width ≡ width_for (suffix_width s) n.signed n.value
+width_is n value s is e = subst (λ (m : Number). m.width ≡ width_for (suffix_width s) m.signed m.value) e (typed_is value s is)
+
+word_behind : (after : List ℕ) → is_in class.Word (slice_index after 0) ≡ false → begins class.Word after ≡ false
+word_behind [] e = refl
+word_behind (c ∷ after) e = e
+
+suffix_ends : (base : ℕ) (s : Suffix) (more : List ℕ) → begins (class.Digit base) (suffix_bytes s ++ more) ≡ false → begins (class.Digit base) (suffix_bytes s) ≡ false
+suffix_ends base NoSuffix more e = refl
+suffix_ends base (SignLetter u) more e = e
+suffix_ends base (WidthLetter w) more e = e
+suffix_ends base (SignAndWidth u w) more e = e
+suffix_ends base (WidthAndSign w u) more e = e
+
+-- the digits, the suffix and what follows, where a number was read
+record DigitsFront (base start len : ℕ) (n : Number) (digits run after : List ℕ) : Type 0 where
+  suffix : Suffix
+  more : List ℕ
+  whole : after ≡ suffix_bytes suffix ++ more
+  is : IsSuffix suffix
+  ends : begins (class.Digit base) (suffix_bytes suffix) ≡ false
+  apart : begins class.Word more ≡ false
+  value : n.value ≡ value_after base 0 run
+  signed : n.signed ≡ suffix_signed suffix
+  width : n.width ≡ width_for (suffix_width suffix) n.signed n.value
+  held : has_value n.signed n.width n.value ≡ true
+  size : start + length run + length (suffix_bytes suffix) ≡ len
+
+digits_front : (at base start : ℕ) (digits : List ℕ) (n : Number) (len : ℕ) → digits_at at base start digits ≡ Ok (n, len) → DigitsFront base start len n digits (take (prefix_len (is_in (class.Digit base)) digits) digits) (drop (prefix_len (is_in (class.Digit base)) digits) digits)
+digits_front at base start digits n len e =
+    let k = prefix_len (is_in (class.Digit base)) digits in
+    let run = take k digits in
+    let after = drop k digits in
+    let value = value_after base 0 run in
+    let f = suffix_front after in
+    let s = f.suffix in
+    let next : slice_index f.more 0 ≡ slice_index after (length (suffix_bytes s)) = sym (ap (λ (l : List ℕ). slice_index l (length (suffix_bytes s))) f.whole ∙ byte_behind (suffix_bytes s) f.more) in
+    let joined : digits_at at base start digits ≡ checked at value (written s) (start + k) (slice_index f.more 0) =
+    digits_join at base start digits after k value (written s) (slice_index f.more 0) refl refl (sym f.reads) refl next in
+    let both = checked_is (is_in class.Word (slice_index f.more 0)) (has_value (suffix_signed s) (typed value (written s)) value) (typed_number value s, start + k + length (suffix_bytes s)) (n, len) (BadNumber, at) (sym joined ∙ e) in
+    let same : typed_number value s ≡ n = ap (λ (x : Read). x.0) both.2 in
+    let long : start + k + length (suffix_bytes s) ≡ len = ap (λ (x : Read). x.1) both.2 in
+    let size : length run ≡ k = length-prefix_len (is_in (class.Digit base)) digits in
+    record {
+      suffix = s;
+      more = f.more;
+      whole = f.whole;
+      is = f.is;
+      ends = suffix_ends base s f.more (ap (begins (class.Digit base)) (sym f.whole) ∙ run_stops (class.Digit base) digits);
+      apart = word_behind f.more both.0;
+      value = sym (ap (λ (m : Number). m.value) same);
+      signed = sym (ap (λ (m : Number). m.signed) same);
+      width = width_is n value s f.is same;
+      held = ap (λ (m : Number). has_value m.signed m.width m.value) (sym same) ∙ both.1;
+      size = omega (arith, size, long);
+    }
+
+digits_bad : (at base start : ℕ) (digits : List ℕ) (f : Fault) → digits_at at base start digits ≡ Err f → f ≡ (BadNumber, at)
+digits_bad at base start digits f e =
+    let k = prefix_len (is_in (class.Digit base)) digits in
+    let s = suffix_at (drop k digits) in
+    let value = value_after base 0 (take k digits) in
+    sym (checked_bad (is_in class.Word (slice_index (drop k digits) s.len)) (has_value s.signed (typed value s) value) (record { value = value; width = typed value s; signed = s.signed }, start + k + s.len) (BadNumber, at) f e)
+
+pub number_bad : (at : ℕ) (bytes : List ℕ) (f : Fault) → number_at at bytes ≡ Err f → f ≡ (BadNumber, at)
+unfolding number_at
+number_bad at bytes f e = digits_bad at (base_of bytes) (start_of (base_of bytes)) (drop (start_of (base_of bytes)) bytes) f e
+
+-- the prefix at the front of bytes that begin with a digit
+record BaseFront (bytes : List ℕ) : Type 0 where
+  base : ℕ
+  prefix : List ℕ
+  first : ℕ
+  rest : List ℕ
+  whole : bytes ≡ prefix ++ first ∷ rest
+  is : base_of bytes ≡ base
+  start : start_of base ≡ length prefix
+  prefixed : IsPrefix base prefix
+  digit : digit_of first < base
+
+three : (b : ℕ) (rest : List ℕ) (k : ℕ) → k ≤ 16 → digit_of (slice_index (b ∷ rest) 2) < k → (r : List ℕ) × (b ∷ rest ≡ b ∷ slice_index (b ∷ rest) 1 ∷ slice_index (b ∷ rest) 2 ∷ r)
+three b [] k low h = absurd (omega (arith, h))
+three b (c ∷ []) k low h = absurd (omega (arith, h))
+three b (c ∷ d ∷ r) k low h = (r, refl)
+
+same_letter : (b : ℕ) (rest : List ℕ) (first x : ℕ) (r : List ℕ) → b ∷ rest ≡ b ∷ slice_index (b ∷ rest) 1 ∷ first ∷ r → b ≡ 48 → slice_index (b ∷ rest) 1 ≡ x → b ∷ rest ≡ 48 ∷ x ∷ first ∷ r
+same_letter b rest first x r e nought letter = e ∙ rw (letter, nought) refl
+
+not_not : (t : Bool) → not t ≡ false → t ≡ true
+not_not true e = refl
+not_not false e = absurd cc
+
+module _ (b : ℕ) (rest : List ℕ) where
+  abbrev whole_bytes : List ℕ
+  whole_bytes = b ∷ rest
+
+  abbrev second : ℕ
+  second = slice_index (b ∷ rest) 1
+
+  abbrev third : ℕ
+  third = slice_index (b ∷ rest) 2
+
+  letter_front : (base x : ℕ) → base ≤ 16 → base_of whole_bytes ≡ base → start_of base ≡ 2 → IsPrefix base (48 ∷ x ∷ []) → b ≡ 48 → second ≡ x → digit_of third < base → BaseFront whole_bytes
+  letter_front base x low is start prefixed nought letter digit =
+      let more = three b rest base low digit in
+      record { base = base; prefix = 48 ∷ x ∷ []; first = third; rest = more.0; whole = same_letter b rest third x more.0 more.1 nought letter; is = is; start = start; prefixed = prefixed; digit = digit }
+
+  plain_front : base_of whole_bytes ≡ 10 → digit_of b < 10 → BaseFront whole_bytes
+  plain_front is digit = record { base = 10; prefix = []; first = b; rest = rest; whole = refl; is = is; start = refl; prefixed = Decimal refl refl; digit = digit }
+
+  base_front : digit_of b < 10 → BaseFront whole_bytes
+  base_front digit =
+      elim (chosen (not (b == 48)) 10 _ (base_of whole_bytes) refl) [
+        | inl e ↦ plain_front (sym e.1) digit
+        | inr nought ↦ elim (chosen ((second == 120 || second == 88) && ltb (digit_of third) 16) 16 _ (base_of whole_bytes) nought.1) [
+          | inl e ↦ (let both = and_parts (second == 120 || second == 88) (ltb (digit_of third) 16) e.0 in
+              let d = ltb-true (digit_of third) 16 both.1 in
+              let z = eqb-true b 48 (not_not (b == 48) nought.0) in
+              elim (or_cases (second == 120) (second == 88) both.0) [
+                | inl x ↦ letter_front 16 120 (omega arith) (sym e.1) refl (Hexadecimal refl (inl refl)) z (eqb-true second 120 x) d
+                | inr x ↦ letter_front 16 88 (omega arith) (sym e.1) refl (Hexadecimal refl (inr refl)) z (eqb-true second 88 x) d
+              ])
+          | inr m1 ↦ elim (chosen ((second == 111 || second == 79) && ltb (digit_of third) 8) 8 _ (base_of whole_bytes) m1.1) [
+            | inl e ↦ (let both = and_parts (second == 111 || second == 79) (ltb (digit_of third) 8) e.0 in
+                let d = ltb-true (digit_of third) 8 both.1 in
+                let z = eqb-true b 48 (not_not (b == 48) nought.0) in
+                elim (or_cases (second == 111) (second == 79) both.0) [
+                  | inl x ↦ letter_front 8 111 (omega arith) (sym e.1) refl (Octal refl (inl refl)) z (eqb-true second 111 x) d
+                  | inr x ↦ letter_front 8 79 (omega arith) (sym e.1) refl (Octal refl (inr refl)) z (eqb-true second 79 x) d
+                ])
+            | inr m2 ↦ elim (chosen ((second == 98 || second == 66) && ltb (digit_of third) 2) 2 10 (base_of whole_bytes) m2.1) [
+              | inl e ↦ (let both = and_parts (second == 98 || second == 66) (ltb (digit_of third) 2) e.0 in
+                  let d = ltb-true (digit_of third) 2 both.1 in
+                  let z = eqb-true b 48 (not_not (b == 48) nought.0) in
+                  elim (or_cases (second == 98) (second == 66) both.0) [
+                    | inl x ↦ letter_front 2 98 (omega arith) (sym e.1) refl (Binary refl (inl refl)) z (eqb-true second 98 x) d
+                    | inr x ↦ letter_front 2 66 (omega arith) (sym e.1) refl (Binary refl (inr refl)) z (eqb-true second 66 x) d
+                  ])
+              | inr m3 ↦ plain_front (sym m3.1) digit
+            ]
+          ]
+        ]
+      ]
+
+-- a number at the front
+pub record NumberFront (n : Number) (len : ℕ) (bytes : List ℕ) : Type 0 where
+  pub front : List ℕ
+  pub after : List ℕ
+  pub whole : bytes ≡ front ++ after
+  pub size : length front ≡ len
+  pub is : IsNumber n front
+  pub apart : begins class.Word after ≡ false
+
+long : (n : ℕ) → 1 + n ≡ suc n
+long n = omega arith
+
+-- a digit and the digits behind it
+run_first : (base first : ℕ) (rest : List ℕ) → digit_of first < base → take (prefix_len (is_in (class.Digit base)) (first ∷ rest)) (first ∷ rest) ≡ first ∷ take (prefix_len (is_in (class.Digit base)) rest) rest
+run_first base first rest digit = rw (lt-ltb (digit_of first) base digit, long (prefix_len (is_in (class.Digit base)) rest)) refl
+
+number_joins : (base len : ℕ) (prefix : List ℕ) (first : ℕ) (rest run after : List ℕ) (n : Number) (digits : List ℕ) → IsPrefix base prefix → digit_of first < base → first ∷ rest ≡ run ++ after → run ≡ first ∷ digits → AllIn (class.Digit base) digits → DigitsFront base (length prefix) len n (first ∷ rest) run after → NumberFront n len (prefix ++ first ∷ rest)
+number_joins base len prefix first rest run after n digits prefixed digit whole runs all k =
+    let front : List ℕ = prefix ++ first ∷ digits ++ suffix_bytes k.suffix in
+    let tail : run ++ after ≡ (first ∷ digits) ++ (suffix_bytes k.suffix ++ k.more) = ap (λ (l : List ℕ). run ++ l) k.whole ∙ ap (λ (l : List ℕ). l ++ (suffix_bytes k.suffix ++ k.more)) runs in
+    let joined : prefix ++ first ∷ rest ≡ front ++ k.more =
+    ap (λ (l : List ℕ). prefix ++ l) (whole ∙ tail) ∙ sym (append_assoc prefix (first ∷ digits) (suffix_bytes k.suffix ++ k.more)) ∙ sym (append_assoc (prefix ++ first ∷ digits) (suffix_bytes k.suffix) k.more) in
+    record {
+      front = front;
+      after = k.more;
+      whole = joined;
+      size = omega (arith, k.size, ap length runs, length-append (prefix ++ first ∷ digits) (suffix_bytes k.suffix), length-append prefix (first ∷ digits));
+      is = record {
+        base = base;
+        prefix = prefix;
+        first = first;
+        digits = digits;
+        suffix = k.suffix;
+        written = refl;
+        prefixed = prefixed;
+        digit = digit;
+        more = all;
+        ends = k.ends;
+        suffixed = k.is;
+        value = k.value ∙ ap (value_after base 0) runs;
+        signed = k.signed;
+        width = k.width;
+        held = k.held;
+      };
+      apart = k.apart;
+    }
+
+pub number_front : (at b : ℕ) (rest : List ℕ) (n : Number) (len : ℕ) → digit_of b < 10 → number_at at (b ∷ rest) ≡ Ok (n, len) → NumberFront n len (b ∷ rest)
+number_front at b rest n len digit e =
+    let f = base_front b rest digit in
+    let dropped : drop (length f.prefix) (b ∷ rest) ≡ f.first ∷ f.rest = ap (drop (length f.prefix)) f.whole ∙ drop-append_seam f.prefix (f.first ∷ f.rest) in
+    let joined : number_at at (b ∷ rest) ≡ digits_at at f.base (length f.prefix) (f.first ∷ f.rest) = from_base at f.base (length f.prefix) (b ∷ rest) (f.first ∷ f.rest) f.is f.start dropped in
+    let k = digits_front at f.base (length f.prefix) (f.first ∷ f.rest) n len (sym joined ∙ e) in
+    let len_of = prefix_len (is_in (class.Digit f.base)) (f.first ∷ f.rest) in
+    subst (NumberFront n len) (sym f.whole)
+    (number_joins f.base len f.prefix f.first f.rest (take len_of (f.first ∷ f.rest)) (drop len_of (f.first ∷ f.rest)) n (take (prefix_len (is_in (class.Digit f.base)) f.rest) f.rest) f.prefixed f.digit (sym (take-append-drop len_of (f.first ∷ f.rest))) (run_first f.base f.first f.rest f.digit) (run_all (class.Digit f.base) f.rest) k)

@@ -1,6 +1,6 @@
 -- The parts of texts and characters are read by the rules.
-use Rattle.std.proofs.Common.{◌≡◌, ◌≢◌, ℕ, zero, suc, ◌+◌, ◌-◌, ◌*◌, ◌<◌, ◌≤◌, Bool, true, false, cond, eqb, ltb, leb, List, [], ◌∷◌, ◌++◌, length, drop, refl, sym, ap, ◌∙◌, subst, arith, inl, inr, ◌&&◌, ◌||◌}
-use Rattle.std.specs.Prelude.{codes, ◌⊎◌, ◌==◌}
+use Rattle.std.proofs.Common.{◌≡◌, ◌≢◌, ℕ, ◌+◌, ◌*◌, ◌≤◌, Bool, true, false, cond, eqb, ltb, leb, List, [], ◌∷◌, ◌++◌, length, refl, sym, ap, ◌∙◌, subst, arith, inl, inr, ◌&&◌, ◌||◌}
+use Rattle.std.specs.Prelude.{◌⊎◌, ◌==◌}
 use Rattle.std.proofs.lemmas.Bool.{and_parts, or_cases, eqb-true, eqb-false, ne_eqb, ltb-true, leb-true, lt-ltb, le-leb}
 use Rattle.pickle_syntax.specs.declared.lexer.texts.Part.{Part}
 use Rattle.pickle_syntax.specs.declared.lexer.texts.Part.TheVariants.{Closes, Byte, Bad, Breaks}
@@ -35,9 +35,9 @@ itself_is c v n rest hit e =
   where
     which : (c ≡ 92) ⊎ ((c ≡ 39) ⊎ (c ≡ 34))
     which = elim (or_cases (c == 92 || c == 39) (c == 34) hit) [
-        | inl h ↦ elim (or_cases (c == 92) (c == 39) h) [ inl k ↦ inl (eqb-true c 92 k) | inr k ↦ inr (inl (eqb-true c 39 k)) ]
-        | inr h ↦ inr (inr (eqb-true c 34 h))
-      ]
+      | inl h ↦ elim (or_cases (c == 92) (c == 39) h) [ inl k ↦ inl (eqb-true c 92 k) | inr k ↦ inr (inl (eqb-true c 39 k)) ]
+      | inr h ↦ inr (inr (eqb-true c 34 h))
+    ]
 
 feed_is : (c v n : ℕ) (rest : List ℕ) → c ≡ 110 → Byte 10 2 ≡ Byte v n → EscapeFront v n (c ∷ rest)
 feed_is c v n rest is e = (let same = byte_same 10 2 v n e in record { part = 92 ∷ 110 ∷ []; rest = rest; whole = rw is refl; size = same.1; is = LineFeed (sym same.0) refl })
@@ -49,11 +49,11 @@ hex_is : (c v n : ℕ) (rest : List ℕ) → c ≡ 120 → hex_pair rest ≡ Byt
 hex_is c v n [] is e = absurd cc
 hex_is c v n (h ∷ []) is e = absurd cc
 hex_is c v n (h ∷ l ∷ rest) is e = elim (chosen (ltb (digit_of h) 16 && ltb (digit_of l) 16) (Byte (digit_of h * 16 + digit_of l) 4) Bad (Byte v n) e) [
-    | inl hit ↦ (let same = byte_same (digit_of h * 16 + digit_of l) 4 v n hit.1 in
-        let both = and_parts (ltb (digit_of h) 16) (ltb (digit_of l) 16) hit.0 in
-        record { part = 92 ∷ 120 ∷ h ∷ l ∷ []; rest = rest; whole = rw is refl; size = same.1; is = HexadecimalByte h l (ltb-true (digit_of h) 16 both.0) (ltb-true (digit_of l) 16 both.1) (sym same.0) refl })
-    | inr miss ↦ absurd (let f : Bad ≡ Byte v n = miss.1 in cc)
-  ]
+  | inl hit ↦ (let same = byte_same (digit_of h * 16 + digit_of l) 4 v n hit.1 in
+      let both = and_parts (ltb (digit_of h) 16) (ltb (digit_of l) 16) hit.0 in
+      record { part = 92 ∷ 120 ∷ h ∷ l ∷ []; rest = rest; whole = rw is refl; size = same.1; is = HexadecimalByte h l (ltb-true (digit_of h) 16 both.0) (ltb-true (digit_of l) 16 both.1) (sym same.0) refl })
+  | inr miss ↦ absurd (let f : Bad ≡ Byte v n = miss.1 in cc)
+]
 
 escape_is : (bytes : List ℕ) (v n : ℕ) → escape bytes ≡ Byte v n → EscapeFront v n bytes
 escape_is [] v n e = absurd cc

@@ -1,34 +1,33 @@
 -- Signs are cut by the rules.
-use Rattle.std.proofs.Common.{◌≡◌, ◌≢◌, ℕ, suc, ◌+◌, ◌<◌, ◌≤◌, Bool, true, false, cond, eqb, List, [], ◌∷◌, ◌++◌, length, drop, refl, sym, ap, ◌∙◌, subst, arith, inl, inr, ◌&&◌, Option, Some, None, Result, Ok, Err}
-use Rattle.std.specs.Prelude.{codes, ◌==◌, ◌⊎◌, slice_index}
-use Rattle.std.proofs.lemmas.Bool.{and_parts, eqb-true, cases_Bool}
+use Rattle.std.proofs.Common.{◌≡◌, ◌≢◌, ℕ, cond, eqb, List, [], ◌∷◌, ◌++◌, refl, sym, ap, ◌∙◌, subst, arith, inl, inr, ◌&&◌, Option, Some, None, Ok, Err}
+use Rattle.std.specs.Prelude.{slice_index}
+use Rattle.std.proofs.lemmas.Bool.{and_parts, eqb-true}
 use Rattle.pickle_syntax.specs.declared.token.Sign.{Sign}
 use Rattle.pickle_syntax.specs.declared.token.Sign.TheVariants as sign
 use Rattle.pickle_syntax.specs.declared.lexer.bytes.Start.TheVariants as start
 use Rattle.pickle_syntax.specs.declared.lexer.fault.LexFaultKind.TheVariants.{BadByte}
-use Rattle.pickle_syntax.specs.Tokens.{Token, Mark}
+use Rattle.pickle_syntax.specs.Tokens.{Mark}
 use Rattle.pickle_syntax.specs.Bytes.{Fault, starts}
 use Rattle.pickle_syntax.specs.Words.{Cut}
 use Rattle.pickle_syntax.specs.Signs.{double_sign, single_sign, sign_cut, sign_piece}
-use Rattle.pickle_syntax.specs.Blanks.{slash_piece}
 use Rattle.pickle_syntax.specs.Lexing.{piece_at}
-use Rattle.pickle_syntax.specs.Pieces.{sign_spelling, IsPiece, MayPrecede}
+use Rattle.pickle_syntax.specs.Pieces.{sign_spelling, MayPrecede}
 use Rattle.pickle_syntax.proofs.Chains.{tested}
 use Rattle.pickle_syntax.proofs.Cuts.{Cuts, Reaches}
 
 -- a test in a chain of tests for two bytes
 on_two : (b next x y : ℕ) (v s : Sign) (more : Option Sign) → sign_spelling v ≡ x ∷ y ∷ [] → cond (eqb b x && eqb next y) (Some v) more ≡ Some s → (more ≡ Some s → sign_spelling s ≡ b ∷ next ∷ []) → sign_spelling s ≡ b ∷ next ∷ []
 on_two b next x y v s more spelled is others = elim (tested (eqb b x && eqb next y) v more s is) [
-    | inl hit ↦ (let both = and_parts (eqb b x) (eqb next y) hit.0 in rw (← hit.1, eqb-true b x both.0, eqb-true next y both.1) spelled)
-    | inr e ↦ others e
-  ]
+  | inl hit ↦ (let both = and_parts (eqb b x) (eqb next y) hit.0 in rw (← hit.1, eqb-true b x both.0, eqb-true next y both.1) spelled)
+  | inr e ↦ others e
+]
 
 -- and for one
 on_one : (b x : ℕ) (v s : Sign) (more : Option Sign) → sign_spelling v ≡ x ∷ [] → cond (eqb b x) (Some v) more ≡ Some s → (more ≡ Some s → sign_spelling s ≡ b ∷ []) → sign_spelling s ≡ b ∷ []
 on_one b x v s more spelled is others = elim (tested (eqb b x) v more s is) [
-    | inl hit ↦ rw (← hit.1, eqb-true b x hit.0) spelled
-    | inr e ↦ others e
-  ]
+  | inl hit ↦ rw (← hit.1, eqb-true b x hit.0) spelled
+  | inr e ↦ others e
+]
 
 double_is : (b next : ℕ) (s : Sign) → double_sign b next ≡ Some s → sign_spelling s ≡ b ∷ next ∷ []
 unfolding double_sign

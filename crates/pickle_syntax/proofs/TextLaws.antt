@@ -1,9 +1,9 @@
 -- Texts, characters and attributes are cut by the rules.
-use Rattle.std.proofs.Common.{◌≡◌, ◌≢◌, ℕ, zero, suc, ◌+◌, ◌-◌, ◌<◌, ◌≤◌, Bool, true, false, cond, eqb, List, [], ◌∷◌, ◌++◌, length, drop, get_or, refl, sym, ap, ◌∙◌, subst, arith, inl, inr, Option, Some, None, Result, Ok, Err, append_assoc, length-append}
-use Rattle.std.specs.Prelude.{codes, ◌⊎◌, ◌==◌, slice_index}
+use Rattle.std.proofs.Common.{◌≡◌, ◌≢◌, ℕ, zero, suc, ◌+◌, ◌-◌, Bool, true, false, cond, eqb, List, [], ◌∷◌, ◌++◌, length, drop, get_or, refl, sym, ap, ◌∙◌, subst, arith, inl, inr, Option, Some, None, Result, Ok, Err, append_assoc, length-append}
+use Rattle.std.specs.Prelude.{codes, slice_index}
 use Rattle.std.proofs.lemmas.List.{get_or-drop}
 use Rattle.std.proofs.Math.Seq.{drop-append_seam}
-use Rattle.std.proofs.lemmas.Bool.{eqb-true, cases_Bool}
+use Rattle.std.proofs.lemmas.Bool.{eqb-true}
 use Rattle.pickle_syntax.specs.declared.lexer.texts.Part.{Part}
 use Rattle.pickle_syntax.specs.declared.lexer.texts.Part.TheVariants.{Closes, Byte, Bad, Breaks}
 use Rattle.pickle_syntax.specs.declared.lexer.fault.LexFaultKind.TheVariants.{BadByte, Unclosed}
@@ -15,7 +15,7 @@ use Rattle.pickle_syntax.specs.Bytes.{Fault, ◌>>=◌}
 use Rattle.pickle_syntax.specs.Words.{Cut, attribute_at}
 use Rattle.pickle_syntax.specs.Texts.{Read, part_at, with_byte, text_part, text_from, character_of, apostrophe_cut, apostrophe_piece}
 use Rattle.pickle_syntax.specs.Lexing.{piece_at}
-use Rattle.pickle_syntax.specs.Pieces.{IsPart, AreParts, IsCharacter, IsText, EndsBadly, IsPiece, IsFaultAt, InText, Elsewhere, attribute_spelling}
+use Rattle.pickle_syntax.specs.Pieces.{IsPart, AreParts, IsCharacter, IsText, EndsBadly, IsFaultAt, InText, Elsewhere, attribute_spelling}
 use Rattle.pickle_syntax.proofs.Chains.{Begins, begun}
 use Rattle.pickle_syntax.proofs.Classes.{other_front}
 use Rattle.pickle_syntax.proofs.Cuts.{Cuts, Reaches}
@@ -170,6 +170,38 @@ text_fails at rest f e =
     let w : Walked at (at + 1) rest (text_from at 0 (at + 1) rest) = subst (λ (m : ℕ). Walked at m rest (text_from at 0 (at + 1) rest)) same (text_walked at 0 (at + 1) rest) in
     walked_fails at rest (text_from at 0 (at + 1) rest) f w e
 
+-- a text that ends badly is told so
+bad_part : (b : ℕ) (rest : List ℕ) (p : Part) → part_at 34 (b ∷ rest) ≡ p → b ≢ 10 → b ≢ 34 → ((value : ℕ) (front after : List ℕ) → front ++ after ≡ b ∷ rest → IsPart 34 value front → ⊥) → part_at 34 (b ∷ rest) ≡ Bad
+bad_part b rest Closes e line quote none = absurd (quote (part_closes 34 b rest e))
+bad_part b rest Breaks e line quote none = absurd (line (part_breaks 34 b rest e))
+bad_part b rest Bad e line quote none = e
+bad_part b rest (Byte v n) e line quote none = absurd (let k = part_is 34 (b ∷ rest) v n e in none v k.part k.rest (sym k.whole) k.is)
+
+line : (quote at : ℕ) (rest : List ℕ) → text_part quote at (part_at 34 (10 ∷ rest)) (λ left. text_from quote left (at + 1) rest) ≡ Err (Unclosed, quote)
+unfolding part_at
+line quote at rest = refl
+
+ends_reads : (quote at : ℕ) (rest : List ℕ) (f : Fault) → EndsBadly quote at rest f → text_from quote 0 at rest ≡ Err f
+unfolding text_from
+ends_reads quote at [] f e = rw e refl
+ends_reads quote at (b ∷ rest) f (inl e) = rw (e.0, e.1) (line quote at rest)
+ends_reads quote at (b ∷ rest) f (inr e) = rw (e.2, bad_part b rest (part_at 34 (b ∷ rest)) refl e.0 e.1 e.3) refl
+
+walk_reads : (quote at : ℕ) (values parts rest : List ℕ) (f : Fault) → AreParts values parts → EndsBadly quote (at + length parts) rest f → text_from quote 0 at (parts ++ rest) ≡ Err f
+walk_reads quote at [] parts rest f are ends =
+    let e : at + length parts ≡ at = omega (arith, ap length are) in
+    rw are (ends_reads quote at rest f (subst (λ (m : ℕ). EndsBadly quote m rest f) e ends))
+walk_reads quote at (v ∷ values) parts rest f are ends =
+    let part = are.0 in
+    let more = are.1 in
+    let regroup : parts ++ rest ≡ part ++ (more ++ rest) = ap (λ (l : List ℕ). l ++ rest) are.2 ∙ append_assoc part more rest in
+    let place : at + length parts ≡ at + length part + length more = omega (arith, ap length are.2, length-append part more) in
+    let tail : text_from quote 0 (at + length part) (more ++ rest) ≡ Err f = walk_reads quote (at + length part) values more rest f are.4 (subst (λ (m : ℕ). EndsBadly quote m rest f) place ends) in
+    rw regroup (part_step quote at v part (more ++ rest) are.3 ∙ rw tail refl)
+
+pub bad_text_reads : (at : ℕ) (values parts rest : List ℕ) (f : Fault) → AreParts values parts → EndsBadly at (at + 1 + length parts) rest f → piece_at at (34 ∷ parts ++ rest) ≡ Err f
+bad_text_reads at values parts rest f are ends = text_at at (parts ++ rest) ∙ rw (walk_reads at (at + 1) values parts rest f are ends) refl
+
 -- attributes
 attribute_name : Attribute → List ℕ
 attribute_name attribute.Length = codes "length"
@@ -287,12 +319,15 @@ pub apostrophe_cuts : (at : ℕ) (rest : List ℕ) (cut : Cut) → apostrophe_pi
 unfolding apostrophe_piece
 apostrophe_cuts at rest cut is = apostrophe_cuts_at at rest (character_of (part_at 39 rest) rest) (attribute_at rest) cut refl refl is
 
-apostrophe_bad : (at : ℕ) (c : Option (ℕ × ℕ)) (a : Option (Attribute × ℕ)) (f : Fault) → apostrophe_cut at c a ≡ Err f → f ≡ (BadByte, at)
-apostrophe_bad at (Some c) a f is = absurd cc
-apostrophe_bad at None (Some a) f is = absurd cc
-apostrophe_bad at None None f is = cc
+apostrophe_none : (at : ℕ) (c : Option (ℕ × ℕ)) (a : Option (Attribute × ℕ)) (f : Fault) → apostrophe_cut at c a ≡ Err f → f ≡ (BadByte, at)
+apostrophe_none at (Some c) a f is = absurd cc
+apostrophe_none at None (Some a) f is = absurd cc
+apostrophe_none at None None f is = cc
+
+pub apostrophe_bad : (at : ℕ) (rest : List ℕ) (f : Fault) → apostrophe_piece at rest ≡ Err f → f ≡ (BadByte, at)
+unfolding apostrophe_piece
+apostrophe_bad at rest f is = apostrophe_none at (character_of (part_at 39 rest) rest) (attribute_at rest) f is
 
 pub apostrophe_fails : (at : ℕ) (rest : List ℕ) (f : Fault) → apostrophe_piece at rest ≡ Err f → IsFaultAt at (39 ∷ rest) f
-unfolding apostrophe_piece
 apostrophe_fails at rest f is =
-    Elsewhere 39 rest refl (omega arith) (λ e. omega (arith, e)) (other_front 39 rest (λ e. omega (arith, e))) (apostrophe_bad at (character_of (part_at 39 rest) rest) (attribute_at rest) f is)
+    Elsewhere 39 rest refl (omega arith) (λ e. omega (arith, e)) (other_front 39 rest (λ e. omega (arith, e))) (apostrophe_bad at rest f is)

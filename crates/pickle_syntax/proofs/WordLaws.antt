@@ -1,15 +1,12 @@
 -- Words, openers and attributes are cut by the rules.
-use Rattle.std.proofs.Common.{◌≡◌, ◌≢◌, ℕ, zero, suc, ◌+◌, ◌-◌, ◌<◌, ◌≤◌, Bool, true, false, cond, List, [], ◌∷◌, ◌++◌, length, take, drop, refl, sym, ap, ◌∙◌, subst, arith, inl, inr, Option, Some, None, Result, Ok, Err}
-use Rattle.std.specs.Prelude.{codes, ◌==◌, ◌⊎◌}
-use Rattle.std.specs.List.{prefix_len, take_while, starts_with}
+use Rattle.std.proofs.Common.{◌≡◌, ◌≢◌, ℕ, suc, ◌+◌, ◌<◌, ◌≤◌, true, cond, List, [], ◌∷◌, ◌++◌, length, take, drop, refl, sym, ap, ◌∙◌, arith, inl, inr, Option, Some, None, Ok}
+use Rattle.std.specs.List.{prefix_len, take_while}
 use Rattle.std.specs.Str.{bytes_eq}
-use Rattle.std.proofs.lemmas.Bool.{cases_Bool}
 use Rattle.std.proofs.lemmas.Bool.Decides.{nat_tests}
 use Rattle.std.proofs.lemmas.List.Folds.{length-prefix_len}
-use Rattle.std.proofs.lemmas.Slice.Eq.{starts_is, bytes_eq-Decides}
-use Rattle.std.proofs.lemmas.List.{take-append-drop, length-take-le}
-use Rattle.std.proofs.Math.Seq.{take-append_seam, drop-append_seam}
-use Rattle.std.proofs.lemmas.List.Sums.{prefix_len-le-length}
+use Rattle.std.proofs.lemmas.Slice.Eq.{bytes_eq-Decides}
+use Rattle.std.proofs.lemmas.List.{take-append-drop}
+use Rattle.std.proofs.Math.Seq.{take-append_seam}
 use Rattle.pickle_syntax.specs.declared.lexer.bytes.Class.TheVariants as class
 use Rattle.pickle_syntax.specs.declared.token.Word.{Word}
 use Rattle.pickle_syntax.specs.declared.token.Word.TheVariants as word
@@ -17,8 +14,8 @@ use Rattle.pickle_syntax.specs.declared.token.Opener.{Opener}
 use Rattle.pickle_syntax.specs.declared.token.Opener.TheVariants as opener
 use Rattle.pickle_syntax.specs.Tokens.{Token, Reserved, Named, Opens}
 use Rattle.pickle_syntax.specs.Bytes.{is_in}
-use Rattle.pickle_syntax.specs.Words.{Cut, reserved_word, opener_at, word_token, opened_or, word_piece}
-use Rattle.pickle_syntax.specs.Pieces.{AllIn, begins, IsWord, word_spelling, opener_spelling, IsPiece, Spells}
+use Rattle.pickle_syntax.specs.Words.{reserved_word, opener_at, word_token, opened_or, word_piece}
+use Rattle.pickle_syntax.specs.Pieces.{AllIn, begins, IsWord, word_spelling, opener_spelling, IsPiece}
 use Rattle.pickle_syntax.proofs.Chains.{tested, Begins, begun}
 use Rattle.pickle_syntax.proofs.Cuts.{Cuts, Reaches}
 use Rattle.pickle_syntax.specs.Lexing.{piece_at}
@@ -40,9 +37,9 @@ reserved_spells word.String = refl
 -- a test in a chain of tests
 on : (bytes : List ℕ) (w v : Word) (more : Option Word) → cond (bytes_eq bytes (word_spelling v)) (Some v) more ≡ Some w → (more ≡ Some w → bytes ≡ word_spelling w) → bytes ≡ word_spelling w
 on bytes w v more is others = elim (tested (bytes_eq bytes (word_spelling v)) v more w is) [
-    | inl hit ↦ (bytes_eq-Decides bytes (word_spelling v)).0 hit.0 ∙ ap word_spelling hit.1
-    | inr e ↦ others e
-  ]
+  | inl hit ↦ (bytes_eq-Decides bytes (word_spelling v)).0 hit.0 ∙ ap word_spelling hit.1
+  | inr e ↦ others e
+]
 
 pub reserved_is : (bytes : List ℕ) (w : Word) → reserved_word bytes ≡ Some w → bytes ≡ word_spelling w
 unfolding reserved_word

@@ -2,7 +2,7 @@
 use Rattle.std.specs.Prelude.{◌≡◌, ◌≢◌, ◌≤◌, ◌<◌, ℕ, ◌+◌, ◌*◌, Bool, true, false, if◌then◌else◌, ◌⊎◌, List, [], ◌∷◌, ◌++◌, length, codes, Option, Some, None}
 use Rattle.pickle_syntax.specs.declared.lexer.bytes.Class.{Class}
 use Rattle.pickle_syntax.specs.declared.lexer.bytes.Class.TheVariants as class
-use Rattle.pickle_syntax.specs.declared.lexer.fault.LexFaultKind.TheVariants.{BadByte, Unclosed, BadNumber}
+use Rattle.pickle_syntax.specs.declared.lexer.fault.LexFaultKind.TheVariants.{BadByte, Unclosed, BadNumber, TooLong}
 use Rattle.pickle_syntax.specs.declared.token.Word.{Word}
 use Rattle.pickle_syntax.specs.declared.token.Word.TheVariants as word
 use Rattle.pickle_syntax.specs.declared.token.Opener.{Opener}
@@ -277,3 +277,11 @@ AreTokens at bytes x = (ps : List Piece) × pieces ps bytes [] × (x.0 ≡ token
 -- the fault is the first one of the bytes
 abbrev pub IsFirstFault : ℕ → List ℕ → Fault → Type 0
 IsFirstFault at bytes fault = (ps : List Piece) × (rest : List ℕ) × pieces ps bytes rest × HasNoPiece rest × IsFaultAt (place_after at ps) rest fault
+
+-- the tokens of a pickle, which has no fault
+abbrev pub IsLexed : List ℕ → List Token × List Span → Type 0
+IsLexed bytes x = (length bytes ≤ 1048576) × AreTokens 0 bytes x
+
+-- the fault of a pickle: it is too long, or the first place where no piece is says it
+abbrev pub IsLexFault : List ℕ → Fault → Type 0
+IsLexFault bytes fault = ((1048576 < length bytes) × (fault ≡ (TooLong, 1048576))) ⊎ ((length bytes ≤ 1048576) × IsFirstFault 0 bytes fault)

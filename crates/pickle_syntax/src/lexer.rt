@@ -1,17 +1,22 @@
 //! Pickles as text, cut into tokens.
 
-ghost use Rattle.std.specs.Prelude.{◌≡◌, ◌+◌, ◌<◌, ◌++◌, ◌^◌, ℕ, length, Option, Some, None, IfSome, IsSome, ◌↔◌, option_map, OnOk, IfOk, slice_index_or, vec_len};
+ghost use Rattle.std.specs.Prelude.{◌≡◌, ◌≢◌, IfErr, ◌+◌, ◌<◌, ◌++◌, ◌^◌, ℕ, length, Option, Some, None, IfSome, IsSome, ◌↔◌, option_map, OnOk, IfOk, slice_index_or, vec_len};
 ghost use Rattle.pickle_syntax.specs.Tokens.{token_of, tokens_of};
 ghost use Rattle.pickle_syntax.specs.Bytes.{Gives};
+ghost use Rattle.pickle_syntax.specs.declared.lexer.fault.LexFaultKind.TheVariants.{Memory};
+ghost use Rattle.pickle_syntax.specs.Pieces.{IsLexed, IsLexFault};
 ghost use Rattle.pickle_syntax.specs.Lexing.{lexed_from, lexed, token_list, span_list, InOrder};
 
 mod blanks;
-pub mod bytes;
+mod bytes;
 pub mod fault;
-pub mod numbers;
-pub mod pieces;
+pub mod laws;
+mod numbers;
+mod pieces;
 mod signs;
-pub mod texts;
+#[cfg(test)]
+mod tests;
+mod texts;
 mod words;
 
 use crate::lexer::bytes::skip;
@@ -76,7 +81,7 @@ fn keep(
 }
 
 #[tactic(auto, using(crate::proofs::Lexed::lexed_steps))]
-fn lexed_from(alloc: Global, bytes: &[u8]) -> Result<Tokens, LexFault>
+fn tokens_from(alloc: Global, bytes: &[u8]) -> Result<Tokens, LexFault>
     requires { length bytes.now < 2 ^ 31 }
     ensures { Gives (λ t. (tokens_of t.kinds.items, t.spans.items)) result (lexed_from 0 0 bytes.now) }
 {
@@ -93,10 +98,9 @@ fn lexed_from(alloc: Global, bytes: &[u8]) -> Result<Tokens, LexFault>
     Ok(Tokens { kinds, spans })
 }
 
-/// The tokens of a pickle, or its first fault from the front. More than 1,048,576 bytes are `TooLong` at 1048576,
-/// whatever they are.
+/// The tokens, or the first fault; more than 1,048,576 bytes are too long.
 #[tactic(auto, unfolding(crate::specs::Lexing::lexed))]
-pub fn lex(alloc: Global, bytes: &[u8]) -> Result<Tokens, LexFault>
+fn cut(alloc: Global, bytes: &[u8]) -> Result<Tokens, LexFault>
     ensures { Gives (λ t. (tokens_of t.kinds.items, t.spans.items)) result (lexed bytes.now) }
 {
     if MOST_BYTES < bytes.len() {
@@ -105,5 +109,17 @@ pub fn lex(alloc: Global, bytes: &[u8]) -> Result<Tokens, LexFault>
             at: MOST_BYTES,
         });
     }
-    lexed_from(alloc, bytes)
+    tokens_from(alloc, bytes)
+}
+
+/// The tokens of a pickle, or its first fault from the front. More than 1,048,576 bytes are `TooLong` at 1048576,
+/// whatever they are.
+pub fn lex(alloc: Global, bytes: &[u8]) -> Result<Tokens, LexFault>
+    ensures exact { Gives (λ t. (tokens_of t.kinds.items, t.spans.items)) result (lexed bytes.now) }
+    ensures tokens { IfOk result (λ t. IsLexed bytes.now (tokens_of t.kinds.items, t.spans.items)) }
+    ensures order { IfOk result (λ t. InOrder 0 t.spans.items) }
+    ensures fault { IfErr result (λ f. f.kind ≢ Memory → IsLexFault bytes.now (f.kind, f.at)) }
+    ensures memory { IfErr result (λ f. f.kind ≡ Memory → f.at ≡ 0) }
+{
+    cut(alloc, bytes)
 }

@@ -2,7 +2,7 @@ use Rattle.std.proofs.Common.{length, ap, ◌∙◌, arith, length-drop}
 use Rattle.std.specs.Prelude.{option_map}
 use Rattle.pickle_syntax.specs.Tokens.{token_of, tokens_of}
 use Rattle.pickle_syntax.proofs.Lexed.{on_piece}
-use Rattle.pickle_syntax.proofs.lexer.lexed_from.Goals as goal
+use Rattle.pickle_syntax.proofs.lexer.tokens_from.Goals as goal
 
 pub loop-rest-preserved : goal.loop-rest-preserved
 loop-rest-preserved c =

@@ -2,7 +2,7 @@ use Rattle.std.proofs.Common.{◌≡◌, ◌+◌, length}
 use Rattle.pickle_syntax.specs.Tokens.{tokens_of}
 use Rattle.pickle_syntax.specs.Lexing.{lexed_from}
 use Rattle.pickle_syntax.proofs.Lexed.{with_before}
-use Rattle.pickle_syntax.proofs.lexer.lexed_from.Given as goal
+use Rattle.pickle_syntax.proofs.lexer.tokens_from.Given as goal
 
 abbrev pub invariant-loop-rest : goal.invariant-loop-rest
 invariant-loop-rest l = record {
