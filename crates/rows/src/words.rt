@@ -47,10 +47,10 @@ fn check_job(alloc: Global, pickle: &str) -> Result<Job, AllocError> {
 
 #[test]
 fn reads_or_tells_want_of_memory(rt: HostRuntime) {
-    let right = match read(rt.alloc(), &["bound", "p", "T", "25"]) {
-        Ok(Ok(Job::Bound { bits, .. })) => bits == 25,
-        Ok(Err(fault)) => fault == WordFault::Memory,
-        Ok(Ok(_)) => false,
+    let job = read(rt.alloc(), &["bound", "p", "T", "25"]);
+    let right = match &job {
+        Ok(Ok(Job::Bound { bits, .. })) => *bits == 25,
+        Ok(outcome) => matches!(outcome, Err(WordFault::Memory)),
         Err(_) => true,
     };
     assert!(rt; right);
