@@ -1,7 +1,5 @@
 //! Dumps of bytes, in lines of 16.
 mod line;
-#[cfg(test)]
-mod tests;
 
 ghost use Rattle.std.specs.Prelude.{◌≡◌, ℕ, ◌+◌, ◌-◌, ◌^◌, ◌<◌, ◌≤◌, List, Some, [], if◌then◌else◌, slice_range, take, drop, min, OnOk, OnErr, IfErr};
 ghost use Rattle.std.specs.Io.KnownBytes.{Appends};

@@ -1,7 +1,5 @@
 //! The words of the command line.
 mod commands;
-#[cfg(test)]
-mod tests;
 
 ghost use Rattle.std.specs.Prelude.{◌≡◌, [], codes, MatchResult};
 ghost use Rattle.poke_batch.specs.Words.{IsCheckOf};

@@ -6,10 +6,16 @@ mod declarations;
 #[cfg(test)]
 mod devices;
 #[cfg(test)]
+mod dumps;
+#[cfg(test)]
 mod maps;
 #[cfg(test)]
 mod memory;
 #[cfg(test)]
+mod offset_words;
+#[cfg(test)]
 mod pickles;
 #[cfg(test)]
 mod streams;
+#[cfg(test)]
+mod words;

@@ -1,55 +1,21 @@
-ghost use Rattle.std.specs.Prelude.{◌+◌, ◌^◌, ◌<◌, None};
-ghost use Rattle.bit_space.specs.SpaceView.{SpaceView};
-
-use super::{DumpFault, dump};
-use bit_space::{DeviceFault, MemSpace, Space};
+use crate::devices::Shifting;
+use bit_space::MemSpace;
+use poke_batch::dump::{DumpFault, dump};
 use std::io;
 use std::io::Write;
 use std::test::Fail;
 
 const RULER: &[u8] = b"76543210  0011 2233 4455 6677 8899 aabb ccdd eeff  0123456789ABCDEF\n";
 
-// A space of `A`s that counts its reads, and fails at the one with a number.
-#[derive(Drop)]
-struct Letters {
-    len: u64,
-    reads: u64,
-    failing: u64,
-    failures: u64,
-    pub ghost short: { len < 2 ^ 60 },
-}
-
-impl Space for Letters {
-    ghost view = { λ s. record { len = s.len; bytes = None; failures = s.failures } };
-
-    ghost short = { λ s. s.short };
-
-    ghost whole = { λ s bytes e. Prim.cc };
-
-    fn len(&self) -> u64 {
-        self.len
-    }
-
-    fn read_at(&mut self, _at: u64, into: &mut [u8]) -> Result<(), DeviceFault> {
-        self.reads = self.reads.saturating_add(1);
-        if self.reads == self.failing {
-            self.failures = self.failures.saturating_add(1);
-            return Err(DeviceFault);
-        }
-        into.fill(b'A');
-        Ok(())
-    }
-}
-
 // A writer that takes so many bytes, at most `step` at a time, and then fails.
 #[derive(Drop)]
-struct Halting {
+struct Limited {
     taken: Vec<u8>,
     room: usize,
     step: usize,
 }
 
-impl Write for Halting {
+impl Write for Limited {
     fn write(&mut self, buf: &[u8]) -> io::Result<usize> {
         if self.room == 0 {
             return Err(io::Error::from(io::ErrorKind::Other));
@@ -105,11 +71,11 @@ fn dumps(rt: HostRuntime) -> Result<(), Fail> {
 
 #[test]
 fn reads_each_line_once(rt: HostRuntime) -> Result<(), Fail> {
-    let first = b"00000000: 4141 4141 4141 4141 4141 4141 4141 4141  AAAAAAAAAAAAAAAA\n";
+    let first = b"00000000: 0101 0101 0101 0101 0101 0101 0101 0101  ................\n";
     let mut until_failure = RULER.to_vec(rt.alloc())?;
     until_failure.extend_from_slice(first)?;
     for (failing, outcome, reads) in [(0, Ok(()), 3), (2, Err(DumpFault::Device), 2)] {
-        let mut space = Letters {
+        let mut space = Shifting {
             len: 40,
             reads: 0,
             failing,
@@ -126,7 +92,7 @@ fn reads_each_line_once(rt: HostRuntime) -> Result<(), Fail> {
 
 #[test]
 fn tells_places_above_4_gib(rt: HostRuntime) -> Result<(), Fail> {
-    let mut space = Letters {
+    let mut space = Shifting {
         len: (1 << 32) + 1,
         reads: 0,
         failing: 0,
@@ -134,8 +100,8 @@ fn tells_places_above_4_gib(rt: HostRuntime) -> Result<(), Fail> {
     };
     let mut text = Vec::new(rt.alloc());
     dump(&mut space, (1 << 32) - 16, 128, false, &mut text)?;
-    let expected = b"fffffff0: 4141 4141 4141 4141 4141 4141 4141 4141  AAAAAAAAAAAAAAAA\n\
-100000000: 41                                       A\n";
+    let expected = b"fffffff0: 0101 0101 0101 0101 0101 0101 0101 0101  ................\n\
+100000000: 02                                       .\n";
     assert_eq!(rt; text.as_slice(), expected.as_slice());
     Ok(())
 }
@@ -147,7 +113,7 @@ fn stops_where_the_writer_does(rt: HostRuntime) -> Result<(), Fail> {
     let mut space = MemSpace::new(b"Hello".to_vec(rt.alloc())?)?;
     for step in [1, 7, 4096] {
         for room in 0..=expected.len() {
-            let mut writer = Halting {
+            let mut writer = Limited {
                 taken: Vec::new(rt.alloc()),
                 room,
                 step,

@@ -1,6 +1,6 @@
-use super::{Job, WordFault, read_words};
-use crate::mode::Mode;
 use bit_space::Order;
+use poke_batch::mode::Mode;
+use poke_batch::words::{Job, WordFault, read_words};
 use std::alloc::{AllocError, Global};
 use std::test::Fail;
 
@@ -43,6 +43,17 @@ fn check_job(alloc: Global, pickle: &str) -> Result<Job, AllocError> {
     Ok(Job::Check {
         pickle: String::from_str(alloc, pickle)?,
     })
+}
+
+#[test]
+fn reads_or_tells_want_of_memory(rt: HostRuntime) {
+    let job = read(rt.alloc(), &["bound", "p", "T", "25"]);
+    let right = match &job {
+        Ok(Ok(Job::Bound { bits, .. })) => *bits == 25,
+        Ok(outcome) => matches!(outcome, Err(WordFault::Memory)),
+        Err(_) => true,
+    };
+    assert!(rt; right);
 }
 
 #[test]
