@@ -1,0 +1,4 @@
+//! The types of a pickle: names, type rules, and the bounds of steps and memory.
+#![tactic(auto)]
+
+pub mod integer;
