@@ -1,0 +1,1 @@
+//! The most steps and slots that a mapping may take.
