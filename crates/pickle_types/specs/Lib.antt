@@ -1,3 +1,9 @@
 pub mod Types
 pub mod Table
 pub mod Bounds
+pub mod Scopes
+pub mod Names
+pub mod Operators
+pub mod Expressions
+pub mod Meaning
+pub mod WellTyped

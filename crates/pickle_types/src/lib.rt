@@ -2,5 +2,7 @@
 #![tactic(auto)]
 
 pub mod bounds;
+pub mod check;
+pub mod fault;
 pub mod integer;
 pub mod table;

@@ -1,0 +1,4 @@
+//! The type rules.
+
+pub mod operators;
+pub mod places;
