@@ -1,3 +1,5 @@
 pub mod Tables
 pub mod Growth
 pub mod Rows
+pub mod Rules
+pub mod Meanings

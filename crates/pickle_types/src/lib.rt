@@ -5,4 +5,5 @@ pub mod bounds;
 pub mod check;
 pub mod fault;
 pub mod integer;
+pub mod laws;
 pub mod table;
