@@ -3,3 +3,4 @@ pub mod Growth
 pub mod Rows
 pub mod Rules
 pub mod Meanings
+pub mod Looks

@@ -2,6 +2,8 @@
 use Rattle.std.specs.Prelude.{ℕ, ◌+◌, ◌-◌, List, [], ◌∷◌, Option, Some, None, Result, Ok, Err, Bool, true, false, ◌&&◌, nat_le, if◌then◌else◌}
 use Rattle.pickle_syntax.specs.declared.token.Number.{Number as Numeral}
 use Rattle.pickle_syntax.specs.declared.token.Attribute.TheVariants.{Length, Size}
+use Rattle.pickle_syntax.specs.declared.tree.Prefix.{Prefix}
+use Rattle.pickle_syntax.specs.declared.tree.Infix.{Infix}
 use Rattle.pickle_syntax.specs.declared.tree.Unit.{Unit as PokeUnit}
 use Rattle.pickle_syntax.specs.declared.tree.Unit.TheVariants as unit
 use Rattle.pickle_syntax.specs.Tree.{Tree, TreeReference, Int, Uint, Called, TreeTarget, ToReference, TreeSuffix}
@@ -169,40 +171,41 @@ suffixed names path (tree.InUnit u) x = integer_or_wrong x.1 >>= λ t. unit_bits
 suffixed names path (tree.Convert target) x =
     or_wrong Mismatch (number_in (operand_of x.1)) >>= λ a. target_type names target >>= λ t. or_wrong Mismatch (converted t a x.0) >>= λ y. Ok (y, scalar_sort t)
 
+abbrev pub number_meant : Numeral → Meant
+number_meant n = (types.Number (whole n.width n.signed) n.value, Typed (IntegerOf (whole n.width n.signed)))
+
+abbrev pub character_meant : ℕ → Meant
+character_meant b = (types.Number (whole 8 false) b, Typed (IntegerOf (whole 8 false)))
+
+abbrev pub name_meant : ℕ → Visible → Meant
+name_meant levels v = (types.Name (levels - 1 - v.level) v.place, Typed v.type)
+
+-- what a bracket or an operator makes of its operands
+abbrev pub bracketed : Meant → Result Meant FaultKind
+bracketed x = or_wrong Mismatch (type_in x.1) >>= λ t. Ok (types.Bracket x.0, Typed t)
+
+abbrev pub prefixed : Prefix → Meant → Result Meant FaultKind
+prefixed op x = or_wrong Mismatch (before op (operand_of x.1)) >>= λ s. Ok (types.Before op x.0, scalar_sort s)
+
+abbrev pub infixed : Infix → Meant → Meant → Result Meant FaultKind
+infixed op x y = or_wrong Mismatch (between op (operand_of x.1) (operand_of y.1)) >>= λ s. Ok (types.Between op x.0 y.0, scalar_sort s)
+
+abbrev pub selected : Meant → Meant → Meant → Result Meant FaultKind
+selected z x y = or_wrong Mismatch (choice (operand_of x.1) (operand_of y.1)) >>= λ s. Ok (types.Choice (common_in s) z.0 x.0 y.0, scalar_sort s)
+
+abbrev pub indexed : Meant → PokeType → Meant → Result Meant FaultKind
+indexed x t y = integer_or_wrong y.1 >>= λ w. Ok (types.Index x.0 y.0, Typed t)
+
 -- an expression with its names resolved, and its sort, where these fields are seen and so many levels are open
 unfoldable pub typed : Names → List Visible → ℕ → Tree → Result Meant FaultKind
-typed names seen levels (tree.Literal n) = Ok (types.Number (whole n.width n.signed) n.value, Typed (IntegerOf (whole n.width n.signed)))
-typed names seen levels (tree.Character b) = Ok (types.Number (whole 8 false) b, Typed (IntegerOf (whole 8 false)))
+typed names seen levels (tree.Literal n) = Ok (number_meant n)
+typed names seen levels (tree.Character b) = Ok (character_meant b)
 typed names seen levels (tree.Text bytes) = Ok (types.Text bytes, TextLiteral)
-typed names seen levels (tree.Name word) = do
-  v ← or_wrong UnknownName (resolve word seen)
-  Ok (types.Name (levels - 1 - v.level) v.place, Typed v.type)
-typed names seen levels (tree.Bracket e) = do
-  x ← typed names seen levels e
-  t ← or_wrong Mismatch (type_in x.1)
-  Ok (types.Bracket x.0, Typed t)
-typed names seen levels (tree.Before op e) = do
-  x ← typed names seen levels e
-  s ← or_wrong Mismatch (before op (operand_of x.1))
-  Ok (types.Before op x.0, scalar_sort s)
-typed names seen levels (tree.Between op a b) = do
-  x ← typed names seen levels a
-  y ← typed names seen levels b
-  s ← or_wrong Mismatch (between op (operand_of x.1) (operand_of y.1))
-  Ok (types.Between op x.0 y.0, scalar_sort s)
-typed names seen levels (tree.Choice c a b) = do
-  z ← typed names seen levels c
-  w ← integer_or_wrong z.1
-  x ← typed names seen levels a
-  y ← typed names seen levels b
-  s ← or_wrong Mismatch (choice (operand_of x.1) (operand_of y.1))
-  Ok (types.Choice (common_in s) z.0 x.0 y.0, scalar_sort s)
-typed names seen levels (tree.Index e i) = do
-  x ← typed names seen levels e
-  t ← or_wrong Mismatch (sort_element x.1)
-  y ← typed names seen levels i
-  w ← integer_or_wrong y.1
-  Ok (types.Index x.0 y.0, Typed t)
-typed names seen levels (tree.After e suffix) = do
-  x ← typed names seen levels e
-  suffixed names (is_path e) suffix x
+typed names seen levels (tree.Name word) = or_wrong UnknownName (resolve word seen) >>= λ v. Ok (name_meant levels v)
+typed names seen levels (tree.Bracket e) = typed names seen levels e >>= bracketed
+typed names seen levels (tree.Before op e) = typed names seen levels e >>= prefixed op
+typed names seen levels (tree.Between op a b) = typed names seen levels a >>= λ x. typed names seen levels b >>= infixed op x
+typed names seen levels (tree.Choice c a b) =
+    typed names seen levels c >>= λ z. integer_or_wrong z.1 >>= λ w. typed names seen levels a >>= λ x. typed names seen levels b >>= selected z x
+typed names seen levels (tree.Index e i) = typed names seen levels e >>= λ x. or_wrong Mismatch (sort_element x.1) >>= λ t. typed names seen levels i >>= indexed x t
+typed names seen levels (tree.After e suffix) = typed names seen levels e >>= suffixed names (is_path e) suffix

@@ -7,3 +7,4 @@ pub mod Operators
 pub mod Expressions
 pub mod Meaning
 pub mod WellTyped
+pub mod Built

@@ -6,4 +6,6 @@ pub mod check;
 pub mod fault;
 pub mod integer;
 pub mod laws;
+pub mod names;
+pub mod scopes;
 pub mod table;
