@@ -81,3 +81,7 @@ IsInside nodes (sort.Node i) = i < length nodes
 
 abbrev pub meant_of : List Node → RustMeant → Meant
 meant_of nodes x = (term_of x.term, sort_of nodes x.sort)
+
+abbrev pub IsFoundField : (ℕ → PokeType) → Option (ℕ × ℕ) → Option (ℕ × PokeType) → Type 0
+IsFoundField at None found = found ≡ None
+IsFoundField at (Some x) found = found ≡ Some (x.0, at x.1)
