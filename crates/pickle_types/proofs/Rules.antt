@@ -24,7 +24,7 @@ use Rattle.pickle_types.specs.Types as types
 use Rattle.pickle_types.specs.Scopes.{Visible, resolve}
 use Rattle.pickle_types.specs.Names.{Names, find_type}
 use Rattle.pickle_types.specs.Operators.{whole, common, divisor_in, greatest_divisor, arithmetic, sum, product, quotient, shift, logic, comparison, between_numbers, between_texts, between, before, choice, chosen, same_sign, same_type, number_in, integer_operand}
-use Rattle.pickle_types.specs.Expressions.{◌>>=◌, or_wrong, Sort, TextLiteral, Typed, scalar_type, scalar_sort, type_operand, operand_of, type_in, sort_element, find_field, find_part, field_in, sort_field, integer_or_wrong, in_range, referred, integer_referred, unit_bits, offset_referred, target_type, converted, is_path, if_path, common_in, Meant, suffixed, typed}
+use Rattle.pickle_types.specs.Expressions.{◌>>=◌, or_wrong, Sort, TextLiteral, Typed, scalar_type, scalar_sort, type_operand, operand_of, type_in, sort_element, find_field, find_part, field_in, sort_field, integer_or_wrong, in_range, referred, operand_referred, integer_referred, unit_bits, offset_referred, target_type, converted, is_path, if_path, common_in, Meant, suffixed, typed}
 use Rattle.pickle_types.specs.WellTyped.{IsArithmetic, IsLogical, both, either, IsShift, left, right, IsEquality, same, different, IsComparison, equality, less, at_most, greater, at_least, IsOffsetSum, InfixRule, IsSign, plus, minus, PrefixRule, ChoiceRule, Refers, HasBits, Converts, IsPath, HasField, HasSort}
 use Rattle.pickle_types.specs.WellTyped as rule
 
@@ -356,10 +356,13 @@ module _ (names : Names) where
   referred_whole _ _ (rule.unsigned some most) = rw (in_range_whole _ _ some most) refl
   referred_whole _ _ (rule.called e) = rw e refl
 
+  operand_referred_sound : (r : TreeReference) → IfOk (operand_referred names r) (λ o. (t : PokeType) × (o ≡ type_operand t) × Refers names r t)
+  operand_referred_sound r = bind_if (Refers names r) _ (referred names r) _ (referred_sound r) (λ t h. (t, refl, h))
+
   pub integer_referred_sound : (r : TreeReference) → IfOk (integer_referred names r) (λ t. Refers names r (IntegerOf t))
-  integer_referred_sound r = bind_if (Refers names r) _ (referred names r) _ (referred_sound r) (λ t h.
-      let is = integer_is (Typed t) in
-      of_integer t h (integer_or_wrong (Typed t)) is)
+  integer_referred_sound r = bind_if (λ o. (t : PokeType) × (o ≡ type_operand t) × Refers names r t) _ (operand_referred names r) _ (operand_referred_sound r) (λ o h.
+      rw h.1 (let is = integer_is (Typed h.0) in
+      of_integer h.0 h.2 (integer_or_wrong (Typed h.0)) is))
     where
       of_integer : (t : PokeType) → Refers names r t → (x : Result IntegerType FaultKind) → IfOk x (λ w. Typed t ≡ Typed (IntegerOf w)) → IfOk x (λ w. Refers names r (IntegerOf w))
       of_integer t h (Ok w) is = let e : t ≡ IntegerOf w = cc in rw e at h
@@ -391,7 +394,7 @@ module _ (names : Names) where
   reference_target r (UnionOf name ps) h = tt
 
   target_sound : (target : TreeTarget) → IfOk (target_type names target) (IsTarget target)
-  target_sound (ToReference r) = bind_if (Refers names r) _ (referred names r) _ (referred_sound r) (λ t h. reference_target r t h)
+  target_sound (ToReference r) = bind_if (λ o. (t : PokeType) × (o ≡ type_operand t) × Refers names r t) _ (operand_referred names r) _ (operand_referred_sound r) (λ o h. rw h.1 (reference_target r h.0 h.2))
   target_sound (tree.ToOffset r u) =
       bind_if (λ t. Refers names r (IntegerOf t)) _ (integer_referred names r) _ (integer_referred_sound r) (λ t h.
       bind_if (HasBits u) _ (unit_bits u) _ (unit_sound u) (λ n g. λ a m x. (tt, rule.to_offset h g)))

@@ -109,8 +109,15 @@ referred names (Int n) = in_range true n.value >>= λ t. Ok (IntegerOf t)
 referred names (Uint n) = in_range false n.value >>= λ t. Ok (IntegerOf t)
 referred names (Called word) = or_wrong UnknownType (find_type word names)
 
+abbrev pub sort_referred : Names → TreeReference → Result Sort FaultKind
+sort_referred names r = referred names r >>= λ t. Ok (Typed t)
+
+-- what an operator sees of it
+abbrev pub operand_referred : Names → TreeReference → Result Operand FaultKind
+operand_referred names r = referred names r >>= λ t. Ok (type_operand t)
+
 abbrev pub integer_referred : Names → TreeReference → Result IntegerType FaultKind
-integer_referred names r = referred names r >>= λ t. or_wrong Mismatch (integer_operand (type_operand t))
+integer_referred names r = operand_referred names r >>= λ o. or_wrong Mismatch (integer_operand o)
 
 -- the bits of a unit, from 1 to 4,294,967,295
 abbrev pub unit_bits : PokeUnit → Result ℕ FaultKind
@@ -123,7 +130,7 @@ offset_referred names r u = integer_referred names r >>= λ t. unit_bits u >>= �
 
 -- the type that `as` converts to
 abbrev pub target_type : Names → TreeTarget → Result Scalar FaultKind
-target_type names (ToReference r) = referred names r >>= λ t. or_wrong Mismatch (number_in (type_operand t))
+target_type names (ToReference r) = operand_referred names r >>= λ o. or_wrong Mismatch (number_in o)
 target_type names (tree.ToOffset r u) = offset_referred names r u
 
 -- a conversion, of an integer to an integer or of an offset to an offset

@@ -2,4 +2,5 @@
 
 pub mod operators;
 pub mod places;
+pub mod references;
 pub mod sorts;
