@@ -169,14 +169,33 @@ if_path false = Err Mismatch
 abbrev pub Meant : Type 0
 Meant = Term × Sort
 
+-- what each suffix makes of its operand
+abbrev pub selection : List ℕ → Meant → Result Meant FaultKind
+selection word x = sort_field word x.1 >>= λ f. Ok (types.Select x.0 f.0, Typed f.1)
+
+abbrev pub length_of : Meant → Result Meant FaultKind
+length_of x = or_wrong Mismatch (sort_element x.1) >>= λ t. Ok (types.AttributeOf Length x.0, Typed (IntegerOf (whole 64 false)))
+
+abbrev pub size_of : Bool → Meant → Result Meant FaultKind
+size_of path x = if_path path >>= λ u. Ok (types.AttributeOf Size x.0, Typed (OffsetOf (whole 64 false) 1))
+
+abbrev pub in_unit : PokeUnit → Meant → Result Meant FaultKind
+in_unit u x = integer_or_wrong x.1 >>= λ t. unit_bits u >>= λ n. Ok (types.InUnit n x.0, Typed (OffsetOf t n))
+
+abbrev pub conversion : Names → TreeTarget → Meant → Result Meant FaultKind
+conversion names target x =
+    or_wrong Mismatch (number_in (operand_of x.1)) >>= λ a. target_type names target >>= λ t. or_wrong Mismatch (converted t a x.0) >>= λ y. Ok (y, scalar_sort t)
+
 -- what a suffix makes of its operand, which is a path or not
 abbrev pub suffixed : Names → Bool → TreeSuffix → Meant → Result Meant FaultKind
-suffixed names path (tree.Select word) x = sort_field word x.1 >>= λ f. Ok (types.Select x.0 f.0, Typed f.1)
-suffixed names path (tree.AttributeOf Length) x = or_wrong Mismatch (sort_element x.1) >>= λ t. Ok (types.AttributeOf Length x.0, Typed (IntegerOf (whole 64 false)))
-suffixed names path (tree.AttributeOf Size) x = if_path path >>= λ u. Ok (types.AttributeOf Size x.0, Typed (OffsetOf (whole 64 false) 1))
-suffixed names path (tree.InUnit u) x = integer_or_wrong x.1 >>= λ t. unit_bits u >>= λ n. Ok (types.InUnit n x.0, Typed (OffsetOf t n))
-suffixed names path (tree.Convert target) x =
-    or_wrong Mismatch (number_in (operand_of x.1)) >>= λ a. target_type names target >>= λ t. or_wrong Mismatch (converted t a x.0) >>= λ y. Ok (y, scalar_sort t)
+suffixed names path (tree.Select word) x = selection word x
+suffixed names path (tree.AttributeOf Length) x = length_of x
+suffixed names path (tree.AttributeOf Size) x = size_of path x
+suffixed names path (tree.InUnit u) x = in_unit u x
+suffixed names path (tree.Convert target) x = conversion names target x
+
+abbrev pub text_meant : List ℕ → Meant
+text_meant bytes = (types.Text bytes, TextLiteral)
 
 abbrev pub number_meant : Numeral → Meant
 number_meant n = (types.Number (whole n.width n.signed) n.value, Typed (IntegerOf (whole n.width n.signed)))
@@ -186,6 +205,9 @@ character_meant b = (types.Number (whole 8 false) b, Typed (IntegerOf (whole 8 f
 
 abbrev pub name_meant : ℕ → Visible → Meant
 name_meant levels v = (types.Name (levels - 1 - v.level) v.place, Typed v.type)
+
+abbrev pub resolved : List Visible → ℕ → List ℕ → Result Meant FaultKind
+resolved seen levels word = or_wrong UnknownName (resolve word seen) >>= λ v. Ok (name_meant levels v)
 
 -- what a bracket or an operator makes of its operands
 abbrev pub bracketed : Meant → Result Meant FaultKind
@@ -207,8 +229,8 @@ indexed x t y = integer_or_wrong y.1 >>= λ w. Ok (types.Index x.0 y.0, Typed t)
 unfoldable pub typed : Names → List Visible → ℕ → Tree → Result Meant FaultKind
 typed names seen levels (tree.Literal n) = Ok (number_meant n)
 typed names seen levels (tree.Character b) = Ok (character_meant b)
-typed names seen levels (tree.Text bytes) = Ok (types.Text bytes, TextLiteral)
-typed names seen levels (tree.Name word) = or_wrong UnknownName (resolve word seen) >>= λ v. Ok (name_meant levels v)
+typed names seen levels (tree.Text bytes) = Ok (text_meant bytes)
+typed names seen levels (tree.Name word) = resolved seen levels word
 typed names seen levels (tree.Bracket e) = typed names seen levels e >>= bracketed
 typed names seen levels (tree.Before op e) = typed names seen levels e >>= prefixed op
 typed names seen levels (tree.Between op a b) = typed names seen levels a >>= λ x. typed names seen levels b >>= infixed op x

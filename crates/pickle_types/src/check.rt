@@ -1,5 +1,6 @@
 //! The type rules.
 
+pub mod expressions;
 pub mod operators;
 pub mod places;
 pub mod references;
