@@ -1,5 +1,5 @@
 -- The bounds of a table's node, by those of the nodes that it names.
-use Rattle.std.proofs.Common.{◌≡◌, ℕ, zero, suc, ◌+◌, ◌-◌, ◌<◌, ◌≤◌, List, [], ◌∷◌, ◌++◌, Option, Some, None, Bool, true, false, length, get_or, drop, refl, sym, ap, subst, ◌∙◌, arith, inl, inr}
+use Rattle.std.proofs.Common.{◌≡◌, ℕ, ◌+◌, ◌<◌, ◌≤◌, List, [], ◌∷◌, ◌++◌, Some, length, get_or, drop, sym, ap, subst, ◌∙◌, arith, inl, inr}
 use Rattle.std.specs.Prelude.{slice_get}
 use Rattle.std.proofs.lemmas.List.{drop_more, drop_all, length-append, get_or_append_left}
 use Rattle.std.proofs.lemmas.Bool.{cases_lt}
@@ -12,7 +12,7 @@ use Rattle.pickle_types.specs.declared.table.Field.{Field}
 use Rattle.pickle_types.specs.declared.table.Part.{Part}
 use Rattle.pickle_types.specs.declared.table.Shape.{Shape}
 use Rattle.pickle_types.specs.declared.table.Node.{Node}
-use Rattle.pickle_types.specs.Types.{PokeType, Fields, FieldThen, NoFields, Parts, PartThen, NoParts}
+use Rattle.pickle_types.specs.Types.{PokeType, FieldThen, NoFields, PartThen, NoParts}
 use Rattle.pickle_types.specs.Table.{type_of, open_shape, open_fields, open_parts, name_of, optional_term, IsTable}
 use Rattle.pickle_types.specs.Holds.{AreBounds, AreFieldBounds, ArePartBounds, AreKnown}
 use Rattle.pickle_types.proofs.Tables.{opens, node_at}

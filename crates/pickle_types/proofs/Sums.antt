@@ -1,5 +1,5 @@
 -- Sums of bounds, grouped in another way.
-use Rattle.std.proofs.Common.{◌≡◌, ℕ, ◌+◌, ◌*◌, Option, refl, sym, subst, arith}
+use Rattle.std.proofs.Common.{◌≡◌, ℕ, ◌+◌, ◌*◌, Option, refl, subst, arith}
 use Rattle.pickle_types.specs.Bounds.{IsBound}
 
 pub array_sum : (o : Option ℕ) (w n k x : ℕ) → n ≡ k → IsBound o (1 + (w + n * (1 + x))) → IsBound o (1 + w + k * (1 + x))

@@ -1,8 +1,7 @@
 use Rattle.std.proofs.Common.{rules, ◌≡◌, ℕ, ◌+◌, ◌-◌, ◌<◌, ◌≤◌, length, Some, refl, sym, ap, subst, ◌∙◌, arith}
 use Rattle.std.proofs.lemmas.Option.{slice_get-get_or}
-use Rattle.pickle_types.specs.declared.table.Shape.TheVariants as shape
-use Rattle.pickle_types.specs.Table.{type_of, bound_of, name_of, open_fields, open_parts}
-use Rattle.pickle_types.specs.Holds.{AreBounds, AreFieldBounds, ArePartBounds}
+use Rattle.pickle_types.specs.Table.{type_of, open_fields, open_parts}
+use Rattle.pickle_types.specs.Holds.{AreFieldBounds, ArePartBounds}
 use Rattle.pickle_types.proofs.Bounded.{bounded, no_fields_left, one_field_more, no_parts_left, one_part_more}
 use Rattle.pickle_types.proofs.bounds.+bounds.Goals as goal
 

@@ -1,8 +1,5 @@
-use Rattle.std.proofs.Common.{rules, ◌≡◌, ℕ, ◌+◌, ◌*◌, refl}
-use Rattle.pickle_types.specs.Types.{ArrayOf, PokeType, bound_weight}
-use Rattle.pickle_types.specs.Table.{bound_of}
+use Rattle.std.proofs.Common.{refl}
 use Rattle.pickle_types.specs.Bounds.{cost, room, least_width}
-use Rattle.pickle_types.specs.Holds.{AreBounds}
 use Rattle.pickle_types.proofs.Sums.{array_sum, array_slots}
 use Rattle.pickle_types.proofs.bounds.array_bounds.Goals as goal
 

@@ -1,7 +1,7 @@
-use Rattle.std.proofs.Common.{rules, ◌≡◌, ℕ, ◌+◌, length, get_or, Some, refl, sym, subst, arith}
+use Rattle.std.proofs.Common.{rules, ◌≡◌, length, get_or, Some, subst, arith}
 use Rattle.std.specs.Prelude.{slice_get}
 use Rattle.std.proofs.lemmas.Option.{slice_get-get_or}
-use Rattle.pickle_types.specs.Holds.{AreKnown, AreBounds}
+use Rattle.pickle_types.specs.Holds.{AreKnown}
 use Rattle.pickle_types.proofs.Bounded.{known_more}
 use Rattle.pickle_types.proofs.bounds.type_bounds.Goals as goal
 

@@ -1,4 +1,4 @@
-use Rattle.std.proofs.Common.{◌≡◌, ◌≤◌, length}
+use Rattle.std.proofs.Common.{◌≡◌, length}
 use Rattle.pickle_types.specs.Holds.{AreKnown}
 use Rattle.pickle_types.proofs.bounds.type_bounds.Given as goal
 
