@@ -4,3 +4,5 @@ pub mod Rows
 pub mod Rules
 pub mod Meanings
 pub mod Looks
+pub mod Sums
+pub mod Bounded

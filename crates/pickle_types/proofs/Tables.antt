@@ -1,14 +1,14 @@
 -- The type of a table's node is made of the types of the nodes that it names.
-use Rattle.std.proofs.Common.{◌≡◌, ℕ, zero, suc, ◌+◌, ◌<◌, ◌≤◌, List, [], ◌∷◌, Option, Some, None, length, get_or, refl, sym, ap, ◌∙◌, arith}
-use Rattle.std.specs.Prelude.{slice_get, All}
+use Rattle.std.proofs.Common.{◌≡◌, ℕ, zero, suc, ◌<◌, List, [], ◌∷◌, Option, Some, None, length, get_or, refl, sym, ap, ◌∙◌, arith}
+use Rattle.std.specs.Prelude.{slice_get}
 use Rattle.std.proofs.lemmas.Option.{slice_get-get_or}
 use Rattle.pickle_types.specs.declared.table.Field.{Field}
 use Rattle.pickle_types.specs.declared.table.Part.{Part}
 use Rattle.pickle_types.specs.declared.table.Shape.{Shape}
 use Rattle.pickle_types.specs.declared.table.Shape.TheVariants as shape
 use Rattle.pickle_types.specs.declared.table.Node.{Node}
-use Rattle.pickle_types.specs.Types.{PokeType, ArrayOf, StructOf, IntegralOf, UnionOf, Fields, NoFields, FieldThen, Parts, NoParts, PartThen}
-use Rattle.pickle_types.specs.Table.{bound_of, name_of, optional_term, fields_onto, parts_onto, open_shape, open_found, type_at, type_of, FieldsBelow, PartsBelow, NamesBelow, IsTable}
+use Rattle.pickle_types.specs.Types.{PokeType, ArrayOf, StructOf, IntegralOf, UnionOf, Fields, NoFields, Parts, NoParts}
+use Rattle.pickle_types.specs.Table.{bound_of, name_of, fields_onto, parts_onto, open_shape, open_found, type_at, type_of, FieldsBelow, PartsBelow, NamesBelow, IsTable}
 
 module _ (at at' : ℕ → PokeType) (i : ℕ) (same : (e : ℕ) → e < i → at e ≡ at' e) where
   pub fields_same : (fs : List Field) (rest : Fields) → FieldsBelow i fs → fields_onto at fs rest ≡ fields_onto at' fs rest

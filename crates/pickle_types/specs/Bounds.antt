@@ -1,9 +1,6 @@
 -- The least width of a type's values, and the most steps and slots that a mapping of it can take on m bits.
-use Rattle.std.specs.Prelude.{◌≡◌, ℕ, ◌+◌, ◌*◌, ◌/◌, ◌≤◌, ◌^◌, min, max, Bool, true, false, ◌||◌, if◌then◌else◌, List, Option, Some, None, slice_get}
-use Rattle.pickle_types.specs.declared.integer.IntegerType.{IntegerType}
-use Rattle.pickle_types.specs.declared.table.Node.{Node}
+use Rattle.std.specs.Prelude.{◌≡◌, ℕ, ◌+◌, ◌*◌, ◌/◌, ◌≤◌, ◌^◌, min, max, Bool, true, false, ◌||◌, if◌then◌else◌, Option, Some, None}
 use Rattle.pickle_types.specs.Types.{Term, PokeType, IntegerOf, OffsetOf, StringOf, ArrayOf, StructOf, IntegralOf, UnionOf, Fields, NoFields, FieldThen, Parts, NoParts, PartThen, optional_weight, bound_weight}
-use Rattle.pickle_types.specs.Table.{type_of}
 
 abbrev pub is_some : {A : Type 0} → Option A → Bool
 is_some None = false

@@ -8,3 +8,4 @@ pub mod Expressions
 pub mod Meaning
 pub mod WellTyped
 pub mod Built
+pub mod Holds
