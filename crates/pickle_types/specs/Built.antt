@@ -6,6 +6,8 @@ use denote.Bor.{Bor}
 use Rattle.pickle_types.specs.declared.integer.IntegerType.{IntegerType}
 use Rattle.pickle_types.specs.declared.fault.FaultKind.{FaultKind}
 use Rattle.pickle_types.specs.declared.fault.FaultKind.TheVariants.{Memory}
+use Rattle.pickle_types.specs.declared.table.Field.{Field}
+use Rattle.pickle_types.specs.declared.table.Part.{Part}
 use Rattle.pickle_types.specs.declared.table.Node.{Node}
 use Rattle.pickle_types.specs.declared.names.Declared.{Declared}
 use Rattle.pickle_types.specs.declared.names.Names.{Names as RustNames}
@@ -14,7 +16,7 @@ use Rattle.pickle_types.specs.declared.check.sorts.Sort.{Sort as RustSort}
 use Rattle.pickle_types.specs.declared.check.sorts.Sort.TheVariants as sort
 use Rattle.pickle_types.specs.declared.check.sorts.Meant.{Meant as RustMeant}
 use Rattle.pickle_types.specs.Types.{PokeType, depth}
-use Rattle.pickle_types.specs.Table.{term_of, type_of}
+use Rattle.pickle_types.specs.Table.{term_of, name_of, type_of}
 use Rattle.pickle_types.specs.Scopes.{Visible}
 use Rattle.pickle_types.specs.Names.{Names}
 use Rattle.pickle_types.specs.Expressions.{Sort, TextLiteral, Typed, scalar_sort, Meant}
@@ -85,3 +87,12 @@ meant_of nodes x = (term_of x.term, sort_of nodes x.sort)
 abbrev pub IsFoundField : (ℕ → PokeType) → Option (ℕ × ℕ) → Option (ℕ × PokeType) → Type 0
 IsFoundField at None found = found ≡ None
 IsFoundField at (Some x) found = found ≡ Some (x.0, at x.1)
+
+-- the names of some fields
+abbrev pub names_in : List Field → List (Option (List ℕ))
+names_in [] = []
+names_in (f ∷ fs) = name_of f.name ∷ names_in fs
+
+-- a field without its label and condition
+abbrev pub part_of : Field → Part
+part_of f = record { name = f.name; order = f.order; node = f.node; constraint = f.constraint }
