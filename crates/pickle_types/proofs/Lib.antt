@@ -6,3 +6,5 @@ pub mod Meanings
 pub mod Looks
 pub mod Sums
 pub mod Bounded
+pub mod Steps
+pub mod Buildings

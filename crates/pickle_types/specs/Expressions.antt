@@ -109,9 +109,6 @@ referred names (Int n) = in_range true n.value >>= λ t. Ok (IntegerOf t)
 referred names (Uint n) = in_range false n.value >>= λ t. Ok (IntegerOf t)
 referred names (Called word) = or_wrong UnknownType (find_type word names)
 
-abbrev pub sort_referred : Names → TreeReference → Result Sort FaultKind
-sort_referred names r = referred names r >>= λ t. Ok (Typed t)
-
 -- what an operator sees of it
 abbrev pub operand_referred : Names → TreeReference → Result Operand FaultKind
 operand_referred names r = referred names r >>= λ t. Ok (type_operand t)

@@ -8,4 +8,5 @@ pub mod Expressions
 pub mod Meaning
 pub mod WellTyped
 pub mod Built
+pub mod Building
 pub mod Holds

@@ -1,6 +1,7 @@
 -- The type that a form means, and the types that a pickle declares; or what is wrong with them.
 use Rattle.std.specs.Prelude.{ℕ, zero, suc, ◌+◌, length, List, [], ◌∷◌, ◌++◌, Option, Some, None, Result, Ok, Err, Bool, true, false, ◌&&◌, ◌||◌, nat_le, nat_eq, if◌then◌else◌}
 use Rattle.pickle_syntax.specs.declared.tree.ByteOrder.{ByteOrder}
+use Rattle.pickle_syntax.specs.declared.tree.Unit.{Unit as PokeUnit}
 use Rattle.pickle_syntax.specs.Tree.{Tree, TreeReference, Int, Uint, Called, FieldParts, FormTree, Plain, StringForm, OffsetForm, ArrayForm, StructForm, IntegralForm, UnionForm, FieldTrees, DeclarationTree}
 use Rattle.pickle_syntax.specs.Tree as tree
 use Rattle.pickle_types.specs.declared.integer.IntegerType.{IntegerType}
@@ -20,11 +21,18 @@ use Rattle.pickle_types.specs.Expressions.{◌>>=◌, or_wrong, scalar_type, ope
 abbrev pub limited : ℕ → PokeType → Result PokeType FaultKind
 limited room t = if nat_le (depth t) room then Ok t else Err TooDeep
 
+abbrev pub integer_type : Bool → ℕ → Result PokeType FaultKind
+integer_type signed n = in_range signed n >>= λ t. Ok (IntegerOf t)
+
+-- the type of a name, no deeper than a number
+abbrev pub called : ℕ → List ℕ → Names → Result PokeType FaultKind
+called room word names = or_wrong UnknownType (find_type word names) >>= limited room
+
 -- the type that a reference names, no deeper than a number
 abbrev pub plain : ℕ → Names → TreeReference → Result PokeType FaultKind
-plain room names (Int n) = in_range true n.value >>= λ t. Ok (IntegerOf t)
-plain room names (Uint n) = in_range false n.value >>= λ t. Ok (IntegerOf t)
-plain room names (Called word) = or_wrong UnknownType (find_type word names) >>= limited room
+plain room names (Int n) = integer_type true n.value
+plain room names (Uint n) = integer_type false n.value
+plain room names (Called word) = called room word names
 
 -- an expression that is an integer, where there is one
 unfoldable pub integer_expression : Names → List Visible → ℕ → Option Tree → Result (Option Term) FaultKind
@@ -165,13 +173,16 @@ abbrev pub struct_place : Bool → Place
 struct_place true = place.Pinned
 struct_place false = place.Struct
 
+abbrev pub offset_type : Names → TreeReference → PokeUnit → Result PokeType FaultKind
+offset_type names r u = offset_referred names r u >>= λ s. Ok (scalar_type s)
+
 unfoldable mutual
   -- the type that a form means, printed with a title and no deeper than a number
   pub meaning : Names → List Visible → ℕ → Option (List ℕ) → ℕ → FormTree → Result PokeType FaultKind
   meaning names seen levels title zero form = Err TooDeep
   meaning names seen levels title (suc room) (Plain r) = plain (suc room) names r
   meaning names seen levels title (suc room) StringForm = Ok StringOf
-  meaning names seen levels title (suc room) (OffsetForm r u) = offset_referred names r u >>= λ s. Ok (scalar_type s)
+  meaning names seen levels title (suc room) (OffsetForm r u) = offset_type names r u
   meaning names seen levels title (suc room) (ArrayForm element bound) =
       meaning names seen (levels + 1) None room element >>= λ t. bound_expression names seen levels bound >>= λ b. Ok (ArrayOf t b)
   meaning names seen levels title (suc room) (StructForm pinned fields) =

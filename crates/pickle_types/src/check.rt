@@ -6,3 +6,4 @@ pub mod operators;
 pub mod places;
 pub mod references;
 pub mod sorts;
+pub mod types;

@@ -4,7 +4,7 @@ ghost use Rattle.std.specs.Prelude.{◌≡◌, ◌+◌, ◌*◌, ◌<◌, ◌≤
 ghost use Rattle.pickle_syntax.specs.Tree.{optional_bytes, optional_tree, field_tree, form_tree};
 ghost use Rattle.pickle_types.specs.Types.{PokeType};
 ghost use Rattle.pickle_types.specs.Table.{name_of, optional_term, open_fields, open_parts, type_of, FieldsBelow, PartsBelow, IsTable};
-ghost use Rattle.pickle_types.specs.Meaning.{has_name, fresh, may_stand, if_here, place_in, parts_of, total_width};
+ghost use Rattle.pickle_types.specs.Meaning.{has_name, fresh, may_stand, if_here, struct_place, place_in, parts_of, total_width};
 ghost use Rattle.pickle_types.specs.Built.{Gives, bytes_now, names_in, part_of};
 
 use crate::check::places::Place;
@@ -86,6 +86,12 @@ pub fn fresh(name: Option<&[u8]>, fields: &[Field]) -> Result<(), FaultKind>
             Ok(())
         }
     }
+}
+
+pub fn struct_place(pinned: bool) -> Place
+    ensures { result ≡ struct_place pinned }
+{
+    if pinned { Place::Pinned } else { Place::Struct }
 }
 
 /// The place of a field in its level, after others: an alternative is alone in it.

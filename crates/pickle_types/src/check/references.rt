@@ -2,13 +2,12 @@
 
 ghost use Rattle.std.specs.Prelude.{◌≡◌, ◌<◌, ◌≤◌, ℕ, List, length, Ok, IfOk, IfErr};
 ghost use Rattle.pickle_syntax.specs.Tree.{reference_tree, target_tree};
-ghost use Rattle.pickle_types.specs.Table.{IsTable};
-ghost use Rattle.pickle_types.specs.Expressions.{in_range, sort_referred, operand_referred, integer_referred, unit_bits, offset_referred, target_type};
-ghost use Rattle.pickle_types.specs.Built.{Gives, names_of, sort_of, IsInside, AreNamed};
-ghost use Rattle.pickle_types.specs.declared.table.Node.{Node};
+ghost use Rattle.pickle_types.specs.Table.{IsTable, IsWidth};
+ghost use Rattle.pickle_types.specs.Expressions.{in_range, operand_referred, integer_referred, unit_bits, offset_referred, target_type};
+ghost use Rattle.pickle_types.specs.Built.{Gives, names_of, AreNamed, IsWide};
 
 use crate::check::operators::{Operand, Scalar};
-use crate::check::sorts::{Sort, operand_of};
+use crate::check::sorts::node_operand;
 use crate::fault::FaultKind;
 use crate::integer::IntegerType;
 use crate::names::{Names, find_name};
@@ -17,7 +16,8 @@ use pickle_syntax::tree::{Reference, Target, Unit};
 
 /// An integer type of a width from 1 to 64 bits.
 pub fn in_range(signed: bool, width: u64) -> Result<IntegerType, FaultKind>
-    ensures { result ≡ in_range signed width }
+    ensures is { result ≡ in_range signed width }
+    ensures wide { IfOk result IsWidth }
 {
     if 1 <= width && width <= 64 {
         Ok(IntegerType {
@@ -29,33 +29,21 @@ pub fn in_range(signed: bool, width: u64) -> Result<IntegerType, FaultKind>
     }
 }
 
-/// The type that a reference names.
-fn referred(names: &Names, reference: &Reference) -> Result<Sort, FaultKind>
-    ensures gives { (nodes : List Node) → Gives (sort_of nodes) result (sort_referred (names_of nodes names.now) (reference_tree reference.now)) }
-    ensures inside { (nodes : List Node) → AreNamed nodes names.now → IfOk result (IsInside nodes) }
+/// What an operator sees of the type that a reference names.
+fn operand_referred(names: &Names, nodes: &[Node], reference: &Reference) -> Result<Operand, FaultKind>
+    requires table { IsTable nodes.now }
+    requires names { AreNamed nodes.now names.now }
+    ensures gives { Gives (λ o. o) result (operand_referred (names_of nodes.now names.now) (reference_tree reference.now)) }
+    ensures wide { IfOk result IsWide }
 {
     match reference {
-        Reference::Int(n) => Ok(Sort::Scalar(Scalar::Integer(in_range(true, n.value)?))),
-        Reference::Uint(n) => Ok(Sort::Scalar(Scalar::Integer(in_range(false, n.value)?))),
+        Reference::Int(n) => Ok(Operand::Number(Scalar::Integer(in_range(true, n.value)?))),
+        Reference::Uint(n) => Ok(Operand::Number(Scalar::Integer(in_range(false, n.value)?))),
         Reference::Named(word) => match find_name(names, word) {
-            Some(d) => Ok(Sort::Node(d.node)),
+            Some(d) => Ok(node_operand(nodes, d.node)),
             None => Err(FaultKind::UnknownType),
         },
     }
-}
-
-/// What an operator sees of the type that a reference names.
-fn operand_referred(
-    names: &Names,
-    nodes: &[Node],
-    reference: &Reference,
-) -> Result<Operand, FaultKind>
-    requires table { IsTable nodes.now }
-    requires names { AreNamed nodes.now names.now }
-    ensures { Gives (λ o. o) result (operand_referred (names_of nodes.now names.now) (reference_tree reference.now)) }
-{
-    let sort = referred(names, reference)?;
-    Ok(operand_of(nodes, sort))
 }
 
 /// The integer type that a reference names.
@@ -66,7 +54,8 @@ pub fn integer_referred(
 ) -> Result<IntegerType, FaultKind>
     requires table { IsTable nodes.now }
     requires names { AreNamed nodes.now names.now }
-    ensures { Gives (λ t. t) result (integer_referred (names_of nodes.now names.now) (reference_tree reference.now)) }
+    ensures gives { Gives (λ t. t) result (integer_referred (names_of nodes.now names.now) (reference_tree reference.now)) }
+    ensures wide { IfOk result IsWidth }
 {
     let operand = operand_referred(names, nodes, reference)?;
     match operand.integer() {
@@ -77,7 +66,8 @@ pub fn integer_referred(
 
 /// The bits of a unit, from 1 to 4,294,967,295.
 pub fn unit_bits(unit: Unit) -> Result<u32, FaultKind>
-    ensures { result ≡ unit_bits unit }
+    ensures is { result ≡ unit_bits unit }
+    ensures some { IfOk result (λ n. 1 ≤ n) }
 {
     match unit {
         Unit::Bit => Ok(1),
@@ -92,8 +82,21 @@ pub fn unit_bits(unit: Unit) -> Result<u32, FaultKind>
     }
 }
 
+/// The magnitude's type and the unit of an offset type.
+pub fn offset_parts(names: &Names, nodes: &[Node], reference: &Reference, unit: Unit) -> Result<(IntegerType, u32), FaultKind>
+    requires table { IsTable nodes.now }
+    requires names { AreNamed nodes.now names.now }
+    ensures gives { Gives (λ x. Scalar.Offset x.0 x.1) result (offset_referred (names_of nodes.now names.now) (reference_tree reference.now) unit) }
+    ensures wide { IfOk result (λ x. IsWidth x.0) }
+    ensures some { IfOk result (λ x. 1 ≤ x.1) }
+{
+    let t = integer_referred(names, nodes, reference)?;
+    let bits = unit_bits(unit)?;
+    Ok((t, bits))
+}
+
 /// The offset type of a magnitude and a unit.
-pub fn offset_referred(
+fn offset_referred(
     names: &Names,
     nodes: &[Node],
     reference: &Reference,
@@ -103,8 +106,7 @@ pub fn offset_referred(
     requires names { AreNamed nodes.now names.now }
     ensures { Gives (λ s. s) result (offset_referred (names_of nodes.now names.now) (reference_tree reference.now) unit) }
 {
-    let t = integer_referred(names, nodes, reference)?;
-    let bits = unit_bits(unit)?;
+    let (t, bits) = offset_parts(names, nodes, reference, unit)?;
     Ok(Scalar::Offset(t, bits))
 }
 

@@ -5,7 +5,7 @@ ghost use Rattle.pickle_types.specs.Types.{PokeType};
 ghost use Rattle.pickle_types.specs.Table.{open_shape, open_fields, open_parts, type_of, FieldsBelow, PartsBelow, NamesBelow, IsTable};
 ghost use Rattle.pickle_types.specs.Expressions.{or_wrong, type_operand, operand_of, element_in, sort_element, find_field, find_part, field_in, sort_field};
 ghost use Rattle.pickle_types.specs.Meaning.{bit_width};
-ghost use Rattle.pickle_types.specs.Built.{Gives, sort_of, IsInside, IsFoundField};
+ghost use Rattle.pickle_types.specs.Built.{Gives, sort_of, IsInside, IsFoundField, IsWide};
 
 use crate::check::operators::{Operand, Scalar};
 use crate::fault::FaultKind;
@@ -40,7 +40,8 @@ pub fn shape_at(nodes: &[Node], i: usize) -> &Shape
 }
 
 fn shape_operand(shape: &Shape) -> Operand
-    ensures { (at : ℕ → PokeType) → result ≡ type_operand (open_shape at shape.now) }
+    ensures is { (at : ℕ → PokeType) → result ≡ type_operand (open_shape at shape.now) }
+    ensures wide { (n : ℕ) → NamesBelow n shape.now → IsWide result }
 {
     match shape {
         Shape::Integer(t) => Operand::Number(Scalar::Integer(*t)),
@@ -48,6 +49,16 @@ fn shape_operand(shape: &Shape) -> Operand
         Shape::String => Operand::String,
         _ => Operand::Other,
     }
+}
+
+/// What an operator sees of the type of a node.
+pub fn node_operand(nodes: &[Node], i: usize) -> Operand
+    requires table { IsTable nodes.now }
+    requires inside { i < length nodes.now }
+    ensures is { result ≡ type_operand (type_of nodes.now i) }
+    ensures wide { IsWide result }
+{
+    shape_operand(shape_at(nodes, i))
 }
 
 /// What an operator sees of it.
@@ -59,7 +70,7 @@ pub fn operand_of(nodes: &[Node], sort: Sort) -> Operand
     match sort {
         Sort::Text => Operand::Text,
         Sort::Scalar(s) => Operand::Number(s),
-        Sort::Node(i) => shape_operand(shape_at(nodes, i)),
+        Sort::Node(i) => node_operand(nodes, i),
     }
 }
 
