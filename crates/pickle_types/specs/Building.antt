@@ -10,7 +10,7 @@ use Rattle.pickle_types.specs.declared.check.places.Place.TheVariants as place
 use Rattle.pickle_types.specs.declared.check.types.Builder.{Builder}
 use Rattle.pickle_types.specs.declared.check.types.Found.{Found}
 use Rattle.pickle_types.specs.Types.{PokeType, Fields, depth, fields_depth}
-use Rattle.pickle_types.specs.Table.{type_of, fields_onto, open_fields, FieldsBelow, IsTable, Grows}
+use Rattle.pickle_types.specs.Table.{name_of, type_of, fields_onto, open_fields, FieldsBelow, IsTable, Grows}
 use Rattle.pickle_types.specs.Scopes.{Visible}
 use Rattle.pickle_types.specs.Names.{Names}
 use Rattle.pickle_types.specs.Meaning.{after_field, with_itself, FieldMeaning, field_then}
@@ -52,17 +52,22 @@ Builds old new (Ok found) given = (t : PokeType) × (given ≡ Ok t) × IsBuilt 
 Builds old new (Err e) given = Fails e given
 
 -- one field is built, after others, and what comes after it sees it where it may
-pub record IsFieldBuilt (old new : Builder) (place : Place) (levels index : ℕ) (parts : FieldParts) (field : Field) (deepness : ℕ) (f : FieldMeaning) : Type 0 where
+pub record IsFieldBuilt (old new : Builder) (place : Place) (levels index : ℕ) (parts : FieldParts) (field : Field) (f : FieldMeaning) : Type 0 where
   pub keeps : Keeps old new
   pub inside : field.node < length new.nodes.items
+  pub name : name_of field.name ≡ parts.name
   pub opened : (rest : Fields) → fields_onto (type_of new.nodes.items) (field ∷ []) rest ≡ field_then parts f rest
-  pub deep : deepness ≡ depth f.type
   pub below : AreBelow (length new.nodes.items) (levels + 1) new.seen.items
   pub kept : take (length old.seen.items) new.seen.items ≡ old.seen.items
   pub seen : visible_in new ≡ after_field place (visible_in old) (with_itself place (visible_in old) levels index parts f.type)
 
+abbrev pub FieldGives : Builder → Builder → Place → ℕ → ℕ → FieldParts → Result Field FaultKind → Result FieldMeaning FaultKind → Type 0
+FieldGives old new place levels index parts (Ok field) given = (f : FieldMeaning) × (given ≡ Ok f) × IsFieldBuilt old new place levels index parts field f
+FieldGives old new place levels index parts (Err e) given = Fails e given
+
+-- a field and how deep its type is
 abbrev pub FieldBuilds : Builder → Builder → Place → ℕ → ℕ → FieldParts → Result (Field × ℕ) FaultKind → Result FieldMeaning FaultKind → Type 0
-FieldBuilds old new place levels index parts (Ok x) given = (f : FieldMeaning) × (given ≡ Ok f) × IsFieldBuilt old new place levels index parts x.0 x.1 f
+FieldBuilds old new place levels index parts (Ok x) given = (f : FieldMeaning) × (given ≡ Ok f) × IsFieldBuilt old new place levels index parts x.0 f × (x.1 ≡ depth f.type)
 FieldBuilds old new place levels index parts (Err e) given = Fails e given
 
 pub record AreBuilt (old new : Builder) (fields : List Field) (deepest : ℕ) (fs : Fields) : Type 0 where

@@ -13,7 +13,7 @@ use crate::fault::FaultKind;
 use crate::scopes::is_named;
 use crate::table::{Field, Node, Part};
 use pickle_syntax::tree;
-use pickle_syntax::tree::Form;
+use pickle_syntax::tree::{ByteOrder, Expression, Form};
 use std::alloc::Global;
 
 /// The type of a field as it is written.
@@ -30,6 +30,30 @@ pub fn name_in(field: &tree::Field) -> Option<&[u8]>
         None => None,
         Some(name) => Some(name.as_slice()),
     }
+}
+
+pub fn order_in(field: &tree::Field) -> Option<ByteOrder>
+    ensures { result ≡ (field_tree field.now).parts.order }
+{
+    field.order
+}
+
+pub fn label_in(field: &tree::Field) -> &Option<Expression>
+    ensures { optional_tree result.now ≡ (field_tree field.now).parts.label }
+{
+    &field.label
+}
+
+pub fn condition_in(field: &tree::Field) -> &Option<Expression>
+    ensures { optional_tree result.now ≡ (field_tree field.now).parts.condition }
+{
+    &field.condition
+}
+
+pub fn constraint_in(field: &tree::Field) -> &Option<Expression>
+    ensures { optional_tree result.now ≡ (field_tree field.now).parts.constraint }
+{
+    &field.constraint
 }
 
 /// Whether a field may stand here, which has a width of bits or not.

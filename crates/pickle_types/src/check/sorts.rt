@@ -4,7 +4,7 @@ ghost use Rattle.std.specs.Prelude.{◌≡◌, ℕ, ◌<◌, length, IfOk, IfSom
 ghost use Rattle.pickle_types.specs.Types.{PokeType};
 ghost use Rattle.pickle_types.specs.Table.{open_shape, open_fields, open_parts, type_of, FieldsBelow, PartsBelow, NamesBelow, IsTable};
 ghost use Rattle.pickle_types.specs.Expressions.{or_wrong, type_operand, operand_of, element_in, sort_element, find_field, find_part, field_in, sort_field};
-ghost use Rattle.pickle_types.specs.Meaning.{bit_width};
+ghost use Rattle.pickle_types.specs.Meaning.{bit_width, has_some};
 ghost use Rattle.pickle_types.specs.Built.{Gives, sort_of, IsInside, IsFoundField, IsWide};
 
 use crate::check::operators::{Operand, Scalar};
@@ -175,4 +175,16 @@ pub fn width_of(nodes: &[Node], i: usize) -> Option<u8>
     ensures { result ≡ bit_width (type_of nodes.now i) }
 {
     shape_width(shape_at(nodes, i))
+}
+
+/// Whether it is an integer, an offset or an integral struct.
+pub fn has_width(nodes: &[Node], i: usize) -> bool
+    requires table { IsTable nodes.now }
+    requires inside { i < length nodes.now }
+    ensures { result ≡ has_some (bit_width (type_of nodes.now i)) }
+{
+    match width_of(nodes, i) {
+        Some(_) => true,
+        None => false,
+    }
 }

@@ -6,14 +6,14 @@ ghost use Rattle.pickle_types.specs.Types;
 ghost use Rattle.pickle_types.specs.Table.{optional_term, bound_of, type_of, open_shape, IsTable, NamesBelow};
 ghost use Rattle.pickle_types.specs.Meaning.{integer_expression, offset_expression, bound_expression, integer_type, called, plain, offset_type, field_meaning, struct_place, meaning, fields_meaning};
 ghost use Rattle.pickle_types.specs.Built.{Gives, bytes_now, views_of, AreNamed, AreBelow, names_in};
-ghost use Rattle.pickle_types.specs.Building.{known_types, visible_in, after_itself, Builds, FieldBuilds, FieldsBuild};
+ghost use Rattle.pickle_types.specs.Building.{known_types, visible_in, after_itself, Builds, FieldGives, FieldBuilds, FieldsBuild};
 
 use crate::check::expressions::{integer, typed};
-use crate::check::fields::{copied, form_in, fresh, name_in, parts_from, place_in, stand, struct_place, total_width};
+use crate::check::fields::{condition_in, constraint_in, copied, form_in, fresh, label_in, name_in, order_in, parts_from, place_in, stand, struct_place, total_width};
 use crate::check::places::Place;
 use crate::check::operators::Scalar;
 use crate::check::references::{in_range, integer_referred, offset_parts};
-use crate::check::sorts::{operand_of, width_of};
+use crate::check::sorts::{has_width, operand_of};
 use crate::fault::FaultKind;
 use crate::names::{Names, find_name};
 use crate::scopes::Seen;
@@ -118,6 +118,27 @@ impl<'n> Builder<'n> {
             self.seen.truncate(mark);
         }
         Ok(constraint)
+    }
+
+    /// A field of a type, after others; what comes after it sees it, but not in a union.
+    fn field_of(&mut self, place: Place, levels: u8, found: Found, before: &[Field], written: &'n tree::Field) -> Result<Field, FaultKind>
+        requires table { IsTable self.old.nodes.items }
+        requires names { AreNamed self.old.nodes.items self.old.names }
+        requires seen { AreBelow (length self.old.nodes.items) (levels + 1) self.old.seen.items }
+        requires few { levels < 64 }
+        requires inside { found.node < length self.old.nodes.items }
+        ensures gives { FieldGives self.old self.new place levels (length before.now) (field_tree written.now).parts result (field_meaning (known_types self.old) place (visible_in self.old) levels (names_in before.now) (field_tree written.now).parts (Ok (type_of self.old.nodes.items found.node))) }
+    {
+        let bits = has_width(&self.nodes, found.node);
+        stand(place, bits, written)?;
+        let word = name_in(written);
+        fresh(word, before)?;
+        let label = self.offset_expression(levels + 1, label_in(written))?;
+        let condition = self.integer_expression(levels + 1, condition_in(written))?;
+        let itself = Seen { name: word, level: levels, place: place_in(place, before.len()), node: found.node };
+        let constraint = self.constraint(place, itself, constraint_in(written))?;
+        let name = copied(self.alloc, word)?;
+        Ok(Field { name, order: order_in(written), node: found.node, constraint, label, condition })
     }
 
     fn push(&mut self, slot: Option<u16>, shape: Shape, depth: u8) -> Result<Found, FaultKind>
@@ -290,15 +311,8 @@ impl<'n> Builder<'n> {
         ensures low { IfOk result (λ x. x.1 ≤ room) }
     {
         let found = self.type_at(levels + 1, Title { name: None, slot: None }, room, form_in(written))?;
-        let bits = width_of(&self.nodes, found.node).is_some();
-        stand(place, bits, written)?;
-        let word = name_in(written);
-        fresh(word, before)?;
-        let label = self.offset_expression(levels + 1, &written.label)?;
-        let condition = self.integer_expression(levels + 1, &written.condition)?;
-        let constraint = self.constraint(place, Seen { name: word, level: levels, place: place_in(place, before.len()), node: found.node }, &written.constraint)?;
-        let name = copied(self.alloc, word)?;
-        Ok((Field { name, order: written.order, node: found.node, constraint, label, condition }, found.depth))
+        let field = self.field_of(place, levels, found, before, written)?;
+        Ok((field, found.depth))
     }
 
     /// The fields of a struct or the alternatives of a union, and how deep the deepest is.
