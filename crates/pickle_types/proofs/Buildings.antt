@@ -1,16 +1,16 @@
 -- One step of the definitions for each step of the builder.
-use Rattle.std.proofs.Common.{◌≡◌, ℕ, zero, suc, ◌+◌, ◌-◌, ◌<◌, ◌≤◌, max, List, [], ◌∷◌, ◌++◌, map, Option, Some, None, Result, Ok, Err, Bool, length, take, drop, refl, sym, ap, subst, ◌∙◌, arith, Vec, Global}
+use Rattle.std.proofs.Common.{◌≡◌, ℕ, zero, suc, ◌+◌, ◌-◌, ◌<◌, ◌≤◌, max, List, [], ◌∷◌, ◌++◌, map, Option, Some, None, Result, Ok, Err, Bool, length, take, drop, get_or, refl, sym, ap, subst, ◌∙◌, arith, Vec, Global}
 use Rattle.std.specs.Prelude.{All, is_some}
 use Rattle.std.specs.Map.{values_of}
 use Rattle.std.proofs.lemmas.Bool.{eq-eqb, ne_eqb}
-use Rattle.std.proofs.lemmas.List.{append_assoc, append-nil, length-append, map_push, take_all, take-append-le}
+use Rattle.std.proofs.lemmas.List.{append_assoc, append-nil, length-append, length-take, drop_more, map_push, take_all, take-append-le}
 use Rattle.std.proofs.lemmas.List.Elements.{All-append}
 use Rattle.pickle_syntax.specs.declared.tree.Unit.{Unit as PokeUnit}
 use Rattle.pickle_syntax.specs.Tree.{Tree, TreeReference, FieldParts, FormTree, Plain, StringForm, OffsetForm, ArrayForm, StructForm, IntegralForm, UnionForm, FieldTrees, field_tree, fields_tree}
 use Rattle.pickle_syntax.specs.declared.tree.Field as tree
 use Rattle.pickle_types.specs.declared.integer.IntegerType.{IntegerType}
 use Rattle.pickle_types.specs.declared.fault.FaultKind.{FaultKind}
-use Rattle.pickle_types.specs.declared.fault.FaultKind.TheVariants.{Memory, IntegralWidths}
+use Rattle.pickle_types.specs.declared.fault.FaultKind.TheVariants.{Memory, IntegralWidths, NotHere}
 use Rattle.pickle_types.specs.declared.table.Node.{Node}
 use Rattle.pickle_types.specs.declared.table.Field.{Field}
 use Rattle.pickle_types.specs.declared.check.places.Place.{Place}
@@ -181,9 +181,9 @@ unfolding fields_depth
 so_far_more a b c fields field deepest deepness here levels index parts f whole rest rest' h g deep next =
     let long = longer b.nodes.items c.nodes.items h.keeps.table g.keeps.grows in
     let same : (more : Fields) → fields_onto (type_of b.nodes.items) fields more ≡ fields_onto (type_of c.nodes.items) fields more =
-      λ more. sym (fields_same (type_of c.nodes.items) (type_of b.nodes.items) (length b.nodes.items) (λ e lt. type_kept b.nodes.items c.nodes.items h.keeps.table g.keeps.grows e lt) fields more h.below) in
+    λ more. sym (fields_same (type_of c.nodes.items) (type_of b.nodes.items) (length b.nodes.items) (λ e lt. type_kept b.nodes.items c.nodes.items h.keeps.table g.keeps.grows e lt) fields more h.below) in
     let opens : open_fields (type_of c.nodes.items) (fields ++ field ∷ []) ≡ fields_onto (type_of b.nodes.items) fields (field_then parts f NoFields) =
-      onto_append (type_of c.nodes.items) fields (field ∷ []) NoFields ∙ ap (fields_onto (type_of c.nodes.items) fields) (g.opened NoFields) ∙ sym (same (field_then parts f NoFields)) in
+    onto_append (type_of c.nodes.items) fields (field ∷ []) NoFields ∙ ap (fields_onto (type_of c.nodes.items) fields) (g.opened NoFields) ∙ sym (same (field_then parts f NoFields)) in
     let depths = onto_depth (type_of b.nodes.items) fields (field_then parts f NoFields) in
     let before = h.deep in
     record {
@@ -197,7 +197,7 @@ so_far_more a b c fields field deepest deepness here levels index parts f whole 
 pub fields_step : (names : Names) (here : Place) (seen : List Visible) (levels room : ℕ) (before : List (Option (List ℕ))) (f : tree.Field) (fs : List tree.Field) (m : FieldMeaning) →
     field_meaning names here seen levels before (field_tree f).parts (meaning names seen (levels + 1) None room (field_tree f).form) ≡ Ok m →
     fields_meaning names here seen levels room before (fields_tree (f ∷ fs)) ≡
-      (fields_meaning names here (after_field here seen (with_itself here seen levels (length before) (field_tree f).parts m.type)) levels room (before ++ (field_tree f).parts.name ∷ []) (fields_tree fs) >>= λ gs. Ok (field_then (field_tree f).parts m gs))
+    (fields_meaning names here (after_field here seen (with_itself here seen levels (length before) (field_tree f).parts m.type)) levels room (before ++ (field_tree f).parts.name ∷ []) (fields_tree fs) >>= λ gs. Ok (field_then (field_tree f).parts m gs))
 unfolding fields_meaning
 fields_step names here seen levels room before f fs m h = rw h refl
 
@@ -254,12 +254,13 @@ pub field_built : (old new : Builder) (s : Seen) (here : Place) (index : ℕ) (p
     new.names ≡ old.names → new.nodes.items ≡ old.nodes.items → new.seen.items ≡ after_itself here old.seen.items s →
     bytes_now s.name ≡ parts.name → s.place ≡ place_in here index → field.node ≡ s.node → name_of field.name ≡ parts.name → field.order ≡ parts.order →
     IsFieldBuilt old new here s.level index parts field
-      (record { type = type_of old.nodes.items s.node; constraint = optional_term field.constraint; label = optional_term field.label; condition = optional_term field.condition })
+    (record { type = type_of old.nodes.items s.node; constraint = optional_term field.constraint; label = optional_term field.label; condition = optional_term field.condition })
 field_built old new s here index parts field table named below inside names nodes seen en ep node name order =
     record {
       keeps = record { grows = record { more = []; is = nodes ∙ sym (append-nil _) }; table = rw nodes table; named = rw (names, nodes) named; known = rw (names, nodes) refl };
       inside = rw (nodes, node) inside;
       name = name;
+      type = rw (nodes, node) refl;
       opened = λ rest. rw (nodes, node, name, order) refl;
       below = rw (nodes, seen) (after_below (length old.nodes.items) (s.level + 1) old.seen.items s here below (record { node = inside; level = omega arith }));
       kept = rw seen (after_kept old.seen.items s here);
@@ -279,3 +280,59 @@ pub field_meaning_fails : (names : Names) (here : Place) (seen : List Visible) (
     Fails e (integer_expression names (with_itself here seen levels (length before) parts t) (levels + 1) parts.constraint) →
     Fails e (field_meaning names here seen levels before parts (Ok t))
 field_meaning_fails names here seen levels before parts t l d e stands new label condition constraint = rw (stands, new, label, condition) (fails_bind e _ _ constraint)
+
+pub drop_item : {A : Type 0} (xs : List A) (i : ℕ) (x : A) → i < length xs → x ≡ get_or xs i x → drop i xs ≡ x ∷ drop (i + 1) xs
+drop_item xs i x lt is = drop_more xs i x lt ∙ ap (λ y. y ∷ drop (i + 1) xs) (sym is)
+
+take_within : {A : Type 0} (i j : ℕ) (xs : List A) → i ≤ j → take i (take j xs) ≡ take i xs
+take_within zero j xs le = refl
+take_within (suc i) zero xs le = absurd (omega arith)
+take_within (suc i) (suc j) [] le = refl
+take_within (suc i) (suc j) (x ∷ xs) le = ap (λ l. x ∷ l) (take_within i j xs (omega arith))
+
+pub kept_on : (mark : ℕ) (xs ys zs : List Seen) → take mark ys ≡ xs → length xs ≡ mark → take (length ys) zs ≡ ys → take mark zs ≡ xs
+kept_on mark xs ys zs e n k =
+    let long = length-take mark ys in
+    let same = ap length e in
+    sym (take_within mark (length ys) zs (omega arith)) ∙ ap (take mark) k ∙ e
+
+pub so_far_none : (b : Builder) (fields : List Field) (whole : Result Fields FaultKind) → IsTable b.nodes.items → AreNamed b.nodes.items b.names → fields ≡ [] → FieldsSoFar b b fields 0 whole whole
+unfolding fields_depth
+so_far_none b fields whole table named none = rw none (record {
+  keeps = record { grows = record { more = []; is = sym (append-nil _) }; table = table; named = named; known = refl };
+  below = λ k d lt. absurd (omega arith);
+  given = front_none (type_of b.nodes.items) whole;
+  deep = refl;
+})
+
+pub fields_next : (names : Names) (here : Place) (seen seen' : List Visible) (levels room : ℕ) (fields : List Field) (field : Field) (f : tree.Field) (fs : List tree.Field) (m : FieldMeaning) →
+    field_meaning names here seen levels (names_in fields) (field_tree f).parts (meaning names seen (levels + 1) None room (field_tree f).form) ≡ Ok m →
+    name_of field.name ≡ (field_tree f).parts.name →
+    seen' ≡ after_field here seen (with_itself here seen levels (length fields) (field_tree f).parts m.type) →
+    fields_meaning names here seen levels room (names_in fields) (fields_tree (f ∷ fs)) ≡
+    (fields_meaning names here seen' levels room (names_in (fields ++ field ∷ [])) (fields_tree fs) >>= λ gs. Ok (field_then (field_tree f).parts m gs))
+fields_next names here seen seen' levels room fields field f fs m h en ev =
+    rw (ev, names_more fields field, en, ← names_count fields) (fields_step names here seen levels room (names_in fields) f fs m h)
+
+pub builds_as : (a b : Builder) (r : Result Found FaultKind) (given whole : Result PokeType FaultKind) → whole ≡ given → Builds a b r given → Builds a b r whole
+builds_as a b (Ok found) given whole e h = (h.0, e ∙ h.1, h.2)
+builds_as a b (Err Memory) given whole e h = tt
+builds_as a b (Err _) given whole e h = e ∙ h
+
+pub no_alternative : (fs : List tree.Field) → length fs ≡ 0 → if_some_alternative (fields_tree fs) ≡ Err NotHere
+no_alternative [] e = refl
+no_alternative (f ∷ fs) e = absurd (omega arith)
+
+-- a field that is built on a table that had grown
+pub field_on : (a b c : Builder) (here : Place) (levels index : ℕ) (parts : FieldParts) (field : Field) (f : FieldMeaning) → Keeps a b → b.seen.items ≡ a.seen.items → visible_in b ≡ visible_in a →
+    IsFieldBuilt b c here levels index parts field f → IsFieldBuilt a c here levels index parts field f
+field_on a b c here levels index parts field f g s v h = record {
+  keeps = keeps_on a b c g h.keeps;
+  inside = h.inside;
+  name = h.name;
+  type = h.type;
+  opened = h.opened;
+  below = h.below;
+  kept = rw (← s) h.kept;
+  seen = h.seen ∙ ap (λ w. after_field here w (with_itself here w levels index parts f.type)) v;
+}

@@ -8,3 +8,4 @@ pub mod Sums
 pub mod Bounded
 pub mod Steps
 pub mod Buildings
+pub mod Forms

@@ -56,6 +56,7 @@ pub record IsFieldBuilt (old new : Builder) (place : Place) (levels index : ℕ)
   pub keeps : Keeps old new
   pub inside : field.node < length new.nodes.items
   pub name : name_of field.name ≡ parts.name
+  pub type : type_of new.nodes.items field.node ≡ f.type
   pub opened : (rest : Fields) → fields_onto (type_of new.nodes.items) (field ∷ []) rest ≡ field_then parts f rest
   pub below : AreBelow (length new.nodes.items) (levels + 1) new.seen.items
   pub kept : take (length old.seen.items) new.seen.items ≡ old.seen.items

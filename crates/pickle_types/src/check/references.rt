@@ -30,7 +30,11 @@ pub fn in_range(signed: bool, width: u64) -> Result<IntegerType, FaultKind>
 }
 
 /// What an operator sees of the type that a reference names.
-fn operand_referred(names: &Names, nodes: &[Node], reference: &Reference) -> Result<Operand, FaultKind>
+fn operand_referred(
+    names: &Names,
+    nodes: &[Node],
+    reference: &Reference,
+) -> Result<Operand, FaultKind>
     requires table { IsTable nodes.now }
     requires names { AreNamed nodes.now names.now }
     ensures gives { Gives (λ o. o) result (operand_referred (names_of nodes.now names.now) (reference_tree reference.now)) }
@@ -83,7 +87,12 @@ pub fn unit_bits(unit: Unit) -> Result<u32, FaultKind>
 }
 
 /// The magnitude's type and the unit of an offset type.
-pub fn offset_parts(names: &Names, nodes: &[Node], reference: &Reference, unit: Unit) -> Result<(IntegerType, u32), FaultKind>
+pub fn offset_parts(
+    names: &Names,
+    nodes: &[Node],
+    reference: &Reference,
+    unit: Unit,
+) -> Result<(IntegerType, u32), FaultKind>
     requires table { IsTable nodes.now }
     requires names { AreNamed nodes.now names.now }
     ensures gives { Gives (λ x. Scalar.Offset x.0 x.1) result (offset_referred (names_of nodes.now names.now) (reference_tree reference.now) unit) }

@@ -9,9 +9,12 @@ ghost use Rattle.pickle_types.specs.Built.{Gives, bytes_now, views_of, AreNamed,
 ghost use Rattle.pickle_types.specs.Building.{known_types, visible_in, after_itself, Builds, FieldGives, FieldBuilds, FieldsBuild};
 
 use crate::check::expressions::{integer, typed};
-use crate::check::fields::{condition_in, constraint_in, copied, form_in, fresh, label_in, name_in, order_in, parts_from, place_in, stand, struct_place, total_width};
-use crate::check::places::Place;
+use crate::check::fields::{
+    condition_in, constraint_in, copied, form_in, fresh, label_in, name_in, order_in, parts_from,
+    place_in, stand, struct_place, total_width,
+};
 use crate::check::operators::Scalar;
+use crate::check::places::Place;
 use crate::check::references::{in_range, integer_referred, offset_parts};
 use crate::check::sorts::{has_width, operand_of};
 use crate::fault::FaultKind;
@@ -48,7 +51,11 @@ pub struct Builder<'n> {
 impl<'n> Builder<'n> {
     /// A constraint or condition, which is an integer.
     #[tactic(auto, unfolding(crate::specs::Meaning::integer_expression))]
-    fn integer_expression(&self, levels: u8, e: &Option<Expression>) -> Result<Option<Resolved>, FaultKind>
+    fn integer_expression(
+        &self,
+        levels: u8,
+        e: &Option<Expression>,
+    ) -> Result<Option<Resolved>, FaultKind>
         requires table { IsTable self.now.nodes.items }
         requires names { AreNamed self.now.nodes.items self.now.names }
         requires seen { AreBelow (length self.now.nodes.items) levels self.now.seen.items }
@@ -64,7 +71,11 @@ impl<'n> Builder<'n> {
 
     /// A label, which is an offset.
     #[tactic(auto, unfolding(crate::specs::Meaning::offset_expression))]
-    fn offset_expression(&self, levels: u8, e: &Option<Expression>) -> Result<Option<Resolved>, FaultKind>
+    fn offset_expression(
+        &self,
+        levels: u8,
+        e: &Option<Expression>,
+    ) -> Result<Option<Resolved>, FaultKind>
         requires table { IsTable self.now.nodes.items }
         requires names { AreNamed self.now.nodes.items self.now.names }
         requires seen { AreBelow (length self.now.nodes.items) levels self.now.seen.items }
@@ -100,7 +111,12 @@ impl<'n> Builder<'n> {
     }
 
     /// The constraint of a field, which sees the field itself; so does what comes after it, but not in a union.
-    fn constraint(&mut self, place: Place, itself: Seen<'n>, e: &Option<Expression>) -> Result<Option<Resolved>, FaultKind>
+    fn constraint(
+        &mut self,
+        place: Place,
+        itself: Seen<'n>,
+        e: &Option<Expression>,
+    ) -> Result<Option<Resolved>, FaultKind>
         requires table { IsTable self.old.nodes.items }
         requires names { AreNamed self.old.nodes.items self.old.names }
         requires level { itself.level < 64 }
@@ -121,13 +137,21 @@ impl<'n> Builder<'n> {
     }
 
     /// A field of a type, after others; what comes after it sees it, but not in a union.
-    fn field_of(&mut self, place: Place, levels: u8, found: Found, before: &[Field], written: &'n tree::Field) -> Result<Field, FaultKind>
+    fn field_of(
+        &mut self,
+        place: Place,
+        levels: u8,
+        found: Found,
+        before: &[Field],
+        written: &'n tree::Field,
+    ) -> Result<Field, FaultKind>
         requires table { IsTable self.old.nodes.items }
         requires names { AreNamed self.old.nodes.items self.old.names }
         requires seen { AreBelow (length self.old.nodes.items) (levels + 1) self.old.seen.items }
         requires few { levels < 64 }
         requires inside { found.node < length self.old.nodes.items }
         ensures gives { FieldGives self.old self.new place levels (length before.now) (field_tree written.now).parts result (field_meaning (known_types self.old) place (visible_in self.old) levels (names_in before.now) (field_tree written.now).parts (Ok (type_of self.old.nodes.items found.node))) }
+        ensures node { IfOk result (λ field. field.node ≡ found.node) }
     {
         let bits = has_width(&self.nodes, found.node);
         stand(place, bits, written)?;
@@ -135,10 +159,22 @@ impl<'n> Builder<'n> {
         fresh(word, before)?;
         let label = self.offset_expression(levels + 1, label_in(written))?;
         let condition = self.integer_expression(levels + 1, condition_in(written))?;
-        let itself = Seen { name: word, level: levels, place: place_in(place, before.len()), node: found.node };
+        let itself = Seen {
+            name: word,
+            level: levels,
+            place: place_in(place, before.len()),
+            node: found.node,
+        };
         let constraint = self.constraint(place, itself, constraint_in(written))?;
         let name = copied(self.alloc, word)?;
-        Ok(Field { name, order: order_in(written), node: found.node, constraint, label, condition })
+        Ok(Field {
+            name,
+            order: order_in(written),
+            node: found.node,
+            constraint,
+            label,
+            condition,
+        })
     }
 
     fn push(&mut self, slot: Option<u16>, shape: Shape, depth: u8) -> Result<Found, FaultKind>
@@ -168,12 +204,20 @@ impl<'n> Builder<'n> {
                 if d.depth > room {
                     return Err(FaultKind::TooDeep);
                 }
-                Ok(Found { node: d.node, depth: d.depth })
+                Ok(Found {
+                    node: d.node,
+                    depth: d.depth,
+                })
             }
         }
     }
 
-    fn integer_at(&mut self, slot: Option<u16>, signed: bool, width: u64) -> Result<Found, FaultKind>
+    fn integer_at(
+        &mut self,
+        slot: Option<u16>,
+        signed: bool,
+        width: u64,
+    ) -> Result<Found, FaultKind>
         requires table { IsTable self.old.nodes.items }
         requires names { AreNamed self.old.nodes.items self.old.names }
         ensures builds { Builds self.old self.new result (integer_type signed width) }
@@ -183,7 +227,12 @@ impl<'n> Builder<'n> {
         self.push(slot, Shape::Integer(t), 1)
     }
 
-    fn plain_at(&mut self, slot: Option<u16>, room: u8, reference: &Reference) -> Result<Found, FaultKind>
+    fn plain_at(
+        &mut self,
+        slot: Option<u16>,
+        room: u8,
+        reference: &Reference,
+    ) -> Result<Found, FaultKind>
         requires table { IsTable self.old.nodes.items }
         requires names { AreNamed self.old.nodes.items self.old.names }
         requires some { 0 < room }
@@ -197,7 +246,12 @@ impl<'n> Builder<'n> {
         }
     }
 
-    fn offset_at(&mut self, slot: Option<u16>, reference: &Reference, unit: Unit) -> Result<Found, FaultKind>
+    fn offset_at(
+        &mut self,
+        slot: Option<u16>,
+        reference: &Reference,
+        unit: Unit,
+    ) -> Result<Found, FaultKind>
         requires table { IsTable self.old.nodes.items }
         requires names { AreNamed self.old.nodes.items self.old.names }
         ensures builds { Builds self.old self.new result (offset_type (known_types self.old) (reference_tree reference.now) unit) }
@@ -209,7 +263,13 @@ impl<'n> Builder<'n> {
 
     /// The node of the type that a form means, no deeper than there is room for.
     #[cycle(types)]
-    fn type_at(&mut self, levels: u8, title: Title<'n>, room: u8, form: &'n Form) -> Result<Found, FaultKind>
+    fn type_at(
+        &mut self,
+        levels: u8,
+        title: Title<'n>,
+        room: u8,
+        form: &'n Form,
+    ) -> Result<Found, FaultKind>
         requires table { IsTable self.old.nodes.items }
         requires names { AreNamed self.old.nodes.items self.old.names }
         requires seen { AreBelow (length self.old.nodes.items) levels self.old.seen.items }
@@ -226,13 +286,22 @@ impl<'n> Builder<'n> {
             Form::Offset(reference, unit) => self.offset_at(title.slot, reference, *unit),
             Form::Array(element, bound) => self.array_at(levels, title, room, element, bound),
             Form::Struct(pinned, fields) => self.struct_at(levels, title, room, *pinned, fields),
-            Form::Integral(reference, fields) => self.integral_at(levels, title, room, reference, fields),
+            Form::Integral(reference, fields) => self.integral_at(
+                levels, title, room, reference, fields,
+            ),
             Form::Union(alternatives) => self.union_at(levels, title, room, alternatives),
         }
     }
 
     #[cycle(types)]
-    fn array_at(&mut self, levels: u8, title: Title<'n>, room: u8, element: &'n Form, bound: &Option<Expression>) -> Result<Found, FaultKind>
+    fn array_at(
+        &mut self,
+        levels: u8,
+        title: Title<'n>,
+        room: u8,
+        element: &'n Form,
+        bound: &Option<Expression>,
+    ) -> Result<Found, FaultKind>
         requires table { IsTable self.old.nodes.items }
         requires names { AreNamed self.old.nodes.items self.old.names }
         requires seen { AreBelow (length self.old.nodes.items) levels self.old.seen.items }
@@ -241,13 +310,28 @@ impl<'n> Builder<'n> {
         ensures builds { Builds self.old self.new result (meaning (known_types self.old) (visible_in self.old) levels (bytes_now title.entry.name) room (ArrayForm (form_tree element.now) (optional_tree bound.now))) }
         ensures low { IfOk result (λ found. found.depth ≤ room) }
     {
-        let found = self.type_at(levels + 1, Title { name: None, slot: None }, room - 1, element)?;
+        let found = self.type_at(
+            levels + 1,
+            Title {
+                name: None,
+                slot: None,
+            },
+            room - 1,
+            element,
+        )?;
         let bound = self.bound_expression(levels, bound)?;
         self.push(title.slot, Shape::Array(found.node, bound), found.depth + 1)
     }
 
     #[cycle(types)]
-    fn struct_at(&mut self, levels: u8, title: Title<'n>, room: u8, pinned: bool, written: &'n [tree::Field]) -> Result<Found, FaultKind>
+    fn struct_at(
+        &mut self,
+        levels: u8,
+        title: Title<'n>,
+        room: u8,
+        pinned: bool,
+        written: &'n [tree::Field],
+    ) -> Result<Found, FaultKind>
         requires table { IsTable self.old.nodes.items }
         requires names { AreNamed self.old.nodes.items self.old.names }
         requires seen { AreBelow (length self.old.nodes.items) levels self.old.seen.items }
@@ -258,11 +342,26 @@ impl<'n> Builder<'n> {
     {
         let (fields, depth) = self.fields_at(struct_place(pinned), levels, room - 1, written)?;
         let name = copied(self.alloc, title.name)?;
-        self.push(title.slot, Shape::Struct { name, pinned, fields }, depth + 1)
+        self.push(
+            title.slot,
+            Shape::Struct {
+                name,
+                pinned,
+                fields,
+            },
+            depth + 1,
+        )
     }
 
     #[cycle(types)]
-    fn integral_at(&mut self, levels: u8, title: Title<'n>, room: u8, reference: &Reference, written: &'n [tree::Field]) -> Result<Found, FaultKind>
+    fn integral_at(
+        &mut self,
+        levels: u8,
+        title: Title<'n>,
+        room: u8,
+        reference: &Reference,
+        written: &'n [tree::Field],
+    ) -> Result<Found, FaultKind>
         requires table { IsTable self.old.nodes.items }
         requires names { AreNamed self.old.nodes.items self.old.names }
         requires seen { AreBelow (length self.old.nodes.items) levels self.old.seen.items }
@@ -278,11 +377,25 @@ impl<'n> Builder<'n> {
         }
         let fields = parts_from(self.alloc, fields)?;
         let name = copied(self.alloc, title.name)?;
-        self.push(title.slot, Shape::Integral { name, number, fields }, depth + 1)
+        self.push(
+            title.slot,
+            Shape::Integral {
+                name,
+                number,
+                fields,
+            },
+            depth + 1,
+        )
     }
 
     #[cycle(types)]
-    fn union_at(&mut self, levels: u8, title: Title<'n>, room: u8, written: &'n [tree::Field]) -> Result<Found, FaultKind>
+    fn union_at(
+        &mut self,
+        levels: u8,
+        title: Title<'n>,
+        room: u8,
+        written: &'n [tree::Field],
+    ) -> Result<Found, FaultKind>
         requires table { IsTable self.old.nodes.items }
         requires names { AreNamed self.old.nodes.items self.old.names }
         requires seen { AreBelow (length self.old.nodes.items) levels self.old.seen.items }
@@ -302,7 +415,14 @@ impl<'n> Builder<'n> {
 
     /// One field, after others; what comes after it sees it, but not in a union.
     #[cycle(types)]
-    fn field_at(&mut self, place: Place, levels: u8, room: u8, before: &[Field], written: &'n tree::Field) -> Result<(Field, u8), FaultKind>
+    fn field_at(
+        &mut self,
+        place: Place,
+        levels: u8,
+        room: u8,
+        before: &[Field],
+        written: &'n tree::Field,
+    ) -> Result<(Field, u8), FaultKind>
         requires table { IsTable self.old.nodes.items }
         requires names { AreNamed self.old.nodes.items self.old.names }
         requires seen { AreBelow (length self.old.nodes.items) (levels + 1) self.old.seen.items }
@@ -310,7 +430,15 @@ impl<'n> Builder<'n> {
         ensures builds { FieldBuilds self.old self.new place levels (length before.now) (field_tree written.now).parts result (field_meaning (known_types self.old) place (visible_in self.old) levels (names_in before.now) (field_tree written.now).parts (meaning (known_types self.old) (visible_in self.old) (levels + 1) None room (field_tree written.now).form)) }
         ensures low { IfOk result (λ x. x.1 ≤ room) }
     {
-        let found = self.type_at(levels + 1, Title { name: None, slot: None }, room, form_in(written))?;
+        let found = self.type_at(
+            levels + 1,
+            Title {
+                name: None,
+                slot: None,
+            },
+            room,
+            form_in(written),
+        )?;
         let field = self.field_of(place, levels, found, before, written)?;
         Ok((field, found.depth))
     }
@@ -318,7 +446,13 @@ impl<'n> Builder<'n> {
     /// The fields of a struct or the alternatives of a union, and how deep the deepest is.
     #[cycle(types)]
     #[tactic(auto, unfolding(crate::specs::Meaning::fields_meaning))]
-    fn fields_at(&mut self, place: Place, levels: u8, room: u8, written: &'n [tree::Field]) -> Result<(Vec<Field>, u8), FaultKind>
+    fn fields_at(
+        &mut self,
+        place: Place,
+        levels: u8,
+        room: u8,
+        written: &'n [tree::Field],
+    ) -> Result<(Vec<Field>, u8), FaultKind>
         requires table { IsTable self.old.nodes.items }
         requires names { AreNamed self.old.nodes.items self.old.names }
         requires seen { AreBelow (length self.old.nodes.items) levels self.old.seen.items }
@@ -328,7 +462,7 @@ impl<'n> Builder<'n> {
     {
         let mark = self.seen.len();
         let mut fields = Vec::new(self.alloc);
-        let mut deepest = 0;
+        let mut deepest: u8 = 0;
         for f in written {
             let (field, depth) = self.field_at(place, levels, room, &fields, f)?;
             fields.push(field)?;

@@ -32,6 +32,6 @@ invariant-fields_at-loop-f l = record {
   kept : take l.mark l.self.seen.items ≡ l.initial.self.seen.items;
   below : AreBelow (length l.self.nodes.items) (l.levels + 1) l.self.seen.items;
   so_far : FieldsSoFar l.initial.self l.self l.fields.items l.deepest
-    (fields_meaning (known_types l.initial.self) l.place (visible_in l.initial.self) l.levels l.room [] (fields_tree l.written))
-    (fields_meaning (known_types l.initial.self) l.place (visible_in l.self) l.levels l.room (names_in l.fields.items) (fields_tree (drop l.f-index l.written)));
+      (fields_meaning (known_types l.initial.self) l.place (visible_in l.initial.self) l.levels l.room [] (fields_tree l.written))
+      (fields_meaning (known_types l.initial.self) l.place (visible_in l.self) l.levels l.room (names_in l.fields.items) (fields_tree (drop l.f-index l.written)));
 }
