@@ -1,7 +1,9 @@
 -- What a builder of types has built.
-use Rattle.std.specs.Prelude.{◌≡◌, ℕ, ◌+◌, ◌<◌, ◌≤◌, length, List, [], ◌∷◌, ◌++◌, take, Option, Result, Ok, Err, Vec}
+use Rattle.std.specs.Prelude.{◌≡◌, ℕ, ◌+◌, ◌<◌, ◌≤◌, length, List, [], ◌∷◌, ◌++◌, take, Option, Some, None, Result, Ok, Err, Bool, true, false, ◌&&◌, nat_le, Vec}
+use denote.Bor.{Bor}
 use Rattle.std.specs.declared.alloc.Global.{Global}
 use Rattle.pickle_syntax.specs.Tree.{FieldParts}
+use Rattle.pickle_types.specs.declared.integer.IntegerType.{IntegerType}
 use Rattle.pickle_types.specs.declared.fault.FaultKind.{FaultKind}
 use Rattle.pickle_types.specs.declared.table.Field.{Field}
 use Rattle.pickle_types.specs.declared.scopes.Seen.{Seen}
@@ -9,10 +11,10 @@ use Rattle.pickle_types.specs.declared.check.places.Place.{Place}
 use Rattle.pickle_types.specs.declared.check.places.Place.TheVariants as place
 use Rattle.pickle_types.specs.declared.check.types.Builder.{Builder}
 use Rattle.pickle_types.specs.declared.check.types.Found.{Found}
-use Rattle.pickle_types.specs.Types.{PokeType, Fields, depth, fields_depth}
+use Rattle.pickle_types.specs.Types.{PokeType, IntegerOf, Fields, depth, fields_depth}
 use Rattle.pickle_types.specs.Table.{name_of, type_of, fields_onto, open_fields, FieldsBelow, IsTable, Grows}
 use Rattle.pickle_types.specs.Scopes.{Visible}
-use Rattle.pickle_types.specs.Names.{Names}
+use Rattle.pickle_types.specs.Names.{Names, find_type}
 use Rattle.pickle_types.specs.Meaning.{after_field, with_itself, FieldMeaning, field_then}
 use Rattle.pickle_types.specs.Built.{Fails, names_of, views_of, AreNamed, AreBelow}
 
@@ -92,3 +94,28 @@ pub record FieldsSoFar (old new : Builder) (fields : List Field) (deepest : ℕ)
   pub below : FieldsBelow (length new.nodes.items) fields
   pub given : whole ≡ with_front (fields_onto (type_of new.nodes.items) fields) rest
   pub deep : deepest ≡ fields_depth (open_fields (type_of new.nodes.items) fields)
+
+-- a builder that can take the next declaration
+pub record IsReady (b : Builder) : Type 0 where
+  pub table : IsTable b.nodes.items
+  pub named : AreNamed b.nodes.items b.names
+  pub none : b.seen.items ≡ []
+
+-- what a declaration added
+abbrev pub AddsType : Builder → Builder → List ℕ → Result ℕ FaultKind → Result PokeType FaultKind → Type 0
+AddsType old new name (Ok node) given = (t : PokeType) × (given ≡ Ok t) × (known_types new ≡ known_types old ++ (name, t) ∷ []) × IsReady new
+AddsType old new name (Err e) given = Fails e given
+
+-- integer types with their names
+abbrev pub named_types : List (Bor (List ℕ) × IntegerType) → Names
+named_types [] = []
+named_types (p ∷ ps) = (p.0.now, IntegerOf p.1) ∷ named_types ps
+
+abbrev pub is_unknown : Option PokeType → Bool
+is_unknown None = true
+is_unknown (Some t) = false
+
+-- whether these names are new, each after the ones before it, and their widths from 1 to 64
+abbrev pub may_add : Names → List (Bor (List ℕ) × IntegerType) → Bool
+may_add names [] = true
+may_add names (p ∷ ps) = is_unknown (find_type p.0.now names) && nat_le 1 p.1.width && nat_le p.1.width 64 && may_add (names ++ (p.0.now, IntegerOf p.1) ∷ []) ps

@@ -1,5 +1,5 @@
 -- What the checker holds, as the trees that it stands for.
-use Rattle.std.specs.Prelude.{◌≡◌, ℕ, ◌+◌, ◌<◌, ◌≤◌, length, List, [], ◌∷◌, map, Option, Some, None, Result, Ok, Err, Vec, All}
+use Rattle.std.specs.Prelude.{◌≡◌, ℕ, ◌+◌, ◌<◌, ◌≤◌, length, List, [], ◌∷◌, ◌++◌, map, Option, Some, None, Result, Ok, Err, Vec, All}
 use Rattle.std.specs.declared.alloc.Global.{Global}
 use Rattle.std.specs.Map.{values_of}
 use denote.Bor.{Bor}
@@ -107,3 +107,9 @@ IsWide (operand.Number (Offset t u)) = Unit {0}
 IsWide operand.String = Unit {0}
 IsWide operand.Text = Unit {0}
 IsWide operand.Other = Unit {0}
+
+-- one more entry, behind the others
+pub record AddsEntry (old new : List (Vec ℕ Global × Declared)) (word : List ℕ) (d : Declared) : Type 0 where
+  pub key : Vec ℕ Global
+  pub bytes : key.items ≡ word
+  pub entries : new ≡ old ++ (key, d) ∷ []

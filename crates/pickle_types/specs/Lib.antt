@@ -10,3 +10,4 @@ pub mod WellTyped
 pub mod Built
 pub mod Building
 pub mod Holds
+pub mod TypeTable

@@ -66,3 +66,19 @@ impl<T: Drop> From<AllocFailed<T>> for FaultKind {
         FaultKind::Memory
     }
 }
+
+impl From<FaultKind> for TypeFault {
+    ghost from_gives = { λ kind e. e ≡ record { kind = kind; decl = 0 } };
+
+    fn from(kind: FaultKind) -> TypeFault {
+        TypeFault { kind, decl: 0 }
+    }
+}
+
+impl<T: Drop> From<AllocFailed<T>> for TypeFault {
+    ghost from_gives = { λ _ e. e ≡ record { kind = Memory; decl = 0 } };
+
+    fn from(_e: AllocFailed<T>) -> TypeFault {
+        TypeFault { kind: FaultKind::Memory, decl: 0 }
+    }
+}

@@ -7,5 +7,7 @@ pub mod fault;
 pub mod integer;
 pub mod laws;
 pub mod names;
+pub mod predeclared;
 pub mod scopes;
 pub mod table;
+pub mod type_table;

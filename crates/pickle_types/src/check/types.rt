@@ -177,7 +177,7 @@ impl<'n> Builder<'n> {
         })
     }
 
-    fn push(&mut self, slot: Option<u16>, shape: Shape, depth: u8) -> Result<Found, FaultKind>
+    pub fn push(&mut self, slot: Option<u16>, shape: Shape, depth: u8) -> Result<Found, FaultKind>
         requires table { IsTable self.old.nodes.items }
         requires names { AreNamed self.old.nodes.items self.old.names }
         requires below { NamesBelow (length self.old.nodes.items) shape }
@@ -263,7 +263,7 @@ impl<'n> Builder<'n> {
 
     /// The node of the type that a form means, no deeper than there is room for.
     #[cycle(types)]
-    fn type_at(
+    pub fn type_at(
         &mut self,
         levels: u8,
         title: Title<'n>,
