@@ -9,3 +9,4 @@ pub mod Bounded
 pub mod Steps
 pub mod Buildings
 pub mod Forms
+pub mod Declarations

@@ -40,3 +40,11 @@ module _ (nodes : List Node) (word : List ℕ) where
   pub found_is : (o : Option Declared) (es : List (Vec ℕ Global × Declared)) → o ≡ lookup (λ (k : Vec ℕ Global). bytes_eq word k.items) es → IsFound nodes o (find_type word (map (named_of nodes) es))
   found_is None es e = find_maps es ∙ ap (option_map (λ (d : Declared). type_of nodes d.node)) (sym e)
   found_is (Some d) es e = find_maps es ∙ ap (option_map (λ (d : Declared). type_of nodes d.node)) (sym e)
+
+  not_found : {A B : Type 0} (f : A → B) (o : Option A) → option_map f o ≡ None → o ≡ None
+  not_found f None e = refl
+  not_found f (Some x) e = cc
+
+  -- a name that no type has is no key
+  pub absent : (es : List (Vec ℕ Global × Declared)) → find_type word (map (named_of nodes) es) ≡ None → lookup (λ (k : Vec ℕ Global). bytes_eq word k.items) es ≡ None
+  absent es e = not_found (λ (d : Declared). type_of nodes d.node) _ (sym (find_maps es) ∙ e)

@@ -39,7 +39,9 @@ impl<'n> Builder<'n> {
         ensures known { OnOk result (known_types self.new ≡ known_types self.old ++ (word.now, type_of self.old.nodes.items found.node) ∷ []) }
         ensures err { IfErr result (λ e. e ≡ FaultKind.Memory) }
     {
-        insert(&mut self.names, self.alloc, word, Declared { node: found.node, depth: found.depth })
+        let declared = Declared { node: found.node, depth: found.depth };
+        insert(&mut self.names, self.alloc, word, declared)?;
+        Ok(())
     }
 
     /// Adds integer types under names that are new.
@@ -50,8 +52,8 @@ impl<'n> Builder<'n> {
         ensures known { OnOk result (known_types self.new ≡ known_types self.old ++ named_types types.now) }
         ensures err { IfErr result (λ e. e ≡ FaultKind.Memory) }
     {
-        for (word, ty) in types {
-            self.predeclare_one(word, *ty)?;
+        for entry in types {
+            self.predeclare_one(entry.0, entry.1)?;
         }
         Ok(())
     }
