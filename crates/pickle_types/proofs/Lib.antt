@@ -10,3 +10,4 @@ pub mod Steps
 pub mod Buildings
 pub mod Forms
 pub mod Declarations
+pub mod IllTyped

@@ -79,6 +79,9 @@ impl<T: Drop> From<AllocFailed<T>> for TypeFault {
     ghost from_gives = { λ _ e. e ≡ record { kind = Memory; decl = 0 } };
 
     fn from(_e: AllocFailed<T>) -> TypeFault {
-        TypeFault { kind: FaultKind::Memory, decl: 0 }
+        TypeFault {
+            kind: FaultKind::Memory,
+            decl: 0,
+        }
     }
 }

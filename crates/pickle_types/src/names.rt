@@ -28,12 +28,19 @@ impl Names {
     pub fn new(alloc: Global) -> Names
         ensures { result.map.entries ≡ [] }
     {
-        Names { map: IndexMap::new(alloc) }
+        Names {
+            map: IndexMap::new(alloc),
+        }
     }
 }
 
 /// Gives a type a name that no type has.
-pub fn insert(names: &mut Names, alloc: Global, word: &[u8], declared: Declared) -> Result<(), FaultKind>
+pub fn insert(
+    names: &mut Names,
+    alloc: Global,
+    word: &[u8],
+    declared: Declared,
+) -> Result<(), FaultKind>
     requires new { lookup (λ k. bytes_eq word.now k.items) names.old.map.entries ≡ None }
     ensures ok { OnOk result (AddsEntry names.old.map.entries names.new.map.entries word.now declared) }
     ensures err { IfErr result (λ e. e ≡ FaultKind.Memory) }

@@ -26,7 +26,12 @@ impl<'n> Builder<'n> {
         ensures ready { IsReady result }
         ensures none { known_types result ≡ [] }
     {
-        Builder { alloc, names: Names::new(alloc), nodes: Vec::new(alloc), seen: Vec::new(alloc) }
+        Builder {
+            alloc,
+            names: Names::new(alloc),
+            nodes: Vec::new(alloc),
+            seen: Vec::new(alloc),
+        }
     }
 
     /// Gives a type a name that no type has.
@@ -39,7 +44,10 @@ impl<'n> Builder<'n> {
         ensures known { OnOk result (known_types self.new ≡ known_types self.old ++ (word.now, type_of self.old.nodes.items found.node) ∷ []) }
         ensures err { IfErr result (λ e. e ≡ FaultKind.Memory) }
     {
-        let declared = Declared { node: found.node, depth: found.depth };
+        let declared = Declared {
+            node: found.node,
+            depth: found.depth,
+        };
         insert(&mut self.names, self.alloc, word, declared)?;
         Ok(())
     }
@@ -71,14 +79,21 @@ impl<'n> Builder<'n> {
     }
 
     /// Adds the type of a declaration, and gives its node.
-    fn declare(&mut self, slot: Option<u16>, declaration: &'n Declaration) -> Result<usize, FaultKind>
+    fn declare(
+        &mut self,
+        slot: Option<u16>,
+        declaration: &'n Declaration,
+    ) -> Result<usize, FaultKind>
         requires ready { IsReady self.old }
         ensures adds { AddsType self.old self.new (declaration_tree declaration.now).name result (declared_type (known_types self.old) (declaration_tree declaration.now)) }
     {
         if find_name(&self.names, &declaration.name).is_some() {
             return Err(FaultKind::DuplicateType);
         }
-        let title = Title { name: Some(declaration.name.as_slice()), slot };
+        let title = Title {
+            name: Some(declaration.name.as_slice()),
+            slot,
+        };
         let found = self.type_at(0, title, 64, &declaration.form)?;
         self.add(&declaration.name, found)?;
         Ok(found.node)
@@ -148,8 +163,18 @@ impl Table {
         let mut builder = Builder::new(alloc);
         builder.predeclare(&PREDECLARED)?;
         let roots = builder.declare_all(&pickle.declarations)?;
-        let Builder { alloc: _, names, nodes, seen: _ } = builder;
-        Ok(Table { nodes, roots, names, declared: pickle.declarations.len() })
+        let Builder {
+            alloc: _,
+            names,
+            nodes,
+            seen: _,
+        } = builder;
+        Ok(Table {
+            nodes,
+            roots,
+            names,
+            declared: pickle.declarations.len(),
+        })
     }
 
     /// The type of a declared or predeclared name.
@@ -158,7 +183,9 @@ impl Table {
         ensures { IsTypeFound self.now result (find_type name.now (types_of self.now)) }
     {
         match find_name(&self.names, name) {
-            Some(declared) => Some(TypeId { node: declared.node }),
+            Some(declared) => Some(TypeId {
+                node: declared.node,
+            }),
             None => None,
         }
     }
