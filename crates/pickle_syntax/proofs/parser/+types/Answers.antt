@@ -1,0 +1,27 @@
+use Rattle.std.proofs.Common.{◌≡◌, ◌-◌, ◌<◌, ◌∙◌, arith, vec_len}
+use Rattle.pickle_syntax.specs.Tokens.{tokens_of}
+use Rattle.pickle_syntax.specs.Tree.{field_tree, fields_tree}
+use Rattle.pickle_syntax.specs.Limits.{standard}
+use Rattle.pickle_syntax.specs.ReadForms.{form_at}
+use Rattle.pickle_syntax.proofs.FieldSteps.{fields_step, fields_tree_push, depth_push}
+use Rattle.pickle_syntax.proofs.parser.+types.Goals as goal
+
+pub fields::fields_at-fields-preserved : goal.fields::fields_at-fields-preserved
+fields::fields_at-fields-preserved t c =
+    let len = c.len.ensures in
+    let pushed = c.in_ok-push.ensures.len in
+    let most = c.max-depth.ensures in
+    let before = c.fields.invariant.measured in
+    let here = c.in_ok-found.found.measured in
+    let low = c.fields.invariant.low in
+    let low_here = c.in_ok-found.ensures.low in
+    let items = c.in_ok-push.ensures.items in
+    let few : vec_len c.fields.fields < 1024 = omega arith in
+    let num : 1024 - vec_len c.push.new.self ≡ 1024 - vec_len c.fields.fields - 1 = omega arith in
+    let step = fields_step standard (form_at standard c.args.room) (fields_tree c.fields.fields.items) (1024 - vec_len c.fields.fields) (tokens_of c.fields.rest.now) (field_tree c.in_ok-found.found.field) (tokens_of c.in_ok-found.after.now) (omega arith) c.in_default.ensures c.in_ok-found.ensures.read in
+    record {
+      same = rw (items, fields_tree_push c.fields.fields.items c.in_ok-found.found.field, num) (step ∙ c.fields.invariant.same);
+      few = omega arith;
+      measured = rw (items, depth_push c.fields.fields.items c.in_ok-found.found.field) (omega (arith, most, before, here));
+      low = omega (arith, most);
+    }

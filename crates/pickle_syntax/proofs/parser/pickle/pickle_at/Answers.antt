@@ -1,0 +1,18 @@
+use Rattle.std.proofs.Common.{◌≡◌, ◌-◌, ◌<◌, ◌∙◌, sym, arith, vec_len, map}
+use Rattle.pickle_syntax.specs.Tokens.{tokens_of}
+use Rattle.pickle_syntax.specs.Tree.{declaration_tree}
+use Rattle.pickle_syntax.specs.Limits.{standard}
+use Rattle.pickle_syntax.proofs.DeclarationSteps.{declarations_push, declarations_step}
+use Rattle.pickle_syntax.proofs.parser.pickle.pickle_at.Goals as goal
+
+pub declarations-preserved : goal.declarations-preserved
+declarations-preserved c =
+    let len = c.len.ensures in
+    let pushed = c.in_ok-push.ensures.len in
+    let few : vec_len c.declarations.declarations < 4096 = omega arith in
+    let num : 4096 - vec_len c.push.new.self ≡ 4096 - vec_len c.declarations.declarations - 1 = omega arith in
+    let step = declarations_step standard (map declaration_tree c.declarations.declarations.items) (4096 - vec_len c.declarations.declarations) (tokens_of c.declarations.rest.now) (declaration_tree c.in_ok-declaration.declaration) (tokens_of c.in_ok-declaration.after.now) (omega arith) (sym c.is_over.ensures ∙ c.if-is_over.false) c.in_ok-declaration.ensures in
+    record {
+      same = rw (c.in_ok-push.ensures.items, declarations_push c.declarations.declarations.items c.in_ok-declaration.declaration, num) (step ∙ c.declarations.invariant.same);
+      few = omega arith;
+    }

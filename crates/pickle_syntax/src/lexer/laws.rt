@@ -1,0 +1,21 @@
+//! Laws of the tokens: each is the contract of a function that does nothing.
+
+ghost use Rattle.std.specs.Prelude.{◌≡◌, ◌≤◌, ◌↔◌, ℕ, List, ◌++◌, length, Option, Ok, Err};
+ghost use Rattle.pickle_syntax.specs.Tokens.{Token};
+ghost use Rattle.pickle_syntax.specs.Bytes.{Fault};
+ghost use Rattle.pickle_syntax.specs.Lexing.{Span, piece_at, lexed};
+ghost use Rattle.pickle_syntax.specs.Pieces.{IsLongest, HasNoPiece, IsFaultAt, IsLexed, IsLexFault};
+
+/// What is cut at a place is the longest piece there by the rules of the tokens, and the only one so long; nothing is
+/// cut just where no front of the bytes is a piece, and then the fault is the one that the rules name.
+pub fn cuts_the_longest()
+    ensures piece { (at : ℕ) (o : Option Token) (front after : List ℕ) → (piece_at at (front ++ after) ≡ Ok (o, length front)) ↔ IsLongest o front after }
+    ensures fault { (at : ℕ) (bytes : List ℕ) (f : Fault) → 1 ≤ length bytes → (piece_at at bytes ≡ Err f) ↔ (HasNoPiece bytes × IsFaultAt at bytes f) }
+{}
+
+/// The rules of the tokens leave one answer for each pickle: its tokens and spans where no place is faulty, and else its
+/// first fault.
+pub fn rules_decide()
+    ensures tokens { (bytes : List ℕ) (x : List Token × List Span) → (lexed bytes ≡ Ok x) ↔ IsLexed bytes x }
+    ensures fault { (bytes : List ℕ) (f : Fault) → (lexed bytes ≡ Err f) ↔ IsLexFault bytes f }
+{}

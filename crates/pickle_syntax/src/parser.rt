@@ -1,0 +1,67 @@
+//! Pickles from their tokens.
+
+ghost use Rattle.std.specs.Prelude.{◌≡◌, ◌≢◌, ◌<◌, ◌≤◌, List, length, IfOk, IfErr};
+ghost use Rattle.pickle_syntax.specs.Tokens.{tokens_of};
+ghost use Rattle.pickle_syntax.specs.Tree.{Tree, DeclarationTree, pickle_tree};
+ghost use Rattle.pickle_syntax.specs.Show.{show, show_pickle};
+ghost use Rattle.pickle_syntax.specs.Levels.{IsWellBracketed, IsPickleWellBracketed};
+ghost use Rattle.pickle_syntax.specs.Pickles.{IsPickle, IsPickleOf, semicolons, fault_of, IsPlaceWithin};
+ghost use Rattle.pickle_syntax.specs.declared.parser.fault.ParseFault.TheVariants.{Memory, TooDeep, TooMany};
+
+mod expressions;
+pub mod fault;
+mod fields;
+mod operators;
+mod pickle;
+mod reading;
+#[cfg(test)]
+mod tests;
+mod types;
+
+use crate::lexer::Tokens;
+use crate::parser::fault::{ParseFault, Stop};
+use crate::parser::pickle::pickle_at;
+use crate::tree::Pickle;
+use std::alloc::Global;
+
+/// The fault of a reading that stopped, over so many tokens.
+fn fault_of(stop: Stop, count: usize) -> ParseFault
+    ensures { result ≡ fault_of stop count }
+{
+    match stop {
+        Stop::Syntax(left) => ParseFault::Syntax(count.saturating_sub(left)),
+        Stop::TooDeep => ParseFault::TooDeep,
+        Stop::TooMany => ParseFault::TooMany,
+        Stop::Memory => ParseFault::Memory,
+    }
+}
+
+/// The pickle that the tokens are: declarations whose tree shows these tokens, each operand binding as tightly as its
+/// place asks, and within the limits of 64 levels of an expression (brackets counted), 64 levels of types in one another,
+/// 1,024 fields of a struct or union and 4,096 declarations.
+///
+/// `Syntax`, `TooDeep` and `TooMany` come only where the tokens are no pickle. Which of them comes is not promised, beyond
+/// what the clauses say; `Syntax` names the first token at which no pickle can go on.
+pub fn parse(alloc: Global, tokens: &Tokens) -> Result<Pickle, ParseFault>
+    ensures found { IfOk result (λ p. IsPickleOf (tokens_of tokens.now.kinds.items) (pickle_tree p)) }
+    ensures refused { IfErr result (λ f. f ≢ Memory → IsPickle (tokens_of tokens.now.kinds.items) → ⊥) }
+    ensures place { IfErr result (λ f. IsPlaceWithin (length tokens.now.kinds.items) f) }
+    ensures deep { IfErr result (λ f. f ≡ TooDeep → 64 < length tokens.now.kinds.items) }
+    ensures many { IfErr result (λ f. f ≡ TooMany → 1024 ≤ semicolons (tokens_of tokens.now.kinds.items)) }
+{
+    let kinds = tokens.kinds();
+    match pickle_at(alloc, kinds) {
+        Ok(pickle) => Ok(pickle),
+        Err(stop) => Err(fault_of(stop, kinds.len())),
+    }
+}
+
+/// Two well bracketed expressions that show the same tokens are equal.
+pub fn one_expression()
+    ensures { (t u : Tree) → IsWellBracketed t → IsWellBracketed u → show t ≡ show u → t ≡ u }
+{}
+
+/// Two well bracketed pickles that show the same tokens are equal.
+pub fn one_tree()
+    ensures { (ds es : List DeclarationTree) → IsPickleWellBracketed ds → IsPickleWellBracketed es → show_pickle ds ≡ show_pickle es → ds ≡ es }
+{}

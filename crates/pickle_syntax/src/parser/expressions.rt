@@ -1,0 +1,313 @@
+//! Reads expressions.
+
+ghost use Rattle.std.specs.Prelude.{◌≡◌, ◌+◌, ◌<◌, ◌≤◌, drop, IfOk, IfErr};
+ghost use Rattle.pickle_syntax.specs.Tokens.{tokens_of};
+ghost use Rattle.pickle_syntax.specs.Tree.{expression_tree, suffix_tree, After};
+ghost use Rattle.pickle_syntax.specs.declared.parser.fault.Stop.TheVariants.{Memory};
+ghost use Rattle.pickle_syntax.specs.declared.parser.operators.Start.TheVariants as start;
+ghost use Rattle.pickle_syntax.specs.declared.parser.operators.Next.TheVariants as next;
+ghost use Rattle.pickle_syntax.specs.Limits;
+ghost use Rattle.pickle_syntax.specs.Reading.{Gives};
+ghost use Rattle.pickle_syntax.specs.ReadExpressions.{operand_by, operand_at, step_at, chain, expression_at};
+
+use crate::parser::fault::Stop;
+use crate::parser::operators::{Next, Start, goes_on, level, level_of, next_of, start_of};
+use crate::parser::reading::{expect, name_at, target_at, unit_at};
+use crate::token::{Kind, Sign};
+use crate::tree::{Expression, Infix, Prefix, Suffix};
+use std::alloc::Global;
+
+/// The least level of what an operator before its operand takes.
+const PREFIX_LEVEL: u8 = 13;
+
+/// An expression, and its depth.
+#[derive(Drop)]
+pub struct Found {
+    pub expression: Expression,
+    pub depth: u8,
+    ghost measured: { depth ≡ Limits.depth (expression_tree expression) },
+}
+
+/// What follows `(`.
+#[cycle(expressions)]
+fn bracketed(alloc: Global, room: u8, tokens: &[Kind]) -> Result<(Found, &[Kind]), Stop>
+    requires { room < 255 }
+    ensures read { Gives (λ x. (expression_tree x.0.expression, tokens_of x.1.now)) result (operand_by (expression_at room) (tokens_of tokens.now) start.Bracket) }
+    ensures low { IfOk result (λ x. x.0.depth ≤ room + 1) }
+{
+    let (inner, rest) = expression(alloc, room, 1, tokens)?;
+    let rest = expect(rest, Sign::CloseParen)?;
+    let depth = inner.depth + 1;
+    let expression = Expression::Bracket(Box::new(alloc, inner.expression)?);
+    Ok((Found { expression, depth }, rest))
+}
+
+/// What follows an operator before its operand.
+#[cycle(expressions)]
+fn prefixed(alloc: Global, room: u8, op: Prefix, tokens: &[Kind]) -> Result<(Found, &[Kind]), Stop>
+    requires { room < 255 }
+    ensures read { Gives (λ x. (expression_tree x.0.expression, tokens_of x.1.now)) result (operand_by (expression_at room) (tokens_of tokens.now) (start.Prefix op)) }
+    ensures low { IfOk result (λ x. x.0.depth ≤ room + 1) }
+{
+    let (inner, rest) = expression(alloc, room, PREFIX_LEVEL, tokens)?;
+    let depth = inner.depth + 1;
+    let expression = Expression::Prefix(op, Box::new(alloc, inner.expression)?);
+    Ok((Found { expression, depth }, rest))
+}
+
+/// What begins an expression: a literal, a name, a bracket, or a prefix with its operand.
+#[cycle(expressions)]
+#[tactic(auto, unfolding(crate::specs::ReadExpressions::operand_at))]
+fn operand(alloc: Global, room: u8, tokens: &[Kind]) -> Result<(Found, &[Kind]), Stop>
+    requires { room < 255 }
+    ensures read { Gives (λ x. (expression_tree x.0.expression, tokens_of x.1.now)) result (operand_at (expression_at room) (tokens_of tokens.now)) }
+    ensures low { IfOk result (λ x. x.0.depth ≤ room + 1) }
+{
+    match tokens {
+        [] => Err(Stop::Syntax(0)),
+        [first, rest @ ..] => match first {
+            Kind::Number(number) => {
+                let expression = Expression::Number(*number);
+                Ok((
+                    Found {
+                        expression,
+                        depth: 1,
+                    },
+                    rest,
+                ))
+            }
+            Kind::Character(byte) => {
+                let expression = Expression::Character(*byte);
+                Ok((
+                    Found {
+                        expression,
+                        depth: 1,
+                    },
+                    rest,
+                ))
+            }
+            Kind::Text(bytes) => {
+                let expression = Expression::Text(Vec::from_slice(alloc, bytes)?);
+                Ok((
+                    Found {
+                        expression,
+                        depth: 1,
+                    },
+                    rest,
+                ))
+            }
+            Kind::Name(name) => {
+                let expression = Expression::Name(Vec::from_slice(alloc, name)?);
+                Ok((
+                    Found {
+                        expression,
+                        depth: 1,
+                    },
+                    rest,
+                ))
+            }
+            Kind::Sign(sign) => match start_of(*sign) {
+                Start::Bracket => bracketed(alloc, room, rest),
+                Start::Prefix(op) => prefixed(alloc, room, op, rest),
+                Start::Nothing => Err(Stop::Syntax(tokens.len())),
+            },
+            _ => Err(Stop::Syntax(tokens.len())),
+        },
+    }
+}
+
+fn after_first(tokens: &[Kind]) -> &[Kind]
+    ensures { tokens_of result.now ≡ drop 1 (tokens_of tokens.now) }
+{
+    match tokens {
+        [] => tokens,
+        [_, rest @ ..] => rest,
+    }
+}
+
+/// A suffix over what was read.
+fn with_suffix(alloc: Global, left: Found, suffix: Suffix) -> Result<Found, Stop>
+    requires { left.depth < 255 }
+    ensures made { IfOk result (λ x. (expression_tree x.expression ≡ After (expression_tree left.expression) (suffix_tree suffix)) × (x.depth ≡ left.depth + 1)) }
+    ensures fails { IfErr result (λ e. e ≡ Memory) }
+{
+    let expression = Expression::After(Box::new(alloc, left.expression)?, suffix);
+    Ok(Found {
+        expression,
+        depth: left.depth + 1,
+    })
+}
+
+/// What follows an operator between two operands.
+#[cycle(expressions)]
+#[tactic(auto, unfolding(crate::specs::ReadExpressions::step_at))]
+fn infix<'a>(
+    alloc: Global,
+    room: u8,
+    left: Found,
+    op: Infix,
+    rest: &'a [Kind],
+) -> Result<(Found, &'a [Kind]), Stop>
+    requires room { room < 255 }
+    requires left { left.depth ≤ room }
+    ensures read { Gives (λ x. (expression_tree x.0.expression, tokens_of x.1.now)) result (step_at (expression_at room) (expression_tree left.expression) (tokens_of rest.now) (next.Infix op)) }
+    ensures low { IfOk result (λ x. x.0.depth ≤ room + 1) }
+{
+    let (right, rest) = expression(alloc, room, level(op) + 1, rest)?;
+    let depth = left.depth.max(right.depth) + 1;
+    let left = Box::new(alloc, left.expression)?;
+    let right = Box::new(alloc, right.expression)?;
+    let expression = Expression::Infix(op, left, right);
+    Ok((Found { expression, depth }, rest))
+}
+
+/// What follows `?`.
+#[cycle(expressions)]
+#[tactic(auto, unfolding(crate::specs::ReadExpressions::step_at))]
+fn choice<'a>(
+    alloc: Global,
+    room: u8,
+    left: Found,
+    rest: &'a [Kind],
+) -> Result<(Found, &'a [Kind]), Stop>
+    requires room { room < 255 }
+    requires left { left.depth ≤ room }
+    ensures read { Gives (λ x. (expression_tree x.0.expression, tokens_of x.1.now)) result (step_at (expression_at room) (expression_tree left.expression) (tokens_of rest.now) next.Choice) }
+    ensures low { IfOk result (λ x. x.0.depth ≤ room + 1) }
+{
+    let (yes, rest) = expression(alloc, room, 1, rest)?;
+    let rest = expect(rest, Sign::Colon)?;
+    let (no, rest) = expression(alloc, room, 1, rest)?;
+    let depth = left.depth.max(yes.depth.max(no.depth)) + 1;
+    let left = Box::new(alloc, left.expression)?;
+    let yes = Box::new(alloc, yes.expression)?;
+    let no = Box::new(alloc, no.expression)?;
+    let expression = Expression::Choice(left, yes, no);
+    Ok((Found { expression, depth }, rest))
+}
+
+/// What follows `[`.
+#[cycle(expressions)]
+#[tactic(auto, unfolding(crate::specs::ReadExpressions::step_at))]
+fn index<'a>(
+    alloc: Global,
+    room: u8,
+    left: Found,
+    rest: &'a [Kind],
+) -> Result<(Found, &'a [Kind]), Stop>
+    requires room { room < 255 }
+    requires left { left.depth ≤ room }
+    ensures read { Gives (λ x. (expression_tree x.0.expression, tokens_of x.1.now)) result (step_at (expression_at room) (expression_tree left.expression) (tokens_of rest.now) next.Index) }
+    ensures low { IfOk result (λ x. x.0.depth ≤ room + 1) }
+{
+    let (index, rest) = expression(alloc, room, 1, rest)?;
+    let rest = expect(rest, Sign::CloseBracket)?;
+    let depth = left.depth.max(index.depth) + 1;
+    let left = Box::new(alloc, left.expression)?;
+    let index = Box::new(alloc, index.expression)?;
+    let expression = Expression::Index(left, index);
+    Ok((Found { expression, depth }, rest))
+}
+
+/// The operator after an operand, with what follows it.
+#[cycle(expressions)]
+#[tactic(auto, unfolding(crate::specs::ReadExpressions::step_at))]
+fn step<'a>(
+    alloc: Global,
+    room: u8,
+    left: Found,
+    next: Next,
+    rest: &'a [Kind],
+) -> Result<(Found, &'a [Kind]), Stop>
+    requires room { room < 255 }
+    requires left { left.depth ≤ room }
+    ensures read { Gives (λ x. (expression_tree x.0.expression, tokens_of x.1.now)) result (step_at (expression_at room) (expression_tree left.expression) (tokens_of rest.now) next) }
+    ensures low { IfOk result (λ x. x.0.depth ≤ room + 1) }
+{
+    match next {
+        Next::Infix(op) => infix(alloc, room, left, op, rest),
+        Next::Choice => choice(alloc, room, left, rest),
+        Next::Index => index(alloc, room, left, rest),
+        Next::Select => {
+            let (name, rest) = name_at(alloc, rest)?;
+            let found = with_suffix(alloc, left, Suffix::Select(name))?;
+            Ok((found, rest))
+        }
+        Next::Unit => {
+            let (unit, rest) = unit_at(rest)?;
+            let found = with_suffix(alloc, left, Suffix::Unit(unit))?;
+            Ok((found, rest))
+        }
+        Next::Attribute(attribute) => {
+            let found = with_suffix(alloc, left, Suffix::Attribute(attribute))?;
+            Ok((found, rest))
+        }
+        Next::Convert => {
+            let (target, rest) = target_at(alloc, rest)?;
+            let found = with_suffix(alloc, left, Suffix::Convert(target))?;
+            Ok((found, rest))
+        }
+        Next::Nothing => Err(Stop::Syntax(rest.len())),
+    }
+}
+
+/// At most so many operators after an operand, each over those before it.
+#[cycle(expressions)]
+#[tactic(auto, using(crate::proofs::Chain::chain_steps))]
+fn chain<'a>(
+    alloc: Global,
+    room: u8,
+    steps: u8,
+    level: u8,
+    left: Found,
+    tokens: &'a [Kind],
+) -> Result<(Found, &'a [Kind]), Stop>
+    requires room { room < 255 }
+    requires left { left.depth ≤ room + 1 }
+    ensures read { Gives (λ x. (expression_tree x.0.expression, tokens_of x.1.now)) result (chain (expression_at room) room steps level (expression_tree left.expression) (tokens_of tokens.now)) }
+    ensures low { IfOk result (λ x. x.0.depth ≤ room + 1) }
+{
+    let mut left = left;
+    let mut rest = tokens;
+    let mut steps = steps;
+    'chain: loop {
+        let next = next_of(rest);
+        if !goes_on(level, next, level_of(&left.expression)) {
+            return Ok((left, rest));
+        }
+        if steps == 0 {
+            return Err(Stop::TooDeep);
+        }
+        if room < left.depth {
+            return Err(Stop::TooDeep);
+        }
+        let (more, after) = step(alloc, room, left, next, after_first(rest))?;
+        left = more;
+        rest = after;
+        steps -= 1;
+    }
+}
+
+/// An expression of at least this level, no deeper than `room`.
+#[cycle(expressions)]
+#[tactic(auto, unfolding(crate::specs::ReadExpressions::expression_at))]
+pub fn expression(
+    alloc: Global,
+    room: u8,
+    level: u8,
+    tokens: &[Kind],
+) -> Result<(Found, &[Kind]), Stop>
+    ensures read { Gives (λ x. (expression_tree x.0.expression, tokens_of x.1.now)) result (expression_at room level (tokens_of tokens.now)) }
+    ensures low { IfOk result (λ x. x.0.depth ≤ room) }
+{
+    if room == 0 {
+        return Err(if tokens.is_empty() {
+            Stop::Syntax(0)
+        } else {
+            Stop::TooDeep
+        });
+    }
+    let room = room - 1;
+    let (first, rest) = operand(alloc, room, tokens)?;
+    chain(alloc, room, room, level, first, rest)
+}

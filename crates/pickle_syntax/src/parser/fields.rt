@@ -1,0 +1,163 @@
+//! Reads the fields of structs and unions.
+
+ghost use Rattle.std.specs.Prelude.{◌≡◌, ◌≤◌, ◌<◌, IfOk};
+ghost use Rattle.pickle_syntax.specs.Tokens.{tokens_of};
+ghost use Rattle.pickle_syntax.specs.Tree.{optional_tree, optional_bytes, field_tree, fields_tree};
+ghost use Rattle.pickle_syntax.specs.Limits;
+ghost use Rattle.pickle_syntax.specs.Limits.{standard};
+ghost use Rattle.pickle_syntax.specs.Reading.{Gives};
+ghost use Rattle.pickle_syntax.specs.ReadForms.{present_at, part_at, condition_at, order_at, optional_name_at, field_at, fields_at, braced_at, form_at};
+
+use crate::parser::expressions::expression;
+use crate::parser::fault::Stop;
+use crate::parser::reading::{after_sign, after_word, expect};
+use crate::parser::types::form_at;
+use crate::token::{Kind, Sign, Word};
+use crate::tree::{ByteOrder, Expression, Field};
+use std::alloc::{AllocError, Global};
+
+/// How deep an expression may be.
+const EXPRESSION_DEPTH: u8 = 64;
+
+/// How many fields a struct or a union may have.
+const FIELDS: usize = 1024;
+
+/// A field, and the depth of its type.
+#[derive(Drop)]
+pub struct FoundField {
+    pub field: Field,
+    pub depth: u8,
+    ghost measured: { depth ≡ Limits.form_depth (field_tree field).form },
+}
+
+/// Fields, and the depth of the deepest.
+#[derive(Drop)]
+pub struct FoundFields {
+    pub fields: Vec<Field>,
+    pub depth: u8,
+    ghost measured: { depth ≡ Limits.fields_depth (fields_tree fields.items) },
+}
+
+/// An expression that is there.
+#[tactic(auto, unfolding(crate::specs::ReadForms::present_at))]
+pub fn present_at(alloc: Global, tokens: &[Kind]) -> Result<(Option<Expression>, &[Kind]), Stop>
+    ensures { Gives (λ x. (optional_tree x.0, tokens_of x.1.now)) result (present_at standard.expression_depth (tokens_of tokens.now)) }
+{
+    let (found, rest) = expression(alloc, EXPRESSION_DEPTH, 1, tokens)?;
+    Ok((Some(found.expression), rest))
+}
+
+/// An expression behind this sign, or nothing.
+#[tactic(auto, unfolding(crate::specs::ReadForms::part_at))]
+fn part_at(
+    alloc: Global,
+    tokens: &[Kind],
+    sign: Sign,
+) -> Result<(Option<Expression>, &[Kind]), Stop>
+    ensures { Gives (λ x. (optional_tree x.0, tokens_of x.1.now)) result (part_at standard.expression_depth sign (tokens_of tokens.now)) }
+{
+    match after_sign(tokens, sign) {
+        Some(rest) => present_at(alloc, rest),
+        None => Ok((None, tokens)),
+    }
+}
+
+/// An expression behind `if`, or nothing.
+#[tactic(auto, unfolding(crate::specs::ReadForms::condition_at))]
+fn condition_at(alloc: Global, tokens: &[Kind]) -> Result<(Option<Expression>, &[Kind]), Stop>
+    ensures { Gives (λ x. (optional_tree x.0, tokens_of x.1.now)) result (condition_at standard.expression_depth (tokens_of tokens.now)) }
+{
+    match after_word(tokens, Word::If) {
+        Some(rest) => present_at(alloc, rest),
+        None => Ok((None, tokens)),
+    }
+}
+
+#[tactic(auto, unfolding(crate::specs::ReadForms::order_at))]
+fn order_at(tokens: &[Kind]) -> (Option<ByteOrder>, &[Kind])
+    ensures { (result.0, tokens_of result.1.now) ≡ order_at (tokens_of tokens.now) }
+{
+    match tokens {
+        [Kind::Word(Word::Big), rest @ ..] => (Some(ByteOrder::Big), rest),
+        [Kind::Word(Word::Little), rest @ ..] => (Some(ByteOrder::Little), rest),
+        _ => (None, tokens),
+    }
+}
+
+#[tactic(auto, unfolding(crate::specs::ReadForms::optional_name_at))]
+fn optional_name_at(
+    alloc: Global,
+    tokens: &[Kind],
+) -> Result<(Option<Vec<u8>>, &[Kind]), AllocError>
+    ensures { IfOk result (λ x. (optional_bytes x.0, tokens_of x.1.now) ≡ optional_name_at (tokens_of tokens.now)) }
+{
+    match tokens {
+        [Kind::Name(name), rest @ ..] => Ok((Some(Vec::from_slice(alloc, name)?), rest)),
+        _ => Ok((None, tokens)),
+    }
+}
+
+#[cycle(types)]
+#[tactic(auto, unfolding(crate::specs::ReadForms::field_at))]
+fn field_at(alloc: Global, room: u8, tokens: &[Kind]) -> Result<(FoundField, &[Kind]), Stop>
+    ensures read { Gives (λ x. (field_tree x.0.field, tokens_of x.1.now)) result (field_at standard (form_at standard room) (tokens_of tokens.now)) }
+    ensures low { IfOk result (λ x. x.0.depth ≤ room) }
+{
+    let (order, rest) = order_at(tokens);
+    let (found, rest) = form_at(alloc, room, rest)?;
+    let (name, rest) = optional_name_at(alloc, rest)?;
+    let (constraint, rest) = part_at(alloc, rest, Sign::Colon)?;
+    let (label, rest) = part_at(alloc, rest, Sign::At)?;
+    let (condition, rest) = condition_at(alloc, rest)?;
+    let rest = expect(rest, Sign::Semicolon)?;
+    let field = Field {
+        order,
+        form: found.form,
+        name,
+        constraint,
+        label,
+        condition,
+    };
+    Ok((
+        FoundField {
+            field,
+            depth: found.depth,
+        },
+        rest,
+    ))
+}
+
+/// The fields up to the closing brace.
+#[cycle(types)]
+#[tactic(auto, using(crate::proofs::FieldSteps::field_steps))]
+pub fn fields_at(alloc: Global, room: u8, tokens: &[Kind]) -> Result<(FoundFields, &[Kind]), Stop>
+    ensures read { Gives (λ x. (fields_tree x.0.fields.items, tokens_of x.1.now)) result (fields_at standard (form_at standard room) standard.fields (tokens_of tokens.now)) }
+    ensures low { IfOk result (λ x. x.0.depth ≤ room) }
+{
+    let mut fields = Vec::new(alloc);
+    let mut depth: u8 = 0;
+    let mut rest = tokens;
+    'fields: loop {
+        if let Some(after) = after_sign(rest, Sign::CloseBrace) {
+            return Ok((FoundFields { fields, depth }, after));
+        }
+        if fields.len() == FIELDS {
+            return Err(Stop::TooMany);
+        }
+        let (found, after) = field_at(alloc, room, rest)?;
+        depth = depth.max(found.depth);
+        fields.push(found.field)?;
+        rest = after;
+    }
+}
+
+/// The fields between two braces.
+#[cycle(types)]
+#[tactic(auto, unfolding(crate::specs::ReadForms::braced_at))]
+pub fn braced_at(alloc: Global, room: u8, tokens: &[Kind]) -> Result<(FoundFields, &[Kind]), Stop>
+    ensures read { Gives (λ x. (fields_tree x.0.fields.items, tokens_of x.1.now)) result (braced_at standard (form_at standard room) (tokens_of tokens.now)) }
+    ensures low { IfOk result (λ x. x.0.depth ≤ room) }
+{
+    let rest = expect(tokens, Sign::OpenBrace)?;
+    fields_at(alloc, room, rest)
+}

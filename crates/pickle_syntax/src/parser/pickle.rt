@@ -1,0 +1,63 @@
+//! Reads the declarations of a pickle.
+
+ghost use Rattle.std.specs.Prelude.{◌≡◌};
+ghost use Rattle.pickle_syntax.specs.Tokens.{tokens_of};
+ghost use Rattle.pickle_syntax.specs.Tree.{declaration_tree, pickle_tree};
+ghost use Rattle.pickle_syntax.specs.Limits.{standard};
+ghost use Rattle.pickle_syntax.specs.Reading.{Gives};
+ghost use Rattle.pickle_syntax.specs.ReadForms.{declaration_at, is_over, pickle_at};
+
+use crate::parser::fault::Stop;
+use crate::parser::reading::{expect, expect_word, name_at};
+use crate::parser::types::form_at;
+use crate::token::{Kind, Sign, Word};
+use crate::tree::{Declaration, Pickle};
+use std::alloc::Global;
+
+/// How deep the types in a declaration may stand in one another.
+const FORM_DEPTH: u8 = 64;
+
+/// How many declarations a pickle may have.
+const DECLARATIONS: usize = 4096;
+
+#[tactic(auto, unfolding(crate::specs::ReadForms::declaration_at))]
+fn declaration_at(alloc: Global, tokens: &[Kind]) -> Result<(Declaration, &[Kind]), Stop>
+    ensures { Gives (λ x. (declaration_tree x.0, tokens_of x.1.now)) result (declaration_at standard (tokens_of tokens.now)) }
+{
+    let rest = expect_word(tokens, Word::Type)?;
+    let (name, rest) = name_at(alloc, rest)?;
+    let rest = expect(rest, Sign::Assign)?;
+    let (found, rest) = form_at(alloc, FORM_DEPTH, rest)?;
+    let rest = expect(rest, Sign::Semicolon)?;
+    let form = found.form;
+    Ok((Declaration { name, form }, rest))
+}
+
+fn is_over(tokens: &[Kind]) -> bool
+    ensures { result ≡ is_over (tokens_of tokens.now) }
+{
+    match tokens {
+        [] => true,
+        [_, ..] => false,
+    }
+}
+
+/// The declarations up to the end of the tokens.
+#[tactic(auto, using(crate::proofs::DeclarationSteps::declaration_steps))]
+pub fn pickle_at(alloc: Global, tokens: &[Kind]) -> Result<Pickle, Stop>
+    ensures { Gives pickle_tree result (pickle_at standard (tokens_of tokens.now)) }
+{
+    let mut declarations = Vec::new(alloc);
+    let mut rest = tokens;
+    'declarations: loop {
+        if is_over(rest) {
+            return Ok(Pickle { declarations });
+        }
+        if declarations.len() == DECLARATIONS {
+            return Err(Stop::TooMany);
+        }
+        let (declaration, after) = declaration_at(alloc, rest)?;
+        declarations.push(declaration)?;
+        rest = after;
+    }
+}

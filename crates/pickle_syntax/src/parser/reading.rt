@@ -1,0 +1,147 @@
+//! What stands at the front of the tokens: signs, words, names, units and types without parts.
+
+ghost use Rattle.std.specs.Prelude.{◌≡◌};
+ghost use Rattle.pickle_syntax.specs.Tokens.{tokens_of};
+ghost use Rattle.pickle_syntax.specs.Tree.{reference_tree, target_tree};
+ghost use Rattle.pickle_syntax.specs.Reading.{Gives, IsRest, after_sign, after_word, needed, expect, name_at, width_at, reference_at, unit_named, unit_at, offset_at, target_at};
+
+use crate::parser::fault::Stop;
+use crate::token::{Kind, Number, Opener, Sign, Word};
+use crate::tree::{Reference, Target, Unit};
+use std::alloc::Global;
+
+/// The tokens after this sign, where they begin with it.
+#[tactic(auto, unfolding(crate::specs::Reading::after_sign))]
+pub fn after_sign(tokens: &[Kind], sign: Sign) -> Option<&[Kind]>
+    ensures { IsRest result (after_sign sign (tokens_of tokens.now)) }
+{
+    match tokens {
+        [Kind::Sign(found), rest @ ..] if *found == sign => Some(rest),
+        _ => None,
+    }
+}
+
+/// The tokens after this word, where they begin with it.
+#[tactic(auto, unfolding(crate::specs::Reading::after_word))]
+pub fn after_word(tokens: &[Kind], word: Word) -> Option<&[Kind]>
+    ensures { IsRest result (after_word word (tokens_of tokens.now)) }
+{
+    match tokens {
+        [Kind::Word(found), rest @ ..] if *found == word => Some(rest),
+        _ => None,
+    }
+}
+
+#[tactic(auto, unfolding(crate::specs::Reading::expect))]
+pub fn expect(tokens: &[Kind], sign: Sign) -> Result<&[Kind], Stop>
+    ensures { Gives (λ x. tokens_of x.now) result (expect sign (tokens_of tokens.now)) }
+{
+    match after_sign(tokens, sign) {
+        Some(rest) => Ok(rest),
+        None => Err(Stop::Syntax(tokens.len())),
+    }
+}
+
+pub fn expect_word(tokens: &[Kind], word: Word) -> Result<&[Kind], Stop>
+    ensures { Gives (λ x. tokens_of x.now) result (needed (after_word word (tokens_of tokens.now))) }
+{
+    match after_word(tokens, word) {
+        Some(rest) => Ok(rest),
+        None => Err(Stop::Syntax(tokens.len())),
+    }
+}
+
+#[tactic(auto, unfolding(crate::specs::Reading::name_at))]
+pub fn name_at(alloc: Global, tokens: &[Kind]) -> Result<(Vec<u8>, &[Kind]), Stop>
+    ensures { Gives (λ x. (x.0.items, tokens_of x.1.now)) result (name_at (tokens_of tokens.now)) }
+{
+    match tokens {
+        [Kind::Name(name), rest @ ..] => Ok((Vec::from_slice(alloc, name)?, rest)),
+        _ => Err(Stop::Syntax(tokens.len())),
+    }
+}
+
+#[tactic(auto, unfolding(crate::specs::Reading::width_at))]
+fn width_at(tokens: &[Kind]) -> Result<(Number, &[Kind]), Stop>
+    ensures { Gives (λ x. (x.0, tokens_of x.1.now)) result (width_at (tokens_of tokens.now)) }
+{
+    match tokens {
+        [Kind::Number(width), rest @ ..] => {
+            let rest = expect(rest, Sign::Greater)?;
+            Ok((*width, rest))
+        }
+        _ => Err(Stop::Syntax(tokens.len())),
+    }
+}
+
+/// An integer type or a name.
+#[tactic(auto, unfolding(crate::specs::Reading::reference_at))]
+pub fn reference_at(alloc: Global, tokens: &[Kind]) -> Result<(Reference, &[Kind]), Stop>
+    ensures { Gives (λ x. (reference_tree x.0, tokens_of x.1.now)) result (reference_at (tokens_of tokens.now)) }
+{
+    match tokens {
+        [Kind::Name(name), rest @ ..] => {
+            Ok((Reference::Named(Vec::from_slice(alloc, name)?), rest))
+        }
+        [Kind::Opener(Opener::Int), rest @ ..] => {
+            let (width, rest) = width_at(rest)?;
+            Ok((Reference::Int(width), rest))
+        }
+        [Kind::Opener(Opener::Uint), rest @ ..] => {
+            let (width, rest) = width_at(rest)?;
+            Ok((Reference::Uint(width), rest))
+        }
+        _ => Err(Stop::Syntax(tokens.len())),
+    }
+}
+
+fn unit_named(name: &[u8]) -> Option<Unit>
+    ensures { result ≡ unit_named name.now }
+{
+    match name {
+        [b'b'] => Some(Unit::Bit),
+        [b'B'] => Some(Unit::Byte),
+        _ => None,
+    }
+}
+
+/// The unit of an offset.
+#[tactic(auto, unfolding(crate::specs::Reading::unit_at))]
+pub fn unit_at(tokens: &[Kind]) -> Result<(Unit, &[Kind]), Stop>
+    ensures { Gives (λ x. (x.0, tokens_of x.1.now)) result (unit_at (tokens_of tokens.now)) }
+{
+    match tokens {
+        [Kind::Name(name), rest @ ..] => match unit_named(name) {
+            Some(unit) => Ok((unit, rest)),
+            None => Err(Stop::Syntax(tokens.len())),
+        },
+        [Kind::Number(bits), rest @ ..] => Ok((Unit::Bits(*bits), rest)),
+        _ => Err(Stop::Syntax(tokens.len())),
+    }
+}
+
+/// What follows `offset<`.
+#[tactic(auto, unfolding(crate::specs::Reading::offset_at))]
+fn offset_at(alloc: Global, tokens: &[Kind]) -> Result<(Target, &[Kind]), Stop>
+    ensures { Gives (λ x. (target_tree x.0, tokens_of x.1.now)) result (offset_at (tokens_of tokens.now)) }
+{
+    let (reference, rest) = reference_at(alloc, tokens)?;
+    let rest = expect(rest, Sign::Comma)?;
+    let (unit, rest) = unit_at(rest)?;
+    let rest = expect(rest, Sign::Greater)?;
+    Ok((Target::Offset(reference, unit), rest))
+}
+
+/// A type that `as` may convert to.
+#[tactic(auto, unfolding(crate::specs::Reading::target_at))]
+pub fn target_at(alloc: Global, tokens: &[Kind]) -> Result<(Target, &[Kind]), Stop>
+    ensures { Gives (λ x. (target_tree x.0, tokens_of x.1.now)) result (target_at (tokens_of tokens.now)) }
+{
+    match tokens {
+        [Kind::Opener(Opener::Offset), rest @ ..] => offset_at(alloc, rest),
+        _ => {
+            let (reference, rest) = reference_at(alloc, tokens)?;
+            Ok((Target::Reference(reference), rest))
+        }
+    }
+}
