@@ -1,0 +1,13 @@
+pub mod Tables
+pub mod Growth
+pub mod Rows
+pub mod Rules
+pub mod Meanings
+pub mod Looks
+pub mod Sums
+pub mod Bounded
+pub mod Steps
+pub mod Buildings
+pub mod Forms
+pub mod Declarations
+pub mod IllTyped

@@ -1,0 +1,37 @@
+use Rattle.std.proofs.Common.{◌≡◌, ◌+◌, ◌*◌, ◌≤◌, [], length, drop, take}
+use Rattle.pickle_syntax.specs.Tree.{fields_tree}
+use Rattle.pickle_types.specs.Meaning.{fields_meaning}
+use Rattle.pickle_types.specs.Built.{AreBelow, names_in}
+use Rattle.pickle_types.specs.Building.{known_types, visible_in, FieldsSoFar}
+use Rattle.pickle_types.proofs.check.types.Builder.+types.Given as goal
+
+abbrev pub decreases-type_at : goal.decreases-type_at
+decreases-type_at l = 4 * l.room + 1
+
+abbrev pub decreases-array_at : goal.decreases-array_at
+decreases-array_at l = 4 * l.room
+
+abbrev pub decreases-struct_at : goal.decreases-struct_at
+decreases-struct_at l = 4 * l.room
+
+abbrev pub decreases-integral_at : goal.decreases-integral_at
+decreases-integral_at l = 4 * l.room
+
+abbrev pub decreases-union_at : goal.decreases-union_at
+decreases-union_at l = 4 * l.room
+
+abbrev pub decreases-fields_at : goal.decreases-fields_at
+decreases-fields_at l = 4 * l.room + 3
+
+abbrev pub decreases-field_at : goal.decreases-field_at
+decreases-field_at l = 4 * l.room + 2
+
+abbrev pub invariant-fields_at-loop-f : goal.invariant-fields_at-loop-f
+invariant-fields_at-loop-f l = record {
+  low : l.deepest ≤ l.room;
+  kept : take l.mark l.self.seen.items ≡ l.initial.self.seen.items;
+  below : AreBelow (length l.self.nodes.items) (l.levels + 1) l.self.seen.items;
+  so_far : FieldsSoFar l.initial.self l.self l.fields.items l.deepest
+      (fields_meaning (known_types l.initial.self) l.place (visible_in l.initial.self) l.levels l.room [] (fields_tree l.written))
+      (fields_meaning (known_types l.initial.self) l.place (visible_in l.self) l.levels l.room (names_in l.fields.items) (fields_tree (drop l.f-index l.written)));
+}

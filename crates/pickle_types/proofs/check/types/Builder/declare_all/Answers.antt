@@ -1,0 +1,34 @@
+use Rattle.std.proofs.Common.{◌≡◌, ◌+◌, ◌<◌, List, map, drop, length, sym, ap, ◌∙◌, arith}
+use Rattle.std.proofs.lemmas.List.{drop_all}
+use Rattle.pickle_syntax.specs.declared.tree.Declaration.{Declaration}
+use Rattle.pickle_syntax.specs.Tree.{declaration_tree}
+use Rattle.pickle_types.specs.Names.{Names}
+use Rattle.pickle_types.specs.Meaning.{declared}
+use Rattle.pickle_types.specs.Building.{known_types}
+use Rattle.pickle_types.proofs.Buildings.{drop_item}
+use Rattle.pickle_types.proofs.Declarations.{declared_next, declared_fails, declared_end, fails_along}
+use Rattle.pickle_types.proofs.check.types.Builder.declare_all.Goals as goal
+
+pub returns-in-Err-clause-err : goal.returns-in-Err-clause-err
+returns-in-Err-clause-err c =
+    let b = c.loop-i.self in
+    let e = drop_item c.args.declarations.now c.loop-i.i c.index-declarations-i.result (omega arith) c.index-declarations-i.is in
+    rw c.fault_in.ensures.kind (fails_along _ _ _ (c.loop-i.invariant.rest ∙ ap (λ (l : List Declaration). declared (known_types b) (map declaration_tree l)) e)
+    (declared_fails (known_types b) (declaration_tree c.index-declarations-i.result) _ _ c.in-Err.ensures.adds))
+
+pub loop-i-preserved : goal.loop-i-preserved
+loop-i-preserved c =
+    let b = c.loop-i.self in
+    let e = drop_item c.args.declarations.now c.loop-i.i c.index-declarations-i.result (omega arith) c.index-declarations-i.is in
+    let h = c.in-Ok.ensures.adds in
+    let rest = map declaration_tree (drop (c.loop-i.i + 1) c.args.declarations.now) in
+    record {
+      ready = h.3;
+      rest = c.loop-i.invariant.rest ∙ ap (λ (l : List Declaration). declared (known_types b) (map declaration_tree l)) e
+          ∙ declared_next (known_types b) (declaration_tree c.index-declarations-i.result) rest h.0 h.1 ∙ ap (λ (names : Names). declared names rest) (sym h.2);
+    }
+
+pub returns-clause-ok : goal.returns-clause-ok
+returns-clause-ok c =
+    let e = drop_all c.loop-i.i c.args.declarations.now (omega arith) in
+    c.loop-i.invariant.rest ∙ ap (λ (l : List Declaration). declared (known_types c.loop-i.self) (map declaration_tree l)) e ∙ declared_end (known_types c.loop-i.self)

@@ -1,0 +1,11 @@
+use Rattle.std.proofs.Common.{◌≡◌, map, drop}
+use Rattle.pickle_syntax.specs.Tree.{declaration_tree}
+use Rattle.pickle_types.specs.Meaning.{declared}
+use Rattle.pickle_types.specs.Building.{known_types, IsReady}
+use Rattle.pickle_types.proofs.check.types.Builder.declare_all.Given as goal
+
+abbrev pub invariant-loop-i : goal.invariant-loop-i
+invariant-loop-i l = record {
+  ready : IsReady l.self;
+  rest : declared (known_types l.initial.self) (map declaration_tree l.declarations) ≡ declared (known_types l.self) (map declaration_tree (drop l.i l.declarations));
+}

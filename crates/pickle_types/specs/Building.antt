@@ -1,0 +1,121 @@
+-- What a builder of types has built.
+use Rattle.std.specs.Prelude.{◌≡◌, ℕ, ◌+◌, ◌<◌, ◌≤◌, length, List, [], ◌∷◌, ◌++◌, take, Option, Some, None, Result, Ok, Err, Bool, true, false, ◌&&◌, nat_le, Vec}
+use denote.Bor.{Bor}
+use Rattle.std.specs.declared.alloc.Global.{Global}
+use Rattle.pickle_syntax.specs.Tree.{FieldParts}
+use Rattle.pickle_types.specs.declared.integer.IntegerType.{IntegerType}
+use Rattle.pickle_types.specs.declared.fault.FaultKind.{FaultKind}
+use Rattle.pickle_types.specs.declared.table.Field.{Field}
+use Rattle.pickle_types.specs.declared.scopes.Seen.{Seen}
+use Rattle.pickle_types.specs.declared.check.places.Place.{Place}
+use Rattle.pickle_types.specs.declared.check.places.Place.TheVariants as place
+use Rattle.pickle_types.specs.declared.check.types.Builder.{Builder}
+use Rattle.pickle_types.specs.declared.check.types.Found.{Found}
+use Rattle.pickle_types.specs.Types.{PokeType, IntegerOf, Fields, depth, fields_depth}
+use Rattle.pickle_types.specs.Table.{name_of, type_of, fields_onto, open_fields, FieldsBelow, IsTable, Grows}
+use Rattle.pickle_types.specs.Scopes.{Visible}
+use Rattle.pickle_types.specs.Names.{Names, find_type}
+use Rattle.pickle_types.specs.Meaning.{after_field, with_itself, FieldMeaning, field_then}
+use Rattle.pickle_types.specs.Built.{Fails, names_of, views_of, AreNamed, AreBelow}
+
+-- the types that have names
+abbrev pub known_types : Builder → Names
+known_types b = names_of b.nodes.items b.names
+
+-- the fields that are seen
+abbrev pub visible_in : Builder → List Visible
+visible_in b = views_of b.nodes.items b.seen.items
+
+-- what the parts after a field see besides: in a union nothing
+abbrev pub after_itself : Place → List Seen → Seen → List Seen
+after_itself place.Struct seen itself = seen ++ itself ∷ []
+after_itself place.Pinned seen itself = seen ++ itself ∷ []
+after_itself place.Integral seen itself = seen ++ itself ∷ []
+after_itself place.Union seen itself = seen
+
+-- a builder whose table grew, and that knows the same types by their names
+pub record Keeps (old new : Builder) : Type 0 where
+  pub grows : Grows old.nodes.items new.nodes.items
+  pub table : IsTable new.nodes.items
+  pub named : AreNamed new.nodes.items new.names
+  pub known : known_types new ≡ known_types old
+
+-- a node of a table that grew has a type
+pub record IsBuilt (old new : Builder) (found : Found) (t : PokeType) : Type 0 where
+  pub keeps : Keeps old new
+  pub seen : new.seen.items ≡ old.seen.items
+  pub inside : found.node < length new.nodes.items
+  pub type : type_of new.nodes.items found.node ≡ t
+  pub deep : found.depth ≡ depth t
+
+-- what a function built is what the definition gives, unless memory ran out
+abbrev pub Builds : Builder → Builder → Result Found FaultKind → Result PokeType FaultKind → Type 0
+Builds old new (Ok found) given = (t : PokeType) × (given ≡ Ok t) × IsBuilt old new found t
+Builds old new (Err e) given = Fails e given
+
+-- one field is built, after others, and what comes after it sees it where it may
+pub record IsFieldBuilt (old new : Builder) (place : Place) (levels index : ℕ) (parts : FieldParts) (field : Field) (f : FieldMeaning) : Type 0 where
+  pub keeps : Keeps old new
+  pub inside : field.node < length new.nodes.items
+  pub name : name_of field.name ≡ parts.name
+  pub type : type_of new.nodes.items field.node ≡ f.type
+  pub opened : (rest : Fields) → fields_onto (type_of new.nodes.items) (field ∷ []) rest ≡ field_then parts f rest
+  pub below : AreBelow (length new.nodes.items) (levels + 1) new.seen.items
+  pub kept : take (length old.seen.items) new.seen.items ≡ old.seen.items
+  pub seen : visible_in new ≡ after_field place (visible_in old) (with_itself place (visible_in old) levels index parts f.type)
+
+abbrev pub FieldGives : Builder → Builder → Place → ℕ → ℕ → FieldParts → Result Field FaultKind → Result FieldMeaning FaultKind → Type 0
+FieldGives old new place levels index parts (Ok field) given = (f : FieldMeaning) × (given ≡ Ok f) × IsFieldBuilt old new place levels index parts field f
+FieldGives old new place levels index parts (Err e) given = Fails e given
+
+-- a field and how deep its type is
+abbrev pub FieldBuilds : Builder → Builder → Place → ℕ → ℕ → FieldParts → Result (Field × ℕ) FaultKind → Result FieldMeaning FaultKind → Type 0
+FieldBuilds old new place levels index parts (Ok x) given = (f : FieldMeaning) × (given ≡ Ok f) × IsFieldBuilt old new place levels index parts x.0 f × (x.1 ≡ depth f.type)
+FieldBuilds old new place levels index parts (Err e) given = Fails e given
+
+pub record AreBuilt (old new : Builder) (fields : List Field) (deepest : ℕ) (fs : Fields) : Type 0 where
+  pub keeps : Keeps old new
+  pub seen : new.seen.items ≡ old.seen.items
+  pub below : FieldsBelow (length new.nodes.items) fields
+  pub opened : open_fields (type_of new.nodes.items) fields ≡ fs
+  pub deep : deepest ≡ fields_depth fs
+
+abbrev pub FieldsBuild : Builder → Builder → Result (Vec Field Global × ℕ) FaultKind → Result Fields FaultKind → Type 0
+FieldsBuild old new (Ok x) given = (fs : Fields) × (given ≡ Ok fs) × AreBuilt old new x.0.items x.1 fs
+FieldsBuild old new (Err e) given = Fails e given
+
+abbrev pub with_front : (Fields → Fields) → Result Fields FaultKind → Result Fields FaultKind
+with_front f (Ok fs) = Ok (f fs)
+with_front f (Err e) = Err e
+
+-- some fields are built, and the rest of the definition gives the others
+pub record FieldsSoFar (old new : Builder) (fields : List Field) (deepest : ℕ) (whole rest : Result Fields FaultKind) : Type 0 where
+  pub keeps : Keeps old new
+  pub below : FieldsBelow (length new.nodes.items) fields
+  pub given : whole ≡ with_front (fields_onto (type_of new.nodes.items) fields) rest
+  pub deep : deepest ≡ fields_depth (open_fields (type_of new.nodes.items) fields)
+
+-- a builder that can take the next declaration
+pub record IsReady (b : Builder) : Type 0 where
+  pub table : IsTable b.nodes.items
+  pub named : AreNamed b.nodes.items b.names
+  pub none : b.seen.items ≡ []
+
+-- what a declaration added
+abbrev pub AddsType : Builder → Builder → List ℕ → Result ℕ FaultKind → Result PokeType FaultKind → Type 0
+AddsType old new name (Ok node) given = (t : PokeType) × (given ≡ Ok t) × (known_types new ≡ known_types old ++ (name, t) ∷ []) × IsReady new
+AddsType old new name (Err e) given = Fails e given
+
+-- integer types with their names
+abbrev pub named_types : List (Bor (List ℕ) × IntegerType) → Names
+named_types [] = []
+named_types (p ∷ ps) = (p.0.now, IntegerOf p.1) ∷ named_types ps
+
+abbrev pub is_unknown : Option PokeType → Bool
+is_unknown None = true
+is_unknown (Some t) = false
+
+-- whether these names are new, each after the ones before it, and their widths from 1 to 64
+abbrev pub may_add : Names → List (Bor (List ℕ) × IntegerType) → Bool
+may_add names [] = true
+may_add names (p ∷ ps) = is_unknown (find_type p.0.now names) && nat_le 1 p.1.width && nat_le p.1.width 64 && may_add (names ++ (p.0.now, IntegerOf p.1) ∷ []) ps

@@ -1,0 +1,115 @@
+-- What the checker holds, as the trees that it stands for.
+use Rattle.std.specs.Prelude.{◌≡◌, ℕ, ◌+◌, ◌<◌, ◌≤◌, length, List, [], ◌∷◌, ◌++◌, map, Option, Some, None, Result, Ok, Err, Vec, All}
+use Rattle.std.specs.declared.alloc.Global.{Global}
+use Rattle.std.specs.Map.{values_of}
+use denote.Bor.{Bor}
+use Rattle.pickle_types.specs.declared.integer.IntegerType.{IntegerType}
+use Rattle.pickle_types.specs.declared.fault.FaultKind.{FaultKind}
+use Rattle.pickle_types.specs.declared.fault.FaultKind.TheVariants.{Memory}
+use Rattle.pickle_types.specs.declared.table.Field.{Field}
+use Rattle.pickle_types.specs.declared.table.Part.{Part}
+use Rattle.pickle_types.specs.declared.table.Node.{Node}
+use Rattle.pickle_types.specs.declared.names.Declared.{Declared}
+use Rattle.pickle_types.specs.declared.names.Names.{Names as RustNames}
+use Rattle.pickle_types.specs.declared.scopes.Seen.{Seen}
+use Rattle.pickle_types.specs.declared.check.operators.Scalar.TheVariants.{Integer, Offset}
+use Rattle.pickle_types.specs.declared.check.operators.Operand.{Operand}
+use Rattle.pickle_types.specs.declared.check.operators.Operand.TheVariants as operand
+use Rattle.pickle_types.specs.declared.check.sorts.Sort.{Sort as RustSort}
+use Rattle.pickle_types.specs.declared.check.sorts.Sort.TheVariants as sort
+use Rattle.pickle_types.specs.declared.check.sorts.Meant.{Meant as RustMeant}
+use Rattle.pickle_types.specs.Types.{PokeType, depth}
+use Rattle.pickle_types.specs.Table.{term_of, name_of, type_of, IsWidth}
+use Rattle.pickle_types.specs.Scopes.{Visible}
+use Rattle.pickle_types.specs.Names.{Names}
+use Rattle.pickle_types.specs.Expressions.{Sort, TextLiteral, Typed, scalar_sort, Meant}
+
+-- a fault that was returned is the definition's, or want of memory
+abbrev pub Fails : {Y : Type 0} → FaultKind → Result Y FaultKind → Type 0
+Fails Memory given = Unit {0}
+Fails k given = given ≡ Err k
+
+-- what a function returned, seen by a view, is what the definition gives, unless memory ran out
+abbrev pub Gives : {X Y : Type 0} → (X → Y) → Result X FaultKind → Result Y FaultKind → Type 0
+Gives view (Ok x) given = given ≡ Ok (view x)
+Gives view (Err e) given = Fails e given
+
+abbrev pub bytes_now : Option (Bor (List ℕ)) → Option (List ℕ)
+bytes_now None = None
+bytes_now (Some n) = Some n.now
+
+abbrev pub view_of : List Node → Seen → Visible
+view_of nodes s = record { name = bytes_now s.name; level = s.level; place = s.place; type = type_of nodes s.node }
+
+abbrev pub views_of : List Node → List Seen → List Visible
+views_of nodes = map (view_of nodes)
+
+abbrev pub IsResolved : List Node → Option Seen → Option Visible → Type 0
+IsResolved nodes None found = found ≡ None
+IsResolved nodes (Some s) found = found ≡ Some (view_of nodes s)
+
+-- its node is below a place, and its level below the number of open ones
+pub record IsInLevel (n levels : ℕ) (s : Seen) : Type 0 where
+  pub node : s.node < n
+  pub level : s.level < levels
+
+abbrev pub AreBelow : ℕ → ℕ → List Seen → Type 0
+AreBelow n levels seen = All (IsInLevel n levels) seen
+
+abbrev pub named_of : List Node → Vec ℕ Global × Declared → List ℕ × PokeType
+named_of nodes d = (d.0.items, type_of nodes d.1.node)
+
+abbrev pub names_of : List Node → RustNames → Names
+names_of nodes names = map (named_of nodes) names.map.entries
+
+-- the node of a name is one of the table, and its depth is its type's
+pub record IsNamed (nodes : List Node) (d : Declared) : Type 0 where
+  pub inside : d.node < length nodes
+  pub deep : d.depth ≡ depth (type_of nodes d.node)
+
+abbrev pub AreNamed : List Node → RustNames → Type 0
+AreNamed nodes names = All (IsNamed nodes) (values_of names.map.entries)
+
+abbrev pub IsFound : List Node → Option Declared → Option PokeType → Type 0
+IsFound nodes None found = found ≡ None
+IsFound nodes (Some d) found = found ≡ Some (type_of nodes d.node)
+
+abbrev pub sort_of : List Node → RustSort → Sort
+sort_of nodes sort.Text = TextLiteral
+sort_of nodes (sort.Scalar s) = scalar_sort s
+sort_of nodes (sort.Node i) = Typed (type_of nodes i)
+
+abbrev pub IsInside : List Node → RustSort → Type 0
+IsInside nodes sort.Text = Unit {0}
+IsInside nodes (sort.Scalar s) = Unit {0}
+IsInside nodes (sort.Node i) = i < length nodes
+
+abbrev pub meant_of : List Node → RustMeant → Meant
+meant_of nodes x = (term_of x.term, sort_of nodes x.sort)
+
+abbrev pub IsFoundField : (ℕ → PokeType) → Option (ℕ × ℕ) → Option (ℕ × PokeType) → Type 0
+IsFoundField at None found = found ≡ None
+IsFoundField at (Some x) found = found ≡ Some (x.0, at x.1)
+
+-- the names of some fields
+abbrev pub names_in : List Field → List (Option (List ℕ))
+names_in [] = []
+names_in (f ∷ fs) = name_of f.name ∷ names_in fs
+
+-- a field without its label and condition
+abbrev pub part_of : Field → Part
+part_of f = record { name = f.name; order = f.order; node = f.node; constraint = f.constraint }
+
+-- the width of what an operator sees is from 1 to 64, where it is an integer
+abbrev pub IsWide : Operand → Type 0
+IsWide (operand.Number (Integer t)) = IsWidth t
+IsWide (operand.Number (Offset t u)) = Unit {0}
+IsWide operand.String = Unit {0}
+IsWide operand.Text = Unit {0}
+IsWide operand.Other = Unit {0}
+
+-- one more entry, behind the others
+pub record AddsEntry (old new : List (Vec ℕ Global × Declared)) (word : List ℕ) (d : Declared) : Type 0 where
+  pub key : Vec ℕ Global
+  pub bytes : key.items ≡ word
+  pub entries : new ≡ old ++ (key, d) ∷ []

@@ -1,0 +1,13 @@
+pub mod Types
+pub mod Table
+pub mod Bounds
+pub mod Scopes
+pub mod Names
+pub mod Operators
+pub mod Expressions
+pub mod Meaning
+pub mod WellTyped
+pub mod Built
+pub mod Building
+pub mod Holds
+pub mod TypeTable

@@ -1,0 +1,45 @@
+-- What a table of types holds.
+use Rattle.std.specs.Prelude.{◌≡◌, ℕ, ◌<◌, length, List, Option, Some, None, Result, Ok, Err}
+use Rattle.pickle_syntax.specs.Tree.{DeclarationTree}
+use Rattle.pickle_types.specs.declared.fault.FaultKind.{FaultKind}
+use Rattle.pickle_types.specs.declared.table.Node.{Node}
+use Rattle.pickle_types.specs.declared.type_table.Table.{Table}
+use Rattle.pickle_types.specs.declared.type_table.TypeId.{TypeId}
+use Rattle.pickle_types.specs.Types.{PokeType}
+use Rattle.pickle_types.specs.Table.{type_of, IsTable}
+use Rattle.pickle_types.specs.Names.{Names, predeclared}
+use Rattle.pickle_types.specs.WellTyped.{Declares}
+use Rattle.pickle_types.specs.Built.{names_of, AreNamed}
+
+abbrev pub nodes_of : Table → List Node
+nodes_of t = t.nodes.items
+
+-- the predeclared and the declared types, each with its name
+abbrev pub types_of : Table → Names
+types_of t = names_of t.nodes.items t.names
+
+-- how many types are declared
+abbrev pub count_of : Table → ℕ
+count_of t = t.declared
+
+-- the type that a table has under an id
+abbrev pub type_named : Table → TypeId → PokeType
+type_named t id = type_of t.nodes.items id.node
+
+-- the id is one of this table
+abbrev pub IsInTable : Table → TypeId → Type 0
+IsInTable t id = id.node < length t.nodes.items
+
+-- each node names only nodes before it, and each name has a node
+pub record IsSound (t : Table) : Type 0 where
+  pub table : IsTable t.nodes.items
+  pub named : AreNamed t.nodes.items t.names
+
+-- what was found is the type of that name, where there is one
+abbrev pub IsTypeFound : Table → Option TypeId → Option PokeType → Type 0
+IsTypeFound t None found = found ≡ None
+IsTypeFound t (Some id) found = (found ≡ Some (type_named t id)) × IsInTable t id
+
+-- the declarations are well typed after the predeclared types
+abbrev pub IsWellTyped : List DeclarationTree → Type 0
+IsWellTyped ds = (types : Names) × Declares predeclared ds types

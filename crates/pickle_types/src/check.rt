@@ -1,0 +1,9 @@
+//! The type rules.
+
+pub mod expressions;
+pub mod fields;
+pub mod operators;
+pub mod places;
+pub mod references;
+pub mod sorts;
+pub mod types;

@@ -1,0 +1,367 @@
+//! The types of expressions.
+
+ghost use Rattle.std.specs.Prelude.{◌≡◌, ℕ, ◌<◌, ◌≤◌, List, length, Ok, IfOk, IfErr};
+ghost use Rattle.pickle_syntax.specs.Tree.{expression_tree, suffix_tree, target_tree};
+ghost use Rattle.pickle_types.specs.Table.{term_of, type_of, IsTable};
+ghost use Rattle.pickle_types.specs.Expressions.{number_meant, character_meant, text_meant, resolved, bracketed, prefixed, infixed, selected, indexed, suffixed, selection, length_of, size_of, in_unit, conversion, is_path, integer_or_wrong, typed};
+ghost use Rattle.pickle_types.specs.Built.{Gives, names_of, views_of, sort_of, meant_of, IsInside, AreNamed, AreBelow};
+ghost use Rattle.pickle_types.specs.declared.table.Node.{Node};
+
+use crate::check::operators::{Scalar, before, between, choice};
+use crate::check::references::{target_type, unit_bits};
+use crate::check::sorts::{Meant, Sort, element_of, field_of, operand_of};
+use crate::fault::FaultKind;
+use crate::integer::IntegerType;
+use crate::names::Names;
+use crate::scopes::{Seen, resolve};
+use crate::table::{Node, Resolved};
+use pickle_syntax::token::{Attribute, Number};
+use pickle_syntax::tree::{Expression, Infix, Prefix, Suffix, Target, Unit};
+use std::alloc::Global;
+
+fn number(n: Number) -> Meant
+    ensures is { (nodes : List Node) → meant_of nodes result ≡ number_meant n }
+    ensures inside { (nodes : List Node) → IsInside nodes result.sort }
+{
+    let ty = IntegerType {
+        width: n.width,
+        signed: n.signed,
+    };
+    Meant {
+        term: Resolved::Number(ty, n.value),
+        sort: Sort::Scalar(Scalar::Integer(ty)),
+    }
+}
+
+fn character(byte: u8) -> Meant
+    ensures is { (nodes : List Node) → meant_of nodes result ≡ character_meant byte }
+    ensures inside { (nodes : List Node) → IsInside nodes result.sort }
+{
+    let ty = IntegerType {
+        width: 8,
+        signed: false,
+    };
+    Meant {
+        term: Resolved::Number(ty, byte as u64),
+        sort: Sort::Scalar(Scalar::Integer(ty)),
+    }
+}
+
+fn text(alloc: Global, bytes: &[u8]) -> Result<Meant, FaultKind>
+    ensures gives { (nodes : List Node) → Gives (meant_of nodes) result (Ok (text_meant bytes.now)) }
+    ensures inside { (nodes : List Node) → IfOk result (λ x. IsInside nodes x.sort) }
+{
+    Ok(Meant {
+        term: Resolved::Text(Vec::from_slice(alloc, bytes)?),
+        sort: Sort::Text,
+    })
+}
+
+/// A name is the open level of the field that is meant, counted from the innermost, and its place there.
+fn name(seen: &[Seen], levels: u8, word: &[u8]) -> Result<Meant, FaultKind>
+    requires below { (n : ℕ) × AreBelow n levels seen.now }
+    ensures gives { (nodes : List Node) → Gives (meant_of nodes) result (resolved (views_of nodes seen.now) levels word.now) }
+    ensures inside { (nodes : List Node) → AreBelow (length nodes) levels seen.now → IfOk result (λ x. IsInside nodes x.sort) }
+{
+    match resolve(seen, word) {
+        Some(s) => Ok(Meant {
+            term: Resolved::Name(usize::from(levels - 1 - s.level), s.place),
+            sort: Sort::Node(s.node),
+        }),
+        None => Err(FaultKind::UnknownName),
+    }
+}
+
+fn bracket(alloc: Global, x: Meant) -> Result<Meant, FaultKind>
+    ensures gives { (nodes : List Node) → Gives (meant_of nodes) result (bracketed (meant_of nodes x)) }
+    ensures inside { (nodes : List Node) → IsInside nodes x.sort → IfOk result (λ y. IsInside nodes y.sort) }
+{
+    match x.sort {
+        Sort::Text => Err(FaultKind::Mismatch),
+        sort => Ok(Meant {
+            term: Resolved::Bracket(Box::new(alloc, x.term)?),
+            sort,
+        }),
+    }
+}
+
+fn prefix(alloc: Global, nodes: &[Node], op: Prefix, x: Meant) -> Result<Meant, FaultKind>
+    requires table { IsTable nodes.now }
+    requires inside { IsInside nodes.now x.sort }
+    ensures gives { Gives (meant_of nodes.now) result (prefixed op (meant_of nodes.now x)) }
+    ensures inside { IfOk result (λ y. IsInside nodes.now y.sort) }
+{
+    match before(op, operand_of(nodes, x.sort)) {
+        Some(s) => Ok(Meant {
+            term: Resolved::Prefix(op, Box::new(alloc, x.term)?),
+            sort: Sort::Scalar(s),
+        }),
+        None => Err(FaultKind::Mismatch),
+    }
+}
+
+fn infix(alloc: Global, nodes: &[Node], op: Infix, x: Meant, y: Meant) -> Result<Meant, FaultKind>
+    requires table { IsTable nodes.now }
+    requires left { IsInside nodes.now x.sort }
+    requires right { IsInside nodes.now y.sort }
+    ensures gives { Gives (meant_of nodes.now) result (infixed op (meant_of nodes.now x) (meant_of nodes.now y)) }
+    ensures inside { IfOk result (λ z. IsInside nodes.now z.sort) }
+{
+    match between(op, operand_of(nodes, x.sort), operand_of(nodes, y.sort)) {
+        Some(s) => Ok(Meant {
+            term: Resolved::Infix(op, Box::new(alloc, x.term)?, Box::new(alloc, y.term)?),
+            sort: Sort::Scalar(s),
+        }),
+        None => Err(FaultKind::Mismatch),
+    }
+}
+
+/// A choice between x and y by z, which is an integer.
+fn select(alloc: Global, nodes: &[Node], z: Meant, x: Meant, y: Meant) -> Result<Meant, FaultKind>
+    requires table { IsTable nodes.now }
+    requires left { IsInside nodes.now x.sort }
+    requires right { IsInside nodes.now y.sort }
+    ensures gives { Gives (meant_of nodes.now) result (selected (meant_of nodes.now z) (meant_of nodes.now x) (meant_of nodes.now y)) }
+    ensures inside { IfOk result (λ r. IsInside nodes.now r.sort) }
+{
+    match choice(operand_of(nodes, x.sort), operand_of(nodes, y.sort)) {
+        Some(s) => {
+            let c = Box::new(alloc, z.term)?;
+            let a = Box::new(alloc, x.term)?;
+            let b = Box::new(alloc, y.term)?;
+            Ok(Meant {
+                term: Resolved::Choice(s.integer(), c, a, b),
+                sort: Sort::Scalar(s),
+            })
+        }
+        None => Err(FaultKind::Mismatch),
+    }
+}
+
+/// That it is an integer, and of which type.
+pub fn integer(nodes: &[Node], sort: Sort) -> Result<IntegerType, FaultKind>
+    requires table { IsTable nodes.now }
+    requires inside { IsInside nodes.now sort }
+    ensures { result ≡ integer_or_wrong (sort_of nodes.now sort) }
+{
+    match operand_of(nodes, sort).integer() {
+        Some(t) => Ok(t),
+        None => Err(FaultKind::Mismatch),
+    }
+}
+
+/// The element of an array x at y, of the type of a node.
+fn index(
+    alloc: Global,
+    nodes: &[Node],
+    x: Meant,
+    element: usize,
+    y: Meant,
+) -> Result<Meant, FaultKind>
+    requires table { IsTable nodes.now }
+    requires element { element < length nodes.now }
+    requires inside { IsInside nodes.now y.sort }
+    ensures gives { Gives (meant_of nodes.now) result (indexed (meant_of nodes.now x) (type_of nodes.now element) (meant_of nodes.now y)) }
+    ensures inside { IfOk result (λ z. IsInside nodes.now z.sort) }
+{
+    integer(nodes, y.sort)?;
+    Ok(Meant {
+        term: Resolved::Index(Box::new(alloc, x.term)?, Box::new(alloc, y.term)?),
+        sort: Sort::Node(element),
+    })
+}
+
+fn select_field(alloc: Global, nodes: &[Node], x: Meant, word: &[u8]) -> Result<Meant, FaultKind>
+    requires table { IsTable nodes.now }
+    requires inside { IsInside nodes.now x.sort }
+    ensures gives { Gives (meant_of nodes.now) result (selection word.now (meant_of nodes.now x)) }
+    ensures inside { IfOk result (λ y. IsInside nodes.now y.sort) }
+{
+    let (place, node) = field_of(nodes, x.sort, word)?;
+    Ok(Meant {
+        term: Resolved::Select(Box::new(alloc, x.term)?, place),
+        sort: Sort::Node(node),
+    })
+}
+
+/// The number of an array's elements.
+fn length(alloc: Global, nodes: &[Node], x: Meant) -> Result<Meant, FaultKind>
+    requires table { IsTable nodes.now }
+    requires inside { IsInside nodes.now x.sort }
+    ensures gives { Gives (meant_of nodes.now) result (length_of (meant_of nodes.now x)) }
+    ensures inside { IfOk result (λ y. IsInside nodes.now y.sort) }
+{
+    match element_of(nodes, x.sort) {
+        Some(_) => Ok(Meant {
+            term: Resolved::Attribute(Attribute::Length, Box::new(alloc, x.term)?),
+            sort: Sort::Scalar(Scalar::Integer(IntegerType {
+                width: 64,
+                signed: false,
+            })),
+        }),
+        None => Err(FaultKind::Mismatch),
+    }
+}
+
+/// The size of a path's value.
+fn size(alloc: Global, path: bool, x: Meant) -> Result<Meant, FaultKind>
+    ensures gives { (nodes : List Node) → Gives (meant_of nodes) result (size_of path (meant_of nodes x)) }
+    ensures inside { (nodes : List Node) → IfOk result (λ y. IsInside nodes y.sort) }
+{
+    if !path {
+        return Err(FaultKind::Mismatch);
+    }
+    Ok(Meant {
+        term: Resolved::Attribute(Attribute::Size, Box::new(alloc, x.term)?),
+        sort: Sort::Scalar(Scalar::Offset(
+            IntegerType {
+                width: 64,
+                signed: false,
+            },
+            1,
+        )),
+    })
+}
+
+/// An offset of an integer's magnitude.
+fn in_unit(alloc: Global, nodes: &[Node], x: Meant, unit: Unit) -> Result<Meant, FaultKind>
+    requires table { IsTable nodes.now }
+    requires inside { IsInside nodes.now x.sort }
+    ensures gives { Gives (meant_of nodes.now) result (in_unit unit (meant_of nodes.now x)) }
+    ensures inside { IfOk result (λ y. IsInside nodes.now y.sort) }
+{
+    let t = integer(nodes, x.sort)?;
+    let bits = unit_bits(unit)?;
+    Ok(Meant {
+        term: Resolved::InUnit(bits, Box::new(alloc, x.term)?),
+        sort: Sort::Scalar(Scalar::Offset(t, bits)),
+    })
+}
+
+/// A conversion of an integer to an integer type, or of an offset to an offset type.
+fn convert(
+    alloc: Global,
+    names: &Names,
+    nodes: &[Node],
+    x: Meant,
+    target: &Target,
+) -> Result<Meant, FaultKind>
+    requires table { IsTable nodes.now }
+    requires names { AreNamed nodes.now names.now }
+    requires inside { IsInside nodes.now x.sort }
+    ensures gives { Gives (meant_of nodes.now) result (conversion (names_of nodes.now names.now) (target_tree target.now) (meant_of nodes.now x)) }
+    ensures inside { IfOk result (λ y. IsInside nodes.now y.sort) }
+{
+    let Some(from) = operand_of(nodes, x.sort).number() else {
+        return Err(FaultKind::Mismatch);
+    };
+    let to = target_type(names, nodes, target)?;
+    let term = match (to, from) {
+        (Scalar::Integer(t), Scalar::Integer(_)) => Resolved::ToInteger(
+            t,
+            Box::new(alloc, x.term)?,
+        ),
+        (Scalar::Offset(t, unit), Scalar::Offset(_, _)) => Resolved::ToOffset(
+            t,
+            unit,
+            Box::new(alloc, x.term)?,
+        ),
+        _ => return Err(FaultKind::Mismatch),
+    };
+    Ok(Meant {
+        term,
+        sort: Sort::Scalar(to),
+    })
+}
+
+fn suffix(
+    alloc: Global,
+    names: &Names,
+    nodes: &[Node],
+    path: bool,
+    x: Meant,
+    suffix: &Suffix,
+) -> Result<Meant, FaultKind>
+    requires table { IsTable nodes.now }
+    requires names { AreNamed nodes.now names.now }
+    requires inside { IsInside nodes.now x.sort }
+    ensures gives { Gives (meant_of nodes.now) result (suffixed (names_of nodes.now names.now) path (suffix_tree suffix.now) (meant_of nodes.now x)) }
+    ensures inside { IfOk result (λ y. IsInside nodes.now y.sort) }
+{
+    match suffix {
+        Suffix::Select(word) => select_field(alloc, nodes, x, word),
+        Suffix::Attribute(Attribute::Length) => length(alloc, nodes, x),
+        Suffix::Attribute(Attribute::Size) => size(alloc, path, x),
+        Suffix::Unit(unit) => in_unit(alloc, nodes, x, *unit),
+        Suffix::Convert(target) => convert(alloc, names, nodes, x, target),
+    }
+}
+
+/// Whether an expression is a path: a name, a field or an element of a path, or a path in brackets.
+fn is_path(e: &Expression) -> bool
+    ensures { result ≡ is_path (expression_tree e.now) }
+{
+    match e {
+        Expression::Name(_) => true,
+        Expression::Bracket(e)
+        | Expression::Index(e, _)
+        | Expression::After(e, Suffix::Select(_)) => is_path(e),
+        _ => false,
+    }
+}
+
+/// An expression with its names resolved, and what it is, where these fields are seen and so many levels are open.
+#[tactic(auto, unfolding(crate::specs::Expressions::typed))]
+pub fn typed(
+    alloc: Global,
+    names: &Names,
+    nodes: &[Node],
+    seen: &[Seen],
+    levels: u8,
+    e: &Expression,
+) -> Result<Meant, FaultKind>
+    requires table { IsTable nodes.now }
+    requires names { AreNamed nodes.now names.now }
+    requires seen { AreBelow (length nodes.now) levels seen.now }
+    ensures gives { Gives (meant_of nodes.now) result (typed (names_of nodes.now names.now) (views_of nodes.now seen.now) levels (expression_tree e.now)) }
+    ensures inside { IfOk result (λ x. IsInside nodes.now x.sort) }
+{
+    match e {
+        Expression::Number(n) => Ok(number(*n)),
+        Expression::Character(byte) => Ok(character(*byte)),
+        Expression::Text(bytes) => text(alloc, bytes),
+        Expression::Name(word) => name(seen, levels, word),
+        Expression::Bracket(e) => {
+            let x = typed(alloc, names, nodes, seen, levels, e)?;
+            bracket(alloc, x)
+        }
+        Expression::Prefix(op, e) => {
+            let x = typed(alloc, names, nodes, seen, levels, e)?;
+            prefix(alloc, nodes, *op, x)
+        }
+        Expression::Infix(op, a, b) => {
+            let x = typed(alloc, names, nodes, seen, levels, a)?;
+            let y = typed(alloc, names, nodes, seen, levels, b)?;
+            infix(alloc, nodes, *op, x, y)
+        }
+        Expression::Choice(c, a, b) => {
+            let z = typed(alloc, names, nodes, seen, levels, c)?;
+            integer(nodes, z.sort)?;
+            let x = typed(alloc, names, nodes, seen, levels, a)?;
+            let y = typed(alloc, names, nodes, seen, levels, b)?;
+            select(alloc, nodes, z, x, y)
+        }
+        Expression::Index(e, i) => {
+            let x = typed(alloc, names, nodes, seen, levels, e)?;
+            let Some(element) = element_of(nodes, x.sort) else {
+                return Err(FaultKind::Mismatch);
+            };
+            let y = typed(alloc, names, nodes, seen, levels, i)?;
+            index(alloc, nodes, x, element, y)
+        }
+        Expression::After(operand, after) => {
+            let x = typed(alloc, names, nodes, seen, levels, operand)?;
+            suffix(alloc, names, nodes, is_path(operand), x, after)
+        }
+    }
+}

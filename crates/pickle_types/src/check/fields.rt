@@ -1,0 +1,186 @@
+//! Fields of structs and alternatives of unions.
+
+ghost use Rattle.std.specs.Prelude.{◌≡◌, ◌+◌, ◌*◌, ◌<◌, ◌≤◌, ℕ, List, length, map, Ok, IfOk, IfErr, OnErr};
+ghost use Rattle.pickle_syntax.specs.Tree.{optional_bytes, optional_tree, field_tree, form_tree};
+ghost use Rattle.pickle_types.specs.Types.{PokeType};
+ghost use Rattle.pickle_types.specs.Table.{name_of, optional_term, open_fields, open_parts, type_of, FieldsBelow, PartsBelow, IsTable};
+ghost use Rattle.pickle_types.specs.Meaning.{has_name, fresh, may_stand, if_here, struct_place, place_in, parts_of, total_width};
+ghost use Rattle.pickle_types.specs.Built.{Gives, bytes_now, names_in, part_of};
+
+use crate::check::places::Place;
+use crate::check::sorts::width_of;
+use crate::fault::FaultKind;
+use crate::scopes::is_named;
+use crate::table::{Field, Node, Part};
+use pickle_syntax::tree;
+use pickle_syntax::tree::{ByteOrder, Expression, Form};
+use std::alloc::Global;
+
+/// The type of a field as it is written.
+pub fn form_in(field: &tree::Field) -> &Form
+    ensures { form_tree result.now ≡ (field_tree field.now).form }
+{
+    &field.form
+}
+
+pub fn name_in(field: &tree::Field) -> Option<&[u8]>
+    ensures { bytes_now result ≡ (field_tree field.now).parts.name }
+{
+    match &field.name {
+        None => None,
+        Some(name) => Some(name.as_slice()),
+    }
+}
+
+pub fn order_in(field: &tree::Field) -> Option<ByteOrder>
+    ensures { result ≡ (field_tree field.now).parts.order }
+{
+    field.order
+}
+
+pub fn label_in(field: &tree::Field) -> &Option<Expression>
+    ensures { optional_tree result.now ≡ (field_tree field.now).parts.label }
+{
+    &field.label
+}
+
+pub fn condition_in(field: &tree::Field) -> &Option<Expression>
+    ensures { optional_tree result.now ≡ (field_tree field.now).parts.condition }
+{
+    &field.condition
+}
+
+pub fn constraint_in(field: &tree::Field) -> &Option<Expression>
+    ensures { optional_tree result.now ≡ (field_tree field.now).parts.constraint }
+{
+    &field.constraint
+}
+
+/// Whether a field may stand here, which has a width of bits or not.
+fn may_stand(place: Place, bits: bool, field: &tree::Field) -> bool
+    ensures { result ≡ may_stand place bits (field_tree field.now).parts }
+{
+    let ordered = field.order.is_none() || bits;
+    match place {
+        Place::Struct => ordered,
+        Place::Pinned => ordered && field.label.is_none(),
+        Place::Integral => bits
+            && field.order.is_none()
+            && field.label.is_none()
+            && field.condition.is_none(),
+        Place::Union => ordered
+            && field.name.is_some()
+            && field.label.is_none()
+            && field.condition.is_none(),
+    }
+}
+
+pub fn stand(place: Place, bits: bool, field: &tree::Field) -> Result<(), FaultKind>
+    ensures { Gives (λ u. u) result (if_here (may_stand place bits (field_tree field.now).parts)) }
+{
+    if may_stand(place, bits, field) {
+        Ok(())
+    } else {
+        Err(FaultKind::NotHere)
+    }
+}
+
+fn has_name(fields: &[Field], word: &[u8]) -> bool
+    ensures { result ≡ has_name word.now (names_in fields.now) }
+{
+    for f in fields {
+        if is_named(f.name.as_deref(), word) {
+            return true;
+        }
+    }
+    false
+}
+
+/// That no earlier field has this name.
+#[tactic(auto, unfolding(crate::specs::Meaning::fresh))]
+pub fn fresh(name: Option<&[u8]>, fields: &[Field]) -> Result<(), FaultKind>
+    ensures { Gives (λ u. u) result (fresh (bytes_now name.entry) (names_in fields.now)) }
+{
+    match name {
+        None => Ok(()),
+        Some(word) => {
+            if has_name(fields, word) {
+                return Err(FaultKind::DuplicateField);
+            }
+            Ok(())
+        }
+    }
+}
+
+pub fn struct_place(pinned: bool) -> Place
+    ensures { result ≡ struct_place pinned }
+{
+    if pinned { Place::Pinned } else { Place::Struct }
+}
+
+/// The place of a field in its level, after others: an alternative is alone in it.
+pub fn place_in(place: Place, before: usize) -> usize
+    ensures { result ≡ place_in place before }
+{
+    match place {
+        Place::Struct | Place::Pinned | Place::Integral => before,
+        Place::Union => 0,
+    }
+}
+
+pub fn copied(alloc: Global, name: Option<&[u8]>) -> Result<Option<Vec<u8>>, FaultKind>
+    ensures ok { IfOk result (λ x. name_of x ≡ bytes_now name.entry) }
+    ensures err { IfErr result (λ e. e ≡ FaultKind.Memory) }
+{
+    match name {
+        None => Ok(None),
+        Some(name) => Ok(Some(Vec::from_slice(alloc, name)?)),
+    }
+}
+
+/// How many bits the fields of an integral struct have together.
+pub fn total_width(nodes: &[Node], fields: &[Field]) -> u128
+    requires table { IsTable nodes.now }
+    requires below { FieldsBelow (length nodes.now) fields.now }
+    ensures { result ≡ total_width (open_fields (type_of nodes.now) fields.now) }
+{
+    let mut total: u128 = 0;
+    for f in fields {
+        if let Some(width) = width_of(nodes, f.node) {
+            total += u128::from(width);
+        }
+    }
+    total
+}
+
+/// A field that has neither a label nor a condition.
+fn part_from(field: Field) -> Part
+    ensures { result ≡ part_of field }
+{
+    let Field {
+        name,
+        order,
+        node,
+        constraint,
+        label: _,
+        condition: _,
+    } = field;
+    Part {
+        name,
+        order,
+        node,
+        constraint,
+    }
+}
+
+/// Fields that have neither labels nor conditions.
+pub fn parts_from(alloc: Global, fields: Vec<Field>) -> Result<Vec<Part>, FaultKind>
+    ensures ok { IfOk result (λ ps. ps.items ≡ map part_of fields.items) }
+    ensures err { IfErr result (λ e. e ≡ FaultKind.Memory) }
+{
+    let mut parts = Vec::new(alloc);
+    for f in fields {
+        parts.push(part_from(f))?;
+    }
+    Ok(parts)
+}

@@ -1,0 +1,190 @@
+//! What an expression is: a text literal, or of a type.
+
+ghost use Rattle.std.specs.Prelude.{◌≡◌, ℕ, ◌<◌, length, IfOk, IfSome, option_map};
+ghost use Rattle.pickle_types.specs.Types.{PokeType};
+ghost use Rattle.pickle_types.specs.Table.{open_shape, open_fields, open_parts, type_of, FieldsBelow, PartsBelow, NamesBelow, IsTable};
+ghost use Rattle.pickle_types.specs.Expressions.{or_wrong, type_operand, operand_of, element_in, sort_element, find_field, find_part, field_in, sort_field};
+ghost use Rattle.pickle_types.specs.Meaning.{bit_width, has_some};
+ghost use Rattle.pickle_types.specs.Built.{Gives, sort_of, IsInside, IsFoundField, IsWide};
+
+use crate::check::operators::{Operand, Scalar};
+use crate::fault::FaultKind;
+use crate::scopes::is_named;
+use crate::table::{Field, Node, Part, Resolved, Shape};
+
+/// What an expression is.
+#[derive(Clone, Copy)]
+pub enum Sort {
+    /// A text literal without brackets.
+    Text,
+    Scalar(Scalar),
+    /// Of the type of a node.
+    Node(usize),
+}
+
+/// An expression with its names resolved, and what it is.
+#[derive(Drop)]
+pub struct Meant {
+    pub term: Resolved,
+    pub sort: Sort,
+}
+
+/// The shape of a node.
+pub fn shape_at(nodes: &[Node], i: usize) -> &Shape
+    requires table { IsTable nodes.now }
+    requires inside { i < length nodes.now }
+    ensures opens { type_of nodes.now i ≡ open_shape (type_of nodes.now) result.now }
+    ensures below { NamesBelow i result.now }
+{
+    &nodes[i].shape
+}
+
+fn shape_operand(shape: &Shape) -> Operand
+    ensures is { (at : ℕ → PokeType) → result ≡ type_operand (open_shape at shape.now) }
+    ensures wide { (n : ℕ) → NamesBelow n shape.now → IsWide result }
+{
+    match shape {
+        Shape::Integer(t) => Operand::Number(Scalar::Integer(*t)),
+        Shape::Offset(t, unit) => Operand::Number(Scalar::Offset(*t, *unit)),
+        Shape::String => Operand::String,
+        _ => Operand::Other,
+    }
+}
+
+/// What an operator sees of the type of a node.
+pub fn node_operand(nodes: &[Node], i: usize) -> Operand
+    requires table { IsTable nodes.now }
+    requires inside { i < length nodes.now }
+    ensures is { result ≡ type_operand (type_of nodes.now i) }
+    ensures wide { IsWide result }
+{
+    shape_operand(shape_at(nodes, i))
+}
+
+/// What an operator sees of it.
+pub fn operand_of(nodes: &[Node], sort: Sort) -> Operand
+    requires table { IsTable nodes.now }
+    requires inside { IsInside nodes.now sort }
+    ensures { result ≡ operand_of (sort_of nodes.now sort) }
+{
+    match sort {
+        Sort::Text => Operand::Text,
+        Sort::Scalar(s) => Operand::Number(s),
+        Sort::Node(i) => node_operand(nodes, i),
+    }
+}
+
+fn shape_element(shape: &Shape) -> Option<usize>
+    ensures is { (at : ℕ → PokeType) → option_map at result ≡ element_in (open_shape at shape.now) }
+    ensures below { (n : ℕ) → NamesBelow n shape.now → IfSome result (λ e. e < n) }
+{
+    match shape {
+        Shape::Array(element, _) => Some(*element),
+        _ => None,
+    }
+}
+
+/// The node of an array's element.
+pub fn element_of(nodes: &[Node], sort: Sort) -> Option<usize>
+    requires table { IsTable nodes.now }
+    requires inside { IsInside nodes.now sort }
+    ensures is { option_map (type_of nodes.now) result ≡ sort_element (sort_of nodes.now sort) }
+    ensures inside { IfSome result (λ e. e < length nodes.now) }
+{
+    match sort {
+        Sort::Text => None,
+        Sort::Scalar(_) => None,
+        Sort::Node(i) => shape_element(shape_at(nodes, i)),
+    }
+}
+
+fn find_field(fields: &[Field], word: &[u8]) -> Option<(usize, usize)>
+    ensures found { (at : ℕ → PokeType) → IsFoundField at result (find_field 0 word.now (open_fields at fields.now)) }
+    ensures below { (n : ℕ) → FieldsBelow n fields.now → IfSome result (λ x. x.1 < n) }
+{
+    for (i, f) in fields.iter().enumerate() {
+        if is_named(f.name.as_deref(), word) {
+            return Some((i, f.node));
+        }
+    }
+    None
+}
+
+fn find_part(parts: &[Part], word: &[u8]) -> Option<(usize, usize)>
+    ensures found { (at : ℕ → PokeType) → IsFoundField at result (find_part 0 word.now (open_parts at parts.now)) }
+    ensures below { (n : ℕ) → PartsBelow n parts.now → IfSome result (λ x. x.1 < n) }
+{
+    for (i, p) in parts.iter().enumerate() {
+        if is_named(p.name.as_deref(), word) {
+            return Some((i, p.node));
+        }
+    }
+    None
+}
+
+fn or_unknown(found: Option<(usize, usize)>) -> Result<(usize, usize), FaultKind>
+    ensures { result ≡ or_wrong FaultKind.UnknownName found }
+{
+    match found {
+        Some(found) => Ok(found),
+        None => Err(FaultKind::UnknownName),
+    }
+}
+
+fn shape_field(shape: &Shape, word: &[u8]) -> Result<(usize, usize), FaultKind>
+    ensures gives { (at : ℕ → PokeType) → Gives (λ x. (x.0, at x.1)) result (field_in word.now (open_shape at shape.now)) }
+    ensures below { (n : ℕ) → NamesBelow n shape.now → IfOk result (λ x. x.1 < n) }
+{
+    match shape {
+        Shape::Struct { fields, .. } => or_unknown(find_field(fields, word)),
+        Shape::Integral { fields, .. } => or_unknown(find_part(fields, word)),
+        Shape::Union { alternatives, .. } => or_unknown(find_part(alternatives, word)),
+        _ => Err(FaultKind::Mismatch),
+    }
+}
+
+/// The place and the node of a field of that name.
+pub fn field_of(nodes: &[Node], sort: Sort, word: &[u8]) -> Result<(usize, usize), FaultKind>
+    requires table { IsTable nodes.now }
+    requires inside { IsInside nodes.now sort }
+    ensures gives { Gives (λ x. (x.0, type_of nodes.now x.1)) result (sort_field word.now (sort_of nodes.now sort)) }
+    ensures inside { IfOk result (λ x. x.1 < length nodes.now) }
+{
+    match sort {
+        Sort::Text => Err(FaultKind::Mismatch),
+        Sort::Scalar(_) => Err(FaultKind::Mismatch),
+        Sort::Node(i) => shape_field(shape_at(nodes, i), word),
+    }
+}
+
+fn shape_width(shape: &Shape) -> Option<u8>
+    ensures { (at : ℕ → PokeType) → result ≡ bit_width (open_shape at shape.now) }
+{
+    match shape {
+        Shape::Integer(t) => Some(t.width),
+        Shape::Offset(t, _) => Some(t.width),
+        Shape::Integral { number, .. } => Some(number.width),
+        _ => None,
+    }
+}
+
+/// The width of an integer, an offset or an integral struct.
+pub fn width_of(nodes: &[Node], i: usize) -> Option<u8>
+    requires table { IsTable nodes.now }
+    requires inside { i < length nodes.now }
+    ensures { result ≡ bit_width (type_of nodes.now i) }
+{
+    shape_width(shape_at(nodes, i))
+}
+
+/// Whether it is an integer, an offset or an integral struct.
+pub fn has_width(nodes: &[Node], i: usize) -> bool
+    requires table { IsTable nodes.now }
+    requires inside { i < length nodes.now }
+    ensures { result ≡ has_some (bit_width (type_of nodes.now i)) }
+{
+    match width_of(nodes, i) {
+        Some(_) => true,
+        None => false,
+    }
+}

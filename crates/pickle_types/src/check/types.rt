@@ -1,0 +1,474 @@
+//! The types of forms, as nodes of a table.
+
+ghost use Rattle.std.specs.Prelude.{◌≡◌, ◌+◌, ◌<◌, ◌≤◌, ℕ, List, [], ◌∷◌, ◌++◌, length, true, false, Ok, None, IfOk, IfErr, OnOk};
+ghost use Rattle.pickle_syntax.specs.Tree.{reference_tree, optional_tree, form_tree, field_tree, fields_tree, ArrayForm, StructForm, IntegralForm, UnionForm, OffsetForm};
+ghost use Rattle.pickle_types.specs.Types;
+ghost use Rattle.pickle_types.specs.Table.{optional_term, bound_of, type_of, open_shape, IsTable, NamesBelow};
+ghost use Rattle.pickle_types.specs.Meaning.{integer_expression, offset_expression, bound_expression, integer_type, called, plain, offset_type, field_meaning, struct_place, meaning, fields_meaning};
+ghost use Rattle.pickle_types.specs.Built.{Gives, bytes_now, views_of, AreNamed, AreBelow, names_in};
+ghost use Rattle.pickle_types.specs.Building.{known_types, visible_in, after_itself, Builds, FieldGives, FieldBuilds, FieldsBuild};
+
+use crate::check::expressions::{integer, typed};
+use crate::check::fields::{
+    condition_in, constraint_in, copied, form_in, fresh, label_in, name_in, order_in, parts_from,
+    place_in, stand, struct_place, total_width,
+};
+use crate::check::operators::Scalar;
+use crate::check::places::Place;
+use crate::check::references::{in_range, integer_referred, offset_parts};
+use crate::check::sorts::{has_width, operand_of};
+use crate::fault::FaultKind;
+use crate::names::{Names, find_name};
+use crate::scopes::Seen;
+use crate::table::{Extent, Field, Node, Resolved, Shape};
+use pickle_syntax::tree;
+use pickle_syntax::tree::{Expression, Form, Reference, Unit};
+use std::alloc::Global;
+
+/// A node, and how deep its type is.
+#[derive(Clone, Copy)]
+pub struct Found {
+    pub node: usize,
+    pub depth: u8,
+}
+
+/// The name that a type is printed with, and its place among the declared types.
+#[derive(Clone, Copy)]
+pub struct Title<'n> {
+    pub name: Option<&'n [u8]>,
+    pub slot: Option<u16>,
+}
+
+/// The types as far as they are built, and the fields that are seen.
+#[derive(Drop)]
+pub struct Builder<'n> {
+    pub alloc: Global,
+    pub names: Names,
+    pub nodes: Vec<Node>,
+    pub seen: Vec<Seen<'n>>,
+}
+
+impl<'n> Builder<'n> {
+    /// A constraint or condition, which is an integer.
+    #[tactic(auto, unfolding(crate::specs::Meaning::integer_expression))]
+    fn integer_expression(
+        &self,
+        levels: u8,
+        e: &Option<Expression>,
+    ) -> Result<Option<Resolved>, FaultKind>
+        requires table { IsTable self.now.nodes.items }
+        requires names { AreNamed self.now.nodes.items self.now.names }
+        requires seen { AreBelow (length self.now.nodes.items) levels self.now.seen.items }
+        ensures { Gives optional_term result (integer_expression (known_types self.now) (visible_in self.now) levels (optional_tree e.now)) }
+    {
+        let Some(e) = e else {
+            return Ok(None);
+        };
+        let x = typed(self.alloc, &self.names, &self.nodes, &self.seen, levels, e)?;
+        integer(&self.nodes, x.sort)?;
+        Ok(Some(x.term))
+    }
+
+    /// A label, which is an offset.
+    #[tactic(auto, unfolding(crate::specs::Meaning::offset_expression))]
+    fn offset_expression(
+        &self,
+        levels: u8,
+        e: &Option<Expression>,
+    ) -> Result<Option<Resolved>, FaultKind>
+        requires table { IsTable self.now.nodes.items }
+        requires names { AreNamed self.now.nodes.items self.now.names }
+        requires seen { AreBelow (length self.now.nodes.items) levels self.now.seen.items }
+        ensures { Gives optional_term result (offset_expression (known_types self.now) (visible_in self.now) levels (optional_tree e.now)) }
+    {
+        let Some(e) = e else {
+            return Ok(None);
+        };
+        let x = typed(self.alloc, &self.names, &self.nodes, &self.seen, levels, e)?;
+        match operand_of(&self.nodes, x.sort).number() {
+            Some(Scalar::Offset(_, _)) => Ok(Some(x.term)),
+            _ => Err(FaultKind::Mismatch),
+        }
+    }
+
+    /// The bound of an array, which is an integer or an offset.
+    #[tactic(auto, unfolding(crate::specs::Meaning::bound_expression))]
+    fn bound_expression(&self, levels: u8, e: &Option<Expression>) -> Result<Extent, FaultKind>
+        requires table { IsTable self.now.nodes.items }
+        requires names { AreNamed self.now.nodes.items self.now.names }
+        requires seen { AreBelow (length self.now.nodes.items) levels self.now.seen.items }
+        ensures { Gives bound_of result (bound_expression (known_types self.now) (visible_in self.now) levels (optional_tree e.now)) }
+    {
+        let Some(e) = e else {
+            return Ok(Extent::Unbounded);
+        };
+        let x = typed(self.alloc, &self.names, &self.nodes, &self.seen, levels, e)?;
+        match operand_of(&self.nodes, x.sort).number() {
+            Some(Scalar::Integer(_)) => Ok(Extent::Count(x.term)),
+            Some(Scalar::Offset(_, _)) => Ok(Extent::Size(x.term)),
+            None => Err(FaultKind::Mismatch),
+        }
+    }
+
+    /// The constraint of a field, which sees the field itself; so does what comes after it, but not in a union.
+    fn constraint(
+        &mut self,
+        place: Place,
+        itself: Seen<'n>,
+        e: &Option<Expression>,
+    ) -> Result<Option<Resolved>, FaultKind>
+        requires table { IsTable self.old.nodes.items }
+        requires names { AreNamed self.old.nodes.items self.old.names }
+        requires level { itself.level < 64 }
+        requires inside { itself.node < length self.old.nodes.items }
+        requires seen { AreBelow (length self.old.nodes.items) (itself.level + 1) self.old.seen.items }
+        ensures gives { Gives optional_term result (integer_expression (known_types self.old) (views_of self.old.nodes.items (self.old.seen.items ++ itself.entry ∷ [])) (itself.entry.level + 1) (optional_tree e.now)) }
+        ensures names { self.new.names ≡ self.old.names }
+        ensures nodes { self.new.nodes.items ≡ self.old.nodes.items }
+        ensures seen { OnOk result (self.new.seen.items ≡ after_itself place self.old.seen.items itself.entry) }
+    {
+        let mark = self.seen.len();
+        self.seen.push(itself)?;
+        let constraint = self.integer_expression(itself.level + 1, e)?;
+        if let Place::Union = place {
+            self.seen.truncate(mark);
+        }
+        Ok(constraint)
+    }
+
+    /// A field of a type, after others; what comes after it sees it, but not in a union.
+    fn field_of(
+        &mut self,
+        place: Place,
+        levels: u8,
+        found: Found,
+        before: &[Field],
+        written: &'n tree::Field,
+    ) -> Result<Field, FaultKind>
+        requires table { IsTable self.old.nodes.items }
+        requires names { AreNamed self.old.nodes.items self.old.names }
+        requires seen { AreBelow (length self.old.nodes.items) (levels + 1) self.old.seen.items }
+        requires few { levels < 64 }
+        requires inside { found.node < length self.old.nodes.items }
+        ensures gives { FieldGives self.old self.new place levels (length before.now) (field_tree written.now).parts result (field_meaning (known_types self.old) place (visible_in self.old) levels (names_in before.now) (field_tree written.now).parts (Ok (type_of self.old.nodes.items found.node))) }
+        ensures node { IfOk result (λ field. field.node ≡ found.node) }
+    {
+        let bits = has_width(&self.nodes, found.node);
+        stand(place, bits, written)?;
+        let word = name_in(written);
+        fresh(word, before)?;
+        let label = self.offset_expression(levels + 1, label_in(written))?;
+        let condition = self.integer_expression(levels + 1, condition_in(written))?;
+        let itself = Seen {
+            name: word,
+            level: levels,
+            place: place_in(place, before.len()),
+            node: found.node,
+        };
+        let constraint = self.constraint(place, itself, constraint_in(written))?;
+        let name = copied(self.alloc, word)?;
+        Ok(Field {
+            name,
+            order: order_in(written),
+            node: found.node,
+            constraint,
+            label,
+            condition,
+        })
+    }
+
+    pub fn push(&mut self, slot: Option<u16>, shape: Shape, depth: u8) -> Result<Found, FaultKind>
+        requires table { IsTable self.old.nodes.items }
+        requires names { AreNamed self.old.nodes.items self.old.names }
+        requires below { NamesBelow (length self.old.nodes.items) shape }
+        requires depth { depth ≡ Types.depth (open_shape (type_of self.old.nodes.items) shape) }
+        ensures builds { Builds self.old self.new result (Ok (open_shape (type_of self.old.nodes.items) shape)) }
+        ensures depth { IfOk result (λ found. found.depth ≡ depth) }
+        ensures memory { IfErr result (λ e. e ≡ FaultKind.Memory) }
+    {
+        let node = self.nodes.len();
+        self.nodes.push(Node { shape, slot })?;
+        Ok(Found { node, depth })
+    }
+
+    /// The type of a name, no deeper than there is room for.
+    fn called_at(&self, room: u8, word: &[u8]) -> Result<Found, FaultKind>
+        requires table { IsTable self.now.nodes.items }
+        requires names { AreNamed self.now.nodes.items self.now.names }
+        ensures builds { Builds self.now self.now result (called room word.now (known_types self.now)) }
+        ensures low { IfOk result (λ found. found.depth ≤ room) }
+    {
+        match find_name(&self.names, word) {
+            None => Err(FaultKind::UnknownType),
+            Some(d) => {
+                if d.depth > room {
+                    return Err(FaultKind::TooDeep);
+                }
+                Ok(Found {
+                    node: d.node,
+                    depth: d.depth,
+                })
+            }
+        }
+    }
+
+    fn integer_at(
+        &mut self,
+        slot: Option<u16>,
+        signed: bool,
+        width: u64,
+    ) -> Result<Found, FaultKind>
+        requires table { IsTable self.old.nodes.items }
+        requires names { AreNamed self.old.nodes.items self.old.names }
+        ensures builds { Builds self.old self.new result (integer_type signed width) }
+        ensures low { IfOk result (λ found. found.depth ≤ 1) }
+    {
+        let t = in_range(signed, width)?;
+        self.push(slot, Shape::Integer(t), 1)
+    }
+
+    fn plain_at(
+        &mut self,
+        slot: Option<u16>,
+        room: u8,
+        reference: &Reference,
+    ) -> Result<Found, FaultKind>
+        requires table { IsTable self.old.nodes.items }
+        requires names { AreNamed self.old.nodes.items self.old.names }
+        requires some { 0 < room }
+        ensures builds { Builds self.old self.new result (plain room (known_types self.old) (reference_tree reference.now)) }
+        ensures low { IfOk result (λ found. found.depth ≤ room) }
+    {
+        match reference {
+            Reference::Int(n) => self.integer_at(slot, true, n.value),
+            Reference::Uint(n) => self.integer_at(slot, false, n.value),
+            Reference::Named(word) => self.called_at(room, word),
+        }
+    }
+
+    fn offset_at(
+        &mut self,
+        slot: Option<u16>,
+        reference: &Reference,
+        unit: Unit,
+    ) -> Result<Found, FaultKind>
+        requires table { IsTable self.old.nodes.items }
+        requires names { AreNamed self.old.nodes.items self.old.names }
+        ensures builds { Builds self.old self.new result (offset_type (known_types self.old) (reference_tree reference.now) unit) }
+        ensures low { IfOk result (λ found. found.depth ≤ 1) }
+    {
+        let (t, bits) = offset_parts(&self.names, &self.nodes, reference, unit)?;
+        self.push(slot, Shape::Offset(t, bits), 1)
+    }
+
+    /// The node of the type that a form means, no deeper than there is room for.
+    #[cycle(types)]
+    pub fn type_at(
+        &mut self,
+        levels: u8,
+        title: Title<'n>,
+        room: u8,
+        form: &'n Form,
+    ) -> Result<Found, FaultKind>
+        requires table { IsTable self.old.nodes.items }
+        requires names { AreNamed self.old.nodes.items self.old.names }
+        requires seen { AreBelow (length self.old.nodes.items) levels self.old.seen.items }
+        requires few { levels + room ≤ 64 }
+        ensures builds { Builds self.old self.new result (meaning (known_types self.old) (visible_in self.old) levels (bytes_now title.entry.name) room (form_tree form.now)) }
+        ensures low { IfOk result (λ found. found.depth ≤ room) }
+    {
+        if room == 0 {
+            return Err(FaultKind::TooDeep);
+        }
+        match form {
+            Form::Reference(reference) => self.plain_at(title.slot, room, reference),
+            Form::String => self.push(title.slot, Shape::String, 1),
+            Form::Offset(reference, unit) => self.offset_at(title.slot, reference, *unit),
+            Form::Array(element, bound) => self.array_at(levels, title, room, element, bound),
+            Form::Struct(pinned, fields) => self.struct_at(levels, title, room, *pinned, fields),
+            Form::Integral(reference, fields) => self.integral_at(
+                levels, title, room, reference, fields,
+            ),
+            Form::Union(alternatives) => self.union_at(levels, title, room, alternatives),
+        }
+    }
+
+    #[cycle(types)]
+    fn array_at(
+        &mut self,
+        levels: u8,
+        title: Title<'n>,
+        room: u8,
+        element: &'n Form,
+        bound: &Option<Expression>,
+    ) -> Result<Found, FaultKind>
+        requires table { IsTable self.old.nodes.items }
+        requires names { AreNamed self.old.nodes.items self.old.names }
+        requires seen { AreBelow (length self.old.nodes.items) levels self.old.seen.items }
+        requires some { 0 < room }
+        requires few { levels + room ≤ 64 }
+        ensures builds { Builds self.old self.new result (meaning (known_types self.old) (visible_in self.old) levels (bytes_now title.entry.name) room (ArrayForm (form_tree element.now) (optional_tree bound.now))) }
+        ensures low { IfOk result (λ found. found.depth ≤ room) }
+    {
+        let found = self.type_at(
+            levels + 1,
+            Title {
+                name: None,
+                slot: None,
+            },
+            room - 1,
+            element,
+        )?;
+        let bound = self.bound_expression(levels, bound)?;
+        self.push(title.slot, Shape::Array(found.node, bound), found.depth + 1)
+    }
+
+    #[cycle(types)]
+    fn struct_at(
+        &mut self,
+        levels: u8,
+        title: Title<'n>,
+        room: u8,
+        pinned: bool,
+        written: &'n [tree::Field],
+    ) -> Result<Found, FaultKind>
+        requires table { IsTable self.old.nodes.items }
+        requires names { AreNamed self.old.nodes.items self.old.names }
+        requires seen { AreBelow (length self.old.nodes.items) levels self.old.seen.items }
+        requires some { 0 < room }
+        requires few { levels + room ≤ 64 }
+        ensures builds { Builds self.old self.new result (meaning (known_types self.old) (visible_in self.old) levels (bytes_now title.entry.name) room (StructForm pinned (fields_tree written.now))) }
+        ensures low { IfOk result (λ found. found.depth ≤ room) }
+    {
+        let (fields, depth) = self.fields_at(struct_place(pinned), levels, room - 1, written)?;
+        let name = copied(self.alloc, title.name)?;
+        self.push(
+            title.slot,
+            Shape::Struct {
+                name,
+                pinned,
+                fields,
+            },
+            depth + 1,
+        )
+    }
+
+    #[cycle(types)]
+    fn integral_at(
+        &mut self,
+        levels: u8,
+        title: Title<'n>,
+        room: u8,
+        reference: &Reference,
+        written: &'n [tree::Field],
+    ) -> Result<Found, FaultKind>
+        requires table { IsTable self.old.nodes.items }
+        requires names { AreNamed self.old.nodes.items self.old.names }
+        requires seen { AreBelow (length self.old.nodes.items) levels self.old.seen.items }
+        requires some { 0 < room }
+        requires few { levels + room ≤ 64 }
+        ensures builds { Builds self.old self.new result (meaning (known_types self.old) (visible_in self.old) levels (bytes_now title.entry.name) room (IntegralForm (reference_tree reference.now) (fields_tree written.now))) }
+        ensures low { IfOk result (λ found. found.depth ≤ room) }
+    {
+        let number = integer_referred(&self.names, &self.nodes, reference)?;
+        let (fields, depth) = self.fields_at(Place::Integral, levels, room - 1, written)?;
+        if total_width(&self.nodes, &fields) != u128::from(number.width) {
+            return Err(FaultKind::IntegralWidths);
+        }
+        let fields = parts_from(self.alloc, fields)?;
+        let name = copied(self.alloc, title.name)?;
+        self.push(
+            title.slot,
+            Shape::Integral {
+                name,
+                number,
+                fields,
+            },
+            depth + 1,
+        )
+    }
+
+    #[cycle(types)]
+    fn union_at(
+        &mut self,
+        levels: u8,
+        title: Title<'n>,
+        room: u8,
+        written: &'n [tree::Field],
+    ) -> Result<Found, FaultKind>
+        requires table { IsTable self.old.nodes.items }
+        requires names { AreNamed self.old.nodes.items self.old.names }
+        requires seen { AreBelow (length self.old.nodes.items) levels self.old.seen.items }
+        requires some { 0 < room }
+        requires few { levels + room ≤ 64 }
+        ensures builds { Builds self.old self.new result (meaning (known_types self.old) (visible_in self.old) levels (bytes_now title.entry.name) room (UnionForm (fields_tree written.now))) }
+        ensures low { IfOk result (λ found. found.depth ≤ room) }
+    {
+        if written.is_empty() {
+            return Err(FaultKind::NotHere);
+        }
+        let (fields, depth) = self.fields_at(Place::Union, levels, room - 1, written)?;
+        let alternatives = parts_from(self.alloc, fields)?;
+        let name = copied(self.alloc, title.name)?;
+        self.push(title.slot, Shape::Union { name, alternatives }, depth + 1)
+    }
+
+    /// One field, after others; what comes after it sees it, but not in a union.
+    #[cycle(types)]
+    fn field_at(
+        &mut self,
+        place: Place,
+        levels: u8,
+        room: u8,
+        before: &[Field],
+        written: &'n tree::Field,
+    ) -> Result<(Field, u8), FaultKind>
+        requires table { IsTable self.old.nodes.items }
+        requires names { AreNamed self.old.nodes.items self.old.names }
+        requires seen { AreBelow (length self.old.nodes.items) (levels + 1) self.old.seen.items }
+        requires few { levels + 1 + room ≤ 64 }
+        ensures builds { FieldBuilds self.old self.new place levels (length before.now) (field_tree written.now).parts result (field_meaning (known_types self.old) place (visible_in self.old) levels (names_in before.now) (field_tree written.now).parts (meaning (known_types self.old) (visible_in self.old) (levels + 1) None room (field_tree written.now).form)) }
+        ensures low { IfOk result (λ x. x.1 ≤ room) }
+    {
+        let found = self.type_at(
+            levels + 1,
+            Title {
+                name: None,
+                slot: None,
+            },
+            room,
+            form_in(written),
+        )?;
+        let field = self.field_of(place, levels, found, before, written)?;
+        Ok((field, found.depth))
+    }
+
+    /// The fields of a struct or the alternatives of a union, and how deep the deepest is.
+    #[cycle(types)]
+    #[tactic(auto, unfolding(crate::specs::Meaning::fields_meaning))]
+    fn fields_at(
+        &mut self,
+        place: Place,
+        levels: u8,
+        room: u8,
+        written: &'n [tree::Field],
+    ) -> Result<(Vec<Field>, u8), FaultKind>
+        requires table { IsTable self.old.nodes.items }
+        requires names { AreNamed self.old.nodes.items self.old.names }
+        requires seen { AreBelow (length self.old.nodes.items) levels self.old.seen.items }
+        requires few { levels + 1 + room ≤ 64 }
+        ensures builds { FieldsBuild self.old self.new result (fields_meaning (known_types self.old) place (visible_in self.old) levels room [] (fields_tree written.now)) }
+        ensures low { IfOk result (λ x. x.1 ≤ room) }
+    {
+        let mark = self.seen.len();
+        let mut fields = Vec::new(self.alloc);
+        let mut deepest: u8 = 0;
+        for f in written {
+            let (field, depth) = self.field_at(place, levels, room, &fields, f)?;
+            fields.push(field)?;
+            deepest = deepest.max(depth);
+        }
+        self.seen.truncate(mark);
+        Ok((fields, deepest))
+    }
+}

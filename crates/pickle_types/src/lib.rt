@@ -1,0 +1,13 @@
+//! The types of a pickle: names, type rules, and the bounds of steps and memory.
+#![tactic(auto)]
+
+pub mod bounds;
+pub mod check;
+pub mod fault;
+pub mod integer;
+pub mod laws;
+pub mod names;
+pub mod predeclared;
+pub mod scopes;
+pub mod table;
+pub mod type_table;

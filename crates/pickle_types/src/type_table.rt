@@ -1,0 +1,205 @@
+//! The types of a pickle, found by their names.
+
+ghost use Rattle.std.specs.Prelude.{◌≡◌, ◌≢◌, ◌+◌, ◌<◌, ◌≤◌, ℕ, List, [], ◌∷◌, ◌++◌, length, map, None, Ok, IfOk, IfErr, OnOk, IsTrue, ◌↔◌};
+ghost use Rattle.pickle_syntax.specs.Tree.{declaration_tree, pickle_tree};
+ghost use Rattle.pickle_types.specs.Types;
+ghost use Rattle.pickle_types.specs.Types.{IntegerOf};
+ghost use Rattle.pickle_types.specs.Table.{type_of, IsWidth};
+ghost use Rattle.pickle_types.specs.Names.{predeclared, find_type};
+ghost use Rattle.pickle_types.specs.Meaning.{declared_type, declared};
+ghost use Rattle.pickle_types.specs.WellTyped.{Declares};
+ghost use Rattle.pickle_types.specs.Built.{Fails};
+ghost use Rattle.pickle_types.specs.Building.{known_types, IsReady, AddsType, named_types, may_add};
+ghost use Rattle.pickle_types.specs.TypeTable.{types_of, count_of, IsSound, IsTypeFound, IsWellTyped};
+
+use crate::check::types::{Builder, Found, Title};
+use crate::fault::{FaultKind, TypeFault};
+use crate::integer::IntegerType;
+use crate::names::{Declared, Names, find_name, insert};
+use crate::predeclared::PREDECLARED;
+use crate::table::{Node, Shape};
+use pickle_syntax::tree::{Declaration, Pickle};
+use std::alloc::Global;
+
+impl<'n> Builder<'n> {
+    fn new(alloc: Global) -> Builder<'n>
+        ensures ready { IsReady result }
+        ensures none { known_types result ≡ [] }
+    {
+        Builder {
+            alloc,
+            names: Names::new(alloc),
+            nodes: Vec::new(alloc),
+            seen: Vec::new(alloc),
+        }
+    }
+
+    /// Gives a type a name that no type has.
+    fn add(&mut self, word: &[u8], found: Found) -> Result<(), FaultKind>
+        requires ready { IsReady self.old }
+        requires new { find_type word.now (known_types self.old) ≡ None }
+        requires inside { found.node < length self.old.nodes.items }
+        requires deep { found.depth ≡ Types.depth (type_of self.old.nodes.items found.node) }
+        ensures ready { OnOk result (IsReady self.new) }
+        ensures known { OnOk result (known_types self.new ≡ known_types self.old ++ (word.now, type_of self.old.nodes.items found.node) ∷ []) }
+        ensures err { IfErr result (λ e. e ≡ FaultKind.Memory) }
+    {
+        let declared = Declared {
+            node: found.node,
+            depth: found.depth,
+        };
+        insert(&mut self.names, self.alloc, word, declared)?;
+        Ok(())
+    }
+
+    /// Adds integer types under names that are new.
+    fn predeclare(&mut self, types: &[(&[u8], IntegerType)]) -> Result<(), FaultKind>
+        requires ready { IsReady self.old }
+        requires new { IsTrue (may_add (known_types self.old) types.now) }
+        ensures ready { OnOk result (IsReady self.new) }
+        ensures known { OnOk result (known_types self.new ≡ known_types self.old ++ named_types types.now) }
+        ensures err { IfErr result (λ e. e ≡ FaultKind.Memory) }
+    {
+        for entry in types {
+            self.predeclare_one(entry.0, entry.1)?;
+        }
+        Ok(())
+    }
+
+    fn predeclare_one(&mut self, word: &[u8], ty: IntegerType) -> Result<(), FaultKind>
+        requires ready { IsReady self.old }
+        requires new { find_type word.now (known_types self.old) ≡ None }
+        requires wide { IsWidth ty }
+        ensures ready { OnOk result (IsReady self.new) }
+        ensures known { OnOk result (known_types self.new ≡ known_types self.old ++ (word.now, IntegerOf ty) ∷ []) }
+        ensures err { IfErr result (λ e. e ≡ FaultKind.Memory) }
+    {
+        let found = self.push(None, Shape::Integer(ty), 1)?;
+        self.add(word, found)
+    }
+
+    /// Adds the type of a declaration, and gives its node.
+    fn declare(
+        &mut self,
+        slot: Option<u16>,
+        declaration: &'n Declaration,
+    ) -> Result<usize, FaultKind>
+        requires ready { IsReady self.old }
+        ensures adds { AddsType self.old self.new (declaration_tree declaration.now).name result (declared_type (known_types self.old) (declaration_tree declaration.now)) }
+    {
+        if find_name(&self.names, &declaration.name).is_some() {
+            return Err(FaultKind::DuplicateType);
+        }
+        let title = Title {
+            name: Some(declaration.name.as_slice()),
+            slot,
+        };
+        let found = self.type_at(0, title, 64, &declaration.form)?;
+        self.add(&declaration.name, found)?;
+        Ok(found.node)
+    }
+
+    /// Adds the types of declarations, and gives the nodes of those that are no other names of earlier ones.
+    fn declare_all(&mut self, declarations: &'n [Declaration]) -> Result<Vec<usize>, TypeFault>
+        requires ready { IsReady self.old }
+        ensures ready { OnOk result (IsReady self.new) }
+        ensures ok { OnOk result (declared (known_types self.old) (map declaration_tree declarations.now) ≡ Ok (known_types self.new)) }
+        ensures err { IfErr result (λ e. Fails e.kind (declared (known_types self.old) (map declaration_tree declarations.now))) }
+    {
+        let mut roots = Vec::new(self.alloc);
+        for (i, declaration) in declarations.iter().enumerate() {
+            let slot = u16::try_from(roots.len()).ok();
+            let built = self.nodes.len();
+            match self.declare(slot, declaration) {
+                Ok(node) => {
+                    if node >= built {
+                        roots.push(node)?;
+                    }
+                }
+                Err(kind) => return Err(fault_in(kind, i)),
+            }
+        }
+        Ok(roots)
+    }
+}
+
+/// A fault in the declaration at a place, counted from 0.
+fn fault_in(kind: FaultKind, place: usize) -> TypeFault
+    ensures kind { result.kind ≡ kind }
+{
+    let decl = match kind {
+        FaultKind::Memory => 0,
+        _ => place.saturating_add(1),
+    };
+    TypeFault { kind, decl }
+}
+
+/// A type of a table.
+#[derive(Clone, Copy, PartialEq, Eq, Debug)]
+pub struct TypeId {
+    pub node: usize,
+}
+
+/// The types of a pickle and the predeclared types, found by their names.
+#[derive(Drop)]
+pub struct Table {
+    pub(crate) nodes: Vec<Node>,
+    /// The nodes of the declared types that are no other names of earlier ones, in rising order.
+    pub(crate) roots: Vec<usize>,
+    names: Names,
+    declared: usize,
+}
+
+impl Table {
+    /// The types that a pickle declares, where it is well typed and no type is deeper than 64.
+    pub fn build(alloc: Global, pickle: &Pickle) -> Result<Table, TypeFault>
+        ensures sound { IfOk result IsSound }
+        ensures ok { IfOk result (λ table. Declares predeclared (pickle_tree pickle.now) (types_of table)) }
+        ensures len { IfOk result (λ table. count_of table ≡ length (pickle_tree pickle.now)) }
+        // Memory is answered only where a growth was refused; any other kind only where the pickle isn't well typed.
+        ensures wrong { IfErr result (λ e. e.kind ≢ FaultKind.Memory → ¬ IsWellTyped (pickle_tree pickle.now)) }
+        ensures kind { IfErr result (λ e. Fails e.kind (declared predeclared (pickle_tree pickle.now))) }
+    {
+        let mut builder = Builder::new(alloc);
+        builder.predeclare(&PREDECLARED)?;
+        let roots = builder.declare_all(&pickle.declarations)?;
+        let Builder {
+            alloc: _,
+            names,
+            nodes,
+            seen: _,
+        } = builder;
+        Ok(Table {
+            nodes,
+            roots,
+            names,
+            declared: pickle.declarations.len(),
+        })
+    }
+
+    /// The type of a declared or predeclared name.
+    pub fn find(&self, name: &[u8]) -> Option<TypeId>
+        requires sound { IsSound self.now }
+        ensures { IsTypeFound self.now result (find_type name.now (types_of self.now)) }
+    {
+        match find_name(&self.names, name) {
+            Some(declared) => Some(TypeId {
+                node: declared.node,
+            }),
+            None => None,
+        }
+    }
+
+    /// How many types are declared.
+    pub fn len(&self) -> usize
+        ensures { result ≡ count_of self.now }
+    {
+        self.declared
+    }
+
+    pub fn is_empty(&self) -> bool
+        ensures { IsTrue result ↔ (count_of self.now ≡ 0) }
+    {
+        self.declared == 0
+    }
+}
