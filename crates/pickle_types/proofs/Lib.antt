@@ -1,0 +1,4 @@
+pub mod Tables
+pub mod Growth
+pub mod Sums
+pub mod Bounded

@@ -1,1 +1,4 @@
 pub mod Types
+pub mod Table
+pub mod Bounds
+pub mod Holds
