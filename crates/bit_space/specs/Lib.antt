@@ -1,0 +1,3 @@
+pub mod Bits
+pub mod SpaceView
+pub mod Reading

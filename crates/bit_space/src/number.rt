@@ -1,0 +1,137 @@
+//! Numbers of 1 to 64 bits at any bit of a space.
+
+ghost use Rattle.std.specs.Prelude.{◌≡◌, ℕ, ◌+◌, ◌-◌, ◌*◌, ◌^◌, ◌<◌, ◌≤◌, length, slice_range, IfOk, IfErr, OnOk};
+ghost use Rattle.bit_space.specs.Bits.{binary, bits_of, number, numeral};
+ghost use Rattle.bit_space.specs.SpaceView.{known_bits, Keeps};
+ghost use Rattle.bit_space.specs.Reading.{MayRead, IsRefused, UnlessDevice};
+ghost use Rattle.bit_space.specs.declared.number.BitFault.TheVariants.{Device, Limit};
+
+use crate::meter::{LimitPassed, Meter};
+use crate::order::Order;
+use crate::space::{DeviceFault, Space};
+use thiserror::Error;
+
+/// Why a number was not read.
+#[derive(Clone, Copy, Debug, PartialEq, Eq, Error)]
+pub enum BitFault {
+    /// The bits are not all inside the space.
+    #[error("fault End")]
+    End,
+    /// The space failed.
+    #[error("fault Device")]
+    Device,
+    /// No step was left.
+    #[error("fault Limit")]
+    Limit,
+}
+
+impl From<DeviceFault> for BitFault {
+    ghost from_gives = { λ _ fault. fault ≡ Device };
+
+    fn from(_fault: DeviceFault) -> BitFault {
+        BitFault::Device
+    }
+}
+
+impl From<LimitPassed> for BitFault {
+    ghost from_gives = { λ _ fault. fault ≡ Limit };
+
+    fn from(_fault: LimitPassed) -> BitFault {
+        BitFault::Limit
+    }
+}
+
+/// The most bytes that 64 bits can lie in.
+const WINDOW: usize = 9;
+
+/// Reads the number, without a sign, of the `width` bits from bit `pos` on, 1 to 64 of them.
+///
+/// It takes one step first. Where the bits are inside the space it reads their bytes once.
+pub fn read_number<S: Space>(
+    space: &mut S,
+    pos: u64,
+    width: u8,
+    order: Order,
+    meter: &mut Meter,
+) -> Result<u64, BitFault>
+    requires some { 0 < width }
+    requires most { width ≤ 64 }
+    ensures keeps { Keeps (S.view space.old) (S.view space.new) }
+    ensures limit { meter.new.limit ≡ meter.old.limit }
+    ensures made { meter.new.made ≡ meter.old.made }
+    ensures steps { OnOk result ((meter.old.steps < meter.old.limit) × (meter.new.steps ≡ meter.old.steps + 1)) }
+    ensures inside { OnOk result (pos + width ≤ 8 * (S.view space.old).len) }
+    ensures ok { IfOk result (λ n. MayRead (known_bits (S.view space.old)) order pos width n) }
+    ensures err { IfErr result (λ fault. IsRefused fault (pos + width) (S.view space.old) (S.view space.new) meter.old.limit meter.old.steps meter.new.steps) }
+    ensures untouched { IfErr result (λ fault. UnlessDevice fault (space.new ≡ space.old)) }
+{
+    meter.tick()?;
+    let bits = space.len() * 8;
+    if pos > bits || u64::from(width) > bits - pos {
+        return Err(BitFault::End);
+    }
+    let lead = (pos % 8) as usize;
+    let count = (lead + width as usize + 7) / 8;
+    let mut bytes = [0u8; WINDOW];
+    let window = &mut bytes[..count];
+    space.read_at(pos / 8, window)?;
+    let cut = cut_out(window, lead, width as usize);
+    Ok(in_order(cut, width, order))
+}
+
+// The numeral of the bits of a window, of at most nine bytes.
+fn join(window: &[u8]) -> u128
+    requires { length window.now ≤ 9 }
+    ensures { result ≡ numeral (bits_of window.now) }
+{
+    let mut all: u128 = 0;
+    for byte in window {
+        all = all * 256 + u128::from(*byte);
+    }
+    all
+}
+
+// The numeral of `width` bits of a window, from bit `lead` on.
+fn cut_out(window: &[u8], lead: usize, width: usize) -> u64
+    requires window { length window.now ≤ 9 }
+    requires width { width ≤ 64 }
+    requires inside { lead + width ≤ 8 * length window.now }
+    ensures { result ≡ numeral (slice_range (bits_of window.now) lead (lead + width)) }
+{
+    let behind = (8 * window.len() - lead - width) as u32;
+    let front = join(window) >> behind;
+    let mask = (1u128 << (width as u32)) - 1;
+    (front & mask) as u64
+}
+
+// The number in an order of the bits whose numeral is `cut`.
+fn in_order(cut: u64, width: u8, order: Order) -> u64
+    requires some { 0 < width }
+    requires most { width ≤ 64 }
+    requires fits { cut < 2 ^ width }
+    ensures { result ≡ number order (binary width cut) }
+{
+    match order {
+        Order::Big => cut,
+        Order::Little => turn(cut, width),
+    }
+}
+
+// The number in little order of the bits whose numeral is `cut`: the last group is the most
+// significant, and the groups before it follow, the nearest first.
+fn turn(cut: u64, width: u8) -> u64
+    requires some { 0 < width }
+    requires most { width ≤ 64 }
+    requires fits { cut < 2 ^ width }
+    ensures { result ≡ number Order.Little (binary width cut) }
+{
+    let groups = (width - 1) / 8;
+    let last = (width - groups * 8) as u32;
+    let mut rest = cut >> last;
+    let mut turned = cut & ((1 << last) - 1);
+    for _ in 0..groups {
+        turned = turned * 256 + rest % 256;
+        rest /= 256;
+    }
+    turned
+}

@@ -1,0 +1,35 @@
+//! Where bytes come from.
+
+ghost use Rattle.std.specs.Prelude.{◌≡◌, ℕ, ◌+◌, ◌^◌, ◌<◌, ◌≤◌, List, Some, length, slice_range, OnOk, OnErr};
+ghost use Rattle.bit_space.specs.SpaceView.{SpaceView, IsWhole, HasRisen, Keeps};
+
+/// A read failed.
+#[derive(Clone, Copy, Debug, PartialEq, Eq)]
+pub struct DeviceFault;
+
+/// A run of bytes that are read at their positions.
+///
+/// A space that is honest has bytes that are known: each read gives those, also after one that
+/// failed. Nothing is said of what any other space gives.
+pub trait Space {
+    /// What callers see of the space.
+    ghost view: { Self → SpaceView };
+
+    /// The length in bytes, which never changes.
+    fn len(&self) -> u64
+        ensures { result ≡ (view self.now).len };
+
+    /// Reads the bytes from byte `at` on, as many as `into` has. It fails only where the space's
+    /// count of failures rises, and then says nothing of what `into` holds.
+    fn read_at(&mut self, at: u64, into: &mut [u8]) -> Result<(), DeviceFault>
+        requires { at + length into.old ≤ (view self.old).len }
+        ensures keeps { Keeps (view self.old) (view self.new) }
+        ensures bytes { OnOk result ((bytes : List ℕ) → (view self.old).bytes ≡ Some bytes → into.new ≡ slice_range bytes at (at + length into.old)) }
+        ensures failed { OnErr result (HasRisen (view self.old).failures (view self.new).failures) };
+
+    /// A space is shorter than 2^60 bytes.
+    ghost short: { (s : Self) → (view s).len < 2 ^ 60 };
+
+    /// Where the bytes are known, there are as many as the length says.
+    ghost whole: { (s : Self) → IsWhole (view s) };
+}
