@@ -3,4 +3,3 @@
 
 pub mod extent;
 pub mod faults;
-pub mod order;
