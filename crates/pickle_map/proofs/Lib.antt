@@ -1,0 +1,4 @@
+mod Rows
+mod Equations
+mod Comes
+mod Widths
