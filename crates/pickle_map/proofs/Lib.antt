@@ -1,4 +1,6 @@
 mod Rows
+mod Basics
 mod Equations
 mod Comes
 mod Widths
+mod Planned

@@ -13,6 +13,7 @@ use Rattle.pickle_map.specs.Arithmetic.{bits_in}
 use Rattle.pickle_map.specs.Evaluation.{Operand, AtPath, Plain, operand_label, evaluation}
 use Rattle.pickle_map.specs.Clauses.{FaultAt, told_at, not_negative, behind_start, condition, field_start}
 use Rattle.pickle_map.specs.Means.{Means, past_end, number_read, number_end, string, string_end, array, bound_fault, struct, struct_fault, union, union_fault, NumberMeans, integer, offset, integral, integral_fault, no_number, number_type, width_in, Run, no_bytes, next_byte, Elements, no_more, next_element, Closing, none_due, beyond_size, no_bits, ends_without, element_fault, PartMeans, part, part_refused, part_fault, FieldsMean, all_fields, absent, field, condition_fault, label_fault, field_fault, AlternativesMean, none_left, fits, misses_it, other_fault, Opened, Taken}
+use Rattle.pickle_map.proofs.Basics.{clash}
 
 -- a value ends in the file
 abbrev pub EndsInside : {A : Type 0} → (A → ℕ) → ℕ → Result A FaultAt → Type 0
@@ -95,13 +96,6 @@ mutual
 run_further : {bits : List ℕ} {p q : ℕ} {bytes : List ℕ} → Run bits p bytes q → p ≤ q
 run_further no_bytes = omega arith
 run_further (next_byte le e run) = let h = run_further run in omega arith
-
-abbrev So : Bool → Type 0
-So true = Unit {0}
-So false = ⊥
-
-clash : {A : Type 0} → true ≡ false → A
-clash e = absurd (subst So e tt)
 
 abbrev told_or : Result Bool FaultAt → Bool
 told_or (Ok b) = b
