@@ -4,3 +4,5 @@ mod Equations
 mod Comes
 mod Widths
 mod Planned
+mod Exists
+mod Outcomes

@@ -10,3 +10,4 @@ pub mod Follows
 pub mod Mapping
 pub mod Answer
 pub mod Fits
+pub mod Laws

@@ -3,3 +3,4 @@
 
 pub mod extent;
 pub mod faults;
+pub mod laws;
