@@ -6,3 +6,5 @@ mod Widths
 mod Planned
 mod Exists
 mod Outcomes
+mod Costs
+mod Makes

@@ -1,6 +1,6 @@
 //! The laws of the meaning of a mapping. These functions do nothing: the contract of each is a law.
 
-ghost use Rattle.pickle_map.specs.Laws.{HasOneOutcome, PlanIsMeant, HasOneAnswer, ValuesAreWide, TriesAreFew};
+ghost use Rattle.pickle_map.specs.Laws.{HasOneOutcome, PlanIsMeant, HasOneAnswer, StepsAreBounded, MadeIsBounded, ValuesAreWide, TriesAreFew};
 
 /// Each type has exactly one outcome at each place of each file, in one number of steps and with
 /// one number of values made.
@@ -18,6 +18,18 @@ pub fn plan_is_meant()
 /// Each mapping has exactly one answer under each limit of steps.
 pub fn has_one_answer()
     ensures law { HasOneAnswer }
+{
+}
+
+/// Whatever is read, a mapping takes at most as many steps as the bound of its type.
+pub fn steps_are_bounded()
+    ensures law { StepsAreBounded }
+{
+}
+
+/// Whatever is read, a mapping makes at no time more values than it has taken steps.
+pub fn made_is_bounded()
+    ensures law { MadeIsBounded }
 {
 }
 
