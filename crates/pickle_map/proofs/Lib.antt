@@ -8,3 +8,6 @@ mod Exists
 mod Outcomes
 mod Costs
 mod Makes
+mod Always
+mod Fitting
+mod Rooms

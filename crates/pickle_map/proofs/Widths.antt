@@ -133,22 +133,22 @@ starts_from false (Some e) levels s behind le = told (evaluation e levels).outco
     told (Err kind) = tt
 
 -- where nothing is pinned or labelled, a field starts where the one before it ended
-next_start : (pinned : Bool) (label : Option Term) (more : Bool) (levels : Levels) (s behind p : ℕ) → (pinned || (is_some label || more)) ≡ false → field_start pinned label levels s behind ≡ Ok p → (behind ≡ p) × ((pinned || more) ≡ false)
+pub next_start : (pinned : Bool) (label : Option Term) (more : Bool) (levels : Levels) (s behind p : ℕ) → (pinned || (is_some label || more)) ≡ false → field_start pinned label levels s behind ≡ Ok p → (behind ≡ p) × ((pinned || more) ≡ false)
 unfolding field_start
 next_start true label more levels s behind p h e = clash h
 next_start false None more levels s behind p h e = (ap number_or e, h)
 next_start false (Some l) more levels s behind p h e = clash h
 
-later_unlabelled : (pinned : Bool) (label : Option Term) (more : Bool) → (pinned || (is_some label || more)) ≡ false → (pinned || more) ≡ false
+pub later_unlabelled : (pinned : Bool) (label : Option Term) (more : Bool) → (pinned || (is_some label || more)) ≡ false → (pinned || more) ≡ false
 later_unlabelled true label more h = clash h
 later_unlabelled false None more h = h
 later_unlabelled false (Some l) more h = clash h
 
-present_least : (when : Option Term) (w : ℕ) → where_present when w ≤ w
+pub present_least : (when : Option Term) (w : ℕ) → where_present when w ≤ w
 present_least None w = omega arith
 present_least (Some e) w = omega arith
 
-absent_width : (when : Option Term) (levels : Levels) (s w : ℕ) → condition when levels s ≡ Ok false → where_present when w ≡ 0
+pub absent_width : (when : Option Term) (levels : Levels) (s w : ℕ) → condition when levels s ≡ Ok false → where_present when w ≡ 0
 unfolding condition
 absent_width None levels s w e = clash (ap told_or e)
 absent_width (Some c) levels s w e = refl
@@ -167,7 +167,7 @@ both : (s a b : ℕ) (r : Result Opened FaultAt) → EndsFrom opened_end (s + a)
 both s a b (Ok x) h g = omega arith
 both s a b (Err f) h g = tt
 
-least_first : (name : Naming) (set : Option ByteOrder) (ty : PokeType) (c : Option Term) (rest : Parts) → least_of_widths (PartThen name set ty c rest) ≤ least_width ty
+pub least_first : (name : Naming) (set : Option ByteOrder) (ty : PokeType) (c : Option Term) (rest : Parts) → least_of_widths (PartThen name set ty c rest) ≤ least_width ty
 unfolding least_width
 least_first name set ty c NoParts = omega arith
 least_first name set ty c (PartThen name' set' ty' c' rest) = omega arith

@@ -1,6 +1,6 @@
 //! The laws of the meaning of a mapping. These functions do nothing: the contract of each is a law.
 
-ghost use Rattle.pickle_map.specs.Laws.{HasOneOutcome, PlanIsMeant, HasOneAnswer, StepsAreBounded, MadeIsBounded, ValuesAreWide, TriesAreFew};
+ghost use Rattle.pickle_map.specs.Laws.{HasOneOutcome, PlanIsMeant, HasOneAnswer, StepsAreBounded, MadeIsBounded, ValuesAreWide, TriesAreFew, ValuesFit};
 
 /// Each type has exactly one outcome at each place of each file, in one number of steps and with
 /// one number of values made.
@@ -42,5 +42,11 @@ pub fn values_are_wide()
 /// No more elements of an array are values than have room in the file.
 pub fn tries_are_few()
     ensures law { TriesAreFew }
+{
+}
+
+/// Whatever is read, a value that a mapping gives fits its type at its start.
+pub fn values_fit()
+    ensures law { ValuesFit }
 {
 }
