@@ -192,3 +192,99 @@ text_room kind b q m (suc n) bytes levels s place few le = after_tick (one_up (n
         let l = longer bytes (suc x) in
         let t = text_slots kind (bytes ++ suc x ∷ []) s (s + 8 * (length (bytes ++ suc x ∷ []) + 1)) in
         after_made (omega arith) (next (bytes ++ suc x ∷ []) (omega arith) le)
+
+-- what is open of an array or struct
+abbrev GrownOpen : Slot → Levels → ℕ → Opened → Type 0
+GrownOpen kind levels n r = Grown kind levels n r.0
+
+open_more : (kind : Slot) (levels mid : Levels) (c n : ℕ) → Grown kind levels c mid → (t : Result Opened FaultAt) → OfValue (GrownOpen kind mid n) t → OfValue (GrownOpen kind levels (c + n)) t
+open_more kind levels mid c n g (Ok u) h = (h.0 ∙ g.0, let l = g.1 in let k = h.1 in omega arith)
+open_more kind levels mid c n g (Err f) h = tt
+
+after_room : (kind : Slot) (b n c : ℕ) (extent : Extent) (next : Levels → ℕ → Plan (Result Opened FaultAt)) (levels : Levels) → ((l : Levels) (at : ℕ) → laden kind l + n ≤ b → Always (UpTo kind b) (OfValue (GrownOpen kind l n)) (next l at)) → laden kind levels + ((1 + c) + n) ≤ b → (at : ℕ) (r : Result Value FaultAt) → OfValue (Light kind c) r → Always (UpTo kind b) (OfValue (GrownOpen kind levels ((1 + c) + n))) (after_element extent next levels at r)
+unfolding after_element
+after_room kind b n c extent next levels g le at (Ok v) light =
+    let one = one_charge kind in
+    let grown = member_grown kind levels (1 + c) (Some v) (omega arith) in
+    let up = grown.1 in
+    one_up (nat_eq (end_of v) at) (result tt) (weaker (open_more kind levels (pushed levels (Some v)) (1 + c) n grown) (g (pushed levels (Some v)) (end_of v) (omega arith)))
+after_room kind b n c extent next levels g le at (Err f) light = one_up (ends_before extent f.0) (result (refl, omega arith)) (result tt)
+
+elements_room : (kind : Slot) (b c m s : ℕ) (extent : Extent) (element : Levels → ℕ → Plan (Result Value FaultAt)) → ((l : Levels) (at : ℕ) → slots kind l + c ≤ b → Always (UpTo kind b) (OfValue (Light kind c)) (element l at)) → (n i : ℕ) (levels : Levels) (at : ℕ) → laden kind levels + n * (1 + c) ≤ b → Always (UpTo kind b) (OfValue (GrownOpen kind levels (n * (1 + c)))) (elements_plan element m s extent n i levels at)
+unfolding elements_plan
+elements_room kind b c m s extent element g zero i levels at le = result tt
+elements_room kind b c m s extent element g (suc n) i levels at le =
+    one_up (is_due extent m s i at)
+      (after_tick (weaker less (then_always _ (after_room kind b (n * (1 + c)) c extent (elements_plan element m s extent n (i + 1)) levels (elements_room kind b c m s extent element g n (i + 1)) (omega arith) at) (g levels at (omega arith)))))
+      (one_up (is_met extent s at) (result (refl, omega arith)) (result tt))
+  where
+    less : (t : Result Opened FaultAt) → OfValue (GrownOpen kind levels ((1 + c) + n * (1 + c))) t → OfValue (GrownOpen kind levels (suc n * (1 + c))) t
+    less (Ok u) h = (h.0, let l = h.1 in omega arith)
+    less (Err f) h = tt
+
+-- the alternative that is taken, with its link
+abbrev TakenLight : Slot → ℕ → Taken → Type 0
+TakenLight kind n t = charge kind + member_slots kind (Some t.value) ≤ n
+
+attempt_room : (kind : Slot) (b n c : ℕ) (next : Plan (Result Taken FaultAt)) → Always (UpTo kind b) (OfValue (TakenLight kind n)) next → 1 + c ≤ n → (index : ℕ) (name : Naming) (r : Result Value FaultAt) → OfValue (Light kind c) r → Always (UpTo kind b) (OfValue (TakenLight kind n)) (after_attempt next index name r)
+unfolding after_attempt
+attempt_room kind b n c next g le index name (Ok v) light = let one = one_charge kind in result (omega arith)
+attempt_room kind b n c next g le index name (Err f) light = one_up (misses f.0) g (result tt)
+
+light_more : (kind : Slot) (n k : ℕ) → n ≤ k → (r : Result Value FaultAt) → OfValue (Light kind n) r → OfValue (Light kind k) r
+light_more kind n k le (Ok v) h = omega arith
+light_more kind n k le (Err f) h = tt
+
+taken_more : (kind : Slot) (n k : ℕ) → n ≤ k → (r : Result Taken FaultAt) → OfValue (TakenLight kind n) r → OfValue (TakenLight kind k) r
+taken_more kind n k le (Ok t) h = omega arith
+taken_more kind n k le (Err f) h = tt
+
+mutual
+  unfolding plan room
+  pub plan_room : (kind : Slot) (b m : ℕ) (ty : PokeType) (order : Order) (levels : Levels) (s : ℕ) → slots kind levels + room ty m ≤ b → Always (UpTo kind b) (OfValue (Light kind (room ty m))) (plan m ty order levels s)
+  plan_room kind b m (IntegerOf type) order levels s le = inside_always m s (λ inside. read_room kind b m (IntegerOf type) type order levels s le)
+  plan_room kind b m (OffsetOf type unit) order levels s le = inside_always m s (λ inside. read_room kind b m (OffsetOf type unit) type order levels s le)
+  plan_room kind b m StringOf order levels s le =
+      inside_always m s (λ inside. after_tick (weaker (light_more kind (1 + (m / 8 + 1)) _ (omega arith)) (text_room kind b (m / 8 + 1) m (m / 8 + 1) [] levels s s (omega arith) (omega arith))))
+  plan_room kind b m (ArrayOf element bound) order levels s le =
+      inside_always m s (λ inside. after_tick (told_always {Q = Light kind (1 + count_of m (least_width element) * (1 + room element m))} _ (extent_of bound levels s) _
+      (λ extent is. ok_always {P = GrownOpen kind (opened levels) (count_of m (least_width element) * (1 + room element m))} {Q = Light kind (1 + count_of m (least_width element) * (1 + room element m))} _
+        (λ r grown. closes_room kind b (count_of m (least_width element) * (1 + room element m)) ArrayLabel s r.1 levels r.0 refl grown le)
+        (elements_room kind b (room element m) m s extent (plan m element order) (plan_room kind b m element order) (count_of m (least_width element)) 0 (opened levels) s (omega arith)))))
+  plan_room kind b m (StructOf name pinned fields) order levels s le =
+      inside_always m s (λ inside. after_tick (ok_always {P = GrownOpen kind (opened levels) (fields_room fields m)} {Q = Light kind (1 + fields_room fields m)} _
+      (λ r grown. closes_room kind b (fields_room fields m) (StructLabel name (field_names fields)) s r.1 levels r.0 refl grown le)
+      (fields_up kind b m pinned s fields order (opened levels) s s (omega arith))))
+  plan_room kind b m (IntegralOf name type fields) order levels s le = inside_always m s (λ inside. read_room kind b m (IntegralOf name type fields) type order levels s le)
+  plan_room kind b m (UnionOf name alternatives) order levels s le =
+      inside_always m s (λ inside. after_tick (ok_always {P = TakenLight kind (greatest_room alternatives m)} {Q = Light kind (1 + greatest_room alternatives m)} _
+      (λ t light. let u = union_slots kind name s t in makes_room kind b (1 + greatest_room alternatives m) levels (union_value name s t) (omega arith) le)
+      (alternatives_up kind b m alternatives 0 order (opened levels) s (omega arith))))
+
+  fields_up : (kind : Slot) (b m : ℕ) (pinned : Bool) (s : ℕ) (fields : Fields) (order : Order) (levels : Levels) (behind top : ℕ) → laden kind levels + fields_room fields m ≤ b → Always (UpTo kind b) (OfValue (GrownOpen kind levels (fields_room fields m))) (fields_plan m pinned s fields order levels behind top)
+  fields_up kind b m pinned s NoFields order levels behind top le = result (refl, omega arith)
+  fields_up kind b m pinned s (FieldThen name set ty c label when rest) order levels behind top le =
+      after_tick (told_always {Q = GrownOpen kind levels ((1 + room ty m) + fields_room rest m)} _ (condition when levels s) _
+      (λ there is. one_up there
+        (told_always {Q = GrownOpen kind levels ((1 + room ty m) + fields_room rest m)} _ (field_start pinned label levels s behind) _
+          (λ p at. ok_always {P = Light kind (room ty m)} {Q = GrownOpen kind levels ((1 + room ty m) + fields_room rest m)} _
+            (λ v light.
+              let one = one_charge kind in
+              let g = member_grown kind levels (1 + room ty m) (Some v) (omega arith) in
+              let up = g.1 in
+              weaker (open_more kind levels (pushed levels (Some v)) (1 + room ty m) (fields_room rest m) g) (fields_up kind b m pinned s rest order (pushed levels (Some v)) (end_of v) (max top (end_of v)) (omega arith)))
+            (ok_always {P = Light kind (room ty m)} {Q = Light kind (room ty m)} _ (λ v light. constrained_room kind b (room ty m) c levels p v light) (plan_room kind b m ty (ordered set order) levels p (omega arith)))))
+        (let few = absent_slots kind in
+        let g = member_grown kind levels (1 + room ty m) None (omega arith) in
+        let up = g.1 in
+        after_made (omega arith) (weaker (open_more kind levels (pushed levels None) (1 + room ty m) (fields_room rest m) g) (fields_up kind b m pinned s rest order (pushed levels None) behind top (omega arith))))))
+
+  alternatives_up : (kind : Slot) (b m : ℕ) (parts : Parts) (index : ℕ) (order : Order) (levels : Levels) (s : ℕ) → slots kind levels + greatest_room parts m ≤ b → Always (UpTo kind b) (OfValue (TakenLight kind (greatest_room parts m))) (alternatives_plan m parts index order levels s)
+  alternatives_up kind b m NoParts index order levels s le = result tt
+  alternatives_up kind b m (PartThen name set ty c rest) index order levels s le =
+      after_tick (then_always _
+      (attempt_room kind b (max (1 + room ty m) (greatest_room rest m)) (room ty m) _ (weaker (taken_more kind (greatest_room rest m) _ (omega arith)) (alternatives_up kind b m rest (index + 1) order levels s (omega arith))) (omega arith) index name)
+      (ok_always {P = Light kind (room ty m)} {Q = Light kind (room ty m)} _ (λ v light. constrained_room kind b (room ty m) c levels s v light) (plan_room kind b m ty (ordered set order) levels s (omega arith))))
+
+pub room_enough : (m : ℕ) (ty : PokeType) (order : Order) (levels : Levels) (s : ℕ) (kind : Slot) → Always (λ kept. slots kind kept ≤ slots kind levels + room ty m) (λ r. Unit {0}) (plan m ty order levels s)
+room_enough m ty order levels s kind = weaker (λ r h. tt) (plan_room kind (slots kind levels + room ty m) m ty order levels s (omega arith))

@@ -1,6 +1,6 @@
 //! The laws of the meaning of a mapping. These functions do nothing: the contract of each is a law.
 
-ghost use Rattle.pickle_map.specs.Laws.{HasOneOutcome, PlanIsMeant, HasOneAnswer, StepsAreBounded, MadeIsBounded, ValuesAreWide, TriesAreFew, ValuesFit};
+ghost use Rattle.pickle_map.specs.Laws.{HasOneOutcome, PlanIsMeant, HasOneAnswer, StepsAreBounded, MadeIsBounded, ValuesAreWide, TriesAreFew, ValuesFit, RoomIsEnough};
 
 /// Each type has exactly one outcome at each place of each file, in one number of steps and with
 /// one number of values made.
@@ -48,5 +48,12 @@ pub fn tries_are_few()
 /// Whatever is read, a value that a mapping gives fits its type at its start.
 pub fn values_fit()
     ensures law { ValuesFit }
+{
+}
+
+/// Whatever is read, what is kept at any time of a mapping fills at most as many slots of each kind
+/// above those that were filled before as the room of its type says.
+pub fn room_is_enough()
+    ensures law { RoomIsEnough }
 {
 }
