@@ -11,3 +11,4 @@ mod Makes
 mod Always
 mod Fitting
 mod Rooms
+mod Followed
