@@ -1,6 +1,6 @@
 -- Each value that a mapping may have fits its type, whatever the mapping reads.
-use Rattle.std.proofs.Common.{◌≡◌, ℕ, zero, suc, ◌+◌, ◌-◌, ◌*◌, ◌/◌, ◌^◌, ◌<◌, ◌≤◌, max, min, length, Bool, true, false, List, [], ◌∷◌, ◌++◌, Option, Some, None, Result, Ok, Err, refl, sym, ap, ◌∙◌, subst, inl, inr, arith}
-use Rattle.std.specs.Prelude.{◌||◌, if◌then◌else◌, nat_le, nat_lt, nat_eq}
+use Rattle.std.proofs.Common.{◌≡◌, ℕ, zero, suc, ◌+◌, ◌-◌, ◌*◌, ◌/◌, ◌^◌, ◌<◌, ◌≤◌, max, length, Bool, true, false, List, [], ◌∷◌, ◌++◌, Option, Some, None, Result, Ok, Err, refl, sym, ap, subst, inl, inr, arith}
+use Rattle.std.specs.Prelude.{◌||◌, if◌then◌else◌, nat_le, nat_eq}
 use Rattle.std.proofs.Math.Nat.{mod-lt}
 use Rattle.std.proofs.lemmas.Nat.{pow_pos}
 use Rattle.std.proofs.lemmas.Bool.{leb-true, ltb-true, ltb-false, eqb-true, eqb-false}
@@ -8,22 +8,22 @@ use Rattle.bit_space.specs.declared.order.Order.{Order}
 use Rattle.bit_space.specs.declared.order.Order.TheVariants.{Big}
 use Rattle.pickle_syntax.specs.declared.tree.ByteOrder.{ByteOrder}
 use Rattle.pickle_types.specs.declared.integer.IntegerType.{IntegerType}
-use Rattle.pickle_types.specs.Types.{Term, Bound, PokeType, IntegerOf, OffsetOf, StringOf, ArrayOf, StructOf, IntegralOf, UnionOf, Fields, NoFields, FieldThen, Parts, NoParts, PartThen}
-use Rattle.pickle_types.specs.Bounds.{least_width, sum_of_widths, greatest_width, least_of_widths, has_label, where_present, is_some, count_of}
+use Rattle.pickle_types.specs.Types.{Term, PokeType, IntegerOf, OffsetOf, StringOf, ArrayOf, StructOf, IntegralOf, UnionOf, Fields, NoFields, FieldThen, Parts, NoParts, PartThen}
+use Rattle.pickle_types.specs.Bounds.{least_width, sum_of_widths, greatest_width, least_of_widths, has_label, count_of}
 use Rattle.pickle_map.specs.declared.extent.Extent.{Extent}
 use Rattle.pickle_map.specs.declared.extent.Extent.TheVariants.{Open, Count, Size}
 use Rattle.pickle_map.specs.declared.faults.MapFaultKind.{MapFaultKind}
 use Rattle.pickle_map.specs.declared.faults.MapFaultKind.TheVariants as fault
-use Rattle.pickle_map.specs.Values.{Naming, Value, end_of, text_value, text_level, Levels, pushed, opened}
-use Rattle.pickle_map.specs.Clauses.{FaultAt, constraint, clause_steps, condition, field_start, label_steps, extent_of, bound_steps, is_due, is_met, ends_before, misses}
-use Rattle.pickle_map.specs.Means.{Opened, Taken, number_type, width_in, first_digits, ordered, field_names, part_names, integer_value, offset_value, array_value, struct_value, union_value}
-use Rattle.pickle_map.specs.Plan.{Plan, Ended, Tick, Made, Read, and_then, after, on_value, then_ok, Always, result, after_tick, after_made, after_read}
-use Rattle.pickle_map.specs.Mapping.{from_inside, constrained, number_plan, digits_plan, read_plan, after_byte, text_plan, after_element, elements_plan, array_closes, after_attempt, plan, fields_plan, alternatives_plan}
+use Rattle.pickle_map.specs.Values.{Naming, Value, end_of, text_value, Levels, pushed, opened}
+use Rattle.pickle_map.specs.Clauses.{FaultAt, constraint, condition, field_start, extent_of, is_due, is_met, ends_before, misses}
+use Rattle.pickle_map.specs.Means.{Opened, Taken, number_type, width_in, first_digits, ordered}
+use Rattle.pickle_map.specs.Plan.{Plan, Ended, Tick, Read, and_then, Always, result, after_tick, after_made, after_read}
+use Rattle.pickle_map.specs.Mapping.{constrained, number_plan, digits_plan, read_plan, after_byte, text_plan, after_element, elements_plan, after_attempt, plan, fields_plan, alternatives_plan}
 use Rattle.pickle_map.specs.Fits.{IsText, IsWhole, ElementsFit, no_more_fit, one_more_fits, FitsNumber, DigitsFit, Fits, FieldsFit, AlternativeFits}
 use Rattle.pickle_map.specs.Laws.{ValueFits}
 use Rattle.pickle_map.proofs.Basics.{clash}
 use Rattle.pickle_map.proofs.Widths.{EndsFrom, starts_from, next_start, later_unlabelled, present_least, absent_width, least_first}
-use Rattle.pickle_map.proofs.Always.{OfValue, weaker, after_always, then_always, ok_always, told_always, inside_always}
+use Rattle.pickle_map.proofs.Always.{OfValue, weaker, then_always, ok_always, told_always, inside_always}
 
 -- ---- a value that fits ends in the file, and is as wide as its type is at least
 
@@ -63,6 +63,7 @@ later_least name set ty c m (PartThen name' set' ty' c' rest) index levels s t h
 
 mutual
   unfolding Fits FitsNumber least_width
+
   pub fits_wide : (m : ℕ) (ty : PokeType) (levels : Levels) (s : ℕ) (v : Value) → Fits m ty levels s v → s + least_width ty ≤ end_of v
   fits_wide m (IntegerOf type) levels s v h = let e = ap end_of h.0.2 in omega arith
   fits_wide m (OffsetOf type unit) levels s v h = let e = ap end_of h.0.2 in omega arith
@@ -142,6 +143,7 @@ digits_more name set ty c rest levels s v fit (Err f) h = tt
 
 mutual
   unfolding number_plan FitsNumber
+
   number_fits : (ty : PokeType) (n : ℕ) (levels : Levels) (s : ℕ) → n < 2 ^ width_in (number_type ty) → Always AnyLevels (OfValue (FitsNumber ty levels s)) (number_plan ty n levels s)
   number_fits (IntegerOf type) n levels s lt = after_made tt (result (n, lt, refl))
   number_fits (OffsetOf type unit) n levels s lt = after_made tt (result (n, lt, refl))
@@ -288,6 +290,7 @@ attempt_fits m name set ty c rest index levels s next g (Err f) h = chosen (miss
 
 mutual
   unfolding plan Fits
+
   pub plan_fits : (m : ℕ) (ty : PokeType) (order : Order) (levels : Levels) (s : ℕ) → Always AnyLevels (OfValue (Fits m ty levels s)) (plan m ty order levels s)
   plan_fits m (IntegerOf type) order levels s = inside_always m s (λ le. read_fits m (IntegerOf type) type order levels s refl)
   plan_fits m (OffsetOf type unit) order levels s = inside_always m s (λ le. read_fits m (OffsetOf type unit) type order levels s refl)
@@ -295,8 +298,8 @@ mutual
   plan_fits m (ArrayOf element bound) order levels s =
       inside_always m s (λ le. after_tick (told_always {Q = Fits m (ArrayOf element bound) levels s} _ (extent_of bound levels s) _
       (λ extent is. ok_always {P = Goes (Fits m element) m extent s 0 (opened levels) s} {Q = Fits m (ArrayOf element bound) levels s} _
-        (λ r h. after_made tt (result (extent, is, r.0, r.1, h.0, h.1, h.2, h.3, refl)))
-        (elements_fit m s extent (Fits m element) (plan m element order) (plan_fits m element order) (λ l a v fit. (let w = fits_wide m element l a v fit in omega arith, fits_inside m element l a v fit)) (count_of m (least_width element)) 0 (opened levels) s le (none_counted extent)))))
+      (λ r h. after_made tt (result (extent, is, r.0, r.1, h.0, h.1, h.2, h.3, refl)))
+      (elements_fit m s extent (Fits m element) (plan m element order) (plan_fits m element order) (λ l a v fit. (let w = fits_wide m element l a v fit in omega arith, fits_inside m element l a v fit)) (count_of m (least_width element)) 0 (opened levels) s le (none_counted extent)))))
   plan_fits m (StructOf name pinned fields) order levels s =
       inside_always m s (λ le. after_tick (ok_always {P = Fitting m pinned s fields (opened levels) s s} {Q = Fits m (StructOf name pinned fields) levels s} _
       (λ r h. after_made tt (result (r.0, r.1, h.0, h.1, refl))) (fields_fit m pinned s fields order (opened levels) s s (omega arith) le)))
@@ -310,15 +313,15 @@ mutual
   fields_fit m pinned s (FieldThen name set ty c label when rest) order levels behind top from le =
       after_tick (told_always {Q = Fitting m pinned s (FieldThen name set ty c label when rest) levels behind top} _ (condition when levels s) _
       (λ there h. there_or_not when levels s there h
-        (λ yes. told_always {Q = Fitting m pinned s (FieldThen name set ty c label when rest) levels behind top} _ (field_start pinned label levels s behind) _
-          (λ p start. ok_always {P = WithConstraint (Fits m ty levels p) c levels p} {Q = Fitting m pinned s (FieldThen name set ty c label when rest) levels behind top} _
-            (λ v fit.
-              let up : s ≤ p = subst (EndsFrom (λ p. p) s) start (starts_from pinned label levels s behind from) in
-              let wide = fits_wide m ty levels p v fit.0 in
-              let inside = fits_inside m ty levels p v fit.0 in
-              weaker (field_more m pinned s name set ty c label when rest levels behind top p yes start up v fit) (fields_fit m pinned s rest order (pushed levels (Some v)) (end_of v) (max top (end_of v)) (omega arith) (omega arith)))
-            (ok_always {P = Fits m ty levels p} {Q = WithConstraint (Fits m ty levels p) c levels p} _ (λ v fit. constrained_fits (Fits m ty levels p) c levels p v fit) (plan_fits m ty (ordered set order) levels p))))
-        (λ no. after_made tt (weaker (field_absent m pinned s name set ty c label when rest levels behind top no) (fields_fit m pinned s rest order (pushed levels None) behind top from le)))))
+      (λ yes. told_always {Q = Fitting m pinned s (FieldThen name set ty c label when rest) levels behind top} _ (field_start pinned label levels s behind) _
+      (λ p start. ok_always {P = WithConstraint (Fits m ty levels p) c levels p} {Q = Fitting m pinned s (FieldThen name set ty c label when rest) levels behind top} _
+      (λ v fit.
+      let up : s ≤ p = subst (EndsFrom (λ p. p) s) start (starts_from pinned label levels s behind from) in
+      let wide = fits_wide m ty levels p v fit.0 in
+      let inside = fits_inside m ty levels p v fit.0 in
+      weaker (field_more m pinned s name set ty c label when rest levels behind top p yes start up v fit) (fields_fit m pinned s rest order (pushed levels (Some v)) (end_of v) (max top (end_of v)) (omega arith) (omega arith)))
+      (ok_always {P = Fits m ty levels p} {Q = WithConstraint (Fits m ty levels p) c levels p} _ (λ v fit. constrained_fits (Fits m ty levels p) c levels p v fit) (plan_fits m ty (ordered set order) levels p))))
+      (λ no. after_made tt (weaker (field_absent m pinned s name set ty c label when rest levels behind top no) (fields_fit m pinned s rest order (pushed levels None) behind top from le)))))
 
   alternatives_fit : (m : ℕ) (parts : Parts) (index : ℕ) (order : Order) (levels : Levels) (s : ℕ) → Always AnyLevels (OfValue (AlternativeFits m parts index levels s)) (alternatives_plan m parts index order levels s)
   alternatives_fit m NoParts index order levels s = result tt

@@ -1,25 +1,22 @@
 -- What a call that followed a type's plan has done.
-use Rattle.std.proofs.Common.{◌≡◌, ℕ, zero, suc, ◌+◌, ◌-◌, ◌<◌, ◌≤◌, length, List, Option, Some, None, Result, Ok, Err, refl, sym, ap, ◌∙◌, subst, arith}
+use Rattle.std.proofs.Common.{◌≡◌, ℕ, ◌+◌, ◌-◌, ◌<◌, ◌≤◌, length, List, Some, Result, Ok, Err, refl, subst, arith}
 use Rattle.bit_space.specs.declared.order.Order.{Order}
-use Rattle.bit_space.specs.Reading.{MayRead}
 use Rattle.pickle_types.specs.Types.{PokeType}
-use Rattle.pickle_types.specs.Bounds.{least_width, cost, room}
+use Rattle.pickle_types.specs.Bounds.{cost, room}
 use Rattle.pickle_map.specs.declared.faults.MapFaultKind.TheVariants as fault
-use Rattle.pickle_map.specs.Numbers.{number_at}
-use Rattle.pickle_map.specs.Values.{Value, end_of, Levels, no_values}
+use Rattle.pickle_map.specs.Values.{Value, Levels, no_values}
 use Rattle.pickle_map.specs.Clauses.{FaultAt}
-use Rattle.pickle_map.specs.Means.{Means}
-use Rattle.pickle_map.specs.Room.{Slot, slots, Exceeds}
-use Rattle.pickle_map.specs.Plan.{Plan, Ended, Tick, Made, Read, result_of, steps_of, made_of, AtMost, ended, ticked, noted, given, MadeWithin, made_ended, made_tick, made_more, made_read, Always, after_made}
-use Rattle.pickle_map.specs.Follows.{World, Walk, arrived, stepped, kept, read, Finish, Done, NoSteps, Broken, NoRoom, Partly, NeedsStep, NeedsRoom, EndsAs, Follows}
+use Rattle.pickle_map.specs.Room.{Slot, slots}
+use Rattle.pickle_map.specs.Plan.{Plan, Ended, Tick, Made, Read, result_of, steps_of, made_of, AtMost, ticked, noted, given, MadeWithin, made_tick, made_more, made_read, Always, after_made}
+use Rattle.pickle_map.specs.Follows.{World, Walk, arrived, stepped, kept, read, Finish, Done, NoSteps, NoRoom, NeedsStep, NeedsRoom, Follows}
 use Rattle.pickle_map.specs.Mapping.{plan}
 use Rattle.pickle_map.specs.Answer.{Answer, in_time, too_long, BrokenOff, broken_off}
 use Rattle.pickle_map.specs.Fits.{Fits}
 use Rattle.pickle_map.proofs.Exists.{plan_means}
 use Rattle.pickle_map.proofs.Costs.{at_most_more, plan_at_most}
-use Rattle.pickle_map.proofs.Makes.{within_more, plan_within}
-use Rattle.pickle_map.proofs.Always.{OfValue, of_tick, of_made, of_read, of_result}
-use Rattle.pickle_map.proofs.Fitting.{plan_fits, fits_inside, fits_wide}
+use Rattle.pickle_map.proofs.Makes.{plan_within}
+use Rattle.pickle_map.proofs.Always.{of_tick, of_made, of_read, of_result}
+use Rattle.pickle_map.proofs.Fitting.{plan_fits}
 use Rattle.pickle_map.proofs.Rooms.{room_enough}
 
 -- ---- along a walk

@@ -1,16 +1,16 @@
 -- The laws on outcomes, answers and widths.
-use Rattle.std.proofs.Common.{◌≡◌, ℕ, zero, suc, ◌+◌, ◌*◌, ◌/◌, ◌<◌, ◌≤◌, max, length, Bool, true, false, List, Result, Ok, Err, refl, sym, ap, ◌∙◌, subst, arith}
+use Rattle.std.proofs.Common.{◌≡◌, ℕ, suc, ◌+◌, ◌*◌, ◌/◌, ◌<◌, ◌≤◌, max, length, List, Result, Err, refl, arith}
 use Rattle.std.proofs.Math.Nat.{le-div_iff_mul-le, suc-mul}
 use Rattle.bit_space.specs.declared.order.Order.{Order}
 use Rattle.pickle_types.specs.Types.{PokeType}
 use Rattle.pickle_types.specs.Bounds.{least_width}
 use Rattle.pickle_map.specs.declared.extent.Extent.{Extent}
 use Rattle.pickle_map.specs.declared.faults.MapFaultKind.TheVariants as fault
-use Rattle.pickle_map.specs.Values.{Value, end_of, Levels, pushed, no_values}
+use Rattle.pickle_map.specs.Values.{Value, end_of, Levels, no_values}
 use Rattle.pickle_map.specs.Clauses.{FaultAt}
 use Rattle.pickle_map.specs.Means.{Means, Elements, no_more, next_element}
 use Rattle.pickle_map.specs.Answer.{Answer, in_time, too_long}
-use Rattle.pickle_map.specs.Laws.{OneOutcome, HasOneOutcome, PlanIsMeant, OneAnswer, HasOneAnswer, ValuesAreWide, TriesAreFew}
+use Rattle.pickle_map.specs.Laws.{HasOneOutcome, HasOneAnswer, ValuesAreWide, TriesAreFew}
 use Rattle.pickle_map.proofs.Basics.{by_place}
 use Rattle.pickle_map.proofs.Planned.{means_one}
 use Rattle.pickle_map.proofs.Exists.{means_exists}
@@ -33,8 +33,8 @@ pub one_answer : HasOneAnswer
 one_answer bits ty order s limit =
     let o = means_exists bits ty order no_values s in
     by_place o.k limit
-      (λ le. record { answer = o.r; steps = o.k; made = o.j; answers = in_time o.means le; only = only_in_time o.means le })
-      (λ gt. record { answer = Err (fault.Limit, s); steps = limit; made = o.j; answers = too_long o.means gt (omega arith); only = only_too_long o.means gt })
+    (λ le. record { answer = o.r; steps = o.k; made = o.j; answers = in_time o.means le; only = only_in_time o.means le })
+    (λ gt. record { answer = Err (fault.Limit, s); steps = limit; made = o.j; answers = too_long o.means gt (omega arith); only = only_too_long o.means gt })
 
 pub values_wide : ValuesAreWide
 values_wide bits ty order levels s v k j m = (means_wide m, means_inside m)

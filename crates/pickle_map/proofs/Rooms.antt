@@ -1,19 +1,17 @@
 -- While a type is mapped, at most its room is filled above what was filled before, whatever is read.
-use Rattle.std.proofs.Common.{◌≡◌, ℕ, zero, suc, ◌+◌, ◌-◌, ◌*◌, ◌/◌, ◌<◌, ◌≤◌, max, length, Bool, true, false, List, [], ◌∷◌, ◌++◌, Option, Some, None, Result, Ok, Err, refl, sym, ap, ◌∙◌, subst, arith}
+use Rattle.std.proofs.Common.{◌≡◌, ℕ, zero, suc, ◌+◌, ◌-◌, ◌*◌, ◌/◌, ◌≤◌, max, length, Bool, true, false, List, [], ◌∷◌, ◌++◌, Option, Some, None, Result, Ok, Err, refl, ap, ◌∙◌, arith}
 use Rattle.std.specs.Prelude.{if◌then◌else◌, nat_le, nat_eq}
 use Rattle.bit_space.specs.declared.order.Order.{Order}
-use Rattle.bit_space.specs.declared.order.Order.TheVariants.{Big}
 use Rattle.pickle_types.specs.declared.integer.IntegerType.{IntegerType}
-use Rattle.pickle_types.specs.Types.{Term, Bound, PokeType, IntegerOf, OffsetOf, StringOf, ArrayOf, StructOf, IntegralOf, UnionOf, Fields, NoFields, FieldThen, Parts, NoParts, PartThen}
+use Rattle.pickle_types.specs.Types.{Term, PokeType, IntegerOf, OffsetOf, StringOf, ArrayOf, StructOf, IntegralOf, UnionOf, Fields, NoFields, FieldThen, Parts, NoParts, PartThen}
 use Rattle.pickle_types.specs.Bounds.{least_width, count_of, room, fields_room, parts_room, greatest_room}
 use Rattle.pickle_map.specs.declared.extent.Extent.{Extent}
-use Rattle.pickle_map.specs.declared.faults.MapFaultKind.TheVariants as fault
-use Rattle.pickle_map.specs.Values.{Naming, Label, IntegerLabel, OffsetLabel, TextLabel, ArrayLabel, StructLabel, UnionLabel, Value, Mapped, Members, NoMembers, MemberThen, AbsentThen, member_count, end_of, text_value, text_level, Levels, pushed, opened, top_of, outer_of, gathered}
+use Rattle.pickle_map.specs.Values.{Naming, Label, ArrayLabel, StructLabel, UnionLabel, Value, Mapped, member_count, end_of, text_value, Levels, pushed, opened, top_of, outer_of, gathered}
 use Rattle.pickle_map.specs.Clauses.{FaultAt, condition, field_start, extent_of, is_due, is_met, ends_before, misses}
-use Rattle.pickle_map.specs.Means.{Opened, Taken, number_type, width_in, first_digits, ordered, field_names, part_names, integer_value, offset_value, value_of, array_value, struct_value, union_value}
-use Rattle.pickle_map.specs.Room.{Slot, NodeSlot, LinkSlot, PendingSlot, ByteSlot, text_length, own_slots, value_slots, members_slots, place_slots, member_slots, level_slots, slots}
-use Rattle.pickle_map.specs.Plan.{Plan, Ended, Tick, Made, Read, and_then, after, then_ok, Always, result, after_tick, after_made, after_read}
-use Rattle.pickle_map.specs.Mapping.{from_inside, makes, closes, constrained, number_plan, digits_plan, read_plan, after_byte, text_plan, after_element, elements_plan, array_closes, struct_closes, union_closes, after_attempt, plan, fields_plan, alternatives_plan}
+use Rattle.pickle_map.specs.Means.{Opened, Taken, number_type, width_in, first_digits, ordered, field_names, part_names, integer_value, offset_value, value_of, union_value}
+use Rattle.pickle_map.specs.Room.{Slot, NodeSlot, LinkSlot, PendingSlot, ByteSlot, text_length, members_slots, member_slots, level_slots, slots}
+use Rattle.pickle_map.specs.Plan.{Plan, Always, result, after_tick, after_made, after_read}
+use Rattle.pickle_map.specs.Mapping.{makes, closes, constrained, number_plan, digits_plan, read_plan, after_byte, text_plan, after_element, elements_plan, after_attempt, plan, fields_plan, alternatives_plan}
 use Rattle.pickle_map.proofs.Always.{OfValue, weaker, then_always, ok_always, told_always, inside_always}
 use Rattle.pickle_map.proofs.Fitting.{longer}
 
@@ -148,6 +146,7 @@ slots_laden kind r = omega arith
 
 mutual
   unfolding number_plan room
+
   number_room : (kind : Slot) (b m : ℕ) (ty : PokeType) (n : ℕ) (levels : Levels) (s : ℕ) → slots kind levels + room ty m ≤ b → Always (UpTo kind b) (OfValue (Light kind (room ty m))) (number_plan ty n levels s)
   number_room kind b m (IntegerOf type) n levels s le = makes_room kind b 1 levels _ (integer_slots kind type n s) le
   number_room kind b m (OffsetOf type unit) n levels s le = makes_room kind b 1 levels _ (offset_slots kind type unit n s) le
@@ -165,10 +164,10 @@ mutual
   digits_room kind b m (PartThen name set ty c rest) n left levels s le =
       after_tick (ok_always {P = Light kind (room ty m)} {Q = Grown kind levels ((1 + room ty m) + parts_room rest m)} _
       (λ v light.
-        let one = one_charge kind in
-        let g = member_grown kind levels (1 + room ty m) (Some v) (omega arith) in
-        let up = g.1 in
-        weaker (grown_more kind levels (pushed levels (Some v)) (1 + room ty m) (parts_room rest m) g) (digits_room kind b m rest n (left - width_in (number_type ty)) (pushed levels (Some v)) s (omega arith)))
+      let one = one_charge kind in
+      let g = member_grown kind levels (1 + room ty m) (Some v) (omega arith) in
+      let up = g.1 in
+      weaker (grown_more kind levels (pushed levels (Some v)) (1 + room ty m) (parts_room rest m) g) (digits_room kind b m rest n (left - width_in (number_type ty)) (pushed levels (Some v)) s (omega arith)))
       (ok_always {P = Light kind (room ty m)} {Q = Light kind (room ty m)} _ (λ v light. constrained_room kind b (room ty m) c levels s v light)
       (after_tick (number_room kind b m ty (first_digits n left (width_in (number_type ty))) levels s (omega arith)))))
 
@@ -215,8 +214,8 @@ unfolding elements_plan
 elements_room kind b c m s extent element g zero i levels at le = result tt
 elements_room kind b c m s extent element g (suc n) i levels at le =
     one_up (is_due extent m s i at)
-      (after_tick (weaker less (then_always _ (after_room kind b (n * (1 + c)) c extent (elements_plan element m s extent n (i + 1)) levels (elements_room kind b c m s extent element g n (i + 1)) (omega arith) at) (g levels at (omega arith)))))
-      (one_up (is_met extent s at) (result (refl, omega arith)) (result tt))
+    (after_tick (weaker less (then_always _ (after_room kind b (n * (1 + c)) c extent (elements_plan element m s extent n (i + 1)) levels (elements_room kind b c m s extent element g n (i + 1)) (omega arith) at) (g levels at (omega arith)))))
+    (one_up (is_met extent s at) (result (refl, omega arith)) (result tt))
   where
     less : (t : Result Opened FaultAt) → OfValue (GrownOpen kind levels ((1 + c) + n * (1 + c))) t → OfValue (GrownOpen kind levels (suc n * (1 + c))) t
     less (Ok u) h = (h.0, let l = h.1 in omega arith)
@@ -241,6 +240,7 @@ taken_more kind n k le (Err f) h = tt
 
 mutual
   unfolding plan room
+
   pub plan_room : (kind : Slot) (b m : ℕ) (ty : PokeType) (order : Order) (levels : Levels) (s : ℕ) → slots kind levels + room ty m ≤ b → Always (UpTo kind b) (OfValue (Light kind (room ty m))) (plan m ty order levels s)
   plan_room kind b m (IntegerOf type) order levels s le = inside_always m s (λ inside. read_room kind b m (IntegerOf type) type order levels s le)
   plan_room kind b m (OffsetOf type unit) order levels s le = inside_always m s (λ inside. read_room kind b m (OffsetOf type unit) type order levels s le)
@@ -249,8 +249,8 @@ mutual
   plan_room kind b m (ArrayOf element bound) order levels s le =
       inside_always m s (λ inside. after_tick (told_always {Q = Light kind (1 + count_of m (least_width element) * (1 + room element m))} _ (extent_of bound levels s) _
       (λ extent is. ok_always {P = GrownOpen kind (opened levels) (count_of m (least_width element) * (1 + room element m))} {Q = Light kind (1 + count_of m (least_width element) * (1 + room element m))} _
-        (λ r grown. closes_room kind b (count_of m (least_width element) * (1 + room element m)) ArrayLabel s r.1 levels r.0 refl grown le)
-        (elements_room kind b (room element m) m s extent (plan m element order) (plan_room kind b m element order) (count_of m (least_width element)) 0 (opened levels) s (omega arith)))))
+      (λ r grown. closes_room kind b (count_of m (least_width element) * (1 + room element m)) ArrayLabel s r.1 levels r.0 refl grown le)
+      (elements_room kind b (room element m) m s extent (plan m element order) (plan_room kind b m element order) (count_of m (least_width element)) 0 (opened levels) s (omega arith)))))
   plan_room kind b m (StructOf name pinned fields) order levels s le =
       inside_always m s (λ inside. after_tick (ok_always {P = GrownOpen kind (opened levels) (fields_room fields m)} {Q = Light kind (1 + fields_room fields m)} _
       (λ r grown. closes_room kind b (fields_room fields m) (StructLabel name (field_names fields)) s r.1 levels r.0 refl grown le)
@@ -266,18 +266,18 @@ mutual
   fields_up kind b m pinned s (FieldThen name set ty c label when rest) order levels behind top le =
       after_tick (told_always {Q = GrownOpen kind levels ((1 + room ty m) + fields_room rest m)} _ (condition when levels s) _
       (λ there is. one_up there
-        (told_always {Q = GrownOpen kind levels ((1 + room ty m) + fields_room rest m)} _ (field_start pinned label levels s behind) _
-          (λ p at. ok_always {P = Light kind (room ty m)} {Q = GrownOpen kind levels ((1 + room ty m) + fields_room rest m)} _
-            (λ v light.
-              let one = one_charge kind in
-              let g = member_grown kind levels (1 + room ty m) (Some v) (omega arith) in
-              let up = g.1 in
-              weaker (open_more kind levels (pushed levels (Some v)) (1 + room ty m) (fields_room rest m) g) (fields_up kind b m pinned s rest order (pushed levels (Some v)) (end_of v) (max top (end_of v)) (omega arith)))
-            (ok_always {P = Light kind (room ty m)} {Q = Light kind (room ty m)} _ (λ v light. constrained_room kind b (room ty m) c levels p v light) (plan_room kind b m ty (ordered set order) levels p (omega arith)))))
-        (let few = absent_slots kind in
-        let g = member_grown kind levels (1 + room ty m) None (omega arith) in
-        let up = g.1 in
-        after_made (omega arith) (weaker (open_more kind levels (pushed levels None) (1 + room ty m) (fields_room rest m) g) (fields_up kind b m pinned s rest order (pushed levels None) behind top (omega arith))))))
+      (told_always {Q = GrownOpen kind levels ((1 + room ty m) + fields_room rest m)} _ (field_start pinned label levels s behind) _
+      (λ p at. ok_always {P = Light kind (room ty m)} {Q = GrownOpen kind levels ((1 + room ty m) + fields_room rest m)} _
+      (λ v light.
+      let one = one_charge kind in
+      let g = member_grown kind levels (1 + room ty m) (Some v) (omega arith) in
+      let up = g.1 in
+      weaker (open_more kind levels (pushed levels (Some v)) (1 + room ty m) (fields_room rest m) g) (fields_up kind b m pinned s rest order (pushed levels (Some v)) (end_of v) (max top (end_of v)) (omega arith)))
+      (ok_always {P = Light kind (room ty m)} {Q = Light kind (room ty m)} _ (λ v light. constrained_room kind b (room ty m) c levels p v light) (plan_room kind b m ty (ordered set order) levels p (omega arith)))))
+      (let few = absent_slots kind in
+      let g = member_grown kind levels (1 + room ty m) None (omega arith) in
+      let up = g.1 in
+      after_made (omega arith) (weaker (open_more kind levels (pushed levels None) (1 + room ty m) (fields_room rest m) g) (fields_up kind b m pinned s rest order (pushed levels None) behind top (omega arith))))))
 
   alternatives_up : (kind : Slot) (b m : ℕ) (parts : Parts) (index : ℕ) (order : Order) (levels : Levels) (s : ℕ) → slots kind levels + greatest_room parts m ≤ b → Always (UpTo kind b) (OfValue (TakenLight kind (greatest_room parts m))) (alternatives_plan m parts index order levels s)
   alternatives_up kind b m NoParts index order levels s le = result tt

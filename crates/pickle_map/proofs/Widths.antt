@@ -1,16 +1,16 @@
 -- A value ends in the file, and at least as many bits behind its start as its type's least width.
-use Rattle.std.proofs.Common.{◌≡◌, ℕ, zero, suc, ◌+◌, ◌<◌, ◌≤◌, max, min, length, Bool, true, false, List, [], ◌∷◌, Option, Some, None, Result, Ok, Err, refl, sym, ap, ◌∙◌, subst, arith}
+use Rattle.std.proofs.Common.{◌≡◌, ℕ, ◌+◌, ◌≤◌, max, length, Bool, true, false, List, Option, Some, None, Result, Ok, Err, refl, sym, ap, subst, arith}
 use Rattle.std.specs.Prelude.{◌||◌, if◌then◌else◌, ℤ, pos, negsuc}
 use Rattle.bit_space.specs.declared.order.Order.{Order}
 use Rattle.pickle_syntax.specs.declared.tree.ByteOrder.{ByteOrder}
 use Rattle.pickle_types.specs.declared.integer.IntegerType.{IntegerType}
-use Rattle.pickle_types.specs.Types.{Term, Bound, PokeType, IntegerOf, OffsetOf, StringOf, ArrayOf, StructOf, IntegralOf, UnionOf, Fields, NoFields, FieldThen, Parts, NoParts, PartThen}
+use Rattle.pickle_types.specs.Types.{Term, PokeType, IntegerOf, OffsetOf, StringOf, ArrayOf, StructOf, IntegralOf, UnionOf, Fields, Parts, NoParts, PartThen}
 use Rattle.pickle_types.specs.Bounds.{least_width, sum_of_widths, greatest_width, least_of_widths, has_label, where_present, is_some}
 use Rattle.pickle_map.specs.declared.extent.Extent.{Extent}
 use Rattle.pickle_map.specs.declared.faults.MapFaultKind.{MapFaultKind}
-use Rattle.pickle_map.specs.Values.{Naming, Label, IntegerLabel, OffsetLabel, TextLabel, ArrayLabel, StructLabel, UnionLabel, Value, end_of, Levels, pushed}
+use Rattle.pickle_map.specs.Values.{Naming, Label, IntegerLabel, OffsetLabel, TextLabel, ArrayLabel, StructLabel, UnionLabel, Value, end_of, Levels}
 use Rattle.pickle_map.specs.Arithmetic.{bits_in}
-use Rattle.pickle_map.specs.Evaluation.{Operand, AtPath, Plain, operand_label, evaluation}
+use Rattle.pickle_map.specs.Evaluation.{Operand, operand_label, evaluation}
 use Rattle.pickle_map.specs.Clauses.{FaultAt, told_at, not_negative, behind_start, condition, field_start}
 use Rattle.pickle_map.specs.Means.{Means, past_end, number_read, number_end, string, string_end, array, bound_fault, struct, struct_fault, union, union_fault, NumberMeans, integer, offset, integral, integral_fault, no_number, number_type, width_in, Run, no_bytes, next_byte, Elements, no_more, next_element, Closing, none_due, beyond_size, no_bits, ends_without, element_fault, PartMeans, part, part_refused, part_fault, FieldsMean, all_fields, absent, field, condition_fault, label_fault, field_fault, AlternativesMean, none_left, fits, misses_it, other_fault, Opened, Taken}
 use Rattle.pickle_map.proofs.Basics.{clash}
@@ -192,6 +192,7 @@ number_wide (UnionOf name alternatives) s e (Ok v) h = clash (sym (ap is_some e)
 
 mutual
   unfolding least_width
+
   pub means_wide : {bits : List ℕ} {ty : PokeType} {order : Order} {levels : Levels} {s : ℕ} {r : Result Value FaultAt} {k j : ℕ} → Means bits ty order levels s r k j → EndsFrom end_of (s + least_width ty) r
   means_wide (past_end lt) = tt
   means_wide {r} (number_read {ty} {type} {s} le e inside h) = number_wide ty s e r (subst (λ x. EndsAt s x r) e (number_ends h))

@@ -1,5 +1,5 @@
 -- What a mapping answers under a limit of steps.
-use Rattle.std.specs.Prelude.{◌≡◌, ℕ, ◌+◌, ◌<◌, ◌≤◌, List, Result, Ok, Err}
+use Rattle.std.specs.Prelude.{ℕ, ◌<◌, ◌≤◌, List, Result, Err}
 use Rattle.bit_space.specs.declared.order.Order.{Order}
 use Rattle.pickle_types.specs.Types.{PokeType}
 use Rattle.pickle_map.specs.declared.faults.MapFaultKind.TheVariants as fault

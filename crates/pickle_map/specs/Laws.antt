@@ -8,7 +8,7 @@ use Rattle.pickle_map.specs.Values.{Value, end_of, Levels}
 use Rattle.pickle_map.specs.Clauses.{FaultAt}
 use Rattle.pickle_map.specs.Means.{Means, Elements}
 use Rattle.pickle_map.specs.Room.{Slot, slots}
-use Rattle.pickle_map.specs.Plan.{Plan, result_of, steps_of, made_of, AtMost, MadeWithin, Always}
+use Rattle.pickle_map.specs.Plan.{result_of, steps_of, made_of, AtMost, MadeWithin, Always}
 use Rattle.pickle_map.specs.Mapping.{plan}
 use Rattle.pickle_map.specs.Answer.{Answer}
 use Rattle.pickle_map.specs.Fits.{Fits}

@@ -1,5 +1,5 @@
 -- What a type means on a file's bits: its outcome at each place, in how many steps, and with how many values made.
-use Rattle.std.specs.Prelude.{◌≡◌, ℕ, zero, suc, ◌+◌, ◌-◌, ◌*◌, ◌/◌, ◌%◌, ◌^◌, ◌<◌, ◌≤◌, max, length, Bool, true, false, List, [], ◌∷◌, ◌++◌, Option, Some, None, Result, Ok, Err, slice_range}
+use Rattle.std.specs.Prelude.{◌≡◌, ℕ, suc, ◌+◌, ◌-◌, ◌/◌, ◌%◌, ◌^◌, ◌<◌, ◌≤◌, max, length, Bool, true, false, List, [], ◌∷◌, Option, Some, None, Result, Ok, Err}
 use Rattle.pickle_syntax.specs.declared.tree.ByteOrder.{ByteOrder}
 use Rattle.pickle_syntax.specs.declared.tree.ByteOrder.TheVariants as prefix
 use Rattle.pickle_types.specs.declared.integer.IntegerType.{IntegerType}
@@ -7,10 +7,9 @@ use Rattle.pickle_types.specs.Types.{Term, Bound, PokeType, IntegerOf, OffsetOf,
 use Rattle.bit_space.specs.declared.order.Order.{Order}
 use Rattle.bit_space.specs.declared.order.Order.TheVariants.{Big, Little}
 use Rattle.pickle_map.specs.declared.extent.Extent.{Extent}
-use Rattle.pickle_map.specs.declared.faults.MapFaultKind.{MapFaultKind}
 use Rattle.pickle_map.specs.declared.faults.MapFaultKind.TheVariants as fault
 use Rattle.pickle_map.specs.Numbers.{number_at}
-use Rattle.pickle_map.specs.Values.{Naming, Label, IntegerLabel, OffsetLabel, TextLabel, ArrayLabel, StructLabel, UnionLabel, Value, Mapped, NoMembers, text_value, end_of, Levels, pushed, opened, top_of, gathered}
+use Rattle.pickle_map.specs.Values.{Naming, Label, IntegerLabel, OffsetLabel, ArrayLabel, StructLabel, UnionLabel, Value, Mapped, NoMembers, text_value, end_of, Levels, pushed, opened, top_of, gathered}
 use Rattle.pickle_map.specs.Arithmetic.{with_sign}
 use Rattle.pickle_map.specs.Clauses.{FaultAt, constraint, clause_steps, condition, field_start, label_steps, extent_of, bound_steps, is_due, is_met, ends_before, misses}
 
