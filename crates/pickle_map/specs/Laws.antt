@@ -4,7 +4,7 @@ use Rattle.bit_space.specs.declared.order.Order.{Order}
 use Rattle.pickle_types.specs.Types.{PokeType}
 use Rattle.pickle_types.specs.Bounds.{least_width, cost, room}
 use Rattle.pickle_map.specs.declared.extent.Extent.{Extent}
-use Rattle.pickle_map.specs.Values.{Value, end_of, Levels}
+use Rattle.pickle_map.specs.Values.{Value, start_of, end_of, Levels}
 use Rattle.pickle_map.specs.Clauses.{FaultAt}
 use Rattle.pickle_map.specs.Means.{Means, Elements}
 use Rattle.pickle_map.specs.Room.{Slot, slots}
@@ -47,6 +47,10 @@ StepsAreBounded = (m : ℕ) (ty : PokeType) (order : Order) (levels : Levels) (s
 -- whatever is read, a mapping makes at no time more values than it has taken steps
 abbrev pub MadeIsBounded : Type 0
 MadeIsBounded = (m : ℕ) (ty : PokeType) (order : Order) (levels : Levels) (s : ℕ) → MadeWithin (plan m ty order levels s) 0 0
+
+-- a value starts where it is mapped
+abbrev pub ValuesStartThere : Type 0
+ValuesStartThere = (bits : List ℕ) (ty : PokeType) (order : Order) (levels : Levels) (s : ℕ) (v : Value) (k j : ℕ) → Means bits ty order levels s (Ok v) k j → start_of v ≡ s
 
 -- a value ends in the file, at least as many bits behind its start as its type's least width
 abbrev pub ValuesAreWide : Type 0
