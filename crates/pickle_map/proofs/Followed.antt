@@ -6,12 +6,14 @@ use Rattle.pickle_types.specs.Bounds.{cost, room}
 use Rattle.pickle_map.specs.declared.faults.MapFaultKind.TheVariants as fault
 use Rattle.pickle_map.specs.Values.{Value, Levels, no_values}
 use Rattle.pickle_map.specs.Clauses.{FaultAt}
-use Rattle.pickle_map.specs.Room.{Slot, slots}
-use Rattle.pickle_map.specs.Plan.{Plan, Ended, Tick, Made, Read, result_of, steps_of, made_of, AtMost, ticked, noted, given, MadeWithin, made_tick, made_more, made_read, Always, after_made}
+use Rattle.pickle_map.specs.Room.{Slot, NodeSlot, ByteSlot, value_slots, slots}
+use Rattle.pickle_map.specs.Plan.{Plan, Ended, Tick, Made, Read, result_of, steps_of, made_of, AtMost, ticked, noted, given, MadeWithin, made_tick, made_more, made_read, Counts, counted, count_tick, count_made, count_read, Always, after_made}
 use Rattle.pickle_map.specs.Follows.{World, Walk, arrived, stepped, kept, read, Finish, Done, NoSteps, NoRoom, NeedsStep, NeedsRoom, Follows}
 use Rattle.pickle_map.specs.Mapping.{plan}
 use Rattle.pickle_map.specs.Answer.{Answer, in_time, too_long, BrokenOff, broken_off}
 use Rattle.pickle_map.specs.Fits.{Fits}
+use Rattle.pickle_map.specs.Laws.{value_size}
+use Rattle.pickle_map.proofs.Counts.{values_made}
 use Rattle.pickle_map.proofs.Exists.{plan_means}
 use Rattle.pickle_map.proofs.Costs.{at_most_more, plan_at_most}
 use Rattle.pickle_map.proofs.Makes.{plan_within}
@@ -91,6 +93,25 @@ walk_makes a b (kept w) h =
     omega arith
 walk_makes a b (read n m w) h = walk_makes a b w (within_read h n)
 
+of_count_tick : {A : Type 0} {size : A → ℕ} {p : Plan A} {c : ℕ} → Counts size (Tick p) c → Counts size p c
+of_count_tick (count_tick h) = h
+
+of_count_made : {A : Type 0} {size : A → ℕ} {count : ℕ} {levels : Levels} {p : Plan A} {c : ℕ} → Counts size (Made count levels p) c → Counts size p (c + count)
+of_count_made (count_made h) = h
+
+of_count_read : {A : Type 0} {size : A → ℕ} {place width : ℕ} {order : Order} {ps : ℕ → Plan A} {c : ℕ} → Counts size (Read place width order ps) c → (n : ℕ) → Counts size (ps n) c
+of_count_read (count_read h) = h
+
+of_counted : {A : Type 0} {size : A → ℕ} {a : A} {c : ℕ} → Counts size (Ended a) c → size a ≤ c
+of_counted (counted h) = h
+
+-- the values made on a walk are counted
+pub walk_counts : {world : World} {A : Type 0} {size : A → ℕ} {q : Plan A} {k' j' : ℕ} {p : Plan A} {k j : ℕ} (c : ℕ) → Walk world q k' j' p k j → Counts size p c → (d : ℕ) × (j' + c ≡ j + d) × Counts size q d
+walk_counts c arrived h = (c, refl, h)
+walk_counts c (stepped w) h = walk_counts c w (of_count_tick h)
+walk_counts c (kept {count} w) h = let r = walk_counts (c + count) w (of_count_made h) in (r.0, omega (arith, r.1), r.2)
+walk_counts c (read n m w) h = walk_counts c w (of_count_read h n)
+
 takes_step : {A : Type 0} (bits : List ℕ) (q : Plan A) → NeedsStep q → 1 ≤ steps_of bits q
 takes_step bits (Ended a) h = absurd h
 takes_step bits (Tick p) h = omega arith
@@ -120,6 +141,15 @@ module _ {world : World} {limit : ℕ} (m : ℕ) (ty : PokeType) (order : Order)
       let a = walk_keeps h.walk (plan_fits m ty order levels s) in
       let a = rw h.ends at a in
       of_result a
+
+  -- the nodes and bytes of a value were made
+  pub followed_size : {v : Value} → Follows world limit (plan m ty order levels s) k j k' j' (Done (Ok v)) → j + (value_slots NodeSlot v + value_slots ByteSlot v) ≤ j'
+  followed_size {v} h =
+      let u = walk_counts 0 h.walk (values_made m ty order levels s) in
+      let e = u.1 in
+      let last : Counts value_size (Ended (Ok v)) u.0 = subst (λ q. Counts value_size q u.0) h.ends u.2 in
+      let low : value_slots NodeSlot v + value_slots ByteSlot v ≤ u.0 = of_counted last in
+      omega arith
 
   -- a limit was reached, which is below the bound
   pub followed_limit : Follows world limit (plan m ty order levels s) k j k' j' NoSteps → (k' ≡ limit) × (limit < k + cost ty m)

@@ -12,3 +12,4 @@ mod Always
 mod Fitting
 mod Rooms
 mod Followed
+mod Counts

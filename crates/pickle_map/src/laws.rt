@@ -1,6 +1,6 @@
 //! The laws of the meaning of a mapping. These functions do nothing: the contract of each is a law.
 
-ghost use Rattle.pickle_map.specs.Laws.{HasOneOutcome, PlanIsMeant, HasOneAnswer, StepsAreBounded, MadeIsBounded, ValuesStartThere, ValuesAreWide, TriesAreFew, ValuesFit, RoomIsEnough};
+ghost use Rattle.pickle_map.specs.Laws.{HasOneOutcome, PlanIsMeant, HasOneAnswer, StepsAreBounded, MadeIsBounded, ValuesAreMade, ValuesStartThere, ValuesAreWide, TriesAreFew, ValuesFit, RoomIsEnough};
 
 /// Each type has exactly one outcome at each place of each file, in one number of steps and with
 /// one number of values made.
@@ -26,6 +26,12 @@ pub fn steps_are_bounded()
 /// Whatever is read, a mapping makes at no time more values than it has taken steps.
 pub fn made_is_bounded()
     ensures law { MadeIsBounded }
+{}
+
+/// Whatever is read, the nodes and the bytes of texts of the value that a mapping gives are together
+/// at most as many as it has made.
+pub fn values_are_made()
+    ensures law { ValuesAreMade }
 {}
 
 /// A value starts where it is mapped.
