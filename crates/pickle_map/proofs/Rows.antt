@@ -1,5 +1,5 @@
 -- Worked rows, computed by the definitions: what a type means on the bits of some bytes, its steps and the values made.
-use Rattle.std.proofs.Common.{◌≡◌, true, false, [], ◌∷◌, Some, None, Ok, Err, refl}
+use Rattle.std.proofs.Common.{◌≡◌, true, false, [], ◌∷◌, Some, None, Ok, Err, refl, arith}
 use Rattle.std.specs.Prelude.{pos, negsuc}
 use Rattle.bit_space.specs.declared.order.Order.TheVariants.{Big, Little}
 use Rattle.bit_space.specs.Bits.{bits_of, binary, number, digits, numeral_onto, groups_from}
@@ -16,6 +16,7 @@ use Rattle.pickle_map.specs.Evaluation.{and_operand, evaluation}
 use Rattle.pickle_map.specs.Clauses.{constraint, condition, field_start, extent_of}
 use Rattle.pickle_map.specs.Means.{Means}
 use Rattle.pickle_map.specs.Plan.{then_ok}
+use Rattle.pickle_map.specs.Answer.{Answer, in_time, too_long}
 use Rattle.pickle_map.specs.Mapping.{from_inside, constrained, number_plan, read_plan, after_byte, text_plan, after_element, elements_plan, after_attempt, plan}
 use Rattle.pickle_map.proofs.Exists.{plan_means}
 
@@ -450,6 +451,41 @@ zero_in_bound = plan_means (bits_of (0 ∷ 5 ∷ [])) _ Big no_values 0
 struct_of_labels_end : Means (bits_of (0 ∷ 0 ∷ [])) (StructOf (Some (84 ∷ [])) false (FieldThen (Some (101 ∷ [])) None (ArrayOf (IntegerOf (unsigned_type 8)) (ByCount (Number (signed_type 32) 0))) None (Some (InUnit 8 (Number (signed_type 32) 1))) None NoFields)) Big no_values 0 (Ok (Mapped (StructLabel (Some (84 ∷ [])) ((Some (101 ∷ [])) ∷ [])) 0 8 (MemberThen (Mapped ArrayLabel 8 8 NoMembers) NoMembers))) 6 2
 unfolding bits_of binary number digits numeral_onto groups_from modulo with_sign converted is_signed_in brought prefixed shifted_left shifted_right on_common on_integers on_bits on_scaled on_texts combined to_integer to_offset in_unit divisor_within greatest_common_divisor and_operand evaluation constraint condition field_start extent_of then_ok from_inside constrained number_plan read_plan after_byte text_plan after_element elements_plan after_attempt plan least_width
 struct_of_labels_end = plan_means (bits_of (0 ∷ 0 ∷ [])) _ Big no_values 0
+
+-- struct { byte a : -8#b / 1UB#B == 4294967295U; }
+offset_quotient_wraps : Means (bits_of (0 ∷ [])) (StructOf (Some (84 ∷ [])) false (FieldThen (Some (97 ∷ [])) None (IntegerOf (unsigned_type 8)) (Some (Between Equal (Between Divide (Before Minus (InUnit 1 (Number (signed_type 32) 8))) (InUnit 8 (Number (unsigned_type 8) 1))) (Number (unsigned_type 32) 4294967295))) None None NoFields)) Big no_values 0 (Ok (Mapped (StructLabel (Some (84 ∷ [])) ((Some (97 ∷ [])) ∷ [])) 0 8 (MemberThen (Mapped (IntegerLabel (pos 0) (unsigned_type 8)) 0 8 NoMembers) NoMembers))) 11 2
+unfolding bits_of binary number digits numeral_onto groups_from modulo with_sign converted is_signed_in brought prefixed shifted_left shifted_right on_common on_integers on_bits on_scaled on_texts combined to_integer to_offset in_unit divisor_within greatest_common_divisor and_operand evaluation constraint condition field_start extent_of then_ok from_inside constrained number_plan read_plan after_byte text_plan after_element elements_plan after_attempt plan least_width
+offset_quotient_wraps = plan_means (bits_of (0 ∷ [])) _ Big no_values 0
+
+-- struct { byte a : -8 / 8U == 536870911U; }
+quotient_converts_first : Means (bits_of (0 ∷ [])) (StructOf (Some (84 ∷ [])) false (FieldThen (Some (97 ∷ [])) None (IntegerOf (unsigned_type 8)) (Some (Between Equal (Between Divide (Before Minus (Number (signed_type 32) 8)) (Number (unsigned_type 32) 8)) (Number (unsigned_type 32) 536870911))) None None NoFields)) Big no_values 0 (Ok (Mapped (StructLabel (Some (84 ∷ [])) ((Some (97 ∷ [])) ∷ [])) 0 8 (MemberThen (Mapped (IntegerLabel (pos 0) (unsigned_type 8)) 0 8 NoMembers) NoMembers))) 9 2
+unfolding bits_of binary number digits numeral_onto groups_from modulo with_sign converted is_signed_in brought prefixed shifted_left shifted_right on_common on_integers on_bits on_scaled on_texts combined to_integer to_offset in_unit divisor_within greatest_common_divisor and_operand evaluation constraint condition field_start extent_of then_ok from_inside constrained number_plan read_plan after_byte text_plan after_element elements_plan after_attempt plan least_width
+quotient_converts_first = plan_means (bits_of (0 ∷ [])) _ Big no_values 0
+
+-- struct { byte a : 1 << 31; }
+shift_overflows : Means (bits_of (0 ∷ [])) (StructOf (Some (84 ∷ [])) false (FieldThen (Some (97 ∷ [])) None (IntegerOf (unsigned_type 8)) (Some (Between ShiftLeft (Number (signed_type 32) 1) (Number (signed_type 32) 31))) None None NoFields)) Big no_values 0 (Err (fault.Overflow, 0)) 6 1
+unfolding bits_of binary number digits numeral_onto groups_from modulo with_sign converted is_signed_in brought prefixed shifted_left shifted_right on_common on_integers on_bits on_scaled on_texts combined to_integer to_offset in_unit divisor_within greatest_common_divisor and_operand evaluation constraint condition field_start extent_of then_ok from_inside constrained number_plan read_plan after_byte text_plan after_element elements_plan after_attempt plan least_width
+shift_overflows = plan_means (bits_of (0 ∷ [])) _ Big no_values 0
+
+-- struct { union { byte x : x == 1; string c; } u; byte y : "ab" == u.c; }
+text_not_taken : Means (bits_of (1 ∷ 2 ∷ [])) (StructOf (Some (84 ∷ [])) false (FieldThen (Some (117 ∷ [])) None (UnionOf None (PartThen (Some (120 ∷ [])) None (IntegerOf (unsigned_type 8)) (Some (Between Equal (Name 0 0) (Number (signed_type 32) 1))) (PartThen (Some (99 ∷ [])) None StringOf None NoParts))) None None None (FieldThen (Some (121 ∷ [])) None (IntegerOf (unsigned_type 8)) (Some (Between Equal (Text (97 ∷ 98 ∷ [])) (Select (Name 0 0) 1))) None None NoFields))) Big no_values 0 (Err (fault.Absent, 8)) 14 3
+unfolding bits_of binary number digits numeral_onto groups_from modulo with_sign converted is_signed_in brought prefixed shifted_left shifted_right on_common on_integers on_bits on_scaled on_texts combined to_integer to_offset in_unit divisor_within greatest_common_divisor and_operand evaluation constraint condition field_start extent_of then_ok from_inside constrained number_plan read_plan after_byte text_plan after_element elements_plan after_attempt plan least_width
+text_not_taken = plan_means (bits_of (1 ∷ 2 ∷ [])) _ Big no_values 0
+
+-- struct { struct uint<16> { uint<4> a; uint<12> b : b'size == 12#b; } g; }
+size_in_integral : Means (bits_of (18 ∷ 52 ∷ [])) (StructOf (Some (84 ∷ [])) false (FieldThen (Some (103 ∷ [])) None (IntegralOf None (unsigned_type 16) (PartThen (Some (97 ∷ [])) None (IntegerOf (unsigned_type 4)) None (PartThen (Some (98 ∷ [])) None (IntegerOf (unsigned_type 12)) (Some (Between Equal (AttributeOf Size (Name 0 1)) (InUnit 1 (Number (signed_type 32) 12)))) NoParts))) None None None NoFields)) Big no_values 0 (Ok (Mapped (StructLabel (Some (84 ∷ [])) ((Some (103 ∷ [])) ∷ [])) 0 16 (MemberThen (Mapped (StructLabel None ((Some (97 ∷ [])) ∷ (Some (98 ∷ [])) ∷ [])) 0 16 (MemberThen (Mapped (IntegerLabel (pos 1) (unsigned_type 4)) 0 4 NoMembers) (MemberThen (Mapped (IntegerLabel (pos 564) (unsigned_type 12)) 0 12 NoMembers) NoMembers))) NoMembers))) 12 4
+unfolding bits_of binary number digits numeral_onto groups_from modulo with_sign converted is_signed_in brought prefixed shifted_left shifted_right on_common on_integers on_bits on_scaled on_texts combined to_integer to_offset in_unit divisor_within greatest_common_divisor and_operand evaluation constraint condition field_start extent_of then_ok from_inside constrained number_plan read_plan after_byte text_plan after_element elements_plan after_attempt plan least_width
+size_in_integral = plan_means (bits_of (18 ∷ 52 ∷ [])) _ Big no_values 0
+
+-- answers under a limit of steps
+limit_reached : Answer (bits_of (5 ∷ 6 ∷ 0 ∷ [])) (StructOf (Some (65 ∷ [])) false (FieldThen (Some (101 ∷ 115 ∷ [])) None (ArrayOf (StructOf (Some (69 ∷ [])) false (FieldThen (Some (118 ∷ [])) None (IntegerOf (unsigned_type 8)) (Some (Between NotEqual (Name 0 0) (Number (signed_type 32) 0))) None None NoFields)) Unbounded) None None None (FieldThen (Some (122 ∷ [])) None (IntegerOf (unsigned_type 8)) None None None NoFields))) Big 0 25 (Err (fault.Limit, 0)) 25 8
+limit_reached = too_long constrained_elements (omega arith) (omega arith)
+
+limit_enough : Answer (bits_of (5 ∷ 6 ∷ 0 ∷ [])) (StructOf (Some (65 ∷ [])) false (FieldThen (Some (101 ∷ 115 ∷ [])) None (ArrayOf (StructOf (Some (69 ∷ [])) false (FieldThen (Some (118 ∷ [])) None (IntegerOf (unsigned_type 8)) (Some (Between NotEqual (Name 0 0) (Number (signed_type 32) 0))) None None NoFields)) Unbounded) None None None (FieldThen (Some (122 ∷ [])) None (IntegerOf (unsigned_type 8)) None None None NoFields))) Big 0 26 (Ok (Mapped (StructLabel (Some (65 ∷ [])) ((Some (101 ∷ 115 ∷ [])) ∷ (Some (122 ∷ [])) ∷ [])) 0 24 (MemberThen (Mapped ArrayLabel 0 16 (MemberThen (Mapped (StructLabel (Some (69 ∷ [])) ((Some (118 ∷ [])) ∷ [])) 0 8 (MemberThen (Mapped (IntegerLabel (pos 5) (unsigned_type 8)) 0 8 NoMembers) NoMembers)) (MemberThen (Mapped (StructLabel (Some (69 ∷ [])) ((Some (118 ∷ [])) ∷ [])) 8 16 (MemberThen (Mapped (IntegerLabel (pos 6) (unsigned_type 8)) 8 16 NoMembers) NoMembers)) NoMembers))) (MemberThen (Mapped (IntegerLabel (pos 0) (unsigned_type 8)) 16 24 NoMembers) NoMembers)))) 26 8
+limit_enough = in_time constrained_elements (omega arith)
+
+no_steps_past_end : Answer (bits_of (18 ∷ 52 ∷ [])) (IntegerOf (unsigned_type 8)) Big 17 0 (Err (fault.End, 17)) 0 0
+no_steps_past_end = in_time past_end_start (omega arith)
 
 -- the bounds of some of these types
 constrained_elements_cost : cost (StructOf (Some (65 ∷ [])) false (FieldThen (Some (101 ∷ 115 ∷ [])) None (ArrayOf (StructOf (Some (69 ∷ [])) false (FieldThen (Some (118 ∷ [])) None (IntegerOf (unsigned_type 8)) (Some (Between NotEqual (Name 0 0) (Number (signed_type 32) 0))) None None NoFields)) Unbounded) None None None (FieldThen (Some (122 ∷ [])) None (IntegerOf (unsigned_type 8)) None None None NoFields))) 24 ≡ 33
