@@ -174,7 +174,7 @@ mutual
   number_at_most m (OffsetOf type unit) n levels s = ticked 0 (omega arith) (noted ended)
   number_at_most m StringOf n levels s = ticked 0 (omega arith) ended
   number_at_most m (ArrayOf element bound) n levels s = ticked 0 (omega arith) ended
-  number_at_most m (StructOf name pinned fields) n levels s = ticked 0 (omega arith) ended
+  number_at_most m (StructOf name pinned _) n levels s = ticked 0 (omega arith) ended
   number_at_most m (IntegralOf name type fields) n levels s =
       ticked (parts_cost fields m) (omega arith) (both _ (parts_cost fields m) 0 (omega arith) (digits_at_most m fields n type.width (opened levels) s) (λ r. noted ended))
   number_at_most m (UnionOf name alternatives) n levels s = ticked 0 (omega arith) ended

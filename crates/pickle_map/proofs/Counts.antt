@@ -114,7 +114,7 @@ mutual
   number_counts (OffsetOf type unit) n levels s c = makes_counts levels _ c c (omega arith)
   number_counts StringOf n levels s c = counted (omega arith)
   number_counts (ArrayOf element bound) n levels s c = counted (omega arith)
-  number_counts (StructOf name pinned fields) n levels s c = counted (omega arith)
+  number_counts (StructOf name pinned _) n levels s c = counted (omega arith)
   number_counts (IntegralOf name type fields) n levels s c =
       counts_ok of_levels of_value c c _ (omega arith) (digits_counts fields n type.width (opened levels) s c c (omega arith)) (λ r d le. closes_counts (StructLabel name (part_names fields)) s (s + type.width) r c d refl le)
   number_counts (UnionOf name alternatives) n levels s c = counted (omega arith)

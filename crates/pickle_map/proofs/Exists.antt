@@ -59,7 +59,7 @@ mutual
   number_exists (OffsetOf type unit) n levels s = record { r = _; k = _; j = _; means = offset }
   number_exists StringOf n levels s = record { r = _; k = _; j = _; means = no_number refl }
   number_exists (ArrayOf element bound) n levels s = record { r = _; k = _; j = _; means = no_number refl }
-  number_exists (StructOf name pinned fields) n levels s = record { r = _; k = _; j = _; means = no_number refl }
+  number_exists (StructOf name pinned _) n levels s = record { r = _; k = _; j = _; means = no_number refl }
   number_exists (IntegralOf name type fields) n levels s = let o = digits_exist fields n type.width (opened levels) s in integral_exists o.r o.means
   number_exists (UnionOf name alternatives) n levels s = record { r = _; k = _; j = _; means = no_number refl }
 

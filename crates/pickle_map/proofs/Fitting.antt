@@ -39,7 +39,7 @@ fits_inside m (IntegerOf type) levels s v h = let e = ap end_of h.0.2 in let le 
 fits_inside m (OffsetOf type unit) levels s v h = let e = ap end_of h.0.2 in let le = h.1 in omega arith
 fits_inside m StringOf levels s v h = let e = ap end_of h.2 in let le = h.3 in omega arith
 fits_inside m (ArrayOf element bound) levels s v h = let e = ap end_of h.8 in let le = h.7 in omega arith
-fits_inside m (StructOf name pinned fields) levels s v h = let e = ap end_of h.4 in let le = h.3 in omega arith
+fits_inside m (StructOf name pinned _) levels s v h = let e = ap end_of h.4 in let le = h.3 in omega arith
 fits_inside m (IntegralOf name type fields) levels s v h = let e = ap end_of h.0.2 in let le = h.1 in omega arith
 fits_inside m (UnionOf name alternatives) levels s v h = let e = ap end_of h.2 in let le = alternative_inside m alternatives 0 (opened levels) s h.0 h.1 in omega arith
 
@@ -149,7 +149,7 @@ mutual
   number_fits (OffsetOf type unit) n levels s lt = after_made tt (result (n, lt, refl))
   number_fits StringOf n levels s lt = result tt
   number_fits (ArrayOf element bound) n levels s lt = result tt
-  number_fits (StructOf name pinned fields) n levels s lt = result tt
+  number_fits (StructOf name pinned _) n levels s lt = result tt
   number_fits (IntegralOf name type fields) n levels s lt =
       ok_always {P = DigitsFit fields (opened levels) s} {Q = FitsNumber (IntegralOf name type fields) levels s} _
       (λ inside h. after_made tt (result (inside, h, refl))) (digits_fit fields n type.width (opened levels) s)

@@ -61,7 +61,7 @@ mutual
   number_within (OffsetOf type unit) n levels s a = one_made a
   number_within StringOf n levels s a = made_ended (omega arith)
   number_within (ArrayOf element bound) n levels s a = made_ended (omega arith)
-  number_within (StructOf name pinned fields) n levels s a = made_ended (omega arith)
+  number_within (StructOf name pinned _) n levels s a = made_ended (omega arith)
   number_within (IntegralOf name type fields) n levels s a = within_ok _ (a + 1) (omega arith) (digits_within fields n type.width (opened levels) s (a + 1)) (λ inside. one_made a)
   number_within (UnionOf name alternatives) n levels s a = made_ended (omega arith)
 

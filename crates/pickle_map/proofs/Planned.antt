@@ -25,7 +25,7 @@ any_past bits (IntegerOf type) order levels s lt = comes_past _ s _ lt
 any_past bits (OffsetOf type unit) order levels s lt = comes_past _ s _ lt
 any_past bits StringOf order levels s lt = comes_past _ s _ lt
 any_past bits (ArrayOf element bound) order levels s lt = comes_past _ s _ lt
-any_past bits (StructOf name pinned fields) order levels s lt = comes_past _ s _ lt
+any_past bits (StructOf name pinned _) order levels s lt = comes_past _ s _ lt
 any_past bits (IntegralOf name type fields) order levels s lt = comes_past _ s _ lt
 any_past bits (UnionOf name alternatives) order levels s lt = comes_past _ s _ lt
 
@@ -43,7 +43,7 @@ no_number_plan (IntegerOf type) n levels s e = clash (ap is_some e)
 no_number_plan (OffsetOf type unit) n levels s e = clash (ap is_some e)
 no_number_plan StringOf n levels s e = refl
 no_number_plan (ArrayOf element bound) n levels s e = refl
-no_number_plan (StructOf name pinned fields) n levels s e = refl
+no_number_plan (StructOf name pinned _) n levels s e = refl
 no_number_plan (IntegralOf name type fields) n levels s e = clash (ap is_some e)
 no_number_plan (UnionOf name alternatives) n levels s e = refl
 
@@ -70,7 +70,7 @@ read_planned m (IntegerOf t) order levels s e = ap (λ u. from_inside m s (read_
 read_planned m (OffsetOf t unit) order levels s e = ap (λ u. from_inside m s (read_plan m (OffsetOf t unit) u order levels s)) (sym (same_type e))
 read_planned m StringOf order levels s e = clash (sym (ap is_some e))
 read_planned m (ArrayOf element bound) order levels s e = clash (sym (ap is_some e))
-read_planned m (StructOf name pinned fields) order levels s e = clash (sym (ap is_some e))
+read_planned m (StructOf name pinned _) order levels s e = clash (sym (ap is_some e))
 read_planned m (IntegralOf name t fields) order levels s e = ap (λ u. from_inside m s (read_plan m (IntegralOf name t fields) u order levels s)) (sym (same_type e))
 read_planned m (UnionOf name alternatives) order levels s e = clash (sym (ap is_some e))
 

@@ -152,7 +152,7 @@ mutual
   number_room kind b m (OffsetOf type unit) n levels s le = makes_room kind b 1 levels _ (offset_slots kind type unit n s) le
   number_room kind b m StringOf n levels s le = result tt
   number_room kind b m (ArrayOf element bound) n levels s le = result tt
-  number_room kind b m (StructOf name pinned fields) n levels s le = result tt
+  number_room kind b m (StructOf name pinned _) n levels s le = result tt
   number_room kind b m (IntegralOf name type fields) n levels s le =
       ok_always {P = Grown kind (opened levels) (parts_room fields m)} {Q = Light kind (1 + parts_room fields m)} _
       (λ r grown. closes_room kind b (parts_room fields m) (StructLabel name (part_names fields)) s (s + type.width) levels r refl grown le)

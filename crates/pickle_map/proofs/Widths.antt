@@ -186,7 +186,7 @@ number_wide (IntegerOf t) s e (Ok v) h = let w = ap width_in e in omega arith
 number_wide (OffsetOf t unit) s e (Ok v) h = let w = ap width_in e in omega arith
 number_wide StringOf s e (Ok v) h = clash (sym (ap is_some e))
 number_wide (ArrayOf element bound) s e (Ok v) h = clash (sym (ap is_some e))
-number_wide (StructOf name pinned fields) s e (Ok v) h = clash (sym (ap is_some e))
+number_wide (StructOf name pinned _) s e (Ok v) h = clash (sym (ap is_some e))
 number_wide (IntegralOf name t fields) s e (Ok v) h = let w = ap width_in e in omega arith
 number_wide (UnionOf name alternatives) s e (Ok v) h = clash (sym (ap is_some e))
 

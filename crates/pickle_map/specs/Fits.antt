@@ -31,7 +31,7 @@ unfoldable mutual
   FitsNumber (OffsetOf type unit) levels s v = (n : ℕ) × (n < 2 ^ type.width) × (v ≡ offset_value type unit n s)
   FitsNumber StringOf levels s v = ⊥
   FitsNumber (ArrayOf element bound) levels s v = ⊥
-  FitsNumber (StructOf name pinned fields) levels s v = ⊥
+  FitsNumber (StructOf name pinned _) levels s v = ⊥
   FitsNumber (IntegralOf name type fields) levels s v =
       (inside : Levels) × DigitsFit fields (opened levels) s inside × (v ≡ struct_value name (part_names fields) s (s + type.width) inside)
   FitsNumber (UnionOf name alternatives) levels s v = ⊥

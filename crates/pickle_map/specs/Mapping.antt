@@ -36,7 +36,7 @@ unfoldable mutual
   number_plan (OffsetOf type unit) n levels s = makes levels (offset_value type unit n s)
   number_plan StringOf n levels s = Ended (Err (fault.Absent, s))
   number_plan (ArrayOf element bound) n levels s = Ended (Err (fault.Absent, s))
-  number_plan (StructOf name pinned fields) n levels s = Ended (Err (fault.Absent, s))
+  number_plan (StructOf name pinned _) n levels s = Ended (Err (fault.Absent, s))
   number_plan (IntegralOf name type fields) n levels s =
       then_ok (digits_plan fields n type.width (opened levels) s) (closes (struct_value name (part_names fields) s (s + type.width)))
   number_plan (UnionOf name alternatives) n levels s = Ended (Err (fault.Absent, s))

@@ -25,7 +25,7 @@ number_type (IntegerOf type) = Some type
 number_type (OffsetOf type unit) = Some type
 number_type StringOf = None
 number_type (ArrayOf element bound) = None
-number_type (StructOf name pinned fields) = None
+number_type (StructOf name pinned _) = None
 number_type (IntegralOf name type _) = Some type
 number_type (UnionOf name alternatives) = None
 
