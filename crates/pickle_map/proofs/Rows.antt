@@ -477,6 +477,51 @@ size_in_integral : Means (bits_of (18 ∷ 52 ∷ [])) (StructOf (Some (84 ∷ []
 unfolding bits_of binary number digits numeral_onto groups_from modulo with_sign converted is_signed_in brought prefixed shifted_left shifted_right on_common on_integers on_bits on_scaled on_texts combined to_integer to_offset in_unit divisor_within greatest_common_divisor and_operand evaluation constraint condition field_start extent_of then_ok from_inside constrained number_plan read_plan after_byte text_plan after_element elements_plan after_attempt plan least_width
 size_in_integral = plan_means (bits_of (18 ∷ 52 ∷ [])) _ Big no_values 0
 
+-- struct { byte a : a + 256 == 257; }
+common_width : Means (bits_of (1 ∷ [])) (StructOf (Some (84 ∷ [])) false (FieldThen (Some (97 ∷ [])) None (IntegerOf (unsigned_type 8)) (Some (Between Equal (Between Add (Name 0 0) (Number (signed_type 32) 256)) (Number (signed_type 32) 257))) None None NoFields)) Big no_values 0 (Ok (Mapped (StructLabel (Some (84 ∷ [])) ((Some (97 ∷ [])) ∷ [])) 0 8 (MemberThen (Mapped (IntegerLabel (pos 1) (unsigned_type 8)) 0 8 NoMembers) NoMembers))) 8 2
+unfolding bits_of binary number digits numeral_onto groups_from modulo with_sign converted is_signed_in brought prefixed shifted_left shifted_right on_common on_integers on_bits on_scaled on_texts combined to_integer to_offset in_unit divisor_within greatest_common_divisor and_operand evaluation constraint condition field_start extent_of then_ok from_inside constrained number_plan read_plan after_byte text_plan after_element elements_plan after_attempt plan least_width
+common_width = plan_means (bits_of (1 ∷ [])) _ Big no_values 0
+
+-- struct { uint<4> a : (-a as uint<8>) == 15UB; }
+unsigned_wraps : Means (bits_of (31 ∷ [])) (StructOf (Some (84 ∷ [])) false (FieldThen (Some (97 ∷ [])) None (IntegerOf (unsigned_type 4)) (Some (Between Equal (Bracket (ToInteger (unsigned_type 8) (Before Minus (Name 0 0)))) (Number (unsigned_type 8) 15))) None None NoFields)) Big no_values 0 (Ok (Mapped (StructLabel (Some (84 ∷ [])) ((Some (97 ∷ [])) ∷ [])) 0 4 (MemberThen (Mapped (IntegerLabel (pos 1) (unsigned_type 4)) 0 4 NoMembers) NoMembers))) 9 2
+unfolding bits_of binary number digits numeral_onto groups_from modulo with_sign converted is_signed_in brought prefixed shifted_left shifted_right on_common on_integers on_bits on_scaled on_texts combined to_integer to_offset in_unit divisor_within greatest_common_divisor and_operand evaluation constraint condition field_start extent_of then_ok from_inside constrained number_plan read_plan after_byte text_plan after_element elements_plan after_attempt plan least_width
+unsigned_wraps = plan_means (bits_of (31 ∷ [])) _ Big no_values 0
+
+-- struct { int<8> a : a - 1B == -128; }
+least_of_signed : Means (bits_of (129 ∷ [])) (StructOf (Some (84 ∷ [])) false (FieldThen (Some (97 ∷ [])) None (IntegerOf (signed_type 8)) (Some (Between Equal (Between Subtract (Name 0 0) (Number (signed_type 8) 1)) (Before Minus (Number (signed_type 32) 128)))) None None NoFields)) Big no_values 0 (Ok (Mapped (StructLabel (Some (84 ∷ [])) ((Some (97 ∷ [])) ∷ [])) 0 8 (MemberThen (Mapped (IntegerLabel (negsuc 126) (signed_type 8)) 0 8 NoMembers) NoMembers))) 9 2
+unfolding bits_of binary number digits numeral_onto groups_from modulo with_sign converted is_signed_in brought prefixed shifted_left shifted_right on_common on_integers on_bits on_scaled on_texts combined to_integer to_offset in_unit divisor_within greatest_common_divisor and_operand evaluation constraint condition field_start extent_of then_ok from_inside constrained number_plan read_plan after_byte text_plan after_element elements_plan after_attempt plan least_width
+least_of_signed = plan_means (bits_of (129 ∷ [])) _ Big no_values 0
+
+-- struct { byte a : -!a == -1; }
+not_widens : Means (bits_of (0 ∷ [])) (StructOf (Some (84 ∷ [])) false (FieldThen (Some (97 ∷ [])) None (IntegerOf (unsigned_type 8)) (Some (Between Equal (Before Minus (Before Not (Name 0 0))) (Before Minus (Number (signed_type 32) 1)))) None None NoFields)) Big no_values 0 (Ok (Mapped (StructLabel (Some (84 ∷ [])) ((Some (97 ∷ [])) ∷ [])) 0 8 (MemberThen (Mapped (IntegerLabel (pos 0) (unsigned_type 8)) 0 8 NoMembers) NoMembers))) 9 2
+unfolding bits_of binary number digits numeral_onto groups_from modulo with_sign converted is_signed_in brought prefixed shifted_left shifted_right on_common on_integers on_bits on_scaled on_texts combined to_integer to_offset in_unit divisor_within greatest_common_divisor and_operand evaluation constraint condition field_start extent_of then_ok from_inside constrained number_plan read_plan after_byte text_plan after_element elements_plan after_attempt plan least_width
+not_widens = plan_means (bits_of (0 ∷ [])) _ Big no_values 0
+
+-- struct { byte a : a == 1 ? 0 : 1; }
+choice_of_second : Means (bits_of (2 ∷ [])) (StructOf (Some (84 ∷ [])) false (FieldThen (Some (97 ∷ [])) None (IntegerOf (unsigned_type 8)) (Some (Choice (Some (signed_type 32)) (Between Equal (Name 0 0) (Number (signed_type 32) 1)) (Number (signed_type 32) 0) (Number (signed_type 32) 1))) None None NoFields)) Big no_values 0 (Ok (Mapped (StructLabel (Some (84 ∷ [])) ((Some (97 ∷ [])) ∷ [])) 0 8 (MemberThen (Mapped (IntegerLabel (pos 2) (unsigned_type 8)) 0 8 NoMembers) NoMembers))) 8 2
+unfolding bits_of binary number digits numeral_onto groups_from modulo with_sign converted is_signed_in brought prefixed shifted_left shifted_right on_common on_integers on_bits on_scaled on_texts combined to_integer to_offset in_unit divisor_within greatest_common_divisor and_operand evaluation constraint condition field_start extent_of then_ok from_inside constrained number_plan read_plan after_byte text_plan after_element elements_plan after_attempt plan least_width
+choice_of_second = plan_means (bits_of (2 ∷ [])) _ Big no_values 0
+
+-- struct { byte a : (17#b as offset<uint<8>,B>) == 2#B; }
+offset_of_new_unit : Means (bits_of (0 ∷ [])) (StructOf (Some (84 ∷ [])) false (FieldThen (Some (97 ∷ [])) None (IntegerOf (unsigned_type 8)) (Some (Between Equal (Bracket (ToOffset (unsigned_type 8) 8 (InUnit 1 (Number (signed_type 32) 17)))) (InUnit 8 (Number (signed_type 32) 2)))) None None NoFields)) Big no_values 0 (Ok (Mapped (StructLabel (Some (84 ∷ [])) ((Some (97 ∷ [])) ∷ [])) 0 8 (MemberThen (Mapped (IntegerLabel (pos 0) (unsigned_type 8)) 0 8 NoMembers) NoMembers))) 10 2
+unfolding bits_of binary number digits numeral_onto groups_from modulo with_sign converted is_signed_in brought prefixed shifted_left shifted_right on_common on_integers on_bits on_scaled on_texts combined to_integer to_offset in_unit divisor_within greatest_common_divisor and_operand evaluation constraint condition field_start extent_of then_ok from_inside constrained number_plan read_plan after_byte text_plan after_element elements_plan after_attempt plan least_width
+offset_of_new_unit = plan_means (bits_of (0 ∷ [])) _ Big no_values 0
+
+-- struct { uint<16> a; } in little order
+order_of_run : Means (bits_of (52 ∷ 18 ∷ [])) (StructOf (Some (84 ∷ [])) false (FieldThen (Some (97 ∷ [])) None (IntegerOf (unsigned_type 16)) None None None NoFields)) Little no_values 0 (Ok (Mapped (StructLabel (Some (84 ∷ [])) ((Some (97 ∷ [])) ∷ [])) 0 16 (MemberThen (Mapped (IntegerLabel (pos 4660) (unsigned_type 16)) 0 16 NoMembers) NoMembers))) 3 2
+unfolding bits_of binary number digits numeral_onto groups_from modulo with_sign converted is_signed_in brought prefixed shifted_left shifted_right on_common on_integers on_bits on_scaled on_texts combined to_integer to_offset in_unit divisor_within greatest_common_divisor and_operand evaluation constraint condition field_start extent_of then_ok from_inside constrained number_plan read_plan after_byte text_plan after_element elements_plan after_attempt plan least_width
+order_of_run = plan_means (bits_of (52 ∷ 18 ∷ [])) _ Little no_values 0
+
+-- struct { big uint<16> a; } in little order
+big_in_little_run : Means (bits_of (52 ∷ 18 ∷ [])) (StructOf (Some (84 ∷ [])) false (FieldThen (Some (97 ∷ [])) (Some prefix.Big) (IntegerOf (unsigned_type 16)) None None None NoFields)) Little no_values 0 (Ok (Mapped (StructLabel (Some (84 ∷ [])) ((Some (97 ∷ [])) ∷ [])) 0 16 (MemberThen (Mapped (IntegerLabel (pos 13330) (unsigned_type 16)) 0 16 NoMembers) NoMembers))) 3 2
+unfolding bits_of binary number digits numeral_onto groups_from modulo with_sign converted is_signed_in brought prefixed shifted_left shifted_right on_common on_integers on_bits on_scaled on_texts combined to_integer to_offset in_unit divisor_within greatest_common_divisor and_operand evaluation constraint condition field_start extent_of then_ok from_inside constrained number_plan read_plan after_byte text_plan after_element elements_plan after_attempt plan least_width
+big_in_little_run = plan_means (bits_of (52 ∷ 18 ∷ [])) _ Little no_values 0
+
+-- struct { byte a : 100B#B + 0B#B == 800#b; }
+unit_of_sum : Means (bits_of (0 ∷ [])) (StructOf (Some (84 ∷ [])) false (FieldThen (Some (97 ∷ [])) None (IntegerOf (unsigned_type 8)) (Some (Between Equal (Between Add (InUnit 8 (Number (signed_type 8) 100)) (InUnit 8 (Number (signed_type 8) 0))) (InUnit 1 (Number (signed_type 32) 800)))) None None NoFields)) Big no_values 0 (Ok (Mapped (StructLabel (Some (84 ∷ [])) ((Some (97 ∷ [])) ∷ [])) 0 8 (MemberThen (Mapped (IntegerLabel (pos 0) (unsigned_type 8)) 0 8 NoMembers) NoMembers))) 11 2
+unfolding bits_of binary number digits numeral_onto groups_from modulo with_sign converted is_signed_in brought prefixed shifted_left shifted_right on_common on_integers on_bits on_scaled on_texts combined to_integer to_offset in_unit divisor_within greatest_common_divisor and_operand evaluation constraint condition field_start extent_of then_ok from_inside constrained number_plan read_plan after_byte text_plan after_element elements_plan after_attempt plan least_width
+unit_of_sum = plan_means (bits_of (0 ∷ [])) _ Big no_values 0
+
 -- answers under a limit of steps
 limit_reached : Answer (bits_of (5 ∷ 6 ∷ 0 ∷ [])) (StructOf (Some (65 ∷ [])) false (FieldThen (Some (101 ∷ 115 ∷ [])) None (ArrayOf (StructOf (Some (69 ∷ [])) false (FieldThen (Some (118 ∷ [])) None (IntegerOf (unsigned_type 8)) (Some (Between NotEqual (Name 0 0) (Number (signed_type 32) 0))) None None NoFields)) Unbounded) None None None (FieldThen (Some (122 ∷ [])) None (IntegerOf (unsigned_type 8)) None None None NoFields))) Big 0 25 (Err (fault.Limit, 0)) 25 8
 limit_reached = too_long constrained_elements (omega arith) (omega arith)
