@@ -477,8 +477,8 @@ size_in_integral : Means (bits_of (18 ∷ 52 ∷ [])) (StructOf (Some (84 ∷ []
 unfolding bits_of binary number digits numeral_onto groups_from modulo with_sign converted is_signed_in brought prefixed shifted_left shifted_right on_common on_integers on_bits on_scaled on_texts combined to_integer to_offset in_unit divisor_within greatest_common_divisor and_operand evaluation constraint condition field_start extent_of then_ok from_inside constrained number_plan read_plan after_byte text_plan after_element elements_plan after_attempt plan least_width
 size_in_integral = plan_means (bits_of (18 ∷ 52 ∷ [])) _ Big no_values 0
 
--- struct { byte a : a + 256 == 257; }
-common_width : Means (bits_of (1 ∷ [])) (StructOf (Some (84 ∷ [])) false (FieldThen (Some (97 ∷ [])) None (IntegerOf (unsigned_type 8)) (Some (Between Equal (Between Add (Name 0 0) (Number (signed_type 32) 256)) (Number (signed_type 32) 257))) None None NoFields)) Big no_values 0 (Ok (Mapped (StructLabel (Some (84 ∷ [])) ((Some (97 ∷ [])) ∷ [])) 0 8 (MemberThen (Mapped (IntegerLabel (pos 1) (unsigned_type 8)) 0 8 NoMembers) NoMembers))) 8 2
+-- struct { byte a : 257 == a + 256; }
+common_width : Means (bits_of (1 ∷ [])) (StructOf (Some (84 ∷ [])) false (FieldThen (Some (97 ∷ [])) None (IntegerOf (unsigned_type 8)) (Some (Between Equal (Number (signed_type 32) 257) (Between Add (Name 0 0) (Number (signed_type 32) 256)))) None None NoFields)) Big no_values 0 (Ok (Mapped (StructLabel (Some (84 ∷ [])) ((Some (97 ∷ [])) ∷ [])) 0 8 (MemberThen (Mapped (IntegerLabel (pos 1) (unsigned_type 8)) 0 8 NoMembers) NoMembers))) 8 2
 unfolding bits_of binary number digits numeral_onto groups_from modulo with_sign converted is_signed_in brought prefixed shifted_left shifted_right on_common on_integers on_bits on_scaled on_texts combined to_integer to_offset in_unit divisor_within greatest_common_divisor and_operand evaluation constraint condition field_start extent_of then_ok from_inside constrained number_plan read_plan after_byte text_plan after_element elements_plan after_attempt plan least_width
 common_width = plan_means (bits_of (1 ∷ [])) _ Big no_values 0
 
