@@ -1,0 +1,15 @@
+mod Rows
+mod Basics
+mod Equations
+mod Comes
+mod Widths
+mod Planned
+mod Exists
+mod Outcomes
+mod Costs
+mod Makes
+mod Always
+mod Fitting
+mod Rooms
+mod Followed
+mod Counts

@@ -1,0 +1,13 @@
+pub mod Numbers
+pub mod Values
+pub mod Arithmetic
+pub mod Evaluation
+pub mod Clauses
+pub mod Means
+pub mod Room
+pub mod Plan
+pub mod Follows
+pub mod Mapping
+pub mod Answer
+pub mod Fits
+pub mod Laws

@@ -1,0 +1,6 @@
+//! Maps the types of a pickle over bits: what a mapping means, and its laws.
+#![tactic(auto)]
+
+pub mod extent;
+pub mod faults;
+pub mod laws;
