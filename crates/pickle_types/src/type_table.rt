@@ -10,8 +10,10 @@ ghost use Rattle.pickle_types.specs.Meaning.{declared_type, declared};
 ghost use Rattle.pickle_types.specs.WellTyped.{Declares};
 ghost use Rattle.pickle_types.specs.Built.{Fails};
 ghost use Rattle.pickle_types.specs.Building.{known_types, IsReady, AddsType, named_types, may_add};
-ghost use Rattle.pickle_types.specs.TypeTable.{types_of, count_of, IsSound, IsTypeFound, IsWellTyped};
+ghost use Rattle.pickle_types.specs.TypeTable.{types_of, count_of, type_named, IsInTable, IsSound, IsTypeFound, IsWellTyped};
+ghost use Rattle.pickle_types.specs.Bounds.{IsBound, cost, room};
 
+use crate::bounds::type_bounds;
 use crate::check::types::{Builder, Found, Title};
 use crate::fault::{FaultKind, TypeFault};
 use crate::integer::IntegerType;
@@ -201,5 +203,23 @@ impl Table {
         ensures { IsTrue result ↔ (count_of self.now ≡ 0) }
     {
         self.declared == 0
+    }
+
+    /// The most steps that a mapping of a type over so many bits takes; nothing from 2^128 on.
+    pub fn step_bound(&self, ty: TypeId, bits: u64) -> Option<u128>
+        requires sound { IsSound self.now }
+        requires ty { IsInTable self.now ty }
+        ensures { IsBound result (cost (type_named self.now ty) bits) }
+    {
+        type_bounds(&self.nodes, &self.roots, bits, ty.node).steps
+    }
+
+    /// The most slots of each kind that a mapping of a type over so many bits fills; nothing from 2^128 on.
+    pub fn slot_bound(&self, ty: TypeId, bits: u64) -> Option<u128>
+        requires sound { IsSound self.now }
+        requires ty { IsInTable self.now ty }
+        ensures { IsBound result (room (type_named self.now ty) bits) }
+    {
+        type_bounds(&self.nodes, &self.roots, bits, ty.node).slots
     }
 }

@@ -7,4 +7,4 @@ pub mod Lines
 pub mod First
 pub mod Told
 pub mod Runs
-pub mod Syntax
+pub mod Accepted

@@ -1,5 +1,11 @@
 -- What a run has to say of a pickle.
-use Rattle.std.specs.Prelude.{◌≡◌, ◌≢◌, ◌%◌, ◌<◌, ◌≤◌, ℕ, List, Some, Result, Ok, Err, length, codes}
+use Rattle.std.specs.Prelude.{◌≡◌, ◌%◌, ◌^◌, ◌<◌, ◌≤◌, ℕ, List, [], ◌∷◌, ◌++◌, Some, None, Result, Ok, Err, length, codes, decimal, nat_lt, if◌then◌else◌}
+use Rattle.pickle_syntax.specs.Tree.{DeclarationTree}
+use Rattle.pickle_types.specs.Types.{PokeType}
+use Rattle.pickle_types.specs.Names.{Names, find_type}
+use Rattle.pickle_types.specs.Bounds.{cost, room}
+use Rattle.poke_batch.specs.declared.accept.Refusal.{Refusal}
+use Rattle.poke_batch.specs.Accepted.{IsAccepted, Refuses, refusal_saying}
 use Rattle.bit_space.specs.declared.order.Order.{Order}
 use Rattle.bit_space.specs.Bits.{bits_of}
 use Rattle.bit_space.specs.SpaceView.{SpaceView, HasRisen}
@@ -10,11 +16,30 @@ use Rattle.poke_batch.specs.First.Declared.{Member, Declares}
 use Rattle.poke_batch.specs.First.Outcome.{Outcome, struct_outcome}
 use Rattle.poke_batch.specs.First.Text.{value_text}
 
--- what a check has to say
+-- how many types are declared
+abbrev pub types_text : ℕ → List ℕ
+types_text n = codes "types " ++ (decimal n ++ 10 ∷ [])
+
+-- what a check has to say: how many types an accepted pickle declares, or why it is refused
 pub data ChecksAs (pickle : List ℕ) : Saying → Type 0 where
-  declared : {name : List ℕ} {members : List Member} → Declares pickle name members → ChecksAs pickle (Text (codes "types 1\n"))
-  not_yet : ChecksAs pickle (Line Refused (refused_line (codes "NotYet")))
-  no_memory : ChecksAs pickle (Line Outside (fault_line (codes "Memory")))
+  accepted : {declarations : List DeclarationTree} {types : Names} → IsAccepted pickle declarations types → ChecksAs pickle (Text (types_text (length declarations)))
+  refused : {refusal : Refusal} → Refuses pickle refusal → ChecksAs pickle (refusal_saying refusal)
+
+-- a bound, or that it is too great to be told
+abbrev pub bound_text : ℕ → List ℕ
+bound_text n = (if nat_lt n (2 ^ 128) then decimal n else codes "more than 2^128-1") ++ 10 ∷ []
+
+-- the most steps and slots
+abbrev pub bounds_text : (steps slots : ℕ) → List ℕ
+bounds_text steps slots = codes "steps " ++ (bound_text steps ++ (codes "slots " ++ bound_text slots))
+
+-- what is to be said of the bounds of a type of a pickle, over so many bits
+pub data BoundsAs (pickle name : List ℕ) (bits : ℕ) : Saying → Type 0 where
+  bounds : {declarations : List DeclarationTree} {types : Names} {type : PokeType} → IsAccepted pickle declarations types → find_type name types ≡ Some type
+      → BoundsAs pickle name bits (Text (bounds_text (cost type bits) (room type bits)))
+  no_such_type : {declarations : List DeclarationTree} {types : Names} → IsAccepted pickle declarations types → find_type name types ≡ None
+      → BoundsAs pickle name bits (Line Refused (refused_line (codes "NoSuchType")))
+  refused_bounds : {refusal : Refusal} → Refuses pickle refusal → BoundsAs pickle name bits (refusal_saying refusal)
 
 -- the result and steps of an outcome, within a limit
 pub record IsWithin (o : Outcome) (result : Result (List ℕ) ℕ) (limit : ℕ) : Type 0 where
@@ -42,7 +67,11 @@ pub data MapsAs (pickle name : List ℕ) (order : Order) (start limit : ℕ) (be
       → MapsAs pickle name order start limit before after (Line Fault (fault_at_line (codes "Limit") start))
   device : {members : List Member} → IsAsked pickle name members start → HasRisen before.failures after.failures
       → MapsAs pickle name order start limit before after (Line Outside (fault_line (codes "Device")))
-  other_name : {declared : List ℕ} {members : List Member} → Declares pickle declared members → name ≢ declared
+  -- the pickle has no type of that name
+  unknown : {declarations : List DeclarationTree} {types : Names} → IsAccepted pickle declarations types → find_type name types ≡ None
       → MapsAs pickle name order start limit before after (Line Refused (refused_line (codes "NoSuchType")))
-  not_yet : MapsAs pickle name order start limit before after (Line Refused (refused_line (codes "NotYet")))
+  -- a type that is not mapped yet
+  not_yet : {declarations : List DeclarationTree} {types : Names} → IsAccepted pickle declarations types
+      → MapsAs pickle name order start limit before after (Line Refused (refused_line (codes "NotYet")))
+  refused_map : {refusal : Refusal} → Refuses pickle refusal → MapsAs pickle name order start limit before after (refusal_saying refusal)
   no_memory : MapsAs pickle name order start limit before after (Line Outside (fault_line (codes "Memory")))

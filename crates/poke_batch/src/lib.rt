@@ -4,6 +4,7 @@
 //! and faults, a line each, to another.
 #![tactic(auto)]
 
+pub mod accept;
 pub mod ask;
 pub mod dump;
 pub mod first;
@@ -13,7 +14,6 @@ pub mod offset_word;
 pub mod pickle;
 pub mod run;
 pub mod status;
-pub mod syntax;
 pub mod tell;
 pub mod words;
 pub mod write;

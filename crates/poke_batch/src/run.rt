@@ -1,18 +1,23 @@
 //! The runs: from a pickle's bytes to a text or a line.
 
-ghost use Rattle.std.specs.Prelude.{◌≡◌, ℕ, ◌%◌, List};
+ghost use Rattle.std.specs.Prelude.{◌≡◌, ℕ, ◌%◌, List, OnOk, OnErr};
 ghost use Rattle.poke_batch.specs.First.Declared.{Declares};
 ghost use Rattle.poke_batch.specs.First.View.{name_of, members_of};
 ghost use Rattle.poke_batch.specs.Told.{Says};
-ghost use Rattle.poke_batch.specs.Runs.{ChecksAs, MapsAs};
+ghost use Rattle.poke_batch.specs.Runs.{ChecksAs, BoundsAs, MapsAs, types_text, bound_text, bounds_text};
+ghost use Rattle.poke_batch.specs.Written.{AppendsPart};
+ghost use Rattle.std.specs.Io.KnownBytes.{Appends};
+ghost use Rattle.pickle_types.specs.Bounds.{IsBound};
 
+use crate::accept::{accept, tell_refusal};
 use crate::ask::Ask;
+use crate::lines::put_number;
 use crate::first::map::{FirstFault, map_first};
 use crate::first::text::put_value;
 use crate::first::{First, ReadFault};
 use crate::status::Status;
 use crate::tell::{answer, fail, fault_at, refuse};
-use crate::write::put;
+use crate::write::{WriteFault, put};
 use bit_space::{Meter, Space};
 use std::alloc::Global;
 use std::io::Write;
@@ -27,14 +32,74 @@ pub fn run_check<O: Write, E: Write>(
     ensures { Says (ChecksAs pickle.now) result
         (O.contents out.old) (O.contents out.new) (E.contents err.old) (E.contents err.new) }
 {
-    match First::read(alloc, pickle) {
-        Ok(_) => answer(put(out, b"types 1\n"), err),
-        Err(ReadFault::NotYet) => refuse(err, b"NotYet"),
-        Err(ReadFault::Memory) => fail(err, b"Memory"),
+    match accept(alloc, pickle) {
+        Ok(table) => answer(put_types(out, table.len()), err),
+        Err(refusal) => tell_refusal(err, refusal),
     }
 }
 
-/// Maps a type of a pickle over a space, and writes its value or the fault that it has.
+/// Writes how many types are declared.
+#[tactic(auto, using(crate::proofs::Parts::written))]
+fn put_types<W: Write>(w: &mut W, count: usize) -> Result<(), WriteFault>
+    ensures ok { OnOk result (Appends (W.contents w.old) (W.contents w.new) (types_text count)) }
+    ensures err { OnErr result (AppendsPart (W.contents w.old) (W.contents w.new) (types_text count)) }
+{
+    put(w, b"types ")?;
+    put_number(w, count as u128, b"\n")?;
+    Ok(())
+}
+
+/// Tells the most steps and slots that a mapping of a type of a pickle over so many bits takes.
+pub fn run_bound<O: Write, E: Write>(
+    alloc: Global,
+    pickle: &[u8],
+    name: &[u8],
+    bits: u64,
+    out: &mut O,
+    err: &mut E,
+) -> Status
+    ensures { Says (BoundsAs pickle.now name.now bits) result
+        (O.contents out.old) (O.contents out.new) (E.contents err.old) (E.contents err.new) }
+{
+    let table = match accept(alloc, pickle) {
+        Ok(table) => table,
+        Err(refusal) => return tell_refusal(err, refusal),
+    };
+    match table.find(name) {
+        Some(ty) => {
+            let steps = table.step_bound(ty, bits);
+            let slots = table.slot_bound(ty, bits);
+            answer(put_bounds(out, steps, slots), err)
+        }
+        None => refuse(err, b"NoSuchType"),
+    }
+}
+
+/// Writes the most steps and slots.
+fn put_bounds<W: Write>(w: &mut W, steps: Option<u128>, slots: Option<u128>) -> Result<(), WriteFault>
+    ensures ok { (m n : ℕ) → IsBound steps m → IsBound slots n → OnOk result (Appends (W.contents w.old) (W.contents w.new) (bounds_text m n)) }
+    ensures err { (m n : ℕ) → IsBound steps m → IsBound slots n → OnErr result (AppendsPart (W.contents w.old) (W.contents w.new) (bounds_text m n)) }
+{
+    put(w, b"steps ")?;
+    put_bound(w, steps)?;
+    put(w, b"slots ")?;
+    put_bound(w, slots)?;
+    Ok(())
+}
+
+/// Writes a bound, or that it is too great to be told.
+fn put_bound<W: Write>(w: &mut W, bound: Option<u128>) -> Result<(), WriteFault>
+    ensures ok { (n : ℕ) → IsBound bound n → OnOk result (Appends (W.contents w.old) (W.contents w.new) (bound_text n)) }
+    ensures err { (n : ℕ) → IsBound bound n → OnErr result (AppendsPart (W.contents w.old) (W.contents w.new) (bound_text n)) }
+{
+    match bound {
+        Some(n) => put_number(w, n, b"\n"),
+        None => put(w, b"more than 2^128-1\n"),
+    }
+}
+
+/// Maps a type of a pickle over a space, and writes its value or the fault that it has. Only structs of unsigned integers of
+/// whole bytes are mapped yet.
 pub fn run_map<S: Space, O: Write, E: Write>(
     alloc: Global,
     pickle: &[u8],
@@ -46,15 +111,19 @@ pub fn run_map<S: Space, O: Write, E: Write>(
     ensures { Says (MapsAs pickle.now ask.now.name.now ask.now.order ask.now.start ask.now.limit (S.view space.old) (S.view space.new)) result
         (O.contents out.old) (O.contents out.new) (E.contents err.old) (E.contents err.new) }
 {
+    let table = match accept(alloc, pickle) {
+        Ok(table) => table,
+        Err(refusal) => return tell_refusal(err, refusal),
+    };
+    if table.find(ask.name).is_none() {
+        return refuse(err, b"NoSuchType");
+    }
     let first = match First::read(alloc, pickle) {
         Ok(first) => first,
         Err(ReadFault::NotYet) => return refuse(err, b"NotYet"),
         Err(ReadFault::Memory) => return fail(err, b"Memory"),
     };
-    if !first.is_named(ask.name) {
-        return refuse(err, b"NoSuchType");
-    }
-    if ask.start % 8 != 0 {
+    if !first.is_named(ask.name) || ask.start % 8 != 0 {
         return refuse(err, b"NotYet");
     }
     map_asked(alloc, &first, ask, space, out, err)

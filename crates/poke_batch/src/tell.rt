@@ -3,10 +3,10 @@
 ghost use Rattle.std.specs.Prelude.{◌≡◌, OnOk, OnErr, codes};
 ghost use Rattle.std.specs.Io.KnownBytes.{Keeps};
 ghost use Rattle.poke_batch.specs.Told.{IsTold, AppendsUpTo};
-ghost use Rattle.poke_batch.specs.Lines.{refused_line, refused_at_line, fault_line, fault_at_line};
+ghost use Rattle.poke_batch.specs.Lines.{refused_line, refused_at_line, refused_in_line, fault_line, fault_at_line};
 ghost use Rattle.poke_batch.specs.declared.status.Status.TheVariants.{Done, Fault, Refused, Outside};
 
-use crate::lines::{put_fault, put_fault_at, put_refused, put_refused_at};
+use crate::lines::{put_fault, put_fault_at, put_refused, put_refused_at, put_refused_in};
 use crate::status::Status;
 use crate::write::WriteFault;
 use std::io::Write;
@@ -26,6 +26,16 @@ pub fn refuse_at<E: Write>(err: &mut E, kind: &[u8], byte: usize) -> Status
     ensures { IsTold Refused (refused_at_line kind.now byte) result (E.contents err.old) (E.contents err.new) }
 {
     match put_refused_at(err, kind, byte) {
+        Ok(()) => Status::Refused,
+        Err(WriteFault) => Status::Outside,
+    }
+}
+
+/// Ends a run by a refusal in a declaration, counted from 1.
+pub fn refuse_in<E: Write>(err: &mut E, kind: &[u8], declaration: usize) -> Status
+    ensures { IsTold Refused (refused_in_line kind.now declaration) result (E.contents err.old) (E.contents err.new) }
+{
+    match put_refused_in(err, kind, declaration) {
         Ok(()) => Status::Refused,
         Err(WriteFault) => Status::Outside,
     }

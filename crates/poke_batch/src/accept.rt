@@ -1,34 +1,38 @@
-//! Whether bytes have the syntax of a pickle, and the lines that refuse them.
+//! Whether bytes are a pickle whose types are well formed, and the lines that refuse them.
 
-ghost use Rattle.std.specs.Prelude.{◌≡◌, ◌≢◌, ℕ, List, Option, IfOk, IfErr};
-ghost use Rattle.pickle_syntax.specs.Tree.{pickle_tree};
-ghost use Rattle.poke_batch.specs.Syntax.{HasSyntax, RefusesSyntax, refusal_saying, place_of, lex_kind};
+ghost use Rattle.std.specs.Prelude.{◌≡◌, ◌≢◌, ℕ, List, Option, length, IfOk, IfErr};
+ghost use Rattle.pickle_syntax.specs.Tree.{DeclarationTree, pickle_tree};
+ghost use Rattle.pickle_types.specs.TypeTable.{types_of, count_of, IsSound};
+ghost use Rattle.poke_batch.specs.Accepted.{HasSyntax, IsAccepted, Refuses, refusal_saying, place_of, lex_kind, type_kind};
 ghost use Rattle.poke_batch.specs.Told.{IsSaid};
 
 use crate::status::Status;
-use crate::tell::{fail, refuse, refuse_at};
+use crate::tell::{fail, refuse, refuse_at, refuse_in};
 use pickle_syntax::lexer::fault::{LexFault, LexFaultKind};
 use pickle_syntax::lexer::{Tokens, lex};
 use pickle_syntax::parser::fault::ParseFault;
 use pickle_syntax::parser::parse;
 use pickle_syntax::tree::Pickle;
+use pickle_types::fault::{FaultKind, TypeFault};
+use pickle_types::type_table::Table;
 use std::alloc::Global;
 use std::io::Write;
 
-/// Why bytes have no syntax of a pickle. A place is a byte, counted from 0.
+/// Why bytes are no pickle, at a byte counted from 0, or its types not well formed, in a declaration counted from 1.
 #[derive(Clone, Copy, Debug, PartialEq, Eq)]
 pub enum Refusal {
     Tokens(LexFaultKind, usize),
     Syntax(usize),
     TooDeep,
     TooMany,
+    Types(FaultKind, usize),
     Memory,
 }
 
 /// Reads the syntax of a pickle.
 pub fn read_syntax(alloc: Global, pickle: &[u8]) -> Result<Pickle, Refusal>
     ensures ok { IfOk result (λ p. HasSyntax pickle.now (pickle_tree p)) }
-    ensures err { IfErr result (λ refusal. RefusesSyntax pickle.now refusal) }
+    ensures err { IfErr result (λ refusal. Refuses pickle.now refusal) }
 {
     let tokens = match lex(alloc, pickle) {
         Ok(tokens) => tokens,
@@ -41,6 +45,20 @@ pub fn read_syntax(alloc: Global, pickle: &[u8]) -> Result<Pickle, Refusal>
         Err(ParseFault::TooDeep) => Err(Refusal::TooDeep),
         Err(ParseFault::TooMany) => Err(Refusal::TooMany),
         Err(ParseFault::Memory) => Err(Refusal::Memory),
+    }
+}
+
+/// Reads a pickle, and checks its types.
+pub fn accept(alloc: Global, pickle: &[u8]) -> Result<Table, Refusal>
+    ensures sound { IfOk result IsSound }
+    ensures ok { IfOk result (λ table. (declarations : List DeclarationTree) × IsAccepted pickle.now declarations (types_of table) × (count_of table ≡ length declarations)) }
+    ensures err { IfErr result (λ refusal. Refuses pickle.now refusal) }
+{
+    let tree = read_syntax(alloc, pickle)?;
+    match Table::build(alloc, &tree) {
+        Ok(table) => Ok(table),
+        Err(TypeFault { kind: FaultKind::Memory, .. }) => Err(Refusal::Memory),
+        Err(TypeFault { kind, decl }) => Err(Refusal::Types(kind, decl)),
     }
 }
 
@@ -63,6 +81,7 @@ pub fn tell_refusal<E: Write>(err: &mut E, refusal: Refusal) -> Status
         Refusal::Syntax(at) => refuse_at(err, b"Syntax", at),
         Refusal::TooDeep => refuse(err, b"TooDeep"),
         Refusal::TooMany => refuse(err, b"TooMany"),
+        Refusal::Types(kind, declaration) => refuse_in(err, type_kind_name(kind), declaration),
         Refusal::Memory => fail(err, b"Memory"),
     }
 }
@@ -77,5 +96,23 @@ fn kind_name(kind: LexFaultKind) -> &'static [u8]
         LexFaultKind::BadNumber => b"BadNumber",
         LexFaultKind::TooLong => b"TooLong",
         LexFaultKind::Memory => b"Memory",
+    }
+}
+
+/// The name of a fault of types.
+fn type_kind_name(kind: FaultKind) -> &'static [u8]
+    ensures { result.now ≡ type_kind kind }
+{
+    match kind {
+        FaultKind::UnknownType => b"UnknownType",
+        FaultKind::DuplicateType => b"DuplicateType",
+        FaultKind::UnknownName => b"UnknownName",
+        FaultKind::DuplicateField => b"DuplicateField",
+        FaultKind::Mismatch => b"Mismatch",
+        FaultKind::Width => b"Width",
+        FaultKind::IntegralWidths => b"IntegralWidths",
+        FaultKind::NotHere => b"NotHere",
+        FaultKind::TooDeep => b"TooDeep",
+        FaultKind::Memory => b"Memory",
     }
 }

@@ -1,0 +1,84 @@
+-- When bytes are a pickle whose types are well formed, and how they are refused.
+use Rattle.std.specs.Prelude.{◌≡◌, ℕ, ◌≤◌, ◌<◌, List, Option, Some, None, Result, Ok, Err, length, slice_get, codes}
+use Rattle.pickle_syntax.specs.Tokens.{Token}
+use Rattle.pickle_syntax.specs.Tree.{DeclarationTree}
+use Rattle.pickle_syntax.specs.Lexing.{lexed}
+use Rattle.pickle_syntax.specs.Pickles.{IsPickle, IsPickleOf}
+use Rattle.pickle_syntax.specs.declared.lexer.fault.LexFaultKind.{LexFaultKind}
+use Rattle.pickle_syntax.specs.declared.lexer.fault.LexFaultKind.TheVariants.{BadByte, Unclosed, BadNumber, TooLong, Memory}
+use Rattle.pickle_types.specs.Names.{Names, predeclared}
+use Rattle.pickle_types.specs.WellTyped.{Declares}
+use Rattle.pickle_types.specs.TypeTable.{IsWellTyped}
+use Rattle.pickle_types.specs.declared.fault.FaultKind.{FaultKind}
+use Rattle.pickle_types.specs.declared.fault.FaultKind.TheVariants as types
+use Rattle.poke_batch.specs.declared.accept.Refusal.{Refusal}
+use Rattle.poke_batch.specs.declared.accept.Refusal.TheVariants as refusal
+use Rattle.poke_batch.specs.declared.status.Status.TheVariants.{Refused, Outside}
+use Rattle.poke_batch.specs.Lines.{refused_line, refused_at_line, refused_in_line, fault_line}
+use Rattle.poke_batch.specs.Told.{Saying, Line}
+
+-- the bytes are the tokens of these declarations
+pub record HasSyntax (pickle : List ℕ) (declarations : List DeclarationTree) : Type 0 where
+  pub tokens : List Token
+  pub spans : List (ℕ × ℕ)
+  pub cut : lexed pickle ≡ Ok (tokens, spans)
+  pub pickle : IsPickleOf tokens declarations
+
+-- the place of the first byte of a token, or the pickle's length behind the last token
+abbrev pub start_in : Option (ℕ × ℕ) → ℕ → ℕ
+start_in None count = count
+start_in (Some span) count = span.0
+
+abbrev pub place_of : List (ℕ × ℕ) → (token count : ℕ) → ℕ
+place_of spans token count = start_in (slice_get spans token) count
+
+-- the tokens of the bytes are no pickle
+pub record IsNoPickle (pickle : List ℕ) (spans : List (ℕ × ℕ)) (count : ℕ) : Type 0 where
+  pub tokens : List Token
+  pub cut : lexed pickle ≡ Ok (tokens, spans)
+  pub count : length tokens ≡ count
+  pub none : IsPickle tokens → ⊥
+
+-- the bytes are a pickle that declares types
+pub record IsAccepted (pickle : List ℕ) (declarations : List DeclarationTree) (types : Names) : Type 0 where
+  pub syntax : HasSyntax pickle declarations
+  pub types : Declares predeclared declarations types
+
+-- why the bytes are no pickle, or its types not well formed; want of memory says nothing of them
+pub data Refuses (pickle : List ℕ) : Refusal → Type 0 where
+  no_tokens : {kind : LexFaultKind} {at : ℕ} → lexed pickle ≡ Err (kind, at) → Refuses pickle (refusal.Tokens kind at)
+  no_syntax : {spans : List (ℕ × ℕ)} {count token at : ℕ} → IsNoPickle pickle spans count → token ≤ count → at ≡ place_of spans token (length pickle) → Refuses pickle (refusal.Syntax at)
+  too_deep : {spans : List (ℕ × ℕ)} {count : ℕ} → IsNoPickle pickle spans count → Refuses pickle refusal.TooDeep
+  too_many : {spans : List (ℕ × ℕ)} {count : ℕ} → IsNoPickle pickle spans count → Refuses pickle refusal.TooMany
+  ill_typed : {declarations : List DeclarationTree} {kind : FaultKind} {declaration : ℕ} → HasSyntax pickle declarations → (IsWellTyped declarations → ⊥) → Refuses pickle (refusal.Types kind declaration)
+  no_memory : Refuses pickle refusal.Memory
+
+-- the name of a fault of tokens
+abbrev pub lex_kind : LexFaultKind → List ℕ
+lex_kind BadByte = codes "BadByte"
+lex_kind Unclosed = codes "Unclosed"
+lex_kind BadNumber = codes "BadNumber"
+lex_kind TooLong = codes "TooLong"
+lex_kind Memory = codes "Memory"
+
+-- the name of a fault of types
+abbrev pub type_kind : FaultKind → List ℕ
+type_kind types.UnknownType = codes "UnknownType"
+type_kind types.DuplicateType = codes "DuplicateType"
+type_kind types.UnknownName = codes "UnknownName"
+type_kind types.DuplicateField = codes "DuplicateField"
+type_kind types.Mismatch = codes "Mismatch"
+type_kind types.Width = codes "Width"
+type_kind types.IntegralWidths = codes "IntegralWidths"
+type_kind types.NotHere = codes "NotHere"
+type_kind types.TooDeep = codes "TooDeep"
+type_kind types.Memory = codes "Memory"
+
+-- the line that tells a refusal, with its status
+abbrev pub refusal_saying : Refusal → Saying
+refusal_saying (refusal.Tokens kind at) = Line Refused (refused_at_line (lex_kind kind) at)
+refusal_saying (refusal.Syntax at) = Line Refused (refused_at_line (codes "Syntax") at)
+refusal_saying refusal.TooDeep = Line Refused (refused_line (codes "TooDeep"))
+refusal_saying refusal.TooMany = Line Refused (refused_line (codes "TooMany"))
+refusal_saying (refusal.Types kind declaration) = Line Refused (refused_in_line (type_kind kind) declaration)
+refusal_saying refusal.Memory = Line Outside (fault_line (codes "Memory"))
