@@ -5,6 +5,7 @@
 #![tactic(auto)]
 
 pub mod ask;
+pub mod bound;
 pub mod dump;
 pub mod first;
 pub mod lines;

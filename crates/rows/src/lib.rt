@@ -6,6 +6,8 @@ mod declarations;
 #[cfg(test)]
 mod devices;
 #[cfg(test)]
+mod bounds;
+#[cfg(test)]
 mod dumps;
 #[cfg(test)]
 mod maps;
