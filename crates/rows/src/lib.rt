@@ -2,11 +2,11 @@
 #![tactic(auto)]
 
 #[cfg(test)]
+mod bounds;
+#[cfg(test)]
 mod declarations;
 #[cfg(test)]
 mod devices;
-#[cfg(test)]
-mod bounds;
 #[cfg(test)]
 mod dumps;
 #[cfg(test)]
