@@ -1,6 +1,7 @@
 pub mod OffsetWord
 pub mod DumpText
 pub mod Words
+pub mod BoundText
 pub mod Written
 pub mod Taken
 pub mod Lines

@@ -6,6 +6,7 @@
 
 pub mod accept;
 pub mod ask;
+pub mod bound;
 pub mod dump;
 pub mod first;
 pub mod lines;

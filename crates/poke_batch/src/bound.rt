@@ -1,0 +1,45 @@
+//! The text of the bounds of a mapping.
+ghost use Rattle.std.specs.Prelude.{OnOk, OnErr};
+ghost use Rattle.std.specs.Io.KnownBytes.{Appends};
+ghost use Rattle.poke_batch.specs.Written.{AppendsPart};
+ghost use Rattle.poke_batch.specs.BoundText.{bound_line, bound_number, bound_text};
+
+use crate::write::{WriteFault, put};
+use itoa::Buffer;
+use std::io::Write;
+
+/// Writes the most steps and slots that a mapping takes, a line each. None is a bound of 2^128 or more.
+#[tactic(auto, using(crate::proofs::Parts::written))]
+pub fn put_bounds<W: Write>(
+    w: &mut W,
+    steps: Option<u128>,
+    slots: Option<u128>,
+) -> Result<(), WriteFault>
+    ensures ok { OnOk result (Appends (W.contents w.old) (W.contents w.new) (bound_text steps slots)) }
+    ensures err { OnErr result (AppendsPart (W.contents w.old) (W.contents w.new) (bound_text steps slots)) }
+{
+    put_line(w, b"steps ", steps)?;
+    put_line(w, b"slots ", slots)?;
+    Ok(())
+}
+
+#[tactic(auto, using(crate::proofs::Parts::written), unfolding(crate::specs::BoundText::bound_line))]
+fn put_line<W: Write>(w: &mut W, name: &[u8], bound: Option<u128>) -> Result<(), WriteFault>
+    ensures ok { OnOk result (Appends (W.contents w.old) (W.contents w.new) (bound_line name.now bound)) }
+    ensures err { OnErr result (AppendsPart (W.contents w.old) (W.contents w.new) (bound_line name.now bound)) }
+{
+    put(w, name)?;
+    put_bound(w, bound)?;
+    put(w, b"\n")?;
+    Ok(())
+}
+
+fn put_bound<W: Write>(w: &mut W, bound: Option<u128>) -> Result<(), WriteFault>
+    ensures ok { OnOk result (Appends (W.contents w.old) (W.contents w.new) (bound_number bound)) }
+    ensures err { OnErr result (AppendsPart (W.contents w.old) (W.contents w.new) (bound_number bound)) }
+{
+    match bound {
+        Some(number) => put(w, Buffer::new().format(number).as_bytes()),
+        None => put(w, b"more than 2^128-1"),
+    }
+}

@@ -1,0 +1,24 @@
+use poke_batch::bound::put_bounds;
+use std::test::Fail;
+
+#[test]
+fn tells_bounds(rt: HostRuntime) -> Result<(), Fail> {
+    for (steps, slots, text) in [
+        (Some(33), Some(21), b"steps 33\nslots 21\n".as_slice()),
+        (
+            Some(u128::MAX),
+            Some(0),
+            b"steps 340282366920938463463374607431768211455\nslots 0\n",
+        ),
+        (
+            None,
+            None,
+            b"steps more than 2^128-1\nslots more than 2^128-1\n",
+        ),
+    ] {
+        let mut out = Vec::new(rt.alloc());
+        put_bounds(&mut out, steps, slots)?;
+        assert_eq!(rt; out.as_slice(), text);
+    }
+    Ok(())
+}
