@@ -10,4 +10,6 @@ pub mod names;
 pub mod predeclared;
 pub mod scopes;
 pub mod table;
+#[cfg(test)]
+mod tests;
 pub mod type_table;
