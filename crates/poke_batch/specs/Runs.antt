@@ -1,9 +1,10 @@
 -- What a run has to say of a pickle.
-use Rattle.std.specs.Prelude.{◌≡◌, ◌%◌, ◌^◌, ◌<◌, ◌≤◌, ℕ, List, [], ◌∷◌, ◌++◌, Some, None, Result, Ok, Err, length, codes, decimal, nat_lt, if◌then◌else◌}
+use Rattle.std.specs.Prelude.{◌≡◌, ◌%◌, ◌<◌, ◌≤◌, ℕ, List, [], ◌∷◌, ◌++◌, Option, Some, None, Result, Ok, Err, length, codes, decimal}
 use Rattle.pickle_syntax.specs.Tree.{DeclarationTree}
 use Rattle.pickle_types.specs.Types.{PokeType}
 use Rattle.pickle_types.specs.Names.{Names, find_type}
-use Rattle.pickle_types.specs.Bounds.{cost, room}
+use Rattle.pickle_types.specs.Bounds.{cost, room, IsBound}
+use Rattle.poke_batch.specs.BoundText.{bound_text}
 use Rattle.poke_batch.specs.declared.accept.Refusal.{Refusal}
 use Rattle.poke_batch.specs.Accepted.{IsAccepted, Refuses, refusal_saying}
 use Rattle.bit_space.specs.declared.order.Order.{Order}
@@ -25,18 +26,10 @@ pub data ChecksAs (pickle : List ℕ) : Saying → Type 0 where
   accepted : {declarations : List DeclarationTree} {types : Names} → IsAccepted pickle declarations types → ChecksAs pickle (Text (types_text (length declarations)))
   refused : {refusal : Refusal} → Refuses pickle refusal → ChecksAs pickle (refusal_saying refusal)
 
--- a bound, or that it is too great to be told
-abbrev pub bound_text : ℕ → List ℕ
-bound_text n = (if nat_lt n (2 ^ 128) then decimal n else codes "more than 2^128-1") ++ 10 ∷ []
-
--- the most steps and slots
-abbrev pub bounds_text : (steps slots : ℕ) → List ℕ
-bounds_text steps slots = codes "steps " ++ (bound_text steps ++ (codes "slots " ++ bound_text slots))
-
 -- what is to be said of the bounds of a type of a pickle, over so many bits
 pub data BoundsAs (pickle name : List ℕ) (bits : ℕ) : Saying → Type 0 where
-  bounds : {declarations : List DeclarationTree} {types : Names} {type : PokeType} → IsAccepted pickle declarations types → find_type name types ≡ Some type
-      → BoundsAs pickle name bits (Text (bounds_text (cost type bits) (room type bits)))
+  bounds : {declarations : List DeclarationTree} {types : Names} {type : PokeType} {steps slots : Option ℕ} → IsAccepted pickle declarations types → find_type name types ≡ Some type
+      → IsBound steps (cost type bits) → IsBound slots (room type bits) → BoundsAs pickle name bits (Text (bound_text steps slots))
   no_such_type : {declarations : List DeclarationTree} {types : Names} → IsAccepted pickle declarations types → find_type name types ≡ None
       → BoundsAs pickle name bits (Line Refused (refused_line (codes "NoSuchType")))
   refused_bounds : {refusal : Refusal} → Refuses pickle refusal → BoundsAs pickle name bits (refusal_saying refusal)

@@ -4,13 +4,13 @@ ghost use Rattle.std.specs.Prelude.{◌≡◌, ℕ, ◌%◌, List, OnOk, OnErr};
 ghost use Rattle.poke_batch.specs.First.Declared.{Declares};
 ghost use Rattle.poke_batch.specs.First.View.{name_of, members_of};
 ghost use Rattle.poke_batch.specs.Told.{Says};
-ghost use Rattle.poke_batch.specs.Runs.{ChecksAs, BoundsAs, MapsAs, types_text, bound_text, bounds_text};
+ghost use Rattle.poke_batch.specs.Runs.{ChecksAs, BoundsAs, MapsAs, types_text};
 ghost use Rattle.poke_batch.specs.Written.{AppendsPart};
 ghost use Rattle.std.specs.Io.KnownBytes.{Appends};
-ghost use Rattle.pickle_types.specs.Bounds.{IsBound};
 
 use crate::accept::{accept, tell_refusal};
 use crate::ask::Ask;
+use crate::bound::put_bounds;
 use crate::lines::put_number;
 use crate::first::map::{FirstFault, map_first};
 use crate::first::text::put_value;
@@ -72,29 +72,6 @@ pub fn run_bound<O: Write, E: Write>(
             answer(put_bounds(out, steps, slots), err)
         }
         None => refuse(err, b"NoSuchType"),
-    }
-}
-
-/// Writes the most steps and slots.
-fn put_bounds<W: Write>(w: &mut W, steps: Option<u128>, slots: Option<u128>) -> Result<(), WriteFault>
-    ensures ok { (m n : ℕ) → IsBound steps m → IsBound slots n → OnOk result (Appends (W.contents w.old) (W.contents w.new) (bounds_text m n)) }
-    ensures err { (m n : ℕ) → IsBound steps m → IsBound slots n → OnErr result (AppendsPart (W.contents w.old) (W.contents w.new) (bounds_text m n)) }
-{
-    put(w, b"steps ")?;
-    put_bound(w, steps)?;
-    put(w, b"slots ")?;
-    put_bound(w, slots)?;
-    Ok(())
-}
-
-/// Writes a bound, or that it is too great to be told.
-fn put_bound<W: Write>(w: &mut W, bound: Option<u128>) -> Result<(), WriteFault>
-    ensures ok { (n : ℕ) → IsBound bound n → OnOk result (Appends (W.contents w.old) (W.contents w.new) (bound_text n)) }
-    ensures err { (n : ℕ) → IsBound bound n → OnErr result (AppendsPart (W.contents w.old) (W.contents w.new) (bound_text n)) }
-{
-    match bound {
-        Some(n) => put_number(w, n, b"\n"),
-        None => put(w, b"more than 2^128-1\n"),
     }
 }
 
