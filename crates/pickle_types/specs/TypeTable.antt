@@ -38,7 +38,7 @@ pub record IsSound (t : Table) : Type 0 where
 -- what was found is the type of that name, where there is one
 abbrev pub IsTypeFound : Table → Option TypeId → Option PokeType → Type 0
 IsTypeFound t None found = found ≡ None
-IsTypeFound t (Some id) found = (found ≡ Some (type_named t id)) × IsInTable t id
+IsTypeFound t (Some id) found = found ≡ Some (type_named t id)
 
 -- the declarations are well typed after the predeclared types
 abbrev pub IsWellTyped : List DeclarationTree → Type 0

@@ -1,6 +1,6 @@
 //! The types of a pickle, found by their names.
 
-ghost use Rattle.std.specs.Prelude.{◌≡◌, ◌≢◌, ◌+◌, ◌<◌, ◌≤◌, ℕ, List, [], ◌∷◌, ◌++◌, length, map, None, Ok, IfOk, IfErr, OnOk, IsTrue, ◌↔◌};
+ghost use Rattle.std.specs.Prelude.{◌≡◌, ◌≢◌, ◌+◌, ◌<◌, ◌≤◌, ℕ, List, [], ◌∷◌, ◌++◌, length, map, None, Ok, IfOk, IfErr, IfSome, OnOk, IsTrue, ◌↔◌};
 ghost use Rattle.pickle_syntax.specs.Tree.{declaration_tree, pickle_tree};
 ghost use Rattle.pickle_types.specs.Types;
 ghost use Rattle.pickle_types.specs.Types.{IntegerOf};
@@ -181,8 +181,8 @@ impl Table {
 
     /// The type of a declared or predeclared name.
     pub fn find(&self, name: &[u8]) -> Option<TypeId>
-        requires sound { IsSound self.now }
-        ensures { IsTypeFound self.now result (find_type name.now (types_of self.now)) }
+        ensures found { IsTypeFound self.now result (find_type name.now (types_of self.now)) }
+        ensures inside { IsSound self.now → IfSome result (IsInTable self.now) }
     {
         match find_name(&self.names, name) {
             Some(declared) => Some(TypeId {
