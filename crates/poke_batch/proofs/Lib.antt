@@ -7,5 +7,6 @@ pub mod Tokens
 pub mod Declarations
 pub mod Outcomes
 pub mod Texts
+pub mod Refusing
 pub mod Sayings
 mod Rows

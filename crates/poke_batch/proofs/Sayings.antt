@@ -1,5 +1,5 @@
 -- Laws of what a run says.
-use Rattle.std.proofs.Common.{◌≡◌, ◌%◌, ◌<◌, sym, subst, arith, ℕ, List, Option, Result, Ok, Err, inl, inr}
+use Rattle.std.proofs.Common.{◌≡◌, ◌%◌, ◌<◌, ◌∙◌, length, sym, subst, arith, ℕ, List, Option, Result, Ok, Err, inl, inr}
 use Rattle.std.specs.Prelude.{OnOk, OnErr, codes}
 use Rattle.std.specs.Io.KnownBytes.{Appends, Keeps}
 use Rattle.std.proofs.KnownBytes.{Keeps-refl}
@@ -10,8 +10,11 @@ use Rattle.poke_batch.specs.Lines.{fault_line}
 use Rattle.poke_batch.specs.Written.{AppendsPart}
 use Rattle.poke_batch.specs.First.Declared.{Member, Declares}
 use Rattle.poke_batch.specs.First.Outcome.{Outcome, Completes, RunsOut}
-use Rattle.poke_batch.specs.Runs.{IsAsked, IsWithin}
-use Rattle.poke_batch.specs.Told.{Saying, Text, Line, IsTold, Says, AppendsUpTo}
+use Rattle.pickle_syntax.specs.Tree.{DeclarationTree}
+use Rattle.pickle_types.specs.Names.{Names}
+use Rattle.poke_batch.specs.Accepted.{IsAccepted}
+use Rattle.poke_batch.specs.Runs.{ChecksAs, accepted, types_text, IsAsked, IsWithin}
+use Rattle.poke_batch.specs.Told.{Saying, Text, Line, IsTold, IsSaid, Says, AppendsUpTo}
 
 -- a run that told a line
 pub line_says : (IsRight : Saying → Type 0) (line_status : Status) (line : List ℕ) (status : Status) (out err err' : Option (List ℕ))
@@ -25,6 +28,15 @@ pub text_says : (IsRight : Saying → Type 0) (text : List ℕ) (status : Status
     → Says IsRight status out out' err err'
 text_says IsRight text status out out' err err' (Ok u) right whole part done failed = record { saying = Text text; right = right; said = inl (done.0, whole, done.1) }
 text_says IsRight text status out out' err err' (Err e) right whole part done failed = record { saying = Text text; right = right; said = inr (failed.0, part, failed.1) }
+
+-- what is right, and said
+pub said_says : (IsRight : Saying → Type 0) (saying : Saying) (status : Status) (out out' err err' : Option (List ℕ))
+    → IsRight saying → IsSaid saying status out out' err err' → Says IsRight status out out' err err'
+said_says IsRight saying status out out' err err' right said = record { saying = saying; right = right; said = said }
+
+-- the text of a count is the text of the declarations counted
+pub counted : {pickle : List ℕ} {declarations : List DeclarationTree} {types : Names} {count answer : ℕ} → IsAccepted pickle declarations types → count ≡ length declarations → answer ≡ count → ChecksAs pickle (Text (types_text answer))
+counted {pickle} a e e' = subst (λ n. ChecksAs pickle (Text (types_text n))) (sym (e' ∙ e)) (accepted a)
 
 pub asked : {pickle name declared : List ℕ} {members : List Member} {start : ℕ} → name ≡ declared → Declares pickle declared members → start % 8 ≡ 0 → IsAsked pickle name members start
 asked {pickle} {name} {declared} {members} {start} e d whole = record { declared = subst (λ n. Declares pickle n members) (sym e) d; bytes = whole }

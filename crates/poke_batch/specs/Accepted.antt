@@ -22,7 +22,7 @@ pub record HasSyntax (pickle : List ℕ) (declarations : List DeclarationTree) :
   pub tokens : List Token
   pub spans : List (ℕ × ℕ)
   pub cut : lexed pickle ≡ Ok (tokens, spans)
-  pub pickle : IsPickleOf tokens declarations
+  pub parsed : IsPickleOf tokens declarations
 
 -- the place of the first byte of a token, or the pickle's length behind the last token
 abbrev pub start_in : Option (ℕ × ℕ) → ℕ → ℕ
@@ -36,13 +36,13 @@ place_of spans token count = start_in (slice_get spans token) count
 pub record IsNoPickle (pickle : List ℕ) (spans : List (ℕ × ℕ)) (count : ℕ) : Type 0 where
   pub tokens : List Token
   pub cut : lexed pickle ≡ Ok (tokens, spans)
-  pub count : length tokens ≡ count
+  pub counted : length tokens ≡ count
   pub none : IsPickle tokens → ⊥
 
 -- the bytes are a pickle that declares types
 pub record IsAccepted (pickle : List ℕ) (declarations : List DeclarationTree) (types : Names) : Type 0 where
   pub syntax : HasSyntax pickle declarations
-  pub types : Declares predeclared declarations types
+  pub declares : Declares predeclared declarations types
 
 -- why the bytes are no pickle, or its types not well formed; want of memory says nothing of them
 pub data Refuses (pickle : List ℕ) : Refusal → Type 0 where

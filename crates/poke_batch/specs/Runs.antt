@@ -4,7 +4,7 @@ use Rattle.pickle_syntax.specs.Tree.{DeclarationTree}
 use Rattle.pickle_types.specs.Types.{PokeType}
 use Rattle.pickle_types.specs.Names.{Names, find_type}
 use Rattle.pickle_types.specs.Bounds.{cost, room, IsBound}
-use Rattle.poke_batch.specs.BoundText.{bound_text}
+use Rattle.poke_batch.specs.BoundText.{bound_line, bound_text}
 use Rattle.poke_batch.specs.declared.accept.Refusal.{Refusal}
 use Rattle.poke_batch.specs.Accepted.{IsAccepted, Refuses, refusal_saying}
 use Rattle.bit_space.specs.declared.order.Order.{Order}
@@ -19,7 +19,7 @@ use Rattle.poke_batch.specs.First.Text.{value_text}
 
 -- how many types are declared
 abbrev pub types_text : ℕ → List ℕ
-types_text n = codes "types " ++ (decimal n ++ 10 ∷ [])
+types_text n = bound_line (codes "types ") (Some n)
 
 -- what a check has to say: how many types an accepted pickle declares, or why it is refused
 pub data ChecksAs (pickle : List ℕ) : Saying → Type 0 where
@@ -28,7 +28,7 @@ pub data ChecksAs (pickle : List ℕ) : Saying → Type 0 where
 
 -- what is to be said of the bounds of a type of a pickle, over so many bits
 pub data BoundsAs (pickle name : List ℕ) (bits : ℕ) : Saying → Type 0 where
-  bounds : {declarations : List DeclarationTree} {types : Names} {type : PokeType} {steps slots : Option ℕ} → IsAccepted pickle declarations types → find_type name types ≡ Some type
+  bounds : {declarations : List DeclarationTree} {types : Names} {type : PokeType} (steps slots : Option ℕ) → IsAccepted pickle declarations types → find_type name types ≡ Some type
       → IsBound steps (cost type bits) → IsBound slots (room type bits) → BoundsAs pickle name bits (Text (bound_text steps slots))
   no_such_type : {declarations : List DeclarationTree} {types : Names} → IsAccepted pickle declarations types → find_type name types ≡ None
       → BoundsAs pickle name bits (Line Refused (refused_line (codes "NoSuchType")))

@@ -1,8 +1,11 @@
 //! Whether bytes are a pickle whose types are well formed, and the lines that refuse them.
 
 ghost use Rattle.std.specs.Prelude.{◌≡◌, ◌≢◌, ℕ, List, Option, length, IfOk, IfErr};
+ghost use Rattle.pickle_syntax.specs.Bytes as lexing;
+ghost use Rattle.pickle_syntax.specs.Lexing.{lexed};
+ghost use Rattle.pickle_types.specs.declared.fault.FaultKind.TheVariants as types;
 ghost use Rattle.pickle_syntax.specs.Tree.{DeclarationTree, pickle_tree};
-ghost use Rattle.pickle_types.specs.TypeTable.{types_of, count_of, IsSound};
+ghost use Rattle.pickle_types.specs.TypeTable.{types_of, count_of, IsSound, IsWellTyped};
 ghost use Rattle.poke_batch.specs.Accepted.{HasSyntax, IsAccepted, Refuses, refusal_saying, place_of, lex_kind, type_kind};
 ghost use Rattle.poke_batch.specs.Told.{IsSaid};
 
@@ -36,8 +39,7 @@ pub fn read_syntax(alloc: Global, pickle: &[u8]) -> Result<Pickle, Refusal>
 {
     let tokens = match lex(alloc, pickle) {
         Ok(tokens) => tokens,
-        Err(LexFault { kind: LexFaultKind::Memory, .. }) => return Err(Refusal::Memory),
-        Err(LexFault { kind, at }) => return Err(Refusal::Tokens(kind, at)),
+        Err(fault) => return Err(no_tokens(fault)),
     };
     match parse(alloc, &tokens) {
         Ok(pickle) => Ok(pickle),
@@ -57,8 +59,28 @@ pub fn accept(alloc: Global, pickle: &[u8]) -> Result<Table, Refusal>
     let tree = read_syntax(alloc, pickle)?;
     match Table::build(alloc, &tree) {
         Ok(table) => Ok(table),
-        Err(TypeFault { kind: FaultKind::Memory, .. }) => Err(Refusal::Memory),
-        Err(TypeFault { kind, decl }) => Err(Refusal::Types(kind, decl)),
+        Err(fault) => Err(ill_typed(fault)),
+    }
+}
+
+fn no_tokens(fault: LexFault) -> Refusal
+    ensures { (pickle : List ℕ) → lexing.Fails fault.kind fault.at (lexed pickle) → Refuses pickle result }
+{
+    if fault.kind == LexFaultKind::Memory {
+        Refusal::Memory
+    } else {
+        Refusal::Tokens(fault.kind, fault.at)
+    }
+}
+
+fn ill_typed(fault: TypeFault) -> Refusal
+    ensures { (pickle : List ℕ) (declarations : List DeclarationTree) → HasSyntax pickle declarations
+        → (fault.kind ≢ types.Memory → IsWellTyped declarations → ⊥) → Refuses pickle result }
+{
+    if fault.kind == FaultKind::Memory {
+        Refusal::Memory
+    } else {
+        Refusal::Types(fault.kind, fault.decl)
     }
 }
 

@@ -1,6 +1,9 @@
 //! The runs: from a pickle's bytes to a text or a line.
 
 ghost use Rattle.std.specs.Prelude.{◌≡◌, ℕ, ◌%◌, List, OnOk, OnErr};
+ghost use Rattle.pickle_syntax.specs.Tree.{DeclarationTree};
+ghost use Rattle.pickle_types.specs.Names.{Names};
+ghost use Rattle.poke_batch.specs.Accepted.{IsAccepted};
 ghost use Rattle.poke_batch.specs.First.Declared.{Declares};
 ghost use Rattle.poke_batch.specs.First.View.{name_of, members_of};
 ghost use Rattle.poke_batch.specs.Told.{Says};
@@ -10,14 +13,13 @@ ghost use Rattle.std.specs.Io.KnownBytes.{Appends};
 
 use crate::accept::{accept, tell_refusal};
 use crate::ask::Ask;
-use crate::bound::put_bounds;
-use crate::lines::put_number;
+use crate::bound::{put_bounds, put_line};
 use crate::first::map::{FirstFault, map_first};
 use crate::first::text::put_value;
 use crate::first::{First, ReadFault};
 use crate::status::Status;
 use crate::tell::{answer, fail, fault_at, refuse};
-use crate::write::{WriteFault, put};
+use crate::write::WriteFault;
 use bit_space::{Meter, Space};
 use std::alloc::Global;
 use std::io::Write;
@@ -39,14 +41,11 @@ pub fn run_check<O: Write, E: Write>(
 }
 
 /// Writes how many types are declared.
-#[tactic(auto, using(crate::proofs::Parts::written))]
 fn put_types<W: Write>(w: &mut W, count: usize) -> Result<(), WriteFault>
     ensures ok { OnOk result (Appends (W.contents w.old) (W.contents w.new) (types_text count)) }
     ensures err { OnErr result (AppendsPart (W.contents w.old) (W.contents w.new) (types_text count)) }
 {
-    put(w, b"types ")?;
-    put_number(w, count as u128, b"\n")?;
-    Ok(())
+    put_line(w, b"types ", Some(count as u128))
 }
 
 /// Tells the most steps and slots that a mapping of a type of a pickle over so many bits takes.
@@ -92,9 +91,24 @@ pub fn run_map<S: Space, O: Write, E: Write>(
         Ok(table) => table,
         Err(refusal) => return tell_refusal(err, refusal),
     };
-    if table.find(ask.name).is_none() {
-        return refuse(err, b"NoSuchType");
+    match table.find(ask.name) {
+        Some(_) => map_accepted(alloc, pickle, ask, space, out, err),
+        None => refuse(err, b"NoSuchType"),
     }
+}
+
+fn map_accepted<S: Space, O: Write, E: Write>(
+    alloc: Global,
+    pickle: &[u8],
+    ask: &Ask<'_>,
+    space: &mut S,
+    out: &mut O,
+    err: &mut E,
+) -> Status
+    ensures { (declarations : List DeclarationTree) (types : Names) → IsAccepted pickle.now declarations types
+        → Says (MapsAs pickle.now ask.now.name.now ask.now.order ask.now.start ask.now.limit (S.view space.old) (S.view space.new)) result
+        (O.contents out.old) (O.contents out.new) (E.contents err.old) (E.contents err.new) }
+{
     let first = match First::read(alloc, pickle) {
         Ok(first) => first,
         Err(ReadFault::NotYet) => return refuse(err, b"NotYet"),

@@ -1,15 +1,11 @@
-use Rattle.std.specs.Prelude.{codes}
-use Rattle.poke_batch.specs.declared.status.Status.TheVariants.{Refused, Outside}
-use Rattle.poke_batch.specs.Lines.{refused_line, fault_line}
-use Rattle.poke_batch.specs.Runs.{declared, not_yet, no_memory}
-use Rattle.poke_batch.proofs.Sayings.{line_says, text_says}
-use Rattle.poke_batch.proofs.run.run_check.Goals.{in-Ok, in-Err-NotYet, in-Err-Memory}
+use Rattle.std.proofs.Common.{sym, ap, subst}
+use Rattle.poke_batch.specs.Accepted.{refusal_saying}
+use Rattle.poke_batch.specs.Runs.{accepted, refused, types_text}
+use Rattle.poke_batch.proofs.Sayings.{said_says, text_says, counted}
 use Rattle.poke_batch.proofs.run.run_check.Goals as goal
 
-pub returns : goal.returns
-returns g c =
-    elim c.match-read.branch [
-      | in-Ok w ↦ rw (w.result-is, w.out-is, w.err-is) (text_says _ (codes "types 1\n") _ _ _ _ _ w.put.result (declared w.in-Ok.ensures) w.put.ensures.ok w.put.ensures.err w.answer.ensures.done w.answer.ensures.failed)
-      | in-Err-NotYet w ↦ rw (w.result-is, w.out-is, w.err-is) (line_says _ Refused (refused_line (codes "NotYet")) _ _ _ _ not_yet w.refuse.ensures)
-      | in-Err-Memory w ↦ rw (w.result-is, w.out-is, w.err-is) (line_says _ Outside (fault_line (codes "Memory")) _ _ _ _ no_memory w.fail.ensures)
-    ]
+pub returns-in-Ok : goal.returns-in-Ok
+returns-in-Ok g c = text_says _ (types_text c.len.result) _ _ _ _ _ c.put_types.result (counted c.in-Ok.ensures.ok.1 c.in-Ok.ensures.ok.2 c.len.ensures) c.put_types.ensures.ok c.put_types.ensures.err c.answer.ensures.done c.answer.ensures.failed
+
+pub returns-in-Err : goal.returns-in-Err
+returns-in-Err g c = said_says _ (refusal_saying c.in-Err.refusal) _ _ _ _ _ (refused c.in-Err.ensures.err) (c.tell_refusal.ensures _)
