@@ -1,7 +1,8 @@
 //! The words of the command line.
 mod commands;
 
-ghost use Rattle.std.specs.Prelude.{◌≡◌, [], codes, MatchResult};
+ghost use Rattle.std.specs.Prelude.{◌≡◌, ℕ, ◌*◌, ◌^◌, ◌≤◌, [], codes, MatchResult, IfOk, IfErr, OnErr};
+ghost use Rattle.poke_batch.specs.OffsetWord.{IsOffsetWord};
 ghost use Rattle.poke_batch.specs.Words.{IsCheckOf};
 ghost use Rattle.poke_batch.specs.declared.words.WordFault.TheVariants.{Memory};
 
@@ -122,7 +123,7 @@ fn read_command(alloc: Global, matches: &ArgMatches<'_>) -> Result<Job, WordFaul
 }
 
 fn read_map(alloc: Global, found: &ArgMatches<'_>) -> Result<Job, WordFault> {
-    let at = bits_of(found, "at")?;
+    let at = bits_of(found.get_str("at").unwrap_or(""))?;
     let order = match found.get_str("endian") {
         Some("little") => Order::Little,
         _ => Order::Big,
@@ -153,8 +154,8 @@ fn read_check(alloc: Global, found: &ArgMatches<'_>) -> Result<Job, WordFault> {
 }
 
 fn read_dump(alloc: Global, found: &ArgMatches<'_>) -> Result<Job, WordFault> {
-    let from = bytes_of(found, "from")?;
-    let size = bytes_of(found, "size")?;
+    let from = bytes_of(found.get_str("from").unwrap_or(""))?;
+    let size = bytes_of(found.get_str("size").unwrap_or(""))?;
     Ok(Job::Dump {
         from,
         size,
@@ -163,15 +164,24 @@ fn read_dump(alloc: Global, found: &ArgMatches<'_>) -> Result<Job, WordFault> {
     })
 }
 
-// The bits that an option's word names.
-fn bits_of(found: &ArgMatches<'_>, option: &str) -> Result<u64, WordFault> {
-    let word = found.get_str(option).unwrap_or("");
-    offset_word(word.as_bytes()).ok_or(WordFault::Offset)
+// The bits that a word names.
+fn bits_of(word: &str) -> Result<u64, WordFault>
+    ensures ok { IfOk result (IsOffsetWord word.now) }
+    ensures err { IfErr result (λ fault. fault ≡ WordFault.Offset) }
+    ensures refused { OnErr result ((bits : ℕ) → IsOffsetWord word.now bits → 2 ^ 64 ≤ bits) }
+{
+    match offset_word(word.as_bytes()) {
+        Some(bits) => Ok(bits),
+        None => Err(WordFault::Offset),
+    }
 }
 
-// The bytes that an option's word names, where they are whole.
-fn bytes_of(found: &ArgMatches<'_>, option: &str) -> Result<u64, WordFault> {
-    let bits = bits_of(found, option)?;
+// The bytes that a word names, where they are whole.
+fn bytes_of(word: &str) -> Result<u64, WordFault>
+    ensures ok { IfOk result (λ bytes. IsOffsetWord word.now (8 * bytes)) }
+    ensures err { IfErr result (λ fault. fault ≡ WordFault.Offset) }
+{
+    let bits = bits_of(word)?;
     if bits % 8 != 0 {
         return Err(WordFault::Offset);
     }
