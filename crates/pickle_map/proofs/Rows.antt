@@ -543,8 +543,8 @@ plus : Means (bits_of (251 ∷ [])) (StructOf (Some (84 ∷ [])) false (FieldThe
 unfolding bits_of binary number digits numeral_onto groups_from modulo with_sign converted is_signed_in brought prefixed shifted_left shifted_right on_common on_integers on_bits on_scaled on_texts combined to_integer to_offset in_unit divisor_within greatest_common_divisor and_operand evaluation constraint condition field_start extent_of then_ok from_inside constrained number_plan read_plan after_byte text_plan after_element elements_plan after_attempt plan least_width
 plus = plan_means (bits_of (251 ∷ [])) _ Big no_values 0
 
--- struct { byte a : a * 60UB == 44UB; }
-product_wraps : Means (bits_of (5 ∷ [])) (StructOf (Some (84 ∷ [])) false (FieldThen (Some (97 ∷ [])) None (IntegerOf (unsigned_type 8)) (Some (Between Equal (Between Multiply (Name 0 0) (Number (unsigned_type 8) 60)) (Number (unsigned_type 8) 44))) None None NoFields)) Big no_values 0 (Ok (Mapped (StructLabel (Some (84 ∷ [])) ((Some (97 ∷ [])) ∷ [])) 0 8 (MemberThen (Mapped (IntegerLabel (pos 5) (unsigned_type 8)) 0 8 NoMembers) NoMembers))) 8 2
+-- struct { byte a : a * 60UB == 44; }
+product_wraps : Means (bits_of (5 ∷ [])) (StructOf (Some (84 ∷ [])) false (FieldThen (Some (97 ∷ [])) None (IntegerOf (unsigned_type 8)) (Some (Between Equal (Between Multiply (Name 0 0) (Number (unsigned_type 8) 60)) (Number (signed_type 32) 44))) None None NoFields)) Big no_values 0 (Ok (Mapped (StructLabel (Some (84 ∷ [])) ((Some (97 ∷ [])) ∷ [])) 0 8 (MemberThen (Mapped (IntegerLabel (pos 5) (unsigned_type 8)) 0 8 NoMembers) NoMembers))) 8 2
 unfolding bits_of binary number digits numeral_onto groups_from modulo with_sign converted is_signed_in brought prefixed shifted_left shifted_right on_common on_integers on_bits on_scaled on_texts combined to_integer to_offset in_unit divisor_within greatest_common_divisor and_operand evaluation constraint condition field_start extent_of then_ok from_inside constrained number_plan read_plan after_byte text_plan after_element elements_plan after_attempt plan least_width
 product_wraps = plan_means (bits_of (5 ∷ [])) _ Big no_values 0
 
