@@ -631,6 +631,51 @@ pinned_absent : Means (bits_of (0 ∷ 2 ∷ [])) (StructOf (Some (84 ∷ [])) tr
 unfolding bits_of binary number digits numeral_onto groups_from modulo with_sign converted is_signed_in brought prefixed shifted_left shifted_right on_common on_integers on_bits on_scaled on_texts combined to_integer to_offset in_unit divisor_within greatest_common_divisor and_operand evaluation constraint condition field_start extent_of then_ok from_inside constrained number_plan read_plan after_byte text_plan after_element elements_plan after_attempt plan least_width
 pinned_absent = plan_means (bits_of (0 ∷ 2 ∷ [])) _ Big no_values 0
 
+-- struct { int<8> a : a - 1B == 0; }
+difference_overflows : Means (bits_of (128 ∷ [])) (StructOf (Some (84 ∷ [])) false (FieldThen (Some (97 ∷ [])) None (IntegerOf (signed_type 8)) (Some (Between Equal (Between Subtract (Name 0 0) (Number (signed_type 8) 1)) (Number (signed_type 32) 0))) None None NoFields)) Big no_values 0 (Err (fault.Overflow, 0)) 7 1
+unfolding bits_of binary number digits numeral_onto groups_from modulo with_sign converted is_signed_in brought prefixed shifted_left shifted_right on_common on_integers on_bits on_scaled on_texts combined to_integer to_offset in_unit divisor_within greatest_common_divisor and_operand evaluation constraint condition field_start extent_of then_ok from_inside constrained number_plan read_plan after_byte text_plan after_element elements_plan after_attempt plan least_width
+difference_overflows = plan_means (bits_of (128 ∷ [])) _ Big no_values 0
+
+-- struct { int<8> a : a / -1B == 0; }
+quotient_overflows : Means (bits_of (128 ∷ [])) (StructOf (Some (84 ∷ [])) false (FieldThen (Some (97 ∷ [])) None (IntegerOf (signed_type 8)) (Some (Between Equal (Between Divide (Name 0 0) (Before Minus (Number (signed_type 8) 1))) (Number (signed_type 32) 0))) None None NoFields)) Big no_values 0 (Err (fault.Overflow, 0)) 8 1
+unfolding bits_of binary number digits numeral_onto groups_from modulo with_sign converted is_signed_in brought prefixed shifted_left shifted_right on_common on_integers on_bits on_scaled on_texts combined to_integer to_offset in_unit divisor_within greatest_common_divisor and_operand evaluation constraint condition field_start extent_of then_ok from_inside constrained number_plan read_plan after_byte text_plan after_element elements_plan after_attempt plan least_width
+quotient_overflows = plan_means (bits_of (128 ∷ [])) _ Big no_values 0
+
+-- struct { byte a : 100B#B + 100B#B == 0#B; }
+offset_sum_overflows : Means (bits_of (0 ∷ [])) (StructOf (Some (84 ∷ [])) false (FieldThen (Some (97 ∷ [])) None (IntegerOf (unsigned_type 8)) (Some (Between Equal (Between Add (InUnit 8 (Number (signed_type 8) 100)) (InUnit 8 (Number (signed_type 8) 100))) (InUnit 8 (Number (signed_type 32) 0)))) None None NoFields)) Big no_values 0 (Err (fault.Overflow, 0)) 9 1
+unfolding bits_of binary number digits numeral_onto groups_from modulo with_sign converted is_signed_in brought prefixed shifted_left shifted_right on_common on_integers on_bits on_scaled on_texts combined to_integer to_offset in_unit divisor_within greatest_common_divisor and_operand evaluation constraint condition field_start extent_of then_ok from_inside constrained number_plan read_plan after_byte text_plan after_element elements_plan after_attempt plan least_width
+offset_sum_overflows = plan_means (bits_of (0 ∷ [])) _ Big no_values 0
+
+-- struct { byte a : 1UB#B - 2UB#B == 255#B; }
+offset_difference_wraps : Means (bits_of (0 ∷ [])) (StructOf (Some (84 ∷ [])) false (FieldThen (Some (97 ∷ [])) None (IntegerOf (unsigned_type 8)) (Some (Between Equal (Between Subtract (InUnit 8 (Number (unsigned_type 8) 1)) (InUnit 8 (Number (unsigned_type 8) 2))) (InUnit 8 (Number (signed_type 32) 255)))) None None NoFields)) Big no_values 0 (Ok (Mapped (StructLabel (Some (84 ∷ [])) ((Some (97 ∷ [])) ∷ [])) 0 8 (MemberThen (Mapped (IntegerLabel (pos 0) (unsigned_type 8)) 0 8 NoMembers) NoMembers))) 11 2
+unfolding bits_of binary number digits numeral_onto groups_from modulo with_sign converted is_signed_in brought prefixed shifted_left shifted_right on_common on_integers on_bits on_scaled on_texts combined to_integer to_offset in_unit divisor_within greatest_common_divisor and_operand evaluation constraint condition field_start extent_of then_ok from_inside constrained number_plan read_plan after_byte text_plan after_element elements_plan after_attempt plan least_width
+offset_difference_wraps = plan_means (bits_of (0 ∷ [])) _ Big no_values 0
+
+-- struct { byte a : a * 3UB#B == 44#B; }
+offset_product_wraps : Means (bits_of (100 ∷ [])) (StructOf (Some (84 ∷ [])) false (FieldThen (Some (97 ∷ [])) None (IntegerOf (unsigned_type 8)) (Some (Between Equal (Between Multiply (Name 0 0) (InUnit 8 (Number (unsigned_type 8) 3))) (InUnit 8 (Number (signed_type 32) 44)))) None None NoFields)) Big no_values 0 (Ok (Mapped (StructLabel (Some (84 ∷ [])) ((Some (97 ∷ [])) ∷ [])) 0 8 (MemberThen (Mapped (IntegerLabel (pos 100) (unsigned_type 8)) 0 8 NoMembers) NoMembers))) 10 2
+unfolding bits_of binary number digits numeral_onto groups_from modulo with_sign converted is_signed_in brought prefixed shifted_left shifted_right on_common on_integers on_bits on_scaled on_texts combined to_integer to_offset in_unit divisor_within greatest_common_divisor and_operand evaluation constraint condition field_start extent_of then_ok from_inside constrained number_plan read_plan after_byte text_plan after_element elements_plan after_attempt plan least_width
+offset_product_wraps = plan_means (bits_of (100 ∷ [])) _ Big no_values 0
+
+-- struct { byte a : 80B#8 % 7B#100 == 0#b; }
+offset_remainder_overflows : Means (bits_of (0 ∷ [])) (StructOf (Some (84 ∷ [])) false (FieldThen (Some (97 ∷ [])) None (IntegerOf (unsigned_type 8)) (Some (Between Equal (Between Remainder (InUnit 8 (Number (signed_type 8) 80)) (InUnit 100 (Number (signed_type 8) 7))) (InUnit 1 (Number (signed_type 32) 0)))) None None NoFields)) Big no_values 0 (Err (fault.Overflow, 0)) 9 1
+unfolding bits_of binary number digits numeral_onto groups_from modulo with_sign converted is_signed_in brought prefixed shifted_left shifted_right on_common on_integers on_bits on_scaled on_texts combined to_integer to_offset in_unit divisor_within greatest_common_divisor and_operand evaluation constraint condition field_start extent_of then_ok from_inside constrained number_plan read_plan after_byte text_plan after_element elements_plan after_attempt plan least_width
+offset_remainder_overflows = plan_means (bits_of (0 ∷ [])) _ Big no_values 0
+
+-- struct { byte a : -1UB#B == 255#B; }
+negated_offset_wraps : Means (bits_of (0 ∷ [])) (StructOf (Some (84 ∷ [])) false (FieldThen (Some (97 ∷ [])) None (IntegerOf (unsigned_type 8)) (Some (Between Equal (Before Minus (InUnit 8 (Number (unsigned_type 8) 1))) (InUnit 8 (Number (signed_type 32) 255)))) None None NoFields)) Big no_values 0 (Ok (Mapped (StructLabel (Some (84 ∷ [])) ((Some (97 ∷ [])) ∷ [])) 0 8 (MemberThen (Mapped (IntegerLabel (pos 0) (unsigned_type 8)) 0 8 NoMembers) NoMembers))) 9 2
+unfolding bits_of binary number digits numeral_onto groups_from modulo with_sign converted is_signed_in brought prefixed shifted_left shifted_right on_common on_integers on_bits on_scaled on_texts combined to_integer to_offset in_unit divisor_within greatest_common_divisor and_operand evaluation constraint condition field_start extent_of then_ok from_inside constrained number_plan read_plan after_byte text_plan after_element elements_plan after_attempt plan least_width
+negated_offset_wraps = plan_means (bits_of (0 ∷ [])) _ Big no_values 0
+
+-- struct { byte a : +1#B == 8#b; }
+plus_offset : Means (bits_of (0 ∷ [])) (StructOf (Some (84 ∷ [])) false (FieldThen (Some (97 ∷ [])) None (IntegerOf (unsigned_type 8)) (Some (Between Equal (Before Plus (InUnit 8 (Number (signed_type 32) 1))) (InUnit 1 (Number (signed_type 32) 8)))) None None NoFields)) Big no_values 0 (Ok (Mapped (StructLabel (Some (84 ∷ [])) ((Some (97 ∷ [])) ∷ [])) 0 8 (MemberThen (Mapped (IntegerLabel (pos 0) (unsigned_type 8)) 0 8 NoMembers) NoMembers))) 9 2
+unfolding bits_of binary number digits numeral_onto groups_from modulo with_sign converted is_signed_in brought prefixed shifted_left shifted_right on_common on_integers on_bits on_scaled on_texts combined to_integer to_offset in_unit divisor_within greatest_common_divisor and_operand evaluation constraint condition field_start extent_of then_ok from_inside constrained number_plan read_plan after_byte text_plan after_element elements_plan after_attempt plan least_width
+plus_offset = plan_means (bits_of (0 ∷ [])) _ Big no_values 0
+
+-- struct { byte a : (a == 1 ? -1 : 1U) > 0; }
+choice_converts : Means (bits_of (1 ∷ [])) (StructOf (Some (84 ∷ [])) false (FieldThen (Some (97 ∷ [])) None (IntegerOf (unsigned_type 8)) (Some (Between Greater (Bracket (Choice (Some (unsigned_type 32)) (Between Equal (Name 0 0) (Number (signed_type 32) 1)) (Before Minus (Number (signed_type 32) 1)) (Number (unsigned_type 32) 1))) (Number (signed_type 32) 0))) None None NoFields)) Big no_values 0 (Ok (Mapped (StructLabel (Some (84 ∷ [])) ((Some (97 ∷ [])) ∷ [])) 0 8 (MemberThen (Mapped (IntegerLabel (pos 1) (unsigned_type 8)) 0 8 NoMembers) NoMembers))) 12 2
+unfolding bits_of binary number digits numeral_onto groups_from modulo with_sign converted is_signed_in brought prefixed shifted_left shifted_right on_common on_integers on_bits on_scaled on_texts combined to_integer to_offset in_unit divisor_within greatest_common_divisor and_operand evaluation constraint condition field_start extent_of then_ok from_inside constrained number_plan read_plan after_byte text_plan after_element elements_plan after_attempt plan least_width
+choice_converts = plan_means (bits_of (1 ∷ [])) _ Big no_values 0
+
 -- a value that fits struct { byte a : a == 1; byte x if a == 2; }
 fits : Fits 8 (StructOf (Some (84 ∷ [])) false (FieldThen (Some (97 ∷ [])) None (IntegerOf (unsigned_type 8)) (Some (Between Equal (Name 0 0) (Number (signed_type 32) 1))) None None (FieldThen (Some (120 ∷ [])) None (IntegerOf (unsigned_type 8)) None None (Some (Between Equal (Name 0 0) (Number (signed_type 32) 2))) NoFields))) no_values 0 (Mapped (StructLabel (Some (84 ∷ [])) ((Some (97 ∷ [])) ∷ (Some (120 ∷ [])) ∷ [])) 0 8 (MemberThen (Mapped (IntegerLabel (pos 1) (unsigned_type 8)) 0 8 NoMembers) (AbsentThen NoMembers)))
 unfolding Fits FitsNumber modulo with_sign converted on_common on_integers combined and_operand evaluation constraint condition field_start
