@@ -676,6 +676,41 @@ choice_converts : Means (bits_of (1 ∷ [])) (StructOf (Some (84 ∷ [])) false 
 unfolding bits_of binary number digits numeral_onto groups_from modulo with_sign converted is_signed_in brought prefixed shifted_left shifted_right on_common on_integers on_bits on_scaled on_texts combined to_integer to_offset in_unit divisor_within greatest_common_divisor and_operand evaluation constraint condition field_start extent_of then_ok from_inside constrained number_plan read_plan after_byte text_plan after_element elements_plan after_attempt plan least_width
 choice_converts = plan_means (bits_of (1 ∷ [])) _ Big no_values 0
 
+-- struct { byte a : a >> 8 == 0; }
+wide_shift_right : Means (bits_of (2 ∷ [])) (StructOf (Some (84 ∷ [])) false (FieldThen (Some (97 ∷ [])) None (IntegerOf (unsigned_type 8)) (Some (Between Equal (Between ShiftRight (Name 0 0) (Number (signed_type 32) 8)) (Number (signed_type 32) 0))) None None NoFields)) Big no_values 0 (Err (fault.Index, 0)) 7 1
+unfolding bits_of binary number digits numeral_onto groups_from modulo with_sign converted is_signed_in brought prefixed shifted_left shifted_right on_common on_integers on_bits on_scaled on_texts combined to_integer to_offset in_unit divisor_within greatest_common_divisor and_operand evaluation constraint condition field_start extent_of then_ok from_inside constrained number_plan read_plan after_byte text_plan after_element elements_plan after_attempt plan least_width
+wide_shift_right = plan_means (bits_of (2 ∷ [])) _ Big no_values 0
+
+-- struct { byte a : a << 256; }
+great_count_left : Means (bits_of (2 ∷ [])) (StructOf (Some (84 ∷ [])) false (FieldThen (Some (97 ∷ [])) None (IntegerOf (unsigned_type 8)) (Some (Between ShiftLeft (Name 0 0) (Number (signed_type 32) 256))) None None NoFields)) Big no_values 0 (Err (fault.Index, 0)) 6 1
+unfolding bits_of binary number digits numeral_onto groups_from modulo with_sign converted is_signed_in brought prefixed shifted_left shifted_right on_common on_integers on_bits on_scaled on_texts combined to_integer to_offset in_unit divisor_within greatest_common_divisor and_operand evaluation constraint condition field_start extent_of then_ok from_inside constrained number_plan read_plan after_byte text_plan after_element elements_plan after_attempt plan least_width
+great_count_left = plan_means (bits_of (2 ∷ [])) _ Big no_values 0
+
+-- struct { byte a : a >> 256; }
+great_count_right : Means (bits_of (2 ∷ [])) (StructOf (Some (84 ∷ [])) false (FieldThen (Some (97 ∷ [])) None (IntegerOf (unsigned_type 8)) (Some (Between ShiftRight (Name 0 0) (Number (signed_type 32) 256))) None None NoFields)) Big no_values 0 (Err (fault.Index, 0)) 6 1
+unfolding bits_of binary number digits numeral_onto groups_from modulo with_sign converted is_signed_in brought prefixed shifted_left shifted_right on_common on_integers on_bits on_scaled on_texts combined to_integer to_offset in_unit divisor_within greatest_common_divisor and_operand evaluation constraint condition field_start extent_of then_ok from_inside constrained number_plan read_plan after_byte text_plan after_element elements_plan after_attempt plan least_width
+great_count_right = plan_means (bits_of (2 ∷ [])) _ Big no_values 0
+
+-- struct { byte a : (300#B as offset<uint<8>,B>) == 44#B; }
+conversion_to_offset_wraps : Means (bits_of (0 ∷ [])) (StructOf (Some (84 ∷ [])) false (FieldThen (Some (97 ∷ [])) None (IntegerOf (unsigned_type 8)) (Some (Between Equal (Bracket (ToOffset (unsigned_type 8) 8 (InUnit 8 (Number (signed_type 32) 300)))) (InUnit 8 (Number (signed_type 32) 44)))) None None NoFields)) Big no_values 0 (Ok (Mapped (StructLabel (Some (84 ∷ [])) ((Some (97 ∷ [])) ∷ [])) 0 8 (MemberThen (Mapped (IntegerLabel (pos 0) (unsigned_type 8)) 0 8 NoMembers) NoMembers))) 10 2
+unfolding bits_of binary number digits numeral_onto groups_from modulo with_sign converted is_signed_in brought prefixed shifted_left shifted_right on_common on_integers on_bits on_scaled on_texts combined to_integer to_offset in_unit divisor_within greatest_common_divisor and_operand evaluation constraint condition field_start extent_of then_ok from_inside constrained number_plan read_plan after_byte text_plan after_element elements_plan after_attempt plan least_width
+conversion_to_offset_wraps = plan_means (bits_of (0 ∷ [])) _ Big no_values 0
+
+-- struct { byte a : ~a == 240; }
+complement_converts : Means (bits_of (15 ∷ [])) (StructOf (Some (84 ∷ [])) false (FieldThen (Some (97 ∷ [])) None (IntegerOf (unsigned_type 8)) (Some (Between Equal (Before Complement (Name 0 0)) (Number (signed_type 32) 240))) None None NoFields)) Big no_values 0 (Ok (Mapped (StructLabel (Some (84 ∷ [])) ((Some (97 ∷ [])) ∷ [])) 0 8 (MemberThen (Mapped (IntegerLabel (pos 15) (unsigned_type 8)) 0 8 NoMembers) NoMembers))) 7 2
+unfolding bits_of binary number digits numeral_onto groups_from modulo with_sign converted is_signed_in brought prefixed shifted_left shifted_right on_common on_integers on_bits on_scaled on_texts combined to_integer to_offset in_unit divisor_within greatest_common_divisor and_operand evaluation constraint condition field_start extent_of then_ok from_inside constrained number_plan read_plan after_byte text_plan after_element elements_plan after_attempt plan least_width
+complement_converts = plan_means (bits_of (15 ∷ [])) _ Big no_values 0
+
+-- struct { byte[2] xs : xs'length - 3 > 4294967295L; }
+length_is_unsigned : Means (bits_of (0 ∷ 0 ∷ [])) (StructOf (Some (84 ∷ [])) false (FieldThen (Some (120 ∷ 115 ∷ [])) None (ArrayOf (IntegerOf (unsigned_type 8)) (ByCount (Number (signed_type 32) 2))) (Some (Between Greater (Between Subtract (AttributeOf Length (Name 0 0)) (Number (signed_type 32) 3)) (Number (signed_type 64) 4294967295))) None None NoFields)) Big no_values 0 (Ok (Mapped (StructLabel (Some (84 ∷ [])) ((Some (120 ∷ 115 ∷ [])) ∷ [])) 0 16 (MemberThen (Mapped ArrayLabel 0 16 (MemberThen (Mapped (IntegerLabel (pos 0) (unsigned_type 8)) 0 8 NoMembers) (MemberThen (Mapped (IntegerLabel (pos 0) (unsigned_type 8)) 8 16 NoMembers) NoMembers))) NoMembers))) 14 4
+unfolding bits_of binary number digits numeral_onto groups_from modulo with_sign converted is_signed_in brought prefixed shifted_left shifted_right on_common on_integers on_bits on_scaled on_texts combined to_integer to_offset in_unit divisor_within greatest_common_divisor and_operand evaluation constraint condition field_start extent_of then_ok from_inside constrained number_plan read_plan after_byte text_plan after_element elements_plan after_attempt plan least_width
+length_is_unsigned = plan_means (bits_of (0 ∷ 0 ∷ [])) _ Big no_values 0
+
+-- struct { byte a : a'size - 9#b > 4294967295L#b; }
+size_is_unsigned : Means (bits_of (0 ∷ [])) (StructOf (Some (84 ∷ [])) false (FieldThen (Some (97 ∷ [])) None (IntegerOf (unsigned_type 8)) (Some (Between Greater (Between Subtract (AttributeOf Size (Name 0 0)) (InUnit 1 (Number (signed_type 32) 9))) (InUnit 1 (Number (signed_type 64) 4294967295)))) None None NoFields)) Big no_values 0 (Ok (Mapped (StructLabel (Some (84 ∷ [])) ((Some (97 ∷ [])) ∷ [])) 0 8 (MemberThen (Mapped (IntegerLabel (pos 0) (unsigned_type 8)) 0 8 NoMembers) NoMembers))) 11 2
+unfolding bits_of binary number digits numeral_onto groups_from modulo with_sign converted is_signed_in brought prefixed shifted_left shifted_right on_common on_integers on_bits on_scaled on_texts combined to_integer to_offset in_unit divisor_within greatest_common_divisor and_operand evaluation constraint condition field_start extent_of then_ok from_inside constrained number_plan read_plan after_byte text_plan after_element elements_plan after_attempt plan least_width
+size_is_unsigned = plan_means (bits_of (0 ∷ [])) _ Big no_values 0
+
 -- a value that fits struct { byte a : a == 1; byte x if a == 2; }
 fits : Fits 8 (StructOf (Some (84 ∷ [])) false (FieldThen (Some (97 ∷ [])) None (IntegerOf (unsigned_type 8)) (Some (Between Equal (Name 0 0) (Number (signed_type 32) 1))) None None (FieldThen (Some (120 ∷ [])) None (IntegerOf (unsigned_type 8)) None None (Some (Between Equal (Name 0 0) (Number (signed_type 32) 2))) NoFields))) no_values 0 (Mapped (StructLabel (Some (84 ∷ [])) ((Some (97 ∷ [])) ∷ (Some (120 ∷ [])) ∷ [])) 0 8 (MemberThen (Mapped (IntegerLabel (pos 1) (unsigned_type 8)) 0 8 NoMembers) (AbsentThen NoMembers)))
 unfolding Fits FitsNumber modulo with_sign converted on_common on_integers combined and_operand evaluation constraint condition field_start
