@@ -1,12 +1,12 @@
 -- Worked rows, computed by the definitions: what a type means on the bits of some bytes, its steps and the values made.
-use Rattle.std.proofs.Common.{◌≡◌, true, false, [], ◌∷◌, Some, None, Ok, Err, refl, arith}
+use Rattle.std.proofs.Common.{◌≡◌, true, false, [], ◌∷◌, Some, None, Ok, Err, refl, inl, inr, arith}
 use Rattle.std.specs.Prelude.{pos, negsuc}
 use Rattle.bit_space.specs.declared.order.Order.TheVariants.{Big, Little}
 use Rattle.bit_space.specs.Bits.{bits_of, binary, number, digits, numeral_onto, groups_from}
 use Rattle.pickle_syntax.specs.declared.token.Attribute.TheVariants.{Length, Size}
 use Rattle.pickle_syntax.specs.declared.tree.ByteOrder.TheVariants as prefix
-use Rattle.pickle_syntax.specs.declared.tree.Prefix.TheVariants.{Minus, Complement, Not}
-use Rattle.pickle_syntax.specs.declared.tree.Infix.TheVariants.{LogicalOr, LogicalAnd, BitOr, BitXor, BitAnd, Equal, NotEqual, Less, Greater, ShiftLeft, ShiftRight, Add, Subtract, Multiply, Divide, Remainder}
+use Rattle.pickle_syntax.specs.declared.tree.Prefix.TheVariants.{Plus, Minus, Complement, Not}
+use Rattle.pickle_syntax.specs.declared.tree.Infix.TheVariants.{LogicalOr, LogicalAnd, BitOr, BitXor, BitAnd, Equal, NotEqual, Less, LessEqual, Greater, GreaterEqual, ShiftLeft, ShiftRight, Add, Subtract, Multiply, Divide, Remainder}
 use Rattle.pickle_types.specs.Types.{Number, Text, Name, Bracket, Before, Between, Choice, Index, Select, AttributeOf, ToInteger, ToOffset, InUnit, Unbounded, ByCount, BySize, IntegerOf, OffsetOf, StringOf, ArrayOf, StructOf, IntegralOf, UnionOf, NoFields, FieldThen, NoParts, PartThen}
 use Rattle.pickle_types.specs.Bounds.{least_width, cost, room}
 use Rattle.pickle_map.specs.declared.faults.MapFaultKind.TheVariants as fault
@@ -17,6 +17,7 @@ use Rattle.pickle_map.specs.Clauses.{constraint, condition, field_start, extent_
 use Rattle.pickle_map.specs.Means.{Means}
 use Rattle.pickle_map.specs.Plan.{then_ok}
 use Rattle.pickle_map.specs.Answer.{Answer, in_time, too_long}
+use Rattle.pickle_map.specs.Fits.{Fits, FitsNumber}
 use Rattle.pickle_map.specs.Mapping.{from_inside, constrained, number_plan, read_plan, after_byte, text_plan, after_element, elements_plan, after_attempt, plan}
 use Rattle.pickle_map.proofs.Exists.{plan_means}
 
@@ -521,6 +522,199 @@ big_in_little_run = plan_means (bits_of (52 ∷ 18 ∷ [])) _ Little no_values 0
 unit_of_sum : Means (bits_of (0 ∷ [])) (StructOf (Some (84 ∷ [])) false (FieldThen (Some (97 ∷ [])) None (IntegerOf (unsigned_type 8)) (Some (Between Equal (Between Add (InUnit 8 (Number (signed_type 8) 100)) (InUnit 8 (Number (signed_type 8) 0))) (InUnit 1 (Number (signed_type 32) 800)))) None None NoFields)) Big no_values 0 (Ok (Mapped (StructLabel (Some (84 ∷ [])) ((Some (97 ∷ [])) ∷ [])) 0 8 (MemberThen (Mapped (IntegerLabel (pos 0) (unsigned_type 8)) 0 8 NoMembers) NoMembers))) 11 2
 unfolding bits_of binary number digits numeral_onto groups_from modulo with_sign converted is_signed_in brought prefixed shifted_left shifted_right on_common on_integers on_bits on_scaled on_texts combined to_integer to_offset in_unit divisor_within greatest_common_divisor and_operand evaluation constraint condition field_start extent_of then_ok from_inside constrained number_plan read_plan after_byte text_plan after_element elements_plan after_attempt plan least_width
 unit_of_sum = plan_means (bits_of (0 ∷ [])) _ Big no_values 0
+
+-- struct { byte a : a <= 5 && !(a <= 4); }
+at_most : Means (bits_of (5 ∷ [])) (StructOf (Some (84 ∷ [])) false (FieldThen (Some (97 ∷ [])) None (IntegerOf (unsigned_type 8)) (Some (Between LogicalAnd (Between LessEqual (Name 0 0) (Number (signed_type 32) 5)) (Before Not (Bracket (Between LessEqual (Name 0 0) (Number (signed_type 32) 4)))))) None None NoFields)) Big no_values 0 (Ok (Mapped (StructLabel (Some (84 ∷ [])) ((Some (97 ∷ [])) ∷ [])) 0 8 (MemberThen (Mapped (IntegerLabel (pos 5) (unsigned_type 8)) 0 8 NoMembers) NoMembers))) 12 2
+unfolding bits_of binary number digits numeral_onto groups_from modulo with_sign converted is_signed_in brought prefixed shifted_left shifted_right on_common on_integers on_bits on_scaled on_texts combined to_integer to_offset in_unit divisor_within greatest_common_divisor and_operand evaluation constraint condition field_start extent_of then_ok from_inside constrained number_plan read_plan after_byte text_plan after_element elements_plan after_attempt plan least_width
+at_most = plan_means (bits_of (5 ∷ [])) _ Big no_values 0
+
+-- struct { byte a : a >= 5 && !(a >= 6); }
+at_least : Means (bits_of (5 ∷ [])) (StructOf (Some (84 ∷ [])) false (FieldThen (Some (97 ∷ [])) None (IntegerOf (unsigned_type 8)) (Some (Between LogicalAnd (Between GreaterEqual (Name 0 0) (Number (signed_type 32) 5)) (Before Not (Bracket (Between GreaterEqual (Name 0 0) (Number (signed_type 32) 6)))))) None None NoFields)) Big no_values 0 (Ok (Mapped (StructLabel (Some (84 ∷ [])) ((Some (97 ∷ [])) ∷ [])) 0 8 (MemberThen (Mapped (IntegerLabel (pos 5) (unsigned_type 8)) 0 8 NoMembers) NoMembers))) 12 2
+unfolding bits_of binary number digits numeral_onto groups_from modulo with_sign converted is_signed_in brought prefixed shifted_left shifted_right on_common on_integers on_bits on_scaled on_texts combined to_integer to_offset in_unit divisor_within greatest_common_divisor and_operand evaluation constraint condition field_start extent_of then_ok from_inside constrained number_plan read_plan after_byte text_plan after_element elements_plan after_attempt plan least_width
+at_least = plan_means (bits_of (5 ∷ [])) _ Big no_values 0
+
+-- struct { byte a : a > 4 && !(a > 5); }
+greater : Means (bits_of (5 ∷ [])) (StructOf (Some (84 ∷ [])) false (FieldThen (Some (97 ∷ [])) None (IntegerOf (unsigned_type 8)) (Some (Between LogicalAnd (Between Greater (Name 0 0) (Number (signed_type 32) 4)) (Before Not (Bracket (Between Greater (Name 0 0) (Number (signed_type 32) 5)))))) None None NoFields)) Big no_values 0 (Ok (Mapped (StructLabel (Some (84 ∷ [])) ((Some (97 ∷ [])) ∷ [])) 0 8 (MemberThen (Mapped (IntegerLabel (pos 5) (unsigned_type 8)) 0 8 NoMembers) NoMembers))) 12 2
+unfolding bits_of binary number digits numeral_onto groups_from modulo with_sign converted is_signed_in brought prefixed shifted_left shifted_right on_common on_integers on_bits on_scaled on_texts combined to_integer to_offset in_unit divisor_within greatest_common_divisor and_operand evaluation constraint condition field_start extent_of then_ok from_inside constrained number_plan read_plan after_byte text_plan after_element elements_plan after_attempt plan least_width
+greater = plan_means (bits_of (5 ∷ [])) _ Big no_values 0
+
+-- struct { int<8> a : +a == -5; }
+plus : Means (bits_of (251 ∷ [])) (StructOf (Some (84 ∷ [])) false (FieldThen (Some (97 ∷ [])) None (IntegerOf (signed_type 8)) (Some (Between Equal (Before Plus (Name 0 0)) (Before Minus (Number (signed_type 32) 5)))) None None NoFields)) Big no_values 0 (Ok (Mapped (StructLabel (Some (84 ∷ [])) ((Some (97 ∷ [])) ∷ [])) 0 8 (MemberThen (Mapped (IntegerLabel (negsuc 4) (signed_type 8)) 0 8 NoMembers) NoMembers))) 8 2
+unfolding bits_of binary number digits numeral_onto groups_from modulo with_sign converted is_signed_in brought prefixed shifted_left shifted_right on_common on_integers on_bits on_scaled on_texts combined to_integer to_offset in_unit divisor_within greatest_common_divisor and_operand evaluation constraint condition field_start extent_of then_ok from_inside constrained number_plan read_plan after_byte text_plan after_element elements_plan after_attempt plan least_width
+plus = plan_means (bits_of (251 ∷ [])) _ Big no_values 0
+
+-- struct { byte a : a * 60UB == 44; }
+product_wraps : Means (bits_of (5 ∷ [])) (StructOf (Some (84 ∷ [])) false (FieldThen (Some (97 ∷ [])) None (IntegerOf (unsigned_type 8)) (Some (Between Equal (Between Multiply (Name 0 0) (Number (unsigned_type 8) 60)) (Number (signed_type 32) 44))) None None NoFields)) Big no_values 0 (Ok (Mapped (StructLabel (Some (84 ∷ [])) ((Some (97 ∷ [])) ∷ [])) 0 8 (MemberThen (Mapped (IntegerLabel (pos 5) (unsigned_type 8)) 0 8 NoMembers) NoMembers))) 8 2
+unfolding bits_of binary number digits numeral_onto groups_from modulo with_sign converted is_signed_in brought prefixed shifted_left shifted_right on_common on_integers on_bits on_scaled on_texts combined to_integer to_offset in_unit divisor_within greatest_common_divisor and_operand evaluation constraint condition field_start extent_of then_ok from_inside constrained number_plan read_plan after_byte text_plan after_element elements_plan after_attempt plan least_width
+product_wraps = plan_means (bits_of (5 ∷ [])) _ Big no_values 0
+
+-- struct { byte a : 3#4 * a == 24#b; }
+offset_times_number : Means (bits_of (2 ∷ [])) (StructOf (Some (84 ∷ [])) false (FieldThen (Some (97 ∷ [])) None (IntegerOf (unsigned_type 8)) (Some (Between Equal (Between Multiply (InUnit 4 (Number (signed_type 32) 3)) (Name 0 0)) (InUnit 1 (Number (signed_type 32) 24)))) None None NoFields)) Big no_values 0 (Ok (Mapped (StructLabel (Some (84 ∷ [])) ((Some (97 ∷ [])) ∷ [])) 0 8 (MemberThen (Mapped (IntegerLabel (pos 2) (unsigned_type 8)) 0 8 NoMembers) NoMembers))) 10 2
+unfolding bits_of binary number digits numeral_onto groups_from modulo with_sign converted is_signed_in brought prefixed shifted_left shifted_right on_common on_integers on_bits on_scaled on_texts combined to_integer to_offset in_unit divisor_within greatest_common_divisor and_operand evaluation constraint condition field_start extent_of then_ok from_inside constrained number_plan read_plan after_byte text_plan after_element elements_plan after_attempt plan least_width
+offset_times_number = plan_means (bits_of (2 ∷ [])) _ Big no_values 0
+
+-- struct { byte a : 3#B - 4#b == 20#b; }
+difference_of_offsets : Means (bits_of (0 ∷ [])) (StructOf (Some (84 ∷ [])) false (FieldThen (Some (97 ∷ [])) None (IntegerOf (unsigned_type 8)) (Some (Between Equal (Between Subtract (InUnit 8 (Number (signed_type 32) 3)) (InUnit 1 (Number (signed_type 32) 4))) (InUnit 1 (Number (signed_type 32) 20)))) None None NoFields)) Big no_values 0 (Ok (Mapped (StructLabel (Some (84 ∷ [])) ((Some (97 ∷ [])) ∷ [])) 0 8 (MemberThen (Mapped (IntegerLabel (pos 0) (unsigned_type 8)) 0 8 NoMembers) NoMembers))) 11 2
+unfolding bits_of binary number digits numeral_onto groups_from modulo with_sign converted is_signed_in brought prefixed shifted_left shifted_right on_common on_integers on_bits on_scaled on_texts combined to_integer to_offset in_unit divisor_within greatest_common_divisor and_operand evaluation constraint condition field_start extent_of then_ok from_inside constrained number_plan read_plan after_byte text_plan after_element elements_plan after_attempt plan least_width
+difference_of_offsets = plan_means (bits_of (0 ∷ [])) _ Big no_values 0
+
+-- struct { byte a : 1#B < 9#b && !(1#B < 8#b); }
+less_offset : Means (bits_of (0 ∷ [])) (StructOf (Some (84 ∷ [])) false (FieldThen (Some (97 ∷ [])) None (IntegerOf (unsigned_type 8)) (Some (Between LogicalAnd (Between Less (InUnit 8 (Number (signed_type 32) 1)) (InUnit 1 (Number (signed_type 32) 9))) (Before Not (Bracket (Between Less (InUnit 8 (Number (signed_type 32) 1)) (InUnit 1 (Number (signed_type 32) 8))))))) None None NoFields)) Big no_values 0 (Ok (Mapped (StructLabel (Some (84 ∷ [])) ((Some (97 ∷ [])) ∷ [])) 0 8 (MemberThen (Mapped (IntegerLabel (pos 0) (unsigned_type 8)) 0 8 NoMembers) NoMembers))) 16 2
+unfolding bits_of binary number digits numeral_onto groups_from modulo with_sign converted is_signed_in brought prefixed shifted_left shifted_right on_common on_integers on_bits on_scaled on_texts combined to_integer to_offset in_unit divisor_within greatest_common_divisor and_operand evaluation constraint condition field_start extent_of then_ok from_inside constrained number_plan read_plan after_byte text_plan after_element elements_plan after_attempt plan least_width
+less_offset = plan_means (bits_of (0 ∷ [])) _ Big no_values 0
+
+-- struct { byte a : 8#b <= 1#B && !(9#b <= 1#B); }
+offset_at_most : Means (bits_of (0 ∷ [])) (StructOf (Some (84 ∷ [])) false (FieldThen (Some (97 ∷ [])) None (IntegerOf (unsigned_type 8)) (Some (Between LogicalAnd (Between LessEqual (InUnit 1 (Number (signed_type 32) 8)) (InUnit 8 (Number (signed_type 32) 1))) (Before Not (Bracket (Between LessEqual (InUnit 1 (Number (signed_type 32) 9)) (InUnit 8 (Number (signed_type 32) 1))))))) None None NoFields)) Big no_values 0 (Ok (Mapped (StructLabel (Some (84 ∷ [])) ((Some (97 ∷ [])) ∷ [])) 0 8 (MemberThen (Mapped (IntegerLabel (pos 0) (unsigned_type 8)) 0 8 NoMembers) NoMembers))) 16 2
+unfolding bits_of binary number digits numeral_onto groups_from modulo with_sign converted is_signed_in brought prefixed shifted_left shifted_right on_common on_integers on_bits on_scaled on_texts combined to_integer to_offset in_unit divisor_within greatest_common_divisor and_operand evaluation constraint condition field_start extent_of then_ok from_inside constrained number_plan read_plan after_byte text_plan after_element elements_plan after_attempt plan least_width
+offset_at_most = plan_means (bits_of (0 ∷ [])) _ Big no_values 0
+
+-- struct { byte a : 9#b > 1#B && !(8#b > 1#B); }
+greater_offset : Means (bits_of (0 ∷ [])) (StructOf (Some (84 ∷ [])) false (FieldThen (Some (97 ∷ [])) None (IntegerOf (unsigned_type 8)) (Some (Between LogicalAnd (Between Greater (InUnit 1 (Number (signed_type 32) 9)) (InUnit 8 (Number (signed_type 32) 1))) (Before Not (Bracket (Between Greater (InUnit 1 (Number (signed_type 32) 8)) (InUnit 8 (Number (signed_type 32) 1))))))) None None NoFields)) Big no_values 0 (Ok (Mapped (StructLabel (Some (84 ∷ [])) ((Some (97 ∷ [])) ∷ [])) 0 8 (MemberThen (Mapped (IntegerLabel (pos 0) (unsigned_type 8)) 0 8 NoMembers) NoMembers))) 16 2
+unfolding bits_of binary number digits numeral_onto groups_from modulo with_sign converted is_signed_in brought prefixed shifted_left shifted_right on_common on_integers on_bits on_scaled on_texts combined to_integer to_offset in_unit divisor_within greatest_common_divisor and_operand evaluation constraint condition field_start extent_of then_ok from_inside constrained number_plan read_plan after_byte text_plan after_element elements_plan after_attempt plan least_width
+greater_offset = plan_means (bits_of (0 ∷ [])) _ Big no_values 0
+
+-- struct { byte a : 1#B >= 8#b && !(1#B >= 9#b); }
+offset_at_least : Means (bits_of (0 ∷ [])) (StructOf (Some (84 ∷ [])) false (FieldThen (Some (97 ∷ [])) None (IntegerOf (unsigned_type 8)) (Some (Between LogicalAnd (Between GreaterEqual (InUnit 8 (Number (signed_type 32) 1)) (InUnit 1 (Number (signed_type 32) 8))) (Before Not (Bracket (Between GreaterEqual (InUnit 8 (Number (signed_type 32) 1)) (InUnit 1 (Number (signed_type 32) 9))))))) None None NoFields)) Big no_values 0 (Ok (Mapped (StructLabel (Some (84 ∷ [])) ((Some (97 ∷ [])) ∷ [])) 0 8 (MemberThen (Mapped (IntegerLabel (pos 0) (unsigned_type 8)) 0 8 NoMembers) NoMembers))) 16 2
+unfolding bits_of binary number digits numeral_onto groups_from modulo with_sign converted is_signed_in brought prefixed shifted_left shifted_right on_common on_integers on_bits on_scaled on_texts combined to_integer to_offset in_unit divisor_within greatest_common_divisor and_operand evaluation constraint condition field_start extent_of then_ok from_inside constrained number_plan read_plan after_byte text_plan after_element elements_plan after_attempt plan least_width
+offset_at_least = plan_means (bits_of (0 ∷ [])) _ Big no_values 0
+
+-- struct { byte a : 1#B != 9#b && !(1#B != 8#b); }
+unequal_offsets : Means (bits_of (0 ∷ [])) (StructOf (Some (84 ∷ [])) false (FieldThen (Some (97 ∷ [])) None (IntegerOf (unsigned_type 8)) (Some (Between LogicalAnd (Between NotEqual (InUnit 8 (Number (signed_type 32) 1)) (InUnit 1 (Number (signed_type 32) 9))) (Before Not (Bracket (Between NotEqual (InUnit 8 (Number (signed_type 32) 1)) (InUnit 1 (Number (signed_type 32) 8))))))) None None NoFields)) Big no_values 0 (Ok (Mapped (StructLabel (Some (84 ∷ [])) ((Some (97 ∷ [])) ∷ [])) 0 8 (MemberThen (Mapped (IntegerLabel (pos 0) (unsigned_type 8)) 0 8 NoMembers) NoMembers))) 16 2
+unfolding bits_of binary number digits numeral_onto groups_from modulo with_sign converted is_signed_in brought prefixed shifted_left shifted_right on_common on_integers on_bits on_scaled on_texts combined to_integer to_offset in_unit divisor_within greatest_common_divisor and_operand evaluation constraint condition field_start extent_of then_ok from_inside constrained number_plan read_plan after_byte text_plan after_element elements_plan after_attempt plan least_width
+unequal_offsets = plan_means (bits_of (0 ∷ [])) _ Big no_values 0
+
+-- struct { byte a : 1#B % 0#B == 0#b; }
+offset_remainder_by_zero : Means (bits_of (0 ∷ [])) (StructOf (Some (84 ∷ [])) false (FieldThen (Some (97 ∷ [])) None (IntegerOf (unsigned_type 8)) (Some (Between Equal (Between Remainder (InUnit 8 (Number (signed_type 32) 1)) (InUnit 8 (Number (signed_type 32) 0))) (InUnit 1 (Number (signed_type 32) 0)))) None None NoFields)) Big no_values 0 (Err (fault.Zero, 0)) 9 1
+unfolding bits_of binary number digits numeral_onto groups_from modulo with_sign converted is_signed_in brought prefixed shifted_left shifted_right on_common on_integers on_bits on_scaled on_texts combined to_integer to_offset in_unit divisor_within greatest_common_divisor and_operand evaluation constraint condition field_start extent_of then_ok from_inside constrained number_plan read_plan after_byte text_plan after_element elements_plan after_attempt plan least_width
+offset_remainder_by_zero = plan_means (bits_of (0 ∷ [])) _ Big no_values 0
+
+-- struct { string s : s != "hi"; }
+unequal_strings : Means (bits_of (104 ∷ 111 ∷ 0 ∷ [])) (StructOf (Some (84 ∷ [])) false (FieldThen (Some (115 ∷ [])) None StringOf (Some (Between NotEqual (Name 0 0) (Text (104 ∷ 105 ∷ [])))) None None NoFields)) Big no_values 0 (Ok (Mapped (StructLabel (Some (84 ∷ [])) ((Some (115 ∷ [])) ∷ [])) 0 24 (MemberThen (Mapped (TextLabel (104 ∷ 111 ∷ [])) 0 24 NoMembers) NoMembers))) 11 4
+unfolding bits_of binary number digits numeral_onto groups_from modulo with_sign converted is_signed_in brought prefixed shifted_left shifted_right on_common on_integers on_bits on_scaled on_texts combined to_integer to_offset in_unit divisor_within greatest_common_divisor and_operand evaluation constraint condition field_start extent_of then_ok from_inside constrained number_plan read_plan after_byte text_plan after_element elements_plan after_attempt plan least_width
+unequal_strings = plan_means (bits_of (104 ∷ 111 ∷ 0 ∷ [])) _ Big no_values 0
+
+equal_strings : Means (bits_of (104 ∷ 105 ∷ 0 ∷ [])) (StructOf (Some (84 ∷ [])) false (FieldThen (Some (115 ∷ [])) None StringOf (Some (Between NotEqual (Name 0 0) (Text (104 ∷ 105 ∷ [])))) None None NoFields)) Big no_values 0 (Err (fault.Constraint, 0)) 11 3
+unfolding bits_of binary number digits numeral_onto groups_from modulo with_sign converted is_signed_in brought prefixed shifted_left shifted_right on_common on_integers on_bits on_scaled on_texts combined to_integer to_offset in_unit divisor_within greatest_common_divisor and_operand evaluation constraint condition field_start extent_of then_ok from_inside constrained number_plan read_plan after_byte text_plan after_element elements_plan after_attempt plan least_width
+equal_strings = plan_means (bits_of (104 ∷ 105 ∷ 0 ∷ [])) _ Big no_values 0
+
+-- struct { byte a : (a == 1 ? 1#B : 2#B) == 16#b; }
+choice_of_offsets : Means (bits_of (2 ∷ [])) (StructOf (Some (84 ∷ [])) false (FieldThen (Some (97 ∷ [])) None (IntegerOf (unsigned_type 8)) (Some (Between Equal (Bracket (Choice None (Between Equal (Name 0 0) (Number (signed_type 32) 1)) (InUnit 8 (Number (signed_type 32) 1)) (InUnit 8 (Number (signed_type 32) 2)))) (InUnit 1 (Number (signed_type 32) 16)))) None None NoFields)) Big no_values 0 (Ok (Mapped (StructLabel (Some (84 ∷ [])) ((Some (97 ∷ [])) ∷ [])) 0 8 (MemberThen (Mapped (IntegerLabel (pos 2) (unsigned_type 8)) 0 8 NoMembers) NoMembers))) 13 2
+unfolding bits_of binary number digits numeral_onto groups_from modulo with_sign converted is_signed_in brought prefixed shifted_left shifted_right on_common on_integers on_bits on_scaled on_texts combined to_integer to_offset in_unit divisor_within greatest_common_divisor and_operand evaluation constraint condition field_start extent_of then_ok from_inside constrained number_plan read_plan after_byte text_plan after_element elements_plan after_attempt plan least_width
+choice_of_offsets = plan_means (bits_of (2 ∷ [])) _ Big no_values 0
+
+-- struct { byte a : 1 << -1; }
+negative_count_left : Means (bits_of (0 ∷ [])) (StructOf (Some (84 ∷ [])) false (FieldThen (Some (97 ∷ [])) None (IntegerOf (unsigned_type 8)) (Some (Between ShiftLeft (Number (signed_type 32) 1) (Before Minus (Number (signed_type 32) 1)))) None None NoFields)) Big no_values 0 (Err (fault.Index, 0)) 7 1
+unfolding bits_of binary number digits numeral_onto groups_from modulo with_sign converted is_signed_in brought prefixed shifted_left shifted_right on_common on_integers on_bits on_scaled on_texts combined to_integer to_offset in_unit divisor_within greatest_common_divisor and_operand evaluation constraint condition field_start extent_of then_ok from_inside constrained number_plan read_plan after_byte text_plan after_element elements_plan after_attempt plan least_width
+negative_count_left = plan_means (bits_of (0 ∷ [])) _ Big no_values 0
+
+-- struct { byte a : 1 >> -1; }
+negative_count_right : Means (bits_of (0 ∷ [])) (StructOf (Some (84 ∷ [])) false (FieldThen (Some (97 ∷ [])) None (IntegerOf (unsigned_type 8)) (Some (Between ShiftRight (Number (signed_type 32) 1) (Before Minus (Number (signed_type 32) 1)))) None None NoFields)) Big no_values 0 (Err (fault.Index, 0)) 7 1
+unfolding bits_of binary number digits numeral_onto groups_from modulo with_sign converted is_signed_in brought prefixed shifted_left shifted_right on_common on_integers on_bits on_scaled on_texts combined to_integer to_offset in_unit divisor_within greatest_common_divisor and_operand evaluation constraint condition field_start extent_of then_ok from_inside constrained number_plan read_plan after_byte text_plan after_element elements_plan after_attempt plan least_width
+negative_count_right = plan_means (bits_of (0 ∷ [])) _ Big no_values 0
+
+-- struct { byte n; byte x @ (1 / n)#B; } at 8#b
+zero_in_label : Means (bits_of (9 ∷ 0 ∷ 5 ∷ [])) (StructOf (Some (84 ∷ [])) false (FieldThen (Some (110 ∷ [])) None (IntegerOf (unsigned_type 8)) None None None (FieldThen (Some (120 ∷ [])) None (IntegerOf (unsigned_type 8)) None (Some (InUnit 8 (Bracket (Between Divide (Number (signed_type 32) 1) (Name 0 0))))) None NoFields))) Big no_values 8 (Err (fault.Zero, 8)) 9 1
+unfolding bits_of binary number digits numeral_onto groups_from modulo with_sign converted is_signed_in brought prefixed shifted_left shifted_right on_common on_integers on_bits on_scaled on_texts combined to_integer to_offset in_unit divisor_within greatest_common_divisor and_operand evaluation constraint condition field_start extent_of then_ok from_inside constrained number_plan read_plan after_byte text_plan after_element elements_plan after_attempt plan least_width
+zero_in_label = plan_means (bits_of (9 ∷ 0 ∷ 5 ∷ [])) _ Big no_values 8
+
+-- union { uint<16> a : a == 4660; little uint<16> b : b == 4660; }
+little_alternative : Means (bits_of (52 ∷ 18 ∷ [])) (UnionOf None (PartThen (Some (97 ∷ [])) None (IntegerOf (unsigned_type 16)) (Some (Between Equal (Name 0 0) (Number (signed_type 32) 4660))) (PartThen (Some (98 ∷ [])) (Some prefix.Little) (IntegerOf (unsigned_type 16)) (Some (Between Equal (Name 0 0) (Number (signed_type 32) 4660))) NoParts))) Big no_values 0 (Ok (Mapped (UnionLabel None 1 (Some (98 ∷ []))) 0 16 (MemberThen (Mapped (IntegerLabel (pos 4660) (unsigned_type 16)) 0 16 NoMembers) NoMembers))) 11 3
+unfolding bits_of binary number digits numeral_onto groups_from modulo with_sign converted is_signed_in brought prefixed shifted_left shifted_right on_common on_integers on_bits on_scaled on_texts combined to_integer to_offset in_unit divisor_within greatest_common_divisor and_operand evaluation constraint condition field_start extent_of then_ok from_inside constrained number_plan read_plan after_byte text_plan after_element elements_plan after_attempt plan least_width
+little_alternative = plan_means (bits_of (52 ∷ 18 ∷ [])) _ Big no_values 0
+
+-- pinned struct { byte f; uint<16> w if f == 1; }
+pinned_present : Means (bits_of (1 ∷ 2 ∷ [])) (StructOf (Some (84 ∷ [])) true (FieldThen (Some (102 ∷ [])) None (IntegerOf (unsigned_type 8)) None None None (FieldThen (Some (119 ∷ [])) None (IntegerOf (unsigned_type 16)) None None (Some (Between Equal (Name 0 0) (Number (signed_type 32) 1))) NoFields))) Big no_values 0 (Ok (Mapped (StructLabel (Some (84 ∷ [])) ((Some (102 ∷ [])) ∷ (Some (119 ∷ [])) ∷ [])) 0 16 (MemberThen (Mapped (IntegerLabel (pos 1) (unsigned_type 8)) 0 8 NoMembers) (MemberThen (Mapped (IntegerLabel (pos 258) (unsigned_type 16)) 0 16 NoMembers) NoMembers)))) 8 3
+unfolding bits_of binary number digits numeral_onto groups_from modulo with_sign converted is_signed_in brought prefixed shifted_left shifted_right on_common on_integers on_bits on_scaled on_texts combined to_integer to_offset in_unit divisor_within greatest_common_divisor and_operand evaluation constraint condition field_start extent_of then_ok from_inside constrained number_plan read_plan after_byte text_plan after_element elements_plan after_attempt plan least_width
+pinned_present = plan_means (bits_of (1 ∷ 2 ∷ [])) _ Big no_values 0
+
+pinned_absent : Means (bits_of (0 ∷ 2 ∷ [])) (StructOf (Some (84 ∷ [])) true (FieldThen (Some (102 ∷ [])) None (IntegerOf (unsigned_type 8)) None None None (FieldThen (Some (119 ∷ [])) None (IntegerOf (unsigned_type 16)) None None (Some (Between Equal (Name 0 0) (Number (signed_type 32) 1))) NoFields))) Big no_values 0 (Ok (Mapped (StructLabel (Some (84 ∷ [])) ((Some (102 ∷ [])) ∷ (Some (119 ∷ [])) ∷ [])) 0 8 (MemberThen (Mapped (IntegerLabel (pos 0) (unsigned_type 8)) 0 8 NoMembers) (AbsentThen NoMembers)))) 7 2
+unfolding bits_of binary number digits numeral_onto groups_from modulo with_sign converted is_signed_in brought prefixed shifted_left shifted_right on_common on_integers on_bits on_scaled on_texts combined to_integer to_offset in_unit divisor_within greatest_common_divisor and_operand evaluation constraint condition field_start extent_of then_ok from_inside constrained number_plan read_plan after_byte text_plan after_element elements_plan after_attempt plan least_width
+pinned_absent = plan_means (bits_of (0 ∷ 2 ∷ [])) _ Big no_values 0
+
+-- struct { int<8> a : a - 1B == 0; }
+difference_overflows : Means (bits_of (128 ∷ [])) (StructOf (Some (84 ∷ [])) false (FieldThen (Some (97 ∷ [])) None (IntegerOf (signed_type 8)) (Some (Between Equal (Between Subtract (Name 0 0) (Number (signed_type 8) 1)) (Number (signed_type 32) 0))) None None NoFields)) Big no_values 0 (Err (fault.Overflow, 0)) 7 1
+unfolding bits_of binary number digits numeral_onto groups_from modulo with_sign converted is_signed_in brought prefixed shifted_left shifted_right on_common on_integers on_bits on_scaled on_texts combined to_integer to_offset in_unit divisor_within greatest_common_divisor and_operand evaluation constraint condition field_start extent_of then_ok from_inside constrained number_plan read_plan after_byte text_plan after_element elements_plan after_attempt plan least_width
+difference_overflows = plan_means (bits_of (128 ∷ [])) _ Big no_values 0
+
+-- struct { int<8> a : a / -1B == 0; }
+quotient_overflows : Means (bits_of (128 ∷ [])) (StructOf (Some (84 ∷ [])) false (FieldThen (Some (97 ∷ [])) None (IntegerOf (signed_type 8)) (Some (Between Equal (Between Divide (Name 0 0) (Before Minus (Number (signed_type 8) 1))) (Number (signed_type 32) 0))) None None NoFields)) Big no_values 0 (Err (fault.Overflow, 0)) 8 1
+unfolding bits_of binary number digits numeral_onto groups_from modulo with_sign converted is_signed_in brought prefixed shifted_left shifted_right on_common on_integers on_bits on_scaled on_texts combined to_integer to_offset in_unit divisor_within greatest_common_divisor and_operand evaluation constraint condition field_start extent_of then_ok from_inside constrained number_plan read_plan after_byte text_plan after_element elements_plan after_attempt plan least_width
+quotient_overflows = plan_means (bits_of (128 ∷ [])) _ Big no_values 0
+
+-- struct { byte a : 100B#B + 100B#B == 0#B; }
+offset_sum_overflows : Means (bits_of (0 ∷ [])) (StructOf (Some (84 ∷ [])) false (FieldThen (Some (97 ∷ [])) None (IntegerOf (unsigned_type 8)) (Some (Between Equal (Between Add (InUnit 8 (Number (signed_type 8) 100)) (InUnit 8 (Number (signed_type 8) 100))) (InUnit 8 (Number (signed_type 32) 0)))) None None NoFields)) Big no_values 0 (Err (fault.Overflow, 0)) 9 1
+unfolding bits_of binary number digits numeral_onto groups_from modulo with_sign converted is_signed_in brought prefixed shifted_left shifted_right on_common on_integers on_bits on_scaled on_texts combined to_integer to_offset in_unit divisor_within greatest_common_divisor and_operand evaluation constraint condition field_start extent_of then_ok from_inside constrained number_plan read_plan after_byte text_plan after_element elements_plan after_attempt plan least_width
+offset_sum_overflows = plan_means (bits_of (0 ∷ [])) _ Big no_values 0
+
+-- struct { byte a : 1UB#B - 2UB#B == 255#B; }
+offset_difference_wraps : Means (bits_of (0 ∷ [])) (StructOf (Some (84 ∷ [])) false (FieldThen (Some (97 ∷ [])) None (IntegerOf (unsigned_type 8)) (Some (Between Equal (Between Subtract (InUnit 8 (Number (unsigned_type 8) 1)) (InUnit 8 (Number (unsigned_type 8) 2))) (InUnit 8 (Number (signed_type 32) 255)))) None None NoFields)) Big no_values 0 (Ok (Mapped (StructLabel (Some (84 ∷ [])) ((Some (97 ∷ [])) ∷ [])) 0 8 (MemberThen (Mapped (IntegerLabel (pos 0) (unsigned_type 8)) 0 8 NoMembers) NoMembers))) 11 2
+unfolding bits_of binary number digits numeral_onto groups_from modulo with_sign converted is_signed_in brought prefixed shifted_left shifted_right on_common on_integers on_bits on_scaled on_texts combined to_integer to_offset in_unit divisor_within greatest_common_divisor and_operand evaluation constraint condition field_start extent_of then_ok from_inside constrained number_plan read_plan after_byte text_plan after_element elements_plan after_attempt plan least_width
+offset_difference_wraps = plan_means (bits_of (0 ∷ [])) _ Big no_values 0
+
+-- struct { byte a : a * 3UB#B == 44#B; }
+offset_product_wraps : Means (bits_of (100 ∷ [])) (StructOf (Some (84 ∷ [])) false (FieldThen (Some (97 ∷ [])) None (IntegerOf (unsigned_type 8)) (Some (Between Equal (Between Multiply (Name 0 0) (InUnit 8 (Number (unsigned_type 8) 3))) (InUnit 8 (Number (signed_type 32) 44)))) None None NoFields)) Big no_values 0 (Ok (Mapped (StructLabel (Some (84 ∷ [])) ((Some (97 ∷ [])) ∷ [])) 0 8 (MemberThen (Mapped (IntegerLabel (pos 100) (unsigned_type 8)) 0 8 NoMembers) NoMembers))) 10 2
+unfolding bits_of binary number digits numeral_onto groups_from modulo with_sign converted is_signed_in brought prefixed shifted_left shifted_right on_common on_integers on_bits on_scaled on_texts combined to_integer to_offset in_unit divisor_within greatest_common_divisor and_operand evaluation constraint condition field_start extent_of then_ok from_inside constrained number_plan read_plan after_byte text_plan after_element elements_plan after_attempt plan least_width
+offset_product_wraps = plan_means (bits_of (100 ∷ [])) _ Big no_values 0
+
+-- struct { byte a : 80B#8 % 7B#100 == 0#b; }
+offset_remainder_overflows : Means (bits_of (0 ∷ [])) (StructOf (Some (84 ∷ [])) false (FieldThen (Some (97 ∷ [])) None (IntegerOf (unsigned_type 8)) (Some (Between Equal (Between Remainder (InUnit 8 (Number (signed_type 8) 80)) (InUnit 100 (Number (signed_type 8) 7))) (InUnit 1 (Number (signed_type 32) 0)))) None None NoFields)) Big no_values 0 (Err (fault.Overflow, 0)) 9 1
+unfolding bits_of binary number digits numeral_onto groups_from modulo with_sign converted is_signed_in brought prefixed shifted_left shifted_right on_common on_integers on_bits on_scaled on_texts combined to_integer to_offset in_unit divisor_within greatest_common_divisor and_operand evaluation constraint condition field_start extent_of then_ok from_inside constrained number_plan read_plan after_byte text_plan after_element elements_plan after_attempt plan least_width
+offset_remainder_overflows = plan_means (bits_of (0 ∷ [])) _ Big no_values 0
+
+-- struct { byte a : -1UB#B == 255#B; }
+negated_offset_wraps : Means (bits_of (0 ∷ [])) (StructOf (Some (84 ∷ [])) false (FieldThen (Some (97 ∷ [])) None (IntegerOf (unsigned_type 8)) (Some (Between Equal (Before Minus (InUnit 8 (Number (unsigned_type 8) 1))) (InUnit 8 (Number (signed_type 32) 255)))) None None NoFields)) Big no_values 0 (Ok (Mapped (StructLabel (Some (84 ∷ [])) ((Some (97 ∷ [])) ∷ [])) 0 8 (MemberThen (Mapped (IntegerLabel (pos 0) (unsigned_type 8)) 0 8 NoMembers) NoMembers))) 9 2
+unfolding bits_of binary number digits numeral_onto groups_from modulo with_sign converted is_signed_in brought prefixed shifted_left shifted_right on_common on_integers on_bits on_scaled on_texts combined to_integer to_offset in_unit divisor_within greatest_common_divisor and_operand evaluation constraint condition field_start extent_of then_ok from_inside constrained number_plan read_plan after_byte text_plan after_element elements_plan after_attempt plan least_width
+negated_offset_wraps = plan_means (bits_of (0 ∷ [])) _ Big no_values 0
+
+-- struct { byte a : +1#B == 8#b; }
+plus_offset : Means (bits_of (0 ∷ [])) (StructOf (Some (84 ∷ [])) false (FieldThen (Some (97 ∷ [])) None (IntegerOf (unsigned_type 8)) (Some (Between Equal (Before Plus (InUnit 8 (Number (signed_type 32) 1))) (InUnit 1 (Number (signed_type 32) 8)))) None None NoFields)) Big no_values 0 (Ok (Mapped (StructLabel (Some (84 ∷ [])) ((Some (97 ∷ [])) ∷ [])) 0 8 (MemberThen (Mapped (IntegerLabel (pos 0) (unsigned_type 8)) 0 8 NoMembers) NoMembers))) 9 2
+unfolding bits_of binary number digits numeral_onto groups_from modulo with_sign converted is_signed_in brought prefixed shifted_left shifted_right on_common on_integers on_bits on_scaled on_texts combined to_integer to_offset in_unit divisor_within greatest_common_divisor and_operand evaluation constraint condition field_start extent_of then_ok from_inside constrained number_plan read_plan after_byte text_plan after_element elements_plan after_attempt plan least_width
+plus_offset = plan_means (bits_of (0 ∷ [])) _ Big no_values 0
+
+-- struct { byte a : (a == 1 ? -1 : 1U) > 0; }
+choice_converts : Means (bits_of (1 ∷ [])) (StructOf (Some (84 ∷ [])) false (FieldThen (Some (97 ∷ [])) None (IntegerOf (unsigned_type 8)) (Some (Between Greater (Bracket (Choice (Some (unsigned_type 32)) (Between Equal (Name 0 0) (Number (signed_type 32) 1)) (Before Minus (Number (signed_type 32) 1)) (Number (unsigned_type 32) 1))) (Number (signed_type 32) 0))) None None NoFields)) Big no_values 0 (Ok (Mapped (StructLabel (Some (84 ∷ [])) ((Some (97 ∷ [])) ∷ [])) 0 8 (MemberThen (Mapped (IntegerLabel (pos 1) (unsigned_type 8)) 0 8 NoMembers) NoMembers))) 12 2
+unfolding bits_of binary number digits numeral_onto groups_from modulo with_sign converted is_signed_in brought prefixed shifted_left shifted_right on_common on_integers on_bits on_scaled on_texts combined to_integer to_offset in_unit divisor_within greatest_common_divisor and_operand evaluation constraint condition field_start extent_of then_ok from_inside constrained number_plan read_plan after_byte text_plan after_element elements_plan after_attempt plan least_width
+choice_converts = plan_means (bits_of (1 ∷ [])) _ Big no_values 0
+
+-- struct { byte a : a >> 8 == 0; }
+wide_shift_right : Means (bits_of (2 ∷ [])) (StructOf (Some (84 ∷ [])) false (FieldThen (Some (97 ∷ [])) None (IntegerOf (unsigned_type 8)) (Some (Between Equal (Between ShiftRight (Name 0 0) (Number (signed_type 32) 8)) (Number (signed_type 32) 0))) None None NoFields)) Big no_values 0 (Err (fault.Index, 0)) 7 1
+unfolding bits_of binary number digits numeral_onto groups_from modulo with_sign converted is_signed_in brought prefixed shifted_left shifted_right on_common on_integers on_bits on_scaled on_texts combined to_integer to_offset in_unit divisor_within greatest_common_divisor and_operand evaluation constraint condition field_start extent_of then_ok from_inside constrained number_plan read_plan after_byte text_plan after_element elements_plan after_attempt plan least_width
+wide_shift_right = plan_means (bits_of (2 ∷ [])) _ Big no_values 0
+
+-- struct { byte a : a << 256; }
+great_count_left : Means (bits_of (2 ∷ [])) (StructOf (Some (84 ∷ [])) false (FieldThen (Some (97 ∷ [])) None (IntegerOf (unsigned_type 8)) (Some (Between ShiftLeft (Name 0 0) (Number (signed_type 32) 256))) None None NoFields)) Big no_values 0 (Err (fault.Index, 0)) 6 1
+unfolding bits_of binary number digits numeral_onto groups_from modulo with_sign converted is_signed_in brought prefixed shifted_left shifted_right on_common on_integers on_bits on_scaled on_texts combined to_integer to_offset in_unit divisor_within greatest_common_divisor and_operand evaluation constraint condition field_start extent_of then_ok from_inside constrained number_plan read_plan after_byte text_plan after_element elements_plan after_attempt plan least_width
+great_count_left = plan_means (bits_of (2 ∷ [])) _ Big no_values 0
+
+-- struct { byte a : a >> 256; }
+great_count_right : Means (bits_of (2 ∷ [])) (StructOf (Some (84 ∷ [])) false (FieldThen (Some (97 ∷ [])) None (IntegerOf (unsigned_type 8)) (Some (Between ShiftRight (Name 0 0) (Number (signed_type 32) 256))) None None NoFields)) Big no_values 0 (Err (fault.Index, 0)) 6 1
+unfolding bits_of binary number digits numeral_onto groups_from modulo with_sign converted is_signed_in brought prefixed shifted_left shifted_right on_common on_integers on_bits on_scaled on_texts combined to_integer to_offset in_unit divisor_within greatest_common_divisor and_operand evaluation constraint condition field_start extent_of then_ok from_inside constrained number_plan read_plan after_byte text_plan after_element elements_plan after_attempt plan least_width
+great_count_right = plan_means (bits_of (2 ∷ [])) _ Big no_values 0
+
+-- struct { byte a : (300#B as offset<uint<8>,B>) == 44#B; }
+conversion_to_offset_wraps : Means (bits_of (0 ∷ [])) (StructOf (Some (84 ∷ [])) false (FieldThen (Some (97 ∷ [])) None (IntegerOf (unsigned_type 8)) (Some (Between Equal (Bracket (ToOffset (unsigned_type 8) 8 (InUnit 8 (Number (signed_type 32) 300)))) (InUnit 8 (Number (signed_type 32) 44)))) None None NoFields)) Big no_values 0 (Ok (Mapped (StructLabel (Some (84 ∷ [])) ((Some (97 ∷ [])) ∷ [])) 0 8 (MemberThen (Mapped (IntegerLabel (pos 0) (unsigned_type 8)) 0 8 NoMembers) NoMembers))) 10 2
+unfolding bits_of binary number digits numeral_onto groups_from modulo with_sign converted is_signed_in brought prefixed shifted_left shifted_right on_common on_integers on_bits on_scaled on_texts combined to_integer to_offset in_unit divisor_within greatest_common_divisor and_operand evaluation constraint condition field_start extent_of then_ok from_inside constrained number_plan read_plan after_byte text_plan after_element elements_plan after_attempt plan least_width
+conversion_to_offset_wraps = plan_means (bits_of (0 ∷ [])) _ Big no_values 0
+
+-- struct { byte a : ~a == 240; }
+complement_converts : Means (bits_of (15 ∷ [])) (StructOf (Some (84 ∷ [])) false (FieldThen (Some (97 ∷ [])) None (IntegerOf (unsigned_type 8)) (Some (Between Equal (Before Complement (Name 0 0)) (Number (signed_type 32) 240))) None None NoFields)) Big no_values 0 (Ok (Mapped (StructLabel (Some (84 ∷ [])) ((Some (97 ∷ [])) ∷ [])) 0 8 (MemberThen (Mapped (IntegerLabel (pos 15) (unsigned_type 8)) 0 8 NoMembers) NoMembers))) 7 2
+unfolding bits_of binary number digits numeral_onto groups_from modulo with_sign converted is_signed_in brought prefixed shifted_left shifted_right on_common on_integers on_bits on_scaled on_texts combined to_integer to_offset in_unit divisor_within greatest_common_divisor and_operand evaluation constraint condition field_start extent_of then_ok from_inside constrained number_plan read_plan after_byte text_plan after_element elements_plan after_attempt plan least_width
+complement_converts = plan_means (bits_of (15 ∷ [])) _ Big no_values 0
+
+-- struct { byte[2] xs : xs'length - 3 > 4294967295L; }
+length_is_unsigned : Means (bits_of (0 ∷ 0 ∷ [])) (StructOf (Some (84 ∷ [])) false (FieldThen (Some (120 ∷ 115 ∷ [])) None (ArrayOf (IntegerOf (unsigned_type 8)) (ByCount (Number (signed_type 32) 2))) (Some (Between Greater (Between Subtract (AttributeOf Length (Name 0 0)) (Number (signed_type 32) 3)) (Number (signed_type 64) 4294967295))) None None NoFields)) Big no_values 0 (Ok (Mapped (StructLabel (Some (84 ∷ [])) ((Some (120 ∷ 115 ∷ [])) ∷ [])) 0 16 (MemberThen (Mapped ArrayLabel 0 16 (MemberThen (Mapped (IntegerLabel (pos 0) (unsigned_type 8)) 0 8 NoMembers) (MemberThen (Mapped (IntegerLabel (pos 0) (unsigned_type 8)) 8 16 NoMembers) NoMembers))) NoMembers))) 14 4
+unfolding bits_of binary number digits numeral_onto groups_from modulo with_sign converted is_signed_in brought prefixed shifted_left shifted_right on_common on_integers on_bits on_scaled on_texts combined to_integer to_offset in_unit divisor_within greatest_common_divisor and_operand evaluation constraint condition field_start extent_of then_ok from_inside constrained number_plan read_plan after_byte text_plan after_element elements_plan after_attempt plan least_width
+length_is_unsigned = plan_means (bits_of (0 ∷ 0 ∷ [])) _ Big no_values 0
+
+-- struct { byte a : a'size - 9#b > 4294967295L#b; }
+size_is_unsigned : Means (bits_of (0 ∷ [])) (StructOf (Some (84 ∷ [])) false (FieldThen (Some (97 ∷ [])) None (IntegerOf (unsigned_type 8)) (Some (Between Greater (Between Subtract (AttributeOf Size (Name 0 0)) (InUnit 1 (Number (signed_type 32) 9))) (InUnit 1 (Number (signed_type 64) 4294967295)))) None None NoFields)) Big no_values 0 (Ok (Mapped (StructLabel (Some (84 ∷ [])) ((Some (97 ∷ [])) ∷ [])) 0 8 (MemberThen (Mapped (IntegerLabel (pos 0) (unsigned_type 8)) 0 8 NoMembers) NoMembers))) 11 2
+unfolding bits_of binary number digits numeral_onto groups_from modulo with_sign converted is_signed_in brought prefixed shifted_left shifted_right on_common on_integers on_bits on_scaled on_texts combined to_integer to_offset in_unit divisor_within greatest_common_divisor and_operand evaluation constraint condition field_start extent_of then_ok from_inside constrained number_plan read_plan after_byte text_plan after_element elements_plan after_attempt plan least_width
+size_is_unsigned = plan_means (bits_of (0 ∷ [])) _ Big no_values 0
+
+-- a value that fits struct { byte a : a == 1; byte x if a == 2; }
+fits : Fits 8 (StructOf (Some (84 ∷ [])) false (FieldThen (Some (97 ∷ [])) None (IntegerOf (unsigned_type 8)) (Some (Between Equal (Name 0 0) (Number (signed_type 32) 1))) None None (FieldThen (Some (120 ∷ [])) None (IntegerOf (unsigned_type 8)) None None (Some (Between Equal (Name 0 0) (Number (signed_type 32) 2))) NoFields))) no_values 0 (Mapped (StructLabel (Some (84 ∷ [])) ((Some (97 ∷ [])) ∷ (Some (120 ∷ [])) ∷ [])) 0 8 (MemberThen (Mapped (IntegerLabel (pos 1) (unsigned_type 8)) 0 8 NoMembers) (AbsentThen NoMembers)))
+unfolding Fits FitsNumber modulo with_sign converted on_common on_integers combined and_operand evaluation constraint condition field_start
+fits = (_, 8, inr (refl, 0, refl, omega arith, Mapped (IntegerLabel (pos 1) (unsigned_type 8)) 0 8 NoMembers, ((1, omega arith, refl), omega arith), refl, inl (refl, (refl, refl))), omega arith, refl)
 
 -- answers under a limit of steps
 limit_reached : Answer (bits_of (5 ∷ 6 ∷ 0 ∷ [])) (StructOf (Some (65 ∷ [])) false (FieldThen (Some (101 ∷ 115 ∷ [])) None (ArrayOf (StructOf (Some (69 ∷ [])) false (FieldThen (Some (118 ∷ [])) None (IntegerOf (unsigned_type 8)) (Some (Between NotEqual (Name 0 0) (Number (signed_type 32) 0))) None None NoFields)) Unbounded) None None None (FieldThen (Some (122 ∷ [])) None (IntegerOf (unsigned_type 8)) None None None NoFields))) Big 0 25 (Err (fault.Limit, 0)) 25 8

@@ -1,4 +1,4 @@
--- The least width of a type's values, and the most steps and slots that a mapping of it can take on m bits.
+-- The least width of a type's values, and bounds on the steps and slots that a mapping of it takes on m bits.
 use Rattle.std.specs.Prelude.{◌≡◌, ℕ, ◌+◌, ◌*◌, ◌/◌, ◌≤◌, ◌^◌, min, max, Bool, true, false, ◌||◌, if◌then◌else◌, Option, Some, None}
 use Rattle.pickle_types.specs.Types.{Term, PokeType, IntegerOf, OffsetOf, StringOf, ArrayOf, StructOf, IntegralOf, UnionOf, Fields, NoFields, FieldThen, Parts, NoParts, PartThen, optional_weight, bound_weight}
 
@@ -48,7 +48,7 @@ abbrev pub count_of : ℕ → ℕ → ℕ
 count_of m w = m / max 1 w + 1
 
 unfoldable mutual
-  -- the most steps on m bits
+  -- a bound on the steps on m bits: no mapping takes more, and there need be none that takes as many
   pub cost : PokeType → ℕ → ℕ
   cost (IntegerOf type) m = 1
   cost (OffsetOf type unit) m = 1
@@ -68,7 +68,7 @@ unfoldable mutual
   parts_cost (PartThen name order type constraint rest) m = (1 + optional_weight constraint + cost type m) + parts_cost rest m
 
 unfoldable mutual
-  -- the most slots of each kind that are filled at once on m bits
+  -- a bound on the slots of each kind that are filled at once on m bits
   pub room : PokeType → ℕ → ℕ
   room (IntegerOf type) m = 1
   room (OffsetOf type unit) m = 1

@@ -1,4 +1,4 @@
-//! The most steps and slots that a mapping may take, and the least width of a type's values.
+//! The least width of a type's values, and bounds on the steps and slots of a mapping.
 
 ghost use Rattle.std.specs.Prelude.{◌≡◌, ℕ, ◌+◌, ◌*◌, ◌<◌, ◌≤◌, length, min, max, IsTrue, false, Option, List};
 ghost use Rattle.pickle_types.specs.Types.{IntegerOf, OffsetOf, StringOf, ArrayOf, StructOf, IntegralOf, UnionOf, PokeType, weight, optional_weight, bound_weight, Fields, FieldThen, NoFields, Parts, PartThen, NoParts};
@@ -10,8 +10,8 @@ ghost use Rattle.pickle_types.specs.Holds.{HoldsWidth, AreBounds, AreFieldBounds
 use crate::table::{Extent, Field, Node, Part, Resolved, Shape};
 use arrayvec::ArrayVec;
 
-/// What is known of a type: its least width in bits, None from 2^64 on, and the most steps and slots of a mapping, None from
-/// 2^128 on.
+/// What is known of a type: its least width in bits, None from 2^64 on, and bounds on the steps and slots of a mapping,
+/// None from 2^128 on.
 #[derive(Clone, Copy, Default)]
 pub struct Bounds {
     pub least: Option<u64>,
