@@ -4,3 +4,4 @@ pub mod Arithmetic
 pub mod Evaluation
 pub mod Clauses
 pub mod Means
+pub mod Ranges

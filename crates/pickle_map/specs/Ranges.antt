@@ -1,0 +1,10 @@
+-- The numbers that a type holds.
+use Rattle.std.specs.Prelude.{ℕ, ◌<◌, ◌≤◌, ◌^◌, Bool, true, false, ℤ, pos, negsuc, Result, Ok, Err}
+use Rattle.pickle_types.specs.declared.integer.IntegerType.{IntegerType}
+
+-- a number of at most 64 bits, with a sign or without one
+abbrev pub IsSmall : Bool → ℤ → Type 0
+IsSmall true (pos n) = n < 2 ^ 63
+IsSmall true (negsuc n) = n < 2 ^ 63
+IsSmall false (pos n) = n < 2 ^ 64
+IsSmall false (negsuc n) = ⊥

@@ -1,0 +1,3 @@
+//! The value of an expression.
+
+pub mod ranges;
