@@ -1,7 +1,14 @@
-pub mod Bits
+pub mod Numbers
 pub mod Values
 pub mod Arithmetic
 pub mod Evaluation
 pub mod Clauses
 pub mod Means
+pub mod Room
+pub mod Plan
+pub mod Follows
+pub mod Mapping
+pub mod Answer
+pub mod Fits
 pub mod Ranges
+pub mod Scalars

@@ -4,19 +4,15 @@ use Rattle.pickle_syntax.specs.declared.tree.ByteOrder.{ByteOrder}
 use Rattle.pickle_syntax.specs.declared.tree.ByteOrder.TheVariants as prefix
 use Rattle.pickle_types.specs.declared.integer.IntegerType.{IntegerType}
 use Rattle.pickle_types.specs.Types.{Term, Bound, PokeType, IntegerOf, OffsetOf, StringOf, ArrayOf, StructOf, IntegralOf, UnionOf, Fields, NoFields, FieldThen, Parts, NoParts, PartThen}
-use Rattle.pickle_map.specs.declared.order.Order.{Order}
-use Rattle.pickle_map.specs.declared.order.Order.TheVariants.{Big, Little}
+use Rattle.bit_space.specs.declared.order.Order.{Order}
+use Rattle.bit_space.specs.declared.order.Order.TheVariants.{Big, Little}
 use Rattle.pickle_map.specs.declared.extent.Extent.{Extent}
 use Rattle.pickle_map.specs.declared.faults.MapFaultKind.{MapFaultKind}
 use Rattle.pickle_map.specs.declared.faults.MapFaultKind.TheVariants as fault
-use Rattle.pickle_map.specs.Bits.{number}
-use Rattle.pickle_map.specs.Values.{Naming, Label, IntegerLabel, OffsetLabel, TextLabel, ArrayLabel, StructLabel, UnionLabel, Value, Mapped, NoMembers, end_of, Levels, pushed, opened, top_of, gathered}
+use Rattle.pickle_map.specs.Numbers.{number_at}
+use Rattle.pickle_map.specs.Values.{Naming, Label, IntegerLabel, OffsetLabel, TextLabel, ArrayLabel, StructLabel, UnionLabel, Value, Mapped, NoMembers, text_value, end_of, Levels, pushed, opened, top_of, gathered}
 use Rattle.pickle_map.specs.Arithmetic.{with_sign}
 use Rattle.pickle_map.specs.Clauses.{FaultAt, constraint, clause_steps, condition, field_start, label_steps, extent_of, bound_steps, is_due, is_met, ends_before, misses}
-
--- the number without a sign of the bits from a place on
-abbrev pub number_at : List ℕ → Order → (place width : ℕ) → ℕ
-number_at bits order place width = number order (slice_range bits place (place + width))
 
 -- the order of a field: its prefix's, or the one around it
 abbrev pub ordered : Option ByteOrder → Order → Order
@@ -60,9 +56,6 @@ integer_value type n start = Mapped (IntegerLabel (with_sign type n) type) start
 
 abbrev pub offset_value : IntegerType → (unit n start : ℕ) → Value
 offset_value type unit n start = Mapped (OffsetLabel (with_sign type n) type unit) start (start + type.width) NoMembers
-
-abbrev pub string_value : List ℕ → (start end : ℕ) → Value
-string_value bytes start end = Mapped (TextLabel bytes) start end NoMembers
 
 abbrev pub array_value : (start end : ℕ) → Levels → Value
 array_value start end inside = value_of ArrayLabel start end inside
@@ -112,7 +105,7 @@ mutual
     past_end : {ty : PokeType} {order : Order} {levels : Levels} {s : ℕ} → length bits < s → Means bits ty order levels s (Err (fault.End, s)) 0 0
     number_read : {ty : PokeType} {type : IntegerType} {order : Order} {levels : Levels} {s k j : ℕ} {r : Result Value FaultAt} → s ≤ length bits → number_type ty ≡ Some type → s + type.width ≤ length bits → NumberMeans ty (number_at bits order s type.width) levels s r k j → Means bits ty order levels s r k j
     number_end : {ty : PokeType} {type : IntegerType} {order : Order} {levels : Levels} {s : ℕ} → s ≤ length bits → number_type ty ≡ Some type → length bits < s + type.width → Means bits ty order levels s (Err (fault.End, s)) 1 0
-    string : {order : Order} {levels : Levels} {s q : ℕ} {bytes : List ℕ} → s ≤ length bits → Run bits s bytes q → q + 8 ≤ length bits → number_at bits Big q 8 ≡ 0 → Means bits StringOf order levels s (Ok (string_value bytes s (q + 8))) (1 + length bytes + 1) (length bytes + 1)
+    string : {order : Order} {levels : Levels} {s q : ℕ} {bytes : List ℕ} → s ≤ length bits → Run bits s bytes q → q + 8 ≤ length bits → number_at bits Big q 8 ≡ 0 → Means bits StringOf order levels s (Ok (text_value bytes s (q + 8))) (1 + length bytes + 1) (length bytes + 1)
     string_end : {order : Order} {levels : Levels} {s q : ℕ} {bytes : List ℕ} → s ≤ length bits → Run bits s bytes q → length bits < q + 8 → Means bits StringOf order levels s (Err (fault.End, s)) (1 + length bytes + 1) (length bytes)
     array : {ty : PokeType} {bound : Bound} {order : Order} {extent : Extent} {levels inside : Levels} {s n pn k j k' j' : ℕ} {r : Result Value FaultAt} → s ≤ length bits → extent_of bound levels s ≡ Ok extent → Elements bits ty order s extent 0 (opened levels) s n inside pn k j → Closing bits ty order s extent n inside pn r k' j' → Means bits (ArrayOf ty bound) order levels s r (1 + bound_steps bound levels + k + k') (j + j')
     bound_fault : {ty : PokeType} {bound : Bound} {order : Order} {levels : Levels} {s : ℕ} {f : FaultAt} → s ≤ length bits → extent_of bound levels s ≡ Err f → Means bits (ArrayOf ty bound) order levels s (Err f) (1 + bound_steps bound levels) 0

@@ -1,5 +1,5 @@
--- Values, and what a mapping keeps while it is under way.
-use Rattle.std.specs.Prelude.{ℕ, zero, suc, ◌+◌, List, [], ◌∷◌, ◌++◌, Option, Some, None, ℤ, slice_get, unwrap_or}
+-- Values, and the levels in which they are built.
+use Rattle.std.specs.Prelude.{ℕ, zero, suc, ◌+◌, ◌*◌, length, List, [], ◌∷◌, ◌++◌, Option, Some, None, ℤ, slice_get, unwrap_or}
 use Rattle.pickle_types.specs.declared.integer.IntegerType.{IntegerType}
 
 -- a name, where there is one
@@ -61,6 +61,10 @@ member_at (AbsentThen rest) (suc i) = member_at rest i
 abbrev pub Levels : Type 0
 Levels = List (List (Option Value))
 
+-- nothing is open and nothing is built; the value that is asked for goes into this one level
+abbrev pub no_values : Levels
+no_values = [] ∷ []
+
 -- one more member of the innermost value
 abbrev pub pushed : Levels → Option Value → Levels
 pushed [] v = (v ∷ []) ∷ []
@@ -94,10 +98,9 @@ gathered [] = NoMembers
 gathered (None ∷ rest) = AbsentThen (gathered rest)
 gathered (Some v ∷ rest) = MemberThen v (gathered rest)
 
--- what is kept of a mapping under way: the levels, and the bytes of a string that has not ended
-pub record Held : Type 0 where
-  pub levels : Levels
-  pub text : List ℕ
+abbrev pub text_value : List ℕ → (start end : ℕ) → Value
+text_value bytes start end = Mapped (TextLabel bytes) start end NoMembers
 
-abbrev pub held : Levels → Held
-held levels = record { levels = levels; text = [] }
+-- a string under way: its bytes so far, as a text with its final 0, alone in a level of its own
+abbrev pub text_level : List ℕ → (start : ℕ) → Levels → Levels
+text_level bytes start levels = (Some (text_value bytes start (start + 8 * (length bytes + 1))) ∷ []) ∷ levels

@@ -1,3 +1,4 @@
 //! The value of an expression.
 
+pub mod integers;
 pub mod ranges;

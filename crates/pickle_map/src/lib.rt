@@ -4,4 +4,3 @@
 pub mod evaluate;
 pub mod extent;
 pub mod faults;
-pub mod order;

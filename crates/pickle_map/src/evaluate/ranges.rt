@@ -9,7 +9,7 @@ use crate::faults::MapFaultKind;
 use pickle_types::integer::IntegerType;
 
 /// The last `width` binary digits of `n`.
-fn low_digits(width: u8, n: u128) -> u64
+pub fn low_digits(width: u8, n: u128) -> u64
     requires most { width ≤ 64 }
     ensures is { result ≡ n % 2 ^ width }
     ensures below { result < 2 ^ width }

@@ -1,0 +1,23 @@
+-- Computed integers and offsets, and the labels of values that they stand for.
+use Rattle.std.specs.Prelude.{ℕ, ◌≤◌, Result, Ok, Err}
+use Rattle.pickle_types.specs.declared.integer.IntegerType.{IntegerType}
+use Rattle.pickle_types.specs.Table.{IsWidth}
+use Rattle.pickle_map.specs.declared.faults.MapFaultKind.{MapFaultKind}
+use Rattle.pickle_map.specs.declared.evaluate.integers.Scalar.{Scalar}
+use Rattle.pickle_map.specs.declared.evaluate.integers.Scalar.TheVariants as scalar
+use Rattle.pickle_map.specs.Values.{Label, IntegerLabel, OffsetLabel}
+use Rattle.pickle_map.specs.Arithmetic.{Computed}
+use Rattle.pickle_map.specs.Ranges.{IsSmall}
+
+abbrev pub scalar_label : Scalar → Label
+scalar_label (scalar.Integer number type) = IntegerLabel number type
+scalar_label (scalar.Offset magnitude type unit) = OffsetLabel magnitude type unit
+
+abbrev pub computed_of : Result Scalar MapFaultKind → Computed
+computed_of (Ok s) = Ok (scalar_label s)
+computed_of (Err kind) = Err kind
+
+-- its type has a width, and holds it; a unit is some bits
+abbrev pub IsScalar : Scalar → Type 0
+IsScalar (scalar.Integer number type) = IsWidth type × IsSmall type.signed number
+IsScalar (scalar.Offset magnitude type unit) = IsWidth type × IsSmall type.signed magnitude × (1 ≤ unit)
