@@ -1,2 +1,3 @@
 pub mod Moduli
 pub mod Signed
+pub mod Digits

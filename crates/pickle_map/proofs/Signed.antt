@@ -1,7 +1,9 @@
 -- Signed numbers of 128 bits, as they are passed and tested.
-use Rattle.std.proofs.Common.{◌≡◌, ℕ, zero, suc, ◌+◌, ◌-◌, ◌*◌, ◌<◌, ◌≤◌, ◌^◌, Bool, true, false, ℤ, pos, negsuc, ◌+ℤ◌, ◌-ℤ◌, ◌*ℤ◌, neg_ℤ, nat_abs, ◌/◌, ◌%◌, to_z, of_z, refl, sym, ap, subst, ◌∙◌, arith}
+use Rattle.std.proofs.Common.{◌≡◌, pow_mono, ℕ, zero, suc, ◌+◌, ◌-◌, ◌*◌, ◌<◌, ◌≤◌, ◌^◌, Bool, true, false, ℤ, pos, negsuc, ◌+ℤ◌, ◌-ℤ◌, ◌*ℤ◌, neg_ℤ, nat_abs, ◌/◌, ◌%◌, to_z, of_z, refl, sym, ap, subst, ◌∙◌, arith}
 use Rattle.std.proofs.Common.{lit<}
-use Rattle.std.specs.Prelude.{unsigned_abs, int_div, int_rem}
+use Rattle.std.proofs.Common.{inl, inr}
+use Rattle.std.proofs.lemmas.Bool.{cases_eq, eq-eqb, ne_eqb}
+use Rattle.std.specs.Prelude.{nat_eq, unsigned_abs, int_div, int_rem}
 use Rattle.std.proofs.lemmas.Int.{ints, to_z-of_z, fits_signed_mul, fits_signed_from_abs, unsigned_abs-mul, quot-rem}
 use Rattle.std.proofs.Math.Nat.{div-le_self, mod-le}
 use mir.Syntax.{w128}
@@ -70,3 +72,15 @@ unfolding brought modulo
 unsigned_product number (pos a) (pos b) low s h k e = rw (s, e) refl
 unsigned_product number (pos a) (negsuc b) low s h k e = absurd k
 unsigned_product number (negsuc a) y low s h k e = absurd h
+
+pub below_64 : (s : Bool) (x : ℤ) → IsSmall s x → unsigned_abs x ≤ 2 ^ 64 - 1
+below_64 true (pos n) h = omega (arith, h)
+below_64 true (negsuc n) h = omega (arith, h)
+below_64 false (pos n) h = omega (arith, h)
+below_64 false (negsuc n) h = absurd h
+
+pub shift_fits : (s : Bool) (x : ℤ) (n : ℕ) → IsSmall s x → n < 64 → SFits w128 (x *ℤ pos (2 ^ n))
+shift_fits s x n h lt = fits_signed_mul w128 x (pos (2 ^ n)) (2 ^ 64 - 1) (2 ^ 63) (below_64 s x h) (let h : 2 ^ n ≤ 2 ^ 63 = pow_mono {j = 63} (omega arith) in h) (lit< tt)
+
+pub zero_test : (x : ℤ) → SFits w128 x → nat_eq (of_z w128 x) 0 ≡ is_zero x
+zero_test x fits = elim (cases_eq (of_z w128 x) 0) [ inl e ↦ eq-eqb _ _ e ∙ sym (zero_bits x fits e) | inr ne ↦ ne_eqb _ _ ne ∙ sym (some_bits x ne) ]

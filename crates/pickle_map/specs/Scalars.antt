@@ -1,5 +1,5 @@
 -- Computed integers and offsets, and the labels of values that they stand for.
-use Rattle.std.specs.Prelude.{ℕ, ◌≤◌, Result, Ok, Err}
+use Rattle.std.specs.Prelude.{◌≡◌, ℕ, ◌<◌, ◌≤◌, ℤ, pos, Option, Some, None, Result, Ok, Err}
 use Rattle.pickle_types.specs.declared.integer.IntegerType.{IntegerType}
 use Rattle.pickle_types.specs.Table.{IsWidth}
 use Rattle.pickle_map.specs.declared.faults.MapFaultKind.{MapFaultKind}
@@ -21,3 +21,8 @@ computed_of (Err kind) = Err kind
 abbrev pub IsScalar : Scalar → Type 0
 IsScalar (scalar.Integer number type) = IsWidth type × IsSmall type.signed number
 IsScalar (scalar.Offset magnitude type unit) = IsWidth type × IsSmall type.signed magnitude × (1 ≤ unit)
+
+-- a count to shift by, where it is from 0 on and below a width
+abbrev pub IsShift : (width : ℕ) → ℤ → Option ℕ → Type 0
+IsShift width count (Some n) = (count ≡ pos n) × (n < width)
+IsShift width count None = (n : ℕ) → count ≡ pos n → width ≤ n

@@ -70,5 +70,9 @@ pub fn brought(number: IntegerType, z: i128) -> Result<i128, MapFaultKind>
         return Ok(i128::from(modulo(number.width, z)));
     }
     let bound = 1i128 << (u32::from(number.width) - 1);
-    if -bound <= z && z < bound { Ok(z) } else { Err(MapFaultKind::Overflow) }
+    if -bound <= z && z < bound {
+        Ok(z)
+    } else {
+        Err(MapFaultKind::Overflow)
+    }
 }
