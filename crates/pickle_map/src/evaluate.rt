@@ -1,4 +1,5 @@
 //! The value of an expression.
 
 pub mod integers;
+pub mod offsets;
 pub mod ranges;

@@ -33,7 +33,7 @@ pub fn truth(holds: bool) -> Scalar
 }
 
 /// An integer brought to a type.
-fn brought_integer(number: IntegerType, z: i128) -> Result<Scalar, MapFaultKind>
+pub fn brought_integer(number: IntegerType, z: i128) -> Result<Scalar, MapFaultKind>
     requires width { IsWidth number }
     ensures is { computed_of result ≡ brought_integer number z }
     ensures scalar { IfOk result IsScalar }
@@ -214,7 +214,7 @@ fn shifted_right(x: i128, number: IntegerType, count: i128) -> Result<Scalar, Ma
 }
 
 /// The common type of two integers: the greater width, unsigned if either is.
-fn common(t: IntegerType, u: IntegerType) -> IntegerType
+pub fn common(t: IntegerType, u: IntegerType) -> IntegerType
     requires left { IsWidth t }
     requires right { IsWidth u }
     ensures is { result ≡ common t u }
