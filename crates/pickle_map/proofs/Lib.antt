@@ -1,3 +1,4 @@
 pub mod Moduli
 pub mod Signed
 pub mod Digits
+pub mod Divisors

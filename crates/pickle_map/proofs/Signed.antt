@@ -1,7 +1,7 @@
 -- Signed numbers of 128 bits, as they are passed and tested.
 use Rattle.std.proofs.Common.{◌≡◌, pow_mono, ℕ, zero, suc, ◌+◌, ◌-◌, ◌*◌, ◌<◌, ◌≤◌, ◌^◌, Bool, true, false, ℤ, pos, negsuc, ◌+ℤ◌, ◌-ℤ◌, ◌*ℤ◌, neg_ℤ, nat_abs, ◌/◌, ◌%◌, to_z, of_z, refl, sym, ap, subst, ◌∙◌, arith}
 use Rattle.std.proofs.Common.{lit<}
-use Rattle.std.proofs.Common.{inl, inr}
+use Rattle.std.proofs.Common.{◌⊎◌, inl, inr}
 use Rattle.std.proofs.lemmas.Bool.{cases_eq, eq-eqb, ne_eqb}
 use Rattle.std.specs.Prelude.{nat_eq, unsigned_abs, int_div, int_rem}
 use Rattle.std.proofs.lemmas.Int.{ints, to_z-of_z, fits_signed_mul, fits_signed_from_abs, unsigned_abs-mul, quot-rem}
@@ -10,8 +10,8 @@ use mir.Syntax.{w128}
 use mir.Val.{SFits}
 use Rattle.std.specs.Prelude.{Ok}
 use Rattle.pickle_types.specs.declared.integer.IntegerType.{IntegerType}
-use Rattle.pickle_map.specs.Values.{IntegerLabel}
-use Rattle.pickle_map.specs.Arithmetic.{Computed, is_zero, brought, modulo, brought_integer}
+use Rattle.pickle_map.specs.Values.{IntegerLabel, OffsetLabel}
+use Rattle.pickle_map.specs.Arithmetic.{Computed, is_zero, brought, modulo, brought_integer, brought_offset}
 use Rattle.pickle_map.specs.Ranges.{IsSmall}
 
 -- what was said of an argument that was passed
@@ -84,3 +84,14 @@ shift_fits s x n h lt = fits_signed_mul w128 x (pos (2 ^ n)) (2 ^ 64 - 1) (2 ^ 6
 
 pub zero_test : (x : ℤ) → SFits w128 x → nat_eq (of_z w128 x) 0 ≡ is_zero x
 zero_test x fits = elim (cases_eq (of_z w128 x) 0) [ inl e ↦ eq-eqb _ _ e ∙ sym (zero_bits x fits e) | inr ne ↦ ne_eqb _ _ ne ∙ sym (some_bits x ne) ]
+
+pub mixed_fits : (s t : Bool) (x y : ℤ) → IsSmall s x → IsSmall t y → (s ≡ true) ⊎ (t ≡ true) → SFits w128 (x *ℤ y)
+mixed_fits s t x y h k (inl e) = fits_signed_mul w128 x y (2 ^ 63) (2 ^ 64 - 1) (signed_abs x (rw e at h)) (below_64 t y k) (lit< tt)
+mixed_fits s t x y h k (inr e) = fits_signed_mul w128 x y (2 ^ 64 - 1) (2 ^ 63) (below_64 s x h) (signed_abs y (rw e at k)) (lit< tt)
+
+pub unsigned_scaled : (number : IntegerType) (unit : ℕ) (x y : ℤ) (low : ℕ) → number.signed ≡ false → IsSmall false x → IsSmall false y → low ≡ (nat_abs x * nat_abs y) % 2 ^ number.width →
+    ◌≡◌ {A = Computed} (Ok (OffsetLabel (pos low) number unit)) (brought_offset number unit (x *ℤ y))
+unfolding brought modulo
+unsigned_scaled number unit (pos a) (pos b) low s h k e = rw (s, e) refl
+unsigned_scaled number unit (pos a) (negsuc b) low s h k e = absurd k
+unsigned_scaled number unit (negsuc a) y low s h k e = absurd h

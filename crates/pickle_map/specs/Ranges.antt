@@ -12,3 +12,7 @@ IsSmall false (negsuc n) = ⊥
 -- a number of bits that fits well into 128 bits
 abbrev pub IsWide : ℤ → Type 0
 IsWide z = unsigned_abs z < 2 ^ 98
+
+-- the bits of an offset: at most 2^64 units of less than 2^32 bits
+abbrev pub IsBits : ℤ → Type 0
+IsBits z = unsigned_abs z ≤ 2 ^ 96
