@@ -12,3 +12,4 @@ pub mod Answer
 pub mod Fits
 pub mod Ranges
 pub mod Scalars
+pub mod Laws

@@ -4,3 +4,4 @@
 pub mod evaluate;
 pub mod extent;
 pub mod faults;
+pub mod laws;

@@ -1,0 +1,70 @@
+-- The laws of the meaning of a mapping.
+use Rattle.std.specs.Prelude.{◌≡◌, ℕ, ◌+◌, ◌/◌, ◌≤◌, max, length, List, Result, Ok, Err}
+use Rattle.bit_space.specs.declared.order.Order.{Order}
+use Rattle.pickle_types.specs.Types.{PokeType}
+use Rattle.pickle_types.specs.Bounds.{least_width, cost, room}
+use Rattle.pickle_map.specs.declared.extent.Extent.{Extent}
+use Rattle.pickle_map.specs.Values.{Value, end_of, Levels}
+use Rattle.pickle_map.specs.Clauses.{FaultAt}
+use Rattle.pickle_map.specs.Means.{Means, Elements}
+use Rattle.pickle_map.specs.Room.{Slot, slots}
+use Rattle.pickle_map.specs.Plan.{Plan, result_of, steps_of, made_of, AtMost, MadeWithin, Always}
+use Rattle.pickle_map.specs.Mapping.{plan}
+use Rattle.pickle_map.specs.Answer.{Answer}
+use Rattle.pickle_map.specs.Fits.{Fits}
+
+-- exactly one outcome, number of steps and number of values made
+pub record OneOutcome (bits : List ℕ) (ty : PokeType) (order : Order) (levels : Levels) (s : ℕ) : Type 0 where
+  pub outcome : Result Value FaultAt
+  pub steps : ℕ
+  pub made : ℕ
+  pub means : Means bits ty order levels s outcome steps made
+  pub only : (r : Result Value FaultAt) (k j : ℕ) → Means bits ty order levels s r k j → (r ≡ outcome) × (k ≡ steps) × (j ≡ made)
+
+-- each type has exactly one outcome at each place of each file
+abbrev pub HasOneOutcome : Type 0
+HasOneOutcome = (bits : List ℕ) (ty : PokeType) (order : Order) (levels : Levels) (s : ℕ) → OneOutcome bits ty order levels s
+
+-- what the plan comes to is the outcome, with its steps and values made
+abbrev pub PlanIsMeant : Type 0
+PlanIsMeant = (bits : List ℕ) (ty : PokeType) (order : Order) (levels : Levels) (s : ℕ) → Means bits ty order levels s (result_of bits (plan (length bits) ty order levels s)) (steps_of bits (plan (length bits) ty order levels s)) (made_of bits (plan (length bits) ty order levels s))
+
+-- exactly one answer and number of steps under a limit
+pub record OneAnswer (bits : List ℕ) (ty : PokeType) (order : Order) (s limit : ℕ) : Type 0 where
+  pub answer : Result Value FaultAt
+  pub steps : ℕ
+  pub made : ℕ
+  pub answers : Answer bits ty order s limit answer steps made
+  pub only : (r : Result Value FaultAt) (k j : ℕ) → Answer bits ty order s limit r k j → (r ≡ answer) × (k ≡ steps)
+
+abbrev pub HasOneAnswer : Type 0
+HasOneAnswer = (bits : List ℕ) (ty : PokeType) (order : Order) (s limit : ℕ) → OneAnswer bits ty order s limit
+
+-- whatever is read, a mapping takes at most `cost` steps
+abbrev pub StepsAreBounded : Type 0
+StepsAreBounded = (m : ℕ) (ty : PokeType) (order : Order) (levels : Levels) (s : ℕ) → AtMost (plan m ty order levels s) (cost ty m)
+
+-- whatever is read, a mapping makes at no time more values than it has taken steps
+abbrev pub MadeIsBounded : Type 0
+MadeIsBounded = (m : ℕ) (ty : PokeType) (order : Order) (levels : Levels) (s : ℕ) → MadeWithin (plan m ty order levels s) 0
+
+-- a value ends in the file, at least as many bits behind its start as its type's least width
+abbrev pub ValuesAreWide : Type 0
+ValuesAreWide = (bits : List ℕ) (ty : PokeType) (order : Order) (levels : Levels) (s : ℕ) (v : Value) (k j : ℕ) → Means bits ty order levels s (Ok v) k j → (s + least_width ty ≤ end_of v) × (end_of v ≤ length bits)
+
+-- of the elements of an array at most as many are values as have room in the file; one more may be tried
+abbrev pub TriesAreFew : Type 0
+TriesAreFew = (bits : List ℕ) (ty : PokeType) (order : Order) (s : ℕ) (extent : Extent) (levels : Levels) (n : ℕ) (inside : Levels) (pn k j : ℕ) → s ≤ length bits → Elements bits ty order s extent 0 levels s n inside pn k j → n ≤ length bits / max 1 (least_width ty)
+
+-- a value that fits; nothing is said of a fault
+abbrev pub ValueFits : (m : ℕ) → PokeType → Levels → (s : ℕ) → Result Value FaultAt → Type 0
+ValueFits m ty levels s (Ok v) = Fits m ty levels s v
+ValueFits m ty levels s (Err f) = Unit {0}
+
+-- whatever is read, a value that the plan gives fits its type at its start
+abbrev pub ValuesFit : Type 0
+ValuesFit = (m : ℕ) (ty : PokeType) (order : Order) (levels : Levels) (s : ℕ) → Always (λ kept. Unit {0}) (ValueFits m ty levels s) (plan m ty order levels s)
+
+-- Whatever is read, what is kept at any time fills at most `room` slots of each kind above what was kept before.
+abbrev pub RoomIsEnough : Type 0
+RoomIsEnough = (m : ℕ) (ty : PokeType) (order : Order) (levels : Levels) (s : ℕ) (kind : Slot) → Always (λ kept. slots kind kept ≤ slots kind levels + room ty m) (λ r. Unit {0}) (plan m ty order levels s)
