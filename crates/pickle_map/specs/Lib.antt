@@ -1,0 +1,5 @@
+pub mod Tree
+pub mod Levels
+pub mod Links
+pub mod Slots
+pub mod Kinds
