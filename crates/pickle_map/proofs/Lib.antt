@@ -2,3 +2,4 @@ pub mod Rows
 pub mod Grown
 pub mod Counted
 pub mod Placed
+pub mod Empty

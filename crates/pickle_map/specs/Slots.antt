@@ -1,6 +1,6 @@
 -- What a store holds, and the values that it stands for.
-use Rattle.std.specs.Prelude.{◌≡◌, ℕ, zero, suc, ◌+◌, ◌-◌, ◌*◌, ◌<◌, ◌≤◌, ℤ, pos, Bool, true, false, List, [], ◌∷◌, ◌++◌, Option, Some, None, length, take, drop, map, slice_get, slice_index, slice_index_or, IfSome}
-use Rattle.std.specs.Int.{cast_signed, w64}
+use Rattle.std.specs.Prelude.{◌≡◌, ℕ, zero, suc, ◌+◌, ◌-◌, ◌*◌, ◌<◌, ◌≤◌, ℤ, pos, Bool, true, false, List, [], ◌∷◌, ◌++◌, Option, Some, None, length, take, drop, map, slice_get, slice_index, slice_index_or, FitsSigned}
+use Rattle.std.specs.Int.{cast_signed, w64, FitsUnsigned}
 use Rattle.pickle_map.specs.declared.store.slots.Node.{Node}
 use Rattle.pickle_map.specs.declared.store.slots.Family.{Family}
 use Rattle.pickle_map.specs.declared.store.slots.Marks.{Marks}
@@ -303,3 +303,25 @@ pub record IsText (h : Held) : Type 0 where
   pub start : ℕ
   pub outer : Levels
   pub writing : IsWriting h bytes start outer
+
+-- room of that many of each kind is enough for so many more
+pub record HasRoom (room : ℕ) (s : Slots) (node_count link_count pending_count byte_count : ℕ) : Type 0 where
+  pub nodes : length s.nodes + node_count ≤ room
+  pub links : length s.links + link_count ≤ room
+  pub pending : length s.pending + pending_count ≤ room
+  pub bytes : length s.bytes + byte_count ≤ room
+
+-- a number that 64 bits can stand for
+abbrev pub IsContentNumber : Bool → ℤ → Type 0
+IsContentNumber true z = FitsSigned w64 z
+IsContentNumber false z = FitsUnsigned w64 z
+
+-- what holds of a store, with the capacities of its vectors
+pub record IsStore (h : Held) (node_capacity family_capacity link_capacity pending_capacity text_capacity byte_capacity : ℕ) : Type 0 where
+  pub levels : AreLevels h.frames h.slots
+  pub nodes : h.room ≤ node_capacity
+  pub families : h.room ≤ family_capacity
+  pub links : h.room ≤ link_capacity
+  pub pending : h.room ≤ pending_capacity
+  pub texts : h.room ≤ text_capacity
+  pub bytes : h.room ≤ byte_capacity
