@@ -3,3 +3,4 @@ pub mod Grown
 pub mod Counted
 pub mod Placed
 pub mod Empty
+pub mod Fits

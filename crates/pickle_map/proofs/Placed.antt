@@ -10,10 +10,10 @@ use Rattle.pickle_map.specs.declared.store.slots.Shape.{Shape}
 use Rattle.pickle_map.specs.declared.store.slots.Shape.TheVariants.{Integer, Offset, Text, Array, Struct, Union}
 use Rattle.pickle_map.specs.Tree.{Value, Tree, Label, TextLabel, parts_of, bytes_of, text_value}
 use Rattle.pickle_map.specs.Levels.{level_nodes, level_links, level_bytes, nodes_in, links_in, bytes_in}
-use Rattle.pickle_map.specs.Slots.{Slots, opened, part, family_at, first_link, family_links, first_byte, text_bytes, label_in, size_in, links_of, tree_of, trees, trees_from, stack, LinksBelow, IsRow, IsFamily, IsTextRow, IsContent, IsNodeAt, AreNodesFrom, IsSound, cut_to, marks_of, IsWithin, level_of, AreLevels, Adds, with_leaf, with_family, with_text, with_absent, IsComposite, composite_label, IsNumber, number_value}
+use Rattle.pickle_map.specs.Slots.{Slots, opened, part, family_at, first_link, family_links, first_byte, text_bytes, label_in, size_in, links_of, tree_of, trees, trees_from, stack, LinksBelow, IsRow, IsFamily, IsTextRow, IsContent, IsNodeAt, AreNodesFrom, IsSound, cut_to, marks_of, IsWithin, level_of, IsLevel, Adds, with_leaf, with_family, with_text, with_absent, IsComposite, composite_label, IsNumber, number_value}
 use Rattle.pickle_map.proofs.Rows.{Grows, slice_get-push, part-all, first_link-grow, first_byte-grow}
 use Rattle.pickle_map.proofs.Grown.{NewNode, AreNodes-grow, trees_from-grow, nodes-new, pending-new, stack-new, stack-cut, length-stack, LinksBelow-weaker, LinksBelow-append, LinksBelow-drop}
-use Rattle.pickle_map.proofs.Counted.{nodes_in_parts-of, links_in_parts-of, bytes_in_parts-of, marks-cut, levels-sound}
+use Rattle.pickle_map.proofs.Counted.{nodes_in_parts-of, links_in_parts-of, bytes_in_parts-of, marks-cut}
 
 -- numbers
 
@@ -279,13 +279,13 @@ module _ (shape : Shape) (start size mark : ℕ) (s : Slots) (composite : IsComp
       stack-new s u n mark sound family-new refl ∙ ap (λ t. take mark (stack s) ++ Some t ∷ []) is
 
 -- the parts of an open value become one value in their place
-pub family-adds : (shape : Shape) (start size : ℕ) (k : Marks) (ks : List Marks) (s : Slots) → IsComposite shape → AreLevels (k ∷ ks) s →
+pub family-adds : (shape : Shape) (start size : ℕ) (k : Marks) (s : Slots) → IsComposite shape → IsSound s → IsLevel k s → IsSound (cut_to k s) →
     Adds (cut_to k s) (with_family shape start size k.pending s) (Some (Tree (composite_label shape) start size (parts_of (level_of k s))) ∷ [])
-family-adds shape start size k ks s composite h =
+family-adds shape start size k s composite sound is below =
     let u = with_family shape start size k.pending s in
     let n : Node = record { start = start; content = length s.families; shape = shape } in
     let f : Family = record { end = length s.links + (length s.pending - k.pending); size = size } in
-    let w = h.1.0.within in
+    let w = is.within in
     let m = marks-cut k s w in
     let level = level_of k s in
     let count = length_push s.nodes n in
@@ -296,12 +296,12 @@ family-adds shape start size k ks s composite h =
     let pending = take_at (take k.pending s.pending) (Some (length s.nodes) ∷ []) k.pending (omega (arith, w.pending, length-take k.pending s.pending)) in
     let left : cut_to k u ≡ cut_to k s = cc in
     record {
-      sound = family-sound shape start size k.pending s composite h.0 w.pending;
+      sound = family-sound shape start size k.pending s composite sound w.pending;
       rest = ap (λ (j : Marks). cut_to j u) m ∙ left;
-      stack = family-stack shape start size k.pending s composite h.0 w.pending ∙ ap (λ os. os ++ Some (Tree (composite_label shape) start size (parts_of level)) ∷ []) (sym (stack-cut k s (levels-sound ks (cut_to k s) h.1.1)));
-      nodes = omega (arith, count, h.1.0.nodes, ap (λ (j : Marks). j.nodes) m, nodes_in_parts-of level);
-      links = omega (arith, h.1.0.links, ap (λ (j : Marks). j.links) m, links_in_parts-of level, wide, length-append s.links (drop k.pending s.pending), length-drop k.pending s.pending);
-      bytes = omega (arith, h.1.0.bytes, ap (λ (j : Marks). j.bytes) m, bytes_in_parts-of level, ap length (no-bytes shape composite));
+      stack = family-stack shape start size k.pending s composite sound w.pending ∙ ap (λ os. os ++ Some (Tree (composite_label shape) start size (parts_of level)) ∷ []) (sym (stack-cut k s below));
+      nodes = omega (arith, count, is.nodes, ap (λ (j : Marks). j.nodes) m, nodes_in_parts-of level);
+      links = omega (arith, is.links, ap (λ (j : Marks). j.links) m, links_in_parts-of level, wide, length-append s.links (drop k.pending s.pending), length-drop k.pending s.pending);
+      bytes = omega (arith, is.bytes, ap (λ (j : Marks). j.bytes) m, bytes_in_parts-of level, ap length (no-bytes shape composite));
     }
 
 -- a field that is not there
