@@ -4,3 +4,4 @@ pub mod Counted
 pub mod Placed
 pub mod Empty
 pub mod Fits
+pub mod Held

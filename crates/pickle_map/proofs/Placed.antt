@@ -41,7 +41,7 @@ number-tree s ts Array start c h = absurd h
 number-tree s ts (Struct t) start c h = absurd h
 number-tree s ts (Union i t) start c h = absurd h
 
-number-nodes : (shape : Shape) (start c : ℕ) → IsNumber shape → (level_nodes (Some (number_value shape start c) ∷ []) ≡ 1) × ((level_links (Some (number_value shape start c) ∷ []) ≡ 0) × (level_bytes (Some (number_value shape start c) ∷ []) ≡ 0))
+pub number-nodes : (shape : Shape) (start c : ℕ) → IsNumber shape → (level_nodes (Some (number_value shape start c) ∷ []) ≡ 1) × ((level_links (Some (number_value shape start c) ∷ []) ≡ 0) × (level_bytes (Some (number_value shape start c) ∷ []) ≡ 0))
 number-nodes (Integer w g) start c h = (refl, (refl, refl))
 number-nodes (Offset w g u) start c h = (refl, (refl, refl))
 number-nodes Text start c h = absurd h
