@@ -5,3 +5,4 @@ pub mod Placed
 pub mod Empty
 pub mod Fits
 pub mod Held
+pub mod Frames

@@ -325,3 +325,8 @@ pub record IsStore (h : Held) (node_capacity family_capacity link_capacity pendi
   pub pending : h.room ≤ pending_capacity
   pub texts : h.room ≤ text_capacity
   pub bytes : h.room ≤ byte_capacity
+
+-- the marks of the values around the innermost open one
+abbrev pub around : List Marks → List Marks
+around [] = []
+around (k ∷ ks) = ks

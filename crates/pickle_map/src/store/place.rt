@@ -98,4 +98,83 @@ impl Store {
         });
         Ok(())
     }
+
+    /// Places an integer of `width` bits from the bit `start` on.
+    pub fn push_integer(&mut self, width: u8, signed: bool, number: i128, start: u64) -> Result<(), Memory>
+        requires { IsContentNumber signed number }
+        ensures ok { OnOk result (levels self.new ≡ pushed (levels self.old) (Some (Tree (IntegerLabel number width signed) start width End))) }
+        ensures err { OnErr result (self.new ≡ self.old) }
+        ensures room { self.new.room ≡ self.old.room }
+        ensures succeeds { FitsIn self.old.room (pushed (levels self.old) (Some (Tree (IntegerLabel number width signed) start width End))) → IsOk result }
+    {
+        self.place_number(Shape::Integer { width, signed }, start, content_of(signed, number))
+    }
+
+    /// Places an offset of a magnitude of `width` bits, in units of `unit` bits, from the bit `start` on.
+    pub fn push_offset(&mut self, width: u8, signed: bool, unit: u32, number: i128, start: u64) -> Result<(), Memory>
+        requires { IsContentNumber signed number }
+        ensures ok { OnOk result (levels self.new ≡ pushed (levels self.old) (Some (Tree (OffsetLabel number width signed unit) start width End))) }
+        ensures err { OnErr result (self.new ≡ self.old) }
+        ensures room { self.new.room ≡ self.old.room }
+        ensures succeeds { FitsIn self.old.room (pushed (levels self.old) (Some (Tree (OffsetLabel number width signed unit) start width End))) → IsOk result }
+    {
+        self.place_number(Shape::Offset { width, signed, unit }, start, content_of(signed, number))
+    }
+
+    /// Places a field that is not there.
+    pub fn push_absent(&mut self) -> Result<(), Memory>
+        ensures ok { OnOk result (levels self.new ≡ pushed (levels self.old) None) }
+        ensures err { OnErr result (self.new ≡ self.old) }
+        ensures room { self.new.room ≡ self.old.room }
+        ensures succeeds { FitsIn self.old.room (pushed (levels self.old) None) → IsOk result }
+    {
+        self.pending.reserve(1)?;
+        self.pending.push_reserved(Link::absent());
+        Ok(())
+    }
+
+    // Makes a value of the parts of the innermost open value, and closes it.
+    fn close(&mut self, shape: Shape, start: u64, size: u64) -> Result<(), Memory>
+        requires composite { IsComposite shape }
+        ensures ok { OnOk result (levels self.new ≡ pushed (outer_of (levels self.old)) (Some (Tree (composite_label shape) start size (parts_of (top_of (levels self.old)))))) }
+        ensures err { OnErr result (self.new ≡ self.old) }
+        ensures room { self.new.room ≡ self.old.room }
+        ensures succeeds { FitsIn self.old.room (pushed (outer_of (levels self.old)) (Some (Tree (composite_label shape) start size (parts_of (top_of (levels self.old)))))) → IsOk result }
+    {
+        self.place_family(shape, start, size)?;
+        self.lift_level();
+        Ok(())
+    }
+
+    /// Closes the innermost open value as an array of `size` bits from the bit `start` on, whose elements are its parts.
+    pub fn close_array(&mut self, start: u64, size: u64) -> Result<(), Memory>
+        ensures ok { OnOk result (levels self.new ≡ pushed (outer_of (levels self.old)) (Some (Tree ArrayLabel start size (parts_of (top_of (levels self.old)))))) }
+        ensures err { OnErr result (self.new ≡ self.old) }
+        ensures room { self.new.room ≡ self.old.room }
+        ensures succeeds { FitsIn self.old.room (pushed (outer_of (levels self.old)) (Some (Tree ArrayLabel start size (parts_of (top_of (levels self.old)))))) → IsOk result }
+    {
+        self.close(Shape::Array, start, size)
+    }
+
+    /// Closes the innermost open value as a struct of the type at the index `of`, of `size` bits from the bit `start` on. Its parts are its
+    /// fields, absent ones too.
+    pub fn close_struct(&mut self, of: u32, start: u64, size: u64) -> Result<(), Memory>
+        ensures ok { OnOk result (levels self.new ≡ pushed (outer_of (levels self.old)) (Some (Tree (StructLabel of) start size (parts_of (top_of (levels self.old)))))) }
+        ensures err { OnErr result (self.new ≡ self.old) }
+        ensures room { self.new.room ≡ self.old.room }
+        ensures succeeds { FitsIn self.old.room (pushed (outer_of (levels self.old)) (Some (Tree (StructLabel of) start size (parts_of (top_of (levels self.old)))))) → IsOk result }
+    {
+        self.close(Shape::Struct { of }, start, size)
+    }
+
+    /// Closes the innermost open value as a union of the type at the index `of`, of `size` bits from the bit `start` on. Its part is the
+    /// alternative taken, which is the one at the index `taken`.
+    pub fn close_union(&mut self, of: u32, taken: u16, start: u64, size: u64) -> Result<(), Memory>
+        ensures ok { OnOk result (levels self.new ≡ pushed (outer_of (levels self.old)) (Some (Tree (UnionLabel of taken) start size (parts_of (top_of (levels self.old)))))) }
+        ensures err { OnErr result (self.new ≡ self.old) }
+        ensures room { self.new.room ≡ self.old.room }
+        ensures succeeds { FitsIn self.old.room (pushed (outer_of (levels self.old)) (Some (Tree (UnionLabel of taken) start size (parts_of (top_of (levels self.old)))))) → IsOk result }
+    {
+        self.close(Shape::Union { taken, of }, start, size)
+    }
 }
