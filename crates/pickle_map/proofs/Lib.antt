@@ -6,3 +6,4 @@ pub mod Empty
 pub mod Fits
 pub mod Held
 pub mod Frames
+pub mod Writing

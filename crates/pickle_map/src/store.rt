@@ -5,6 +5,7 @@ ghost use Rattle.pickle_map.specs.Slots.{empty, marks_of, innermost, levels};
 mod cut;
 mod place;
 pub(crate) mod slots;
+mod text;
 
 use crate::memory::Memory;
 use arrayvec::ArrayVec;
