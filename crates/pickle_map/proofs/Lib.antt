@@ -10,3 +10,12 @@ mod Widths
 mod Planned
 mod Exists
 mod Outcomes
+pub mod FamilyRows
+pub mod Grown
+pub mod Counted
+pub mod Placed
+pub mod Empty
+pub mod Fits
+pub mod Held
+pub mod Frames
+pub mod Writing

@@ -13,3 +13,8 @@ pub mod Fits
 pub mod Ranges
 pub mod Scalars
 pub mod Laws
+pub mod Tree
+pub mod Levels
+pub mod Links
+pub mod Slots
+pub mod Kinds

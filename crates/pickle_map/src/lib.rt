@@ -1,7 +1,10 @@
-//! Maps the types of a pickle over bits: what a mapping means, and its laws.
+//! Maps the types of a pickle over the bits of a space: values, what a mapping means, and its laws.
 #![tactic(auto)]
 
 pub mod evaluate;
 pub mod extent;
 pub mod faults;
 pub mod laws;
+pub mod memory;
+pub mod store;
+pub mod value;
