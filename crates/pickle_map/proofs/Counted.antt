@@ -121,13 +121,18 @@ level-above s u vs h = ap (drop (length s.pending)) h.stack ∙ drop_at (stack s
 
 pub levels-above : (ks : List Marks) (s u : Slots) (vs : List (Option Value)) → AreLevels ks s → Adds s u vs → AreLevels (marks_of s ∷ ks) u
 levels-above ks s u vs h g =
-    let e = level-above s u vs g in
-    (g.sound, (record {
-      within = Adds-within s u vs g;
-      nodes = omega (arith, g.nodes, ap level_nodes e);
-      links = omega (arith, g.links, ap level_links e);
-      bytes = omega (arith, g.bytes, ap level_bytes e);
-    }, subst (λ x. AreLevels ks x) (sym g.rest) h))
+    let e = level-above s u vs g in (
+      g.sound,
+      (
+        record {
+          within = Adds-within s u vs g;
+          nodes = omega (arith, g.nodes, ap level_nodes e);
+          links = omega (arith, g.links, ap level_links e);
+          bytes = omega (arith, g.bytes, ap level_bytes e);
+        },
+        subst (λ x. AreLevels ks x) (sym g.rest) h,
+      ),
+    )
 
 pub levels_at-above : (ks : List Marks) (s u : Slots) (vs : List (Option Value)) → Adds s u vs → levels_at (marks_of s ∷ ks) u ≡ vs ∷ levels_at ks s
 levels_at-above ks s u vs g =

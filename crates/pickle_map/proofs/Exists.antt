@@ -53,8 +53,8 @@ digits_exist_on : {name : Naming} {order : Option ByteOrder} {ty : PokeType} {c 
 digits_exist_on more (Err f) m = record { r = _; k = _; j = _; means = digits_fault m }
 digits_exist_on {c} {levels} {s} more (Ok v) m =
     by_result (constraint c (pushed levels (Some v)) s)
-      (λ u e. let o = more v in record { r = _; k = _; j = _; means = next_digits m e o.means })
-      (λ f e. record { r = _; k = _; j = _; means = digits_refused m e })
+    (λ u e. let o = more v in record { r = _; k = _; j = _; means = next_digits m e o.means })
+    (λ f e. record { r = _; k = _; j = _; means = digits_refused m e })
 
 mutual
   number_exists : (ty : PokeType) (n : ℕ) (levels : Levels) (s : ℕ) → NumberOutcome ty n levels s
@@ -79,8 +79,8 @@ TypeOutcome bits ty order levels s = HasOutcome (Means bits ty order levels s)
 read_exists : (bits : List ℕ) (ty : PokeType) {type : IntegerType} (order : Order) (levels : Levels) (s : ℕ) → s ≤ length bits → number_type ty ≡ Some type → TypeOutcome bits ty order levels s
 read_exists bits ty {type} order levels s le e =
     by_place (s + type.width) (length bits)
-      (λ inside. let o = number_exists ty (number_at bits order s type.width) levels s in record { r = _; k = _; j = _; means = number_read le e inside o.means })
-      (λ lt. record { r = _; k = _; j = _; means = number_end le e lt })
+    (λ inside. let o = number_exists ty (number_at bits order s type.width) levels s in record { r = _; k = _; j = _; means = number_read le e inside o.means })
+    (λ lt. record { r = _; k = _; j = _; means = number_end le e lt })
 
 -- behind a run there is a byte 0, or no whole byte
 abbrev InsideOrNot : (bits : List ℕ) (q : ℕ) → Option (number_at bits Big q 8 ≡ 0) → Type 0
@@ -109,8 +109,8 @@ run_exists : (bits : List ℕ) (n p : ℕ) → length bits ≤ p + n → HasRun 
 run_exists bits zero p le = ends_past no_bytes (omega arith)
 run_exists bits (suc n) p le =
     by_place (p + 8) (length bits)
-      (λ inside. tried inside (run_exists bits n (p + 8) (omega arith)) (number_at bits Big p 8) refl)
-      (λ lt. ends_past no_bytes lt)
+    (λ inside. tried inside (run_exists bits n (p + 8) (omega arith)) (number_at bits Big p 8) refl)
+    (λ lt. ends_past no_bytes lt)
   where
     tried : p + 8 ≤ length bits → HasRun bits (p + 8) → (b : ℕ) → number_at bits Big p 8 ≡ b → HasRun bits p
     tried inside more zero e = ends_zero no_bytes inside e
@@ -138,37 +138,37 @@ module _ {bits : List ℕ} {ty : PokeType} {order : Order} {s : ℕ} {extent : E
       let wide : p + least_width ty ≤ end_of v = means_wide m in
       let inside : end_of v ≤ length bits = means_inside m in
       by_place (end_of v) p
-        (λ le. closed_here (no_bits due m (omega arith)))
-        (λ lt. further_on due m lt (more v inside (omega arith)))
+      (λ le. closed_here (no_bits due m (omega arith)))
+      (λ lt. further_on due m lt (more v inside (omega arith)))
   tried left le gt due more (Err f) m =
       by_value (ends_before extent f.0)
-        (λ e. closed_here (ends_without due m e))
-        (λ e. closed_here (element_fault due m e))
+      (λ e. closed_here (ends_without due m e))
+      (λ e. closed_here (element_fault due m e))
 
   not_due : is_due extent (length bits) s i p ≡ false → HasElements bits ty order s extent i levels p
   not_due over =
       by_value (is_met extent s p)
-        (λ e. closed_here (none_due over e))
-        (λ e. closed_here (beyond_size over e))
+      (λ e. closed_here (none_due over e))
+      (λ e. closed_here (beyond_size over e))
 
 elements_exist : (bits : List ℕ) (ty : PokeType) (order : Order) (s : ℕ) (extent : Extent) → ((levels : Levels) (p : ℕ) → TypeOutcome bits ty order levels p) → (left i : ℕ) (levels : Levels) (p : ℕ) → p ≤ length bits → length bits < p + left → HasElements bits ty order s extent i levels p
 elements_exist bits ty order s extent has zero i levels p le lt = absurd (omega arith)
 elements_exist bits ty order s extent has (suc left) i levels p le lt =
     by_value (is_due extent (length bits) s i p)
-      (λ due. let o = has levels p in tried left le lt due (λ v inside lt. elements_exist bits ty order s extent has left (i + 1) (pushed levels (Some v)) (end_of v) inside lt) o.r o.means)
-      (λ over. not_due over)
+    (λ due. let o = has levels p in tried left le lt due (λ v inside lt. elements_exist bits ty order s extent has left (i + 1) (pushed levels (Some v)) (end_of v) inside lt) o.r o.means)
+    (λ over. not_due over)
 
 array_exists : {bits : List ℕ} {ty : PokeType} {order : Order} {levels : Levels} {s : ℕ} (bound : Bound) → s ≤ length bits → ((extent : Extent) → HasElements bits ty order s extent 0 (opened levels) s) → TypeOutcome bits (ArrayOf ty bound) order levels s
 array_exists {levels} {s} bound le has =
     by_result (extent_of bound levels s)
-      (λ extent e. let h = has extent in record { r = _; k = _; j = _; means = array le e h.elements h.closing.means })
-      (λ f e. record { r = _; k = _; j = _; means = bound_fault le e })
+    (λ extent e. let h = has extent in record { r = _; k = _; j = _; means = array le e h.elements h.closing.means })
+    (λ f e. record { r = _; k = _; j = _; means = bound_fault le e })
 
 part_exists : {bits : List ℕ} {ty : PokeType} {order : Order} {levels : Levels} {s k j : ℕ} (c : Option Term) (r : Result Value FaultAt) → Means bits ty order levels s r k j → HasOutcome (PartMeans bits ty c order levels s)
 part_exists {levels} {s} c (Ok v) m =
     by_result (constraint c (pushed levels (Some v)) s)
-      (λ u e. record { r = _; k = _; j = _; means = part m e })
-      (λ f e. record { r = _; k = _; j = _; means = part_refused m e })
+    (λ u e. record { r = _; k = _; j = _; means = part m e })
+    (λ f e. record { r = _; k = _; j = _; means = part_refused m e })
 part_exists c (Err f) m = record { r = _; k = _; j = _; means = part_fault m }
 
 struct_exists : {bits : List ℕ} {name : Naming} {pinned : Bool} {fields : Fields} {order : Order} {levels : Levels} {s k j : ℕ} → s ≤ length bits → (r : Result Opened FaultAt) → FieldsMean bits pinned s fields order (opened levels) s s r k j → TypeOutcome bits (StructOf name pinned fields) order levels s
@@ -188,21 +188,21 @@ module _ {bits : List ℕ} {pinned : Bool} {s : ℕ} {name : Naming} {set : Opti
   there_then false h without more parts = record { r = _; k = _; j = _; means = absent h without.means }
   there_then true h without more parts =
       by_result (field_start pinned label levels s behind)
-        (λ p st. let o = parts p in part_then h st more o.r o.means)
-        (λ f st. record { r = _; k = _; j = _; means = label_fault h st })
+      (λ p st. let o = parts p in part_then h st more o.r o.means)
+      (λ f st. record { r = _; k = _; j = _; means = label_fault h st })
 
   field_exists : HasOutcome (FieldsMean bits pinned s rest order (pushed levels None) behind top) → ((v : Value) → HasOutcome (FieldsMean bits pinned s rest order (pushed levels (Some v)) (end_of v) (max top (end_of v)))) → ((p : ℕ) → HasOutcome (PartMeans bits ty c (ordered set order) levels p)) → HasOutcome (FieldsMean bits pinned s (FieldThen name set ty c label when rest) order levels behind top)
   field_exists without more parts =
       by_result (condition when levels s)
-        (λ there h. there_then there h without more parts)
-        (λ f h. record { r = _; k = _; j = _; means = condition_fault h })
+      (λ there h. there_then there h without more parts)
+      (λ f h. record { r = _; k = _; j = _; means = condition_fault h })
 
 attempt_exists : {bits : List ℕ} {name : Naming} {set : Option ByteOrder} {ty : PokeType} {c : Option Term} {rest : Parts} {index : ℕ} {order : Order} {levels : Levels} {s k j : ℕ} → HasOutcome (AlternativesMean bits rest (index + 1) order levels s) → (r : Result Value FaultAt) → PartMeans bits ty c (ordered set order) levels s r k j → HasOutcome (AlternativesMean bits (PartThen name set ty c rest) index order levels s)
 attempt_exists o (Ok v) m = record { r = _; k = _; j = _; means = fits m }
 attempt_exists o (Err f) m =
     by_value (misses f.0)
-      (λ e. record { r = _; k = _; j = _; means = misses_it m e o.means })
-      (λ e. record { r = _; k = _; j = _; means = other_fault m e })
+    (λ e. record { r = _; k = _; j = _; means = misses_it m e o.means })
+    (λ e. record { r = _; k = _; j = _; means = other_fault m e })
 
 or_past : {bits : List ℕ} {ty : PokeType} {order : Order} {levels : Levels} (s : ℕ) → (s ≤ length bits → TypeOutcome bits ty order levels s) → TypeOutcome bits ty order levels s
 or_past {bits} s f = by_place s (length bits) f (λ lt. record { r = _; k = _; j = _; means = past_end lt })

@@ -116,7 +116,10 @@ room-whole (k ∷ ks) s shape room start size h f =
     let level = level_of k s in
     let v = Tree (composite_label shape) start size (parts_of level) in
     let r = room-more ks (cut_to k s) room (Some v ∷ []) h.1.1 f in
-    let m = marks-cut k s h.1.0.within in
-    (omega (arith, r.nodes, h.1.0.nodes, ap (λ (j : Marks). j.nodes) m, nodes_in_parts-of level),
-    (omega (arith, r.links, h.1.0.links, ap (λ (j : Marks). j.links) m, links_in_parts-of level, length-drop k.pending (stack s), length-stack s),
-    omega (arith, r.pending, ap (λ (j : Marks). j.pending) m)))
+    let m = marks-cut k s h.1.0.within in (
+      omega (arith, r.nodes, h.1.0.nodes, ap (λ (j : Marks). j.nodes) m, nodes_in_parts-of level),
+      (
+        omega (arith, r.links, h.1.0.links, ap (λ (j : Marks). j.links) m, links_in_parts-of level, length-drop k.pending (stack s), length-stack s),
+        omega (arith, r.pending, ap (λ (j : Marks). j.pending) m),
+      ),
+    )

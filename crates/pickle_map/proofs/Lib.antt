@@ -19,3 +19,4 @@ pub mod Fits
 pub mod Held
 pub mod Frames
 pub mod Writing
+pub mod ShownLevels

@@ -33,8 +33,8 @@ pub one_answer : HasOneAnswer
 one_answer bits ty order s limit =
     let o = means_exists bits ty order no_values s in
     by_place o.k limit
-      (λ le. record { answer = o.r; steps = o.k; made = o.j; answers = in_time o.means le; only = only_in_time o.means le })
-      (λ gt. record { answer = Err (fault.Limit, s); steps = limit; made = o.j; answers = too_long o.means gt (omega arith); only = only_too_long o.means gt })
+    (λ le. record { answer = o.r; steps = o.k; made = o.j; answers = in_time o.means le; only = only_in_time o.means le })
+    (λ gt. record { answer = Err (fault.Limit, s); steps = limit; made = o.j; answers = too_long o.means gt (omega arith); only = only_too_long o.means gt })
 
 pub values_wide : ValuesAreWide
 values_wide bits ty order levels s v k j m = (means_wide m, means_inside m)

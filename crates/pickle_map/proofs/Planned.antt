@@ -51,6 +51,7 @@ no_number_plan (UnionOf name alternatives) n levels s e = refl
 
 mutual
   unfolding number_plan
+
   number_comes : {bits : List ℕ} {ty : PokeType} {n : ℕ} {levels : Levels} {s : ℕ} {r : Result Value FaultAt} {k j : ℕ} → NumberMeans ty n levels s r k j → Comes bits (Tick (number_plan ty n levels s)) r k j
   number_comes integer = comes_tick (comes_made {j = 0} comes_ended)
   number_comes offset = comes_tick (comes_made {j = 0} comes_ended)
@@ -198,6 +199,7 @@ comes_on p f h g = comes_then p (on_value f) h g
 
 mutual
   unfolding plan
+
   pub means_comes : {bits : List ℕ} {ty : PokeType} {order : Order} {levels : Levels} {s : ℕ} {r : Result Value FaultAt} {k j : ℕ} → Means bits ty order levels s r k j → Comes bits (plan (length bits) ty order levels s) r k j
   means_comes {bits} (past_end {ty} {order} {levels} {s} lt) = any_past bits ty order levels s lt
   means_comes {bits} (number_read {ty} {type} {order} {levels} {s} {k} {j} {r} le e inside m) =

@@ -192,6 +192,7 @@ number_wide (UnionOf name alternatives) s e (Ok v) h = clash (sym (ap is_some e)
 
 mutual
   unfolding least_width
+
   pub means_wide : {bits : List ℕ} {ty : PokeType} {order : Order} {levels : Levels} {s : ℕ} {r : Result Value FaultAt} {k j : ℕ} → Means bits ty order levels s r k j → EndsFrom end_of (s + least_width ty) r
   means_wide (past_end lt) = tt
   means_wide {r} (number_read {ty} {type} {s} le e inside h) = number_wide ty s e r (subst (λ x. EndsAt s x r) e (number_ends h))

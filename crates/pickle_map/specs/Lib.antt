@@ -18,3 +18,4 @@ pub mod Levels
 pub mod Links
 pub mod Slots
 pub mod Kinds
+pub mod Shown

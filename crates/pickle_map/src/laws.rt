@@ -6,29 +6,24 @@ ghost use Rattle.pickle_map.specs.Laws.{HasOneOutcome, PlanIsMeant, HasOneAnswer
 /// one number of values made.
 pub fn has_one_outcome()
     ensures law { HasOneOutcome }
-{
-}
+{}
 
 /// What the plan of a mapping comes to on a file's bits is what the type means there.
 pub fn plan_is_meant()
     ensures law { PlanIsMeant }
-{
-}
+{}
 
 /// Each mapping has exactly one answer under each limit of steps.
 pub fn has_one_answer()
     ensures law { HasOneAnswer }
-{
-}
+{}
 
 /// A value ends in the file, at least as many bits behind its start as its type's least width.
 pub fn values_are_wide()
     ensures law { ValuesAreWide }
-{
-}
+{}
 
 /// No more elements of an array are values than have room in the file.
 pub fn tries_are_few()
     ensures law { TriesAreFew }
-{
-}
+{}
