@@ -20,3 +20,4 @@ pub mod Held
 pub mod Frames
 pub mod Writing
 pub mod ShownLevels
+pub mod Keeping

@@ -19,3 +19,4 @@ pub mod Links
 pub mod Slots
 pub mod Kinds
 pub mod Shown
+pub mod Stops

@@ -5,6 +5,7 @@ pub mod evaluate;
 pub mod extent;
 pub mod faults;
 pub mod laws;
+pub mod map;
 pub mod memory;
 pub mod store;
 pub mod value;

@@ -1,0 +1,4 @@
+//! Mapping of types over the bits of a space.
+
+pub(crate) mod keep;
+pub(crate) mod stop;
