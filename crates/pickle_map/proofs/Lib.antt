@@ -21,3 +21,5 @@ pub mod Frames
 pub mod Writing
 pub mod ShownLevels
 pub mod Keeping
+mod Costs
+mod Makes

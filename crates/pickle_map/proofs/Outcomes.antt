@@ -61,5 +61,5 @@ tries_few bits ty order s extent levels n inside pn k j le es =
     let number = h.number in
     let reach = h.reach in
     let end = elements_inside es le in
-    let most : h.count ≤ length bits / max 1 (least_width ty) = (le-div_iff_mul-le (omega arith)).1 (omega arith) in
+    let most : h.count ≤ length bits / max 1 (least_width ty) = (le-div_iff_mul-le {k = max 1 (least_width ty)} {x = h.count} {y = length bits} (omega arith)).1 (omega arith) in
     omega arith

@@ -30,10 +30,15 @@ abbrev pub gives : Computed → Evaluation
 gives (Ok label) = record { outcome = Ok (Plain label); steps = 0 }
 gives (Err f) = record { outcome = Err f; steps = 0 }
 
--- the value at a path, or Absent where there is none
-abbrev pub leads_to : Option Value → Evaluation
-leads_to None = record { outcome = Err fault.Absent; steps = 0 }
-leads_to (Some value) = record { outcome = Ok (AtPath value); steps = 0 }
+-- a value, or Absent where there is none
+abbrev pub present : Option Value → Result Value MapFaultKind
+present None = Err fault.Absent
+present (Some value) = Ok value
+
+-- the value at a path, in no steps of its own
+abbrev pub leads_to : Result Value MapFaultKind → Evaluation
+leads_to (Ok value) = record { outcome = Ok (AtPath value); steps = 0 }
+leads_to (Err f) = record { outcome = Err f; steps = 0 }
 
 -- so many steps more
 abbrev pub with_steps : ℕ → Evaluation → Evaluation
@@ -99,10 +104,10 @@ selected (AtPath (Mapped (UnionLabel name index alternative) start end members))
 selected (AtPath value) place = None
 
 -- the element of an array; an index that is negative or not below the count is Index
-abbrev pub element : Operand → Label → Evaluation
-element (AtPath (Mapped ArrayLabel start end members)) (IntegerLabel (pos i) type) = if nat_lt i (member_count members) then leads_to (member_at members i) else record { outcome = Err fault.Index; steps = 0 }
-element (AtPath (Mapped ArrayLabel start end _)) (IntegerLabel (negsuc i) type) = record { outcome = Err fault.Index; steps = 0 }
-element p i = leads_to None
+abbrev pub element : Operand → Label → Result Value MapFaultKind
+element (AtPath (Mapped ArrayLabel start end members)) (IntegerLabel (pos i) type) = if nat_lt i (member_count members) then present (member_at members i) else Err fault.Index
+element (AtPath (Mapped ArrayLabel start end _)) (IntegerLabel (negsuc i) type) = Err fault.Index
+element p i = Err fault.Absent
 
 -- how many elements an array has, and how many bits a value
 abbrev pub attribute_of : Attribute → Operand → Computed
@@ -114,7 +119,7 @@ attribute_of attribute x = Err fault.Absent
 unfoldable pub evaluation : Term → Levels → Evaluation
 evaluation (Number type value) levels = with_steps 1 (gives (Ok (IntegerLabel (pos value) type)))
 evaluation (Text bytes) levels = with_steps 1 (gives (Ok (TextLabel bytes)))
-evaluation (Name level place) levels = with_steps 1 (leads_to (value_at levels level place))
+evaluation (Name level place) levels = with_steps 1 (leads_to (present (value_at levels level place)))
 evaluation (Bracket e) levels = with_steps 1 (evaluation e levels)
 evaluation (Before op e) levels = with_steps 1 (and_operand (evaluation e levels) (λ x. gives (prefixed op (operand_label x))))
 evaluation (Between op a b) levels =
@@ -125,8 +130,8 @@ evaluation (Choice common c x y) levels =
     with_steps 1 (and_operand (evaluation c levels) (λ t.
     and_operand (chosen (truth_of (operand_label t)) (evaluation x levels) (evaluation y levels)) (λ z.
     gives (as_common common (operand_label z)))))
-evaluation (Index e i) levels = with_steps 1 (and_operand (evaluation e levels) (λ p. and_operand (evaluation i levels) (λ n. element p (operand_label n))))
-evaluation (Select e place) levels = with_steps 1 (and_operand (evaluation e levels) (λ p. leads_to (selected p place)))
+evaluation (Index e i) levels = with_steps 1 (and_operand (evaluation e levels) (λ p. and_operand (evaluation i levels) (λ n. leads_to (element p (operand_label n)))))
+evaluation (Select e place) levels = with_steps 1 (and_operand (evaluation e levels) (λ p. leads_to (present (selected p place))))
 evaluation (AttributeOf attribute e) levels = with_steps 1 (and_operand (evaluation e levels) (λ p. gives (attribute_of attribute p)))
 evaluation (ToInteger type e) levels = with_steps 1 (and_operand (evaluation e levels) (λ x. gives (to_integer type (operand_label x))))
 evaluation (ToOffset type unit e) levels = with_steps 1 (and_operand (evaluation e levels) (λ x. gives (to_offset type unit (operand_label x))))

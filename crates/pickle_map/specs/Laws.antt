@@ -46,7 +46,7 @@ StepsAreBounded = (m : ℕ) (ty : PokeType) (order : Order) (levels : Levels) (s
 
 -- whatever is read, a mapping makes at no time more values than it has taken steps
 abbrev pub MadeIsBounded : Type 0
-MadeIsBounded = (m : ℕ) (ty : PokeType) (order : Order) (levels : Levels) (s : ℕ) → MadeWithin (plan m ty order levels s) 0
+MadeIsBounded = (m : ℕ) (ty : PokeType) (order : Order) (levels : Levels) (s : ℕ) → MadeWithin (plan m ty order levels s) 0 0
 
 -- a value ends in the file, at least as many bits behind its start as its type's least width
 abbrev pub ValuesAreWide : Type 0

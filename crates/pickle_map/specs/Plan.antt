@@ -58,13 +58,13 @@ pub data AtMost {A : Type 0} : Plan A → ℕ → Type 0 where
   noted : {count : ℕ} {levels : Levels} {p : Plan A} {c : ℕ} → AtMost p c → AtMost (Made count levels p) c
   given : {place width : ℕ} {order : Order} {rest : ℕ → Plan A} {c : ℕ} → ((n : ℕ) → AtMost (rest n) c) → AtMost (Read place width order rest) c
 
--- The plan makes no more values than it takes steps, but for `ahead` steps that were taken before, at each place of it,
--- whatever it reads.
-pub data MadeWithin {A : Type 0} : Plan A → (ahead : ℕ) → Type 0 where
-  made_ended : {a : A} {ahead : ℕ} → MadeWithin (Ended a) ahead
-  made_tick : {p : Plan A} {ahead : ℕ} → MadeWithin p (ahead + 1) → MadeWithin (Tick p) ahead
-  made_more : {count : ℕ} {levels : Levels} {p : Plan A} {ahead : ℕ} (left : ℕ) → count + left ≤ ahead → MadeWithin p left → MadeWithin (Made count levels p) ahead
-  made_read : {place width : ℕ} {order : Order} {rest : ℕ → Plan A} {ahead : ℕ} → ((n : ℕ) → MadeWithin (rest n) ahead) → MadeWithin (Read place width order rest) ahead
+-- Whatever the plan reads: where `ahead` steps were taken before for which no value is made yet, no more values than steps
+-- are made at any time, and at least `left` such steps are left at its end.
+pub data MadeWithin {A : Type 0} : Plan A → (ahead left : ℕ) → Type 0 where
+  made_ended : {a : A} {ahead left : ℕ} → left ≤ ahead → MadeWithin (Ended a) ahead left
+  made_tick : {p : Plan A} {ahead left : ℕ} → MadeWithin p (ahead + 1) left → MadeWithin (Tick p) ahead left
+  made_more : {count : ℕ} {levels : Levels} {p : Plan A} {ahead left : ℕ} (rest : ℕ) → count + rest ≤ ahead → MadeWithin p rest left → MadeWithin (Made count levels p) ahead left
+  made_read : {place width : ℕ} {order : Order} {rest : ℕ → Plan A} {ahead left : ℕ} → ((n : ℕ) → MadeWithin (rest n) ahead left) → MadeWithin (Read place width order rest) ahead left
 
 -- whatever the plan reads, the levels that are kept meet M, and each result meets Q
 pub data Always {A : Type 0} (M : Levels → Type 0) (Q : A → Type 0) : Plan A → Type 0 where

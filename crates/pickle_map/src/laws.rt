@@ -1,6 +1,6 @@
 //! The laws of the meaning of a mapping. These functions do nothing: the contract of each is a law.
 
-ghost use Rattle.pickle_map.specs.Laws.{HasOneOutcome, PlanIsMeant, HasOneAnswer, ValuesAreWide, TriesAreFew};
+ghost use Rattle.pickle_map.specs.Laws.{HasOneOutcome, PlanIsMeant, HasOneAnswer, StepsAreBounded, MadeIsBounded, ValuesAreWide, TriesAreFew};
 
 /// Each type has exactly one outcome at each place of each file, in one number of steps and with
 /// one number of values made.
@@ -17,6 +17,18 @@ pub fn plan_is_meant()
 pub fn has_one_answer()
     ensures law { HasOneAnswer }
 {}
+
+/// Whatever is read, a mapping takes at most as many steps as the bound of its type.
+pub fn steps_are_bounded()
+    ensures law { StepsAreBounded }
+{
+}
+
+/// Whatever is read, a mapping makes at no time more values than it has taken steps.
+pub fn made_is_bounded()
+    ensures law { MadeIsBounded }
+{
+}
 
 /// A value ends in the file, at least as many bits behind its start as its type's least width.
 pub fn values_are_wide()
