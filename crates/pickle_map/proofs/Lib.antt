@@ -23,3 +23,4 @@ pub mod ShownLevels
 pub mod Keeping
 mod Costs
 mod Makes
+pub mod Walks
