@@ -20,3 +20,4 @@ pub mod Slots
 pub mod Kinds
 pub mod Shown
 pub mod Stops
+pub mod Framed
