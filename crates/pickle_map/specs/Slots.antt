@@ -1,5 +1,5 @@
 -- What a store holds, and the values that it stands for.
-use Rattle.std.specs.Prelude.{◌≡◌, ℕ, zero, suc, ◌+◌, ◌-◌, ◌*◌, ◌<◌, ◌≤◌, ℤ, pos, Bool, true, false, List, [], ◌∷◌, ◌++◌, Option, Some, None, length, take, drop, map, slice_get, slice_index, slice_index_or, FitsSigned}
+use Rattle.std.specs.Prelude.{◌≡◌, ℕ, zero, suc, ◌+◌, ◌-◌, ◌*◌, ◌^◌, ◌<◌, ◌≤◌, ℤ, pos, Bool, true, false, List, [], ◌∷◌, ◌++◌, Option, Some, None, length, take, drop, map, slice_get, slice_index, slice_index_or, FitsSigned}
 use Rattle.std.specs.Int.{cast_signed, w64, FitsUnsigned}
 use Rattle.pickle_map.specs.declared.store.slots.Node.{Node}
 use Rattle.pickle_map.specs.declared.store.slots.Family.{Family}
@@ -156,8 +156,12 @@ pub record IsRow (first end count : ℕ) : Type 0 where
 abbrev pub IsFamily : Slots → ℕ → Type 0
 IsFamily s c = (c < length s.families) × IsRow (first_link s.families c) (family_at s.families c).end (length s.links)
 
+-- a text has fewer than 2 ^ 64 bits
+abbrev pub IsShort : (count : ℕ) → Type 0
+IsShort count = 8 * (count + 1) < 2 ^ 64
+
 abbrev pub IsTextRow : Slots → ℕ → Type 0
-IsTextRow s c = (c < length s.texts) × IsRow (first_byte s.texts c) (slice_index s.texts c) (length s.bytes)
+IsTextRow s c = (c < length s.texts) × (IsRow (first_byte s.texts c) (slice_index s.texts c) (length s.bytes) × IsShort (slice_index s.texts c - first_byte s.texts c))
 
 abbrev pub IsContent : Slots → Shape → ℕ → Type 0
 IsContent s (Integer w g) c = Unit {0}
@@ -289,20 +293,51 @@ with_text bytes start s = record {
 abbrev pub with_absent : Slots → Slots
 with_absent s = record s { pending = s.pending ++ None ∷ [] }
 
--- the innermost open value is a text of these bytes under way, above these levels
+-- a byte more at the end of the last text
+abbrev pub with_byte : ℕ → Slots → Slots
+with_byte byte s = record {
+  nodes = s.nodes;
+  families = s.families;
+  links = s.links;
+  pending = s.pending;
+  texts = take (length s.texts - 1) s.texts ++ length (s.bytes ++ byte ∷ []) ∷ [];
+  bytes = s.bytes ++ byte ∷ [];
+}
+
+-- a store whose innermost open value had no parts yet, after these bytes of a text
+abbrev pub written : List ℕ → ℕ → Slots → Slots
+written [] start s = s
+written (b ∷ bytes) start s = with_text (b ∷ bytes) start s
+
+-- the innermost open value is a text under way, of these bytes so far; there is no node for it before it has a byte
 pub record IsWriting (h : Held) (bytes : List ℕ) (start : ℕ) (outer : Levels) : Type 0 where
   pub before : Slots
-  pub is : h.slots ≡ with_text bytes start before
+  pub is : h.slots ≡ written bytes start before
   pub own : AreLevels h.frames before
   pub above : levels_at h.frames before ≡ [] ∷ outer
-  pub inner : 0 < length h.frames
+  pub short : IsShort (length bytes)
 
--- a text is under way
-pub record IsText (h : Held) : Type 0 where
+-- a text is under way that begins there
+pub record IsText (h : Held) (start : ℕ) : Type 0 where
+  pub bytes : List ℕ
+  pub outer : Levels
+  pub writing : IsWriting h bytes start outer
+
+-- a text under way that takes a byte more
+pub record TakesByte (h : Held) (start : ℕ) : Type 0 where
+  pub bytes : List ℕ
+  pub outer : Levels
+  pub writing : IsWriting h bytes start outer
+  pub short : IsShort (length bytes + 1)
+
+-- a text under way that has a byte, and takes another
+pub record GoesOn (h : Held) : Type 0 where
   pub bytes : List ℕ
   pub start : ℕ
   pub outer : Levels
   pub writing : IsWriting h bytes start outer
+  pub some : 0 < length bytes
+  pub short : IsShort (length bytes + 1)
 
 -- room of that many of each kind is enough for so many more
 pub record HasRoom (room : ℕ) (s : Slots) (node_count link_count pending_count byte_count : ℕ) : Type 0 where
