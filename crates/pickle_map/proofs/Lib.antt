@@ -7,3 +7,4 @@ pub mod Fits
 pub mod Held
 pub mod Frames
 pub mod Writing
+pub mod Found
