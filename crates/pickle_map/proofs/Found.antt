@@ -7,7 +7,7 @@ use Rattle.std.proofs.lemmas.Option.{slice_get-get_or, get_or_from_slice_get, sl
 use Rattle.pickle_map.specs.declared.store.slots.Node.{Node}
 use Rattle.pickle_map.specs.declared.store.slots.Shape.{Shape}
 use Rattle.pickle_map.specs.Tree.{Label, Value, Tree, ArrayLabel, End, Parts, parts_of, options_of, label, start, size, parts, part_at}
-use Rattle.pickle_map.specs.Slots.{Slots, part, opened, label_in, size_in, links_of, tree_of, trees_from, trees, value_at, stack, LinksBelow, IsContent, IsNodeAt, AreNodesFrom, IsSound}
+use Rattle.pickle_map.specs.Slots.{Slots, part, opened, label_in, size_in, links_of, tree_of, trees_from, trees, value_at, stack, LinksBelow, IsContent, IsRead, IsNodeAt, AreNodesFrom, IsSound}
 use Rattle.pickle_map.proofs.Grown.{get-trees_from, length-trees}
 
 pub options-parts : (os : List (Option Value)) → options_of (parts_of os) ≡ os
@@ -50,16 +50,6 @@ IfSome-weaker : (l : Option ℕ) (i k : ℕ) → i ≤ k → IfSome l (λ j. j <
 IfSome-weaker None i k p h = tt
 IfSome-weaker (Some j) i k p h = omega arith
 
--- the links of a node, and what its value has of it
-pub record Read (s : Slots) (i : ℕ) (n : Node) : Type 0 where
-  pub label : label (value_at s i) ≡ label_in s n.shape n.content
-  pub start : start (value_at s i) ≡ n.start
-  pub size : size (value_at s i) ≡ size_in s n.shape n.content
-  pub count : length (parts (value_at s i)) ≡ length (links_of s n.shape n.content)
-  pub content : IsContent s n.shape n.content
-  pub child : (k : ℕ) → option_map (value_at s) (unwrap_or (slice_get (links_of s n.shape n.content) k) None) ≡ part_at (value_at s i) k
-  pub below : (k : ℕ) → IfSome (unwrap_or (slice_get (links_of s n.shape n.content) k) None) (λ j. j < i)
-
 parts-at : (s : Slots) (i : ℕ) (n : Node) → IsSound s → slice_get s.nodes i ≡ Some n → parts (value_at s i) ≡ map (opened (trees s)) (links_of s n.shape n.content)
 parts-at s i n h g = ap parts (value-at s i n h g) ∙ options-parts (map (opened (trees s)) (links_of s n.shape n.content))
 
@@ -71,7 +61,7 @@ child-found : (s : Slots) (k : ℕ) (ls : List (Option ℕ)) (o : Option (Option
 child-found s k ls None p h = refl
 child-found s k ls (Some l) p h = sym (opened-value s l (IfSome-weaker l k (length s.nodes) p h))
 
-pub read-node : (s : Slots) (i : ℕ) (n : Node) → IsSound s → slice_get s.nodes i ≡ Some n → Read s i n
+pub read-node : (s : Slots) (i : ℕ) (n : Node) → IsSound s → slice_get s.nodes i ≡ Some n → IsRead s i n
 read-node s i n h g =
     let v = value-at s i n h g in
     let is = node_sound s i n h g in

@@ -3,4 +3,4 @@ pub mod Levels
 pub mod Links
 pub mod Slots
 pub mod Kinds
-
+pub mod Refs

@@ -1,12 +1,13 @@
 -- What a store holds, and the values that it stands for.
-use Rattle.std.specs.Prelude.{◌≡◌, ℕ, zero, suc, ◌+◌, ◌-◌, ◌*◌, ◌^◌, ◌<◌, ◌≤◌, ℤ, pos, Bool, true, false, List, [], ◌∷◌, ◌++◌, Option, Some, None, length, take, drop, map, slice_get, slice_index, slice_index_or, FitsSigned}
+use Rattle.std.specs.Prelude.{◌≡◌, ℕ, zero, suc, ◌+◌, ◌-◌, ◌*◌, ◌^◌, ◌<◌, ◌≤◌, ℤ, pos, Bool, true, false, List, [], ◌∷◌, ◌++◌, Option, Some, None, length, take, drop, map, slice_get, slice_index, slice_index_or, unwrap_or, IfSome, FitsSigned}
+use Rattle.std.specs.Option.{option_map}
 use Rattle.std.specs.Int.{cast_signed, w64, FitsUnsigned}
 use Rattle.pickle_map.specs.declared.store.slots.Node.{Node}
 use Rattle.pickle_map.specs.declared.store.slots.Family.{Family}
 use Rattle.pickle_map.specs.declared.store.slots.Marks.{Marks}
 use Rattle.pickle_map.specs.declared.store.slots.Shape.{Shape}
 use Rattle.pickle_map.specs.declared.store.slots.Shape.TheVariants.{Integer, Offset, Text, Array, Struct, Union}
-use Rattle.pickle_map.specs.Tree.{Label, IntegerLabel, OffsetLabel, TextLabel, ArrayLabel, StructLabel, UnionLabel, Value, Tree, Parts, End, parts_of, text_value}
+use Rattle.pickle_map.specs.Tree.{Label, IntegerLabel, OffsetLabel, TextLabel, ArrayLabel, StructLabel, UnionLabel, Value, Tree, Parts, End, parts_of, text_value, label, start, size, parts, part_at}
 use Rattle.pickle_map.specs.Levels.{Levels, level_nodes, level_links, level_bytes}
 
 -- the slots of a store, each a list of its own
@@ -365,3 +366,22 @@ pub record IsStore (h : Held) (node_capacity family_capacity link_capacity pendi
 abbrev pub around : List Marks → List Marks
 around [] = []
 around (k ∷ ks) = ks
+
+-- what the value of a node has of it
+pub record IsRead (s : Slots) (i : ℕ) (n : Node) : Type 0 where
+  pub label : label (value_at s i) ≡ label_in s n.shape n.content
+  pub start : start (value_at s i) ≡ n.start
+  pub size : size (value_at s i) ≡ size_in s n.shape n.content
+  pub count : length (parts (value_at s i)) ≡ length (links_of s n.shape n.content)
+  pub content : IsContent s n.shape n.content
+  pub child : (k : ℕ) → option_map (value_at s) (unwrap_or (slice_get (links_of s n.shape n.content) k) None) ≡ part_at (value_at s i) k
+  pub below : (k : ℕ) → IfSome (unwrap_or (slice_get (links_of s n.shape n.content) k) None) (λ j. j < i)
+
+-- the marks of an open value, counted from the innermost; those of the whole stand below all
+abbrev pub marks_at : List Marks → ℕ → Marks
+marks_at ks level = slice_index_or ks level root_marks
+
+-- where the parts of an open value end among the pending children
+abbrev pub level_end : List Marks → (count : ℕ) → ℕ → ℕ
+level_end ks count zero = count
+level_end ks count (suc n) = (marks_at ks n).pending
