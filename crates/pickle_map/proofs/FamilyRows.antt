@@ -58,7 +58,8 @@ IsTextRow-grow : (s u : Slots) (c : ℕ) → Grows s u → IsTextRow s c → IsT
 IsTextRow-grow s u c g h =
     let f : slice_index (s.texts ++ g.more_texts) c ≡ slice_index s.texts c = get_or_append_left s.texts g.more_texts 0 c h.0 in
     let b = first_byte-grow s.texts g.more_texts c (omega (arith, h.0)) in
-    rw (g.texts, g.bytes) (omega (arith, h.0, length-append s.texts g.more_texts), rw (f, b) (record { ordered = h.1.ordered; within = omega (arith, h.1.within, length-append s.bytes g.more_bytes) }))
+    let row = h.1.0 in
+    rw (g.texts, g.bytes) (omega (arith, h.0, length-append s.texts g.more_texts), rw (f, b) (record { ordered = row.ordered; within = omega (arith, row.within, length-append s.bytes g.more_bytes) }, h.1.1))
 
 pub IsContent-grow : (s u : Slots) (shape : Shape) (c : ℕ) → Grows s u → IsContent s shape c → IsContent u shape c
 IsContent-grow s u (Integer w x) c g h = tt
@@ -81,7 +82,7 @@ text_bytes-grow : (s u : Slots) (c : ℕ) → Grows s u → IsTextRow s c → te
 text_bytes-grow s u c g h =
     let f : slice_index (s.texts ++ g.more_texts) c ≡ slice_index s.texts c = get_or_append_left s.texts g.more_texts 0 c h.0 in
     let b = first_byte-grow s.texts g.more_texts c (omega (arith, h.0)) in
-    rw (g.texts, g.bytes, f, b) (part-append (first_byte s.texts c) _ s.bytes g.more_bytes (omega (arith, h.1.ordered, h.1.within)))
+    rw (g.texts, g.bytes, f, b) (part-append (first_byte s.texts c) _ s.bytes g.more_bytes (omega (arith, h.1.0.ordered, h.1.0.within)))
 
 pub links_of-grow : (s u : Slots) (shape : Shape) (c : ℕ) → Grows s u → IsContent s shape c → links_of u shape c ≡ links_of s shape c
 links_of-grow s u (Integer w x) c g h = refl

@@ -36,19 +36,19 @@ totals (k ∷ ks) s h =
       bytes = omega (arith, h.1.0.bytes, r.bytes, ap (λ (j : Marks). j.bytes) m);
     }
 
-total_nodes-extended : (ls : Levels) (vs : List (Option Value)) → total_nodes (extended ls vs) ≡ total_nodes ls + level_nodes vs
+pub total_nodes-extended : (ls : Levels) (vs : List (Option Value)) → total_nodes (extended ls vs) ≡ total_nodes ls + level_nodes vs
 total_nodes-extended [] vs = omega arith
 total_nodes-extended (top ∷ outer) vs = omega (arith, level_nodes-append top vs)
 
-total_links-extended : (ls : Levels) (vs : List (Option Value)) → total_links (extended ls vs) ≡ total_links ls + level_links vs
+pub total_links-extended : (ls : Levels) (vs : List (Option Value)) → total_links (extended ls vs) ≡ total_links ls + level_links vs
 total_links-extended [] vs = omega arith
 total_links-extended (top ∷ outer) vs = omega (arith, level_links-append top vs)
 
-total_pending-extended : (ls : Levels) (vs : List (Option Value)) → total_pending (extended ls vs) ≡ total_pending ls + length vs
+pub total_pending-extended : (ls : Levels) (vs : List (Option Value)) → total_pending (extended ls vs) ≡ total_pending ls + length vs
 total_pending-extended [] vs = omega arith
 total_pending-extended (top ∷ outer) vs = omega (arith, length-append top vs)
 
-total_bytes-extended : (ls : Levels) (vs : List (Option Value)) → total_bytes (extended ls vs) ≡ total_bytes ls + level_bytes vs
+pub total_bytes-extended : (ls : Levels) (vs : List (Option Value)) → total_bytes (extended ls vs) ≡ total_bytes ls + level_bytes vs
 total_bytes-extended [] vs = omega arith
 total_bytes-extended (top ∷ outer) vs = omega (arith, level_bytes-append top vs)
 
@@ -62,17 +62,6 @@ room-more ks s room vs h f =
       links = omega (arith, f.links, t.links, total_links-extended ls vs);
       pending = omega (arith, f.pending, t.pending, total_pending-extended ls vs);
       bytes = omega (arith, f.bytes, t.bytes, total_bytes-extended ls vs);
-    }
-
--- room for a text that is opened
-pub room-text : (ks : List Marks) (s : Slots) (room start : ℕ) → AreLevels ks s → FitsIn room (text_level [] start (levels_at ks s)) → HasRoom room s 1 0 1 0
-room-text ks s room start h f =
-    let t = totals ks s h in
-    record {
-      nodes = omega (arith, f.nodes, t.nodes);
-      links = omega (arith, f.links, t.links);
-      pending = omega (arith, f.pending, t.pending);
-      bytes = omega (arith, f.bytes, t.bytes);
     }
 
 -- room for one more byte of the text under way

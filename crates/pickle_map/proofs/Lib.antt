@@ -24,3 +24,4 @@ pub mod Keeping
 mod Costs
 mod Makes
 pub mod Walks
+pub mod Found

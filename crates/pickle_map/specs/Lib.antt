@@ -21,3 +21,4 @@ pub mod Kinds
 pub mod Shown
 pub mod Stops
 pub mod Framed
+pub mod Refs

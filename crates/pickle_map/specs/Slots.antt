@@ -1,12 +1,13 @@
 -- What a store holds, and the values that it stands for.
-use Rattle.std.specs.Prelude.{◌≡◌, ℕ, zero, suc, ◌+◌, ◌-◌, ◌*◌, ◌<◌, ◌≤◌, ℤ, pos, Bool, true, false, List, [], ◌∷◌, ◌++◌, Option, Some, None, length, take, drop, map, slice_get, slice_index, slice_index_or, FitsSigned}
+use Rattle.std.specs.Prelude.{◌≡◌, ℕ, zero, suc, ◌+◌, ◌-◌, ◌*◌, ◌^◌, ◌<◌, ◌≤◌, ℤ, pos, Bool, true, false, List, [], ◌∷◌, ◌++◌, Option, Some, None, length, take, drop, map, slice_get, slice_index, slice_index_or, unwrap_or, IfSome, FitsSigned}
+use Rattle.std.specs.Option.{option_map}
 use Rattle.std.specs.Int.{cast_signed, w64, FitsUnsigned}
 use Rattle.pickle_map.specs.declared.store.slots.Node.{Node}
 use Rattle.pickle_map.specs.declared.store.slots.Family.{Family}
 use Rattle.pickle_map.specs.declared.store.slots.Marks.{Marks}
 use Rattle.pickle_map.specs.declared.store.slots.Shape.{Shape}
 use Rattle.pickle_map.specs.declared.store.slots.Shape.TheVariants.{Integer, Offset, Text, Array, Struct, Union}
-use Rattle.pickle_map.specs.Tree.{Label, IntegerLabel, OffsetLabel, TextLabel, ArrayLabel, StructLabel, UnionLabel, Value, Tree, Parts, End, parts_of, text_value}
+use Rattle.pickle_map.specs.Tree.{Label, IntegerLabel, OffsetLabel, TextLabel, ArrayLabel, StructLabel, UnionLabel, Value, Tree, Parts, End, parts_of, text_value, label, start, size, parts, part_at}
 use Rattle.pickle_map.specs.Levels.{Levels, level_nodes, level_links, level_bytes}
 
 -- the slots of a store, each a list of its own
@@ -156,8 +157,12 @@ pub record IsRow (first end count : ℕ) : Type 0 where
 abbrev pub IsFamily : Slots → ℕ → Type 0
 IsFamily s c = (c < length s.families) × IsRow (first_link s.families c) (family_at s.families c).end (length s.links)
 
+-- a text has fewer than 2 ^ 64 bits
+abbrev pub IsShort : (count : ℕ) → Type 0
+IsShort count = 8 * (count + 1) < 2 ^ 64
+
 abbrev pub IsTextRow : Slots → ℕ → Type 0
-IsTextRow s c = (c < length s.texts) × IsRow (first_byte s.texts c) (slice_index s.texts c) (length s.bytes)
+IsTextRow s c = (c < length s.texts) × (IsRow (first_byte s.texts c) (slice_index s.texts c) (length s.bytes) × IsShort (slice_index s.texts c - first_byte s.texts c))
 
 abbrev pub IsContent : Slots → Shape → ℕ → Type 0
 IsContent s (Integer w g) c = Unit {0}
@@ -289,20 +294,51 @@ with_text bytes start s = record {
 abbrev pub with_absent : Slots → Slots
 with_absent s = record s { pending = s.pending ++ None ∷ [] }
 
--- the innermost open value is a text of these bytes under way, above these levels
+-- a byte more at the end of the last text
+abbrev pub with_byte : ℕ → Slots → Slots
+with_byte byte s = record {
+  nodes = s.nodes;
+  families = s.families;
+  links = s.links;
+  pending = s.pending;
+  texts = take (length s.texts - 1) s.texts ++ length (s.bytes ++ byte ∷ []) ∷ [];
+  bytes = s.bytes ++ byte ∷ [];
+}
+
+-- a store whose innermost open value had no parts yet, after these bytes of a text
+abbrev pub written : List ℕ → ℕ → Slots → Slots
+written [] start s = s
+written (b ∷ bytes) start s = with_text (b ∷ bytes) start s
+
+-- the innermost open value is a text under way, of these bytes so far; there is no node for it before it has a byte
 pub record IsWriting (h : Held) (bytes : List ℕ) (start : ℕ) (outer : Levels) : Type 0 where
   pub before : Slots
-  pub is : h.slots ≡ with_text bytes start before
+  pub is : h.slots ≡ written bytes start before
   pub own : AreLevels h.frames before
   pub above : levels_at h.frames before ≡ [] ∷ outer
-  pub inner : 0 < length h.frames
+  pub short : IsShort (length bytes)
 
--- a text is under way
-pub record IsText (h : Held) : Type 0 where
+-- a text is under way that begins there
+pub record IsText (h : Held) (start : ℕ) : Type 0 where
+  pub bytes : List ℕ
+  pub outer : Levels
+  pub writing : IsWriting h bytes start outer
+
+-- a text under way that takes a byte more
+pub record TakesByte (h : Held) (start : ℕ) : Type 0 where
+  pub bytes : List ℕ
+  pub outer : Levels
+  pub writing : IsWriting h bytes start outer
+  pub short : IsShort (length bytes + 1)
+
+-- a text under way that has a byte, and takes another
+pub record GoesOn (h : Held) : Type 0 where
   pub bytes : List ℕ
   pub start : ℕ
   pub outer : Levels
   pub writing : IsWriting h bytes start outer
+  pub some : 0 < length bytes
+  pub short : IsShort (length bytes + 1)
 
 -- room of that many of each kind is enough for so many more
 pub record HasRoom (room : ℕ) (s : Slots) (node_count link_count pending_count byte_count : ℕ) : Type 0 where
@@ -330,3 +366,22 @@ pub record IsStore (h : Held) (node_capacity family_capacity link_capacity pendi
 abbrev pub around : List Marks → List Marks
 around [] = []
 around (k ∷ ks) = ks
+
+-- what the value of a node has of it
+pub record IsRead (s : Slots) (i : ℕ) (n : Node) : Type 0 where
+  pub label : label (value_at s i) ≡ label_in s n.shape n.content
+  pub start : start (value_at s i) ≡ n.start
+  pub size : size (value_at s i) ≡ size_in s n.shape n.content
+  pub count : length (parts (value_at s i)) ≡ length (links_of s n.shape n.content)
+  pub content : IsContent s n.shape n.content
+  pub child : (k : ℕ) → option_map (value_at s) (unwrap_or (slice_get (links_of s n.shape n.content) k) None) ≡ part_at (value_at s i) k
+  pub below : (k : ℕ) → IfSome (unwrap_or (slice_get (links_of s n.shape n.content) k) None) (λ j. j < i)
+
+-- the marks of an open value, counted from the innermost; those of the whole stand below all
+abbrev pub marks_at : List Marks → ℕ → Marks
+marks_at ks level = slice_index_or ks level root_marks
+
+-- where the parts of an open value end among the pending children
+abbrev pub level_end : List Marks → (count : ℕ) → ℕ → ℕ
+level_end ks count zero = count
+level_end ks count (suc n) = (marks_at ks n).pending

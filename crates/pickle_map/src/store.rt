@@ -4,6 +4,7 @@ ghost use Rattle.pickle_map.specs.Slots.{empty, marks_of, innermost, levels};
 
 mod cut;
 mod place;
+mod read;
 pub(crate) mod slots;
 mod text;
 

@@ -11,6 +11,8 @@ impl Store {
         requires { length (levels self.old) ≤ 64 }
         ensures levels { levels self.new ≡ [] ∷ levels self.old }
         ensures room { self.new.room ≡ self.old.room }
+        ensures slots { self.new.slots ≡ self.old.slots }
+        ensures sound { AreLevels self.new.frames self.new.slots }
     {
         let marks = self.marks();
         self.frames.push(marks);

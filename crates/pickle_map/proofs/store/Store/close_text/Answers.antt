@@ -1,8 +1,10 @@
-use Rattle.std.proofs.Common.{◌≡◌, ◌∙◌, ap, Some, ◌∷◌, []}
-use Rattle.pickle_map.specs.Levels.{top_of, outer_of, extended}
-use Rattle.pickle_map.proofs.Writing.{writing-levels}
+use Rattle.std.proofs.Common.{◌≡◌, ◌∙◌}
+use Rattle.pickle_map.specs.Slots.{levels}
+use Rattle.pickle_map.specs.Levels.{text_level}
+use Rattle.pickle_map.proofs.Writing.{lifted-text}
 use Rattle.pickle_map.proofs.store.Store.close_text.Goals as goal
 
-pub returns-clause-levels : goal.returns-clause-levels
-returns-clause-levels c = λ bytes start outer w.
-    c.lift_level.ensures.levels ∙ ap (λ ls. extended (outer_of ls) (top_of ls)) (writing-levels c.args.self.now bytes start outer w)
+pub returns-clause-ok : goal.returns-clause-ok
+returns-clause-ok c = λ bytes outer w.
+    let e : levels c.settle_text.new.self ≡ text_level bytes c.args.start outer = c.in_ok-settle_text.ensures.ok bytes outer w in
+    c.lift_level.ensures.levels ∙ lifted-text bytes c.args.start outer (levels c.settle_text.new.self) e
