@@ -25,3 +25,4 @@ mod Costs
 mod Makes
 pub mod Walks
 pub mod Found
+pub mod ShownPaths

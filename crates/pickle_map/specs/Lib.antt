@@ -12,6 +12,7 @@ pub mod Answer
 pub mod Fits
 pub mod Ranges
 pub mod Scalars
+pub mod Operands
 pub mod Laws
 pub mod Tree
 pub mod Levels

@@ -2,4 +2,5 @@
 
 pub mod integers;
 pub mod offsets;
+pub mod operand;
 pub mod ranges;
