@@ -8,3 +8,4 @@ pub mod Held
 pub mod Frames
 pub mod Writing
 pub mod Found
+pub mod Lookup
