@@ -62,4 +62,22 @@ impl Store {
     {
         self.level_links(level).len()
     }
+
+    /// The part at a place of an open value, unless it is absent or there is none. Open values are counted from the innermost, and the last is
+    /// the whole.
+    pub fn part(&self, level: usize, i: usize) -> Option<ValueRef<'_>>
+        ensures { option_map value_of result ≡ part_in (levels self.now) level i }
+    {
+        match self.part_at(level, i) {
+            Some(node) => Some(ValueRef::new(self, node)),
+            None => None,
+        }
+    }
+
+    /// The value that was mapped, where no value is open.
+    pub fn root(&self) -> Option<ValueRef<'_>>
+        ensures { option_map value_of result ≡ part_in (levels self.now) 0 0 }
+    {
+        self.part(0, 0)
+    }
 }
