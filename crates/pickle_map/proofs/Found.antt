@@ -79,12 +79,11 @@ read-node s i n h g =
       below = λ k. below-found i ls k (slice_get ls k) is.below refl;
     }
 
--- the pending children
-pub pending-read : (s : Slots) (i : ℕ) → IsSound s → option_map (value_at s) (unwrap_or (slice_get s.pending i) None) ≡ unwrap_or (slice_get (stack s) i) None
-unfolding stack
-pending-read s i h =
-    child-found s (length s.nodes) s.pending (slice_get s.pending i) (omega arith) (below-found (length s.nodes) s.pending i (slice_get s.pending i) h.pending refl)
-    ∙ sym (ap (λ o. unwrap_or o None) (slice_get-map (opened (trees s)) s.pending i))
+-- links that stand for values of the store
+pub links-read : (s : Slots) (ls : List (Option ℕ)) (i : ℕ) → LinksBelow (length s.nodes) ls → option_map (value_at s) (unwrap_or (slice_get ls i) None) ≡ unwrap_or (slice_get (map (opened (trees s)) ls) i) None
+links-read s ls i h =
+    child-found s (length s.nodes) ls (slice_get ls i) (omega arith) (below-found (length s.nodes) ls i (slice_get ls i) h refl)
+    ∙ sym (ap (λ o. unwrap_or o None) (slice_get-map (opened (trees s)) ls i))
 
-pub pending-below : (s : Slots) (i : ℕ) → IsSound s → IfSome (unwrap_or (slice_get s.pending i) None) (λ j. j < length s.nodes)
-pending-below s i h = below-found (length s.nodes) s.pending i (slice_get s.pending i) h.pending refl
+pub links-below : (s : Slots) (ls : List (Option ℕ)) (i : ℕ) → LinksBelow (length s.nodes) ls → IfSome (unwrap_or (slice_get ls i) None) (λ j. j < length s.nodes)
+links-below s ls i h = below-found (length s.nodes) ls i (slice_get ls i) h refl

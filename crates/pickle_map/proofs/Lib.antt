@@ -26,3 +26,4 @@ mod Makes
 pub mod Walks
 pub mod Found
 pub mod ShownPaths
+pub mod Lookup

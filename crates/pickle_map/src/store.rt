@@ -5,6 +5,7 @@ ghost use Rattle.pickle_map.specs.Slots.{empty, marks_of, innermost, levels};
 mod cut;
 mod place;
 mod read;
+mod scope;
 pub(crate) mod slots;
 mod text;
 
