@@ -1,5 +1,5 @@
 -- Worked rows, computed by the definitions: what a type means on the bits of some bytes, its steps and the values made.
-use Rattle.std.proofs.Common.{true, false, ℕ, List, [], ◌∷◌, Option, Some, None, Result, Ok, Err, refl}
+use Rattle.std.proofs.Common.{true, false, [], ◌∷◌, Some, None, Ok, Err}
 use Rattle.std.specs.Prelude.{pos, negsuc}
 use Rattle.bit_space.specs.declared.order.Order.TheVariants.{Big, Little}
 use Rattle.bit_space.specs.Bits.{bits_of, binary, number, digits, numeral_onto, groups_from}
@@ -345,4 +345,3 @@ little_signed = plan_means (bits_of (255 ∷ 255 ∷ [])) _ Big no_values 0
 little_offset : Means (bits_of (2 ∷ 0 ∷ [])) (StructOf (Some (84 ∷ [])) false (FieldThen (Some (111 ∷ [])) (Some prefix.Little) (OffsetOf (unsigned_type 16) 8) None None None NoFields)) Big no_values 0 (Ok (Mapped (StructLabel (Some (84 ∷ [])) ((Some (111 ∷ [])) ∷ [])) 0 16 (MemberThen (Mapped (OffsetLabel (pos 2) (unsigned_type 16) 8) 0 16 NoMembers) NoMembers))) 3 2
 unfolding bits_of binary number digits numeral_onto groups_from modulo with_sign converted is_signed_in brought prefixed shifted_left shifted_right on_common on_integers on_bits on_scaled on_texts combined to_integer to_offset in_unit divisor_within greatest_common_divisor and_operand evaluation constraint condition field_start extent_of then_ok from_inside constrained number_plan read_plan after_byte text_plan after_element elements_plan after_attempt plan least_width
 little_offset = plan_means (bits_of (2 ∷ 0 ∷ [])) _ Big no_values 0
-
