@@ -5,14 +5,15 @@ ghost use Rattle.pickle_map.specs.declared.evaluate.operand.Unvalued.TheVariants
 
 use crate::evaluate::integers::Scalar;
 use crate::faults::MapFaultKind;
+use crate::value::ValueRef;
 use bit_space::LimitPassed;
 
-/// What an expression comes to: a computed number, a text, or the value at a path, by its node in the store.
+/// What an expression comes to: a computed number, a text, or the value at a path, as the store lends it.
 #[derive(Clone, Copy)]
 pub enum Operand<'a> {
     Scalar(Scalar),
     Text(&'a [u8]),
-    Node(usize),
+    Value(ValueRef<'a>),
 }
 
 /// Why an expression has no value: its first fault, or no step was left.
