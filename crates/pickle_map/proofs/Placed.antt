@@ -18,8 +18,8 @@ use Rattle.pickle_map.proofs.Counted.{nodes_in_parts-of, links_in_parts-of, byte
 -- numbers
 
 number-content : (s : Slots) (shape : Shape) (c : ℕ) → IsNumber shape → IsContent s shape c
-number-content s (Integer w g) c h = tt
-number-content s (Offset w g u) c h = tt
+number-content s (Integer w g) c h = h
+number-content s (Offset w g u) c h = h
 number-content s Text c h = absurd h
 number-content s Array c h = absurd h
 number-content s (Struct t) c h = absurd h

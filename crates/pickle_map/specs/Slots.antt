@@ -101,10 +101,10 @@ composite_label Array = ArrayLabel
 composite_label (Struct t) = StructLabel t
 composite_label (Union i t) = UnionLabel t i
 
--- a shape whose content is a number
+-- a shape whose content is a number, of 1 to 64 bits
 abbrev pub IsNumber : Shape → Type 0
-IsNumber (Integer w g) = Unit {0}
-IsNumber (Offset w g u) = Unit {0}
+IsNumber (Integer w g) = (1 ≤ w) × (w ≤ 64)
+IsNumber (Offset w g u) = (1 ≤ w) × (w ≤ 64) × (1 ≤ u)
 IsNumber Text = ⊥
 IsNumber Array = ⊥
 IsNumber (Struct t) = ⊥
@@ -165,8 +165,8 @@ abbrev pub IsTextRow : Slots → ℕ → Type 0
 IsTextRow s c = (c < length s.texts) × (IsRow (first_byte s.texts c) (slice_index s.texts c) (length s.bytes) × IsShort (slice_index s.texts c - first_byte s.texts c))
 
 abbrev pub IsContent : Slots → Shape → ℕ → Type 0
-IsContent s (Integer w g) c = Unit {0}
-IsContent s (Offset w g u) c = Unit {0}
+IsContent s (Integer w g) c = IsNumber (Integer w g)
+IsContent s (Offset w g u) c = IsNumber (Offset w g u)
 IsContent s Text c = IsTextRow s c
 IsContent s Array c = IsFamily s c
 IsContent s (Struct t) c = IsFamily s c

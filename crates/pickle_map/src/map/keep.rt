@@ -28,6 +28,7 @@ pub fn keep_integer(nodes: &[Node], store: &mut Store, number: IntegerType, digi
 /// Keeps an offset whose magnitude was read as these binary digits.
 pub fn keep_offset(nodes: &[Node], store: &mut Store, number: IntegerType, unit: u32, digits: u64, start: u64) -> Result<(), Memory>
     requires width { IsWidth number }
+    requires unit { 1 ≤ unit }
     requires below { digits < 2 ^ number.width }
     ensures ok { OnOk result (kept nodes.now store.new ≡ pushed (kept nodes.now store.old) (Some (offset_value number unit digits start))) }
     ensures same { OnErr result (store.new ≡ store.old) }

@@ -107,7 +107,8 @@ impl Store {
         number: i128,
         start: u64,
     ) -> Result<(), Memory>
-        requires { IsContentNumber signed number }
+        requires width { (1 ≤ width) × (width ≤ 64) }
+        requires number { IsContentNumber signed number }
         ensures ok { OnOk result (levels self.new ≡ pushed (levels self.old) (Some (Tree (IntegerLabel number width signed) start width End))) }
         ensures err { OnErr result (self.new ≡ self.old) }
         ensures room { self.new.room ≡ self.old.room }
@@ -129,7 +130,8 @@ impl Store {
         number: i128,
         start: u64,
     ) -> Result<(), Memory>
-        requires { IsContentNumber signed number }
+        requires width { (1 ≤ width) × (width ≤ 64) × (1 ≤ unit) }
+        requires number { IsContentNumber signed number }
         ensures ok { OnOk result (levels self.new ≡ pushed (levels self.old) (Some (Tree (OffsetLabel number width signed unit) start width End))) }
         ensures err { OnErr result (self.new ≡ self.old) }
         ensures room { self.new.room ≡ self.old.room }
