@@ -8,6 +8,7 @@ use Rattle.pickle_map.specs.declared.evaluate.integers.Scalar.TheVariants as sca
 use Rattle.pickle_map.specs.Values.{Label, IntegerLabel, OffsetLabel}
 use Rattle.pickle_map.specs.Arithmetic.{Computed}
 use Rattle.pickle_map.specs.Ranges.{IsSmall}
+use Rattle.pickle_map.specs.Tree as tree
 
 abbrev pub scalar_label : Scalar → Label
 scalar_label (scalar.Integer number type) = IntegerLabel number type
@@ -26,3 +27,12 @@ IsScalar (scalar.Offset magnitude type unit) = IsWidth type × IsSmall type.sign
 abbrev pub IsShift : (width : ℕ) → ℤ → Option ℕ → Type 0
 IsShift width count (Some n) = (count ≡ pos n) × (n < width)
 IsShift width count None = (n : ℕ) → count ≡ pos n → width ≤ n
+
+-- the number that a value is, where it is an integer or an offset
+abbrev pub scalar_in : tree.Label → Option Label
+scalar_in (tree.IntegerLabel number width signed) = Some (IntegerLabel number (record { width = width; signed = signed }))
+scalar_in (tree.OffsetLabel number width signed unit) = Some (OffsetLabel number (record { width = width; signed = signed }) unit)
+scalar_in (tree.TextLabel bytes) = None
+scalar_in tree.ArrayLabel = None
+scalar_in (tree.StructLabel of) = None
+scalar_in (tree.UnionLabel of taken) = None

@@ -4,6 +4,9 @@ ghost use Rattle.pickle_map.specs.Kinds.{kind_of};
 ghost use Rattle.pickle_map.specs.Tree.{label, start, size, parts, part_at, number_of, signed_of, width_of, unit_of, bytes_of, type_of, taken_of};
 ghost use Rattle.pickle_map.specs.Slots.{value_at};
 
+ghost use Rattle.pickle_map.specs.Scalars.{scalar_label, scalar_in, IsScalar};
+
+use crate::evaluate::integers::Scalar;
 use crate::store::Store;
 
 /// What sort of value one is.
@@ -67,6 +70,14 @@ impl<'a> ValueRef<'a> {
         ensures { result ≡ signed_of (label (value_of self.now)) }
     {
         self.store.signed_at(self.node)
+    }
+
+    /// The number of an integer or an offset, with its type.
+    pub(crate) fn scalar(&self) -> Option<Scalar>
+        ensures is { option_map scalar_label result ≡ scalar_in (label (value_of self.now)) }
+        ensures scalar { IfSome result IsScalar }
+    {
+        self.store.scalar_at(self.node)
     }
 
     /// The width in bits of an integer or of an offset's magnitude, else 0.

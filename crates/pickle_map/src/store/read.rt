@@ -5,13 +5,19 @@ ghost use Rattle.pickle_map.specs.Tree.{label, start, size, parts, part_at, numb
 ghost use Rattle.pickle_map.specs.Levels.{part_in};
 ghost use Rattle.pickle_map.specs.Slots.{levels, marks_at, level_end, value_at, number_in, first_link, family_at, family_links, first_byte, text_bytes, links_of, IsContent, IsFamily, IsTextRow, IsRead};
 
+ghost use Rattle.pickle_map.specs.Ranges.{IsSmall};
+ghost use Rattle.pickle_map.specs.Scalars.{scalar_label, scalar_in, IsScalar};
+
+use crate::evaluate::integers::Scalar;
 use crate::store::Store;
 use crate::store::slots::{Link, Marks, Node, Shape};
+use pickle_types::integer::IntegerType;
 use crate::value::{Kind, ValueRef};
 
 // The number that 64 bits stand for.
 fn number_from(signed: bool, content: u64) -> i128
-    ensures { result ≡ number_in signed content }
+    ensures is { result ≡ number_in signed content }
+    ensures small { IsSmall signed result }
 {
     if signed {
         i128::from(content.cast_signed())
@@ -189,6 +195,24 @@ impl Store {
         match self.links_at(&node).get(i) {
             Some(link) => link.target(),
             None => None,
+        }
+    }
+
+    // The number at a node, where it is an integer or an offset.
+    pub(crate) fn scalar_at(&self, at: usize) -> Option<Scalar>
+        requires { at < length self.now.slots.nodes }
+        ensures is { option_map scalar_label result ≡ scalar_in (label (value_at self.now.slots at)) }
+        ensures scalar { IfSome result IsScalar }
+    {
+        let node = self.node_at(at);
+        match node.shape {
+            Shape::Integer { width, signed } => {
+                Some(Scalar::Integer(number_from(signed, node.content), IntegerType { width, signed }))
+            }
+            Shape::Offset { width, signed, unit } => {
+                Some(Scalar::Offset(number_from(signed, node.content), IntegerType { width, signed }, unit))
+            }
+            Shape::Text | Shape::Array | Shape::Struct { .. } | Shape::Union { .. } => None,
         }
     }
 }
