@@ -27,3 +27,4 @@ pub mod Walks
 pub mod Found
 pub mod ShownPaths
 pub mod Lookup
+pub mod Elements

@@ -3,4 +3,5 @@
 pub mod integers;
 pub mod offsets;
 pub mod operand;
+pub mod paths;
 pub mod ranges;
