@@ -13,6 +13,7 @@ pub mod Fits
 pub mod Ranges
 pub mod Scalars
 pub mod Operands
+pub mod Contents
 pub mod Sound
 pub mod Laws
 pub mod Tree

@@ -1,5 +1,6 @@
 //! The value of an expression.
 
+pub mod content;
 pub mod integers;
 pub mod offsets;
 pub mod operand;
