@@ -3,8 +3,8 @@ use Rattle.std.proofs.Common.{◌≡◌, ℕ, ◌+◌, ◌-◌, ◌<◌, ◌≤�
 use Rattle.pickle_map.specs.declared.store.slots.Marks.{Marks}
 use Rattle.pickle_map.specs.declared.store.slots.Shape.{Shape}
 use Rattle.pickle_map.specs.Tree.{Value, Tree, parts_of, text_value}
-use Rattle.pickle_map.specs.Levels.{Levels, top_of, outer_of, extended, pushed, text_level, level_nodes, level_links, level_bytes, FitsIn}
-use Rattle.pickle_map.specs.Slots.{Slots, Held, levels, cut_to, marks_of, level_of, innermost, AreLevels, levels_at, Adds, IsNumber, number_value, IsComposite, composite_label, with_leaf, with_family, with_absent, with_text, HasRoom, around}
+use Rattle.pickle_map.specs.Levels.{Levels, no_values, top_of, outer_of, extended, pushed, text_level, level_nodes, level_links, level_bytes, FitsIn}
+use Rattle.pickle_map.specs.Slots.{Slots, Held, empty, levels, stack, cut_to, marks_of, level_of, innermost, AreLevels, levels_at, Adds, IsNumber, number_value, IsComposite, composite_label, with_leaf, with_family, with_absent, with_text, HasRoom, around}
 use Rattle.pickle_map.proofs.Counted.{levels-more, levels_at-more, levels-above, levels_at-above, levels-sound, Adds-none, Adds-level, cut-all}
 use Rattle.pickle_map.proofs.Placed.{number-adds, number-nodes, text-adds, family-adds, absent-adds}
 use Rattle.pickle_map.proofs.Fits.{room-more, room-whole, levels-replaced, levels_at-replaced, innermost-level}
@@ -131,3 +131,10 @@ length-around (k ∷ ks) = omega arith
 pub depth-lift : (h n : Held) → n.frames ≡ around h.frames → length (levels n) ≡ max 1 (length (levels h) - 1)
 depth-lift h n e =
     length-levels n ∙ ap (λ (ks : List Marks). 1 + length ks) e ∙ length-around h.frames ∙ ap (λ m. max 1 (m - 1)) (sym (length-levels h))
+
+-- an empty store builds nothing
+pub none-open : (n : ℕ) → levels (empty n) ≡ no_values
+unfolding levels stack
+none-open n = refl
+
+pub ruleset none_open = (none-open)

@@ -4,3 +4,6 @@
 pub mod memory;
 pub mod store;
 pub mod value;
+
+#[cfg(test)]
+mod tests;
