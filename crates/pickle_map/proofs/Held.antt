@@ -1,10 +1,10 @@
 -- What the calls of a store do to its open values.
-use Rattle.std.proofs.Common.{◌≡◌, ℕ, ◌+◌, ◌-◌, ◌<◌, ◌≤◌, List, [], ◌∷◌, ◌++◌, Option, Some, None, length, take, drop, refl, sym, ◌∙◌, ap, subst, arith}
+use Rattle.std.proofs.Common.{◌≡◌, ℕ, ◌+◌, ◌-◌, ◌<◌, ◌≤◌, List, [], ◌∷◌, ◌++◌, Option, Some, None, length, max, take, drop, refl, sym, ◌∙◌, ap, subst, arith}
 use Rattle.pickle_map.specs.declared.store.slots.Marks.{Marks}
 use Rattle.pickle_map.specs.declared.store.slots.Shape.{Shape}
 use Rattle.pickle_map.specs.Tree.{Value, Tree, parts_of, text_value}
-use Rattle.pickle_map.specs.Levels.{Levels, top_of, outer_of, extended, pushed, text_level, level_nodes, level_links, level_bytes, FitsIn}
-use Rattle.pickle_map.specs.Slots.{Slots, Held, levels, cut_to, marks_of, level_of, innermost, AreLevels, levels_at, Adds, IsNumber, number_value, IsComposite, composite_label, with_leaf, with_family, with_absent, with_text, HasRoom, around}
+use Rattle.pickle_map.specs.Levels.{Levels, no_values, top_of, outer_of, extended, pushed, text_level, level_nodes, level_links, level_bytes, FitsIn}
+use Rattle.pickle_map.specs.Slots.{Slots, Held, empty, levels, stack, cut_to, marks_of, level_of, innermost, AreLevels, levels_at, Adds, IsNumber, number_value, IsComposite, composite_label, with_leaf, with_family, with_absent, with_text, HasRoom, around}
 use Rattle.pickle_map.proofs.Counted.{levels-more, levels_at-more, levels-above, levels_at-above, levels-sound, Adds-none, Adds-level, cut-all}
 use Rattle.pickle_map.proofs.Placed.{number-adds, number-nodes, text-adds, family-adds, absent-adds}
 use Rattle.pickle_map.proofs.Fits.{room-more, room-whole, levels-replaced, levels_at-replaced, innermost-level}
@@ -116,3 +116,25 @@ absent-levels h all = levels_at-more h.frames h.slots (with_absent h.slots) (Non
 pub absent-room : (h : Held) → AreLevels h.frames h.slots → FitsIn h.room (pushed (levels h) None) → HasRoom h.room h.slots 0 0 1 0
 unfolding levels
 absent-room h all fits = room-more h.frames h.slots h.room (None ∷ []) all fits
+
+-- how many values are open
+pub depth-same : (h n : Held) → n.frames ≡ h.frames → length (levels n) ≡ length (levels h)
+depth-same h n e = omega (arith, length-levels h, length-levels n, ap (λ (ks : List Marks). length ks) e)
+
+pub depth-open : (h n : Held) (k : Marks) → n.frames ≡ k ∷ h.frames → length (levels n) ≡ length (levels h) + 1
+depth-open h n k e = omega (arith, length-levels h, length-levels n, ap (λ (ks : List Marks). length ks) e)
+
+length-around : (ks : List Marks) → 1 + length (around ks) ≡ max 1 ((1 + length ks) - 1)
+length-around [] = refl
+length-around (k ∷ ks) = omega arith
+
+pub depth-lift : (h n : Held) → n.frames ≡ around h.frames → length (levels n) ≡ max 1 (length (levels h) - 1)
+depth-lift h n e =
+    length-levels n ∙ ap (λ (ks : List Marks). 1 + length ks) e ∙ length-around h.frames ∙ ap (λ m. max 1 (m - 1)) (sym (length-levels h))
+
+-- an empty store builds nothing
+pub none-open : (n : ℕ) → levels (empty n) ≡ no_values
+unfolding levels stack
+none-open n = refl
+
+pub ruleset none_open = (none-open)

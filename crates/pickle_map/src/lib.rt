@@ -9,3 +9,6 @@ pub mod map;
 pub mod memory;
 pub mod store;
 pub mod value;
+
+#[cfg(test)]
+mod tests;

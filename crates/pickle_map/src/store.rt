@@ -51,10 +51,12 @@ impl Model for Store {
     }) (vec_capacity a.nodes) (vec_capacity a.families) (vec_capacity a.links) (vec_capacity a.pending) (vec_capacity a.texts) (vec_capacity a.bytes) };
 }
 
+#[tactic(auto, using(crate::proofs::Held::none_open))]
 impl Store {
     /// An empty store without room.
     pub fn new(alloc: Global) -> Store
-        ensures { result ≡ empty 0 }
+        ensures empty { result ≡ empty 0 }
+        ensures levels { levels result ≡ no_values }
     {
         Store {
             nodes: Vec::new(alloc),
@@ -70,7 +72,8 @@ impl Store {
 
     /// An empty store with room for `room` nodes, links, pending children and bytes of texts, each.
     pub fn with_room(alloc: Global, room: usize) -> Result<Store, Memory>
-        ensures { IfOk result (λ s. s ≡ empty room) }
+        ensures empty { IfOk result (λ s. s ≡ empty room) }
+        ensures levels { IfOk result (λ s. levels s ≡ no_values) }
     {
         let nodes = Vec::with_capacity(alloc, room)?;
         let families = Vec::with_capacity(alloc, room)?;
@@ -92,7 +95,8 @@ impl Store {
 
     /// Empties the store, and keeps its room.
     pub fn clear(&mut self)
-        ensures { self.new ≡ empty self.old.room }
+        ensures empty { self.new ≡ empty self.old.room }
+        ensures levels { levels self.new ≡ no_values }
     {
         self.nodes.clear();
         self.families.clear();

@@ -1,4 +1,4 @@
-ghost use Rattle.std.specs.Prelude.{◌≡◌, ◌+◌, ◌<◌, ◌≤◌, ◌∷◌, [], length, take};
+ghost use Rattle.std.specs.Prelude.{◌≡◌, ◌+◌, ◌-◌, ◌<◌, ◌≤◌, ◌∷◌, [], length, max, take};
 ghost use Rattle.pickle_map.specs.Levels.{outer_of, top_of, extended};
 ghost use Rattle.pickle_map.specs.Slots.{Held, levels, cut_to, innermost, marks_of, AreLevels};
 
@@ -11,6 +11,7 @@ impl Store {
         requires { length (levels self.old) ≤ 64 }
         ensures levels { levels self.new ≡ [] ∷ levels self.old }
         ensures room { self.new.room ≡ self.old.room }
+        ensures depth { length (levels self.new) ≡ length (levels self.old) + 1 }
         ensures slots { self.new.slots ≡ self.old.slots }
         ensures sound { AreLevels self.new.frames self.new.slots }
     {
@@ -22,6 +23,7 @@ impl Store {
     pub(crate) fn lift_level(&mut self)
         ensures levels { levels self.new ≡ extended (outer_of (levels self.old)) (top_of (levels self.old)) }
         ensures room { self.new.room ≡ self.old.room }
+        ensures depth { length (levels self.new) ≡ max 1 (length (levels self.old) - 1) }
     {
         let _ = self.frames.pop();
     }
@@ -30,6 +32,7 @@ impl Store {
     pub fn clear_level(&mut self)
         ensures levels { levels self.new ≡ [] ∷ outer_of (levels self.old) }
         ensures room { self.new.room ≡ self.old.room }
+        ensures depth { length (levels self.new) ≡ length (levels self.old) }
     {
         let marks = self.innermost();
         self.nodes.truncate(marks.nodes);
@@ -45,6 +48,7 @@ impl Store {
         requires { 1 < length (levels self.old) }
         ensures levels { levels self.new ≡ outer_of (levels self.old) }
         ensures room { self.new.room ≡ self.old.room }
+        ensures depth { length (levels self.new) + 1 ≡ length (levels self.old) }
     {
         self.clear_level();
         self.lift_level();

@@ -1,4 +1,4 @@
-ghost use Rattle.std.specs.Prelude.{◌≡◌, ℕ, ◌+◌, ◌≤◌, ◌++◌, ◌∷◌, [], Some, List, length, IsTrue, ◌↔◌, IsOk, OnOk, OnErr, vec_len, vec_capacity};
+ghost use Rattle.std.specs.Prelude.{◌≡◌, ℕ, ◌+◌, ◌≤◌, ◌++◌, ◌∷◌, [], Some, List, length, max, ◌-◌, IsTrue, ◌↔◌, IsOk, OnOk, OnErr, vec_len, vec_capacity};
 ghost use Rattle.pickle_map.specs.Tree.{text_value};
 ghost use Rattle.pickle_map.specs.Levels.{Levels, pushed, text_level, FitsIn};
 ghost use Rattle.pickle_map.specs.Slots.{levels, innermost, with_text, with_byte, IsShort, IsWriting, IsText, TakesByte, GoesOn};
@@ -24,6 +24,7 @@ impl Store {
         ensures levels { OnOk result (levels self.new ≡ pushed (levels self.old) (Some (text_value bytes.now start))) }
         ensures err { OnErr result (self.new ≡ self.old) }
         ensures room { self.new.room ≡ self.old.room }
+        ensures depth { length (levels self.new) ≡ length (levels self.old) }
         ensures succeeds { FitsIn self.old.room (pushed (levels self.old) (Some (text_value bytes.now start))) → IsOk result }
     {
         let index = self.nodes.len();
@@ -49,6 +50,7 @@ impl Store {
         requires { GoesOn self.old }
         ensures slots { OnOk result (self.new ≡ record self.old { slots = with_byte byte self.old.slots }) }
         ensures err { OnErr result (self.new ≡ self.old) }
+        ensures depth { length (levels self.new) ≡ length (levels self.old) }
         ensures succeeds { length self.old.slots.bytes + 1 ≤ self.old.room → IsOk result }
     {
         let last = self.texts.len() - 1;
@@ -73,6 +75,7 @@ impl Store {
         ensures writes { (start : ℕ) → IsWriting self.new [] start (levels self.old) }
         ensures levels { levels self.new ≡ [] ∷ levels self.old }
         ensures room { self.new.room ≡ self.old.room }
+        ensures depth { length (levels self.new) ≡ length (levels self.old) + 1 }
     {
         self.open_level();
     }
@@ -84,6 +87,7 @@ impl Store {
         ensures levels { OnOk result ((bytes : List ℕ) (outer : Levels) → IsWriting self.old bytes start outer → IsShort (length bytes + 1) → levels self.new ≡ text_level (bytes ++ byte ∷ []) start outer) }
         ensures err { OnErr result (self.new ≡ self.old) }
         ensures room { self.new.room ≡ self.old.room }
+        ensures depth { length (levels self.new) ≡ length (levels self.old) }
         ensures succeeds { (bytes : List ℕ) (outer : Levels) → IsWriting self.old bytes start outer → FitsIn self.old.room (text_level (bytes ++ byte ∷ []) start outer) → IsOk result }
     {
         if self.is_fresh() {
@@ -99,6 +103,7 @@ impl Store {
         ensures ok { OnOk result ((bytes : List ℕ) (outer : Levels) → IsWriting self.old bytes start outer → levels self.new ≡ text_level bytes start outer) }
         ensures err { OnErr result (self.new ≡ self.old) }
         ensures room { self.new.room ≡ self.old.room }
+        ensures depth { length (levels self.new) ≡ length (levels self.old) }
         ensures succeeds { (bytes : List ℕ) (outer : Levels) → IsWriting self.old bytes start outer → FitsIn self.old.room (pushed outer (Some (text_value bytes start))) → IsOk result }
     {
         if self.is_fresh() {
@@ -114,6 +119,7 @@ impl Store {
         ensures ok { OnOk result ((bytes : List ℕ) (outer : Levels) → IsWriting self.old bytes start outer → levels self.new ≡ pushed outer (Some (text_value bytes start))) }
         ensures err { OnErr result (self.new ≡ self.old) }
         ensures room { self.new.room ≡ self.old.room }
+        ensures depth { OnOk result (length (levels self.new) ≡ max 1 (length (levels self.old) - 1)) }
         ensures succeeds { (bytes : List ℕ) (outer : Levels) → IsWriting self.old bytes start outer → FitsIn self.old.room (pushed outer (Some (text_value bytes start))) → IsOk result }
     {
         self.settle_text(start)?;

@@ -1,7 +1,8 @@
-use Rattle.std.proofs.Common.{rules, ◌≡◌, subst, sym}
+use Rattle.std.proofs.Common.{refl, rules, ◌≡◌, subst, sym}
 use Rattle.pickle_map.specs.Slots.{Slots, Held, with_byte, GoesOn}
 use Rattle.pickle_map.specs.contracts.store.Store.{the_view}
 use Rattle.pickle_map.proofs.Writing.{byte-frames}
+use Rattle.pickle_map.proofs.Held.{depth-same}
 use Rattle.pickle_map.proofs.store.Store.append_byte.Goals as goal
 
 pub invariant_of-self-2 : goal.invariant_of-self-2
@@ -19,3 +20,6 @@ invariant_of-self-2 c =
       texts = search rules;
       bytes = search rules;
     }
+
+pub returns-clause-depth : goal.returns-clause-depth
+returns-clause-depth c = rw (← c.self.view_is) (depth-same _ _ refl)

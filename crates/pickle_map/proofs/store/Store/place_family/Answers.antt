@@ -1,8 +1,9 @@
-use Rattle.std.proofs.Common.{rules, ◌≡◌, ap, arith}
+use Rattle.std.proofs.Common.{refl, rules, ◌≡◌, ap, arith}
 use Rattle.pickle_map.specs.declared.store.slots.Marks.{Marks}
 use Rattle.pickle_map.specs.Slots.{Slots, innermost, with_family}
 use Rattle.pickle_map.specs.contracts.store.Store.{the_view}
 use Rattle.pickle_map.proofs.Held.{family-frames, family-levels, family-room, innermost-within, families-few}
+use Rattle.pickle_map.proofs.Held.{depth-same}
 use Rattle.pickle_map.proofs.store.Store.place_family.Goals as goal
 
 pub returns-in_err-reserve-clause-succeeds : goal.returns-in_err-reserve-clause-succeeds
@@ -55,3 +56,6 @@ returns-clause-ok c =
     let t : Slots = record { nodes = c.push_reserved-3.new.self.items; families = c.push_reserved-2.new.self.items; links = c.move_above.new.to.items; pending = c.push_reserved.new.self.items; texts = s.texts; bytes = s.bytes } in
     let e : t ≡ with_family c.args.shape c.args.start c.args.size c.innermost-mark.result.pending s = search rules in
     rw (← c.self.view_is) (rw (e, m) (family-levels (the_view c.self.inside) c.args.shape c.args.start c.args.size c.requires.composite c.self.invariant.levels))
+
+pub returns-clause-depth : goal.returns-clause-depth
+returns-clause-depth c = rw (← c.self.view_is) (depth-same _ _ refl)

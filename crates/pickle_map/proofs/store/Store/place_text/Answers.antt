@@ -1,8 +1,9 @@
-use Rattle.std.proofs.Common.{rules, ◌≡◌, arith}
+use Rattle.std.proofs.Common.{refl, rules, ◌≡◌, arith}
 use Rattle.pickle_map.specs.Slots.{Slots, with_text}
 use Rattle.pickle_map.specs.contracts.store.Store.{the_view}
 use Rattle.pickle_map.proofs.Held.{texts-few}
 use Rattle.pickle_map.proofs.Writing.{text-frames, text-levels, text-room}
+use Rattle.pickle_map.proofs.Held.{depth-same}
 use Rattle.pickle_map.proofs.store.Store.place_text.Goals as goal
 
 pub returns-in_err-reserve-clause-succeeds : goal.returns-in_err-reserve-clause-succeeds
@@ -51,3 +52,6 @@ returns-clause-levels c =
     let t : Slots = record { nodes = c.push_reserved-3.new.self.items; families = s.families; links = s.links; pending = c.push_reserved-2.new.self.items; texts = c.push_reserved.new.self.items; bytes = c.append.new.to.items } in
     let e : t ≡ with_text c.args.bytes.now c.args.start s = search rules in
     rw (← c.self.view_is) (rw e (text-levels (the_view c.self.inside) c.args.bytes.now c.args.start c.self.invariant.levels c.requires.short))
+
+pub returns-clause-depth : goal.returns-clause-depth
+returns-clause-depth c = rw (← c.self.view_is) (depth-same _ _ refl)

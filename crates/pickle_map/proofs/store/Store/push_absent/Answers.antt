@@ -1,7 +1,8 @@
-use Rattle.std.proofs.Common.{rules, ◌≡◌, ◌++◌, ◌∷◌, [], None, arith}
+use Rattle.std.proofs.Common.{refl, rules, ◌≡◌, ◌++◌, ◌∷◌, [], None, arith}
 use Rattle.pickle_map.specs.Slots.{with_absent}
 use Rattle.pickle_map.specs.contracts.store.Store.{the_view}
 use Rattle.pickle_map.proofs.Held.{absent-frames, absent-levels, absent-room}
+use Rattle.pickle_map.proofs.Held.{depth-same}
 use Rattle.pickle_map.proofs.store.Store.push_absent.Goals as goal
 
 pub returns-in_err-reserve-clause-succeeds : goal.returns-in_err-reserve-clause-succeeds
@@ -27,3 +28,6 @@ pub returns-clause-ok : goal.returns-clause-ok
 returns-clause-ok c =
     let e : c.push_reserved.new.self.items ≡ (the_view c.self.inside).slots.pending ++ None ∷ [] = search rules in
     rw (← c.self.view_is) (rw e (absent-levels (the_view c.self.inside) c.self.invariant.levels))
+
+pub returns-clause-depth : goal.returns-clause-depth
+returns-clause-depth c = rw (← c.self.view_is) (depth-same _ _ refl)
