@@ -1,14 +1,14 @@
 -- Worked rows, computed by the definitions: what a type means on the bits of some bytes, its steps and the values made.
-use Rattle.std.proofs.Common.{true, false, [], ◌∷◌, Some, None, Ok, Err}
+use Rattle.std.proofs.Common.{◌≡◌, true, false, [], ◌∷◌, Some, None, Ok, Err, refl, arith}
 use Rattle.std.specs.Prelude.{pos, negsuc}
 use Rattle.bit_space.specs.declared.order.Order.TheVariants.{Big, Little}
 use Rattle.bit_space.specs.Bits.{bits_of, binary, number, digits, numeral_onto, groups_from}
 use Rattle.pickle_syntax.specs.declared.token.Attribute.TheVariants.{Length, Size}
 use Rattle.pickle_syntax.specs.declared.tree.ByteOrder.TheVariants as prefix
-use Rattle.pickle_syntax.specs.declared.tree.Prefix.TheVariants.{Minus}
-use Rattle.pickle_syntax.specs.declared.tree.Infix.TheVariants.{LogicalAnd, Equal, NotEqual, Less, Greater, ShiftLeft, Add, Subtract, Divide, Remainder}
-use Rattle.pickle_types.specs.Types.{Number, Text, Name, Bracket, Before, Between, Choice, Index, Select, AttributeOf, ToOffset, InUnit, Unbounded, ByCount, BySize, IntegerOf, OffsetOf, StringOf, ArrayOf, StructOf, IntegralOf, UnionOf, NoFields, FieldThen, NoParts, PartThen}
-use Rattle.pickle_types.specs.Bounds.{least_width}
+use Rattle.pickle_syntax.specs.declared.tree.Prefix.TheVariants.{Minus, Complement, Not}
+use Rattle.pickle_syntax.specs.declared.tree.Infix.TheVariants.{LogicalOr, LogicalAnd, BitOr, BitXor, BitAnd, Equal, NotEqual, Less, Greater, ShiftLeft, ShiftRight, Add, Subtract, Multiply, Divide, Remainder}
+use Rattle.pickle_types.specs.Types.{Number, Text, Name, Bracket, Before, Between, Choice, Index, Select, AttributeOf, ToInteger, ToOffset, InUnit, Unbounded, ByCount, BySize, IntegerOf, OffsetOf, StringOf, ArrayOf, StructOf, IntegralOf, UnionOf, NoFields, FieldThen, NoParts, PartThen}
+use Rattle.pickle_types.specs.Bounds.{least_width, cost, room}
 use Rattle.pickle_map.specs.declared.faults.MapFaultKind.TheVariants as fault
 use Rattle.pickle_map.specs.Values.{IntegerLabel, OffsetLabel, TextLabel, ArrayLabel, StructLabel, UnionLabel, Mapped, NoMembers, MemberThen, AbsentThen, no_values}
 use Rattle.pickle_map.specs.Arithmetic.{signed_type, unsigned_type, modulo, with_sign, converted, is_signed_in, brought, prefixed, shifted_left, shifted_right, on_common, on_integers, on_bits, on_scaled, on_texts, combined, to_integer, to_offset, in_unit, divisor_within, greatest_common_divisor}
@@ -16,6 +16,7 @@ use Rattle.pickle_map.specs.Evaluation.{and_operand, evaluation}
 use Rattle.pickle_map.specs.Clauses.{constraint, condition, field_start, extent_of}
 use Rattle.pickle_map.specs.Means.{Means}
 use Rattle.pickle_map.specs.Plan.{then_ok}
+use Rattle.pickle_map.specs.Answer.{Answer, in_time, too_long}
 use Rattle.pickle_map.specs.Mapping.{from_inside, constrained, number_plan, read_plan, after_byte, text_plan, after_element, elements_plan, after_attempt, plan}
 use Rattle.pickle_map.proofs.Exists.{plan_means}
 
@@ -345,3 +346,164 @@ little_signed = plan_means (bits_of (255 ∷ 255 ∷ [])) _ Big no_values 0
 little_offset : Means (bits_of (2 ∷ 0 ∷ [])) (StructOf (Some (84 ∷ [])) false (FieldThen (Some (111 ∷ [])) (Some prefix.Little) (OffsetOf (unsigned_type 16) 8) None None None NoFields)) Big no_values 0 (Ok (Mapped (StructLabel (Some (84 ∷ [])) ((Some (111 ∷ [])) ∷ [])) 0 16 (MemberThen (Mapped (OffsetLabel (pos 2) (unsigned_type 16) 8) 0 16 NoMembers) NoMembers))) 3 2
 unfolding bits_of binary number digits numeral_onto groups_from modulo with_sign converted is_signed_in brought prefixed shifted_left shifted_right on_common on_integers on_bits on_scaled on_texts combined to_integer to_offset in_unit divisor_within greatest_common_divisor and_operand evaluation constraint condition field_start extent_of then_ok from_inside constrained number_plan read_plan after_byte text_plan after_element elements_plan after_attempt plan least_width
 little_offset = plan_means (bits_of (2 ∷ 0 ∷ [])) _ Big no_values 0
+
+-- struct { byte a : a << 1 == 254UB; }
+shift_left_wraps : Means (bits_of (255 ∷ [])) (StructOf (Some (84 ∷ [])) false (FieldThen (Some (97 ∷ [])) None (IntegerOf (unsigned_type 8)) (Some (Between Equal (Between ShiftLeft (Name 0 0) (Number (signed_type 32) 1)) (Number (unsigned_type 8) 254))) None None NoFields)) Big no_values 0 (Ok (Mapped (StructLabel (Some (84 ∷ [])) ((Some (97 ∷ [])) ∷ [])) 0 8 (MemberThen (Mapped (IntegerLabel (pos 255) (unsigned_type 8)) 0 8 NoMembers) NoMembers))) 8 2
+unfolding bits_of binary number digits numeral_onto groups_from modulo with_sign converted is_signed_in brought prefixed shifted_left shifted_right on_common on_integers on_bits on_scaled on_texts combined to_integer to_offset in_unit divisor_within greatest_common_divisor and_operand evaluation constraint condition field_start extent_of then_ok from_inside constrained number_plan read_plan after_byte text_plan after_element elements_plan after_attempt plan least_width
+shift_left_wraps = plan_means (bits_of (255 ∷ [])) _ Big no_values 0
+
+-- struct { int<8> a : a >> 1 == -2; }
+shift_right_floors : Means (bits_of (253 ∷ [])) (StructOf (Some (84 ∷ [])) false (FieldThen (Some (97 ∷ [])) None (IntegerOf (signed_type 8)) (Some (Between Equal (Between ShiftRight (Name 0 0) (Number (signed_type 32) 1)) (Before Minus (Number (signed_type 32) 2)))) None None NoFields)) Big no_values 0 (Ok (Mapped (StructLabel (Some (84 ∷ [])) ((Some (97 ∷ [])) ∷ [])) 0 8 (MemberThen (Mapped (IntegerLabel (negsuc 2) (signed_type 8)) 0 8 NoMembers) NoMembers))) 9 2
+unfolding bits_of binary number digits numeral_onto groups_from modulo with_sign converted is_signed_in brought prefixed shifted_left shifted_right on_common on_integers on_bits on_scaled on_texts combined to_integer to_offset in_unit divisor_within greatest_common_divisor and_operand evaluation constraint condition field_start extent_of then_ok from_inside constrained number_plan read_plan after_byte text_plan after_element elements_plan after_attempt plan least_width
+shift_right_floors = plan_means (bits_of (253 ∷ [])) _ Big no_values 0
+
+-- struct { byte a : ~a == 240UB; }
+complement : Means (bits_of (15 ∷ [])) (StructOf (Some (84 ∷ [])) false (FieldThen (Some (97 ∷ [])) None (IntegerOf (unsigned_type 8)) (Some (Between Equal (Before Complement (Name 0 0)) (Number (unsigned_type 8) 240))) None None NoFields)) Big no_values 0 (Ok (Mapped (StructLabel (Some (84 ∷ [])) ((Some (97 ∷ [])) ∷ [])) 0 8 (MemberThen (Mapped (IntegerLabel (pos 15) (unsigned_type 8)) 0 8 NoMembers) NoMembers))) 7 2
+unfolding bits_of binary number digits numeral_onto groups_from modulo with_sign converted is_signed_in brought prefixed shifted_left shifted_right on_common on_integers on_bits on_scaled on_texts combined to_integer to_offset in_unit divisor_within greatest_common_divisor and_operand evaluation constraint condition field_start extent_of then_ok from_inside constrained number_plan read_plan after_byte text_plan after_element elements_plan after_attempt plan least_width
+complement = plan_means (bits_of (15 ∷ [])) _ Big no_values 0
+
+-- struct { uint<4> a : -a == 15UN; }
+minus_wraps : Means (bits_of (31 ∷ [])) (StructOf (Some (84 ∷ [])) false (FieldThen (Some (97 ∷ [])) None (IntegerOf (unsigned_type 4)) (Some (Between Equal (Before Minus (Name 0 0)) (Number (unsigned_type 4) 15))) None None NoFields)) Big no_values 0 (Ok (Mapped (StructLabel (Some (84 ∷ [])) ((Some (97 ∷ [])) ∷ [])) 0 4 (MemberThen (Mapped (IntegerLabel (pos 1) (unsigned_type 4)) 0 4 NoMembers) NoMembers))) 7 2
+unfolding bits_of binary number digits numeral_onto groups_from modulo with_sign converted is_signed_in brought prefixed shifted_left shifted_right on_common on_integers on_bits on_scaled on_texts combined to_integer to_offset in_unit divisor_within greatest_common_divisor and_operand evaluation constraint condition field_start extent_of then_ok from_inside constrained number_plan read_plan after_byte text_plan after_element elements_plan after_attempt plan least_width
+minus_wraps = plan_means (bits_of (31 ∷ [])) _ Big no_values 0
+
+-- struct { byte a : !a == 1; }
+not_is_int : Means (bits_of (0 ∷ [])) (StructOf (Some (84 ∷ [])) false (FieldThen (Some (97 ∷ [])) None (IntegerOf (unsigned_type 8)) (Some (Between Equal (Before Not (Name 0 0)) (Number (signed_type 32) 1))) None None NoFields)) Big no_values 0 (Ok (Mapped (StructLabel (Some (84 ∷ [])) ((Some (97 ∷ [])) ∷ [])) 0 8 (MemberThen (Mapped (IntegerLabel (pos 0) (unsigned_type 8)) 0 8 NoMembers) NoMembers))) 7 2
+unfolding bits_of binary number digits numeral_onto groups_from modulo with_sign converted is_signed_in brought prefixed shifted_left shifted_right on_common on_integers on_bits on_scaled on_texts combined to_integer to_offset in_unit divisor_within greatest_common_divisor and_operand evaluation constraint condition field_start extent_of then_ok from_inside constrained number_plan read_plan after_byte text_plan after_element elements_plan after_attempt plan least_width
+not_is_int = plan_means (bits_of (0 ∷ [])) _ Big no_values 0
+
+-- struct { int<8> a : a % 4 == -1; }
+remainder_sign : Means (bits_of (251 ∷ [])) (StructOf (Some (84 ∷ [])) false (FieldThen (Some (97 ∷ [])) None (IntegerOf (signed_type 8)) (Some (Between Equal (Between Remainder (Name 0 0) (Number (signed_type 32) 4)) (Before Minus (Number (signed_type 32) 1)))) None None NoFields)) Big no_values 0 (Ok (Mapped (StructLabel (Some (84 ∷ [])) ((Some (97 ∷ [])) ∷ [])) 0 8 (MemberThen (Mapped (IntegerLabel (negsuc 4) (signed_type 8)) 0 8 NoMembers) NoMembers))) 9 2
+unfolding bits_of binary number digits numeral_onto groups_from modulo with_sign converted is_signed_in brought prefixed shifted_left shifted_right on_common on_integers on_bits on_scaled on_texts combined to_integer to_offset in_unit divisor_within greatest_common_divisor and_operand evaluation constraint condition field_start extent_of then_ok from_inside constrained number_plan read_plan after_byte text_plan after_element elements_plan after_attempt plan least_width
+remainder_sign = plan_means (bits_of (251 ∷ [])) _ Big no_values 0
+
+-- struct { int<8> a : a / 2 == -2; }
+division_toward_zero : Means (bits_of (251 ∷ [])) (StructOf (Some (84 ∷ [])) false (FieldThen (Some (97 ∷ [])) None (IntegerOf (signed_type 8)) (Some (Between Equal (Between Divide (Name 0 0) (Number (signed_type 32) 2)) (Before Minus (Number (signed_type 32) 2)))) None None NoFields)) Big no_values 0 (Ok (Mapped (StructLabel (Some (84 ∷ [])) ((Some (97 ∷ [])) ∷ [])) 0 8 (MemberThen (Mapped (IntegerLabel (negsuc 4) (signed_type 8)) 0 8 NoMembers) NoMembers))) 9 2
+unfolding bits_of binary number digits numeral_onto groups_from modulo with_sign converted is_signed_in brought prefixed shifted_left shifted_right on_common on_integers on_bits on_scaled on_texts combined to_integer to_offset in_unit divisor_within greatest_common_divisor and_operand evaluation constraint condition field_start extent_of then_ok from_inside constrained number_plan read_plan after_byte text_plan after_element elements_plan after_attempt plan least_width
+division_toward_zero = plan_means (bits_of (251 ∷ [])) _ Big no_values 0
+
+-- struct { int<8> a : (a & 15B) == 11B; }
+bits_of_signed : Means (bits_of (251 ∷ [])) (StructOf (Some (84 ∷ [])) false (FieldThen (Some (97 ∷ [])) None (IntegerOf (signed_type 8)) (Some (Between Equal (Bracket (Between BitAnd (Name 0 0) (Number (signed_type 8) 15))) (Number (signed_type 8) 11))) None None NoFields)) Big no_values 0 (Ok (Mapped (StructLabel (Some (84 ∷ [])) ((Some (97 ∷ [])) ∷ [])) 0 8 (MemberThen (Mapped (IntegerLabel (negsuc 4) (signed_type 8)) 0 8 NoMembers) NoMembers))) 9 2
+unfolding bits_of binary number digits numeral_onto groups_from modulo with_sign converted is_signed_in brought prefixed shifted_left shifted_right on_common on_integers on_bits on_scaled on_texts combined to_integer to_offset in_unit divisor_within greatest_common_divisor and_operand evaluation constraint condition field_start extent_of then_ok from_inside constrained number_plan read_plan after_byte text_plan after_element elements_plan after_attempt plan least_width
+bits_of_signed = plan_means (bits_of (251 ∷ [])) _ Big no_values 0
+
+-- struct { byte a : (a | 1UB) == 3UB; }
+bits_or : Means (bits_of (2 ∷ [])) (StructOf (Some (84 ∷ [])) false (FieldThen (Some (97 ∷ [])) None (IntegerOf (unsigned_type 8)) (Some (Between Equal (Bracket (Between BitOr (Name 0 0) (Number (unsigned_type 8) 1))) (Number (unsigned_type 8) 3))) None None NoFields)) Big no_values 0 (Ok (Mapped (StructLabel (Some (84 ∷ [])) ((Some (97 ∷ [])) ∷ [])) 0 8 (MemberThen (Mapped (IntegerLabel (pos 2) (unsigned_type 8)) 0 8 NoMembers) NoMembers))) 9 2
+unfolding bits_of binary number digits numeral_onto groups_from modulo with_sign converted is_signed_in brought prefixed shifted_left shifted_right on_common on_integers on_bits on_scaled on_texts combined to_integer to_offset in_unit divisor_within greatest_common_divisor and_operand evaluation constraint condition field_start extent_of then_ok from_inside constrained number_plan read_plan after_byte text_plan after_element elements_plan after_attempt plan least_width
+bits_or = plan_means (bits_of (2 ∷ [])) _ Big no_values 0
+
+-- struct { byte a : (a ^ 255UB) == 253UB; }
+bits_xor : Means (bits_of (2 ∷ [])) (StructOf (Some (84 ∷ [])) false (FieldThen (Some (97 ∷ [])) None (IntegerOf (unsigned_type 8)) (Some (Between Equal (Bracket (Between BitXor (Name 0 0) (Number (unsigned_type 8) 255))) (Number (unsigned_type 8) 253))) None None NoFields)) Big no_values 0 (Ok (Mapped (StructLabel (Some (84 ∷ [])) ((Some (97 ∷ [])) ∷ [])) 0 8 (MemberThen (Mapped (IntegerLabel (pos 2) (unsigned_type 8)) 0 8 NoMembers) NoMembers))) 9 2
+unfolding bits_of binary number digits numeral_onto groups_from modulo with_sign converted is_signed_in brought prefixed shifted_left shifted_right on_common on_integers on_bits on_scaled on_texts combined to_integer to_offset in_unit divisor_within greatest_common_divisor and_operand evaluation constraint condition field_start extent_of then_ok from_inside constrained number_plan read_plan after_byte text_plan after_element elements_plan after_attempt plan least_width
+bits_xor = plan_means (bits_of (2 ∷ [])) _ Big no_values 0
+
+-- struct { byte a : a == 0 || 7 / a == 0; }
+lazy_or : Means (bits_of (0 ∷ [])) (StructOf (Some (84 ∷ [])) false (FieldThen (Some (97 ∷ [])) None (IntegerOf (unsigned_type 8)) (Some (Between LogicalOr (Between Equal (Name 0 0) (Number (signed_type 32) 0)) (Between Equal (Between Divide (Number (signed_type 32) 7) (Name 0 0)) (Number (signed_type 32) 0)))) None None NoFields)) Big no_values 0 (Ok (Mapped (StructLabel (Some (84 ∷ [])) ((Some (97 ∷ [])) ∷ [])) 0 8 (MemberThen (Mapped (IntegerLabel (pos 0) (unsigned_type 8)) 0 8 NoMembers) NoMembers))) 7 2
+unfolding bits_of binary number digits numeral_onto groups_from modulo with_sign converted is_signed_in brought prefixed shifted_left shifted_right on_common on_integers on_bits on_scaled on_texts combined to_integer to_offset in_unit divisor_within greatest_common_divisor and_operand evaluation constraint condition field_start extent_of then_ok from_inside constrained number_plan read_plan after_byte text_plan after_element elements_plan after_attempt plan least_width
+lazy_or = plan_means (bits_of (0 ∷ [])) _ Big no_values 0
+
+-- struct { byte a : (a as int<8>) == -1; }
+conversion_to_integer : Means (bits_of (255 ∷ [])) (StructOf (Some (84 ∷ [])) false (FieldThen (Some (97 ∷ [])) None (IntegerOf (unsigned_type 8)) (Some (Between Equal (Bracket (ToInteger (signed_type 8) (Name 0 0))) (Before Minus (Number (signed_type 32) 1)))) None None NoFields)) Big no_values 0 (Ok (Mapped (StructLabel (Some (84 ∷ [])) ((Some (97 ∷ [])) ∷ [])) 0 8 (MemberThen (Mapped (IntegerLabel (pos 255) (unsigned_type 8)) 0 8 NoMembers) NoMembers))) 9 2
+unfolding bits_of binary number digits numeral_onto groups_from modulo with_sign converted is_signed_in brought prefixed shifted_left shifted_right on_common on_integers on_bits on_scaled on_texts combined to_integer to_offset in_unit divisor_within greatest_common_divisor and_operand evaluation constraint condition field_start extent_of then_ok from_inside constrained number_plan read_plan after_byte text_plan after_element elements_plan after_attempt plan least_width
+conversion_to_integer = plan_means (bits_of (255 ∷ [])) _ Big no_values 0
+
+-- struct { byte a : 3#B % 2#B == a#B; }
+remainder_of_offsets : Means (bits_of (1 ∷ [])) (StructOf (Some (84 ∷ [])) false (FieldThen (Some (97 ∷ [])) None (IntegerOf (unsigned_type 8)) (Some (Between Equal (Between Remainder (InUnit 8 (Number (signed_type 32) 3)) (InUnit 8 (Number (signed_type 32) 2))) (InUnit 8 (Name 0 0)))) None None NoFields)) Big no_values 0 (Ok (Mapped (StructLabel (Some (84 ∷ [])) ((Some (97 ∷ [])) ∷ [])) 0 8 (MemberThen (Mapped (IntegerLabel (pos 1) (unsigned_type 8)) 0 8 NoMembers) NoMembers))) 11 2
+unfolding bits_of binary number digits numeral_onto groups_from modulo with_sign converted is_signed_in brought prefixed shifted_left shifted_right on_common on_integers on_bits on_scaled on_texts combined to_integer to_offset in_unit divisor_within greatest_common_divisor and_operand evaluation constraint condition field_start extent_of then_ok from_inside constrained number_plan read_plan after_byte text_plan after_element elements_plan after_attempt plan least_width
+remainder_of_offsets = plan_means (bits_of (1 ∷ [])) _ Big no_values 0
+
+-- struct { byte a : a * 3#4 == 24#b; }
+scaled_offset : Means (bits_of (2 ∷ [])) (StructOf (Some (84 ∷ [])) false (FieldThen (Some (97 ∷ [])) None (IntegerOf (unsigned_type 8)) (Some (Between Equal (Between Multiply (Name 0 0) (InUnit 4 (Number (signed_type 32) 3))) (InUnit 1 (Number (signed_type 32) 24)))) None None NoFields)) Big no_values 0 (Ok (Mapped (StructLabel (Some (84 ∷ [])) ((Some (97 ∷ [])) ∷ [])) 0 8 (MemberThen (Mapped (IntegerLabel (pos 2) (unsigned_type 8)) 0 8 NoMembers) NoMembers))) 10 2
+unfolding bits_of binary number digits numeral_onto groups_from modulo with_sign converted is_signed_in brought prefixed shifted_left shifted_right on_common on_integers on_bits on_scaled on_texts combined to_integer to_offset in_unit divisor_within greatest_common_divisor and_operand evaluation constraint condition field_start extent_of then_ok from_inside constrained number_plan read_plan after_byte text_plan after_element elements_plan after_attempt plan least_width
+scaled_offset = plan_means (bits_of (2 ∷ [])) _ Big no_values 0
+
+-- struct { byte a : 1#12 + 1#8 == 5#4 && a < 9; }
+greatest_common_unit : Means (bits_of (2 ∷ [])) (StructOf (Some (84 ∷ [])) false (FieldThen (Some (97 ∷ [])) None (IntegerOf (unsigned_type 8)) (Some (Between LogicalAnd (Between Equal (Between Add (InUnit 12 (Number (signed_type 32) 1)) (InUnit 8 (Number (signed_type 32) 1))) (InUnit 4 (Number (signed_type 32) 5))) (Between Less (Name 0 0) (Number (signed_type 32) 9)))) None None NoFields)) Big no_values 0 (Ok (Mapped (StructLabel (Some (84 ∷ [])) ((Some (97 ∷ [])) ∷ [])) 0 8 (MemberThen (Mapped (IntegerLabel (pos 2) (unsigned_type 8)) 0 8 NoMembers) NoMembers))) 15 2
+unfolding bits_of binary number digits numeral_onto groups_from modulo with_sign converted is_signed_in brought prefixed shifted_left shifted_right on_common on_integers on_bits on_scaled on_texts combined to_integer to_offset in_unit divisor_within greatest_common_divisor and_operand evaluation constraint condition field_start extent_of then_ok from_inside constrained number_plan read_plan after_byte text_plan after_element elements_plan after_attempt plan least_width
+greatest_common_unit = plan_means (bits_of (2 ∷ [])) _ Big no_values 0
+
+-- struct { byte a : 1#B / 0#B == 1; }
+offset_division_by_zero : Means (bits_of (0 ∷ [])) (StructOf (Some (84 ∷ [])) false (FieldThen (Some (97 ∷ [])) None (IntegerOf (unsigned_type 8)) (Some (Between Equal (Between Divide (InUnit 8 (Number (signed_type 32) 1)) (InUnit 8 (Number (signed_type 32) 0))) (Number (signed_type 32) 1))) None None NoFields)) Big no_values 0 (Err (fault.Zero, 0)) 9 1
+unfolding bits_of binary number digits numeral_onto groups_from modulo with_sign converted is_signed_in brought prefixed shifted_left shifted_right on_common on_integers on_bits on_scaled on_texts combined to_integer to_offset in_unit divisor_within greatest_common_divisor and_operand evaluation constraint condition field_start extent_of then_ok from_inside constrained number_plan read_plan after_byte text_plan after_element elements_plan after_attempt plan least_width
+offset_division_by_zero = plan_means (bits_of (0 ∷ [])) _ Big no_values 0
+
+-- struct { int<8> a : -a == 0; }
+minimum_negated : Means (bits_of (128 ∷ [])) (StructOf (Some (84 ∷ [])) false (FieldThen (Some (97 ∷ [])) None (IntegerOf (signed_type 8)) (Some (Between Equal (Before Minus (Name 0 0)) (Number (signed_type 32) 0))) None None NoFields)) Big no_values 0 (Err (fault.Overflow, 0)) 6 1
+unfolding bits_of binary number digits numeral_onto groups_from modulo with_sign converted is_signed_in brought prefixed shifted_left shifted_right on_common on_integers on_bits on_scaled on_texts combined to_integer to_offset in_unit divisor_within greatest_common_divisor and_operand evaluation constraint condition field_start extent_of then_ok from_inside constrained number_plan read_plan after_byte text_plan after_element elements_plan after_attempt plan least_width
+minimum_negated = plan_means (bits_of (128 ∷ [])) _ Big no_values 0
+
+-- struct { byte[2] xs : xs[-1] == 0; }
+negative_index : Means (bits_of (0 ∷ 0 ∷ [])) (StructOf (Some (84 ∷ [])) false (FieldThen (Some (120 ∷ 115 ∷ [])) None (ArrayOf (IntegerOf (unsigned_type 8)) (ByCount (Number (signed_type 32) 2))) (Some (Between Equal (Index (Name 0 0) (Before Minus (Number (signed_type 32) 1))) (Number (signed_type 32) 0))) None None NoFields)) Big no_values 0 (Err (fault.Index, 0)) 13 3
+unfolding bits_of binary number digits numeral_onto groups_from modulo with_sign converted is_signed_in brought prefixed shifted_left shifted_right on_common on_integers on_bits on_scaled on_texts combined to_integer to_offset in_unit divisor_within greatest_common_divisor and_operand evaluation constraint condition field_start extent_of then_ok from_inside constrained number_plan read_plan after_byte text_plan after_element elements_plan after_attempt plan least_width
+negative_index = plan_means (bits_of (0 ∷ 0 ∷ [])) _ Big no_values 0
+
+-- struct { byte n; byte x if 1 / n; }
+zero_in_condition : Means (bits_of (0 ∷ 5 ∷ [])) (StructOf (Some (84 ∷ [])) false (FieldThen (Some (110 ∷ [])) None (IntegerOf (unsigned_type 8)) None None None (FieldThen (Some (120 ∷ [])) None (IntegerOf (unsigned_type 8)) None None (Some (Between Divide (Number (signed_type 32) 1) (Name 0 0))) NoFields))) Big no_values 0 (Err (fault.Zero, 0)) 7 1
+unfolding bits_of binary number digits numeral_onto groups_from modulo with_sign converted is_signed_in brought prefixed shifted_left shifted_right on_common on_integers on_bits on_scaled on_texts combined to_integer to_offset in_unit divisor_within greatest_common_divisor and_operand evaluation constraint condition field_start extent_of then_ok from_inside constrained number_plan read_plan after_byte text_plan after_element elements_plan after_attempt plan least_width
+zero_in_condition = plan_means (bits_of (0 ∷ 5 ∷ [])) _ Big no_values 0
+
+-- struct { byte n; byte[1 / n] x; }
+zero_in_bound : Means (bits_of (0 ∷ 5 ∷ [])) (StructOf (Some (84 ∷ [])) false (FieldThen (Some (110 ∷ [])) None (IntegerOf (unsigned_type 8)) None None None (FieldThen (Some (120 ∷ [])) None (ArrayOf (IntegerOf (unsigned_type 8)) (ByCount (Between Divide (Number (signed_type 32) 1) (Name 0 0)))) None None None NoFields))) Big no_values 0 (Err (fault.Zero, 8)) 8 1
+unfolding bits_of binary number digits numeral_onto groups_from modulo with_sign converted is_signed_in brought prefixed shifted_left shifted_right on_common on_integers on_bits on_scaled on_texts combined to_integer to_offset in_unit divisor_within greatest_common_divisor and_operand evaluation constraint condition field_start extent_of then_ok from_inside constrained number_plan read_plan after_byte text_plan after_element elements_plan after_attempt plan least_width
+zero_in_bound = plan_means (bits_of (0 ∷ 5 ∷ [])) _ Big no_values 0
+
+-- struct { byte[0] e @ 1#B; }
+struct_of_labels_end : Means (bits_of (0 ∷ 0 ∷ [])) (StructOf (Some (84 ∷ [])) false (FieldThen (Some (101 ∷ [])) None (ArrayOf (IntegerOf (unsigned_type 8)) (ByCount (Number (signed_type 32) 0))) None (Some (InUnit 8 (Number (signed_type 32) 1))) None NoFields)) Big no_values 0 (Ok (Mapped (StructLabel (Some (84 ∷ [])) ((Some (101 ∷ [])) ∷ [])) 0 8 (MemberThen (Mapped ArrayLabel 8 8 NoMembers) NoMembers))) 6 2
+unfolding bits_of binary number digits numeral_onto groups_from modulo with_sign converted is_signed_in brought prefixed shifted_left shifted_right on_common on_integers on_bits on_scaled on_texts combined to_integer to_offset in_unit divisor_within greatest_common_divisor and_operand evaluation constraint condition field_start extent_of then_ok from_inside constrained number_plan read_plan after_byte text_plan after_element elements_plan after_attempt plan least_width
+struct_of_labels_end = plan_means (bits_of (0 ∷ 0 ∷ [])) _ Big no_values 0
+
+-- struct { byte a : -8#b / 1UB#B == 4294967295U; }
+offset_quotient_wraps : Means (bits_of (0 ∷ [])) (StructOf (Some (84 ∷ [])) false (FieldThen (Some (97 ∷ [])) None (IntegerOf (unsigned_type 8)) (Some (Between Equal (Between Divide (Before Minus (InUnit 1 (Number (signed_type 32) 8))) (InUnit 8 (Number (unsigned_type 8) 1))) (Number (unsigned_type 32) 4294967295))) None None NoFields)) Big no_values 0 (Ok (Mapped (StructLabel (Some (84 ∷ [])) ((Some (97 ∷ [])) ∷ [])) 0 8 (MemberThen (Mapped (IntegerLabel (pos 0) (unsigned_type 8)) 0 8 NoMembers) NoMembers))) 11 2
+unfolding bits_of binary number digits numeral_onto groups_from modulo with_sign converted is_signed_in brought prefixed shifted_left shifted_right on_common on_integers on_bits on_scaled on_texts combined to_integer to_offset in_unit divisor_within greatest_common_divisor and_operand evaluation constraint condition field_start extent_of then_ok from_inside constrained number_plan read_plan after_byte text_plan after_element elements_plan after_attempt plan least_width
+offset_quotient_wraps = plan_means (bits_of (0 ∷ [])) _ Big no_values 0
+
+-- struct { byte a : -8 / 8U == 536870911U; }
+quotient_converts_first : Means (bits_of (0 ∷ [])) (StructOf (Some (84 ∷ [])) false (FieldThen (Some (97 ∷ [])) None (IntegerOf (unsigned_type 8)) (Some (Between Equal (Between Divide (Before Minus (Number (signed_type 32) 8)) (Number (unsigned_type 32) 8)) (Number (unsigned_type 32) 536870911))) None None NoFields)) Big no_values 0 (Ok (Mapped (StructLabel (Some (84 ∷ [])) ((Some (97 ∷ [])) ∷ [])) 0 8 (MemberThen (Mapped (IntegerLabel (pos 0) (unsigned_type 8)) 0 8 NoMembers) NoMembers))) 9 2
+unfolding bits_of binary number digits numeral_onto groups_from modulo with_sign converted is_signed_in brought prefixed shifted_left shifted_right on_common on_integers on_bits on_scaled on_texts combined to_integer to_offset in_unit divisor_within greatest_common_divisor and_operand evaluation constraint condition field_start extent_of then_ok from_inside constrained number_plan read_plan after_byte text_plan after_element elements_plan after_attempt plan least_width
+quotient_converts_first = plan_means (bits_of (0 ∷ [])) _ Big no_values 0
+
+-- struct { byte a : 1 << 31; }
+shift_overflows : Means (bits_of (0 ∷ [])) (StructOf (Some (84 ∷ [])) false (FieldThen (Some (97 ∷ [])) None (IntegerOf (unsigned_type 8)) (Some (Between ShiftLeft (Number (signed_type 32) 1) (Number (signed_type 32) 31))) None None NoFields)) Big no_values 0 (Err (fault.Overflow, 0)) 6 1
+unfolding bits_of binary number digits numeral_onto groups_from modulo with_sign converted is_signed_in brought prefixed shifted_left shifted_right on_common on_integers on_bits on_scaled on_texts combined to_integer to_offset in_unit divisor_within greatest_common_divisor and_operand evaluation constraint condition field_start extent_of then_ok from_inside constrained number_plan read_plan after_byte text_plan after_element elements_plan after_attempt plan least_width
+shift_overflows = plan_means (bits_of (0 ∷ [])) _ Big no_values 0
+
+-- struct { union { byte x : x == 1; string c; } u; byte y : "ab" == u.c; }
+text_not_taken : Means (bits_of (1 ∷ 2 ∷ [])) (StructOf (Some (84 ∷ [])) false (FieldThen (Some (117 ∷ [])) None (UnionOf None (PartThen (Some (120 ∷ [])) None (IntegerOf (unsigned_type 8)) (Some (Between Equal (Name 0 0) (Number (signed_type 32) 1))) (PartThen (Some (99 ∷ [])) None StringOf None NoParts))) None None None (FieldThen (Some (121 ∷ [])) None (IntegerOf (unsigned_type 8)) (Some (Between Equal (Text (97 ∷ 98 ∷ [])) (Select (Name 0 0) 1))) None None NoFields))) Big no_values 0 (Err (fault.Absent, 8)) 14 3
+unfolding bits_of binary number digits numeral_onto groups_from modulo with_sign converted is_signed_in brought prefixed shifted_left shifted_right on_common on_integers on_bits on_scaled on_texts combined to_integer to_offset in_unit divisor_within greatest_common_divisor and_operand evaluation constraint condition field_start extent_of then_ok from_inside constrained number_plan read_plan after_byte text_plan after_element elements_plan after_attempt plan least_width
+text_not_taken = plan_means (bits_of (1 ∷ 2 ∷ [])) _ Big no_values 0
+
+-- struct { struct uint<16> { uint<4> a; uint<12> b : b'size == 12#b; } g; }
+size_in_integral : Means (bits_of (18 ∷ 52 ∷ [])) (StructOf (Some (84 ∷ [])) false (FieldThen (Some (103 ∷ [])) None (IntegralOf None (unsigned_type 16) (PartThen (Some (97 ∷ [])) None (IntegerOf (unsigned_type 4)) None (PartThen (Some (98 ∷ [])) None (IntegerOf (unsigned_type 12)) (Some (Between Equal (AttributeOf Size (Name 0 1)) (InUnit 1 (Number (signed_type 32) 12)))) NoParts))) None None None NoFields)) Big no_values 0 (Ok (Mapped (StructLabel (Some (84 ∷ [])) ((Some (103 ∷ [])) ∷ [])) 0 16 (MemberThen (Mapped (StructLabel None ((Some (97 ∷ [])) ∷ (Some (98 ∷ [])) ∷ [])) 0 16 (MemberThen (Mapped (IntegerLabel (pos 1) (unsigned_type 4)) 0 4 NoMembers) (MemberThen (Mapped (IntegerLabel (pos 564) (unsigned_type 12)) 0 12 NoMembers) NoMembers))) NoMembers))) 12 4
+unfolding bits_of binary number digits numeral_onto groups_from modulo with_sign converted is_signed_in brought prefixed shifted_left shifted_right on_common on_integers on_bits on_scaled on_texts combined to_integer to_offset in_unit divisor_within greatest_common_divisor and_operand evaluation constraint condition field_start extent_of then_ok from_inside constrained number_plan read_plan after_byte text_plan after_element elements_plan after_attempt plan least_width
+size_in_integral = plan_means (bits_of (18 ∷ 52 ∷ [])) _ Big no_values 0
+
+-- answers under a limit of steps
+limit_reached : Answer (bits_of (5 ∷ 6 ∷ 0 ∷ [])) (StructOf (Some (65 ∷ [])) false (FieldThen (Some (101 ∷ 115 ∷ [])) None (ArrayOf (StructOf (Some (69 ∷ [])) false (FieldThen (Some (118 ∷ [])) None (IntegerOf (unsigned_type 8)) (Some (Between NotEqual (Name 0 0) (Number (signed_type 32) 0))) None None NoFields)) Unbounded) None None None (FieldThen (Some (122 ∷ [])) None (IntegerOf (unsigned_type 8)) None None None NoFields))) Big 0 25 (Err (fault.Limit, 0)) 25 8
+limit_reached = too_long constrained_elements (omega arith) (omega arith)
+
+limit_enough : Answer (bits_of (5 ∷ 6 ∷ 0 ∷ [])) (StructOf (Some (65 ∷ [])) false (FieldThen (Some (101 ∷ 115 ∷ [])) None (ArrayOf (StructOf (Some (69 ∷ [])) false (FieldThen (Some (118 ∷ [])) None (IntegerOf (unsigned_type 8)) (Some (Between NotEqual (Name 0 0) (Number (signed_type 32) 0))) None None NoFields)) Unbounded) None None None (FieldThen (Some (122 ∷ [])) None (IntegerOf (unsigned_type 8)) None None None NoFields))) Big 0 26 (Ok (Mapped (StructLabel (Some (65 ∷ [])) ((Some (101 ∷ 115 ∷ [])) ∷ (Some (122 ∷ [])) ∷ [])) 0 24 (MemberThen (Mapped ArrayLabel 0 16 (MemberThen (Mapped (StructLabel (Some (69 ∷ [])) ((Some (118 ∷ [])) ∷ [])) 0 8 (MemberThen (Mapped (IntegerLabel (pos 5) (unsigned_type 8)) 0 8 NoMembers) NoMembers)) (MemberThen (Mapped (StructLabel (Some (69 ∷ [])) ((Some (118 ∷ [])) ∷ [])) 8 16 (MemberThen (Mapped (IntegerLabel (pos 6) (unsigned_type 8)) 8 16 NoMembers) NoMembers)) NoMembers))) (MemberThen (Mapped (IntegerLabel (pos 0) (unsigned_type 8)) 16 24 NoMembers) NoMembers)))) 26 8
+limit_enough = in_time constrained_elements (omega arith)
+
+no_steps_past_end : Answer (bits_of (18 ∷ 52 ∷ [])) (IntegerOf (unsigned_type 8)) Big 17 0 (Err (fault.End, 17)) 0 0
+no_steps_past_end = in_time past_end_start (omega arith)
+
+-- the bounds of some of these types
+constrained_elements_cost : cost (StructOf (Some (65 ∷ [])) false (FieldThen (Some (101 ∷ 115 ∷ [])) None (ArrayOf (StructOf (Some (69 ∷ [])) false (FieldThen (Some (118 ∷ [])) None (IntegerOf (unsigned_type 8)) (Some (Between NotEqual (Name 0 0) (Number (signed_type 32) 0))) None None NoFields)) Unbounded) None None None (FieldThen (Some (122 ∷ [])) None (IntegerOf (unsigned_type 8)) None None None NoFields))) 24 ≡ 33
+unfolding cost least_width
+constrained_elements_cost = refl
+
+constrained_elements_room : room (StructOf (Some (65 ∷ [])) false (FieldThen (Some (101 ∷ 115 ∷ [])) None (ArrayOf (StructOf (Some (69 ∷ [])) false (FieldThen (Some (118 ∷ [])) None (IntegerOf (unsigned_type 8)) (Some (Between NotEqual (Name 0 0) (Number (signed_type 32) 0))) None None NoFields)) Unbounded) None None None (FieldThen (Some (122 ∷ [])) None (IntegerOf (unsigned_type 8)) None None None NoFields))) 24 ≡ 21
+unfolding room least_width
+constrained_elements_room = refl
+
+wide_and_narrow_cost : cost (ArrayOf (UnionOf (Some (85 ∷ [])) (PartThen (Some (97 ∷ [])) None (IntegerOf (unsigned_type 16)) (Some (Between Equal (Name 0 0) (Number (signed_type 32) 1))) (PartThen (Some (98 ∷ [])) None (IntegerOf (unsigned_type 8)) None NoParts))) Unbounded) 24 ≡ 37
+unfolding cost least_width
+wide_and_narrow_cost = refl
+
+wide_and_narrow_room : room (ArrayOf (UnionOf (Some (85 ∷ [])) (PartThen (Some (97 ∷ [])) None (IntegerOf (unsigned_type 16)) (Some (Between Equal (Name 0 0) (Number (signed_type 32) 1))) (PartThen (Some (98 ∷ [])) None (IntegerOf (unsigned_type 8)) None NoParts))) Unbounded) 24 ≡ 17
+unfolding room least_width
+wide_and_narrow_room = refl
+
+greatest_end_cost : cost (ArrayOf (StructOf (Some (82 ∷ [])) false (FieldThen (Some (102 ∷ 97 ∷ 114 ∷ [])) None (IntegerOf (unsigned_type 8)) None (Some (InUnit 8 (Number (signed_type 32) 1))) None (FieldThen (Some (110 ∷ [])) None (IntegerOf (unsigned_type 8)) None (Some (InUnit 8 (Number (signed_type 32) 0))) None NoFields))) (ByCount (Number (signed_type 32) 2))) 32 ≡ 52
+unfolding cost least_width
+greatest_end_cost = refl
