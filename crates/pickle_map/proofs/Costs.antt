@@ -1,5 +1,5 @@
 -- No mapping takes more steps than its type's bound, whatever it reads.
-use Rattle.std.proofs.Common.{◌≡◌, ℕ, zero, suc, ◌+◌, ◌-◌, ◌*◌, ◌/◌, max, ◌<◌, ◌≤◌, length, Bool, true, false, List, [], ◌∷◌, ◌++◌, Option, Some, None, Result, Ok, Err, refl, sym, ap, ◌∙◌, subst, arith}
+use Rattle.std.proofs.Common.{ℕ, zero, suc, ◌+◌, ◌-◌, ◌*◌, ◌/◌, max, ◌≤◌, Bool, true, false, List, [], ◌∷◌, ◌++◌, Option, Some, None, Result, Ok, Err, arith}
 use Rattle.std.specs.Prelude.{if◌then◌else◌, nat_le, nat_eq, ◌&&◌}
 use Rattle.bit_space.specs.declared.order.Order.{Order}
 use Rattle.pickle_syntax.specs.declared.tree.Infix.{Infix}
@@ -8,14 +8,13 @@ use Rattle.pickle_types.specs.Types.{Term, Number, Text, Name, Bracket, Before, 
 use Rattle.pickle_types.specs.Bounds.{least_width, count_of, cost, fields_cost, parts_cost}
 use Rattle.pickle_map.specs.declared.extent.Extent.{Extent}
 use Rattle.pickle_map.specs.declared.faults.MapFaultKind.{MapFaultKind}
-use Rattle.pickle_map.specs.declared.faults.MapFaultKind.TheVariants as fault
 use Rattle.pickle_map.specs.Values.{Naming, Label, Value, end_of, Levels, pushed, opened, value_at}
 use Rattle.pickle_map.specs.Arithmetic.{Computed, prefixed, combined, to_integer, to_offset, in_unit}
-use Rattle.pickle_map.specs.Evaluation.{Operand, operand_label, Evaluation, gives, present, leads_to, with_steps, on_outcome, and_operand, truth_of, settled, unless_settled, literal_length, is_text, between, chosen, as_common, selected, element, attribute_of, evaluation}
-use Rattle.pickle_map.specs.Clauses.{FaultAt, clause_steps, label_steps, bound_steps, constraint, condition, field_start, extent_of, is_due, is_met, ends_before, misses}
+use Rattle.pickle_map.specs.Evaluation.{Operand, operand_label, Evaluation, gives, present, leads_to, on_outcome, and_operand, truth_of, settled, unless_settled, literal_length, is_text, between, chosen, as_common, selected, element, attribute_of, evaluation}
+use Rattle.pickle_map.specs.Clauses.{FaultAt, clause_steps, label_steps, bound_steps, is_due, is_met, ends_before, misses}
 use Rattle.pickle_map.specs.Means.{Opened, Taken, number_type, width_in, first_digits, ordered}
-use Rattle.pickle_map.specs.Plan.{Plan, Ended, Tick, Made, Read, and_then, after, on_value, then_ok, AtMost, ended, ticked, noted, given}
-use Rattle.pickle_map.specs.Mapping.{from_inside, constrained, number_plan, digits_plan, read_plan, after_byte, text_plan, after_element, elements_plan, array_closes, after_attempt, plan, fields_plan, alternatives_plan}
+use Rattle.pickle_map.specs.Plan.{Plan, Tick, and_then, after, on_value, then_ok, AtMost, ended, ticked, noted, given}
+use Rattle.pickle_map.specs.Mapping.{from_inside, constrained, number_plan, digits_plan, read_plan, after_byte, text_plan, after_element, elements_plan, after_attempt, plan, fields_plan, alternatives_plan}
 
 -- ---- evaluations
 
@@ -69,25 +68,25 @@ evaluation_steps (Between op a b) levels =
     let h = evaluation_steps a levels in
     let g = evaluation_steps b levels in
     let t = operand_steps (evaluation a levels) ((evaluation a levels).steps) ((evaluation b levels).steps + (literal_length a + literal_length b))
-      (λ x. unless_settled (settled op (truth_of (operand_label x))) (and_operand (evaluation b levels) (λ y. between op (literal_length a + literal_length b) (operand_label x) (operand_label y)))) (omega arith)
-      (λ x. unless_steps (settled op (truth_of (operand_label x))) _ _
-        (operand_steps (evaluation b levels) ((evaluation b levels).steps) (literal_length a + literal_length b) _ (omega arith) (λ y. between_steps op (literal_length a + literal_length b) (operand_label x) (operand_label y)))) in
+    (λ x. unless_settled (settled op (truth_of (operand_label x))) (and_operand (evaluation b levels) (λ y. between op (literal_length a + literal_length b) (operand_label x) (operand_label y)))) (omega arith)
+    (λ x. unless_steps (settled op (truth_of (operand_label x))) _ _
+    (operand_steps (evaluation b levels) ((evaluation b levels).steps) (literal_length a + literal_length b) _ (omega arith) (λ y. between_steps op (literal_length a + literal_length b) (operand_label x) (operand_label y)))) in
     omega arith
 evaluation_steps (Choice common c x y) levels =
     let h = evaluation_steps c levels in
     let g = evaluation_steps x levels in
     let f = evaluation_steps y levels in
     let t = operand_steps (evaluation c levels) (weight c) (weight x + weight y + 0)
-      (λ t. and_operand (chosen (truth_of (operand_label t)) (evaluation x levels) (evaluation y levels)) (λ z. gives (as_common common (operand_label z)))) (omega arith)
-      (λ t. operand_steps (chosen (truth_of (operand_label t)) (evaluation x levels) (evaluation y levels)) (weight x + weight y) 0 (λ z. gives (as_common common (operand_label z)))
-        (chosen_steps (truth_of (operand_label t)) (weight x) (weight y) (evaluation x levels) (evaluation y levels) (omega arith) (omega arith)) (λ z. gives_steps _)) in
+    (λ t. and_operand (chosen (truth_of (operand_label t)) (evaluation x levels) (evaluation y levels)) (λ z. gives (as_common common (operand_label z)))) (omega arith)
+    (λ t. operand_steps (chosen (truth_of (operand_label t)) (evaluation x levels) (evaluation y levels)) (weight x + weight y) 0 (λ z. gives (as_common common (operand_label z)))
+    (chosen_steps (truth_of (operand_label t)) (weight x) (weight y) (evaluation x levels) (evaluation y levels) (omega arith) (omega arith)) (λ z. gives_steps _)) in
     omega arith
 evaluation_steps (Index e i) levels =
     let h = evaluation_steps e levels in
     let g = evaluation_steps i levels in
     let t = operand_steps (evaluation e levels) (weight e) (weight i + 0)
-      (λ p. and_operand (evaluation i levels) (λ n. leads_to (element p (operand_label n)))) (omega arith)
-      (λ p. operand_steps (evaluation i levels) (weight i) 0 (λ n. leads_to (element p (operand_label n))) (omega arith) (λ n. leads_steps _)) in
+    (λ p. and_operand (evaluation i levels) (λ n. leads_to (element p (operand_label n)))) (omega arith)
+    (λ p. operand_steps (evaluation i levels) (weight i) 0 (λ n. leads_to (element p (operand_label n))) (omega arith) (λ n. leads_steps _)) in
     omega arith
 evaluation_steps (Select e place) levels =
     let h = evaluation_steps e levels in
@@ -169,6 +168,7 @@ inside_at_most m s h = one_of (nat_le s m) h ended
 -- a number takes its type's bound but for the first step
 mutual
   unfolding number_plan cost
+
   number_at_most : (m : ℕ) (ty : PokeType) (n : ℕ) (levels : Levels) (s : ℕ) → AtMost (Tick (number_plan ty n levels s)) (cost ty m)
   number_at_most m (IntegerOf type) n levels s = ticked 0 (omega arith) (noted ended)
   number_at_most m (OffsetOf type unit) n levels s = ticked 0 (omega arith) (noted ended)
@@ -226,6 +226,7 @@ text_at_most m (suc n) bytes levels s place = ticked n (omega arith) (one_of (na
 
 mutual
   unfolding plan cost
+
   pub plan_at_most : (m : ℕ) (ty : PokeType) (order : Order) (levels : Levels) (s : ℕ) → AtMost (plan m ty order levels s) (cost ty m)
   plan_at_most m (IntegerOf type) order levels s = inside_at_most m s (read_at_most m (IntegerOf type) type order levels s)
   plan_at_most m (OffsetOf type unit) order levels s = inside_at_most m s (read_at_most m (OffsetOf type unit) type order levels s)

@@ -1,9 +1,7 @@
 -- Every type has an outcome at every place.
-use Rattle.std.proofs.Common.{◌≡◌, ℕ, zero, suc, ◌+◌, ◌-◌, ◌<◌, ◌≤◌, max, Bool, true, false, List, [], ◌∷◌, length, Option, Some, None, Result, Ok, Err, refl, sym, ap, ◌∙◌, subst, arith}
-use Rattle.std.specs.Prelude.{nat_le, nat_lt, nat_eq}
-use Rattle.std.proofs.lemmas.Bool.{eqb-true, eqb-false}
+use Rattle.std.proofs.Common.{◌≡◌, ℕ, zero, suc, ◌+◌, ◌-◌, ◌<◌, ◌≤◌, max, Bool, true, false, List, length, Option, Some, None, Result, Ok, Err, refl, arith}
 use Rattle.bit_space.specs.declared.order.Order.{Order}
-use Rattle.bit_space.specs.declared.order.Order.TheVariants.{Big, Little}
+use Rattle.bit_space.specs.declared.order.Order.TheVariants.{Big}
 use Rattle.pickle_syntax.specs.declared.tree.ByteOrder.{ByteOrder}
 use Rattle.pickle_types.specs.declared.integer.IntegerType.{IntegerType}
 use Rattle.pickle_types.specs.Types.{Term, Bound, PokeType, IntegerOf, OffsetOf, StringOf, ArrayOf, StructOf, IntegralOf, UnionOf, Fields, NoFields, FieldThen, Parts, NoParts, PartThen}
@@ -11,12 +9,11 @@ use Rattle.pickle_types.specs.Bounds.{least_width}
 use Rattle.pickle_map.specs.declared.extent.Extent.{Extent}
 use Rattle.pickle_map.specs.Numbers.{number_at}
 use Rattle.pickle_map.specs.Values.{Naming, Value, end_of, Levels, pushed, opened}
-use Rattle.pickle_map.specs.Clauses.{FaultAt, constraint, clause_steps, condition, field_start, extent_of, is_due, is_met, ends_before, misses}
+use Rattle.pickle_map.specs.Clauses.{FaultAt, constraint, condition, field_start, extent_of, is_due, is_met, ends_before, misses}
 use Rattle.pickle_map.specs.Means.{Means, past_end, number_read, number_end, string, string_end, array, bound_fault, struct, struct_fault, union, union_fault, NumberMeans, integer, offset, integral, integral_fault, no_number, DigitsMean, no_digits, next_digits, digits_refused, digits_fault, number_type, width_in, first_digits, Run, no_bytes, next_byte, Elements, no_more, next_element, Closing, none_due, beyond_size, no_bits, ends_without, element_fault, PartMeans, part, part_refused, part_fault, FieldsMean, all_fields, absent, field, condition_fault, label_fault, field_fault, AlternativesMean, none_left, fits, misses_it, other_fault, Opened, Taken, ordered}
 use Rattle.pickle_map.specs.Plan.{result_of, steps_of, made_of}
 use Rattle.pickle_map.specs.Mapping.{plan}
 use Rattle.pickle_map.proofs.Basics.{by_place, by_value}
-use Rattle.pickle_map.proofs.Comes.{Comes}
 use Rattle.pickle_map.proofs.Widths.{means_inside, means_wide}
 use Rattle.pickle_map.proofs.Planned.{means_comes}
 

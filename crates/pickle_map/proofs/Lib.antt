@@ -28,3 +28,8 @@ pub mod Found
 pub mod ShownPaths
 pub mod Lookup
 pub mod Elements
+mod Always
+mod Fitting
+mod Rooms
+mod Followed
+mod Counts

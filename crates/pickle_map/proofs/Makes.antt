@@ -1,16 +1,16 @@
 -- No mapping makes more values than it takes steps, whatever it reads.
-use Rattle.std.proofs.Common.{◌≡◌, ℕ, zero, suc, ◌+◌, ◌-◌, max, ◌<◌, ◌≤◌, Bool, true, false, List, [], ◌∷◌, ◌++◌, Option, Some, None, Result, Ok, Err, refl, arith}
+use Rattle.std.proofs.Common.{ℕ, zero, suc, ◌+◌, ◌-◌, max, ◌≤◌, Bool, true, false, List, [], ◌∷◌, ◌++◌, Option, Some, None, Result, Ok, Err, arith}
 use Rattle.std.specs.Prelude.{if◌then◌else◌, nat_le, nat_eq}
 use Rattle.bit_space.specs.declared.order.Order.{Order}
 use Rattle.pickle_types.specs.declared.integer.IntegerType.{IntegerType}
-use Rattle.pickle_types.specs.Types.{Term, Bound, PokeType, IntegerOf, OffsetOf, StringOf, ArrayOf, StructOf, IntegralOf, UnionOf, Fields, NoFields, FieldThen, Parts, NoParts, PartThen}
+use Rattle.pickle_types.specs.Types.{Term, PokeType, IntegerOf, OffsetOf, StringOf, ArrayOf, StructOf, IntegralOf, UnionOf, Fields, NoFields, FieldThen, Parts, NoParts, PartThen}
 use Rattle.pickle_types.specs.Bounds.{least_width, count_of}
 use Rattle.pickle_map.specs.declared.extent.Extent.{Extent}
 use Rattle.pickle_map.specs.Values.{Naming, Value, end_of, Levels, pushed, opened}
 use Rattle.pickle_map.specs.Clauses.{FaultAt, is_due, is_met, ends_before, misses}
 use Rattle.pickle_map.specs.Means.{Opened, Taken, number_type, width_in, first_digits, ordered}
-use Rattle.pickle_map.specs.Plan.{Plan, Ended, Tick, Made, Read, and_then, after, on_value, then_ok, MadeWithin, made_ended, made_tick, made_more, made_read}
-use Rattle.pickle_map.specs.Mapping.{from_inside, constrained, number_plan, digits_plan, read_plan, after_byte, text_plan, after_element, elements_plan, array_closes, after_attempt, plan, fields_plan, alternatives_plan}
+use Rattle.pickle_map.specs.Plan.{Plan, Ended, Made, and_then, after, on_value, then_ok, MadeWithin, made_ended, made_tick, made_more, made_read}
+use Rattle.pickle_map.specs.Mapping.{from_inside, constrained, number_plan, digits_plan, read_plan, after_byte, text_plan, after_element, elements_plan, after_attempt, plan, fields_plan, alternatives_plan}
 
 -- with more steps taken before, and fewer wanted at the end
 pub within_more : {A : Type 0} {p : Plan A} {a b : ℕ} (c d : ℕ) → a ≤ c → d ≤ b → MadeWithin p a b → MadeWithin p c d
@@ -55,6 +55,7 @@ inside_within m s a h = one_of (nat_le s m) h (made_ended (omega arith))
 
 mutual
   unfolding number_plan
+
   number_within : (ty : PokeType) (n : ℕ) (levels : Levels) (s a : ℕ) → MadeWithin (number_plan ty n levels s) (a + 1) a
   number_within (IntegerOf type) n levels s a = one_made a
   number_within (OffsetOf type unit) n levels s a = one_made a
@@ -105,6 +106,7 @@ text_within m (suc n) bytes levels s place a = made_tick (one_of (nat_le (place 
 
 mutual
   unfolding plan
+
   pub plan_within : (m : ℕ) (ty : PokeType) (order : Order) (levels : Levels) (s a : ℕ) → MadeWithin (plan m ty order levels s) a a
   plan_within m (IntegerOf type) order levels s a = inside_within m s a (read_within m (IntegerOf type) type order levels s a)
   plan_within m (OffsetOf type unit) order levels s a = inside_within m s a (read_within m (OffsetOf type unit) type order levels s a)

@@ -1,16 +1,16 @@
 -- The laws on outcomes, answers and widths.
-use Rattle.std.proofs.Common.{◌≡◌, ℕ, zero, suc, ◌+◌, ◌*◌, ◌/◌, ◌<◌, ◌≤◌, max, length, Bool, true, false, List, Result, Ok, Err, refl, sym, ap, ◌∙◌, subst, arith}
+use Rattle.std.proofs.Common.{◌≡◌, ℕ, suc, ◌+◌, ◌*◌, ◌/◌, ◌<◌, ◌≤◌, max, length, List, Result, Ok, Err, refl, arith}
 use Rattle.std.proofs.Math.Nat.{le-div_iff_mul-le, suc-mul}
 use Rattle.bit_space.specs.declared.order.Order.{Order}
 use Rattle.pickle_types.specs.Types.{PokeType}
 use Rattle.pickle_types.specs.Bounds.{least_width}
 use Rattle.pickle_map.specs.declared.extent.Extent.{Extent}
 use Rattle.pickle_map.specs.declared.faults.MapFaultKind.TheVariants as fault
-use Rattle.pickle_map.specs.Values.{Value, end_of, Levels, pushed, no_values}
+use Rattle.pickle_map.specs.Values.{Value, start_of, end_of, Levels, no_values}
 use Rattle.pickle_map.specs.Clauses.{FaultAt}
-use Rattle.pickle_map.specs.Means.{Means, Elements, no_more, next_element}
+use Rattle.pickle_map.specs.Means.{Means, past_end, number_read, number_end, string, string_end, array, bound_fault, struct, struct_fault, union, union_fault, NumberMeans, integer, offset, integral, integral_fault, no_number, Elements, no_more, next_element, Closing, none_due, beyond_size, no_bits, ends_without, element_fault}
 use Rattle.pickle_map.specs.Answer.{Answer, in_time, too_long}
-use Rattle.pickle_map.specs.Laws.{OneOutcome, HasOneOutcome, PlanIsMeant, OneAnswer, HasOneAnswer, ValuesAreWide, TriesAreFew}
+use Rattle.pickle_map.specs.Laws.{HasOneOutcome, HasOneAnswer, ValuesStartThere, ValuesAreWide, TriesAreFew}
 use Rattle.pickle_map.proofs.Basics.{by_place}
 use Rattle.pickle_map.proofs.Planned.{means_one}
 use Rattle.pickle_map.proofs.Exists.{means_exists}
@@ -38,6 +38,41 @@ one_answer bits ty order s limit =
 
 pub values_wide : ValuesAreWide
 values_wide bits ty order levels s v k j m = (means_wide m, means_inside m)
+
+-- a value starts at a place
+abbrev StartsAt : ℕ → Result Value FaultAt → Type 0
+StartsAt s (Ok v) = start_of v ≡ s
+StartsAt s (Err f) = Unit {0}
+
+number_starts : {ty : PokeType} {n s k j : ℕ} {levels : Levels} {r : Result Value FaultAt} → NumberMeans ty n levels s r k j → StartsAt s r
+number_starts integer = refl
+number_starts offset = refl
+number_starts (integral fs) = refl
+number_starts (integral_fault fs) = tt
+number_starts (no_number e) = tt
+
+closing_starts : {bits : List ℕ} {ty : PokeType} {order : Order} {s : ℕ} {extent : Extent} {n : ℕ} {inside : Levels} {pn k j : ℕ} {r : Result Value FaultAt} → Closing bits ty order s extent n inside pn r k j → StartsAt s r
+closing_starts (none_due over met) = refl
+closing_starts (beyond_size over met) = tt
+closing_starts (no_bits due m e) = tt
+closing_starts (ends_without due m e) = refl
+closing_starts (element_fault due m e) = tt
+
+means_starts : {bits : List ℕ} {ty : PokeType} {order : Order} {levels : Levels} {s : ℕ} {r : Result Value FaultAt} {k j : ℕ} → Means bits ty order levels s r k j → StartsAt s r
+means_starts (past_end lt) = tt
+means_starts (number_read le e inside m) = number_starts m
+means_starts (number_end le e lt) = tt
+means_starts (string le run inside e) = refl
+means_starts (string_end le run lt) = tt
+means_starts (array le b es c) = closing_starts c
+means_starts (bound_fault le b) = tt
+means_starts (struct le fs) = refl
+means_starts (struct_fault le fs) = tt
+means_starts (union le fs) = refl
+means_starts (union_fault le fs) = tt
+
+pub values_start : ValuesStartThere
+values_start bits ty order levels s v k j m = means_starts m
 
 -- so many elements as there are cut points have room between the first and the last
 record Spread (d i p n pn : ℕ) : Type 0 where

@@ -1,16 +1,16 @@
 -- A value ends in the file, and at least as many bits behind its start as its type's least width.
-use Rattle.std.proofs.Common.{◌≡◌, ℕ, zero, suc, ◌+◌, ◌<◌, ◌≤◌, max, min, length, Bool, true, false, List, [], ◌∷◌, Option, Some, None, Result, Ok, Err, refl, sym, ap, ◌∙◌, subst, arith}
+use Rattle.std.proofs.Common.{◌≡◌, ℕ, ◌+◌, ◌≤◌, max, length, Bool, true, false, List, Option, Some, None, Result, Ok, Err, refl, sym, ap, subst, arith}
 use Rattle.std.specs.Prelude.{◌||◌, if◌then◌else◌, ℤ, pos, negsuc}
 use Rattle.bit_space.specs.declared.order.Order.{Order}
 use Rattle.pickle_syntax.specs.declared.tree.ByteOrder.{ByteOrder}
 use Rattle.pickle_types.specs.declared.integer.IntegerType.{IntegerType}
-use Rattle.pickle_types.specs.Types.{Term, Bound, PokeType, IntegerOf, OffsetOf, StringOf, ArrayOf, StructOf, IntegralOf, UnionOf, Fields, NoFields, FieldThen, Parts, NoParts, PartThen}
+use Rattle.pickle_types.specs.Types.{Term, PokeType, IntegerOf, OffsetOf, StringOf, ArrayOf, StructOf, IntegralOf, UnionOf, Fields, Parts, NoParts, PartThen}
 use Rattle.pickle_types.specs.Bounds.{least_width, sum_of_widths, greatest_width, least_of_widths, has_label, where_present, is_some}
 use Rattle.pickle_map.specs.declared.extent.Extent.{Extent}
 use Rattle.pickle_map.specs.declared.faults.MapFaultKind.{MapFaultKind}
-use Rattle.pickle_map.specs.Values.{Naming, Label, IntegerLabel, OffsetLabel, TextLabel, ArrayLabel, StructLabel, UnionLabel, Value, end_of, Levels, pushed}
+use Rattle.pickle_map.specs.Values.{Naming, Label, IntegerLabel, OffsetLabel, TextLabel, ArrayLabel, StructLabel, UnionLabel, Value, end_of, Levels}
 use Rattle.pickle_map.specs.Arithmetic.{bits_in}
-use Rattle.pickle_map.specs.Evaluation.{Operand, AtPath, Plain, operand_label, evaluation}
+use Rattle.pickle_map.specs.Evaluation.{Operand, operand_label, evaluation}
 use Rattle.pickle_map.specs.Clauses.{FaultAt, told_at, not_negative, behind_start, condition, field_start}
 use Rattle.pickle_map.specs.Means.{Means, past_end, number_read, number_end, string, string_end, array, bound_fault, struct, struct_fault, union, union_fault, NumberMeans, integer, offset, integral, integral_fault, no_number, number_type, width_in, Run, no_bytes, next_byte, Elements, no_more, next_element, Closing, none_due, beyond_size, no_bits, ends_without, element_fault, PartMeans, part, part_refused, part_fault, FieldsMean, all_fields, absent, field, condition_fault, label_fault, field_fault, AlternativesMean, none_left, fits, misses_it, other_fault, Opened, Taken}
 use Rattle.pickle_map.proofs.Basics.{clash}
@@ -133,22 +133,22 @@ starts_from false (Some e) levels s behind le = told (evaluation e levels).outco
     told (Err kind) = tt
 
 -- where nothing is pinned or labelled, a field starts where the one before it ended
-next_start : (pinned : Bool) (label : Option Term) (more : Bool) (levels : Levels) (s behind p : ℕ) → (pinned || (is_some label || more)) ≡ false → field_start pinned label levels s behind ≡ Ok p → (behind ≡ p) × ((pinned || more) ≡ false)
+pub next_start : (pinned : Bool) (label : Option Term) (more : Bool) (levels : Levels) (s behind p : ℕ) → (pinned || (is_some label || more)) ≡ false → field_start pinned label levels s behind ≡ Ok p → (behind ≡ p) × ((pinned || more) ≡ false)
 unfolding field_start
 next_start true label more levels s behind p h e = clash h
 next_start false None more levels s behind p h e = (ap number_or e, h)
 next_start false (Some l) more levels s behind p h e = clash h
 
-later_unlabelled : (pinned : Bool) (label : Option Term) (more : Bool) → (pinned || (is_some label || more)) ≡ false → (pinned || more) ≡ false
+pub later_unlabelled : (pinned : Bool) (label : Option Term) (more : Bool) → (pinned || (is_some label || more)) ≡ false → (pinned || more) ≡ false
 later_unlabelled true label more h = clash h
 later_unlabelled false None more h = h
 later_unlabelled false (Some l) more h = clash h
 
-present_least : (when : Option Term) (w : ℕ) → where_present when w ≤ w
+pub present_least : (when : Option Term) (w : ℕ) → where_present when w ≤ w
 present_least None w = omega arith
 present_least (Some e) w = omega arith
 
-absent_width : (when : Option Term) (levels : Levels) (s w : ℕ) → condition when levels s ≡ Ok false → where_present when w ≡ 0
+pub absent_width : (when : Option Term) (levels : Levels) (s w : ℕ) → condition when levels s ≡ Ok false → where_present when w ≡ 0
 unfolding condition
 absent_width None levels s w e = clash (ap told_or e)
 absent_width (Some c) levels s w e = refl
@@ -167,7 +167,7 @@ both : (s a b : ℕ) (r : Result Opened FaultAt) → EndsFrom opened_end (s + a)
 both s a b (Ok x) h g = omega arith
 both s a b (Err f) h g = tt
 
-least_first : (name : Naming) (set : Option ByteOrder) (ty : PokeType) (c : Option Term) (rest : Parts) → least_of_widths (PartThen name set ty c rest) ≤ least_width ty
+pub least_first : (name : Naming) (set : Option ByteOrder) (ty : PokeType) (c : Option Term) (rest : Parts) → least_of_widths (PartThen name set ty c rest) ≤ least_width ty
 unfolding least_width
 least_first name set ty c NoParts = omega arith
 least_first name set ty c (PartThen name' set' ty' c' rest) = omega arith

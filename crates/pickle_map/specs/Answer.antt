@@ -1,5 +1,5 @@
 -- What a mapping answers under a limit of steps.
-use Rattle.std.specs.Prelude.{◌≡◌, ℕ, ◌+◌, ◌<◌, ◌≤◌, List, Result, Ok, Err}
+use Rattle.std.specs.Prelude.{ℕ, ◌<◌, ◌≤◌, List, Result, Err}
 use Rattle.bit_space.specs.declared.order.Order.{Order}
 use Rattle.pickle_types.specs.Types.{PokeType}
 use Rattle.pickle_map.specs.declared.faults.MapFaultKind.TheVariants as fault
@@ -12,3 +12,8 @@ use Rattle.pickle_map.specs.Means.{Means}
 pub data Answer (bits : List ℕ) (ty : PokeType) (order : Order) (s limit : ℕ) : Result Value FaultAt → (steps made : ℕ) → Type 0 where
   in_time : {r : Result Value FaultAt} {k j : ℕ} → Means bits ty order no_values s r k j → k ≤ limit → Answer bits ty order s limit r k j
   too_long : {r : Result Value FaultAt} {k j j' : ℕ} → Means bits ty order no_values s r k j → limit < k → j' ≤ j → Answer bits ty order s limit (Err (fault.Limit, s)) limit j'
+
+-- On these bits a mapping of the type at s that was broken off, for want of memory or by a device, took no more steps than its
+-- outcome and its limit have, and made no more values.
+pub data BrokenOff (bits : List ℕ) (ty : PokeType) (order : Order) (s limit : ℕ) : (steps made : ℕ) → Type 0 where
+  broken_off : {r : Result Value FaultAt} {k j k' j' : ℕ} → Means bits ty order no_values s r k j → k' ≤ k → k' ≤ limit → j' ≤ j → BrokenOff bits ty order s limit k' j'

@@ -1,5 +1,5 @@
 -- What stands beside the types in a pickle: constraints, conditions, labels and bounds, and where their faults are told.
-use Rattle.std.specs.Prelude.{◌≡◌, ℕ, zero, suc, ◌+◌, ◌-◌, Bool, true, false, if◌then◌else◌, nat_eq, nat_lt, Option, Some, None, Result, Ok, Err, ℤ, pos, negsuc}
+use Rattle.std.specs.Prelude.{ℕ, ◌+◌, ◌-◌, Bool, true, false, nat_eq, nat_lt, Option, Some, None, Result, Ok, Err, ℤ, pos, negsuc}
 use Rattle.pickle_types.specs.Types.{Term, Bound, Unbounded, ByCount, BySize}
 use Rattle.pickle_map.specs.declared.extent.Extent.{Extent}
 use Rattle.pickle_map.specs.declared.extent.Extent.TheVariants.{Open, Count, Size}
@@ -7,7 +7,7 @@ use Rattle.pickle_map.specs.declared.faults.MapFaultKind.{MapFaultKind}
 use Rattle.pickle_map.specs.declared.faults.MapFaultKind.TheVariants as fault
 use Rattle.pickle_map.specs.Values.{Label, IntegerLabel, OffsetLabel, TextLabel, ArrayLabel, StructLabel, UnionLabel, Levels}
 use Rattle.pickle_map.specs.Arithmetic.{bits_in}
-use Rattle.pickle_map.specs.Evaluation.{Operand, operand_label, Evaluation, evaluation, truth_of}
+use Rattle.pickle_map.specs.Evaluation.{Operand, operand_label, evaluation, truth_of}
 
 -- a fault, and the bit position that it is told of
 abbrev pub FaultAt : Type 0

@@ -1,5 +1,5 @@
 -- What an expression comes to on the open levels: its value or its first fault, and in how many steps.
-use Rattle.std.specs.Prelude.{ℕ, zero, suc, ◌+◌, ◌-◌, length, Bool, true, false, not, ◌&&◌, if◌then◌else◌, nat_eq, nat_lt, List, Option, Some, None, Result, Ok, Err, ℤ, pos, negsuc}
+use Rattle.std.specs.Prelude.{ℕ, ◌+◌, ◌-◌, length, Bool, true, false, not, ◌&&◌, if◌then◌else◌, nat_eq, nat_lt, Option, Some, None, Result, Ok, Err, pos, negsuc}
 use Rattle.pickle_syntax.specs.declared.token.Attribute.{Attribute}
 use Rattle.pickle_syntax.specs.declared.token.Attribute.TheVariants.{Length, Size}
 use Rattle.pickle_syntax.specs.declared.tree.Infix.{Infix}
@@ -9,7 +9,7 @@ use Rattle.pickle_types.specs.Types.{Term, Number, Text, Name, Bracket, Before, 
 use Rattle.pickle_map.specs.declared.faults.MapFaultKind.{MapFaultKind}
 use Rattle.pickle_map.specs.declared.faults.MapFaultKind.TheVariants as fault
 use Rattle.pickle_map.specs.Values.{Label, IntegerLabel, OffsetLabel, TextLabel, ArrayLabel, StructLabel, UnionLabel, Value, Mapped, label_of, member_count, member_at, Levels, value_at}
-use Rattle.pickle_map.specs.Arithmetic.{Computed, unsigned_type, truth, is_zero, converted, prefixed, combined, to_integer, to_offset, in_unit}
+use Rattle.pickle_map.specs.Arithmetic.{Computed, unsigned_type, truth, is_zero, prefixed, combined, to_integer, to_offset, in_unit}
 
 -- what an expression comes to: the value at a path, or a computed integer, offset or text
 pub data Operand : Type 0 where
@@ -91,9 +91,18 @@ chosen (Ok true) x y = x
 chosen (Ok false) x y = y
 chosen (Err f) x y = record { outcome = Err f; steps = 0 }
 
--- an integer that was chosen is converted to the common type
+-- an integer or an offset as it is
+abbrev pub number_only : Label → Computed
+number_only (IntegerLabel x type) = Ok (IntegerLabel x type)
+number_only (OffsetLabel x type unit) = Ok (OffsetLabel x type unit)
+number_only (TextLabel bytes) = Err fault.Absent
+number_only ArrayLabel = Err fault.Absent
+number_only (StructLabel name fields) = Err fault.Absent
+number_only (UnionLabel name index alternative) = Err fault.Absent
+
+-- an integer that was chosen is converted to the common type; an offset stays as it is
 abbrev pub as_common : Option IntegerType → Label → Computed
-as_common None x = Ok x
+as_common None x = number_only x
 as_common (Some type) x = to_integer type x
 
 -- the field of a struct, or the alternative of a union if it was taken

@@ -1,10 +1,9 @@
 -- What it is for a value to fit a type at a place of m bits, whatever was read.
-use Rattle.std.specs.Prelude.{◌≡◌, ℕ, zero, suc, ◌+◌, ◌-◌, ◌*◌, ◌^◌, ◌<◌, ◌≤◌, max, length, Bool, true, false, List, [], ◌∷◌, Option, Some, None, Result, Ok, Err, ◌⊎◌}
-use Rattle.pickle_types.specs.declared.integer.IntegerType.{IntegerType}
-use Rattle.pickle_types.specs.Types.{Term, Bound, PokeType, IntegerOf, OffsetOf, StringOf, ArrayOf, StructOf, IntegralOf, UnionOf, Fields, NoFields, FieldThen, Parts, NoParts, PartThen}
+use Rattle.std.specs.Prelude.{◌≡◌, ℕ, ◌+◌, ◌-◌, ◌*◌, ◌^◌, ◌<◌, ◌≤◌, max, length, Bool, true, false, List, [], ◌∷◌, Some, None, Ok, ◌⊎◌}
+use Rattle.pickle_types.specs.Types.{PokeType, IntegerOf, OffsetOf, StringOf, ArrayOf, StructOf, IntegralOf, UnionOf, Fields, NoFields, FieldThen, Parts, NoParts, PartThen}
 use Rattle.pickle_map.specs.declared.extent.Extent.{Extent}
 use Rattle.pickle_map.specs.declared.extent.Extent.TheVariants.{Open, Count, Size}
-use Rattle.pickle_map.specs.Values.{Naming, Value, end_of, text_value, Levels, pushed, opened}
+use Rattle.pickle_map.specs.Values.{Value, end_of, text_value, Levels, pushed, opened}
 use Rattle.pickle_map.specs.Clauses.{constraint, condition, field_start, extent_of}
 use Rattle.pickle_map.specs.Means.{field_names, part_names, integer_value, offset_value, array_value, struct_value, Taken, union_value}
 

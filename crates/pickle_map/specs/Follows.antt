@@ -1,5 +1,5 @@
 -- What it is for a call to follow a plan.
-use Rattle.std.specs.Prelude.{◌≡◌, ℕ, ◌+◌, ◌<◌, ◌^◌, List, Option, Some, None}
+use Rattle.std.specs.Prelude.{◌≡◌, ℕ, ◌+◌, List, Option}
 use Rattle.bit_space.specs.declared.order.Order.{Order}
 use Rattle.bit_space.specs.Reading.{MayRead}
 use Rattle.pickle_map.specs.Values.{Levels}

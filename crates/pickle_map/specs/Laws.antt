@@ -4,11 +4,11 @@ use Rattle.bit_space.specs.declared.order.Order.{Order}
 use Rattle.pickle_types.specs.Types.{PokeType}
 use Rattle.pickle_types.specs.Bounds.{least_width, cost, room}
 use Rattle.pickle_map.specs.declared.extent.Extent.{Extent}
-use Rattle.pickle_map.specs.Values.{Value, end_of, Levels}
+use Rattle.pickle_map.specs.Values.{Value, start_of, end_of, Levels}
 use Rattle.pickle_map.specs.Clauses.{FaultAt}
 use Rattle.pickle_map.specs.Means.{Means, Elements}
-use Rattle.pickle_map.specs.Room.{Slot, slots}
-use Rattle.pickle_map.specs.Plan.{Plan, result_of, steps_of, made_of, AtMost, MadeWithin, Always}
+use Rattle.pickle_map.specs.Room.{Slot, NodeSlot, ByteSlot, value_slots, slots}
+use Rattle.pickle_map.specs.Plan.{result_of, steps_of, made_of, AtMost, MadeWithin, Counts, Always}
 use Rattle.pickle_map.specs.Mapping.{plan}
 use Rattle.pickle_map.specs.Answer.{Answer}
 use Rattle.pickle_map.specs.Fits.{Fits}
@@ -47,6 +47,19 @@ StepsAreBounded = (m : ℕ) (ty : PokeType) (order : Order) (levels : Levels) (s
 -- whatever is read, a mapping makes at no time more values than it has taken steps
 abbrev pub MadeIsBounded : Type 0
 MadeIsBounded = (m : ℕ) (ty : PokeType) (order : Order) (levels : Levels) (s : ℕ) → MadeWithin (plan m ty order levels s) 0 0
+
+-- the nodes and the bytes of texts of a value
+abbrev pub value_size : Result Value FaultAt → ℕ
+value_size (Ok v) = value_slots NodeSlot v + value_slots ByteSlot v
+value_size (Err f) = 0
+
+-- whatever is read, each node and each byte of a text of the value that is given was made
+abbrev pub ValuesAreMade : Type 0
+ValuesAreMade = (m : ℕ) (ty : PokeType) (order : Order) (levels : Levels) (s : ℕ) → Counts value_size (plan m ty order levels s) 0
+
+-- a value starts where it is mapped
+abbrev pub ValuesStartThere : Type 0
+ValuesStartThere = (bits : List ℕ) (ty : PokeType) (order : Order) (levels : Levels) (s : ℕ) (v : Value) (k j : ℕ) → Means bits ty order levels s (Ok v) k j → start_of v ≡ s
 
 -- a value ends in the file, at least as many bits behind its start as its type's least width
 abbrev pub ValuesAreWide : Type 0

@@ -14,6 +14,7 @@ pub mod Ranges
 pub mod Scalars
 pub mod Operands
 pub mod Contents
+pub mod Comes
 pub mod Sound
 pub mod Laws
 pub mod Tree

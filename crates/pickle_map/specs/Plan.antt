@@ -66,6 +66,14 @@ pub data MadeWithin {A : Type 0} : Plan A → (ahead left : ℕ) → Type 0 wher
   made_more : {count : ℕ} {levels : Levels} {p : Plan A} {ahead left : ℕ} (rest : ℕ) → count + rest ≤ ahead → MadeWithin p rest left → MadeWithin (Made count levels p) ahead left
   made_read : {place width : ℕ} {order : Order} {rest : ℕ → Plan A} {ahead left : ℕ} → ((n : ℕ) → MadeWithin (rest n) ahead left) → MadeWithin (Read place width order rest) ahead left
 
+-- whatever the plan reads: where so many values were made before it, its result is at most of a size that is the number of
+-- values made then
+pub data Counts {A : Type 0} (size : A → ℕ) : Plan A → (made : ℕ) → Type 0 where
+  counted : {a : A} {made : ℕ} → size a ≤ made → Counts size (Ended a) made
+  count_tick : {p : Plan A} {made : ℕ} → Counts size p made → Counts size (Tick p) made
+  count_made : {count : ℕ} {levels : Levels} {p : Plan A} {made : ℕ} → Counts size p (made + count) → Counts size (Made count levels p) made
+  count_read : {place width : ℕ} {order : Order} {rest : ℕ → Plan A} {made : ℕ} → ((n : ℕ) → Counts size (rest n) made) → Counts size (Read place width order rest) made
+
 -- whatever the plan reads, the levels that are kept meet M, and each result meets Q
 pub data Always {A : Type 0} (M : Levels → Type 0) (Q : A → Type 0) : Plan A → Type 0 where
   result : {a : A} → Q a → Always M Q (Ended a)

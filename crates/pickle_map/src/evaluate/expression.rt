@@ -67,3 +67,24 @@ pub fn evaluate<'a>(table: &[Node], e: &'a Resolved, store: &'a Store, meter: &m
         }
     }
 }
+
+/// An operator between two operands; the right one is evaluated only where the left one doesn't settle the truth.
+#[cycle(evaluate)]
+fn infix<'a>(table: &[Node], op: Infix, a: &'a Resolved, b: &'a Resolved, store: &'a Store, meter: &mut Meter) -> Result<Operand<'a>, Unvalued>
+    requires left { IsSoundTerm (term_of a.now) }
+    requires right { IsSoundTerm (term_of b.now) }
+    ensures limit { meter.new.limit ≡ meter.old.limit }
+    ensures made { meter.new.made ≡ meter.old.made }
+    ensures steps { meter.old.steps ≤ meter.new.steps }
+    ensures is { Evaluated table.now meter.old.limit (meter.old.steps - 1) meter.new.steps result (evaluation (Between op (term_of a.now) (term_of b.now)) (kept table.now store.now)) }
+    ensures operand { IfOk result IsOperand }
+{
+    let x = evaluate(table, a, store, meter)?;
+    let left = seen(x);
+    if let Some(holds) = settled(op, truth_of(left)) {
+        return Ok(Operand::Scalar(truth(holds)));
+    }
+    let y = evaluate(table, b, store, meter)?;
+    let literal = literal_length(a) + literal_length(b);
+    compared(op, literal, left, seen(y), meter)
+}
