@@ -62,8 +62,8 @@ IsTextRow-grow s u c g h =
     rw (g.texts, g.bytes) (omega (arith, h.0, length-append s.texts g.more_texts), rw (f, b) (record { ordered = row.ordered; within = omega (arith, row.within, length-append s.bytes g.more_bytes) }, h.1.1))
 
 pub IsContent-grow : (s u : Slots) (shape : Shape) (c : ℕ) → Grows s u → IsContent s shape c → IsContent u shape c
-IsContent-grow s u (Integer w x) c g h = tt
-IsContent-grow s u (Offset w x y) c g h = tt
+IsContent-grow s u (Integer w x) c g h = h
+IsContent-grow s u (Offset w x y) c g h = h
 IsContent-grow s u Text c g h = IsTextRow-grow s u c g h
 IsContent-grow s u Array c g h = IsFamily-grow s u c g h
 IsContent-grow s u (Struct t) c g h = IsFamily-grow s u c g h

@@ -1,6 +1,7 @@
 //! The value of an expression.
 
 pub mod content;
+pub mod expression;
 pub mod integers;
 pub mod offsets;
 pub mod operand;
