@@ -33,3 +33,6 @@ mod Fitting
 mod Rooms
 mod Followed
 mod Counts
+pub mod Evaluations
+pub mod Sizes
+pub mod Arms

@@ -50,7 +50,9 @@ pub fn truth_of(content: Content<'_>) -> Result<bool, MapFaultKind>
 {
     match content {
         Content::Scalar(Scalar::Integer(number, _)) => Ok(is_true(number)),
-        Content::Scalar(Scalar::Offset(_, _, _)) | Content::Text(_) | Content::Other => Err(MapFaultKind::Absent),
+        Content::Scalar(Scalar::Offset(_, _, _)) | Content::Text(_) | Content::Other => Err(
+            MapFaultKind::Absent,
+        ),
     }
 }
 
@@ -111,7 +113,11 @@ pub fn to_integer(number: IntegerType, content: Content<'_>) -> Result<Scalar, M
 
 /// `e as T` where T is an offset's type.
 #[tactic(auto, unfolding(crate::specs::Arithmetic::to_offset))]
-pub fn to_offset(number: IntegerType, unit: u32, content: Content<'_>) -> Result<Scalar, MapFaultKind>
+pub fn to_offset(
+    number: IntegerType,
+    unit: u32,
+    content: Content<'_>,
+) -> Result<Scalar, MapFaultKind>
     requires width { IsWidth number }
     requires unit { 0 < unit }
     requires content { IsSoundContent content }

@@ -5,7 +5,7 @@ ghost use Rattle.pickle_types.specs.Table.{term_of};
 ghost use Rattle.pickle_types.specs.declared.table.Node.{Node as TableNode};
 ghost use Rattle.pickle_map.specs.Values.{Label};
 ghost use Rattle.pickle_map.specs.Operands.{operand_of};
-ghost use Rattle.pickle_map.specs.Evaluation.{evaluation, operand_label, leads_to, present, selected, settled, attribute_of, as_common, literal_length, between, element};
+ghost use Rattle.pickle_map.specs.Evaluation.{evaluation, operand_label, leads_to, present, selected, settled, attribute_of, as_common, literal_length, between, element, Evaluation, and_operand, gives};
 ghost use Rattle.pickle_map.specs.Operands.{Evaluated, IsOperand};
 ghost use Rattle.pickle_map.specs.Comes.{Comes, infix_part, choice_part, index_part};
 ghost use Rattle.pickle_map.specs.Contents.{IsSoundContent, IsHeld};
@@ -13,7 +13,9 @@ ghost use Rattle.pickle_map.specs.Shown.{kept};
 ghost use Rattle.pickle_map.specs.Sound.{IsSoundTerm, IsOptionalWidth};
 ghost use Rattle.pickle_map.specs.Scalars.{computed_of, IsScalar};
 
-use crate::evaluate::content::{Content, combined, in_unit, prefixed, seen, to_integer, to_offset, truth_of};
+use crate::evaluate::content::{
+    Content, combined, in_unit, prefixed, seen, to_integer, to_offset, truth_of,
+};
 use crate::evaluate::integers::{Scalar, truth};
 use crate::evaluate::operand::{Operand, Unvalued};
 use crate::evaluate::paths;
@@ -28,7 +30,12 @@ use pickle_types::table::{Node, Resolved};
 
 /// Evaluates an expression on the open values of the store. Each node of it takes a step, before its operands.
 #[cycle(evaluate)]
-pub fn evaluate<'a>(table: &[Node], e: &'a Resolved, store: &'a Store, meter: &mut Meter) -> Result<Operand<'a>, Unvalued>
+pub fn evaluate<'a>(
+    table: &[Node],
+    e: &'a Resolved,
+    store: &'a Store,
+    meter: &mut Meter,
+) -> Result<Operand<'a>, Unvalued>
     requires { IsSoundTerm (term_of e.now) }
     ensures limit { meter.new.limit ≡ meter.old.limit }
     ensures made { meter.new.made ≡ meter.old.made }
@@ -38,7 +45,10 @@ pub fn evaluate<'a>(table: &[Node], e: &'a Resolved, store: &'a Store, meter: &m
 {
     meter.tick()?;
     match e {
-        Resolved::Number(number, value) => Ok(Operand::Scalar(Scalar::Integer(i128::from(*value), *number))),
+        Resolved::Number(number, value) => Ok(Operand::Scalar(Scalar::Integer(
+            i128::from(*value),
+            *number,
+        ))),
         Resolved::Text(text) => Ok(Operand::Text(text)),
         Resolved::Name(level, place) => match store.part(*level, *place) {
             Some(value) => Ok(Operand::Value(value)),
@@ -77,7 +87,14 @@ pub fn evaluate<'a>(table: &[Node], e: &'a Resolved, store: &'a Store, meter: &m
 
 /// An operator between two operands; the right one is evaluated only where the left one doesn't settle the truth.
 #[cycle(evaluate)]
-fn infix<'a>(table: &[Node], op: Infix, a: &'a Resolved, b: &'a Resolved, store: &'a Store, meter: &mut Meter) -> Result<Operand<'a>, Unvalued>
+fn infix<'a>(
+    table: &[Node],
+    op: Infix,
+    a: &'a Resolved,
+    b: &'a Resolved,
+    store: &'a Store,
+    meter: &mut Meter,
+) -> Result<Operand<'a>, Unvalued>
     requires left { IsSoundTerm (term_of a.now) }
     requires right { IsSoundTerm (term_of b.now) }
     ensures limit { meter.new.limit ≡ meter.old.limit }
@@ -98,7 +115,15 @@ fn infix<'a>(table: &[Node], op: Infix, a: &'a Resolved, b: &'a Resolved, store:
 
 /// A choice, of which only the side that is chosen is evaluated.
 #[cycle(evaluate)]
-fn choice<'a>(table: &[Node], common: &Option<IntegerType>, c: &'a Resolved, x: &'a Resolved, y: &'a Resolved, store: &'a Store, meter: &mut Meter) -> Result<Operand<'a>, Unvalued>
+fn choice<'a>(
+    table: &[Node],
+    common: &Option<IntegerType>,
+    c: &'a Resolved,
+    x: &'a Resolved,
+    y: &'a Resolved,
+    store: &'a Store,
+    meter: &mut Meter,
+) -> Result<Operand<'a>, Unvalued>
     requires common { IsOptionalWidth common.now }
     requires test { IsSoundTerm (term_of c.now) }
     requires left { IsSoundTerm (term_of x.now) }
@@ -110,14 +135,35 @@ fn choice<'a>(table: &[Node], common: &Option<IntegerType>, c: &'a Resolved, x: 
     ensures operand { IfOk result IsOperand }
 {
     let t = evaluate(table, c, store, meter)?;
-    let chosen = if truth_of(seen(t))? { x } else { y };
-    let z = evaluate(table, chosen, store, meter)?;
-    Ok(Operand::Scalar(as_common(common, seen(z))?))
+    if truth_of(seen(t))? {
+        chosen(common, evaluate(table, x, store, meter))
+    } else {
+        chosen(common, evaluate(table, y, store, meter))
+    }
+}
+
+/// The side of a choice that was evaluated, as the type of the choice.
+fn chosen<'a>(
+    common: &Option<IntegerType>,
+    side: Result<Operand<'a>, Unvalued>,
+) -> Result<Operand<'a>, Unvalued>
+    requires common { IsOptionalWidth common.now }
+    requires side { IfOk side IsOperand }
+    ensures is { (nodes : List TableNode) (limit before after : ℕ) (a : Evaluation) → Evaluated nodes limit before after side.entry a → Evaluated nodes limit before after result (and_operand a (λ z. gives (as_common common.now (operand_label z)))) }
+    ensures operand { IfOk result IsOperand }
+{
+    Ok(Operand::Scalar(as_common(common, seen(side?))?))
 }
 
 /// An element of an array.
 #[cycle(evaluate)]
-fn index<'a>(table: &[Node], e: &'a Resolved, i: &'a Resolved, store: &'a Store, meter: &mut Meter) -> Result<Operand<'a>, Unvalued>
+fn index<'a>(
+    table: &[Node],
+    e: &'a Resolved,
+    i: &'a Resolved,
+    store: &'a Store,
+    meter: &mut Meter,
+) -> Result<Operand<'a>, Unvalued>
     requires path { IsSoundTerm (term_of e.now) }
     requires index { IsSoundTerm (term_of i.now) }
     ensures limit { meter.new.limit ≡ meter.old.limit }
@@ -132,7 +178,13 @@ fn index<'a>(table: &[Node], e: &'a Resolved, i: &'a Resolved, store: &'a Store,
 }
 
 /// An operator on two operands; a comparison of two texts takes a step for each byte of the literal.
-fn between<'a>(op: Infix, literal: u64, x: Content<'a>, y: Content<'a>, meter: &mut Meter) -> Result<Operand<'a>, Unvalued>
+fn between<'a>(
+    op: Infix,
+    literal: u64,
+    x: Content<'a>,
+    y: Content<'a>,
+    meter: &mut Meter,
+) -> Result<Operand<'a>, Unvalued>
     requires left { IsSoundContent x }
     requires right { IsSoundContent y }
     ensures limit { meter.new.limit ≡ meter.old.limit }
@@ -203,7 +255,9 @@ fn element<'a>(p: Operand<'a>, n: Content<'_>) -> Result<Operand<'a>, MapFaultKi
     ensures operand { IfOk result IsOperand }
 {
     match (p, n) {
-        (Operand::Value(value), Content::Scalar(Scalar::Integer(i, _))) => Ok(Operand::Value(paths::element(value, i)?)),
+        (Operand::Value(value), Content::Scalar(Scalar::Integer(i, _number))) => Ok(Operand::Value(
+            paths::element(value, i)?,
+        )),
         _ => Err(MapFaultKind::Absent),
     }
 }
@@ -217,14 +271,20 @@ fn attribute_of(attribute: Attribute, x: Operand<'_>) -> Result<Scalar, MapFault
         return Err(MapFaultKind::Absent);
     };
     match attribute {
-        Attribute::Length if matches!(value.kind(), Kind::Array) => Ok(Scalar::Integer(value.len() as i128, UNSIGNED)),
+        Attribute::Length if matches!(value.kind(), Kind::Array) => Ok(Scalar::Integer(
+            value.len() as i128,
+            UNSIGNED,
+        )),
         Attribute::Length => Err(MapFaultKind::Absent),
         Attribute::Size => Ok(Scalar::Offset(i128::from(value.size()), UNSIGNED, 1)),
     }
 }
 
 /// The type of lengths and sizes.
-const UNSIGNED: IntegerType = IntegerType { width: 64, signed: false };
+const UNSIGNED: IntegerType = IntegerType {
+    width: 64,
+    signed: false,
+};
 
 /// A number that was chosen, as the type of the choice.
 #[tactic(auto, unfolding(crate::specs::Arithmetic::to_integer))]

@@ -14,7 +14,13 @@ use pickle_types::integer::IntegerType;
 use pickle_types::table::Node;
 
 /// Keeps an integer that was read as these binary digits, as a member of the innermost open value.
-pub fn keep_integer(nodes: &[Node], store: &mut Store, number: IntegerType, digits: u64, start: u64) -> Result<(), Memory>
+pub fn keep_integer(
+    nodes: &[Node],
+    store: &mut Store,
+    number: IntegerType,
+    digits: u64,
+    start: u64,
+) -> Result<(), Memory>
     requires width { IsWidth number }
     requires below { digits < 2 ^ number.width }
     ensures ok { OnOk result (kept nodes.now store.new ≡ pushed (kept nodes.now store.old) (Some (integer_value number digits start))) }
@@ -22,11 +28,23 @@ pub fn keep_integer(nodes: &[Node], store: &mut Store, number: IntegerType, digi
     ensures room { store.new.room ≡ store.old.room }
     ensures full { OnErr result (Exceeds store.old.room (pushed (kept nodes.now store.old) (Some (integer_value number digits start)))) }
 {
-    store.push_integer(number.width, number.signed, with_sign(number, digits), start)
+    store.push_integer(
+        number.width,
+        number.signed,
+        with_sign(number, digits),
+        start,
+    )
 }
 
 /// Keeps an offset whose magnitude was read as these binary digits.
-pub fn keep_offset(nodes: &[Node], store: &mut Store, number: IntegerType, unit: u32, digits: u64, start: u64) -> Result<(), Memory>
+pub fn keep_offset(
+    nodes: &[Node],
+    store: &mut Store,
+    number: IntegerType,
+    unit: u32,
+    digits: u64,
+    start: u64,
+) -> Result<(), Memory>
     requires width { IsWidth number }
     requires unit { 1 ≤ unit }
     requires below { digits < 2 ^ number.width }
@@ -35,7 +53,13 @@ pub fn keep_offset(nodes: &[Node], store: &mut Store, number: IntegerType, unit:
     ensures room { store.new.room ≡ store.old.room }
     ensures full { OnErr result (Exceeds store.old.room (pushed (kept nodes.now store.old) (Some (offset_value number unit digits start)))) }
 {
-    store.push_offset(number.width, number.signed, unit, with_sign(number, digits), start)
+    store.push_offset(
+        number.width,
+        number.signed,
+        unit,
+        with_sign(number, digits),
+        start,
+    )
 }
 
 /// Keeps the place of a field that is not there.
@@ -60,7 +84,13 @@ pub fn close_array(nodes: &[Node], store: &mut Store, start: u64, end: u64) -> R
 }
 
 /// Keeps the innermost open value as a struct of the type at the index `of`, from `start` to `end`, and closes it.
-pub fn close_struct(nodes: &[Node], store: &mut Store, of: u32, start: u64, end: u64) -> Result<(), Memory>
+pub fn close_struct(
+    nodes: &[Node],
+    store: &mut Store,
+    of: u32,
+    start: u64,
+    end: u64,
+) -> Result<(), Memory>
     requires { start ≤ end }
     ensures ok { OnOk result (kept nodes.now store.new ≡ pushed (outer_of (kept nodes.now store.old)) (Some (struct_value (title_at nodes.now of) (names_at nodes.now of) start end (kept nodes.now store.old)))) }
     ensures same { OnErr result (store.new ≡ store.old) }
@@ -71,7 +101,14 @@ pub fn close_struct(nodes: &[Node], store: &mut Store, of: u32, start: u64, end:
 }
 
 /// Keeps the innermost open value as a union of the type at the index `of`, from `start` to `end`, which took an alternative.
-pub fn close_union(nodes: &[Node], store: &mut Store, of: u32, taken: u16, start: u64, end: u64) -> Result<(), Memory>
+pub fn close_union(
+    nodes: &[Node],
+    store: &mut Store,
+    of: u32,
+    taken: u16,
+    start: u64,
+    end: u64,
+) -> Result<(), Memory>
     requires { start ≤ end }
     ensures ok { OnOk result (kept nodes.now store.new ≡ pushed (outer_of (kept nodes.now store.old)) (Some (value_of (UnionLabel (title_at nodes.now of) taken (name_at nodes.now of taken)) start end (kept nodes.now store.old)))) }
     ensures same { OnErr result (store.new ≡ store.old) }

@@ -10,7 +10,13 @@ use crate::map::stop::Stop;
 use bit_space::{BitFault, Meter, Order, Space, read_number};
 
 /// The binary digits of `width` bits from the bit `start` on, as a number without a sign.
-pub fn read_digits<S: Space>(space: &mut S, start: u64, width: u8, order: Order, meter: &mut Meter) -> Result<u64, Stop>
+pub fn read_digits<S: Space>(
+    space: &mut S,
+    start: u64,
+    width: u8,
+    order: Order,
+    meter: &mut Meter,
+) -> Result<u64, Stop>
     requires some { 0 < width }
     requires most { width ≤ 64 }
     ensures keeps { Keeps (S.view space.old) (S.view space.new) }

@@ -6,8 +6,7 @@ ghost use Rattle.pickle_map.specs.declared.map.stop.Stop.TheVariants.{Device, Li
 
 use crate::extent::Extent;
 use crate::faults::MapFaultKind;
-use bit_space::LimitPassed;
-use bit_space::DeviceFault;
+use bit_space::{DeviceFault, LimitPassed};
 
 /// Why a mapping under way stops: a fault of the type's meaning, at a bit position, or one of the run.
 #[derive(Clone, Copy, Debug, PartialEq, Eq)]
@@ -59,7 +58,8 @@ impl Stop {
     {
         match self {
             Stop::Fault(kind, _) => {
-                matches!(extent, Extent::Open) && matches!(kind, MapFaultKind::Constraint | MapFaultKind::End)
+                matches!(extent, Extent::Open)
+                    && matches!(kind, MapFaultKind::Constraint | MapFaultKind::End)
             }
             Stop::Limit | Stop::Device | Stop::Memory => false,
         }

@@ -1,4 +1,4 @@
-use Rattle.std.proofs.Common.{◌≡◌, ◌+◌, ◌<◌, ◌≤◌}
+use Rattle.std.proofs.Common.{◌≡◌, ◌+◌}
 use Rattle.pickle_map.proofs.evaluate.expression.take_steps.Given as goal
 
 abbrev pub invariant-loop : goal.invariant-loop
