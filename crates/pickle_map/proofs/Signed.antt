@@ -1,10 +1,10 @@
 -- Signed numbers of 128 bits, as they are passed and tested.
-use Rattle.std.proofs.Common.{◌≡◌, pow_mono, ℕ, zero, suc, ◌-◌, ◌*◌, ◌<◌, ◌≤◌, ◌^◌, Bool, true, false, ℤ, pos, negsuc, ◌*ℤ◌, neg_ℤ, nat_abs, ◌/◌, ◌%◌, to_z, of_z, refl, sym, ap, ◌∙◌, arith}
+use Rattle.std.proofs.Common.{◌≡◌, pow_mono, ℕ, zero, suc, ◌+◌, ◌-◌, ◌*◌, ◌<◌, ◌≤◌, ◌^◌, Bool, true, false, ℤ, pos, negsuc, ◌+ℤ◌, ◌-ℤ◌, ◌*ℤ◌, neg_ℤ, nat_abs, ◌/◌, ◌%◌, to_z, of_z, refl, sym, ap, subst, ◌∙◌, arith}
 use Rattle.std.proofs.Common.{lit<}
 use Rattle.std.proofs.Common.{◌⊎◌, inl, inr}
 use Rattle.std.proofs.lemmas.Bool.{cases_eq, eq-eqb, ne_eqb}
 use Rattle.std.specs.Prelude.{nat_eq, unsigned_abs, int_div, int_rem}
-use Rattle.std.proofs.lemmas.Int.{to_z-of_z, fits_signed_mul, fits_signed_from_abs}
+use Rattle.std.proofs.lemmas.Int.{ints, to_z-of_z, fits_signed_mul, fits_signed_from_abs, unsigned_abs-mul, quot-rem}
 use Rattle.std.proofs.Math.Nat.{div-le_self, mod-le}
 use mir.Syntax.{w128}
 use mir.Val.{SFits}

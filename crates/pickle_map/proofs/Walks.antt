@@ -1,5 +1,5 @@
 -- Walks joined, and calls that follow plans one after another.
-use Rattle.std.proofs.Common.{arith, ◌≡◌, ℕ, zero, suc, inl, inr, ◌+◌, ◌<◌, ◌≤◌, Result, Ok, Err, refl, sym, ap, ◌∙◌, subst}
+use Rattle.std.proofs.Common.{arith, ◌≡◌, ℕ, zero, suc, inl, inr, ◌+◌, ◌<◌, ◌≤◌, List, Option, Result, Ok, Err, refl, sym, ap, ◌∙◌, subst}
 use Rattle.std.proofs.lemmas.Bool.{le-leb, lt-leb, cases_lt}
 use Rattle.bit_space.specs.declared.order.Order.{Order}
 use Rattle.bit_space.specs.Reading.{MayRead}
@@ -10,7 +10,7 @@ use Rattle.pickle_map.specs.Values.{Levels}
 use Rattle.pickle_map.specs.Room.{Exceeds}
 use Rattle.pickle_map.specs.Clauses.{FaultAt}
 use Rattle.pickle_map.specs.Plan.{Plan, Ended, Tick, Made, Read, and_then, after, on_value, then_ok}
-use Rattle.pickle_map.specs.Follows.{World, Walk, arrived, stepped, kept, read, Finish, Done, NoSteps, Broken, NoRoom, Partly, NeedsStep, NeedsRoom, Follows}
+use Rattle.pickle_map.specs.Follows.{World, Walk, arrived, stepped, kept, read, Finish, Done, NoSteps, Broken, NoRoom, Partly, NeedsStep, NeedsRoom, EndsAs, Follows}
 use Rattle.pickle_map.specs.Mapping.{from_inside}
 use Rattle.pickle_map.specs.Stops.{stop_finish}
 
@@ -139,9 +139,8 @@ pub follow_after_some : {world : World} {limit : ℕ} {A : Type 0} (n : ℕ) (a 
 follow_after_some zero a le lt ek ej = absurd (omega (arith, le, lt))
 follow_after_some {limit} (suc n) a {k} {j} le lt ek ej =
     elim (cases_lt k limit) [
-      | inl less ↦ follow_tick {k1 = k + 1} {j1 = j} refl refl refl (follow_after_some n a (omega (arith, less)) (omega (arith, lt)) ek ej)
-      | inr more ↦ follow_no_tick (let same : _ ≡ k = ek ∙ omega (arith, le, more) in same) ek ej
-    ]
+      inl less ↦ follow_tick {k1 = k + 1} {j1 = j} refl refl refl (follow_after_some n a (omega (arith, less)) (omega (arith, lt)) ek ej)
+    | inr more ↦ follow_no_tick (let same : _ ≡ k = ek ∙ omega (arith, le, more) in same) ek ej ]
 
 -- a plan whose start is inside
 pub follow_inside : {world : World} {limit : ℕ} {A : Type 0} (m s : ℕ) (p : Plan (Result A FaultAt)) {k j k' j' : ℕ} {finish : Finish (Result A FaultAt)} → s ≤ m → Follows world limit p k j k' j' finish → Follows world limit (from_inside m s p) k j k' j' finish

@@ -1,7 +1,9 @@
 -- What each call of a mapping leaves as it was, and what may only rise.
-use Rattle.std.specs.Prelude.{◌≡◌, ℕ, ◌+◌, ◌*◌, ◌<◌, ◌≤◌, Some, Result, Ok}
+use Rattle.std.specs.Prelude.{◌≡◌, ℕ, ◌+◌, ◌*◌, ◌<◌, ◌≤◌, List, Option, Some, Result, Ok, Err}
+use Rattle.bit_space.specs.declared.order.Order.{Order}
 use Rattle.bit_space.specs.declared.meter.Meter.{Meter}
 use Rattle.bit_space.specs.SpaceView.{SpaceView, known_bits, Keeps, HasRisen}
+use Rattle.bit_space.specs.Reading.{MayRead}
 use Rattle.pickle_map.specs.declared.faults.MapFaultKind.TheVariants.{End}
 use Rattle.pickle_map.specs.declared.map.stop.Stop.{Stop}
 use Rattle.pickle_map.specs.declared.map.stop.Stop.TheVariants.{Fault, Limit, Device, Memory}

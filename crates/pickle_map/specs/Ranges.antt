@@ -1,5 +1,6 @@
 -- The numbers that a type holds.
-use Rattle.std.specs.Prelude.{◌<◌, ◌≤◌, ◌^◌, Bool, true, false, ℤ, pos, negsuc, unsigned_abs}
+use Rattle.std.specs.Prelude.{ℕ, ◌<◌, ◌≤◌, ◌^◌, Bool, true, false, ℤ, pos, negsuc, unsigned_abs}
+use Rattle.pickle_types.specs.declared.integer.IntegerType.{IntegerType}
 
 -- a number of at most 64 bits, with a sign or without one
 abbrev pub IsSmall : Bool → ℤ → Type 0

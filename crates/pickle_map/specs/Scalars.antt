@@ -1,5 +1,6 @@
 -- Computed integers and offsets, and the labels of values that they stand for.
 use Rattle.std.specs.Prelude.{◌≡◌, ℕ, ◌<◌, ◌≤◌, ℤ, pos, Option, Some, None, Result, Ok, Err}
+use Rattle.pickle_types.specs.declared.integer.IntegerType.{IntegerType}
 use Rattle.pickle_types.specs.Table.{IsWidth}
 use Rattle.pickle_map.specs.declared.faults.MapFaultKind.{MapFaultKind}
 use Rattle.pickle_map.specs.declared.evaluate.integers.Scalar.{Scalar}

@@ -1,5 +1,5 @@
 -- Expressions whose types have widths, whose units are some bits, and whose numbers their types hold.
-use Rattle.std.specs.Prelude.{◌≤◌, pos, Option, Some, None}
+use Rattle.std.specs.Prelude.{ℕ, ◌<◌, ◌≤◌, ◌^◌, pos, Option, Some, None}
 use Rattle.pickle_types.specs.declared.integer.IntegerType.{IntegerType}
 use Rattle.pickle_types.specs.Types.{Term, Number, Text, Name, Bracket, Before, Between, Choice, Index, Select, AttributeOf, ToInteger, ToOffset, InUnit}
 use Rattle.pickle_types.specs.Table.{IsWidth}

@@ -8,6 +8,7 @@ pub mod laws;
 pub mod map;
 pub mod memory;
 pub mod store;
+pub mod value;
+
 #[cfg(test)]
 mod tests;
-pub mod value;

@@ -1,5 +1,7 @@
-use Rattle.std.proofs.Common.{None}
-use Rattle.pickle_map.proofs.Keeping.{ok_member, full_member}
+use Rattle.std.proofs.Common.{rules, ◌≡◌, ◌+◌, ◌-◌, Some, None, ℤ, sym, ap, subst, ◌∙◌, arith}
+use Rattle.std.specs.Prelude.{OnOk, OnErr}
+use Rattle.pickle_map.specs.Tree as tree
+use Rattle.pickle_map.proofs.Keeping.{ok_member, full_member, ok_closed, full_closed}
 use Rattle.pickle_map.proofs.map.keep.keep_absent.Goals as goal
 
 pub returns-clause-ok : goal.returns-clause-ok
