@@ -36,3 +36,4 @@ mod Counts
 pub mod Evaluations
 pub mod Sizes
 pub mod Arms
+pub mod Settling

@@ -26,3 +26,4 @@ pub mod Shown
 pub mod Stops
 pub mod Framed
 pub mod Refs
+pub mod Settles
