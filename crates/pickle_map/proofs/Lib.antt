@@ -1,3 +1,7 @@
+pub mod Moduli
+pub mod Signed
+pub mod Digits
+pub mod Divisors
 mod Rows
 mod Basics
 mod Equations
@@ -6,10 +10,30 @@ mod Widths
 mod Planned
 mod Exists
 mod Outcomes
+pub mod FamilyRows
+pub mod Grown
+pub mod Counted
+pub mod Placed
+pub mod Empty
+pub mod Fits
+pub mod Held
+pub mod Frames
+pub mod Writing
+pub mod ShownLevels
+pub mod Keeping
 mod Costs
 mod Makes
+pub mod Walks
+pub mod Found
+pub mod ShownPaths
+pub mod Lookup
+pub mod Elements
 mod Always
 mod Fitting
 mod Rooms
 mod Followed
 mod Counts
+pub mod Evaluations
+pub mod Sizes
+pub mod Arms
+pub mod Settling

@@ -91,9 +91,18 @@ chosen (Ok true) x y = x
 chosen (Ok false) x y = y
 chosen (Err f) x y = record { outcome = Err f; steps = 0 }
 
--- an integer that was chosen is converted to the common type
+-- an integer or an offset as it is
+abbrev pub number_only : Label → Computed
+number_only (IntegerLabel x type) = Ok (IntegerLabel x type)
+number_only (OffsetLabel x type unit) = Ok (OffsetLabel x type unit)
+number_only (TextLabel bytes) = Err fault.Absent
+number_only ArrayLabel = Err fault.Absent
+number_only (StructLabel name fields) = Err fault.Absent
+number_only (UnionLabel name index alternative) = Err fault.Absent
+
+-- an integer that was chosen is converted to the common type; an offset stays as it is
 abbrev pub as_common : Option IntegerType → Label → Computed
-as_common None x = Ok x
+as_common None x = number_only x
 as_common (Some type) x = to_integer type x
 
 -- the field of a struct, or the alternative of a union if it was taken

@@ -1,6 +1,14 @@
-//! Maps the types of a pickle over bits: what a mapping means, and its laws.
+//! Maps the types of a pickle over the bits of a space: values, what a mapping means, and its laws.
 #![tactic(auto)]
 
+pub mod evaluate;
 pub mod extent;
 pub mod faults;
 pub mod laws;
+pub mod map;
+pub mod memory;
+pub mod store;
+pub mod value;
+
+#[cfg(test)]
+mod tests;

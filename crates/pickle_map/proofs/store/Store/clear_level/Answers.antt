@@ -1,0 +1,33 @@
+use Rattle.std.proofs.Common.{refl, rules, ◌≡◌}
+use Rattle.pickle_map.specs.Slots.{Slots, innermost, cut_to}
+use Rattle.pickle_map.specs.contracts.store.Store.{the_view}
+use Rattle.pickle_map.proofs.Held.{clear-frames, clear-levels}
+use Rattle.pickle_map.proofs.Held.{depth-same}
+use Rattle.pickle_map.proofs.store.Store.clear_level.Goals as goal
+
+pub invariant_of-self : goal.invariant_of-self
+invariant_of-self c =
+    let s = (the_view c.self.inside).slots in
+    let m : c.innermost-marks.result ≡ innermost (the_view c.self.inside).frames = search rules in
+    let t : Slots = record { nodes = c.truncate.new.self.items; families = c.truncate-2.new.self.items; links = c.truncate-3.new.self.items; pending = c.truncate-4.new.self.items; texts = c.truncate-5.new.self.items; bytes = c.truncate-6.new.self.items } in
+    let e : t ≡ cut_to c.innermost-marks.result s = search rules in
+    record {
+      levels = rw (e, m) (clear-frames (the_view c.self.inside) c.self.invariant.levels);
+      nodes = search rules;
+      families = search rules;
+      links = search rules;
+      pending = search rules;
+      texts = search rules;
+      bytes = search rules;
+    }
+
+pub returns-clause-levels : goal.returns-clause-levels
+returns-clause-levels c =
+    let s = (the_view c.self.inside).slots in
+    let m : c.innermost-marks.result ≡ innermost (the_view c.self.inside).frames = search rules in
+    let t : Slots = record { nodes = c.truncate.new.self.items; families = c.truncate-2.new.self.items; links = c.truncate-3.new.self.items; pending = c.truncate-4.new.self.items; texts = c.truncate-5.new.self.items; bytes = c.truncate-6.new.self.items } in
+    let e : t ≡ cut_to c.innermost-marks.result s = search rules in
+    rw (← c.self.view_is) (rw (e, m) (clear-levels (the_view c.self.inside) c.self.invariant.levels))
+
+pub returns-clause-depth : goal.returns-clause-depth
+returns-clause-depth c = rw (← c.self.view_is) (depth-same _ _ refl)

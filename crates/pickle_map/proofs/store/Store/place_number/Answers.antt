@@ -1,0 +1,43 @@
+use Rattle.std.proofs.Common.{refl, rules, ◌≡◌, arith}
+use Rattle.pickle_map.specs.Slots.{Slots, with_leaf}
+use Rattle.pickle_map.specs.contracts.store.Store.{the_view}
+use Rattle.pickle_map.proofs.Held.{number-frames, number-levels, number-room}
+use Rattle.pickle_map.proofs.Held.{depth-same}
+use Rattle.pickle_map.proofs.store.Store.place_number.Goals as goal
+
+pub returns-in_err-reserve-clause-succeeds : goal.returns-in_err-reserve-clause-succeeds
+returns-in_err-reserve-clause-succeeds c =
+    rw (← c.self.view_is) (λ fits.
+    let r = number-room (the_view c.self.inside) c.args.shape c.args.start c.args.content c.requires.number c.self.invariant.levels fits in
+    absurd (omega (arith, r.nodes, c.in_err-reserve.ensures.full)))
+
+pub returns-in_err-reserve-2-clause-succeeds : goal.returns-in_err-reserve-2-clause-succeeds
+returns-in_err-reserve-2-clause-succeeds c =
+    rw (← c.self.view_is) (λ fits.
+    let r = number-room (the_view c.self.inside) c.args.shape c.args.start c.args.content c.requires.number c.self.invariant.levels fits in
+    absurd (omega (arith, r.pending, c.in_err-reserve-2.ensures.full)))
+
+pub invariant_of-self-2 : goal.invariant_of-self-2
+invariant_of-self-2 c =
+    let s = (the_view c.self.inside).slots in
+    let t : Slots = record { nodes = c.push_reserved-2.new.self.items; families = s.families; links = s.links; pending = c.push_reserved.new.self.items; texts = s.texts; bytes = s.bytes } in
+    let e : t ≡ with_leaf c.args.shape c.args.start c.args.content s = search rules in
+    record {
+      levels = rw e (number-frames (the_view c.self.inside) c.args.shape c.args.start c.args.content c.requires.number c.self.invariant.levels);
+      nodes = search rules;
+      families = search rules;
+      links = search rules;
+      pending = search rules;
+      texts = search rules;
+      bytes = search rules;
+    }
+
+pub returns-clause-ok : goal.returns-clause-ok
+returns-clause-ok c =
+    let s = (the_view c.self.inside).slots in
+    let t : Slots = record { nodes = c.push_reserved-2.new.self.items; families = s.families; links = s.links; pending = c.push_reserved.new.self.items; texts = s.texts; bytes = s.bytes } in
+    let e : t ≡ with_leaf c.args.shape c.args.start c.args.content s = search rules in
+    rw (← c.self.view_is) (rw e (number-levels (the_view c.self.inside) c.args.shape c.args.start c.args.content c.requires.number c.self.invariant.levels))
+
+pub returns-clause-depth : goal.returns-clause-depth
+returns-clause-depth c = rw (← c.self.view_is) (depth-same _ _ refl)

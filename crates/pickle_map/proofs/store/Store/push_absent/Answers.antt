@@ -1,0 +1,33 @@
+use Rattle.std.proofs.Common.{refl, rules, ◌≡◌, ◌++◌, ◌∷◌, [], None, arith}
+use Rattle.pickle_map.specs.Slots.{with_absent}
+use Rattle.pickle_map.specs.contracts.store.Store.{the_view}
+use Rattle.pickle_map.proofs.Held.{absent-frames, absent-levels, absent-room}
+use Rattle.pickle_map.proofs.Held.{depth-same}
+use Rattle.pickle_map.proofs.store.Store.push_absent.Goals as goal
+
+pub returns-in_err-reserve-clause-succeeds : goal.returns-in_err-reserve-clause-succeeds
+returns-in_err-reserve-clause-succeeds c =
+    rw (← c.self.view_is) (λ fits.
+    let r = absent-room (the_view c.self.inside) c.self.invariant.levels fits in
+    absurd (omega (arith, r.pending, c.in_err-reserve.ensures.full)))
+
+pub invariant_of-self-2 : goal.invariant_of-self-2
+invariant_of-self-2 c =
+    let e : c.push_reserved.new.self.items ≡ (the_view c.self.inside).slots.pending ++ None ∷ [] = search rules in
+    record {
+      levels = rw e (absent-frames (the_view c.self.inside) c.self.invariant.levels);
+      nodes = search rules;
+      families = search rules;
+      links = search rules;
+      pending = search rules;
+      texts = search rules;
+      bytes = search rules;
+    }
+
+pub returns-clause-ok : goal.returns-clause-ok
+returns-clause-ok c =
+    let e : c.push_reserved.new.self.items ≡ (the_view c.self.inside).slots.pending ++ None ∷ [] = search rules in
+    rw (← c.self.view_is) (rw e (absent-levels (the_view c.self.inside) c.self.invariant.levels))
+
+pub returns-clause-depth : goal.returns-clause-depth
+returns-clause-depth c = rw (← c.self.view_is) (depth-same _ _ refl)

@@ -1,0 +1,15 @@
+use Rattle.std.proofs.Common.{rules}
+use Rattle.pickle_map.proofs.Empty.{empty-levels}
+use Rattle.pickle_map.proofs.store.Store.with_room.Goals as goal
+
+pub invariant_of-result : goal.invariant_of-result
+invariant_of-result c =
+    record {
+      levels = empty-levels _ _ c.new.ensures (search rules) (search rules) (search rules) (search rules) (search rules) (search rules);
+      nodes = search rules;
+      families = search rules;
+      links = search rules;
+      pending = search rules;
+      texts = search rules;
+      bytes = search rules;
+    }

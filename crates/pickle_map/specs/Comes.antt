@@ -1,0 +1,31 @@
+-- What a part of an evaluation comes to, in no steps.
+use Rattle.std.specs.Prelude.{◌≡◌, ◌+◌, List, Option, Result, Ok, Err}
+use Rattle.pickle_types.specs.declared.table.Node.{Node}
+use Rattle.pickle_map.specs.declared.evaluate.operand.Operand.{Operand as Computing}
+use Rattle.pickle_map.specs.declared.faults.MapFaultKind.{MapFaultKind}
+use Rattle.pickle_map.specs.Evaluation.{Operand, operand_label, Evaluation, evaluation, and_operand, unless_settled, settled, truth_of, between, literal_length, chosen, gives, as_common, element, leads_to}
+use Rattle.pickle_syntax.specs.declared.tree.Infix.{Infix}
+use Rattle.pickle_types.specs.declared.integer.IntegerType.{IntegerType}
+use Rattle.pickle_types.specs.Types.{Term}
+use Rattle.pickle_map.specs.Values.{Levels}
+use Rattle.pickle_map.specs.Operands.{operand_of}
+
+abbrev pub Comes : List Node → Result Computing MapFaultKind → Result Operand MapFaultKind → Type 0
+Comes nodes (Ok x) o = o ≡ Ok (operand_of nodes x)
+Comes nodes (Err kind) o = o ≡ Err kind
+
+-- what the operands of an operator come to, after the operator's own step
+abbrev pub infix_part : Infix → (a b : Term) → Levels → Evaluation
+infix_part op a b levels =
+    and_operand (evaluation a levels) (λ x.
+    unless_settled (settled op (truth_of (operand_label x))) (and_operand (evaluation b levels) (λ y.
+    between op (literal_length a + literal_length b) (operand_label x) (operand_label y))))
+
+abbrev pub choice_part : Option IntegerType → (c x y : Term) → Levels → Evaluation
+choice_part common c x y levels =
+    and_operand (evaluation c levels) (λ t.
+    and_operand (chosen (truth_of (operand_label t)) (evaluation x levels) (evaluation y levels)) (λ z.
+    gives (as_common common (operand_label z))))
+
+abbrev pub index_part : (e i : Term) → Levels → Evaluation
+index_part e i levels = and_operand (evaluation e levels) (λ p. and_operand (evaluation i levels) (λ n. leads_to (element p (operand_label n))))

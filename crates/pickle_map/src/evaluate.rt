@@ -1,0 +1,9 @@
+//! The value of an expression.
+
+pub mod content;
+pub mod expression;
+pub mod integers;
+pub mod offsets;
+pub mod operand;
+pub mod paths;
+pub mod ranges;

@@ -1,0 +1,216 @@
+ghost use Rattle.std.specs.Prelude.{◌≡◌, ℕ, ◌+◌, ◌-◌, ◌<◌, ◌≤◌, ◌++◌, ◌∷◌, [], Some, None, ℤ, take, drop, length, max, IsOk, OnOk, OnErr, vec_len, vec_capacity, List};
+ghost use Rattle.pickle_map.specs.Tree.{Tree, End, parts_of, text_value, IntegerLabel, OffsetLabel, ArrayLabel, StructLabel, UnionLabel};
+ghost use Rattle.pickle_map.specs.Levels.{Levels, pushed, outer_of, top_of, extended, text_level, FitsIn};
+ghost use Rattle.pickle_map.specs.Slots.{levels, IsNumber, number_value, number_in, IsContentNumber, IsComposite, composite_label};
+
+use crate::memory::Memory;
+use crate::store::Store;
+use crate::store::slots::{Family, Link, Node, Shape};
+use std::alloc::AllocError;
+
+// Moves the links above a mark, for which there is room.
+fn move_above(from: &mut Vec<Link>, mark: usize, to: &mut Vec<Link>)
+    requires mark { mark ≤ vec_len from.old }
+    requires room { vec_len to.old + (vec_len from.old - mark) ≤ vec_capacity to.old }
+    ensures from { from.new.items ≡ take mark from.old.items }
+    ensures to { to.new.items ≡ to.old.items ++ drop mark from.old.items }
+    ensures len { vec_len from.new ≡ mark }
+    ensures from_capacity { vec_capacity from.new ≡ vec_capacity from.old }
+    ensures to_capacity { vec_capacity to.old ≤ vec_capacity to.new }
+{
+    let _moved = to.extend_from_slice(&from[mark..]);
+    from.truncate(mark);
+}
+
+// Makes room for one link above a mark, where those that stand there are to go.
+fn reserve_above(links: &mut Vec<Link>, mark: usize) -> Result<(), AllocError>
+    requires { mark ≤ vec_len links.old }
+    ensures items { links.new.items ≡ links.old.items }
+    ensures len { vec_len links.new ≡ vec_len links.old }
+    ensures ok { OnOk result (mark < vec_capacity links.new) }
+    ensures capacity { vec_capacity links.old ≤ vec_capacity links.new }
+    ensures full { OnErr result (vec_capacity links.old < mark + 1) }
+{
+    if mark == links.len() {
+        links.reserve(1)
+    } else {
+        Ok(())
+    }
+}
+
+// A number as 64 bits.
+fn content_of(signed: bool, number: i128) -> u64
+    requires { IsContentNumber signed number }
+    ensures { number_in signed result ≡ number }
+{
+    if signed {
+        (number as i64).cast_unsigned()
+    } else {
+        number as u64
+    }
+}
+
+impl Store {
+    // Places an integer or an offset.
+    fn place_number(&mut self, shape: Shape, start: u64, content: u64) -> Result<(), Memory>
+        requires number { IsNumber shape }
+        ensures ok { OnOk result (levels self.new ≡ pushed (levels self.old) (Some (number_value shape start content))) }
+        ensures err { OnErr result (self.new ≡ self.old) }
+        ensures room { self.new.room ≡ self.old.room }
+        ensures depth { length (levels self.new) ≡ length (levels self.old) }
+        ensures succeeds { FitsIn self.old.room (pushed (levels self.old) (Some (number_value shape start content))) → IsOk result }
+    {
+        let index = self.nodes.len();
+        self.nodes.reserve(1)?;
+        self.pending.reserve(1)?;
+        self.pending.push_reserved(Link::to(index));
+        self.nodes.push_reserved(Node {
+            start,
+            content,
+            shape,
+        });
+        Ok(())
+    }
+
+    // Places a value of the parts of the innermost open value, which it then holds in their place.
+    fn place_family(&mut self, shape: Shape, start: u64, size: u64) -> Result<(), Memory>
+        requires composite { IsComposite shape }
+        ensures ok { OnOk result (levels self.new ≡ (Some (Tree (composite_label shape) start size (parts_of (top_of (levels self.old)))) ∷ []) ∷ outer_of (levels self.old)) }
+        ensures err { OnErr result (self.new ≡ self.old) }
+        ensures room { self.new.room ≡ self.old.room }
+        ensures depth { length (levels self.new) ≡ length (levels self.old) }
+        ensures succeeds { FitsIn self.old.room (pushed (outer_of (levels self.old)) (Some (Tree (composite_label shape) start size (parts_of (top_of (levels self.old)))))) → IsOk result }
+    {
+        let mark = self.innermost().pending;
+        let index = self.nodes.len();
+        let content = self.families.len() as u64;
+        let count = self.pending.len() - mark;
+        let end = self.links.len() + count;
+        self.nodes.reserve(1)?;
+        self.families.reserve(1)?;
+        self.links.reserve(count)?;
+        reserve_above(&mut self.pending, mark)?;
+        move_above(&mut self.pending, mark, &mut self.links);
+        self.pending.push_reserved(Link::to(index));
+        self.families.push_reserved(Family { end, size });
+        self.nodes.push_reserved(Node {
+            start,
+            content,
+            shape,
+        });
+        Ok(())
+    }
+
+    /// Places an integer of `width` bits from the bit `start` on.
+    pub fn push_integer(
+        &mut self,
+        width: u8,
+        signed: bool,
+        number: i128,
+        start: u64,
+    ) -> Result<(), Memory>
+        requires width { (1 ≤ width) × (width ≤ 64) }
+        requires number { IsContentNumber signed number }
+        ensures ok { OnOk result (levels self.new ≡ pushed (levels self.old) (Some (Tree (IntegerLabel number width signed) start width End))) }
+        ensures err { OnErr result (self.new ≡ self.old) }
+        ensures room { self.new.room ≡ self.old.room }
+        ensures depth { length (levels self.new) ≡ length (levels self.old) }
+        ensures succeeds { FitsIn self.old.room (pushed (levels self.old) (Some (Tree (IntegerLabel number width signed) start width End))) → IsOk result }
+    {
+        self.place_number(
+            Shape::Integer { width, signed },
+            start,
+            content_of(signed, number),
+        )
+    }
+
+    /// Places an offset of a magnitude of `width` bits, in units of `unit` bits, from the bit `start` on.
+    pub fn push_offset(
+        &mut self,
+        width: u8,
+        signed: bool,
+        unit: u32,
+        number: i128,
+        start: u64,
+    ) -> Result<(), Memory>
+        requires width { (1 ≤ width) × (width ≤ 64) × (1 ≤ unit) }
+        requires number { IsContentNumber signed number }
+        ensures ok { OnOk result (levels self.new ≡ pushed (levels self.old) (Some (Tree (OffsetLabel number width signed unit) start width End))) }
+        ensures err { OnErr result (self.new ≡ self.old) }
+        ensures room { self.new.room ≡ self.old.room }
+        ensures depth { length (levels self.new) ≡ length (levels self.old) }
+        ensures succeeds { FitsIn self.old.room (pushed (levels self.old) (Some (Tree (OffsetLabel number width signed unit) start width End))) → IsOk result }
+    {
+        self.place_number(
+            Shape::Offset {
+                width,
+                signed,
+                unit,
+            },
+            start,
+            content_of(signed, number),
+        )
+    }
+
+    /// Places a field that is not there.
+    pub fn push_absent(&mut self) -> Result<(), Memory>
+        ensures ok { OnOk result (levels self.new ≡ pushed (levels self.old) None) }
+        ensures err { OnErr result (self.new ≡ self.old) }
+        ensures room { self.new.room ≡ self.old.room }
+        ensures depth { length (levels self.new) ≡ length (levels self.old) }
+        ensures succeeds { FitsIn self.old.room (pushed (levels self.old) None) → IsOk result }
+    {
+        self.pending.reserve(1)?;
+        self.pending.push_reserved(Link::absent());
+        Ok(())
+    }
+
+    // Makes a value of the parts of the innermost open value, and closes it.
+    fn close(&mut self, shape: Shape, start: u64, size: u64) -> Result<(), Memory>
+        requires composite { IsComposite shape }
+        ensures ok { OnOk result (levels self.new ≡ pushed (outer_of (levels self.old)) (Some (Tree (composite_label shape) start size (parts_of (top_of (levels self.old)))))) }
+        ensures err { OnErr result (self.new ≡ self.old) }
+        ensures room { self.new.room ≡ self.old.room }
+        ensures depth { OnOk result (length (levels self.new) ≡ max 1 (length (levels self.old) - 1)) }
+        ensures succeeds { FitsIn self.old.room (pushed (outer_of (levels self.old)) (Some (Tree (composite_label shape) start size (parts_of (top_of (levels self.old)))))) → IsOk result }
+    {
+        self.place_family(shape, start, size)?;
+        self.lift_level();
+        Ok(())
+    }
+
+    /// Closes the innermost open value as an array of `size` bits from the bit `start` on, whose elements are its parts.
+    pub fn close_array(&mut self, start: u64, size: u64) -> Result<(), Memory>
+        ensures ok { OnOk result (levels self.new ≡ pushed (outer_of (levels self.old)) (Some (Tree ArrayLabel start size (parts_of (top_of (levels self.old)))))) }
+        ensures err { OnErr result (self.new ≡ self.old) }
+        ensures room { self.new.room ≡ self.old.room }
+        ensures depth { OnOk result (length (levels self.new) ≡ max 1 (length (levels self.old) - 1)) }
+        ensures succeeds { FitsIn self.old.room (pushed (outer_of (levels self.old)) (Some (Tree ArrayLabel start size (parts_of (top_of (levels self.old)))))) → IsOk result }
+    {
+        self.close(Shape::Array, start, size)
+    }
+
+    /// Closes the innermost open value as a struct of the type at the index `of`, of `size` bits from the bit `start` on. Its parts are its
+    /// fields, absent ones too.
+    pub fn close_struct(&mut self, of: u32, start: u64, size: u64) -> Result<(), Memory>
+        ensures ok { OnOk result (levels self.new ≡ pushed (outer_of (levels self.old)) (Some (Tree (StructLabel of) start size (parts_of (top_of (levels self.old)))))) }
+        ensures err { OnErr result (self.new ≡ self.old) }
+        ensures room { self.new.room ≡ self.old.room }
+        ensures depth { OnOk result (length (levels self.new) ≡ max 1 (length (levels self.old) - 1)) }
+        ensures succeeds { FitsIn self.old.room (pushed (outer_of (levels self.old)) (Some (Tree (StructLabel of) start size (parts_of (top_of (levels self.old)))))) → IsOk result }
+    {
+        self.close(Shape::Struct { of }, start, size)
+    }
+
+    /// Closes the innermost open value as a union of the type at the index `of`, of `size` bits from the bit `start` on. Its part is the
+    /// alternative taken, which is the one at the index `taken`.
+    pub fn close_union(&mut self, of: u32, taken: u16, start: u64, size: u64) -> Result<(), Memory>
+        ensures ok { OnOk result (levels self.new ≡ pushed (outer_of (levels self.old)) (Some (Tree (UnionLabel of taken) start size (parts_of (top_of (levels self.old)))))) }
+        ensures err { OnErr result (self.new ≡ self.old) }
+        ensures room { self.new.room ≡ self.old.room }
+        ensures depth { OnOk result (length (levels self.new) ≡ max 1 (length (levels self.old) - 1)) }
+        ensures succeeds { FitsIn self.old.room (pushed (outer_of (levels self.old)) (Some (Tree (UnionLabel of taken) start size (parts_of (top_of (levels self.old)))))) → IsOk result }
+    {
+        self.close(Shape::Union { taken, of }, start, size)
+    }
+}

@@ -1,0 +1,83 @@
+ghost use Rattle.std.specs.Prelude.{◌≡◌, ℕ, ◌<◌, ◌≤◌, None, length, slice_get, unwrap_or, IfSome};
+ghost use Rattle.std.specs.Option.{option_map};
+ghost use Rattle.pickle_map.specs.Levels.{part_in, level_at};
+ghost use Rattle.pickle_map.specs.Slots.{levels, marks_at, level_end, value_at};
+
+use crate::store::Store;
+use crate::store::slots::{Link, Marks};
+use crate::value::ValueRef;
+
+impl Store {
+    ghost use Rattle.pickle_map.specs.Refs.{value_of};
+
+    // The marks of an open value, counted from the innermost; past the outermost those of the whole.
+    fn frame(&self, level: usize) -> Marks
+        ensures { result ≡ marks_at self.now.frames level }
+    {
+        let frames = self.frames.as_slice();
+        if level < frames.len() {
+            frames[frames.len() - 1 - level]
+        } else {
+            Marks::default()
+        }
+    }
+
+    // Where the parts of an open value end among the pending children.
+    fn end_of_level(&self, level: usize) -> usize
+        ensures end { result ≡ level_end self.now.frames (length self.now.slots.pending) level }
+        ensures ordered { (marks_at self.now.frames level).pending ≤ result }
+        ensures within { result ≤ length self.now.slots.pending }
+    {
+        let count = self.pending.len();
+        if level == 0 {
+            count
+        } else {
+            self.frame(level - 1).pending
+        }
+    }
+
+    // The links of the parts of an open value.
+    fn level_links(&self, level: usize) -> &[Link]
+        ensures parts { (i : ℕ) → option_map (value_at self.now.slots) (unwrap_or (slice_get result.now i) None) ≡ part_in (levels self.now) level i }
+        ensures below { (i : ℕ) → IfSome (unwrap_or (slice_get result.now i) None) (λ j. j < length self.now.slots.nodes) }
+        ensures count { length result.now ≡ length (level_at (levels self.now) level) }
+    {
+        &self.pending[self.frame(level).pending..self.end_of_level(level)]
+    }
+
+    // The node of the part at a place of an open value, unless it is absent or there is none.
+    fn part_at(&self, level: usize, i: usize) -> Option<usize>
+        ensures part { option_map (value_at self.now.slots) result ≡ part_in (levels self.now) level i }
+        ensures below { IfSome result (λ j. j < length self.now.slots.nodes) }
+    {
+        match self.level_links(level).get(i) {
+            Some(link) => link.target(),
+            None => None,
+        }
+    }
+
+    /// How many parts an open value has so far, absent ones too. Open values are counted from the innermost, and the last is the whole.
+    pub fn count(&self, level: usize) -> usize
+        ensures { result ≡ length (level_at (levels self.now) level) }
+    {
+        self.level_links(level).len()
+    }
+
+    /// The part at a place of an open value, unless it is absent or there is none. Open values are counted from the innermost, and the last is
+    /// the whole.
+    pub fn part(&self, level: usize, i: usize) -> Option<ValueRef<'_>>
+        ensures { option_map value_of result ≡ part_in (levels self.now) level i }
+    {
+        match self.part_at(level, i) {
+            Some(node) => Some(ValueRef::new(self, node)),
+            None => None,
+        }
+    }
+
+    /// The value that was mapped, where no value is open.
+    pub fn root(&self) -> Option<ValueRef<'_>>
+        ensures { option_map value_of result ≡ part_in (levels self.now) 0 0 }
+    {
+        self.part(0, 0)
+    }
+}

@@ -1,0 +1,129 @@
+ghost use Rattle.std.specs.Prelude.{◌≡◌, ℕ, ◌+◌, ◌≤◌, ◌++◌, ◌∷◌, [], Some, List, length, max, ◌-◌, IsTrue, ◌↔◌, IsOk, OnOk, OnErr, vec_len, vec_capacity};
+ghost use Rattle.pickle_map.specs.Tree.{text_value};
+ghost use Rattle.pickle_map.specs.Levels.{Levels, pushed, text_level, FitsIn};
+ghost use Rattle.pickle_map.specs.Slots.{levels, innermost, with_text, with_byte, IsShort, IsWriting, IsText, TakesByte, GoesOn};
+
+use crate::memory::Memory;
+use crate::store::Store;
+use crate::store::slots::{Link, Node, Shape};
+
+// Appends bytes, for which there is room.
+fn append(to: &mut Vec<u8>, bytes: &[u8])
+    requires { vec_len to.old + length bytes.now ≤ vec_capacity to.old }
+    ensures items { to.new.items ≡ to.old.items ++ bytes.now }
+    ensures capacity { vec_capacity to.old ≤ vec_capacity to.new }
+{
+    let _appended = to.extend_from_slice(bytes);
+}
+
+impl Store {
+    // Places a text that begins at the bit `start`.
+    fn place_text(&mut self, start: u64, bytes: &[u8]) -> Result<(), Memory>
+        requires short { IsShort (length bytes.now) }
+        ensures slots { OnOk result (self.new ≡ record self.old { slots = with_text bytes.now start self.old.slots }) }
+        ensures levels { OnOk result (levels self.new ≡ pushed (levels self.old) (Some (text_value bytes.now start))) }
+        ensures err { OnErr result (self.new ≡ self.old) }
+        ensures room { self.new.room ≡ self.old.room }
+        ensures depth { length (levels self.new) ≡ length (levels self.old) }
+        ensures succeeds { FitsIn self.old.room (pushed (levels self.old) (Some (text_value bytes.now start))) → IsOk result }
+    {
+        let index = self.nodes.len();
+        let content = self.texts.len() as u64;
+        let end = self.bytes.len() + bytes.len();
+        self.nodes.reserve(1)?;
+        self.pending.reserve(1)?;
+        self.texts.reserve(1)?;
+        self.bytes.reserve(bytes.len())?;
+        append(&mut self.bytes, bytes);
+        self.texts.push_reserved(end);
+        self.pending.push_reserved(Link::to(index));
+        self.nodes.push_reserved(Node {
+            start,
+            content,
+            shape: Shape::Text,
+        });
+        Ok(())
+    }
+
+    // Places a byte more of a text that has some.
+    fn append_byte(&mut self, byte: u8) -> Result<(), Memory>
+        requires { GoesOn self.old }
+        ensures slots { OnOk result (self.new ≡ record self.old { slots = with_byte byte self.old.slots }) }
+        ensures err { OnErr result (self.new ≡ self.old) }
+        ensures depth { length (levels self.new) ≡ length (levels self.old) }
+        ensures succeeds { length self.old.slots.bytes + 1 ≤ self.old.room → IsOk result }
+    {
+        let last = self.texts.len() - 1;
+        self.bytes.reserve(1)?;
+        self.bytes.push_reserved(byte);
+        let end = self.bytes.len();
+        self.texts.truncate(last);
+        self.texts.push_reserved(end);
+        Ok(())
+    }
+
+    // Whether the innermost open value has no node yet.
+    fn is_fresh(&self) -> bool
+        ensures { IsTrue result ↔ (length self.now.slots.nodes ≡ (innermost self.now.frames).nodes) }
+    {
+        self.nodes.len() == self.innermost().nodes
+    }
+
+    /// Opens a text, which has no bytes yet. As many as 64 values may be open.
+    pub fn open_text(&mut self)
+        requires { length (levels self.old) ≤ 64 }
+        ensures writes { (start : ℕ) → IsWriting self.new [] start (levels self.old) }
+        ensures levels { levels self.new ≡ [] ∷ levels self.old }
+        ensures room { self.new.room ≡ self.old.room }
+        ensures depth { length (levels self.new) ≡ length (levels self.old) + 1 }
+    {
+        self.open_level();
+    }
+
+    /// Places a byte more of the text under way, which begins at the bit `start`.
+    pub fn push_byte(&mut self, byte: u8, start: u64) -> Result<(), Memory>
+        requires { TakesByte self.old start }
+        ensures writes { OnOk result ((bytes : List ℕ) (outer : Levels) → IsWriting self.old bytes start outer → IsShort (length bytes + 1) → IsWriting self.new (bytes ++ byte ∷ []) start outer) }
+        ensures levels { OnOk result ((bytes : List ℕ) (outer : Levels) → IsWriting self.old bytes start outer → IsShort (length bytes + 1) → levels self.new ≡ text_level (bytes ++ byte ∷ []) start outer) }
+        ensures err { OnErr result (self.new ≡ self.old) }
+        ensures room { self.new.room ≡ self.old.room }
+        ensures depth { length (levels self.new) ≡ length (levels self.old) }
+        ensures succeeds { (bytes : List ℕ) (outer : Levels) → IsWriting self.old bytes start outer → FitsIn self.old.room (text_level (bytes ++ byte ∷ []) start outer) → IsOk result }
+    {
+        if self.is_fresh() {
+            self.place_text(start, &[byte])
+        } else {
+            self.append_byte(byte)
+        }
+    }
+
+    // Gives the text under way a node, where it has no bytes.
+    fn settle_text(&mut self, start: u64) -> Result<(), Memory>
+        requires { IsText self.old start }
+        ensures ok { OnOk result ((bytes : List ℕ) (outer : Levels) → IsWriting self.old bytes start outer → levels self.new ≡ text_level bytes start outer) }
+        ensures err { OnErr result (self.new ≡ self.old) }
+        ensures room { self.new.room ≡ self.old.room }
+        ensures depth { length (levels self.new) ≡ length (levels self.old) }
+        ensures succeeds { (bytes : List ℕ) (outer : Levels) → IsWriting self.old bytes start outer → FitsIn self.old.room (pushed outer (Some (text_value bytes start))) → IsOk result }
+    {
+        if self.is_fresh() {
+            self.place_text(start, &[])
+        } else {
+            Ok(())
+        }
+    }
+
+    /// Closes the text under way, which begins at the bit `start`.
+    pub fn close_text(&mut self, start: u64) -> Result<(), Memory>
+        requires { IsText self.old start }
+        ensures ok { OnOk result ((bytes : List ℕ) (outer : Levels) → IsWriting self.old bytes start outer → levels self.new ≡ pushed outer (Some (text_value bytes start))) }
+        ensures err { OnErr result (self.new ≡ self.old) }
+        ensures room { self.new.room ≡ self.old.room }
+        ensures depth { OnOk result (length (levels self.new) ≡ max 1 (length (levels self.old) - 1)) }
+        ensures succeeds { (bytes : List ℕ) (outer : Levels) → IsWriting self.old bytes start outer → FitsIn self.old.room (pushed outer (Some (text_value bytes start))) → IsOk result }
+    {
+        self.settle_text(start)?;
+        self.lift_level();
+        Ok(())
+    }
+}
