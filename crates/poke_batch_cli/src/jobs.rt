@@ -2,9 +2,9 @@
 use crate::files::{FileFault, open_space, read_pickle_of};
 use poke_batch::ask::Ask;
 use poke_batch::dump::{DumpFault, dump};
-use poke_batch::run::{run_check, run_map};
+use poke_batch::run::{run_bound, run_check, run_map};
 use poke_batch::status::Status;
-use poke_batch::tell::{fail, refuse};
+use poke_batch::tell::fail;
 use poke_batch::words::Job;
 use std::fs::File;
 use std::io::{BufWriter, Input, Write};
@@ -65,7 +65,10 @@ fn run_job<R: Files<File = File> + Input + AllocGlobal, O: Write, E: Write>(
             let mut space = open_space(rt, file.as_str())?;
             Ok(run_map(rt.alloc(), &pickle, &ask, &mut space, out, err))
         }
-        Job::Bound { .. } => Ok(refuse(err, b"NotYet")),
+        Job::Bound { pickle, name, bits } => {
+            let pickle = read_pickle_of(rt, pickle.as_str())?;
+            Ok(run_bound(rt.alloc(), &pickle, name.as_bytes(), bits, out, err))
+        }
         Job::Check { pickle } => {
             let pickle = read_pickle_of(rt, pickle.as_str())?;
             Ok(run_check(rt.alloc(), &pickle, out, err))
