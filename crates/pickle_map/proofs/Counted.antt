@@ -1,11 +1,10 @@
 -- What lists of values take, and their open values' levels.
-use Rattle.std.proofs.Common.{◌≡◌, ℕ, zero, suc, ◌+◌, ◌-◌, ◌<◌, ◌≤◌, List, [], ◌∷◌, ◌++◌, Option, Some, None, length, take, drop, map, refl, sym, ◌∙◌, ap, subst, arith, add_assoc, zero-add}
-use Rattle.std.proofs.lemmas.List.{append_assoc, append-nil, length-append, length-take, length-drop, length_push, take-append-le, drop-append-le, drop_at, take_at, take_all, drop_all, take-take, take-append-drop}
-use Rattle.pickle_map.specs.declared.store.slots.Node.{Node}
+use Rattle.std.proofs.Common.{◌≡◌, ◌+◌, ◌≤◌, List, [], ◌∷◌, ◌++◌, Option, Some, None, length, take, drop, refl, sym, ◌∙◌, ap, subst, arith, zero-add}
+use Rattle.std.proofs.lemmas.List.{append-nil, length-take, drop-append-le, drop_at, take_all, take-take, take-append-drop}
 use Rattle.pickle_map.specs.declared.store.slots.Marks.{Marks}
-use Rattle.pickle_map.specs.Tree.{Value, Tree, Label, parts_of, bytes_of}
-use Rattle.pickle_map.specs.Levels.{Levels, top_of, outer_of, extended, pushed, nodes_in_parts, links_in_parts, bytes_in_parts, level_nodes, level_links, level_bytes, total_nodes, total_links, total_pending, total_bytes}
-use Rattle.pickle_map.specs.Slots.{Slots, stack, IsSound, cut_to, marks_of, root_marks, IsWithin, level_of, IsLevel, innermost, AreLevels, levels_at, Adds}
+use Rattle.pickle_map.specs.Tree.{Value, parts_of}
+use Rattle.pickle_map.specs.Levels.{extended, nodes_in_parts, links_in_parts, bytes_in_parts, level_nodes, level_links, level_bytes}
+use Rattle.pickle_map.specs.Slots.{Slots, stack, IsSound, cut_to, marks_of, root_marks, IsWithin, level_of, IsLevel, AreLevels, levels_at, Adds}
 use Rattle.pickle_map.proofs.Grown.{length-stack, stack-cut}
 
 pub level_nodes-append : (xs ys : List (Option Value)) → level_nodes (xs ++ ys) ≡ level_nodes xs + level_nodes ys
@@ -121,13 +120,18 @@ level-above s u vs h = ap (drop (length s.pending)) h.stack ∙ drop_at (stack s
 
 pub levels-above : (ks : List Marks) (s u : Slots) (vs : List (Option Value)) → AreLevels ks s → Adds s u vs → AreLevels (marks_of s ∷ ks) u
 levels-above ks s u vs h g =
-    let e = level-above s u vs g in
-    (g.sound, (record {
-      within = Adds-within s u vs g;
-      nodes = omega (arith, g.nodes, ap level_nodes e);
-      links = omega (arith, g.links, ap level_links e);
-      bytes = omega (arith, g.bytes, ap level_bytes e);
-    }, subst (λ x. AreLevels ks x) (sym g.rest) h))
+    let e = level-above s u vs g in (
+      g.sound,
+      (
+        record {
+          within = Adds-within s u vs g;
+          nodes = omega (arith, g.nodes, ap level_nodes e);
+          links = omega (arith, g.links, ap level_links e);
+          bytes = omega (arith, g.bytes, ap level_bytes e);
+        },
+        subst (λ x. AreLevels ks x) (sym g.rest) h,
+      ),
+    )
 
 pub levels_at-above : (ks : List Marks) (s u : Slots) (vs : List (Option Value)) → Adds s u vs → levels_at (marks_of s ∷ ks) u ≡ vs ∷ levels_at ks s
 levels_at-above ks s u vs g =

@@ -1,18 +1,18 @@
 -- What a placed value adds to a store.
-use Rattle.std.proofs.Common.{◌≡◌, ℕ, zero, suc, ◌+◌, ◌-◌, ◌*◌, ◌<◌, ◌≤◌, List, [], ◌∷◌, ◌++◌, Option, Some, None, length, take, drop, map, refl, sym, ◌∙◌, ap, subst, arith, add-zero, add-one, get_or}
-use Rattle.std.specs.Prelude.{slice_get, slice_index}
-use Rattle.std.proofs.lemmas.List.{append_assoc, append-nil, length-append, length-take, length-drop, length_push, take-append-le, drop-append-le, drop_at, take_at, take_all, drop_all, take-take, take-append-drop, map-append, drop-map, length-map}
+use Rattle.std.proofs.Common.{◌≡◌, ℕ, ◌+◌, ◌-◌, ◌≤◌, List, [], ◌∷◌, ◌++◌, Some, None, length, take, drop, map, refl, sym, ◌∙◌, ap, arith, add-one}
+use Rattle.std.specs.Prelude.{slice_index}
+use Rattle.std.proofs.lemmas.List.{append-nil, length-append, length-take, length-drop, length_push, take-append-le, take_at, take_all, map-append, drop-map}
 use Rattle.std.proofs.Math.Seq.{get_or-append_seam}
 use Rattle.pickle_map.specs.declared.store.slots.Node.{Node}
 use Rattle.pickle_map.specs.declared.store.slots.Family.{Family}
 use Rattle.pickle_map.specs.declared.store.slots.Marks.{Marks}
 use Rattle.pickle_map.specs.declared.store.slots.Shape.{Shape}
 use Rattle.pickle_map.specs.declared.store.slots.Shape.TheVariants.{Integer, Offset, Text, Array, Struct, Union}
-use Rattle.pickle_map.specs.Tree.{Value, Tree, Label, TextLabel, parts_of, bytes_of, text_value}
-use Rattle.pickle_map.specs.Levels.{level_nodes, level_links, level_bytes, nodes_in, links_in, bytes_in}
-use Rattle.pickle_map.specs.Slots.{Slots, opened, part, family_at, first_link, family_links, first_byte, text_bytes, label_in, size_in, links_of, tree_of, trees, trees_from, stack, LinksBelow, IsRow, IsFamily, IsTextRow, IsShort, IsContent, IsNodeAt, AreNodesFrom, IsSound, cut_to, marks_of, IsWithin, level_of, IsLevel, Adds, with_leaf, with_family, with_text, with_absent, IsComposite, composite_label, IsNumber, number_value}
-use Rattle.pickle_map.proofs.Rows.{Grows, slice_get-push, part-all, first_link-grow, first_byte-grow}
-use Rattle.pickle_map.proofs.Grown.{NewNode, AreNodes-grow, trees_from-grow, nodes-new, pending-new, stack-new, stack-cut, length-stack, LinksBelow-weaker, LinksBelow-append, LinksBelow-drop}
+use Rattle.pickle_map.specs.Tree.{Value, Tree, parts_of, bytes_of, text_value}
+use Rattle.pickle_map.specs.Levels.{level_nodes, level_links, level_bytes}
+use Rattle.pickle_map.specs.Slots.{Slots, opened, family_at, first_link, family_links, first_byte, links_of, tree_of, trees, trees_from, stack, LinksBelow, IsFamily, IsShort, IsContent, IsSound, cut_to, marks_of, level_of, IsLevel, Adds, with_leaf, with_family, with_text, with_absent, IsComposite, composite_label, IsNumber, number_value}
+use Rattle.pickle_map.proofs.Rows.{Grows, part-all, first_link-grow, first_byte-grow}
+use Rattle.pickle_map.proofs.Grown.{NewNode, AreNodes-grow, trees_from-grow, nodes-new, pending-new, stack-new, stack-cut, length-stack, LinksBelow-append, LinksBelow-drop}
 use Rattle.pickle_map.proofs.Counted.{nodes_in_parts-of, links_in_parts-of, bytes_in_parts-of, marks-cut}
 
 -- numbers
@@ -61,7 +61,10 @@ stack-last s u n h g e =
 leaf-new : (shape : Shape) (start c : ℕ) (s : Slots) → IsNumber shape → NewNode s (with_leaf shape start c s) (record { start = start; content = c; shape = shape })
 leaf-new shape start c s number = record {
   grows = record {
-    more_families = []; more_links = []; more_texts = []; more_bytes = [];
+    more_families = [];
+    more_links = [];
+    more_texts = [];
+    more_bytes = [];
     families = sym (append-nil s.families);
     links = sym (append-nil s.links);
     texts = sym (append-nil s.texts);
@@ -110,9 +113,10 @@ number-adds shape start c s number sound =
 -- texts
 
 text-row : (bytes : List ℕ) (start : ℕ) (s : Slots) → IsSound s → (first_byte (with_text bytes start s).texts (length s.texts) ≡ length s.bytes) × (slice_index (with_text bytes start s).texts (length s.texts) ≡ length s.bytes + length bytes)
-text-row bytes start s sound =
-    (first_byte-grow s.texts ((length s.bytes + length bytes) ∷ []) (length s.texts) (omega arith) ∙ sound.bytes,
-    get_or-append_seam s.texts (length s.bytes + length bytes) [] 0)
+text-row bytes start s sound = (
+  first_byte-grow s.texts ((length s.bytes + length bytes) ∷ []) (length s.texts) (omega arith) ∙ sound.bytes,
+  get_or-append_seam s.texts (length s.bytes + length bytes) [] 0,
+)
 
 text-new : (bytes : List ℕ) (start : ℕ) (s : Slots) → IsSound s → IsShort (length bytes) → NewNode s (with_text bytes start s) (record { start = start; content = length s.texts; shape = Text })
 text-new bytes start s sound short =
@@ -120,7 +124,10 @@ text-new bytes start s sound short =
     let count : (length s.bytes + length bytes) - length s.bytes ≡ length bytes = omega arith in
     record {
       grows = record {
-        more_families = []; more_links = []; more_texts = (length s.bytes + length bytes) ∷ []; more_bytes = bytes;
+        more_families = [];
+        more_links = [];
+        more_texts = (length s.bytes + length bytes) ∷ [];
+        more_bytes = bytes;
         families = sym (append-nil s.families);
         links = sym (append-nil s.links);
         texts = refl;
@@ -233,7 +240,10 @@ module _ (shape : Shape) (start size mark : ℕ) (s : Slots) (composite : IsComp
       let u = with_family shape start size mark s in
       record {
         grows = record {
-          more_families = record { end = length s.links + (length s.pending - mark); size = size } ∷ []; more_links = drop mark s.pending; more_texts = []; more_bytes = [];
+          more_families = record { end = length s.links + (length s.pending - mark); size = size } ∷ [];
+          more_links = drop mark s.pending;
+          more_texts = [];
+          more_bytes = [];
           families = refl;
           links = refl;
           texts = sym (append-nil s.texts);
@@ -241,12 +251,13 @@ module _ (shape : Shape) (start size mark : ℕ) (s : Slots) (composite : IsComp
         };
         nodes = refl;
         is = record {
-          content = family-content u shape (length s.families) composite
-              (omega (arith, length_push s.families (record { end = length s.links + (length s.pending - mark); size = size })),
-              record {
-                ordered = omega (arith, family-first, ap (λ (f : Family). f.end) family-end);
-                within = omega (arith, ap (λ (f : Family). f.end) family-end, length-append s.links (drop mark s.pending), length-drop mark s.pending);
-              });
+          content = family-content u shape (length s.families) composite (
+            omega (arith, length_push s.families (record { end = length s.links + (length s.pending - mark); size = size })),
+            record {
+              ordered = omega (arith, family-first, ap (λ (f : Family). f.end) family-end);
+              within = omega (arith, ap (λ (f : Family). f.end) family-end, length-append s.links (drop mark s.pending), length-drop mark s.pending);
+            },
+          );
           below = rw (family-links u shape (length s.families) composite, family-row) (LinksBelow-drop (length s.nodes) mark s.pending sound.pending);
         };
       }
@@ -308,7 +319,10 @@ family-adds shape start size k s composite sound is below =
 -- a field that is not there
 absent-same : (s : Slots) → Grows s (with_absent s)
 absent-same s = record {
-  more_families = []; more_links = []; more_texts = []; more_bytes = [];
+  more_families = [];
+  more_links = [];
+  more_texts = [];
+  more_bytes = [];
   families = sym (append-nil s.families);
   links = sym (append-nil s.links);
   texts = sym (append-nil s.texts);

@@ -3,7 +3,6 @@
 
 pub mod memory;
 pub mod store;
-pub mod value;
-
 #[cfg(test)]
 mod tests;
+pub mod value;

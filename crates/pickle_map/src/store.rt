@@ -39,14 +39,16 @@ impl Model for Store {
     ghost Value = { Held };
 
     ghost view = { λ a. record {
-        slots = record { nodes = a.nodes.items; families = a.families.items; links = a.links.items; pending = a.pending.items; texts = a.texts.items; bytes = a.bytes.items };
-        frames = reverse a.frames.items;
-        room = a.room } };
+      slots = record { nodes = a.nodes.items; families = a.families.items; links = a.links.items; pending = a.pending.items; texts = a.texts.items; bytes = a.bytes.items };
+      frames = reverse a.frames.items;
+      room = a.room;
+    } };
 
     ghost invariant = { λ a. IsStore (record {
-        slots = record { nodes = a.nodes.items; families = a.families.items; links = a.links.items; pending = a.pending.items; texts = a.texts.items; bytes = a.bytes.items };
-        frames = reverse a.frames.items;
-        room = a.room }) (vec_capacity a.nodes) (vec_capacity a.families) (vec_capacity a.links) (vec_capacity a.pending) (vec_capacity a.texts) (vec_capacity a.bytes) };
+      slots = record { nodes = a.nodes.items; families = a.families.items; links = a.links.items; pending = a.pending.items; texts = a.texts.items; bytes = a.bytes.items };
+      frames = reverse a.frames.items;
+      room = a.room;
+    }) (vec_capacity a.nodes) (vec_capacity a.families) (vec_capacity a.links) (vec_capacity a.pending) (vec_capacity a.texts) (vec_capacity a.bytes) };
 }
 
 #[tactic(auto, using(crate::proofs::Held::none_open))]

@@ -102,7 +102,13 @@ impl Store {
     }
 
     /// Places an integer of `width` bits from the bit `start` on.
-    pub fn push_integer(&mut self, width: u8, signed: bool, number: i128, start: u64) -> Result<(), Memory>
+    pub fn push_integer(
+        &mut self,
+        width: u8,
+        signed: bool,
+        number: i128,
+        start: u64,
+    ) -> Result<(), Memory>
         requires { IsContentNumber signed number }
         ensures ok { OnOk result (levels self.new ≡ pushed (levels self.old) (Some (Tree (IntegerLabel number width signed) start width End))) }
         ensures err { OnErr result (self.new ≡ self.old) }
@@ -110,11 +116,22 @@ impl Store {
         ensures depth { length (levels self.new) ≡ length (levels self.old) }
         ensures succeeds { FitsIn self.old.room (pushed (levels self.old) (Some (Tree (IntegerLabel number width signed) start width End))) → IsOk result }
     {
-        self.place_number(Shape::Integer { width, signed }, start, content_of(signed, number))
+        self.place_number(
+            Shape::Integer { width, signed },
+            start,
+            content_of(signed, number),
+        )
     }
 
     /// Places an offset of a magnitude of `width` bits, in units of `unit` bits, from the bit `start` on.
-    pub fn push_offset(&mut self, width: u8, signed: bool, unit: u32, number: i128, start: u64) -> Result<(), Memory>
+    pub fn push_offset(
+        &mut self,
+        width: u8,
+        signed: bool,
+        unit: u32,
+        number: i128,
+        start: u64,
+    ) -> Result<(), Memory>
         requires { IsContentNumber signed number }
         ensures ok { OnOk result (levels self.new ≡ pushed (levels self.old) (Some (Tree (OffsetLabel number width signed unit) start width End))) }
         ensures err { OnErr result (self.new ≡ self.old) }
@@ -122,7 +139,15 @@ impl Store {
         ensures depth { length (levels self.new) ≡ length (levels self.old) }
         ensures succeeds { FitsIn self.old.room (pushed (levels self.old) (Some (Tree (OffsetLabel number width signed unit) start width End))) → IsOk result }
     {
-        self.place_number(Shape::Offset { width, signed, unit }, start, content_of(signed, number))
+        self.place_number(
+            Shape::Offset {
+                width,
+                signed,
+                unit,
+            },
+            start,
+            content_of(signed, number),
+        )
     }
 
     /// Places a field that is not there.

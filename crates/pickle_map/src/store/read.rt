@@ -36,7 +36,11 @@ impl Store {
         requires { IsFamily self.now.slots family }
         ensures { result.now ≡ family_links self.now.slots.families self.now.slots.links family }
     {
-        let first = if family == 0 { 0 } else { self.families[family - 1].end };
+        let first = if family == 0 {
+            0
+        } else {
+            self.families[family - 1].end
+        };
         &self.links[first..self.families[family].end]
     }
 
@@ -56,7 +60,9 @@ impl Store {
     {
         match node.shape {
             Shape::Integer { .. } | Shape::Offset { .. } | Shape::Text => &[],
-            Shape::Array | Shape::Struct { .. } | Shape::Union { .. } => self.family(node.content as usize),
+            Shape::Array | Shape::Struct { .. } | Shape::Union { .. } => self.family(
+                node.content as usize,
+            ),
         }
     }
 
@@ -157,7 +163,8 @@ impl Store {
             Shape::Integer { width, .. } => u64::from(width),
             Shape::Offset { width, .. } => u64::from(width),
             Shape::Text => 8 * (self.text(node.content as usize).len() as u64 + 1),
-            Shape::Array | Shape::Struct { .. } | Shape::Union { .. } => self.families[node.content as usize].size,
+            Shape::Array | Shape::Struct { .. } | Shape::Union { .. } =>
+                self.families[node.content as usize].size,
         }
     }
 
