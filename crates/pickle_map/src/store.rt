@@ -1,3 +1,10 @@
+//! The values of a mapping, in flat vectors.
+//!
+//! A value is a node of 24 bytes: where it starts, a content of 64 bits, and its shape. A family keeps the size of an array, a struct or a union
+//! and where its links end; they begin where those of the family before it end. The texts are cut from the bytes in the same way. The parts
+//! of a value that is open are pending children. When it is closed they become the links of a new family, and its node is the next pending
+//! child. A frame keeps how long each vector was when a value was opened, so that cutting back to it gives up all that came since.
+
 ghost use Rattle.std.specs.Prelude.{◌≡◌, ◌≤◌, ◌-◌, ◌++◌, ◌∷◌, [], Some, None, take, drop, IfOk, vec_len, vec_capacity};
 ghost use Rattle.pickle_map.specs.Levels.{no_values};
 ghost use Rattle.pickle_map.specs.Slots.{empty, marks_of, innermost, levels};
