@@ -1,9 +1,9 @@
 -- One step of the definitions for each step of the builder.
-use Rattle.std.proofs.Common.{◌≡◌, ℕ, zero, suc, ◌+◌, ◌-◌, ◌<◌, ◌≤◌, max, List, [], ◌∷◌, ◌++◌, map, Option, Some, None, Result, Ok, Err, Bool, length, take, drop, get_or, refl, sym, ap, subst, ◌∙◌, arith, Vec, Global}
-use Rattle.std.specs.Prelude.{All, is_some}
+use Rattle.std.proofs.Common.{◌≡◌, ℕ, zero, suc, ◌+◌, ◌-◌, ◌<◌, ◌≤◌, max, List, [], ◌∷◌, ◌++◌, map, Option, Some, None, Result, Ok, Err, Bool, length, take, drop, get_or, refl, sym, ap, ◌∙◌, arith}
+use Rattle.std.specs.Prelude.{is_some}
 use Rattle.std.specs.Map.{values_of}
 use Rattle.std.proofs.lemmas.Bool.{eq-eqb, ne_eqb}
-use Rattle.std.proofs.lemmas.List.{append_assoc, append-nil, length-append, length-take, drop_more, map_push, take_all, take-append-le}
+use Rattle.std.proofs.lemmas.List.{append-nil, length-append, length-take, drop_more, map_push, take_all, take-append-le}
 use Rattle.std.proofs.lemmas.List.Elements.{All-append}
 use Rattle.pickle_syntax.specs.declared.tree.Unit.{Unit as PokeUnit}
 use Rattle.pickle_syntax.specs.Tree.{Tree, TreeReference, FieldParts, FormTree, Plain, StringForm, OffsetForm, ArrayForm, StructForm, IntegralForm, UnionForm, FieldTrees, field_tree, fields_tree}
@@ -25,7 +25,7 @@ use Rattle.pickle_types.specs.Names.{Names}
 use Rattle.pickle_types.specs.Expressions.{◌>>=◌, integer_referred}
 use Rattle.pickle_types.specs.Meaning.{plain, offset_type, integer_expression, offset_expression, bound_expression, fresh, bit_width, has_some, may_stand, if_here, place_in, struct_place, parts_of, total_width, integral_type, if_some_alternative, after_field, with_itself, FieldMeaning, field_meaning, field_then, meaning, fields_meaning}
 use Rattle.pickle_types.specs.Built.{Fails, bytes_now, view_of, views_of, IsInLevel, AreNamed, AreBelow, names_in, part_of}
-use Rattle.pickle_types.specs.Building.{known_types, visible_in, after_itself, Keeps, IsBuilt, Builds, IsFieldBuilt, with_front, FieldsSoFar}
+use Rattle.pickle_types.specs.Building.{visible_in, after_itself, Keeps, IsBuilt, Builds, IsFieldBuilt, with_front, FieldsSoFar}
 use Rattle.pickle_types.proofs.Growth.{push_table, push_type, type_kept, longer}
 use Rattle.pickle_types.proofs.Meanings.{parts_depth_is}
 use Rattle.pickle_types.proofs.Tables.{fields_same}

@@ -1,14 +1,14 @@
 -- One step of the definitions for each declaration that is added.
-use Rattle.std.proofs.Common.{◌≡◌, ℕ, zero, suc, ◌+◌, ◌<◌, ◌≤◌, List, [], ◌∷◌, ◌++◌, map, Option, Some, None, Result, Ok, Err, Bool, true, false, length, drop, refl, sym, ap, ◌∙◌, arith, Vec, Global}
+use Rattle.std.proofs.Common.{◌≡◌, ℕ, List, [], ◌∷◌, ◌++◌, Option, Some, None, Result, Ok, Err, true, false, refl, ap, ◌∙◌, arith, Vec, Global}
 use denote.Bor.{Bor}
-use Rattle.std.specs.Prelude.{All, is_some, ◌&&◌}
+use Rattle.std.specs.Prelude.{is_some}
 use Rattle.std.proofs.lemmas.Bool.{and_parts, leb-true}
 use Rattle.std.specs.Map.{values_of}
-use Rattle.std.proofs.lemmas.List.{map_push, append_assoc, append-nil}
+use Rattle.std.proofs.lemmas.List.{map_push}
 use Rattle.std.proofs.lemmas.List.Elements.{All-append}
 use Rattle.pickle_syntax.specs.Tree.{DeclarationTree}
 use Rattle.pickle_types.specs.declared.fault.FaultKind.{FaultKind}
-use Rattle.pickle_types.specs.declared.fault.FaultKind.TheVariants.{Memory, DuplicateType}
+use Rattle.pickle_types.specs.declared.fault.FaultKind.TheVariants.{DuplicateType}
 use Rattle.pickle_types.specs.declared.names.Declared.{Declared}
 use Rattle.pickle_types.specs.declared.table.Node.{Node}
 use Rattle.pickle_types.specs.declared.check.types.Builder.{Builder}

@@ -2,9 +2,9 @@
 use Rattle.std.proofs.Common.{◌≡◌, rules, ap, sym, ◌∙◌}
 use Rattle.pickle_syntax.specs.declared.tree.Unit.{Unit as PokeUnit}
 use Rattle.pickle_syntax.specs.declared.tree.Reference.{Reference}
-use Rattle.pickle_syntax.specs.declared.tree.Form.{Form, the_lemmas, fold-roll-Form}
+use Rattle.pickle_syntax.specs.declared.tree.Form.{the_lemmas}
 use Rattle.pickle_syntax.specs.declared.tree.Form.TheVariants as form
-use Rattle.pickle_syntax.specs.Tree.{Plain, StringForm, OffsetForm, reference_tree, form_tree, FormTree, FieldTree, form_step, field_step}
+use Rattle.pickle_syntax.specs.Tree.{Plain, StringForm, OffsetForm, reference_tree, form_tree}
 
 pub reference_form : (r : Reference) → form_tree (form.Reference r) ≡ Plain (reference_tree r)
 reference_form r = ap form_tree (sym (form.rolls-Reference r)) ∙ search (rules, the_lemmas)

@@ -1,5 +1,5 @@
 -- What a fault of the definitions says of the rules.
-use Rattle.std.proofs.Common.{◌≡◌, List, Result, Ok, Err, refl}
+use Rattle.std.proofs.Common.{List, refl}
 use Rattle.std.specs.Prelude.{◌≢◌}
 use Rattle.pickle_syntax.specs.Tree.{DeclarationTree}
 use Rattle.pickle_types.specs.declared.fault.FaultKind.{FaultKind}

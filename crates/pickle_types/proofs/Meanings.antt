@@ -1,13 +1,13 @@
 -- The types of forms and pickles are found exactly where the rules give them.
-use Rattle.std.proofs.Common.{◌≡◌, ℕ, zero, suc, ◌+◌, ◌<◌, ◌≤◌, length, List, [], ◌∷◌, ◌++◌, Option, Some, None, Result, Ok, Err, Bool, true, false, refl, sym, ap, subst, ◌∙◌, arith, eqb-true}
-use Rattle.std.specs.Prelude.{IfOk, nat_le, nat_eq, ◌&&◌, ◌||◌, if◌then◌else◌}
+use Rattle.std.proofs.Common.{◌≡◌, ℕ, zero, suc, ◌+◌, ◌≤◌, length, List, [], ◌∷◌, ◌++◌, Option, Some, None, Result, Ok, Err, Bool, true, false, refl, sym, ap, subst, ◌∙◌, arith, eqb-true}
+use Rattle.std.specs.Prelude.{IfOk, nat_le, nat_eq, ◌||◌, if◌then◌else◌}
 use Rattle.std.proofs.lemmas.Bool.{and_parts, leb-true, le-leb, eq-eqb}
 use Rattle.pickle_syntax.specs.declared.tree.ByteOrder.{ByteOrder}
 use Rattle.pickle_syntax.specs.Tree.{Tree, TreeReference, Int, Uint, Called, FieldParts, FormTree, Plain, StringForm, OffsetForm, ArrayForm, StructForm, IntegralForm, UnionForm, FieldTrees, DeclarationTree}
 use Rattle.pickle_syntax.specs.Tree as tree
 use Rattle.pickle_types.specs.declared.integer.IntegerType.{IntegerType}
 use Rattle.pickle_types.specs.declared.fault.FaultKind.{FaultKind}
-use Rattle.pickle_types.specs.declared.fault.FaultKind.TheVariants.{UnknownType, DuplicateType, DuplicateField, Mismatch, IntegralWidths, NotHere, TooDeep}
+use Rattle.pickle_types.specs.declared.fault.FaultKind.TheVariants.{UnknownType, Mismatch, IntegralWidths, TooDeep}
 use Rattle.pickle_types.specs.declared.check.operators.Scalar.{Scalar}
 use Rattle.pickle_types.specs.declared.check.operators.Scalar.TheVariants.{Integer, Offset}
 use Rattle.pickle_types.specs.declared.check.places.Place.{Place}
@@ -15,10 +15,10 @@ use Rattle.pickle_types.specs.declared.check.places.Place.TheVariants as place
 use Rattle.pickle_types.specs.Types.{Term, Bound, PokeType, IntegerOf, OffsetOf, StringOf, ArrayOf, StructOf, IntegralOf, UnionOf, Fields, NoFields, FieldThen, depth, fields_depth, parts_depth}
 use Rattle.pickle_types.specs.Scopes.{Visible}
 use Rattle.pickle_types.specs.Names.{Names, find_type}
-use Rattle.pickle_types.specs.Operators.{whole, number_in}
-use Rattle.pickle_types.specs.Expressions.{◌>>=◌, or_wrong, Typed, scalar_type, scalar_sort, operand_of, integer_or_wrong, in_range, integer_referred, offset_referred, Meant, typed}
-use Rattle.pickle_types.specs.Meaning.{limited, plain, integer_expression, offset_in, offset_expression, bound_by, bound_expression, unless_found, has_name, fresh, bit_width, has_some, has_none, may_stand, if_here, after_field, with_itself, FieldMeaning, field_meaning, field_then, parts_of, total_width, integral_type, if_some_alternative, struct_place, meaning, fields_meaning, unless_declared, declared_type, declared}
-use Rattle.pickle_types.specs.WellTyped.{Refers, HasBits, HasSort, IsTruth, IsLabel, IsBound, IsFresh, HasWidth, IsPrefixed, MayStand, Means, FieldsMean, Declares}
+use Rattle.pickle_types.specs.Operators.{number_in}
+use Rattle.pickle_types.specs.Expressions.{◌>>=◌, or_wrong, scalar_sort, operand_of, integer_or_wrong, in_range, integer_referred, offset_referred, Meant, typed}
+use Rattle.pickle_types.specs.Meaning.{limited, plain, integer_expression, offset_in, offset_expression, bound_by, bound_expression, unless_found, has_name, fresh, bit_width, has_some, has_none, may_stand, if_here, after_field, with_itself, FieldMeaning, field_meaning, parts_of, total_width, integral_type, struct_place, meaning, fields_meaning, unless_declared, declared_type, declared}
+use Rattle.pickle_types.specs.WellTyped.{Refers, HasSort, IsTruth, IsLabel, IsBound, IsFresh, HasWidth, IsPrefixed, MayStand, Means, FieldsMean, Declares}
 use Rattle.pickle_types.proofs.Rules.{bind_if, some_is, in_range_whole, number_is, integer_is, integer_referred_sound, integer_referred_whole, offset_referred_sound, offset_referred_whole, referred_sound, typed_sound, typed_whole}
 
 module _ (names : Names) (seen : List Visible) (levels : ℕ) where

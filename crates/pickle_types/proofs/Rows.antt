@@ -1,17 +1,16 @@
 -- What the definitions say of small pickles.
-use Rattle.std.proofs.Common.{◌≡◌, ℕ, zero, suc, ◌+◌, List, [], ◌∷◌, ◌++◌, map, Option, Some, None, Result, Ok, Err, Bool, true, false, refl}
+use Rattle.std.proofs.Common.{◌≡◌, ℕ, List, [], ◌∷◌, Option, Some, None, Result, Ok, Err, true, false, refl}
 use Rattle.std.specs.Prelude.{codes}
 use Rattle.pickle_syntax.specs.declared.token.Number.{Number}
-use Rattle.pickle_syntax.specs.declared.token.Attribute.TheVariants.{Length, Size}
-use Rattle.pickle_syntax.specs.declared.tree.ByteOrder.{ByteOrder}
+use Rattle.pickle_syntax.specs.declared.token.Attribute.TheVariants.{Length}
 use Rattle.pickle_syntax.specs.declared.tree.ByteOrder.TheVariants.{Big}
 use Rattle.pickle_syntax.specs.declared.tree.Infix.TheVariants.{Equal, NotEqual, Add}
-use Rattle.pickle_syntax.specs.declared.tree.Unit.TheVariants.{Bit, Byte, Bits}
+use Rattle.pickle_syntax.specs.declared.tree.Unit.TheVariants.{Byte, Bits}
 use Rattle.pickle_syntax.specs.Tree.{Tree, TreeReference, Int, Uint, Called, FieldParts, FormTree, Plain, StringForm, OffsetForm, ArrayForm, StructForm, IntegralForm, UnionForm, FieldTrees, DeclarationTree}
 use Rattle.pickle_syntax.specs.Tree as tree
 use Rattle.pickle_types.specs.declared.fault.FaultKind.{FaultKind}
-use Rattle.pickle_types.specs.declared.fault.FaultKind.TheVariants.{UnknownType, DuplicateType, UnknownName, DuplicateField, Mismatch, Width, IntegralWidths, NotHere, TooDeep}
-use Rattle.pickle_types.specs.Types.{PokeType, StructOf, NoFields, depth}
+use Rattle.pickle_types.specs.declared.fault.FaultKind.TheVariants.{UnknownType, DuplicateType, UnknownName, DuplicateField, Mismatch, Width, IntegralWidths, NotHere}
+use Rattle.pickle_types.specs.Types.{depth}
 use Rattle.pickle_types.specs.Names.{Names, predeclared}
 use Rattle.pickle_types.specs.Expressions.{typed}
 use Rattle.pickle_types.specs.Meaning.{integer_expression, offset_expression, bound_expression, fresh, meaning, fields_meaning, declared_type, declared}

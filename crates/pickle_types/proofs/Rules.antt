@@ -1,5 +1,5 @@
 -- The type of an expression is found exactly where the rules give it one.
-use Rattle.std.proofs.Common.{◌≡◌, ℕ, zero, suc, ◌+◌, ◌-◌, ◌<◌, ◌≤◌, ◌%◌, List, Option, Some, None, Result, Ok, Err, Bool, true, false, refl, sym, ap, subst, ◌∙◌, arith, eqb-true}
+use Rattle.std.proofs.Common.{◌≡◌, ℕ, zero, suc, ◌<◌, ◌≤◌, ◌%◌, List, Option, Some, None, Result, Ok, Err, Bool, true, false, refl, sym, ap, arith, eqb-true}
 use Rattle.std.specs.Prelude.{IfOk, nat_le, nat_eq, ◌&&◌, if◌then◌else◌}
 use Rattle.std.specs.Int.{IsGcd}
 use Rattle.std.proofs.lemmas.Bool.{and_parts, leb-true, le-leb, eq-eqb}
@@ -20,10 +20,9 @@ use Rattle.pickle_types.specs.declared.fault.FaultKind.TheVariants.{UnknownType,
 use Rattle.pickle_types.specs.declared.check.operators.Scalar.{Scalar}
 use Rattle.pickle_types.specs.declared.check.operators.Scalar.TheVariants.{Integer, Offset}
 use Rattle.pickle_types.specs.Types.{Term, Bound, PokeType, IntegerOf, OffsetOf, StringOf, ArrayOf, StructOf, IntegralOf, UnionOf, Fields, Parts}
-use Rattle.pickle_types.specs.Types as types
 use Rattle.pickle_types.specs.Scopes.{Visible, resolve}
 use Rattle.pickle_types.specs.Names.{Names, find_type}
-use Rattle.pickle_types.specs.Operators.{whole, common, divisor_in, greatest_divisor, arithmetic, sum, product, quotient, shift, logic, comparison, between_numbers, between_texts, between, before, choice, chosen, same_sign, same_type, number_in, integer_operand}
+use Rattle.pickle_types.specs.Operators.{whole, common, divisor_in, greatest_divisor, arithmetic, sum, product, quotient, shift, logic, comparison, between_numbers, between_texts, between, before, choice, same_sign, same_type, number_in}
 use Rattle.pickle_types.specs.Expressions.{◌>>=◌, or_wrong, Sort, TextLiteral, Typed, scalar_type, scalar_sort, type_operand, operand_of, type_in, sort_element, find_field, find_part, field_in, sort_field, integer_or_wrong, in_range, referred, operand_referred, integer_referred, unit_bits, offset_referred, target_type, converted, is_path, if_path, common_in, Meant, suffixed, typed}
 use Rattle.pickle_types.specs.WellTyped.{IsArithmetic, IsLogical, both, either, IsShift, left, right, IsEquality, same, different, IsComparison, equality, less, at_most, greater, at_least, IsOffsetSum, InfixRule, IsSign, plus, minus, PrefixRule, ChoiceRule, Refers, HasBits, Converts, IsPath, HasField, HasSort}
 use Rattle.pickle_types.specs.WellTyped as rule

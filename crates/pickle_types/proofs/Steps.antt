@@ -1,17 +1,17 @@
 -- A table that grows keeps what names and fields mean.
-use Rattle.std.proofs.Common.{◌≡◌, ℕ, zero, suc, ◌+◌, ◌-◌, ◌<◌, ◌≤◌, List, [], ◌∷◌, ◌++◌, map, Option, Some, None, Result, Ok, Err, length, take, refl, sym, ap, ◌∙◌, arith, Vec, Global}
+use Rattle.std.proofs.Common.{◌≡◌, ℕ, suc, List, [], ◌∷◌, ◌++◌, map, Option, Result, length, refl, ap, ◌∙◌, arith, Vec, Global}
 use Rattle.std.specs.Prelude.{All}
 use Rattle.std.specs.Map.{values_of}
-use Rattle.std.proofs.lemmas.List.{map_push, append_assoc, take_all}
+use Rattle.std.proofs.lemmas.List.{map_push, append_assoc}
 use Rattle.std.proofs.lemmas.List.Elements.{All-append}
 use Rattle.pickle_types.specs.declared.fault.FaultKind.{FaultKind}
 use Rattle.pickle_types.specs.declared.fault.FaultKind.TheVariants.{Memory}
 use Rattle.pickle_types.specs.declared.table.Node.{Node}
 use Rattle.pickle_types.specs.declared.scopes.Seen.{Seen}
 use Rattle.pickle_types.specs.declared.names.Declared.{Declared}
-use Rattle.pickle_types.specs.Types.{PokeType, depth}
+use Rattle.pickle_types.specs.Types.{PokeType}
 use Rattle.pickle_types.specs.Table.{type_of, IsTable, Grows}
-use Rattle.pickle_types.specs.Scopes.{Visible, sees}
+use Rattle.pickle_types.specs.Scopes.{sees}
 use Rattle.pickle_types.specs.Expressions.{◌>>=◌}
 use Rattle.pickle_types.specs.Built.{Fails, bytes_now, view_of, views_of, IsInLevel, AreBelow, named_of, IsNamed}
 use Rattle.pickle_types.proofs.Growth.{type_kept, longer}

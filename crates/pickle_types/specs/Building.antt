@@ -1,5 +1,5 @@
 -- What a builder of types has built.
-use Rattle.std.specs.Prelude.{◌≡◌, ℕ, ◌+◌, ◌<◌, ◌≤◌, length, List, [], ◌∷◌, ◌++◌, take, Option, Some, None, Result, Ok, Err, Bool, true, false, ◌&&◌, nat_le, Vec}
+use Rattle.std.specs.Prelude.{◌≡◌, ℕ, ◌+◌, ◌<◌, length, List, [], ◌∷◌, ◌++◌, take, Option, Some, None, Result, Ok, Err, Bool, true, false, ◌&&◌, nat_le, Vec}
 use denote.Bor.{Bor}
 use Rattle.std.specs.declared.alloc.Global.{Global}
 use Rattle.pickle_syntax.specs.Tree.{FieldParts}

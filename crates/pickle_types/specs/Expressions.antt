@@ -1,5 +1,5 @@
 -- The type of an expression, with its names resolved; or what is wrong with it.
-use Rattle.std.specs.Prelude.{ℕ, ◌+◌, ◌-◌, List, [], ◌∷◌, Option, Some, None, Result, Ok, Err, Bool, true, false, ◌&&◌, nat_le, if◌then◌else◌}
+use Rattle.std.specs.Prelude.{ℕ, ◌+◌, ◌-◌, List, Option, Some, None, Result, Ok, Err, Bool, true, false, ◌&&◌, nat_le, if◌then◌else◌}
 use Rattle.pickle_syntax.specs.declared.token.Number.{Number as Numeral}
 use Rattle.pickle_syntax.specs.declared.token.Attribute.TheVariants.{Length, Size}
 use Rattle.pickle_syntax.specs.declared.tree.Prefix.{Prefix}
@@ -19,7 +19,7 @@ use Rattle.pickle_types.specs.Types.{Term, PokeType, IntegerOf, OffsetOf, String
 use Rattle.pickle_types.specs.Types as types
 use Rattle.pickle_types.specs.Scopes.{Visible, is_named, resolve}
 use Rattle.pickle_types.specs.Names.{Names, find_type}
-use Rattle.pickle_types.specs.Operators.{whole, before, between, choice, integer_operand, number_in, integer_in}
+use Rattle.pickle_types.specs.Operators.{whole, before, between, choice, integer_operand, number_in}
 
 infixl 10 ◌>>=◌
 abbrev pub ◌>>=◌ : {A B : Type 0} → Result A FaultKind → (A → Result B FaultKind) → Result B FaultKind

@@ -1,6 +1,5 @@
 -- The type that a form means, and the types that a pickle declares; or what is wrong with them.
 use Rattle.std.specs.Prelude.{ℕ, zero, suc, ◌+◌, length, List, [], ◌∷◌, ◌++◌, Option, Some, None, Result, Ok, Err, Bool, true, false, ◌&&◌, ◌||◌, nat_le, nat_eq, if◌then◌else◌}
-use Rattle.pickle_syntax.specs.declared.tree.ByteOrder.{ByteOrder}
 use Rattle.pickle_syntax.specs.declared.tree.Unit.{Unit as PokeUnit}
 use Rattle.pickle_syntax.specs.Tree.{Tree, TreeReference, Int, Uint, Called, FieldParts, FormTree, Plain, StringForm, OffsetForm, ArrayForm, StructForm, IntegralForm, UnionForm, FieldTrees, DeclarationTree}
 use Rattle.pickle_syntax.specs.Tree as tree
@@ -13,7 +12,7 @@ use Rattle.pickle_types.specs.declared.check.places.Place.{Place}
 use Rattle.pickle_types.specs.declared.check.places.Place.TheVariants as place
 use Rattle.pickle_types.specs.Types.{Term, Bound, Unbounded, ByCount, BySize, PokeType, IntegerOf, OffsetOf, StringOf, ArrayOf, StructOf, IntegralOf, UnionOf, Fields, NoFields, FieldThen, Parts, NoParts, PartThen, depth}
 use Rattle.pickle_types.specs.Scopes.{Visible, is_named, sees}
-use Rattle.pickle_types.specs.Names.{Names, find_type, predeclared}
+use Rattle.pickle_types.specs.Names.{Names, find_type}
 use Rattle.pickle_types.specs.Operators.{number_in}
 use Rattle.pickle_types.specs.Expressions.{◌>>=◌, or_wrong, scalar_type, operand_of, integer_or_wrong, in_range, integer_referred, offset_referred, typed}
 

@@ -17,11 +17,11 @@ use Rattle.pickle_types.specs.declared.check.places.Place.{Place}
 use Rattle.pickle_types.specs.declared.check.places.Place.TheVariants as place
 use Rattle.pickle_types.specs.Types.{Term, Bound, Unbounded, ByCount, BySize, PokeType, IntegerOf, OffsetOf, StringOf, ArrayOf, StructOf, IntegralOf, UnionOf, Fields, NoFields, FieldThen, Parts, NoParts, PartThen, depth}
 use Rattle.pickle_types.specs.Types as types
-use Rattle.pickle_types.specs.Scopes.{Visible, resolve, sees}
+use Rattle.pickle_types.specs.Scopes.{Visible, resolve}
 use Rattle.pickle_types.specs.Names.{Names, find_type}
 use Rattle.pickle_types.specs.Operators.{whole, truth, common}
 use Rattle.pickle_types.specs.Expressions.{Sort, TextLiteral, Typed, find_field, find_part}
-use Rattle.pickle_types.specs.Meaning.{has_name, place_in, with_itself, after_field, struct_place, parts_of, total_width}
+use Rattle.pickle_types.specs.Meaning.{has_name, with_itself, after_field, struct_place, parts_of, total_width}
 
 -- operators on integers, whose result has the common type
 pub data IsArithmetic : Infix → Type 0 where

@@ -1,5 +1,8 @@
 //! Pickles that are refused, and pickles that are accepted.
 
+ghost use Rattle.std.specs.Prelude.{IfOk};
+ghost use Rattle.pickle_types.specs.TypeTable.{IsSound};
+
 use crate::fault::FaultKind;
 use crate::type_table::Table;
 use pickle_syntax::lexer::lex;
@@ -8,7 +11,9 @@ use std::alloc::Global;
 use std::test::Fail;
 
 /// The table of a pickle's types, or the fault and the declaration that has it.
-fn built(alloc: Global, text: &[u8]) -> Result<Result<Table, (FaultKind, usize)>, Fail> {
+fn built(alloc: Global, text: &[u8]) -> Result<Result<Table, (FaultKind, usize)>, Fail>
+    ensures { IfOk result (λ r. IfOk r IsSound) }
+{
     let tokens = lex(alloc, text)?;
     let pickle = parse(alloc, &tokens)?;
     match Table::build(alloc, &pickle) {
@@ -289,5 +294,77 @@ fn depth_with_names_opened(rt: HostRuntime) -> Result<(), Fail> {
         63,
     )?;
     assert_eq!(rt; fault_of(alloc, &doubled)?, None);
+    Ok(())
+}
+
+/// The most steps and slots of a declared type, if there is one of that name.
+fn bounds_of(
+    alloc: Global,
+    text: &[u8],
+    name: &[u8],
+    bits: u64,
+) -> Result<Option<(Option<u128>, Option<u128>)>, Fail> {
+    match built(alloc, text)? {
+        Ok(table) => match table.find(name) {
+            Some(id) => Ok(Some((table.step_bound(id, bits), table.slot_bound(id, bits)))),
+            None => Ok(None),
+        },
+        Err(_) => Ok(None),
+    }
+}
+
+#[test]
+fn bounds_of_worked_types(rt: HostRuntime) -> Result<(), Fail> {
+    let alloc = rt.alloc();
+    let cases: [(&[u8], &[u8], u64, u128, u128); 5] = [
+        (
+            b"type E = struct { byte v : v != 0; }; type A = struct { E[] es; byte z; };",
+            b"A",
+            24,
+            33,
+            21,
+        ),
+        (
+            b"type T1 = byte[]; type T2 = T1[]; type T3 = T2[];",
+            b"T3",
+            24,
+            6301,
+            6301,
+        ),
+        (
+            b"type U = union { ushort a : a == 1; byte b; }; type T = U[];",
+            b"T",
+            24,
+            37,
+            17,
+        ),
+        (
+            b"type T = union { string a : 0 != 0; string b; };",
+            b"T",
+            8008,
+            2012,
+            1005,
+        ),
+        (b"type S = string;", b"S", 25, 5, 5),
+    ];
+    for case in cases {
+        assert_eq!(rt;
+            bounds_of(alloc, case.0, case.1, case.2)?,
+            Some((Some(case.3), Some(case.4)))
+        );
+    }
+    let doubled = chain(
+        alloc,
+        b"struct { byte a; byte b; }",
+        &[b"struct { ", b" a; ", b" b; }"],
+        63,
+    )?;
+    let bounds = bounds_of(alloc, &doubled, b"T63", 24)?;
+    assert!(rt; matches!(bounds, Some((Some(36893488147419103229), _))));
+    let arrays = chain(alloc, b"byte[]", &[b"", b"[]"], 4)?;
+    assert_eq!(rt;
+        bounds_of(alloc, &arrays, b"T4", 1099511627776)?,
+        Some((None, None))
+    );
     Ok(())
 }

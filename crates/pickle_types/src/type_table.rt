@@ -5,13 +5,13 @@ ghost use Rattle.pickle_syntax.specs.Tree.{declaration_tree, pickle_tree};
 ghost use Rattle.pickle_types.specs.Types;
 ghost use Rattle.pickle_types.specs.Types.{IntegerOf};
 ghost use Rattle.pickle_types.specs.Table.{type_of, IsWidth};
+ghost use Rattle.pickle_types.specs.Bounds.{IsBound, cost, room};
 ghost use Rattle.pickle_types.specs.Names.{predeclared, find_type};
 ghost use Rattle.pickle_types.specs.Meaning.{declared_type, declared};
 ghost use Rattle.pickle_types.specs.WellTyped.{Declares};
 ghost use Rattle.pickle_types.specs.Built.{Fails};
 ghost use Rattle.pickle_types.specs.Building.{known_types, IsReady, AddsType, named_types, may_add};
-ghost use Rattle.pickle_types.specs.TypeTable.{types_of, count_of, type_named, IsInTable, IsSound, IsTypeFound, IsWellTyped};
-ghost use Rattle.pickle_types.specs.Bounds.{IsBound, cost, room};
+ghost use Rattle.pickle_types.specs.TypeTable.{type_named, types_of, count_of, IsSound, IsInTable, IsTypeFound, IsWellTyped};
 
 use crate::bounds::type_bounds;
 use crate::check::types::{Builder, Found, Title};
@@ -192,6 +192,24 @@ impl Table {
         }
     }
 
+    /// The most steps of a mapping of a type over so many bits, discarded attempts included; None from 2^128 on.
+    pub fn step_bound(&self, id: TypeId, bits: u64) -> Option<u128>
+        requires sound { IsSound self.now }
+        requires known { IsInTable self.now id }
+        ensures { IsBound result (cost (type_named self.now id) bits) }
+    {
+        type_bounds(&self.nodes, &self.roots, bits, id.node).steps
+    }
+
+    /// The most slots of each kind that a mapping of a type over so many bits takes; None from 2^128 on.
+    pub fn slot_bound(&self, id: TypeId, bits: u64) -> Option<u128>
+        requires sound { IsSound self.now }
+        requires known { IsInTable self.now id }
+        ensures { IsBound result (room (type_named self.now id) bits) }
+    {
+        type_bounds(&self.nodes, &self.roots, bits, id.node).slots
+    }
+
     /// How many types are declared.
     pub fn len(&self) -> usize
         ensures { result ≡ count_of self.now }
@@ -203,23 +221,5 @@ impl Table {
         ensures { IsTrue result ↔ (count_of self.now ≡ 0) }
     {
         self.declared == 0
-    }
-
-    /// The most steps that a mapping of a type over so many bits takes; nothing from 2^128 on.
-    pub fn step_bound(&self, ty: TypeId, bits: u64) -> Option<u128>
-        requires sound { IsSound self.now }
-        requires ty { IsInTable self.now ty }
-        ensures { IsBound result (cost (type_named self.now ty) bits) }
-    {
-        type_bounds(&self.nodes, &self.roots, bits, ty.node).steps
-    }
-
-    /// The most slots of each kind that a mapping of a type over so many bits fills; nothing from 2^128 on.
-    pub fn slot_bound(&self, ty: TypeId, bits: u64) -> Option<u128>
-        requires sound { IsSound self.now }
-        requires ty { IsInTable self.now ty }
-        ensures { IsBound result (room (type_named self.now ty) bits) }
-    {
-        type_bounds(&self.nodes, &self.roots, bits, ty.node).slots
     }
 }

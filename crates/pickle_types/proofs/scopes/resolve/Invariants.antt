@@ -1,4 +1,4 @@
-use Rattle.std.proofs.Common.{◌≡◌, ◌≤◌, ℕ, List, Option, None, length, drop}
+use Rattle.std.proofs.Common.{◌≡◌, ◌≤◌, List, None, length, drop}
 use Rattle.pickle_types.specs.declared.table.Node.{Node}
 use Rattle.pickle_types.specs.Scopes.{resolve}
 use Rattle.pickle_types.specs.Built.{views_of}

@@ -1,13 +1,12 @@
-use Rattle.std.proofs.Common.{◌≡◌, ◌∷◌, [], ◌+◌, ◌-◌, ◌<◌, ◌≤◌, Ok, Err, None, ℕ, length, drop, refl, sym, ap, ◌∙◌, arith, rules, eqb-true}
+use Rattle.std.proofs.Common.{◌≡◌, [], ◌+◌, length, drop, refl, sym, ap, ◌∙◌, arith, eqb-true}
 use Rattle.std.proofs.lemmas.Bool.{eqb-false}
 use Rattle.std.proofs.lemmas.List.{take_all}
 use Rattle.std.proofs.lemmas.Result.{err_from_is_err_and}
-use Rattle.pickle_syntax.specs.declared.tree.Field as tree
-use Rattle.pickle_syntax.specs.Tree.{Plain, StringForm, OffsetForm, reference_tree, optional_tree, form_tree, field_tree, fields_tree}
+use Rattle.pickle_syntax.specs.Tree.{Plain, StringForm, OffsetForm, reference_tree, optional_tree, form_tree, fields_tree}
 use Rattle.pickle_types.specs.Types.{depth}
 use Rattle.pickle_types.specs.Table.{type_of}
-use Rattle.pickle_types.specs.Meaning.{struct_place, field_meaning, meaning, fields_meaning}
-use Rattle.pickle_types.specs.Built.{bytes_now, names_in}
+use Rattle.pickle_types.specs.Meaning.{meaning}
+use Rattle.pickle_types.specs.Built.{bytes_now}
 use Rattle.pickle_types.specs.Building.{known_types, visible_in}
 use Rattle.pickle_types.proofs.Forms.{reference_form, string_form, offset_form}
 use Rattle.pickle_types.proofs.Growth.{type_kept}

@@ -1,4 +1,4 @@
-use Rattle.std.proofs.Common.{◌≡◌, ◌+◌, ◌∙◌, Ok, length, refl, arith}
+use Rattle.std.proofs.Common.{◌≡◌, ◌∙◌, Ok, length, refl}
 use Rattle.std.proofs.lemmas.Result.{err_from_is_err_and}
 use Rattle.pickle_syntax.specs.Tree.{field_tree}
 use Rattle.pickle_types.specs.declared.scopes.Seen.{Seen}
