@@ -130,7 +130,7 @@ fn writes_values_and_faults(rt: HostRuntime) -> Result<(), Fail> {
             ask(b"byte", 4, Order::Big, LIMIT),
             b"\x01\x02\x03",
             b"",
-            b"refused NoSuchType\n",
+            b"refused NotYet\n",
             Status::Refused,
         ),
         (
@@ -143,7 +143,7 @@ fn writes_values_and_faults(rt: HostRuntime) -> Result<(), Fail> {
         ),
         (
             b"type P = byte;",
-            ask(b"Q", 0, Order::Big, LIMIT),
+            ask(b"P", 0, Order::Big, LIMIT),
             b"",
             b"",
             b"refused NotYet\n",
