@@ -49,7 +49,7 @@ module _ (nodes : List Node) where
   unfolding kept
   closed_value label start size end old e =
       let inside : shown_parts nodes (tree.parts_of (stored.top_of (levels old))) ≡ gathered (top_of (shown_levels nodes (levels old))) =
-          shown_gathered nodes (stored.top_of (levels old)) ∙ ap gathered (shown_top nodes (levels old)) in
+      shown_gathered nodes (stored.top_of (levels old)) ∙ ap gathered (shown_top nodes (levels old)) in
       ap (λ n. Mapped (shown_label nodes label) start n (shown_parts nodes (tree.parts_of (stored.top_of (levels old))))) e
       ∙ ap (Mapped (shown_label nodes label) start end) inside
 

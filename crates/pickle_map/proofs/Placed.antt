@@ -61,7 +61,10 @@ stack-last s u n h g e =
 leaf-new : (shape : Shape) (start c : ℕ) (s : Slots) → IsNumber shape → NewNode s (with_leaf shape start c s) (record { start = start; content = c; shape = shape })
 leaf-new shape start c s number = record {
   grows = record {
-    more_families = []; more_links = []; more_texts = []; more_bytes = [];
+    more_families = [];
+    more_links = [];
+    more_texts = [];
+    more_bytes = [];
     families = sym (append-nil s.families);
     links = sym (append-nil s.links);
     texts = sym (append-nil s.texts);
@@ -110,9 +113,10 @@ number-adds shape start c s number sound =
 -- texts
 
 text-row : (bytes : List ℕ) (start : ℕ) (s : Slots) → IsSound s → (first_byte (with_text bytes start s).texts (length s.texts) ≡ length s.bytes) × (slice_index (with_text bytes start s).texts (length s.texts) ≡ length s.bytes + length bytes)
-text-row bytes start s sound =
-    (first_byte-grow s.texts ((length s.bytes + length bytes) ∷ []) (length s.texts) (omega arith) ∙ sound.bytes,
-    get_or-append_seam s.texts (length s.bytes + length bytes) [] 0)
+text-row bytes start s sound = (
+  first_byte-grow s.texts ((length s.bytes + length bytes) ∷ []) (length s.texts) (omega arith) ∙ sound.bytes,
+  get_or-append_seam s.texts (length s.bytes + length bytes) [] 0,
+)
 
 text-new : (bytes : List ℕ) (start : ℕ) (s : Slots) → IsSound s → IsShort (length bytes) → NewNode s (with_text bytes start s) (record { start = start; content = length s.texts; shape = Text })
 text-new bytes start s sound short =
@@ -120,7 +124,10 @@ text-new bytes start s sound short =
     let count : (length s.bytes + length bytes) - length s.bytes ≡ length bytes = omega arith in
     record {
       grows = record {
-        more_families = []; more_links = []; more_texts = (length s.bytes + length bytes) ∷ []; more_bytes = bytes;
+        more_families = [];
+        more_links = [];
+        more_texts = (length s.bytes + length bytes) ∷ [];
+        more_bytes = bytes;
         families = sym (append-nil s.families);
         links = sym (append-nil s.links);
         texts = refl;
@@ -233,7 +240,10 @@ module _ (shape : Shape) (start size mark : ℕ) (s : Slots) (composite : IsComp
       let u = with_family shape start size mark s in
       record {
         grows = record {
-          more_families = record { end = length s.links + (length s.pending - mark); size = size } ∷ []; more_links = drop mark s.pending; more_texts = []; more_bytes = [];
+          more_families = record { end = length s.links + (length s.pending - mark); size = size } ∷ [];
+          more_links = drop mark s.pending;
+          more_texts = [];
+          more_bytes = [];
           families = refl;
           links = refl;
           texts = sym (append-nil s.texts);
@@ -241,12 +251,13 @@ module _ (shape : Shape) (start size mark : ℕ) (s : Slots) (composite : IsComp
         };
         nodes = refl;
         is = record {
-          content = family-content u shape (length s.families) composite
-              (omega (arith, length_push s.families (record { end = length s.links + (length s.pending - mark); size = size })),
-              record {
-                ordered = omega (arith, family-first, ap (λ (f : Family). f.end) family-end);
-                within = omega (arith, ap (λ (f : Family). f.end) family-end, length-append s.links (drop mark s.pending), length-drop mark s.pending);
-              });
+          content = family-content u shape (length s.families) composite (
+            omega (arith, length_push s.families (record { end = length s.links + (length s.pending - mark); size = size })),
+            record {
+              ordered = omega (arith, family-first, ap (λ (f : Family). f.end) family-end);
+              within = omega (arith, ap (λ (f : Family). f.end) family-end, length-append s.links (drop mark s.pending), length-drop mark s.pending);
+            },
+          );
           below = rw (family-links u shape (length s.families) composite, family-row) (LinksBelow-drop (length s.nodes) mark s.pending sound.pending);
         };
       }
@@ -308,7 +319,10 @@ family-adds shape start size k s composite sound is below =
 -- a field that is not there
 absent-same : (s : Slots) → Grows s (with_absent s)
 absent-same s = record {
-  more_families = []; more_links = []; more_texts = []; more_bytes = [];
+  more_families = [];
+  more_links = [];
+  more_texts = [];
+  more_bytes = [];
   families = sym (append-nil s.families);
   links = sym (append-nil s.links);
   texts = sym (append-nil s.texts);

@@ -139,8 +139,9 @@ pub follow_after_some : {world : World} {limit : ℕ} {A : Type 0} (n : ℕ) (a 
 follow_after_some zero a le lt ek ej = absurd (omega (arith, le, lt))
 follow_after_some {limit} (suc n) a {k} {j} le lt ek ej =
     elim (cases_lt k limit) [
-      inl less ↦ follow_tick {k1 = k + 1} {j1 = j} refl refl refl (follow_after_some n a (omega (arith, less)) (omega (arith, lt)) ek ej)
-    | inr more ↦ follow_no_tick (let same : _ ≡ k = ek ∙ omega (arith, le, more) in same) ek ej ]
+      | inl less ↦ follow_tick {k1 = k + 1} {j1 = j} refl refl refl (follow_after_some n a (omega (arith, less)) (omega (arith, lt)) ek ej)
+      | inr more ↦ follow_no_tick (let same : _ ≡ k = ek ∙ omega (arith, le, more) in same) ek ej
+    ]
 
 -- a plan whose start is inside
 pub follow_inside : {world : World} {limit : ℕ} {A : Type 0} (m s : ℕ) (p : Plan (Result A FaultAt)) {k j k' j' : ℕ} {finish : Finish (Result A FaultAt)} → s ≤ m → Follows world limit p k j k' j' finish → Follows world limit (from_inside m s p) k j k' j' finish

@@ -98,7 +98,7 @@ stale-some h (b ∷ bytes) start outer w n = omega arith
 
 -- a byte more of a text that is fresh, or not
 module _ (h : Held) (byte : ℕ) (bytes : List ℕ) (start : ℕ) (outer : Levels) (w : IsWriting h bytes start outer) where
-  pub fresh-levels : length h.slots.nodes ≡ (innermost h.frames).nodes → pushed (levels h) (Some (text_value (byte ∷ []) start) ) ≡ text_level (bytes ++ byte ∷ []) start outer
+  pub fresh-levels : length h.slots.nodes ≡ (innermost h.frames).nodes → pushed (levels h) (Some (text_value (byte ∷ []) start)) ≡ text_level (bytes ++ byte ∷ []) start outer
   fresh-levels e =
       let none = fresh-empty h bytes start outer w e in
       let w' : IsWriting h [] start outer = subst (λ bs. IsWriting h bs start outer) none w in

@@ -8,7 +8,6 @@ pub mod laws;
 pub mod map;
 pub mod memory;
 pub mod store;
-pub mod value;
-
 #[cfg(test)]
 mod tests;
+pub mod value;

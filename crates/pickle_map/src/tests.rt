@@ -28,7 +28,14 @@ fn build(store: &mut Store) -> Result<(), Memory>
     store.close_struct(4, 8, 45)
 }
 
-fn expect_integer(rt: &impl Abort, value: Option<ValueRef<'_>>, number: i128, width: u8, signed: bool, start: u64) {
+fn expect_integer(
+    rt: &impl Abort,
+    value: Option<ValueRef<'_>>,
+    number: i128,
+    width: u8,
+    signed: bool,
+    start: u64,
+) {
     match value {
         Some(value) => {
             assert_eq!(rt; value.kind(), Kind::Integer);
@@ -62,7 +69,11 @@ fn expect_record(rt: &impl Abort, store: &Store) {
     expect_integer(rt, record.child(1), -2048, 12, true, 16);
     assert!(rt; record.child(4).is_none());
     assert!(rt; record.child(6).is_none());
-    let (Some(units), Some(array), Some(union)) = (record.child(2), record.child(3), record.child(5)) else {
+    let (Some(units), Some(array), Some(union)) = (
+        record.child(2),
+        record.child(3),
+        record.child(5),
+    ) else {
         assert!(rt; false, "a field is missing");
         return;
     };

@@ -25,7 +25,11 @@ pub fn put_bounds<W: Write>(
 
 /// Writes a line with a name and a bound.
 #[tactic(auto, using(crate::proofs::Parts::written), unfolding(crate::specs::BoundText::bound_line))]
-pub(crate) fn put_line<W: Write>(w: &mut W, name: &[u8], bound: Option<u128>) -> Result<(), WriteFault>
+pub(crate) fn put_line<W: Write>(
+    w: &mut W,
+    name: &[u8],
+    bound: Option<u128>,
+) -> Result<(), WriteFault>
     ensures ok { OnOk result (Appends (W.contents w.old) (W.contents w.new) (bound_line name.now bound)) }
     ensures err { OnErr result (AppendsPart (W.contents w.old) (W.contents w.new) (bound_line name.now bound)) }
 {

@@ -29,12 +29,27 @@ fn tells_bounds(rt: HostRuntime) -> Result<(), Fail> {
 
 #[test]
 fn bounds_types_of_pickles(rt: HostRuntime) -> Result<(), Fail> {
-    let elements = b"type E = struct { byte v : v != 0; }; type A = struct { E[] es; byte z; };".as_slice();
+    let elements =
+        b"type E = struct { byte v : v != 0; }; type A = struct { E[] es; byte z; };".as_slice();
     let arrays = b"type T1 = byte[]; type T2 = T1[]; type T3 = T2[]; type T4 = T3[];".as_slice();
     let unions = b"type U = union { ushort a : a == 1; byte b; }; type T = U[];".as_slice();
     let rows: [(&[u8], &[u8], u64, &[u8], &[u8], Status); 9] = [
-        (elements, b"A", 24, b"steps 33\nslots 21\n", b"", Status::Done),
-        (arrays, b"T3", 24, b"steps 6301\nslots 6301\n", b"", Status::Done),
+        (
+            elements,
+            b"A",
+            24,
+            b"steps 33\nslots 21\n",
+            b"",
+            Status::Done,
+        ),
+        (
+            arrays,
+            b"T3",
+            24,
+            b"steps 6301\nslots 6301\n",
+            b"",
+            Status::Done,
+        ),
         (
             arrays,
             b"T4",
@@ -44,11 +59,39 @@ fn bounds_types_of_pickles(rt: HostRuntime) -> Result<(), Fail> {
             Status::Done,
         ),
         (unions, b"T", 24, b"steps 37\nslots 17\n", b"", Status::Done),
-        (unions, b"byte", 24, b"steps 1\nslots 1\n", b"", Status::Done),
-        (b"type S = string;", b"S", 25, b"steps 5\nslots 5\n", b"", Status::Done),
+        (
+            unions,
+            b"byte",
+            24,
+            b"steps 1\nslots 1\n",
+            b"",
+            Status::Done,
+        ),
+        (
+            b"type S = string;",
+            b"S",
+            25,
+            b"steps 5\nslots 5\n",
+            b"",
+            Status::Done,
+        ),
         (b"", b"T", 24, b"", b"refused NoSuchType\n", Status::Refused),
-        (b"type T", b"T", 24, b"", b"refused Syntax at byte 6\n", Status::Refused),
-        (b"type T = U;", b"T", 24, b"", b"refused UnknownType in type 1\n", Status::Refused),
+        (
+            b"type T",
+            b"T",
+            24,
+            b"",
+            b"refused Syntax at byte 6\n",
+            Status::Refused,
+        ),
+        (
+            b"type T = U;",
+            b"T",
+            24,
+            b"",
+            b"refused UnknownType in type 1\n",
+            Status::Refused,
+        ),
     ];
     for (pickle, name, bits, text, line, expected) in rows {
         let mut out = Vec::new(rt.alloc());

@@ -34,10 +34,16 @@ const REFUSED: [(&[u8], &[u8]); 50] = [
     (b"type P = structs { uint<8> a; };", b"Syntax at byte 17"),
     (b"type P = struct { uint<8> a; };;", b"Syntax at byte 31"),
     (b"type P = struct { uint<8> a }; ", b"Syntax at byte 28"),
-    (b"type P = struct { uint<8> a; uint<16> a; };", b"DuplicateField in type 1"),
+    (
+        b"type P = struct { uint<8> a; uint<16> a; };",
+        b"DuplicateField in type 1",
+    ),
     (b"type P = struct { uint<0> a; };", b"Width in type 1"),
     (b"type P = struct { uint<72> a; };", b"Width in type 1"),
-    (b"type P = struct { uint<18446744073709551624> a; };", b"BadNumber at byte 23"),
+    (
+        b"type P = struct { uint<18446744073709551624> a; };",
+        b"BadNumber at byte 23",
+    ),
     (b"type P = struct { uint<> a; };", b"Syntax at byte 23"),
     (b"type P = struct { uint<8 8> a; };", b"Syntax at byte 25"),
     (b"type P = struct { uint <8> a; };", b"Syntax at byte 23"),
@@ -54,24 +60,54 @@ const REFUSED: [(&[u8], &[u8]); 50] = [
     (b"type A = byte", b"Syntax at byte 13"),
     (b"type A = byte[0b2];", b"BadNumber at byte 14"),
     (b"type A = byte['ab'];", b"BadByte at byte 14"),
-    (b"type A = struct { string s : s == \"a", b"Unclosed at byte 34"),
+    (
+        b"type A = struct { string s : s == \"a",
+        b"Unclosed at byte 34",
+    ),
     (b"type A = byte[1 2];", b"Syntax at byte 16"),
     (b"type A = byte[1 + ];", b"Syntax at byte 18"),
     (b"type A = struct { B x; };", b"UnknownType in type 1"),
     (b"type A = byte; type A = bit;", b"DuplicateType in type 2"),
-    (b"type A = struct { byte x : y; };", b"UnknownName in type 1"),
-    (b"type A = struct { byte x; bit x; };", b"DuplicateField in type 1"),
-    (b"type A = struct { byte x : \"a\"; };", b"Mismatch in type 1"),
+    (
+        b"type A = struct { byte x : y; };",
+        b"UnknownName in type 1",
+    ),
+    (
+        b"type A = struct { byte x; bit x; };",
+        b"DuplicateField in type 1",
+    ),
+    (
+        b"type A = struct { byte x : \"a\"; };",
+        b"Mismatch in type 1",
+    ),
     (b"type A = uint<65>;", b"Width in type 1"),
-    (b"type A = struct uint<8> { uint<4> a; };", b"IntegralWidths in type 1"),
+    (
+        b"type A = struct uint<8> { uint<4> a; };",
+        b"IntegralWidths in type 1",
+    ),
     (b"type A = union { byte; };", b"NotHere in type 1"),
     (b"type A = struct { big byte[] x; };", b"NotHere in type 1"),
     (b"type A = union {};", b"NotHere in type 1"),
-    (b"type A = pinned struct { byte a @ 0#B; };", b"NotHere in type 1"),
-    (b"type A = struct { byte x; byte y : x + 1#B; };", b"Mismatch in type 1"),
-    (b"type A = struct { byte x : x'length; };", b"Mismatch in type 1"),
-    (b"type A = union { byte a; byte b : a == 1; };", b"UnknownName in type 1"),
-    (b"type A = struct { byte n; }; type D = struct { byte k : n == 1; };", b"UnknownName in type 2"),
+    (
+        b"type A = pinned struct { byte a @ 0#B; };",
+        b"NotHere in type 1",
+    ),
+    (
+        b"type A = struct { byte x; byte y : x + 1#B; };",
+        b"Mismatch in type 1",
+    ),
+    (
+        b"type A = struct { byte x : x'length; };",
+        b"Mismatch in type 1",
+    ),
+    (
+        b"type A = union { byte a; byte b : a == 1; };",
+        b"UnknownName in type 1",
+    ),
+    (
+        b"type A = struct { byte n; }; type D = struct { byte k : n == 1; };",
+        b"UnknownName in type 2",
+    ),
     (b"type A = offset<uint<8>,0>;", b"Width in type 1"),
     (b"type A = B; type B = byte;", b"UnknownType in type 1"),
     (b"type A = struct { A a; };", b"UnknownType in type 1"),
@@ -86,8 +122,14 @@ fn counts_types(rt: HostRuntime) -> Result<(), Fail> {
     let rows: [(&[u8], &[u8]); 5] = [
         (b"", b"types 0\n"),
         (b" // no type", b"types 0\n"),
-        (b"type P = struct { uint<8> a; }; type Q = struct {};", b"types 2\n"),
-        (b"type E = struct { byte v : v > 0; }; type A = struct { E[2] es; byte z; };", b"types 2\n"),
+        (
+            b"type P = struct { uint<8> a; }; type Q = struct {};",
+            b"types 2\n",
+        ),
+        (
+            b"type E = struct { byte v : v > 0; }; type A = struct { E[2] es; byte z; };",
+            b"types 2\n",
+        ),
         (b"type A = byte; type B = A; type C = B[2];", b"types 3\n"),
     ];
     for (pickle, text) in rows {

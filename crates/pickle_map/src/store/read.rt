@@ -4,15 +4,14 @@ ghost use Rattle.pickle_map.specs.Kinds.{kind_of};
 ghost use Rattle.pickle_map.specs.Tree.{label, start, size, parts, part_at, number_of, signed_of, width_of, unit_of, bytes_of, type_of, taken_of};
 ghost use Rattle.pickle_map.specs.Levels.{part_in};
 ghost use Rattle.pickle_map.specs.Slots.{levels, marks_at, level_end, value_at, number_in, first_link, family_at, family_links, first_byte, text_bytes, links_of, IsContent, IsFamily, IsTextRow, IsRead};
-
 ghost use Rattle.pickle_map.specs.Ranges.{IsSmall};
 ghost use Rattle.pickle_map.specs.Scalars.{scalar_label, scalar_in, IsScalar};
 
 use crate::evaluate::integers::Scalar;
 use crate::store::Store;
 use crate::store::slots::{Link, Marks, Node, Shape};
-use pickle_types::integer::IntegerType;
 use crate::value::{Kind, ValueRef};
+use pickle_types::integer::IntegerType;
 
 // The number that 64 bits stand for.
 fn number_from(signed: bool, content: u64) -> i128
@@ -42,7 +41,11 @@ impl Store {
         requires { IsFamily self.now.slots family }
         ensures { result.now ≡ family_links self.now.slots.families self.now.slots.links family }
     {
-        let first = if family == 0 { 0 } else { self.families[family - 1].end };
+        let first = if family == 0 {
+            0
+        } else {
+            self.families[family - 1].end
+        };
         &self.links[first..self.families[family].end]
     }
 
@@ -62,7 +65,9 @@ impl Store {
     {
         match node.shape {
             Shape::Integer { .. } | Shape::Offset { .. } | Shape::Text => &[],
-            Shape::Array | Shape::Struct { .. } | Shape::Union { .. } => self.family(node.content as usize),
+            Shape::Array | Shape::Struct { .. } | Shape::Union { .. } => self.family(
+                node.content as usize,
+            ),
         }
     }
 
@@ -163,7 +168,8 @@ impl Store {
             Shape::Integer { width, .. } => u64::from(width),
             Shape::Offset { width, .. } => u64::from(width),
             Shape::Text => 8 * (self.text(node.content as usize).len() as u64 + 1),
-            Shape::Array | Shape::Struct { .. } | Shape::Union { .. } => self.families[node.content as usize].size,
+            Shape::Array | Shape::Struct { .. } | Shape::Union { .. } =>
+                self.families[node.content as usize].size,
         }
     }
 
@@ -207,10 +213,21 @@ impl Store {
         let node = self.node_at(at);
         match node.shape {
             Shape::Integer { width, signed } => {
-                Some(Scalar::Integer(number_from(signed, node.content), IntegerType { width, signed }))
+                Some(Scalar::Integer(
+                    number_from(signed, node.content),
+                    IntegerType { width, signed },
+                ))
             }
-            Shape::Offset { width, signed, unit } => {
-                Some(Scalar::Offset(number_from(signed, node.content), IntegerType { width, signed }, unit))
+            Shape::Offset {
+                width,
+                signed,
+                unit,
+            } => {
+                Some(Scalar::Offset(
+                    number_from(signed, node.content),
+                    IntegerType { width, signed },
+                    unit,
+                ))
             }
             Shape::Text | Shape::Array | Shape::Struct { .. } | Shape::Union { .. } => None,
         }

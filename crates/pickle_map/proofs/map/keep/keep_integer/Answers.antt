@@ -14,10 +14,10 @@ pub returns-clause-ok : goal.returns-clause-ok
 returns-clause-ok c =
     let fits : SFits w128 c.with_sign.result = search rules in
     subst (λ z. OnOk c.push_integer.result (kept c.args.nodes.now c.push_integer.new.self ≡ pushed (kept c.args.nodes.now c.args.store.now) (Some (Mapped (IntegerLabel z c.args.number) c.args.start (c.args.start + c.args.number.width) NoMembers)))) (to_z-of_z w128 _ fits ∙ c.with_sign.ensures.is)
-      (ok_member c.args.nodes.now c.push_integer.result c.args.store.now c.push_integer.new.self (Some (tree.Tree (tree.IntegerLabel _ c.args.number.width c.args.number.signed) c.args.start c.args.number.width tree.End)) c.push_integer.ensures.ok)
+    (ok_member c.args.nodes.now c.push_integer.result c.args.store.now c.push_integer.new.self (Some (tree.Tree (tree.IntegerLabel _ c.args.number.width c.args.number.signed) c.args.start c.args.number.width tree.End)) c.push_integer.ensures.ok)
 
 pub returns-clause-full : goal.returns-clause-full
 returns-clause-full c =
     let fits : SFits w128 c.with_sign.result = search rules in
     subst (λ z. OnErr c.push_integer.result (Exceeds c.args.store.now.room (pushed (kept c.args.nodes.now c.args.store.now) (Some (Mapped (IntegerLabel z c.args.number) c.args.start (c.args.start + c.args.number.width) NoMembers))))) (to_z-of_z w128 _ fits ∙ c.with_sign.ensures.is)
-      (full_member c.args.nodes.now c.push_integer.result c.args.store.now (Some (tree.Tree (tree.IntegerLabel _ c.args.number.width c.args.number.signed) c.args.start c.args.number.width tree.End)) c.push_integer.ensures.succeeds)
+    (full_member c.args.nodes.now c.push_integer.result c.args.store.now (Some (tree.Tree (tree.IntegerLabel _ c.args.number.width c.args.number.signed) c.args.start c.args.number.width tree.End)) c.push_integer.ensures.succeeds)
