@@ -1,5 +1,5 @@
 -- When bytes are a pickle whose types are well formed, and how they are refused.
-use Rattle.std.specs.Prelude.{◌≡◌, ℕ, ◌≤◌, ◌<◌, List, Option, Some, None, Result, Ok, Err, length, slice_get, codes}
+use Rattle.std.specs.Prelude.{◌≡◌, ◌≢◌, ℕ, ◌≤◌, ◌<◌, List, Option, Some, None, Result, Ok, Err, length, slice_get, codes}
 use Rattle.pickle_syntax.specs.Tokens.{Token}
 use Rattle.pickle_syntax.specs.Tree.{DeclarationTree}
 use Rattle.pickle_syntax.specs.Lexing.{lexed}
@@ -50,7 +50,7 @@ pub data Refuses (pickle : List ℕ) : Refusal → Type 0 where
   no_syntax : {spans : List (ℕ × ℕ)} {count token at : ℕ} → IsNoPickle pickle spans count → token ≤ count → at ≡ place_of spans token (length pickle) → Refuses pickle (refusal.Syntax at)
   too_deep : {spans : List (ℕ × ℕ)} {count : ℕ} → IsNoPickle pickle spans count → Refuses pickle refusal.TooDeep
   too_many : {spans : List (ℕ × ℕ)} {count : ℕ} → IsNoPickle pickle spans count → Refuses pickle refusal.TooMany
-  ill_typed : {declarations : List DeclarationTree} {kind : FaultKind} {declaration : ℕ} → HasSyntax pickle declarations → (IsWellTyped declarations → ⊥) → Refuses pickle (refusal.Types kind declaration)
+  ill_typed : {declarations : List DeclarationTree} {kind : FaultKind} {declaration : ℕ} → HasSyntax pickle declarations → (IsWellTyped declarations → ⊥) → kind ≢ types.Memory → Refuses pickle (refusal.Types kind declaration)
   no_memory : Refuses pickle refusal.Memory
 
 -- the name of a fault of tokens
