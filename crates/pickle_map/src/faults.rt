@@ -17,7 +17,7 @@ pub enum MapFaultKind {
     Overflow,
     /// An expression names a field that is absent, or an alternative that was not taken.
     Absent,
-    /// An index is outside its array, or a shift is as wide as its operand or wider.
+    /// An index is outside its array, or the count of a shift is negative or not below the width of its operand.
     Index,
     /// The limit of steps is reached.
     Limit,
