@@ -27,3 +27,4 @@ pub mod Stops
 pub mod Framed
 pub mod Refs
 pub mod Settles
+pub mod Mappable

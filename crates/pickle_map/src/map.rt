@@ -2,5 +2,8 @@
 
 pub mod clauses;
 pub(crate) mod keep;
+pub(crate) mod number;
 pub(crate) mod read;
 pub(crate) mod stop;
+pub(crate) mod text;
+pub(crate) mod types;

@@ -1,10 +1,11 @@
 //! What a mapping keeps of the values that it makes: the store, seen with the names of a table.
 
-ghost use Rattle.std.specs.Prelude.{◌≡◌, ℕ, ◌+◌, ◌<◌, ◌≤◌, ◌^◌, Some, None, OnOk, OnErr};
+ghost use Rattle.std.specs.Prelude.{◌≡◌, ℕ, ◌+◌, ◌<◌, ◌≤◌, ◌^◌, Some, None, length, OnOk, OnErr};
 ghost use Rattle.pickle_types.specs.Table.{IsWidth};
 ghost use Rattle.pickle_map.specs.Means.{integer_value, offset_value, array_value, struct_value, value_of};
 ghost use Rattle.pickle_map.specs.Values.{pushed, outer_of, UnionLabel};
 ghost use Rattle.pickle_map.specs.Room.{Exceeds};
+ghost use Rattle.pickle_map.specs.Slots.{levels};
 ghost use Rattle.pickle_map.specs.Shown.{kept, title_at, names_at, name_at};
 
 use crate::evaluate::ranges::with_sign;
@@ -26,6 +27,7 @@ pub fn keep_integer(
     ensures ok { OnOk result (kept nodes.now store.new ≡ pushed (kept nodes.now store.old) (Some (integer_value number digits start))) }
     ensures same { OnErr result (store.new ≡ store.old) }
     ensures room { store.new.room ≡ store.old.room }
+    ensures depth { length (levels store.new) ≡ length (levels store.old) }
     ensures full { OnErr result (Exceeds store.old.room (pushed (kept nodes.now store.old) (Some (integer_value number digits start)))) }
 {
     store.push_integer(
@@ -51,6 +53,7 @@ pub fn keep_offset(
     ensures ok { OnOk result (kept nodes.now store.new ≡ pushed (kept nodes.now store.old) (Some (offset_value number unit digits start))) }
     ensures same { OnErr result (store.new ≡ store.old) }
     ensures room { store.new.room ≡ store.old.room }
+    ensures depth { length (levels store.new) ≡ length (levels store.old) }
     ensures full { OnErr result (Exceeds store.old.room (pushed (kept nodes.now store.old) (Some (offset_value number unit digits start)))) }
 {
     store.push_offset(
@@ -67,6 +70,7 @@ pub fn keep_absent(nodes: &[Node], store: &mut Store) -> Result<(), Memory>
     ensures ok { OnOk result (kept nodes.now store.new ≡ pushed (kept nodes.now store.old) None) }
     ensures same { OnErr result (store.new ≡ store.old) }
     ensures room { store.new.room ≡ store.old.room }
+    ensures depth { length (levels store.new) ≡ length (levels store.old) }
     ensures full { OnErr result (Exceeds store.old.room (pushed (kept nodes.now store.old) None)) }
 {
     store.push_absent()
@@ -74,10 +78,12 @@ pub fn keep_absent(nodes: &[Node], store: &mut Store) -> Result<(), Memory>
 
 /// Keeps the innermost open value as an array from `start` to `end`, and closes it.
 pub fn close_array(nodes: &[Node], store: &mut Store, start: u64, end: u64) -> Result<(), Memory>
-    requires { start ≤ end }
+    requires order { start ≤ end }
+    requires open { 1 < length (levels store.old) }
     ensures ok { OnOk result (kept nodes.now store.new ≡ pushed (outer_of (kept nodes.now store.old)) (Some (array_value start end (kept nodes.now store.old)))) }
     ensures same { OnErr result (store.new ≡ store.old) }
     ensures room { store.new.room ≡ store.old.room }
+    ensures closed { OnOk result (length (levels store.new) + 1 ≡ length (levels store.old)) }
     ensures full { OnErr result (Exceeds store.old.room (pushed (outer_of (kept nodes.now store.old)) (Some (array_value start end (kept nodes.now store.old))))) }
 {
     store.close_array(start, end - start)
@@ -91,10 +97,12 @@ pub fn close_struct(
     start: u64,
     end: u64,
 ) -> Result<(), Memory>
-    requires { start ≤ end }
+    requires order { start ≤ end }
+    requires open { 1 < length (levels store.old) }
     ensures ok { OnOk result (kept nodes.now store.new ≡ pushed (outer_of (kept nodes.now store.old)) (Some (struct_value (title_at nodes.now of) (names_at nodes.now of) start end (kept nodes.now store.old)))) }
     ensures same { OnErr result (store.new ≡ store.old) }
     ensures room { store.new.room ≡ store.old.room }
+    ensures closed { OnOk result (length (levels store.new) + 1 ≡ length (levels store.old)) }
     ensures full { OnErr result (Exceeds store.old.room (pushed (outer_of (kept nodes.now store.old)) (Some (struct_value (title_at nodes.now of) (names_at nodes.now of) start end (kept nodes.now store.old))))) }
 {
     store.close_struct(of, start, end - start)
@@ -109,10 +117,12 @@ pub fn close_union(
     start: u64,
     end: u64,
 ) -> Result<(), Memory>
-    requires { start ≤ end }
+    requires order { start ≤ end }
+    requires open { 1 < length (levels store.old) }
     ensures ok { OnOk result (kept nodes.now store.new ≡ pushed (outer_of (kept nodes.now store.old)) (Some (value_of (UnionLabel (title_at nodes.now of) taken (name_at nodes.now of taken)) start end (kept nodes.now store.old)))) }
     ensures same { OnErr result (store.new ≡ store.old) }
     ensures room { store.new.room ≡ store.old.room }
+    ensures closed { OnOk result (length (levels store.new) + 1 ≡ length (levels store.old)) }
     ensures full { OnErr result (Exceeds store.old.room (pushed (outer_of (kept nodes.now store.old)) (Some (value_of (UnionLabel (title_at nodes.now of) taken (name_at nodes.now of taken)) start end (kept nodes.now store.old))))) }
 {
     store.close_union(of, taken, start, end - start)
