@@ -37,3 +37,6 @@ pub mod Evaluations
 pub mod Sizes
 pub mod Arms
 pub mod Settling
+pub mod Shapes
+pub mod Clauses
+pub mod Placing

@@ -1,17 +1,17 @@
 -- Walks joined, and calls that follow plans one after another.
-use Rattle.std.proofs.Common.{arith, ◌≡◌, ℕ, zero, suc, inl, inr, ◌+◌, ◌<◌, ◌≤◌, List, Option, Result, Ok, Err, refl, sym, ap, ◌∙◌, subst}
+use Rattle.std.proofs.Common.{arith, ◌≡◌, ℕ, zero, suc, inl, inr, ◌+◌, ◌<◌, ◌≤◌, List, [], ◌∷◌, Option, Some, Result, Ok, Err, refl, sym, ap, ◌∙◌, subst}
 use Rattle.std.proofs.lemmas.Bool.{le-leb, lt-leb, cases_lt}
 use Rattle.bit_space.specs.declared.order.Order.{Order}
 use Rattle.bit_space.specs.Reading.{MayRead}
 use Rattle.pickle_map.specs.declared.faults.MapFaultKind.TheVariants.{End}
 use Rattle.pickle_map.specs.declared.map.stop.Stop.{Stop}
 use Rattle.pickle_map.specs.declared.map.stop.Stop.TheVariants.{Fault, Limit, Device, Memory}
-use Rattle.pickle_map.specs.Values.{Levels}
+use Rattle.pickle_map.specs.Values.{Value, Levels, pushed, outer_of}
 use Rattle.pickle_map.specs.Room.{Exceeds}
 use Rattle.pickle_map.specs.Clauses.{FaultAt}
 use Rattle.pickle_map.specs.Plan.{Plan, Ended, Tick, Made, Read, and_then, after, on_value, then_ok}
 use Rattle.pickle_map.specs.Follows.{World, Walk, arrived, stepped, kept, read, Finish, Done, NoSteps, Broken, NoRoom, Partly, NeedsStep, NeedsRoom, EndsAs, Follows}
-use Rattle.pickle_map.specs.Mapping.{from_inside}
+use Rattle.pickle_map.specs.Mapping.{from_inside, makes, closes}
 use Rattle.pickle_map.specs.Stops.{stop_finish}
 
 -- a walk to q, and on from there
@@ -151,3 +151,33 @@ follow_inside m s p inside h = rw (le-leb s m inside) h
 pub follow_past : {world : World} {limit : ℕ} {A : Type 0} (m s : ℕ) (p : Plan (Result A FaultAt)) {k j : ℕ} → m < s → Follows world limit (from_inside m s p) k j k j (Done (Err (End, s)))
 unfolding from_inside
 follow_past m s p past = rw (lt-leb s m past) follow_done
+
+-- a plan's result, made a value of
+module _ {world : World} {limit : ℕ} {A : Type 0} (p : Plan (Result A FaultAt)) (f : A → Plan (Result Value FaultAt)) (a : A) (levels : Levels) (v : Value) (is : f a ≡ makes levels v) {k j k1 j1 : ℕ}
+    (h : Follows world limit p k j k1 j1 (Done (Ok a))) where
+  pub ends_no_room : Exceeds world.room (pushed levels (Some v)) → Follows world limit (then_ok p f) k j k1 j1 NoRoom
+  ends_no_room full = follow_then_ok p f h (rw is (follow_no_room full))
+
+  pub ends_made : {limit1 k2 j2 : ℕ} → limit1 ≡ limit → k2 ≡ k1 → j2 ≡ j1 + 1 → Follows world limit (then_ok p f) k j k2 j2 (Done (Ok v))
+  ends_made el ek ej = follow_then_ok p f h (rw is (follow_made el ek ej follow_done))
+
+-- no step was left for the first of two plans
+pub first_no_tick : {world : World} {limit : ℕ} {A B : Type 0} (p : Plan (Result A FaultAt)) (f : A → Plan (Result B FaultAt)) {k j k1 j1 : ℕ} → k1 ≡ k → k1 ≡ limit → j1 ≡ j → Follows world limit (then_ok (Tick p) f) k j k1 j1 NoSteps
+unfolding then_ok
+first_no_tick p f ek el ej = follow_no_tick ek el ej
+
+-- a level closed, after what was done in it
+module _ {world : World} {limit : ℕ} (p : Plan (Result Levels FaultAt)) (make : Levels → Value) (inside : Levels) {k j k1 j1 : ℕ} (h : Follows world limit p k j k1 j1 (Done (Ok inside))) where
+  pub closes_no_room : {room : ℕ} → room ≡ world.room → Exceeds room (pushed (outer_of inside) (Some (make inside))) → Follows world limit (then_ok p (closes make)) k j k1 j1 NoRoom
+  closes_no_room e full = ends_no_room p (closes make) inside (outer_of inside) (make inside) refl h (subst (λ r. Exceeds r (pushed (outer_of inside) (Some (make inside)))) e full)
+
+  pub closes_made : {k2 j2 : ℕ} → k2 ≡ k1 → j2 ≡ j1 + 1 → Follows world limit (then_ok p (closes make)) k j k2 j2 (Done (Ok (make inside)))
+  closes_made ek ej = ends_made p (closes make) inside (outer_of inside) (make inside) refl h {limit1 = limit} refl ek ej
+
+-- in a room of the same size
+pub in_room : {known : Option (List ℕ)} {r r' : ℕ} {limit : ℕ} {A : Type 0} {p : Plan A} {k j k' j' : ℕ} {finish : Finish A} → r ≡ r' → Follows (record { known = known; room = r }) limit p k j k' j' finish → Follows (record { known = known; room = r' }) limit p k j k' j' finish
+in_room {known} {limit} {p} {k} {j} {k'} {j'} {finish} e h = subst (λ r. Follows (record { known = known; room = r }) limit p k j k' j' finish) e h
+
+pub outer_pushed : (levels : Levels) (v : Option Value) → outer_of (pushed levels v) ≡ outer_of levels
+outer_pushed [] v = refl
+outer_pushed (top ∷ outer) v = refl

@@ -6,7 +6,7 @@ ghost use Rattle.pickle_types.specs.Types.{IntegerOf, OffsetOf, IntegralOf, dept
 ghost use Rattle.pickle_types.specs.Table.{type_of, open_parts, optional_term, IsWidth};
 ghost use Rattle.pickle_map.specs.Follows.{Done};
 ghost use Rattle.pickle_map.specs.Framed.{Mapped, Runs, Places, PlacesIn, Works};
-ghost use Rattle.pickle_map.specs.Levels.{outer_of};
+ghost use Rattle.pickle_map.specs.Values.{outer_of};
 ghost use Rattle.pickle_map.specs.Mappable.{IsMappable, IsPartOf};
 ghost use Rattle.pickle_map.specs.Mapping.{read_plan, number_plan, digits_plan, constrained, closes};
 ghost use Rattle.pickle_map.specs.Means.{first_digits, number_type, width_in, struct_value, part_names};
@@ -51,7 +51,7 @@ pub(crate) fn map_number<S: Space>(
     ensures made { meter.new.made + meter.old.steps ≤ meter.old.made + meter.new.steps }
     ensures ends { IfOk result (λ end. (start ≤ end) × (end ≤ 8 * (S.view space.old).len)) }
     ensures ok { IfOk result (λ end. Mapped nodes.now (S.view space.old) meter.old meter.new store.old store.new (read_plan (8 * (S.view space.old).len) (type_of nodes.now at) number order (kept nodes.now store.old) start) end) }
-    ensures same { OnErr result (levels store.new ≡ levels store.old) }
+    ensures same { OnErr result (kept nodes.now store.new ≡ kept nodes.now store.old) }
     ensures depth { length (levels store.new) ≡ length (levels store.old) }
     ensures err { IfErr result (λ stop. Runs (S.view space.old) meter.old meter.new store.old (read_plan (8 * (S.view space.old).len) (type_of nodes.now at) number order (kept nodes.now store.old) start) (stop_finish stop)) }
     ensures device { IfErr result (λ stop. stop ≡ Stop.Device → HasRisen (S.view space.old).failures (S.view space.new).failures) }
@@ -81,7 +81,7 @@ fn place_number(
     ensures room { store.new.room ≡ store.old.room }
     ensures made { meter.new.made + meter.old.steps ≤ meter.old.made + meter.new.steps + 1 }
     ensures ok { OnOk result (Places nodes.now meter.old meter.new store.old store.new (number_plan (type_of nodes.now at) digits (kept nodes.now store.old) start) (start + width_in (number_type (type_of nodes.now at)))) }
-    ensures same { OnErr result (levels store.new ≡ levels store.old) }
+    ensures same { OnErr result (kept nodes.now store.new ≡ kept nodes.now store.old) }
     ensures depth { length (levels store.new) ≡ length (levels store.old) }
     ensures err { IfErr result (λ stop. Works meter.old meter.new store.old (number_plan (type_of nodes.now at) digits (kept nodes.now store.old) start) (stop_finish stop)) }
     ensures stays { IfErr result (λ stop. stop ≢ Stop.Device) }
@@ -96,10 +96,18 @@ fn place_number(
             number,
             fields,
         } => place_integral(nodes, at, *number, fields, digits, start, meter, store),
-        Shape::String | Shape::Array(..) | Shape::Struct { .. } | Shape::Union { .. } => {
-            Err(Stop::Fault(MapFaultKind::Absent, u128::from(start)))
-        }
+        Shape::String => Err(no_number(start)),
+        Shape::Array(..) => Err(no_number(start)),
+        Shape::Struct { .. } => Err(no_number(start)),
+        Shape::Union { .. } => Err(no_number(start)),
     }
+}
+
+/// The fault of a type that is not read as one number, of which a well typed table has none in an integral struct.
+fn no_number(start: u64) -> Stop
+    ensures { result ≡ Stop.Fault MapFaultKind.Absent start }
+{
+    Stop::Fault(MapFaultKind::Absent, u128::from(start))
 }
 
 /// Keeps an integer.
@@ -118,7 +126,7 @@ fn place_integer(
     ensures room { store.new.room ≡ store.old.room }
     ensures made { meter.new.made + meter.old.steps ≤ meter.old.made + meter.new.steps + 1 }
     ensures ok { OnOk result (Places nodes.now meter.old meter.new store.old store.new (number_plan (IntegerOf number) digits (kept nodes.now store.old) start) (start + number.width)) }
-    ensures same { OnErr result (levels store.new ≡ levels store.old) }
+    ensures same { OnErr result (kept nodes.now store.new ≡ kept nodes.now store.old) }
     ensures depth { length (levels store.new) ≡ length (levels store.old) }
     ensures err { IfErr result (λ stop. Works meter.old meter.new store.old (number_plan (IntegerOf number) digits (kept nodes.now store.old) start) (stop_finish stop)) }
     ensures stays { IfErr result (λ stop. stop ≢ Stop.Device) }
@@ -146,7 +154,7 @@ fn place_offset(
     ensures room { store.new.room ≡ store.old.room }
     ensures made { meter.new.made + meter.old.steps ≤ meter.old.made + meter.new.steps + 1 }
     ensures ok { OnOk result (Places nodes.now meter.old meter.new store.old store.new (number_plan (OffsetOf number unit) digits (kept nodes.now store.old) start) (start + number.width)) }
-    ensures same { OnErr result (levels store.new ≡ levels store.old) }
+    ensures same { OnErr result (kept nodes.now store.new ≡ kept nodes.now store.old) }
     ensures depth { length (levels store.new) ≡ length (levels store.old) }
     ensures err { IfErr result (λ stop. Works meter.old meter.new store.old (number_plan (OffsetOf number unit) digits (kept nodes.now store.old) start) (stop_finish stop)) }
     ensures stays { IfErr result (λ stop. stop ≢ Stop.Device) }
@@ -180,7 +188,7 @@ fn place_integral(
     ensures room { store.new.room ≡ store.old.room }
     ensures made { meter.new.made + meter.old.steps ≤ meter.old.made + meter.new.steps + 1 }
     ensures ok { OnOk result (Places nodes.now meter.old meter.new store.old store.new (number_plan (IntegralOf (title_at nodes.now at) number (open_parts (type_of nodes.now) fields.now)) digits (kept nodes.now store.old) start) (start + number.width)) }
-    ensures same { OnErr result (levels store.new ≡ levels store.old) }
+    ensures same { OnErr result (kept nodes.now store.new ≡ kept nodes.now store.old) }
     ensures depth { length (levels store.new) ≡ length (levels store.old) }
     ensures err { IfErr result (λ stop. Works meter.old meter.new store.old (number_plan (IntegralOf (title_at nodes.now at) number (open_parts (type_of nodes.now) fields.now)) digits (kept nodes.now store.old) start) (stop_finish stop)) }
     ensures stays { IfErr result (λ stop. stop ≢ Stop.Device) }
@@ -219,14 +227,20 @@ fn integral_body(
     ensures room { store.new.room ≡ store.old.room }
     ensures made { meter.new.made + meter.old.steps ≤ meter.old.made + meter.new.steps + 1 }
     ensures ok { OnOk result (PlacesIn nodes.now meter.old meter.new store.old store.new (then_ok (digits_plan (open_parts (type_of nodes.now) fields.now) digits number.width (kept nodes.now store.old) start) (closes (struct_value (title_at nodes.now at) (part_names (open_parts (type_of nodes.now) fields.now)) start (start + number.width)))) (start + number.width)) }
-    ensures outer { OnErr result (outer_of (levels store.new) ≡ outer_of (levels store.old)) }
+    ensures outer { OnErr result (outer_of (kept nodes.now store.new) ≡ outer_of (kept nodes.now store.old)) }
     ensures closed { OnOk result (length (levels store.new) + 1 ≡ length (levels store.old)) }
     ensures depth { OnErr result (length (levels store.new) ≡ length (levels store.old)) }
     ensures err { IfErr result (λ stop. Works meter.old meter.new store.old (then_ok (digits_plan (open_parts (type_of nodes.now) fields.now) digits number.width (kept nodes.now store.old) start) (closes (struct_value (title_at nodes.now at) (part_names (open_parts (type_of nodes.now) fields.now)) start (start + number.width)))) (stop_finish stop)) }
     ensures stays { IfErr result (λ stop. stop ≢ Stop.Device) }
 {
     place_fields(nodes, fields, digits, number.width, start, meter, store)?;
-    close_struct(nodes, store, at as u32, start, start + u64::from(number.width))?;
+    close_struct(
+        nodes,
+        store,
+        at as u32,
+        start,
+        start + u64::from(number.width),
+    )?;
     meter.note_made();
     Ok(())
 }
@@ -250,7 +264,7 @@ fn place_fields(
     ensures room { store.new.room ≡ store.old.room }
     ensures made { meter.new.made + meter.old.steps ≤ meter.old.made + meter.new.steps }
     ensures ok { OnOk result (Works meter.old meter.new store.old (digits_plan (open_parts (type_of nodes.now) fields.now) digits width (kept nodes.now store.old) start) (Done (Ok (kept nodes.now store.new)))) }
-    ensures outer { outer_of (levels store.new) ≡ outer_of (levels store.old) }
+    ensures outer { outer_of (kept nodes.now store.new) ≡ outer_of (kept nodes.now store.old) }
     ensures depth { length (levels store.new) ≡ length (levels store.old) }
     ensures err { IfErr result (λ stop. Works meter.old meter.new store.old (digits_plan (open_parts (type_of nodes.now) fields.now) digits width (kept nodes.now store.old) start) (stop_finish stop)) }
     ensures stays { IfErr result (λ stop. stop ≢ Stop.Device) }
@@ -284,14 +298,15 @@ fn place_part(
     ensures room { store.new.room ≡ store.old.room }
     ensures made { meter.new.made + meter.old.steps ≤ meter.old.made + meter.new.steps }
     ensures ok { OnOk result (Places nodes.now meter.old meter.new store.old store.new (then_ok (Tick (number_plan (type_of nodes.now part.now.node) digits (kept nodes.now store.old) start)) (constrained (optional_term part.now.constraint) (kept nodes.now store.old) start)) (start + width_in (number_type (type_of nodes.now part.now.node)))) }
-    ensures outer { outer_of (levels store.new) ≡ outer_of (levels store.old) }
+    ensures outer { outer_of (kept nodes.now store.new) ≡ outer_of (kept nodes.now store.old) }
     ensures depth { length (levels store.new) ≡ length (levels store.old) }
     ensures err { IfErr result (λ stop. Works meter.old meter.new store.old (then_ok (Tick (number_plan (type_of nodes.now part.now.node) digits (kept nodes.now store.old) start)) (constrained (optional_term part.now.constraint) (kept nodes.now store.old) start)) (stop_finish stop)) }
     ensures stays { IfErr result (λ stop. stop ≢ Stop.Device) }
 {
     meter.tick()?;
     place_number(nodes, part.node, digits, start, meter, store)?;
-    check(nodes, &part.constraint, store, u128::from(start), meter)
+    check(nodes, &part.constraint, store, u128::from(start), meter)?;
+    Ok(())
 }
 
 /// The first `width` of the `left` binary digits of a number that are left.
@@ -320,6 +335,9 @@ fn width_at(nodes: &[Node], at: usize) -> u8
             number,
             fields: _,
         } => number.width,
-        Shape::String | Shape::Array(..) | Shape::Struct { .. } | Shape::Union { .. } => 0,
+        Shape::String => 0,
+        Shape::Array(..) => 0,
+        Shape::Struct { .. } => 0,
+        Shape::Union { .. } => 0,
     }
 }

@@ -5,10 +5,11 @@ ghost use Rattle.bit_space.specs.SpaceView.{HasRisen, known_bits};
 ghost use Rattle.bit_space.specs.Reading.{MayRead};
 ghost use Rattle.bit_space.specs.declared.order.Order.TheVariants.{Big};
 ghost use Rattle.pickle_map.specs.Framed.{Mapped, Closed, Runs, ReadStops};
-ghost use Rattle.pickle_map.specs.Levels.{outer_of};
+ghost use Rattle.pickle_map.specs.Values.{outer_of};
 ghost use Rattle.pickle_map.specs.Mapping.{text_plan};
 ghost use Rattle.pickle_map.specs.Plan.{Tick};
-ghost use Rattle.pickle_map.specs.Shown.{kept, shown_levels};
+ghost use Rattle.pickle_map.specs.Shown.{kept};
+ghost use Rattle.pickle_map.specs.Levels as stored;
 ghost use Rattle.pickle_map.specs.Slots.{levels, IsWriting};
 ghost use Rattle.pickle_map.specs.Stops.{stop_finish};
 
@@ -36,7 +37,7 @@ pub(crate) fn map_text<S: Space>(
     ensures made { meter.new.made + meter.old.steps ≤ meter.old.made + meter.new.steps }
     ensures ends { IfOk result (λ end. (start ≤ end) × (end ≤ 8 * (S.view space.old).len)) }
     ensures ok { IfOk result (λ end. Mapped nodes.now (S.view space.old) meter.old meter.new store.old store.new (Tick (text_plan (8 * (S.view space.old).len) ((8 * (S.view space.old).len) / 8 + 1) [] (kept nodes.now store.old) start start)) end) }
-    ensures same { OnErr result (levels store.new ≡ levels store.old) }
+    ensures same { OnErr result (kept nodes.now store.new ≡ kept nodes.now store.old) }
     ensures depth { length (levels store.new) ≡ length (levels store.old) }
     ensures err { IfErr result (λ stop. Runs (S.view space.old) meter.old meter.new store.old (Tick (text_plan (8 * (S.view space.old).len) ((8 * (S.view space.old).len) / 8 + 1) [] (kept nodes.now store.old) start start)) (stop_finish stop)) }
     ensures device { IfErr result (λ stop. stop ≡ Stop.Device → HasRisen (S.view space.old).failures (S.view space.new).failures) }
@@ -61,7 +62,7 @@ fn text_body<S: Space>(
     store: &mut Store,
 ) -> Result<u64, Stop>
     requires inside { start ≤ 8 * (S.view space.old).len }
-    requires writing { IsWriting store.old [] start (outer_of (levels store.old)) }
+    requires writing { IsWriting store.old [] start (stored.outer_of (levels store.old)) }
     requires open { 1 < length (levels store.old) }
     requires free { meter.old.made < meter.old.steps }
     ensures limit { meter.new.limit ≡ meter.old.limit }
@@ -71,11 +72,11 @@ fn text_body<S: Space>(
     ensures room { store.new.room ≡ store.old.room }
     ensures made { meter.new.made + meter.old.steps ≤ meter.old.made + meter.new.steps }
     ensures ends { IfOk result (λ end. (start ≤ end) × (end ≤ 8 * (S.view space.old).len)) }
-    ensures ok { IfOk result (λ end. Closed nodes.now (S.view space.old) meter.old meter.new store.old store.new (text_plan (8 * (S.view space.old).len) ((8 * (S.view space.old).len) / 8 + 1) [] (shown_levels nodes.now (outer_of (levels store.old))) start start) end) }
-    ensures outer { OnErr result (outer_of (levels store.new) ≡ outer_of (levels store.old)) }
+    ensures ok { IfOk result (λ end. Closed nodes.now (S.view space.old) meter.old meter.new store.old store.new (text_plan (8 * (S.view space.old).len) ((8 * (S.view space.old).len) / 8 + 1) [] (outer_of (kept nodes.now store.old)) start start) end) }
+    ensures outer { OnErr result (outer_of (kept nodes.now store.new) ≡ outer_of (kept nodes.now store.old)) }
     ensures closed { OnOk result (length (levels store.new) + 1 ≡ length (levels store.old)) }
     ensures depth { OnErr result (length (levels store.new) ≡ length (levels store.old)) }
-    ensures err { IfErr result (λ stop. Runs (S.view space.old) meter.old meter.new store.old (text_plan (8 * (S.view space.old).len) ((8 * (S.view space.old).len) / 8 + 1) [] (shown_levels nodes.now (outer_of (levels store.old))) start start) (stop_finish stop)) }
+    ensures err { IfErr result (λ stop. Runs (S.view space.old) meter.old meter.new store.old (text_plan (8 * (S.view space.old).len) ((8 * (S.view space.old).len) / 8 + 1) [] (outer_of (kept nodes.now store.old)) start start) (stop_finish stop)) }
     ensures device { IfErr result (λ stop. stop ≡ Stop.Device → HasRisen (S.view space.old).failures (S.view space.new).failures) }
 {
     let mut place = start;
@@ -93,12 +94,7 @@ fn text_body<S: Space>(
 }
 
 /// Reads a byte of a string, whose fault is told at the string's start.
-fn read_byte<S: Space>(
-    space: &mut S,
-    start: u64,
-    place: u64,
-    meter: &mut Meter,
-) -> Result<u8, Stop>
+fn read_byte<S: Space>(space: &mut S, start: u64, place: u64, meter: &mut Meter) -> Result<u8, Stop>
     ensures len { (S.view space.new).len ≡ (S.view space.old).len }
     ensures bytes { (S.view space.new).bytes ≡ (S.view space.old).bytes }
     ensures failures { (S.view space.old).failures ≤ (S.view space.new).failures }

@@ -7,7 +7,7 @@ ghost use Rattle.pickle_types.specs.Bounds.{least_width, count_of};
 ghost use Rattle.pickle_types.specs.Table.{type_of, open_fields, open_parts, optional_term, bound_of};
 ghost use Rattle.pickle_map.specs.Follows.{Done};
 ghost use Rattle.pickle_map.specs.Framed.{Mapped, Closed, Takes, Runs};
-ghost use Rattle.pickle_map.specs.Levels.{outer_of};
+ghost use Rattle.pickle_map.specs.Values.{outer_of};
 ghost use Rattle.pickle_map.specs.Mappable.{IsMappable, IsFieldOf, IsPartOf};
 ghost use Rattle.pickle_map.specs.Mapping.{plan, fields_plan, elements_plan, alternatives_plan, constrained, array_closes, struct_closes, union_closes};
 ghost use Rattle.pickle_map.specs.Means.{ordered, field_names};
@@ -17,7 +17,6 @@ ghost use Rattle.pickle_map.specs.Settles.{IsSoundClause, IsSoundBound};
 ghost use Rattle.pickle_map.specs.Shown.{kept, title_at, names_at, field_name, part_name};
 ghost use Rattle.pickle_map.specs.Slots.{levels};
 ghost use Rattle.pickle_map.specs.Stops.{stop_finish};
-ghost use Rattle.pickle_map.specs.Values as values;
 
 use crate::extent::Extent;
 use crate::faults::MapFaultKind;
@@ -53,7 +52,7 @@ pub(crate) fn map_type<S: Space>(
     ensures made { meter.new.made + meter.old.steps ≤ meter.old.made + meter.new.steps }
     ensures ends { IfOk result (λ end. (start ≤ end) × (end ≤ 8 * (S.view space.old).len)) }
     ensures ok { IfOk result (λ end. Mapped nodes.now (S.view space.old) meter.old meter.new store.old store.new (plan (8 * (S.view space.old).len) (type_of nodes.now at) order (kept nodes.now store.old) start) end) }
-    ensures same { OnErr result (levels store.new ≡ levels store.old) }
+    ensures same { OnErr result (kept nodes.now store.new ≡ kept nodes.now store.old) }
     ensures depth { length (levels store.new) ≡ length (levels store.old) }
     ensures err { IfErr result (λ stop. Runs (S.view space.old) meter.old meter.new store.old (plan (8 * (S.view space.old).len) (type_of nodes.now at) order (kept nodes.now store.old) start) (stop_finish stop)) }
     ensures device { IfErr result (λ stop. stop ≡ Stop.Device → HasRisen (S.view space.old).failures (S.view space.new).failures) }
@@ -87,7 +86,7 @@ fn map_inside<S: Space>(
     ensures made { meter.new.made + meter.old.steps ≤ meter.old.made + meter.new.steps }
     ensures ends { IfOk result (λ end. (start ≤ end) × (end ≤ 8 * (S.view space.old).len)) }
     ensures ok { IfOk result (λ end. Mapped nodes.now (S.view space.old) meter.old meter.new store.old store.new (plan (8 * (S.view space.old).len) (type_of nodes.now at) order (kept nodes.now store.old) start) end) }
-    ensures same { OnErr result (levels store.new ≡ levels store.old) }
+    ensures same { OnErr result (kept nodes.now store.new ≡ kept nodes.now store.old) }
     ensures depth { length (levels store.new) ≡ length (levels store.old) }
     ensures err { IfErr result (λ stop. Runs (S.view space.old) meter.old meter.new store.old (plan (8 * (S.view space.old).len) (type_of nodes.now at) order (kept nodes.now store.old) start) (stop_finish stop)) }
     ensures device { IfErr result (λ stop. stop ≡ Stop.Device → HasRisen (S.view space.old).failures (S.view space.new).failures) }
@@ -112,7 +111,9 @@ fn map_inside<S: Space>(
             name: _,
             pinned,
             fields,
-        } => map_struct(nodes, at, *pinned, fields, order, start, space, meter, store),
+        } => map_struct(
+            nodes, at, *pinned, fields, order, start, space, meter, store,
+        ),
         Shape::Union {
             name: _,
             alternatives,
@@ -144,7 +145,7 @@ fn map_checked<S: Space>(
     ensures made { meter.new.made + meter.old.steps ≤ meter.old.made + meter.new.steps }
     ensures ends { IfOk result (λ end. (start ≤ end) × (end ≤ 8 * (S.view space.old).len)) }
     ensures ok { IfOk result (λ end. Mapped nodes.now (S.view space.old) meter.old meter.new store.old store.new (then_ok (plan (8 * (S.view space.old).len) (type_of nodes.now node) order (kept nodes.now store.old) start) (constrained (optional_term constraint.now) (kept nodes.now store.old) start)) end) }
-    ensures outer { outer_of (levels store.new) ≡ outer_of (levels store.old) }
+    ensures outer { outer_of (kept nodes.now store.new) ≡ outer_of (kept nodes.now store.old) }
     ensures depth { length (levels store.new) ≡ length (levels store.old) }
     ensures err { IfErr result (λ stop. Runs (S.view space.old) meter.old meter.new store.old (then_ok (plan (8 * (S.view space.old).len) (type_of nodes.now node) order (kept nodes.now store.old) start) (constrained (optional_term constraint.now) (kept nodes.now store.old) start)) (stop_finish stop)) }
     ensures device { IfErr result (λ stop. stop ≡ Stop.Device → HasRisen (S.view space.old).failures (S.view space.new).failures) }
@@ -179,7 +180,7 @@ fn map_array<S: Space>(
     ensures made { meter.new.made + meter.old.steps ≤ meter.old.made + meter.new.steps }
     ensures ends { IfOk result (λ end. (start ≤ end) × (end ≤ 8 * (S.view space.old).len)) }
     ensures ok { IfOk result (λ end. Mapped nodes.now (S.view space.old) meter.old meter.new store.old store.new (plan (8 * (S.view space.old).len) (ArrayOf (type_of nodes.now element) (bound_of bound.now)) order (kept nodes.now store.old) start) end) }
-    ensures same { OnErr result (levels store.new ≡ levels store.old) }
+    ensures same { OnErr result (kept nodes.now store.new ≡ kept nodes.now store.old) }
     ensures depth { length (levels store.new) ≡ length (levels store.old) }
     ensures err { IfErr result (λ stop. Runs (S.view space.old) meter.old meter.new store.old (plan (8 * (S.view space.old).len) (ArrayOf (type_of nodes.now element) (bound_of bound.now)) order (kept nodes.now store.old) start) (stop_finish stop)) }
     ensures device { IfErr result (λ stop. stop ≡ Stop.Device → HasRisen (S.view space.old).failures (S.view space.new).failures) }
@@ -221,7 +222,7 @@ fn array_body<S: Space>(
     ensures made { meter.new.made + meter.old.steps ≤ meter.old.made + meter.new.steps + 1 }
     ensures ends { IfOk result (λ end. (start ≤ end) × (end ≤ 8 * (S.view space.old).len)) }
     ensures ok { IfOk result (λ end. Closed nodes.now (S.view space.old) meter.old meter.new store.old store.new (then_ok (elements_plan (plan (8 * (S.view space.old).len) (type_of nodes.now element) order) (8 * (S.view space.old).len) start extent (count_of (8 * (S.view space.old).len) (least_width (type_of nodes.now element))) 0 (kept nodes.now store.old) start) (array_closes start)) end) }
-    ensures outer { OnErr result (outer_of (levels store.new) ≡ outer_of (levels store.old)) }
+    ensures outer { OnErr result (outer_of (kept nodes.now store.new) ≡ outer_of (kept nodes.now store.old)) }
     ensures closed { OnOk result (length (levels store.new) + 1 ≡ length (levels store.old)) }
     ensures depth { OnErr result (length (levels store.new) ≡ length (levels store.old)) }
     ensures err { IfErr result (λ stop. Runs (S.view space.old) meter.old meter.new store.old (then_ok (elements_plan (plan (8 * (S.view space.old).len) (type_of nodes.now element) order) (8 * (S.view space.old).len) start extent (count_of (8 * (S.view space.old).len) (least_width (type_of nodes.now element))) 0 (kept nodes.now store.old) start) (array_closes start)) (stop_finish stop)) }
@@ -257,7 +258,7 @@ fn map_elements<S: Space>(
     ensures made { meter.new.made + meter.old.steps ≤ meter.old.made + meter.new.steps }
     ensures ends { IfOk result (λ end. (start ≤ end) × (end ≤ 8 * (S.view space.old).len)) }
     ensures ok { IfOk result (λ end. Runs (S.view space.old) meter.old meter.new store.old (elements_plan (plan (8 * (S.view space.old).len) (type_of nodes.now element) order) (8 * (S.view space.old).len) start extent (count_of (8 * (S.view space.old).len) (least_width (type_of nodes.now element))) 0 (kept nodes.now store.old) start) (Done (Ok (kept nodes.now store.new, end)))) }
-    ensures outer { outer_of (levels store.new) ≡ outer_of (levels store.old) }
+    ensures outer { outer_of (kept nodes.now store.new) ≡ outer_of (kept nodes.now store.old) }
     ensures depth { length (levels store.new) ≡ length (levels store.old) }
     ensures err { IfErr result (λ stop. Runs (S.view space.old) meter.old meter.new store.old (elements_plan (plan (8 * (S.view space.old).len) (type_of nodes.now element) order) (8 * (S.view space.old).len) start extent (count_of (8 * (S.view space.old).len) (least_width (type_of nodes.now element))) 0 (kept nodes.now store.old) start) (stop_finish stop)) }
     ensures device { IfErr result (λ stop. stop ≡ Stop.Device → HasRisen (S.view space.old).failures (S.view space.new).failures) }
@@ -267,7 +268,15 @@ fn map_elements<S: Space>(
     let mut count = 0;
     while extent.is_due(bits, start, count, place) {
         meter.tick()?;
-        match map_type(nodes, element, order, u128::from(place), space, meter, store) {
+        match map_type(
+            nodes,
+            element,
+            order,
+            u128::from(place),
+            space,
+            meter,
+            store,
+        ) {
             Ok(end) => {
                 if end == place {
                     return Err(Stop::Fault(MapFaultKind::NoBits, u128::from(place)));
@@ -317,7 +326,7 @@ fn map_struct<S: Space>(
     ensures made { meter.new.made + meter.old.steps ≤ meter.old.made + meter.new.steps }
     ensures ends { IfOk result (λ end. (start ≤ end) × (end ≤ 8 * (S.view space.old).len)) }
     ensures ok { IfOk result (λ end. Mapped nodes.now (S.view space.old) meter.old meter.new store.old store.new (plan (8 * (S.view space.old).len) (StructOf (title_at nodes.now at) pinned (open_fields (type_of nodes.now) fields.now)) order (kept nodes.now store.old) start) end) }
-    ensures same { OnErr result (levels store.new ≡ levels store.old) }
+    ensures same { OnErr result (kept nodes.now store.new ≡ kept nodes.now store.old) }
     ensures depth { length (levels store.new) ≡ length (levels store.old) }
     ensures err { IfErr result (λ stop. Runs (S.view space.old) meter.old meter.new store.old (plan (8 * (S.view space.old).len) (StructOf (title_at nodes.now at) pinned (open_fields (type_of nodes.now) fields.now)) order (kept nodes.now store.old) start) (stop_finish stop)) }
     ensures device { IfErr result (λ stop. stop ≡ Stop.Device → HasRisen (S.view space.old).failures (S.view space.new).failures) }
@@ -361,7 +370,7 @@ fn struct_body<S: Space>(
     ensures made { meter.new.made + meter.old.steps ≤ meter.old.made + meter.new.steps + 1 }
     ensures ends { IfOk result (λ end. (start ≤ end) × (end ≤ 8 * (S.view space.old).len)) }
     ensures ok { IfOk result (λ end. Closed nodes.now (S.view space.old) meter.old meter.new store.old store.new (then_ok (fields_plan (8 * (S.view space.old).len) pinned start (open_fields (type_of nodes.now) fields.now) order (kept nodes.now store.old) start start) (struct_closes (title_at nodes.now at) (field_names (open_fields (type_of nodes.now) fields.now)) start)) end) }
-    ensures outer { OnErr result (outer_of (levels store.new) ≡ outer_of (levels store.old)) }
+    ensures outer { OnErr result (outer_of (kept nodes.now store.new) ≡ outer_of (kept nodes.now store.old)) }
     ensures closed { OnOk result (length (levels store.new) + 1 ≡ length (levels store.old)) }
     ensures depth { OnErr result (length (levels store.new) ≡ length (levels store.old)) }
     ensures err { IfErr result (λ stop. Runs (S.view space.old) meter.old meter.new store.old (then_ok (fields_plan (8 * (S.view space.old).len) pinned start (open_fields (type_of nodes.now) fields.now) order (kept nodes.now store.old) start start) (struct_closes (title_at nodes.now at) (field_names (open_fields (type_of nodes.now) fields.now)) start)) (stop_finish stop)) }
@@ -396,7 +405,7 @@ fn map_fields<S: Space>(
     ensures made { meter.new.made + meter.old.steps ≤ meter.old.made + meter.new.steps }
     ensures ends { IfOk result (λ end. (start ≤ end) × (end ≤ 8 * (S.view space.old).len)) }
     ensures ok { IfOk result (λ end. Runs (S.view space.old) meter.old meter.new store.old (fields_plan (8 * (S.view space.old).len) pinned start (open_fields (type_of nodes.now) fields.now) order (kept nodes.now store.old) start start) (Done (Ok (kept nodes.now store.new, end)))) }
-    ensures outer { outer_of (levels store.new) ≡ outer_of (levels store.old) }
+    ensures outer { outer_of (kept nodes.now store.new) ≡ outer_of (kept nodes.now store.old) }
     ensures depth { length (levels store.new) ≡ length (levels store.old) }
     ensures err { IfErr result (λ stop. Runs (S.view space.old) meter.old meter.new store.old (fields_plan (8 * (S.view space.old).len) pinned start (open_fields (type_of nodes.now) fields.now) order (kept nodes.now store.old) start start) (stop_finish stop)) }
     ensures device { IfErr result (λ stop. stop ≡ Stop.Device → HasRisen (S.view space.old).failures (S.view space.new).failures) }
@@ -443,7 +452,7 @@ fn map_field<S: Space>(
     ensures made { meter.new.made + meter.old.steps ≤ meter.old.made + meter.new.steps }
     ensures ends { IfOk result (λ end. (start ≤ end) × (end ≤ 8 * (S.view space.old).len)) }
     ensures ok { IfOk result (λ end. Mapped nodes.now (S.view space.old) meter.old meter.new store.old store.new (then_ok (after (label_steps pinned (optional_term field.now.label) (kept nodes.now store.old)) (field_start pinned (optional_term field.now.label) (kept nodes.now store.old) start behind)) (λ p. then_ok (plan (8 * (S.view space.old).len) (type_of nodes.now field.now.node) (ordered field.now.order order) (kept nodes.now store.old) p) (constrained (optional_term field.now.constraint) (kept nodes.now store.old) p))) end) }
-    ensures outer { outer_of (levels store.new) ≡ outer_of (levels store.old) }
+    ensures outer { outer_of (kept nodes.now store.new) ≡ outer_of (kept nodes.now store.old) }
     ensures depth { length (levels store.new) ≡ length (levels store.old) }
     ensures err { IfErr result (λ stop. Runs (S.view space.old) meter.old meter.new store.old (then_ok (after (label_steps pinned (optional_term field.now.label) (kept nodes.now store.old)) (field_start pinned (optional_term field.now.label) (kept nodes.now store.old) start behind)) (λ p. then_ok (plan (8 * (S.view space.old).len) (type_of nodes.now field.now.node) (ordered field.now.order order) (kept nodes.now store.old) p) (constrained (optional_term field.now.constraint) (kept nodes.now store.old) p))) (stop_finish stop)) }
     ensures device { IfErr result (λ stop. stop ≡ Stop.Device → HasRisen (S.view space.old).failures (S.view space.new).failures) }
@@ -498,7 +507,7 @@ fn map_union<S: Space>(
     ensures made { meter.new.made + meter.old.steps ≤ meter.old.made + meter.new.steps }
     ensures ends { IfOk result (λ end. (start ≤ end) × (end ≤ 8 * (S.view space.old).len)) }
     ensures ok { IfOk result (λ end. Mapped nodes.now (S.view space.old) meter.old meter.new store.old store.new (plan (8 * (S.view space.old).len) (UnionOf (title_at nodes.now at) (open_parts (type_of nodes.now) alternatives.now)) order (kept nodes.now store.old) start) end) }
-    ensures same { OnErr result (levels store.new ≡ levels store.old) }
+    ensures same { OnErr result (kept nodes.now store.new ≡ kept nodes.now store.old) }
     ensures depth { length (levels store.new) ≡ length (levels store.old) }
     ensures err { IfErr result (λ stop. Runs (S.view space.old) meter.old meter.new store.old (plan (8 * (S.view space.old).len) (UnionOf (title_at nodes.now at) (open_parts (type_of nodes.now) alternatives.now)) order (kept nodes.now store.old) start) (stop_finish stop)) }
     ensures device { IfErr result (λ stop. stop ≡ Stop.Device → HasRisen (S.view space.old).failures (S.view space.new).failures) }
@@ -532,7 +541,7 @@ fn union_body<S: Space>(
     requires few { length alternatives.now ≤ 2 ^ 16 }
     requires names { names_at nodes.now at ≡ map part_name alternatives.now }
     requires open { 1 < length (levels store.old) }
-    requires fresh { levels store.old ≡ [] ∷ outer_of (levels store.old) }
+    requires fresh { kept nodes.now store.old ≡ [] ∷ outer_of (kept nodes.now store.old) }
     requires inside { start ≤ 8 * (S.view space.old).len }
     requires free { meter.old.made < meter.old.steps }
     ensures limit { meter.new.limit ≡ meter.old.limit }
@@ -542,11 +551,11 @@ fn union_body<S: Space>(
     ensures room { store.new.room ≡ store.old.room }
     ensures made { meter.new.made + meter.old.steps ≤ meter.old.made + meter.new.steps + 1 }
     ensures ends { IfOk result (λ end. (start ≤ end) × (end ≤ 8 * (S.view space.old).len)) }
-    ensures ok { IfOk result (λ end. Closed nodes.now (S.view space.old) meter.old meter.new store.old store.new (then_ok (alternatives_plan (8 * (S.view space.old).len) (open_parts (type_of nodes.now) alternatives.now) 0 order (kept nodes.now store.old) start) (union_closes (title_at nodes.now at) (values.outer_of (kept nodes.now store.old)) start)) end) }
-    ensures outer { OnErr result (outer_of (levels store.new) ≡ outer_of (levels store.old)) }
+    ensures ok { IfOk result (λ end. Closed nodes.now (S.view space.old) meter.old meter.new store.old store.new (then_ok (alternatives_plan (8 * (S.view space.old).len) (open_parts (type_of nodes.now) alternatives.now) 0 order (kept nodes.now store.old) start) (union_closes (title_at nodes.now at) (outer_of (kept nodes.now store.old)) start)) end) }
+    ensures outer { OnErr result (outer_of (kept nodes.now store.new) ≡ outer_of (kept nodes.now store.old)) }
     ensures closed { OnOk result (length (levels store.new) + 1 ≡ length (levels store.old)) }
     ensures depth { OnErr result (length (levels store.new) ≡ length (levels store.old)) }
-    ensures err { IfErr result (λ stop. Runs (S.view space.old) meter.old meter.new store.old (then_ok (alternatives_plan (8 * (S.view space.old).len) (open_parts (type_of nodes.now) alternatives.now) 0 order (kept nodes.now store.old) start) (union_closes (title_at nodes.now at) (values.outer_of (kept nodes.now store.old)) start)) (stop_finish stop)) }
+    ensures err { IfErr result (λ stop. Runs (S.view space.old) meter.old meter.new store.old (then_ok (alternatives_plan (8 * (S.view space.old).len) (open_parts (type_of nodes.now) alternatives.now) 0 order (kept nodes.now store.old) start) (union_closes (title_at nodes.now at) (outer_of (kept nodes.now store.old)) start)) (stop_finish stop)) }
     ensures device { IfErr result (λ stop. stop ≡ Stop.Device → HasRisen (S.view space.old).failures (S.view space.new).failures) }
 {
     let (index, end) = map_alternatives(nodes, alternatives, order, start, space, meter, store)?;
@@ -568,7 +577,7 @@ fn map_alternatives<S: Space>(
 ) -> Result<(usize, u64), Stop>
     requires table { IsMappable nodes.now }
     requires alternatives { All (IsPartOf nodes.now (length (levels store.old))) alternatives.now }
-    requires fresh { levels store.old ≡ [] ∷ outer_of (levels store.old) }
+    requires fresh { kept nodes.now store.old ≡ [] ∷ outer_of (kept nodes.now store.old) }
     requires inside { start ≤ 8 * (S.view space.old).len }
     ensures limit { meter.new.limit ≡ meter.old.limit }
     ensures len { (S.view space.new).len ≡ (S.view space.old).len }
@@ -578,7 +587,7 @@ fn map_alternatives<S: Space>(
     ensures made { meter.new.made + meter.old.steps ≤ meter.old.made + meter.new.steps }
     ensures ends { IfOk result (λ r. (start ≤ r.1) × (r.1 ≤ 8 * (S.view space.old).len) × (r.0 < length alternatives.now)) }
     ensures ok { IfOk result (λ r. Takes nodes.now (S.view space.old) meter.old meter.new store.old store.new (map part_name alternatives.now) (alternatives_plan (8 * (S.view space.old).len) (open_parts (type_of nodes.now) alternatives.now) 0 order (kept nodes.now store.old) start) r.0 r.1) }
-    ensures outer { outer_of (levels store.new) ≡ outer_of (levels store.old) }
+    ensures outer { outer_of (kept nodes.now store.new) ≡ outer_of (kept nodes.now store.old) }
     ensures depth { length (levels store.new) ≡ length (levels store.old) }
     ensures err { IfErr result (λ stop. Runs (S.view space.old) meter.old meter.new store.old (alternatives_plan (8 * (S.view space.old).len) (open_parts (type_of nodes.now) alternatives.now) 0 order (kept nodes.now store.old) start) (stop_finish stop)) }
     ensures device { IfErr result (λ stop. stop ≡ Stop.Device → HasRisen (S.view space.old).failures (S.view space.new).failures) }
