@@ -40,3 +40,4 @@ pub mod Settling
 pub mod Shapes
 pub mod Clauses
 pub mod Placing
+pub mod Texts

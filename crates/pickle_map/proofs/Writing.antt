@@ -183,3 +183,8 @@ pub settled-clause : {T E : Type 0} (r : Result T E) (h n : Held) (start : ℕ) 
     OnOk r ((bytes : List ℕ) (outer : Levels) → IsWriting h bytes start outer → levels n ≡ text_level bytes start outer)
 settled-clause (Ok x) h n start fresh e = λ bytes outer w. e ∙ close-fresh h bytes start outer w fresh
 settled-clause (Err x) h n start fresh e = tt
+
+-- a text under way stands inside the outer levels
+pub writing-outer : (h : Held) (bytes : List ℕ) (start : ℕ) (outer : Levels) → IsWriting h bytes start outer → outer_of (levels h) ≡ outer
+writing-outer h [] start outer w = ap outer_of (writing-empty h start outer w)
+writing-outer h (b ∷ bytes) start outer w = ap outer_of (writing-levels h (b ∷ bytes) start outer w (omega arith))

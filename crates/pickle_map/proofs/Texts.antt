@@ -1,0 +1,98 @@
+-- Calls that follow the plan of a string.
+use Rattle.std.proofs.Common.{◌≡◌, ℕ, zero, suc, inl, inr, true, false, ◌+◌, ◌-◌, ◌*◌, ◌^◌, ◌<◌, ◌≤◌, List, [], ◌∷◌, ◌++◌, Option, Some, Result, Ok, Err, length, option_map, refl, sym, ap, subst, ◌∙◌, arith}
+use Rattle.std.proofs.lemmas.Bool.{false≢true, cases_lt}
+use Rattle.bit_space.specs.declared.order.Order.TheVariants.{Big}
+use Rattle.bit_space.specs.Bits.{bits_of}
+use Rattle.bit_space.specs.SpaceView.{SpaceView, HasRisen}
+use Rattle.bit_space.specs.Reading.{MayRead}
+use Rattle.pickle_types.specs.declared.table.Node.{Node}
+use Rattle.pickle_map.specs.declared.map.stop.Stop.{Stop}
+use Rattle.pickle_map.specs.Values.{Value, Levels, pushed, outer_of, text_value, text_level}
+use Rattle.pickle_map.specs.Levels as stored
+use Rattle.pickle_map.specs.Tree as tree
+use Rattle.pickle_map.specs.Slots.{Held, levels, IsWriting}
+use Rattle.pickle_map.specs.Framed.{ReadStops}
+use Rattle.pickle_map.specs.Plan.{Plan}
+use Rattle.pickle_map.specs.Follows.{World, Done, NoRoom, Partly, Follows}
+use Rattle.pickle_map.specs.Mapping.{text_plan, after_byte}
+use Rattle.pickle_map.specs.Room.{Exceeds}
+use Rattle.pickle_map.specs.Shown.{shown_levels, kept}
+use Rattle.pickle_map.specs.Stops.{stop_finish}
+use Rattle.pickle_map.proofs.Keeping.{keeps_outer}
+use Rattle.pickle_map.proofs.Placing.{read_stops, read_goes}
+use Rattle.pickle_map.proofs.ShownLevels.{shown_pushed, shown_outer, exceeds}
+use Rattle.pickle_map.proofs.Walks.{follow_done, follow_here, follow_made, follow_no_room}
+use Rattle.pickle_map.proofs.Writing.{writing-outer}
+
+module _ {world : World} {limit : ℕ} (m n : ℕ) (bytes : List ℕ) (outer : Levels) (s place : ℕ) {k j k1 j1 : ℕ} (left : m < place + 8 * n) (inside : place ≤ m) where
+  pub text_stops : (before after : SpaceView) {limit' : ℕ} (stop : Stop) → limit' ≡ limit → m ≡ 8 * before.len → ReadStops stop s (place + 8) before after limit' k k1 → j1 ≡ j →
+      Follows world limit (text_plan m n bytes outer s place) k j k1 j1 (stop_finish stop)
+  unfolding text_plan
+  text_stops before after stop el em h ej = elim n as (λ x. m < place + 8 * x → Follows world limit (text_plan m x bytes outer s place) k j k1 j1 (stop_finish stop)) [
+    | zero ↦ λ none. absurd (omega arith)
+    | suc x ↦ λ some. read_stops m s place 8 Big _ before after stop el em h ej
+  ] left
+
+  module _ {limit1 : ℕ} (b : ℕ) (el : limit1 ≡ limit) (ek : k1 ≡ k + 1) (ej : j1 ≡ j) (fits : place + 8 ≤ m) (may : MayRead world.known Big place 8 b) where
+    -- no room for the text that ends here
+    pub text_not_closed : {room : ℕ} → b ≡ 0 → room ≡ world.room → Exceeds room (pushed outer (Some (text_value bytes s (place + 8)))) → Follows world limit (text_plan m n bytes outer s place) k j k1 j1 NoRoom
+    unfolding text_plan after_byte
+    text_not_closed {room} e er full =
+        let full : Exceeds world.room (pushed outer (Some (text_value bytes s (place + 8)))) = subst (λ r. Exceeds r (pushed outer (Some (text_value bytes s (place + 8))))) er full in
+        elim n as (λ x. m < place + 8 * x → Follows world limit (text_plan m x bytes outer s place) k j k1 j1 NoRoom) [
+          | zero ↦ λ none. absurd (omega arith)
+          | suc x ↦ λ some. read_goes m s place 8 Big _ b el ek ej fits may (rw e (follow_no_room full))
+        ] left
+
+    pub text_closed : {k2 j2 : ℕ} → b ≡ 0 → k2 ≡ k1 → j2 ≡ j1 + 1 → Follows world limit (text_plan m n bytes outer s place) k j k2 j2 (Done (Ok (text_value bytes s (place + 8))))
+    unfolding text_plan after_byte
+    text_closed {k2} {j2} e ek2 ej2 = elim n as (λ x. m < place + 8 * x → Follows world limit (text_plan m x bytes outer s place) k j k2 j2 (Done (Ok (text_value bytes s (place + 8))))) [
+      | zero ↦ λ none. absurd (omega arith)
+      | suc x ↦ λ some. read_goes m s place 8 Big _ b el ek ej fits may (rw e (follow_made {limit' = limit1} refl ek2 ej2 follow_done))
+    ] left
+
+  -- a byte more
+  module _ {limit1 : ℕ} (b : ℕ) (el : limit1 ≡ limit) (ek : k1 ≡ k + 1) (ej : j1 ≡ j) (fits : place + 8 ≤ m) (may : MayRead world.known Big place 8 b) (some : b ≡ 0 → ⊥) where
+    pub text_no_room : {room : ℕ} → room ≡ world.room → Exceeds room (text_level (bytes ++ b ∷ []) s outer) → Follows world limit (text_plan m n bytes outer s place) k j k1 j1 NoRoom
+    unfolding text_plan after_byte
+    text_no_room {room} er full = by_byte b may some (subst (λ r. Exceeds r (text_level (bytes ++ b ∷ []) s outer)) er full) n left
+      where
+        by_byte : (b : ℕ) → MayRead world.known Big place 8 b → (b ≡ 0 → ⊥) → Exceeds world.room (text_level (bytes ++ b ∷ []) s outer) → (n : ℕ) → m < place + 8 * n → Follows world limit (text_plan m n bytes outer s place) k j k1 j1 NoRoom
+        by_byte b may some full zero left = absurd (omega arith)
+        by_byte zero may some full (suc n) left = absurd (some refl)
+        by_byte (suc b) may some full (suc n) left = read_goes m s place 8 Big _ (suc b) el ek ej fits may (follow_no_room full)
+
+    pub text_goes : {k2 j2 : ℕ} → k2 ≡ k1 → j2 ≡ j1 + 1 → (n' : ℕ) × (m < place + 8 + 8 * n') × Follows world limit (text_plan m n bytes outer s place) k j k2 j2 (Partly (text_plan m n' (bytes ++ b ∷ []) outer s (place + 8)))
+    unfolding text_plan after_byte
+    text_goes {k2} {j2} ek2 ej2 = by_byte b may some n left
+      where
+        by_byte : (b : ℕ) → MayRead world.known Big place 8 b → (b ≡ 0 → ⊥) → (n : ℕ) → m < place + 8 * n → (n' : ℕ) × (m < place + 8 + 8 * n') × Follows world limit (text_plan m n bytes outer s place) k j k2 j2 (Partly (text_plan m n' (bytes ++ b ∷ []) outer s (place + 8)))
+        by_byte b may some zero left = absurd (omega arith)
+        by_byte zero may some (suc n) left = absurd (some refl)
+        by_byte (suc b) may some (suc n) left = (n, omega arith, read_goes m s place 8 Big _ (suc b) el ek ej fits may (follow_made {limit' = limit1} refl ek2 ej2 follow_here))
+
+module _ (nodes : List Node) (store : Held) (bytes : List ℕ) (start : ℕ) (outer : stored.Levels) where
+  -- the levels around a text under way
+  pub around_text : IsWriting store bytes start outer → outer_of (kept nodes store) ≡ shown_levels nodes outer
+  unfolding kept
+  around_text w = sym (shown_outer nodes (levels store)) ∙ ap (shown_levels nodes) (writing-outer store bytes start outer w)
+
+  -- a text that doesn't go into the levels around it
+  pub not_closed : (room : ℕ) → (stored.FitsIn room (stored.pushed outer (Some (tree.text_value bytes start))) → false ≡ true) → Exceeds room (pushed (shown_levels nodes outer) (Some (text_value bytes start (start + 8 * (length bytes + 1)))))
+  not_closed room h = subst (Exceeds room) (shown_pushed nodes outer (Some (tree.text_value bytes start))) (exceeds nodes room (stored.pushed outer (Some (tree.text_value bytes start))) (λ fits. false≢true (h fits)))
+
+  -- a text that doesn't take a byte more
+  pub not_longer : (room : ℕ) → (stored.FitsIn room (stored.text_level bytes start outer) → false ≡ true) → Exceeds room (text_level bytes start (shown_levels nodes outer))
+  not_longer room h = exceeds nodes room (stored.text_level bytes start outer) (λ fits. false≢true (h fits))
+
+  pub keeps_text : levels store ≡ stored.pushed outer (Some (tree.text_value bytes start)) → kept nodes store ≡ pushed (shown_levels nodes outer) (Some (text_value bytes start (start + 8 * (length bytes + 1))))
+  unfolding kept
+  keeps_text e = ap (shown_levels nodes) e ∙ shown_pushed nodes outer (Some (tree.text_value bytes start))
+
+-- a read that gives what the same bytes give
+pub may_same : (bytes bytes' : Option (List ℕ)) (place n : ℕ) → bytes' ≡ bytes → MayRead (option_map bits_of bytes') Big place 8 n → MayRead (option_map bits_of bytes) Big place 8 n
+may_same bytes bytes' place n e h = subst (λ b. MayRead (option_map bits_of b) Big place 8 n) e h
+
+-- a count that rose after it had not fallen
+pub risen_before : (f g h : ℕ) → f ≤ g → g ≤ h → HasRisen g h → HasRisen f h
+risen_before f g h le up risen lt = elim (cases_lt g (2 ^ 64 - 1)) [ | inl low ↦ let r = risen low in omega (arith, le, r) | inr high ↦ omega (arith, lt, high, up) ]
