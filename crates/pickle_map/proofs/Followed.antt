@@ -2,9 +2,9 @@
 use Rattle.std.proofs.Common.{◌≡◌, ℕ, ◌+◌, ◌-◌, ◌<◌, ◌≤◌, length, List, Some, Result, Ok, Err, refl, subst, arith}
 use Rattle.bit_space.specs.declared.order.Order.{Order}
 use Rattle.pickle_types.specs.Types.{PokeType}
-use Rattle.pickle_types.specs.Bounds.{cost, room}
+use Rattle.pickle_types.specs.Bounds.{cost, room, least_width}
 use Rattle.pickle_map.specs.declared.faults.MapFaultKind.TheVariants as fault
-use Rattle.pickle_map.specs.Values.{Value, Levels, no_values}
+use Rattle.pickle_map.specs.Values.{Value, end_of, Levels, no_values}
 use Rattle.pickle_map.specs.Clauses.{FaultAt}
 use Rattle.pickle_map.specs.Room.{Slot, NodeSlot, ByteSlot, value_slots, slots}
 use Rattle.pickle_map.specs.Plan.{Plan, Ended, Tick, Made, Read, result_of, steps_of, made_of, AtMost, ticked, noted, given, MadeWithin, made_tick, made_more, made_read, Counts, counted, count_tick, count_made, count_read, Always, after_made}
@@ -18,7 +18,7 @@ use Rattle.pickle_map.proofs.Exists.{plan_means}
 use Rattle.pickle_map.proofs.Costs.{at_most_more, plan_at_most}
 use Rattle.pickle_map.proofs.Makes.{plan_within}
 use Rattle.pickle_map.proofs.Always.{of_tick, of_made, of_read, of_result}
-use Rattle.pickle_map.proofs.Fitting.{plan_fits}
+use Rattle.pickle_map.proofs.Fitting.{plan_fits, plan_wide}
 use Rattle.pickle_map.proofs.Rooms.{room_enough}
 
 -- ---- along a walk
@@ -202,3 +202,10 @@ module _ {world : World} {limit : ℕ} (bits : List ℕ) (ty : PokeType) (order 
       let x = l.steps in
       let y = l.made in
       broken_off (plan_means bits ty order no_values s) (omega arith) (omega arith) (omega arith)
+
+-- over any space: how far a value reaches
+pub followed_wide : {world : World} {limit : ℕ} (m : ℕ) (ty : PokeType) (order : Order) (levels : Levels) (s : ℕ) {k j k' j' : ℕ} {v : Value} → Follows world limit (plan m ty order levels s) k j k' j' (Done (Ok v)) → s + least_width ty ≤ end_of v
+followed_wide m ty order levels s {v} h =
+    let a = walk_keeps h.walk (plan_wide m ty order levels s) in
+    let a = rw h.ends at a in
+    of_result a

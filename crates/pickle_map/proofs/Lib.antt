@@ -31,7 +31,7 @@ pub mod Elements
 mod Always
 mod Fitting
 mod Rooms
-mod Followed
+pub mod Followed
 mod Counts
 pub mod Evaluations
 pub mod Sizes
@@ -41,3 +41,4 @@ pub mod Shapes
 pub mod Clauses
 pub mod Placing
 pub mod Texts
+pub mod Mapping

@@ -1,6 +1,6 @@
 -- What a table says of the shape of its node at a place.
 use Rattle.std.proofs.Common.{◌≡◌, ℕ, zero, suc, ◌+◌, ◌<◌, ◌≤◌, max, List, [], ◌∷◌, map, Option, Some, None, length, get_or, refl, sym, ap, subst, ◌∙◌, arith}
-use Rattle.std.specs.Prelude.{slice_get, All, Vec, Bool}
+use Rattle.std.specs.Prelude.{slice_get, unwrap_or, All, Vec, Bool}
 use Rattle.std.specs.declared.alloc.Global.{Global}
 use Rattle.std.proofs.lemmas.Option.{slice_get-get_or}
 use Rattle.pickle_types.specs.declared.integer.IntegerType.{IntegerType}
@@ -131,3 +131,9 @@ fields_named types (f ∷ fs) = ap (λ rest. field_name f ∷ rest) (fields_name
 pub parts_named : (types : ℕ → PokeType) (ps : List Part) → part_names (open_parts types ps) ≡ map part_name ps
 parts_named types [] = refl
 parts_named types (p ∷ ps) = ap (λ rest. part_name p ∷ rest) (parts_named types ps)
+
+-- the name of an alternative by its number
+pub name_of_one : (ps : List Part) (i : ℕ) (p : Part) → i < length ps → p ≡ get_or ps i p → unwrap_or (slice_get (map part_name ps) i) None ≡ part_name p
+name_of_one [] i p lt e = absurd (omega arith)
+name_of_one (q ∷ ps) zero p lt e = let same : p ≡ q = e in ap part_name (sym same)
+name_of_one (q ∷ ps) (suc i) p lt e = name_of_one ps i p (omega arith) e

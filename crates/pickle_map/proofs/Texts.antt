@@ -95,4 +95,4 @@ may_same bytes bytes' place n e h = subst (λ b. MayRead (option_map bits_of b) 
 
 -- a count that rose after it had not fallen
 pub risen_before : (f g h : ℕ) → f ≤ g → g ≤ h → HasRisen g h → HasRisen f h
-risen_before f g h le up risen lt = elim (cases_lt g (2 ^ 64 - 1)) [ | inl low ↦ let r = risen low in omega (arith, le, r) | inr high ↦ omega (arith, lt, high, up) ]
+risen_before f g h le up risen lt = elim (cases_lt g (2 ^ 64 - 1)) [ inl low ↦ let r = risen low in omega (arith, le, r) | inr high ↦ omega (arith, lt, high, up) ]

@@ -1,6 +1,6 @@
 //! The types of a table, over the bits of a space.
 
-ghost use Rattle.std.specs.Prelude.{◌≡◌, ◌+◌, ◌*◌, ◌<◌, ◌≤◌, ◌∷◌, [], Ok, map, length, All, IfOk, IfErr, OnOk, OnErr};
+ghost use Rattle.std.specs.Prelude.{◌≡◌, ◌+◌, ◌*◌, ◌^◌, ◌<◌, ◌≤◌, ◌∷◌, [], Ok, map, length, All, IfOk, IfErr, OnOk, OnErr};
 ghost use Rattle.bit_space.specs.SpaceView.{HasRisen};
 ghost use Rattle.pickle_types.specs.Types.{ArrayOf, StructOf, UnionOf, depth};
 ghost use Rattle.pickle_types.specs.Bounds.{least_width, count_of};
@@ -416,8 +416,24 @@ fn map_fields<S: Space>(
     for field in fields {
         meter.tick()?;
         if is_there(nodes, &field.condition, store, origin, meter)? {
-            behind = map_field(
-                nodes, pinned, field, order, start, behind, space, meter, store,
+            let place = find_start(
+                nodes,
+                pinned,
+                &field.label,
+                store,
+                origin,
+                u128::from(behind),
+                meter,
+            )?;
+            behind = map_checked(
+                nodes,
+                field.node,
+                &field.constraint,
+                ordered(field.order, order),
+                place,
+                space,
+                meter,
+                store,
             )?;
             top = top.max(behind);
         } else {
@@ -425,59 +441,6 @@ fn map_fields<S: Space>(
         }
     }
     Ok(top)
-}
-
-/// Maps a field that is there into its level; the last one before it that is there ended at `behind`.
-#[cycle(mapping)]
-fn map_field<S: Space>(
-    nodes: &[Node],
-    pinned: bool,
-    field: &Field,
-    order: Order,
-    start: u64,
-    behind: u64,
-    space: &mut S,
-    meter: &mut Meter,
-    store: &mut Store,
-) -> Result<u64, Stop>
-    requires table { IsMappable nodes.now }
-    requires field { IsFieldOf nodes.now (length (levels store.old)) field.now }
-    requires inside { start ≤ 8 * (S.view space.old).len }
-    requires behind { start ≤ behind }
-    ensures limit { meter.new.limit ≡ meter.old.limit }
-    ensures len { (S.view space.new).len ≡ (S.view space.old).len }
-    ensures bytes { (S.view space.new).bytes ≡ (S.view space.old).bytes }
-    ensures failures { (S.view space.old).failures ≤ (S.view space.new).failures }
-    ensures room { store.new.room ≡ store.old.room }
-    ensures made { meter.new.made + meter.old.steps ≤ meter.old.made + meter.new.steps }
-    ensures ends { IfOk result (λ end. (start ≤ end) × (end ≤ 8 * (S.view space.old).len)) }
-    ensures ok { IfOk result (λ end. Mapped nodes.now (S.view space.old) meter.old meter.new store.old store.new (then_ok (after (label_steps pinned (optional_term field.now.label) (kept nodes.now store.old)) (field_start pinned (optional_term field.now.label) (kept nodes.now store.old) start behind)) (λ p. then_ok (plan (8 * (S.view space.old).len) (type_of nodes.now field.now.node) (ordered field.now.order order) (kept nodes.now store.old) p) (constrained (optional_term field.now.constraint) (kept nodes.now store.old) p))) end) }
-    ensures outer { outer_of (kept nodes.now store.new) ≡ outer_of (kept nodes.now store.old) }
-    ensures depth { length (levels store.new) ≡ length (levels store.old) }
-    ensures err { IfErr result (λ stop. Runs (S.view space.old) meter.old meter.new store.old (then_ok (after (label_steps pinned (optional_term field.now.label) (kept nodes.now store.old)) (field_start pinned (optional_term field.now.label) (kept nodes.now store.old) start behind)) (λ p. then_ok (plan (8 * (S.view space.old).len) (type_of nodes.now field.now.node) (ordered field.now.order order) (kept nodes.now store.old) p) (constrained (optional_term field.now.constraint) (kept nodes.now store.old) p))) (stop_finish stop)) }
-    ensures device { IfErr result (λ stop. stop ≡ Stop.Device → HasRisen (S.view space.old).failures (S.view space.new).failures) }
-{
-    let origin = u128::from(start);
-    let place = find_start(
-        nodes,
-        pinned,
-        &field.label,
-        store,
-        origin,
-        u128::from(behind),
-        meter,
-    )?;
-    let order = ordered(field.order, order);
-    map_checked(
-        nodes,
-        field.node,
-        &field.constraint,
-        order,
-        place,
-        space,
-        meter,
-        store,
-    )
 }
 
 /// Maps a union, whose start is inside the file.

@@ -21,8 +21,8 @@ invariant-loop-byte g l = record {
   depth : length (levels l.store) ≡ length (levels l.initial.store);
   so_far : (bytes : List ℕ) × (n : ℕ) × (8 * (g.S.Space.view l.initial.space).len < l.place + 8 * n) × (l.place ≡ l.start + 8 * length bytes) × IsWriting l.store bytes l.start (stored.outer_of (levels l.initial.store)) ×
       Runs (g.S.Space.view l.initial.space) l.initial.meter l.meter l.initial.store
-          (text_plan (8 * (g.S.Space.view l.initial.space).len) (8 * (g.S.Space.view l.initial.space).len / 8 + 1) [] (outer_of (kept l.nodes l.initial.store)) l.start l.start)
-          (Partly (text_plan (8 * (g.S.Space.view l.initial.space).len) n bytes (outer_of (kept l.nodes l.initial.store)) l.start l.place));
+      (text_plan (8 * (g.S.Space.view l.initial.space).len) (8 * (g.S.Space.view l.initial.space).len / 8 + 1) [] (outer_of (kept l.nodes l.initial.store)) l.start l.start)
+      (Partly (text_plan (8 * (g.S.Space.view l.initial.space).len) n bytes (outer_of (kept l.nodes l.initial.store)) l.start l.place));
 }
 
 abbrev pub decreases-loop-byte : goal.decreases-loop-byte
