@@ -7,7 +7,7 @@ use Rattle.std.proofs.lemmas.List.{get_or_append_left, length-append}
 use Rattle.std.proofs.Math.Seq.{get_or-append_seam}
 use Rattle.pickle_types.specs.declared.table.Node.{Node}
 use Rattle.pickle_types.specs.Types.{PokeType}
-use Rattle.pickle_types.specs.Table.{open_shape, open_found, type_at, type_of, NamesBelow, IsTable, Grows}
+use Rattle.pickle_types.specs.Table.{open_shape, open_found, type_at, type_of, NamesBelow, IsSoundShape, IsTable, Grows}
 use Rattle.pickle_types.proofs.Tables.{shape_same, opens}
 
 kept : (old more : List Node) (i : ℕ) → i < length old → slice_get (old ++ more) i ≡ slice_get old i
@@ -34,22 +34,24 @@ module _ (old more : List Node) (table : IsTable old) where
   unfolding type_of
   type_grows i lt = at_grows (suc i) i lt
 
-module _ (old : List Node) (table : IsTable old) (node : Node) (below : NamesBelow (length old) node.shape) where
+module _ (old : List Node) (table : IsTable old) (node : Node) (below : NamesBelow (length old) node.shape) (sound : IsSoundShape node.shape) where
   is_last : slice_get (old ++ node ∷ []) (length old) ≡ Some node
   is_last =
       let longer = length-append old (node ∷ []) in
       slice_get-get_or (old ++ node ∷ []) (length old) node (omega arith) ∙ ap Some (get_or-append_seam old node [] node)
 
   pub push_table : IsTable (old ++ node ∷ [])
-  push_table = record { below = λ i n is. elim (cases_lt i (length old)) [ inl lt ↦ table.below i n (sym (kept old (node ∷ []) i lt) ∙ is) | inr le ↦ at_end i n is le ] }
+  push_table = record {
+    below = λ i n is. elim (cases_lt i (length old)) [ inl lt ↦ table.below i n (sym (kept old (node ∷ []) i lt) ∙ is) | inr le ↦ let e = at_end i n is le in rw (e.0, e.1) below ];
+    sound = λ i n is. elim (cases_lt i (length old)) [ inl lt ↦ table.sound i n (sym (kept old (node ∷ []) i lt) ∙ is) | inr le ↦ let e = at_end i n is le in rw e.1 sound ];
+  }
     where
-      at_end : (i : ℕ) (n : Node) → slice_get (old ++ node ∷ []) i ≡ Some n → length old ≤ i → NamesBelow i n.shape
+      at_end : (i : ℕ) (n : Node) → slice_get (old ++ node ∷ []) i ≡ Some n → length old ≤ i → (i ≡ length old) × (n ≡ node)
       at_end i n is le =
           let within = slice_get_within (old ++ node ∷ []) i n is in
           let longer = length-append old (node ∷ []) in
           let last : i ≡ length old = omega arith in
-          let same : n ≡ node = let e = rw last at is in cc (is_last, e) in
-          rw (last, same) below
+          (last, let e = rw last at is in cc (is_last, e))
 
   pub push_type : type_of (old ++ node ∷ []) (length old) ≡ open_shape (type_of old) node.shape
   push_type =
