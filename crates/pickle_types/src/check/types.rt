@@ -21,7 +21,7 @@ use crate::check::sorts::{has_width, operand_of};
 use crate::fault::FaultKind;
 use crate::names::{Names, find_name};
 use crate::scopes::Seen;
-use crate::table::{Extent, Field, Node, Resolved, Shape};
+use crate::table::{Extent, Field, MOST_ALTERNATIVES, MOST_NODES, Node, Resolved, Shape};
 use pickle_syntax::tree;
 use pickle_syntax::tree::{Expression, Form, Reference, Unit};
 use std::alloc::Global;
@@ -183,17 +183,22 @@ impl<'n> Builder<'n> {
         })
     }
 
+    /// A new node, with the depth of its type. `Memory` is answered also where the table is full.
     pub fn push(&mut self, slot: Option<u16>, shape: Shape, depth: u8) -> Result<Found, FaultKind>
         requires table { IsTable self.old.nodes.items }
         requires names { AreNamed self.old.nodes.items self.old.names }
         requires below { NamesBelow (length self.old.nodes.items) shape }
         requires sound { IsSoundShape shape }
         requires depth { depth ≡ Types.depth (open_shape (type_of self.old.nodes.items) shape) }
+        requires low { depth ≤ 64 }
         ensures builds { Builds self.old self.new result (Ok (open_shape (type_of self.old.nodes.items) shape)) }
         ensures depth { IfOk result (λ found. found.depth ≡ depth) }
         ensures memory { IfErr result (λ e. e ≡ FaultKind.Memory) }
     {
         let node = self.nodes.len();
+        if node >= MOST_NODES {
+            return Err(FaultKind::Memory);
+        }
         self.nodes.push(Node { shape, slot })?;
         Ok(Found { node, depth })
     }
@@ -416,6 +421,9 @@ impl<'n> Builder<'n> {
         }
         let (fields, depth) = self.fields_at(Place::Union, levels, room - 1, written)?;
         let alternatives = parts_from(self.alloc, fields)?;
+        if alternatives.len() > MOST_ALTERNATIVES {
+            return Err(FaultKind::Memory);
+        }
         let name = copied(self.alloc, title.name)?;
         self.push(title.slot, Shape::Union { name, alternatives }, depth + 1)
     }

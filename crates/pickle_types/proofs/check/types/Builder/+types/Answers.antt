@@ -167,7 +167,7 @@ pub union_at-push-requires-clause-below : goal.union_at-push-requires-clause-bel
 union_at-push-requires-clause-below t c = rw c.in_ok-alternatives.ensures.ok (parts_below _ c.in_ok-fields.fields.items c.in_ok-fields.ensures.builds.2.below)
 
 pub union_at-push-requires-clause-sound : goal.union_at-push-requires-clause-sound
-union_at-push-requires-clause-sound t c = rw c.in_ok-alternatives.ensures.ok (parts_sound c.in_ok-fields.fields.items c.in_ok-fields.ensures.sound)
+union_at-push-requires-clause-sound t c = (rw c.in_ok-alternatives.ensures.ok (parts_sound c.in_ok-fields.fields.items c.in_ok-fields.ensures.sound), omega arith)
 
 pub union_at-push-requires-clause-depth : goal.union_at-push-requires-clause-depth
 union_at-push-requires-clause-depth t c =
