@@ -1,18 +1,18 @@
 -- Signed numbers of 128 bits, as they are passed and tested.
-use Rattle.std.proofs.Common.{◌≡◌, pow_mono, ℕ, zero, suc, ◌+◌, ◌-◌, ◌*◌, ◌<◌, ◌≤◌, ◌^◌, Bool, true, false, ℤ, pos, negsuc, ◌+ℤ◌, ◌-ℤ◌, ◌*ℤ◌, neg_ℤ, nat_abs, ◌/◌, ◌%◌, to_z, of_z, refl, sym, ap, subst, ◌∙◌, arith}
+use Rattle.std.proofs.Common.{◌≡◌, pow_mono, ℕ, zero, suc, ◌-◌, ◌*◌, ◌<◌, ◌≤◌, ◌^◌, Bool, true, false, ℤ, pos, negsuc, ◌*ℤ◌, neg_ℤ, nat_abs, ◌/◌, ◌%◌, to_z, of_z, refl, sym, ap, ◌∙◌, arith}
 use Rattle.std.proofs.Common.{lit<}
 use Rattle.std.proofs.Common.{◌⊎◌, inl, inr}
 use Rattle.std.proofs.lemmas.Bool.{cases_eq, eq-eqb, ne_eqb}
 use Rattle.std.specs.Prelude.{nat_eq, unsigned_abs, int_div, int_rem}
-use Rattle.std.proofs.lemmas.Int.{ints, to_z-of_z, fits_signed_mul, fits_signed_from_abs, unsigned_abs-mul, quot-rem}
+use Rattle.std.proofs.lemmas.Int.{to_z-of_z, fits_signed_mul, fits_signed_from_abs}
 use Rattle.std.proofs.Math.Nat.{div-le_self, mod-le}
 use mir.Syntax.{w128}
 use mir.Val.{SFits}
 use Rattle.std.specs.Prelude.{Ok}
 use Rattle.pickle_types.specs.declared.integer.IntegerType.{IntegerType}
+use Rattle.pickle_types.specs.Sound.{IsSmall}
 use Rattle.pickle_map.specs.Values.{IntegerLabel, OffsetLabel}
 use Rattle.pickle_map.specs.Arithmetic.{Computed, is_zero, brought, modulo, brought_integer, brought_offset}
-use Rattle.pickle_map.specs.Ranges.{IsSmall}
 
 -- what was said of an argument that was passed
 pub passed : {A : Type 0} (f : ℤ → A) (z : ℤ) (r : A) → SFits w128 z → r ≡ f (to_z w128 (of_z w128 z)) → r ≡ f z

@@ -15,7 +15,6 @@ pub mod Scalars
 pub mod Operands
 pub mod Contents
 pub mod Comes
-pub mod Sound
 pub mod Laws
 pub mod Tree
 pub mod Levels

@@ -1,13 +1,12 @@
 -- Computed integers and offsets, and the labels of values that they stand for.
 use Rattle.std.specs.Prelude.{◌≡◌, ℕ, ◌<◌, ◌≤◌, ℤ, pos, Option, Some, None, Result, Ok, Err}
-use Rattle.pickle_types.specs.declared.integer.IntegerType.{IntegerType}
 use Rattle.pickle_types.specs.Table.{IsWidth}
+use Rattle.pickle_types.specs.Sound.{IsSmall}
 use Rattle.pickle_map.specs.declared.faults.MapFaultKind.{MapFaultKind}
 use Rattle.pickle_map.specs.declared.evaluate.integers.Scalar.{Scalar}
 use Rattle.pickle_map.specs.declared.evaluate.integers.Scalar.TheVariants as scalar
 use Rattle.pickle_map.specs.Values.{Label, IntegerLabel, OffsetLabel}
 use Rattle.pickle_map.specs.Arithmetic.{Computed}
-use Rattle.pickle_map.specs.Ranges.{IsSmall}
 use Rattle.pickle_map.specs.Tree as tree
 
 abbrev pub scalar_label : Scalar → Label

@@ -7,17 +7,6 @@ use Rattle.pickle_map.specs.Clauses.{FaultAt}
 use Rattle.pickle_map.specs.Contents.{IsHeld}
 use Rattle.pickle_map.specs.Evaluation.{Operand, operand_label, Evaluation}
 use Rattle.std.specs.Prelude.{Option, Some, None}
-use Rattle.pickle_types.specs.Types.{Term, Bound, Unbounded, ByCount, BySize}
-use Rattle.pickle_map.specs.Sound.{IsSoundTerm}
-
-abbrev pub IsSoundClause : Option Term → Type 0
-IsSoundClause None = Unit {0}
-IsSoundClause (Some e) = IsSoundTerm e
-
-abbrev pub IsSoundBound : Bound → Type 0
-IsSoundBound Unbounded = Unit {0}
-IsSoundBound (ByCount e) = IsSoundTerm e
-IsSoundBound (BySize e) = IsSoundTerm e
 
 -- a number that is not negative
 abbrev pub natural : ℤ → Option ℕ

@@ -1,6 +1,6 @@
 -- One step of the definitions for each step of the builder.
-use Rattle.std.proofs.Common.{◌≡◌, ℕ, zero, suc, ◌+◌, ◌-◌, ◌<◌, ◌≤◌, max, List, [], ◌∷◌, ◌++◌, map, Option, Some, None, Result, Ok, Err, Bool, length, take, drop, get_or, refl, sym, ap, ◌∙◌, arith}
-use Rattle.std.specs.Prelude.{is_some}
+use Rattle.std.proofs.Common.{◌≡◌, ℕ, zero, suc, ◌+◌, ◌-◌, ◌<◌, ◌≤◌, ◌^◌, max, List, [], ◌∷◌, ◌++◌, map, Option, Some, None, Result, Ok, Err, Bool, length, take, drop, get_or, refl, sym, ap, ◌∙◌, arith}
+use Rattle.std.specs.Prelude.{is_some, All}
 use Rattle.std.specs.Map.{values_of}
 use Rattle.std.proofs.lemmas.Bool.{eq-eqb, ne_eqb}
 use Rattle.std.proofs.lemmas.List.{append-nil, length-append, length-take, drop_more, map_push, take_all, take-append-le}
@@ -19,7 +19,7 @@ use Rattle.pickle_types.specs.declared.check.types.Builder.{Builder}
 use Rattle.pickle_types.specs.declared.check.types.Found.{Found}
 use Rattle.pickle_types.specs.declared.scopes.Seen.{Seen}
 use Rattle.pickle_types.specs.Types.{Term, Bound, PokeType, StringOf, ArrayOf, StructOf, IntegralOf, UnionOf, Fields, NoFields, depth, fields_depth}
-use Rattle.pickle_types.specs.Table.{name_of, optional_term, type_of, open_shape, open_fields, open_parts, fields_onto, FieldsBelow, PartsBelow, NamesBelow, IsTable, Grows}
+use Rattle.pickle_types.specs.Table.{name_of, optional_term, type_of, open_shape, open_fields, open_parts, fields_onto, FieldsBelow, PartsBelow, NamesBelow, IsSoundField, IsSoundPart, IsSoundShape, IsTable, Grows}
 use Rattle.pickle_types.specs.Scopes.{Visible}
 use Rattle.pickle_types.specs.Names.{Names}
 use Rattle.pickle_types.specs.Expressions.{◌>>=◌, integer_referred}
@@ -32,11 +32,11 @@ use Rattle.pickle_types.proofs.Tables.{fields_same}
 use Rattle.pickle_types.proofs.Steps.{fails_bind, views_kept, below_kept, names_kept, named_kept, grows_on}
 
 -- a node that is pushed has the type that it opens to
-pub pushed : (old new : Builder) (node : Node) → IsTable old.nodes.items → AreNamed old.nodes.items old.names → NamesBelow (length old.nodes.items) node.shape →
+pub pushed : (old new : Builder) (node : Node) → IsTable old.nodes.items → AreNamed old.nodes.items old.names → NamesBelow (length old.nodes.items) node.shape → IsSoundShape node.shape →
     new.nodes.items ≡ old.nodes.items ++ node ∷ [] → new.names ≡ old.names → new.seen.items ≡ old.seen.items →
-    (d at : ℕ) → d ≡ depth (open_shape (type_of old.nodes.items) node.shape) → at ≡ length old.nodes.items →
+    (d at : ℕ) → d ≡ depth (open_shape (type_of old.nodes.items) node.shape) → d ≤ 64 → at ≡ length old.nodes.items → at < 2 ^ 32 →
     IsBuilt old new (record { node = at; depth = d }) (open_shape (type_of old.nodes.items) node.shape)
-pushed old new node table named below is same seen d at deep last =
+pushed old new node table named below sound is same seen d at deep low last few =
     let grows : Grows old.nodes.items new.nodes.items = record { more = node ∷ []; is = is } in
     let longer = length-append old.nodes.items (node ∷ []) in
     let known = names_kept old.nodes.items new.nodes.items table grows old.names.map.entries named in
@@ -44,7 +44,7 @@ pushed old new node table named below is same seen d at deep last =
     record {
       keeps = record {
         grows = grows;
-        table = rw is (push_table old.nodes.items table node below);
+        table = rw is (push_table old.nodes.items table node below sound (omega arith) (omega arith));
         named = rw same still;
         known = rw same known;
       };
@@ -138,6 +138,11 @@ pub parts_below : (n : ℕ) (fs : List Field) → FieldsBelow n fs → PartsBelo
 parts_below n [] h k d lt = absurd (omega arith)
 parts_below n (f ∷ fs) h zero d lt = h 0 f (omega arith)
 parts_below n (f ∷ fs) h (suc k) d lt = parts_below n fs (λ j e less. h (suc j) e (omega arith)) k d (omega arith)
+
+pub parts_sound : (fs : List Field) → All IsSoundField fs → All IsSoundPart (map part_of fs)
+parts_sound [] h k d lt = absurd (omega arith)
+parts_sound (f ∷ fs) h zero d lt = record { constraint = (h 0 f (omega arith)).constraint }
+parts_sound (f ∷ fs) h (suc k) d lt = parts_sound fs (λ j e less. h (suc j) e (omega arith)) k d (omega arith)
 
 pub some_alternative : (fs : List tree.Field) → 0 < length fs → if_some_alternative (fields_tree fs) ≡ Ok tt
 some_alternative [] some = absurd (omega arith)

@@ -1,14 +1,14 @@
 -- A table that grows keeps what its nodes mean.
-use Rattle.std.proofs.Common.{◌≡◌, ℕ, zero, suc, ◌<◌, ◌≤◌, List, [], ◌∷◌, ◌++◌, Option, Some, None, length, refl, sym, ap, ◌∙◌, arith, inl, inr}
+use Rattle.std.proofs.Common.{◌≡◌, ℕ, zero, suc, ◌<◌, ◌≤◌, ◌^◌, List, [], ◌∷◌, ◌++◌, Option, Some, None, length, refl, sym, ap, ◌∙◌, arith, inl, inr}
 use Rattle.std.specs.Prelude.{slice_get}
 use Rattle.std.proofs.lemmas.Bool.{cases_lt}
 use Rattle.std.proofs.lemmas.Option.{slice_get-get_or, slice_get_within}
 use Rattle.std.proofs.lemmas.List.{get_or_append_left, length-append}
 use Rattle.std.proofs.Math.Seq.{get_or-append_seam}
 use Rattle.pickle_types.specs.declared.table.Node.{Node}
-use Rattle.pickle_types.specs.Types.{PokeType}
-use Rattle.pickle_types.specs.Table.{open_shape, open_found, type_at, type_of, NamesBelow, IsTable, Grows}
-use Rattle.pickle_types.proofs.Tables.{shape_same, opens}
+use Rattle.pickle_types.specs.Types.{PokeType, depth}
+use Rattle.pickle_types.specs.Table.{open_shape, open_found, type_at, type_of, NamesBelow, IsSoundShape, IsTable, Grows}
+use Rattle.pickle_types.proofs.Tables.{shape_same, opens_below}
 
 kept : (old more : List Node) (i : ℕ) → i < length old → slice_get (old ++ more) i ≡ slice_get old i
 kept [] more i lt = absurd (omega arith)
@@ -40,21 +40,36 @@ module _ (old : List Node) (table : IsTable old) (node : Node) (below : NamesBel
       let longer = length-append old (node ∷ []) in
       slice_get-get_or (old ++ node ∷ []) (length old) node (omega arith) ∙ ap Some (get_or-append_seam old node [] node)
 
-  pub push_table : IsTable (old ++ node ∷ [])
-  push_table = record { below = λ i n is. elim (cases_lt i (length old)) [ inl lt ↦ table.below i n (sym (kept old (node ∷ []) i lt) ∙ is) | inr le ↦ at_end i n is le ] }
-    where
-      at_end : (i : ℕ) (n : Node) → slice_get (old ++ node ∷ []) i ≡ Some n → length old ≤ i → NamesBelow i n.shape
-      at_end i n is le =
-          let within = slice_get_within (old ++ node ∷ []) i n is in
-          let longer = length-append old (node ∷ []) in
-          let last : i ≡ length old = omega arith in
-          let same : n ≡ node = let e = rw last at is in cc (is_last, e) in
-          rw (last, same) below
+  at_end : (i : ℕ) (n : Node) → slice_get (old ++ node ∷ []) i ≡ Some n → length old ≤ i → (i ≡ length old) × (n ≡ node)
+  at_end i n is le =
+      let within = slice_get_within (old ++ node ∷ []) i n is in
+      let longer = length-append old (node ∷ []) in
+      let last : i ≡ length old = omega arith in
+      (last, let e = rw last at is in cc (is_last, e))
+
+  push_below : (i : ℕ) (n : Node) → slice_get (old ++ node ∷ []) i ≡ Some n → NamesBelow i n.shape
+  push_below i n is = elim (cases_lt i (length old)) [ inl lt ↦ table.below i n (sym (kept old (node ∷ []) i lt) ∙ is) | inr le ↦ let e = at_end i n is le in rw (e.0, e.1) below ]
 
   pub push_type : type_of (old ++ node ∷ []) (length old) ≡ open_shape (type_of old) node.shape
   push_type =
-      opens (old ++ node ∷ []) push_table (length old) node is_last
+      opens_below (old ++ node ∷ []) push_below (length old) node is_last
       ∙ shape_same (type_of (old ++ node ∷ [])) (type_of old) (length old) (λ e lt. type_grows old (node ∷ []) table e lt) node.shape below
+
+  push_deep : depth (open_shape (type_of old) node.shape) ≤ 64 → (i : ℕ) → i < length (old ++ node ∷ []) → depth (type_of (old ++ node ∷ []) i) ≤ 64
+  push_deep low i within =
+      let longer = length-append old (node ∷ []) in
+      elim (cases_lt i (length old)) [
+        | inl lt ↦ rw (type_grows old (node ∷ []) table i lt) (table.deep i lt)
+        | inr le ↦ let last : i ≡ length old = omega arith in rw (last, push_type) low
+      ]
+
+  pub push_table : IsSoundShape node.shape → depth (open_shape (type_of old) node.shape) ≤ 64 → length old < 2 ^ 32 → IsTable (old ++ node ∷ [])
+  push_table sound low few = record {
+    below = push_below;
+    sound = λ i n is. elim (cases_lt i (length old)) [ inl lt ↦ table.sound i n (sym (kept old (node ∷ []) i lt) ∙ is) | inr le ↦ let e = at_end i n is le in rw e.1 sound ];
+    deep = push_deep low;
+    few = let longer = length-append old (node ∷ []) in omega arith;
+  }
 
 module _ (old new : List Node) (table : IsTable old) (grows : Grows old new) where
   pub type_kept : (i : ℕ) → i < length old → type_of new i ≡ type_of old i

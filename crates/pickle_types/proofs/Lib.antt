@@ -2,6 +2,7 @@ pub mod Tables
 pub mod Growth
 pub mod Rows
 pub mod Rules
+pub mod Widths
 pub mod Meanings
 pub mod Looks
 pub mod Sums

@@ -1,5 +1,5 @@
 -- What the definitions say of small pickles.
-use Rattle.std.proofs.Common.{◌≡◌, ℕ, List, [], ◌∷◌, Option, Some, None, Result, Ok, Err, true, false, refl}
+use Rattle.std.proofs.Common.{◌≡◌, ℕ, ◌^◌, List, [], ◌∷◌, Option, Some, None, Result, Ok, Err, true, false, refl}
 use Rattle.std.specs.Prelude.{codes}
 use Rattle.pickle_syntax.specs.declared.token.Number.{Number}
 use Rattle.pickle_syntax.specs.declared.token.Attribute.TheVariants.{Length}
@@ -84,6 +84,14 @@ width = refl
 no_width : fault (type a (Plain (Int (number 0))) ∷ []) ≡ Some Width
 unfolding declared declared_type meaning fields_meaning integer_expression offset_expression bound_expression fresh typed depth
 no_width = refl
+
+number_too_great : fault (type a (StructForm false (one byte (record (called x) { constraint = Some (tree.Literal (number (2 ^ 31))) }))) ∷ []) ≡ Some Width
+unfolding declared declared_type meaning fields_meaning integer_expression offset_expression bound_expression fresh typed depth
+number_too_great = refl
+
+greatest_number : fault (type a (StructForm false (one byte (record (called x) { constraint = Some (tree.Literal (number 2147483647)) }))) ∷ []) ≡ None
+unfolding declared declared_type meaning fields_meaning integer_expression offset_expression bound_expression fresh typed depth
+greatest_number = refl
 
 integral_widths : fault (type a (IntegralForm (Uint (number 8)) (one (Plain (Uint (number 4))) (called (codes "a")))) ∷ []) ≡ Some IntegralWidths
 unfolding declared declared_type meaning fields_meaning integer_expression offset_expression bound_expression fresh typed depth

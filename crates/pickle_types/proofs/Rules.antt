@@ -2,7 +2,7 @@
 use Rattle.std.proofs.Common.{◌≡◌, ℕ, zero, suc, ◌<◌, ◌≤◌, ◌%◌, List, Option, Some, None, Result, Ok, Err, Bool, true, false, refl, sym, ap, arith, eqb-true}
 use Rattle.std.specs.Prelude.{IfOk, nat_le, nat_eq, ◌&&◌, if◌then◌else◌}
 use Rattle.std.specs.Int.{IsGcd}
-use Rattle.std.proofs.lemmas.Bool.{and_parts, leb-true, le-leb, eq-eqb}
+use Rattle.std.proofs.lemmas.Bool.{and_parts, leb-true, le-leb, ltb-true, lt-ltb, eq-eqb}
 use Rattle.std.proofs.lemmas.Nat.Gcd.{IsGcd-from_zero, IsGcd-from_mod, same_from_IsGcd}
 use Rattle.pickle_syntax.specs.declared.token.Number.{Number as Numeral}
 use Rattle.pickle_syntax.specs.declared.token.Attribute.TheVariants.{Length, Size}
@@ -23,8 +23,8 @@ use Rattle.pickle_types.specs.Types.{Term, Bound, PokeType, IntegerOf, OffsetOf,
 use Rattle.pickle_types.specs.Scopes.{Visible, resolve}
 use Rattle.pickle_types.specs.Names.{Names, find_type}
 use Rattle.pickle_types.specs.Operators.{whole, common, divisor_in, greatest_divisor, arithmetic, sum, product, quotient, shift, logic, comparison, between_numbers, between_texts, between, before, choice, same_sign, same_type, number_in}
-use Rattle.pickle_types.specs.Expressions.{◌>>=◌, or_wrong, Sort, TextLiteral, Typed, scalar_type, scalar_sort, type_operand, operand_of, type_in, sort_element, find_field, find_part, field_in, sort_field, integer_or_wrong, in_range, referred, operand_referred, integer_referred, unit_bits, offset_referred, target_type, converted, is_path, if_path, common_in, Meant, suffixed, typed}
-use Rattle.pickle_types.specs.WellTyped.{IsArithmetic, IsLogical, both, either, IsShift, left, right, IsEquality, same, different, IsComparison, equality, less, at_most, greater, at_least, IsOffsetSum, InfixRule, IsSign, plus, minus, PrefixRule, ChoiceRule, Refers, HasBits, Converts, IsPath, HasField, HasSort}
+use Rattle.pickle_types.specs.Expressions.{◌>>=◌, or_wrong, Sort, TextLiteral, Typed, scalar_type, scalar_sort, type_operand, operand_of, type_in, sort_element, find_field, find_part, field_in, sort_field, integer_or_wrong, in_range, referred, operand_referred, integer_referred, unit_bits, offset_referred, target_type, converted, is_path, if_path, common_in, is_held, number_meant, Meant, suffixed, typed}
+use Rattle.pickle_types.specs.WellTyped.{IsArithmetic, IsLogical, both, either, IsShift, left, right, IsEquality, same, different, IsComparison, equality, less, at_most, greater, at_least, IsOffsetSum, InfixRule, IsSign, plus, minus, PrefixRule, ChoiceRule, Refers, HasBits, Converts, IsPath, HasField, IsHeld, HasSort}
 use Rattle.pickle_types.specs.WellTyped as rule
 
 -- what holds after two steps in a row
@@ -315,6 +315,15 @@ unit_whole _ _ rule.bit = refl
 unit_whole _ _ rule.byte = refl
 unit_whole _ _ (rule.number some most) = rw (le-leb _ _ some, le-leb _ _ most) refl
 
+pub held_sound : (n : Numeral) → is_held n ≡ true → IsHeld n
+held_sound n e =
+    let a = and_parts _ _ e in
+    let b = and_parts _ _ a.0 in
+    record { some = leb-true _ _ b.0; most = leb-true _ _ b.1; small = ltb-true _ _ a.1 }
+
+held_whole : (n : Numeral) → IsHeld n → is_held n ≡ true
+held_whole n h = rw (le-leb _ _ h.some, le-leb _ _ h.most, lt-ltb _ _ h.small) refl
+
 path_sound : (e : Tree) → is_path e ≡ true → IsPath e
 path_sound (tree.Literal n) h = cc
 path_sound (tree.Character b) h = cc
@@ -431,9 +440,13 @@ module _ (names : Names) where
         bind_if (λ y. Converts names target x.0 (scalar_type a) y (scalar_type s)) _ (or_wrong Mismatch (converted s a x.0)) _ (scalar_target target s a x.0 g) (λ y c.
         HasSort.convert (scalar_type a) (rw is at h) c)))
 
+    number_sound : (n : Numeral) (b : Bool) → is_held n ≡ b → IfOk (number_meant n) (IsMeant (tree.Literal n))
+    number_sound n true e = rw e (HasSort.literal (held_sound n e))
+    number_sound n false e = rw e tt
+
     pub typed_sound : (e : Tree) → IfOk (typed names seen levels e) (IsMeant e)
     unfolding typed
-    typed_sound (tree.Literal n) = HasSort.literal
+    typed_sound (tree.Literal n) = number_sound n _ refl
     typed_sound (tree.Character b) = HasSort.character
     typed_sound (tree.Text bytes) = HasSort.text
     typed_sound (tree.Name word) = bind_if _ (IsMeant (tree.Name word)) (or_wrong UnknownName (resolve word seen)) _ (some_is UnknownName (resolve word seen)) (λ v is. HasSort.name v is)
@@ -554,7 +567,7 @@ module _ (names : Names) where
   module _ (seen : List Visible) (levels : ℕ) where
     pub typed_whole : (e : Tree) (x : Term) (s : Sort) → HasSort names seen levels e x s → typed names seen levels e ≡ Ok (x, s)
     unfolding typed
-    typed_whole _ _ _ HasSort.literal = refl
+    typed_whole _ _ _ (HasSort.literal h) = rw (held_whole _ h) refl
     typed_whole _ _ _ HasSort.character = refl
     typed_whole _ _ _ HasSort.text = refl
     typed_whole _ _ _ (HasSort.name v is) = rw is refl

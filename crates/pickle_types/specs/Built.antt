@@ -11,14 +11,12 @@ use Rattle.pickle_types.specs.declared.table.Node.{Node}
 use Rattle.pickle_types.specs.declared.names.Declared.{Declared}
 use Rattle.pickle_types.specs.declared.names.Names.{Names as RustNames}
 use Rattle.pickle_types.specs.declared.scopes.Seen.{Seen}
-use Rattle.pickle_types.specs.declared.check.operators.Scalar.TheVariants.{Integer, Offset}
-use Rattle.pickle_types.specs.declared.check.operators.Operand.{Operand}
-use Rattle.pickle_types.specs.declared.check.operators.Operand.TheVariants as operand
 use Rattle.pickle_types.specs.declared.check.sorts.Sort.{Sort as RustSort}
 use Rattle.pickle_types.specs.declared.check.sorts.Sort.TheVariants as sort
 use Rattle.pickle_types.specs.declared.check.sorts.Meant.{Meant as RustMeant}
 use Rattle.pickle_types.specs.Types.{PokeType, depth}
-use Rattle.pickle_types.specs.Table.{term_of, name_of, type_of, IsWidth}
+use Rattle.pickle_types.specs.Sound.{IsSoundScalar, IsSoundTerm}
+use Rattle.pickle_types.specs.Table.{term_of, name_of, type_of}
 use Rattle.pickle_types.specs.Scopes.{Visible}
 use Rattle.pickle_types.specs.Names.{Names}
 use Rattle.pickle_types.specs.Expressions.{Sort, TextLiteral, Typed, scalar_sort, Meant}
@@ -78,10 +76,15 @@ sort_of nodes sort.Text = TextLiteral
 sort_of nodes (sort.Scalar s) = scalar_sort s
 sort_of nodes (sort.Node i) = Typed (type_of nodes i)
 
+-- the number's type has a width, and the node is one of the table
 abbrev pub IsInside : List Node → RustSort → Type 0
 IsInside nodes sort.Text = Unit {0}
-IsInside nodes (sort.Scalar s) = Unit {0}
+IsInside nodes (sort.Scalar s) = IsSoundScalar s
 IsInside nodes (sort.Node i) = i < length nodes
+
+pub record IsSoundMeant (nodes : List Node) (x : RustMeant) : Type 0 where
+  pub sort : IsInside nodes x.sort
+  pub term : IsSoundTerm (term_of x.term)
 
 abbrev pub meant_of : List Node → RustMeant → Meant
 meant_of nodes x = (term_of x.term, sort_of nodes x.sort)
@@ -98,14 +101,6 @@ names_in (f ∷ fs) = name_of f.name ∷ names_in fs
 -- a field without its label and condition
 abbrev pub part_of : Field → Part
 part_of f = record { name = f.name; order = f.order; node = f.node; constraint = f.constraint }
-
--- the width of what an operator sees is from 1 to 64, where it is an integer
-abbrev pub IsWide : Operand → Type 0
-IsWide (operand.Number (Integer t)) = IsWidth t
-IsWide (operand.Number (Offset t u)) = Unit {0}
-IsWide operand.String = Unit {0}
-IsWide operand.Text = Unit {0}
-IsWide operand.Other = Unit {0}
 
 -- one more entry, behind the others
 pub record AddsEntry (old new : List (Vec ℕ Global × Declared)) (word : List ℕ) (d : Declared) : Type 0 where

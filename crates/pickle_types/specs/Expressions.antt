@@ -1,5 +1,5 @@
 -- The type of an expression, with its names resolved; or what is wrong with it.
-use Rattle.std.specs.Prelude.{ℕ, ◌+◌, ◌-◌, List, Option, Some, None, Result, Ok, Err, Bool, true, false, ◌&&◌, nat_le, if◌then◌else◌}
+use Rattle.std.specs.Prelude.{ℕ, ◌+◌, ◌-◌, ◌^◌, List, Option, Some, None, Result, Ok, Err, Bool, true, false, ◌&&◌, nat_le, nat_lt, if◌then◌else◌}
 use Rattle.pickle_syntax.specs.declared.token.Number.{Number as Numeral}
 use Rattle.pickle_syntax.specs.declared.token.Attribute.TheVariants.{Length, Size}
 use Rattle.pickle_syntax.specs.declared.tree.Prefix.{Prefix}
@@ -194,8 +194,17 @@ suffixed names path (tree.Convert target) x = conversion names target x
 abbrev pub text_meant : List ℕ → Meant
 text_meant bytes = (types.Text bytes, TextLiteral)
 
-abbrev pub number_meant : Numeral → Meant
-number_meant n = (types.Number (whole n.width n.signed) n.value, Typed (IntegerOf (whole n.width n.signed)))
+-- how many bits of a type are for the value of a number, which has no minus
+abbrev pub value_bits : Bool → ℕ → ℕ
+value_bits true width = width - 1
+value_bits false width = width
+
+-- whether a number's type has a width from 1 to 64, and holds its value
+abbrev pub is_held : Numeral → Bool
+is_held n = nat_le 1 n.width && nat_le n.width 64 && nat_lt n.value (2 ^ value_bits n.signed n.width)
+
+abbrev pub number_meant : Numeral → Result Meant FaultKind
+number_meant n = if is_held n then Ok (types.Number (whole n.width n.signed) n.value, Typed (IntegerOf (whole n.width n.signed))) else Err Width
 
 abbrev pub character_meant : ℕ → Meant
 character_meant b = (types.Number (whole 8 false) b, Typed (IntegerOf (whole 8 false)))
@@ -224,7 +233,7 @@ indexed x t y = integer_or_wrong y.1 >>= λ w. Ok (types.Index x.0 y.0, Typed t)
 
 -- an expression with its names resolved, and its sort, where these fields are seen and so many levels are open
 unfoldable pub typed : Names → List Visible → ℕ → Tree → Result Meant FaultKind
-typed names seen levels (tree.Literal n) = Ok (number_meant n)
+typed names seen levels (tree.Literal n) = number_meant n
 typed names seen levels (tree.Character b) = Ok (character_meant b)
 typed names seen levels (tree.Text bytes) = Ok (text_meant bytes)
 typed names seen levels (tree.Name word) = resolved seen levels word

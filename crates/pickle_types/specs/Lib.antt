@@ -1,4 +1,5 @@
 pub mod Types
+pub mod Sound
 pub mod Table
 pub mod Bounds
 pub mod Scopes

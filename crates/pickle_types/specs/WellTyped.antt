@@ -1,5 +1,5 @@
 -- When expressions, types and pickles are well typed, and what they then mean: the rules, one constructor for each.
-use Rattle.std.specs.Prelude.{◌≡◌, ℕ, ◌+◌, ◌-◌, ◌≤◌, length, List, [], ◌∷◌, ◌++◌, Option, Some, None, Bool, true, false}
+use Rattle.std.specs.Prelude.{◌≡◌, ℕ, ◌+◌, ◌-◌, ◌<◌, ◌≤◌, ◌^◌, length, List, [], ◌∷◌, ◌++◌, Option, Some, None, Bool, true, false}
 use Rattle.std.specs.Int.{IsGcd}
 use Rattle.pickle_syntax.specs.declared.token.Attribute.TheVariants.{Length, Size}
 use Rattle.pickle_syntax.specs.declared.token.Number.{Number as Numeral}
@@ -20,7 +20,7 @@ use Rattle.pickle_types.specs.Types as types
 use Rattle.pickle_types.specs.Scopes.{Visible, resolve}
 use Rattle.pickle_types.specs.Names.{Names, find_type}
 use Rattle.pickle_types.specs.Operators.{whole, truth, common}
-use Rattle.pickle_types.specs.Expressions.{Sort, TextLiteral, Typed, find_field, find_part}
+use Rattle.pickle_types.specs.Expressions.{Sort, TextLiteral, Typed, value_bits, find_field, find_part}
 use Rattle.pickle_types.specs.Meaning.{has_name, with_itself, after_field, struct_place, parts_of, total_width}
 
 -- operators on integers, whose result has the common type
@@ -127,9 +127,15 @@ pub data HasField : PokeType → List ℕ → ℕ → PokeType → Type 0 where
   of_union : {title : Option (List ℕ)} {ps : Parts} {word : List ℕ} {n : ℕ} {t : PokeType} →
       find_part 0 word ps ≡ Some (n, t) → HasField (UnionOf title ps) word n t
 
+-- a number, of a type that has a width and holds it
+pub record IsHeld (n : Numeral) : Type 0 where
+  pub some : 1 ≤ n.width
+  pub most : n.width ≤ 64
+  pub small : n.value < 2 ^ value_bits n.signed n.width
+
 -- where these fields are seen and so many levels are open, the expression, with its names resolved, is of the sort
 pub data HasSort (names : Names) (seen : List Visible) (levels : ℕ) : Tree → Term → Sort → Type 0 where
-  literal : {n : Numeral} → HasSort names seen levels (tree.Literal n) (types.Number (whole n.width n.signed) n.value) (Typed (IntegerOf (whole n.width n.signed)))
+  literal : {n : Numeral} → IsHeld n → HasSort names seen levels (tree.Literal n) (types.Number (whole n.width n.signed) n.value) (Typed (IntegerOf (whole n.width n.signed)))
   character : {b : ℕ} → HasSort names seen levels (tree.Character b) (types.Number (whole 8 false) b) (Typed (IntegerOf (whole 8 false)))
   text : {bytes : List ℕ} → HasSort names seen levels (tree.Text bytes) (types.Text bytes) TextLiteral
   name : {word : List ℕ} (v : Visible) → resolve word seen ≡ Some v → HasSort names seen levels (tree.Name word) (types.Name (levels - 1 - v.level) v.place) (Typed v.type)

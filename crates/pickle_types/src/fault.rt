@@ -25,7 +25,8 @@ pub enum FaultKind {
     /// `offset<..>` or integral struct of something other than an integer type.
     #[error("Mismatch")]
     Mismatch,
-    /// A width outside 1 to 64 bits, or a unit outside 1 to 4,294,967,295 bits.
+    /// A width outside 1 to 64 bits, a unit outside 1 to 4,294,967,295 bits, or a number that its type doesn't hold;
+    /// the parser gives each number a type that holds it.
     #[error("Width")]
     Width,
     /// The widths of an integral struct's fields don't add up to its own.
@@ -37,7 +38,7 @@ pub enum FaultKind {
     /// A type deeper than 64, with the types that it names opened.
     #[error("TooDeep")]
     TooDeep,
-    /// A growth of the table was refused.
+    /// A growth of the table was refused, or it would have more than 2^32 nodes or a union more than 2^16 alternatives.
     #[error("Memory")]
     Memory,
 }

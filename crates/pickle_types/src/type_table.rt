@@ -154,11 +154,12 @@ pub struct Table {
 
 impl Table {
     /// The types that a pickle declares, where it is well typed and no type is deeper than 64.
+    /// A table has at most 2^32 nodes and a union 2^16 alternatives; beyond either the answer is `Memory`.
     pub fn build(alloc: Global, pickle: &Pickle) -> Result<Table, TypeFault>
         ensures sound { IfOk result IsSound }
         ensures ok { IfOk result (λ table. Declares predeclared (pickle_tree pickle.now) (types_of table)) }
         ensures len { IfOk result (λ table. count_of table ≡ length (pickle_tree pickle.now)) }
-        // Memory is answered only where a growth was refused; any other kind only where the pickle isn't well typed.
+        // Memory is answered only where a growth was refused or the table is full; any other kind only where the pickle isn't well typed.
         ensures wrong { IfErr result (λ e. e.kind ≢ FaultKind.Memory → ¬ IsWellTyped (pickle_tree pickle.now)) }
         ensures kind { IfErr result (λ e. Fails e.kind (declared predeclared (pickle_tree pickle.now))) }
     {

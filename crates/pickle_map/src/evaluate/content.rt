@@ -3,12 +3,12 @@
 ghost use Rattle.std.specs.Prelude.{◌≡◌, ℕ, ◌<◌, List, Ok, Err, IfOk, IfSome};
 ghost use Rattle.pickle_types.specs.declared.table.Node.{Node};
 ghost use Rattle.pickle_types.specs.Table.{IsWidth};
+ghost use Rattle.pickle_types.specs.Sound.{IsOptionalWidth};
 ghost use Rattle.pickle_map.specs.Arithmetic.{prefixed, combined, to_integer, to_offset, in_unit, on_texts};
 ghost use Rattle.pickle_map.specs.Evaluation.{operand_label, truth_of, settled, as_common};
 ghost use Rattle.pickle_map.specs.Scalars.{IsScalar, computed_of, scalar_label};
 ghost use Rattle.pickle_map.specs.Operands.{operand_of, IsOperand};
 ghost use Rattle.pickle_map.specs.Contents.{IsHeld, IsSoundContent};
-ghost use Rattle.pickle_map.specs.Sound.{IsOptionalWidth};
 ghost use Rattle.pickle_map.specs.Values.{Label};
 
 use crate::evaluate::integers::{Scalar, is_true, truth};

@@ -3,6 +3,7 @@
 ghost use Rattle.std.specs.Prelude.{◌≡◌, ℕ, ◌+◌, ◌<◌, ◌≤◌, ◌^◌, Some, None, Ok, Err, IfOk, OnOk, OnErr, IfErr, List, Result, Bool};
 ghost use Rattle.pickle_types.specs.Table.{term_of};
 ghost use Rattle.pickle_types.specs.declared.table.Node.{Node as TableNode};
+ghost use Rattle.pickle_types.specs.Sound.{IsOptionalWidth, IsSoundTerm};
 ghost use Rattle.pickle_map.specs.Values.{Label};
 ghost use Rattle.pickle_map.specs.Operands.{operand_of};
 ghost use Rattle.pickle_map.specs.Evaluation.{evaluation, operand_label, leads_to, present, selected, settled, attribute_of, as_common, literal_length, between, element, Evaluation, and_operand, gives};
@@ -10,7 +11,6 @@ ghost use Rattle.pickle_map.specs.Operands.{Evaluated, IsOperand};
 ghost use Rattle.pickle_map.specs.Comes.{Comes, infix_part, choice_part, index_part};
 ghost use Rattle.pickle_map.specs.Contents.{IsSoundContent, IsHeld};
 ghost use Rattle.pickle_map.specs.Shown.{kept};
-ghost use Rattle.pickle_map.specs.Sound.{IsSoundTerm, IsOptionalWidth};
 ghost use Rattle.pickle_map.specs.Scalars.{computed_of, IsScalar};
 
 use crate::evaluate::content::{

@@ -2,8 +2,9 @@
 
 ghost use Rattle.std.specs.Prelude.{◌≡◌, ℕ, ◌+◌, ◌<◌, ◌≤◌, ◌^◌, IfOk, Ok, Err, ℤ, pos, ◌*ℤ◌, false, ◌&&◌, int_div, int_rem, unsigned_abs};
 ghost use Rattle.pickle_types.specs.Table.{IsWidth};
+ghost use Rattle.pickle_types.specs.Sound.{IsSmall};
 ghost use Rattle.pickle_map.specs.Arithmetic.{prefixed, is_zero, to_integer, to_offset, in_unit, combined, bits_in, brought_offset, greatest_common_divisor, divisor_within, on_bits, on_scaled, common};
-ghost use Rattle.pickle_map.specs.Ranges.{IsSmall, IsBits, IsWide};
+ghost use Rattle.pickle_map.specs.Ranges.{IsBits, IsWide};
 ghost use Rattle.pickle_map.specs.Scalars.{IsScalar, computed_of, scalar_label};
 
 use crate::evaluate::integers::{Scalar, brought_integer, common, is_true, on_integers, truth};

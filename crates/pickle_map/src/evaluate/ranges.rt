@@ -2,8 +2,8 @@
 
 ghost use Rattle.std.specs.Prelude.{◌≡◌, ℕ, ◌%◌, ◌<◌, ◌≤◌, ◌^◌, IfOk, Ok, Err};
 ghost use Rattle.pickle_types.specs.Table.{IsWidth};
+ghost use Rattle.pickle_types.specs.Sound.{IsSmall};
 ghost use Rattle.pickle_map.specs.Arithmetic.{modulo, with_sign, converted, brought, is_signed_in};
-ghost use Rattle.pickle_map.specs.Ranges.{IsSmall};
 
 use crate::faults::MapFaultKind;
 use pickle_types::integer::IntegerType;

@@ -2,13 +2,13 @@
 
 ghost use Rattle.std.specs.Prelude.{◌≡◌, ℕ, ◌+◌, ◌<◌, ◌≤◌, ◌^◌, Ok, IfOk};
 ghost use Rattle.pickle_types.specs.Table.{term_of, optional_term, bound_of};
+ghost use Rattle.pickle_types.specs.Sound.{IsSoundTerm, IsSoundClause, IsSoundBound};
 ghost use Rattle.pickle_map.specs.Values.{Label};
 ghost use Rattle.pickle_map.specs.Evaluation.{evaluation, truth_of};
 ghost use Rattle.pickle_map.specs.Clauses.{constraint, condition, field_start, extent_of, clause_steps, label_steps, bound_steps, satisfied, kind_at, behind_start, count_of, size_of};
 ghost use Rattle.pickle_map.specs.Contents.{IsHeld, IsSoundContent};
-ghost use Rattle.pickle_map.specs.Settles.{Ends, Settles, Sees, IsSoundClause, IsSoundBound, natural};
+ghost use Rattle.pickle_map.specs.Settles.{Ends, Settles, Sees, natural};
 ghost use Rattle.pickle_map.specs.Shown.{kept};
-ghost use Rattle.pickle_map.specs.Sound.{IsSoundTerm};
 
 use crate::evaluate::content::{Content, seen, truth_of};
 use crate::evaluate::expression::evaluate;

@@ -1,10 +1,10 @@
 ghost use Rattle.std.specs.Prelude.{◌≡◌, ◌+◌, ◌-◌, ◌<◌, ◌≤◌, [], length, slice_get, slice_index, unwrap_or, IfSome};
 ghost use Rattle.std.specs.Option.{option_map};
+ghost use Rattle.pickle_types.specs.Sound.{IsSmall};
 ghost use Rattle.pickle_map.specs.Kinds.{kind_of};
 ghost use Rattle.pickle_map.specs.Tree.{label, start, size, parts, part_at, number_of, signed_of, width_of, unit_of, bytes_of, type_of, taken_of};
 ghost use Rattle.pickle_map.specs.Levels.{part_in};
 ghost use Rattle.pickle_map.specs.Slots.{levels, marks_at, level_end, value_at, number_in, first_link, family_at, family_links, first_byte, text_bytes, links_of, IsContent, IsFamily, IsTextRow, IsRead};
-ghost use Rattle.pickle_map.specs.Ranges.{IsSmall};
 ghost use Rattle.pickle_map.specs.Scalars.{scalar_label, scalar_in, IsScalar};
 
 use crate::evaluate::integers::Scalar;

@@ -2,9 +2,10 @@
 
 ghost use Rattle.std.specs.Prelude.{◌≡◌, ℕ, ◌<◌, ◌≤◌, List, length, Ok, IfOk, IfErr};
 ghost use Rattle.pickle_syntax.specs.Tree.{expression_tree, suffix_tree, target_tree};
+ghost use Rattle.pickle_types.specs.Sound.{IsWidth};
 ghost use Rattle.pickle_types.specs.Table.{term_of, type_of, IsTable};
-ghost use Rattle.pickle_types.specs.Expressions.{number_meant, character_meant, text_meant, resolved, bracketed, prefixed, infixed, selected, indexed, suffixed, selection, length_of, size_of, in_unit, conversion, is_path, integer_or_wrong, typed};
-ghost use Rattle.pickle_types.specs.Built.{Gives, names_of, views_of, sort_of, meant_of, IsInside, AreNamed, AreBelow};
+ghost use Rattle.pickle_types.specs.Expressions.{is_held, number_meant, character_meant, text_meant, resolved, bracketed, prefixed, infixed, selected, indexed, suffixed, selection, length_of, size_of, in_unit, conversion, is_path, integer_or_wrong, typed};
+ghost use Rattle.pickle_types.specs.Built.{Gives, names_of, views_of, sort_of, meant_of, IsInside, IsSoundMeant, AreNamed, AreBelow};
 ghost use Rattle.pickle_types.specs.declared.table.Node.{Node};
 
 use crate::check::operators::{Scalar, before, between, choice};
@@ -19,23 +20,38 @@ use pickle_syntax::token::{Attribute, Number};
 use pickle_syntax::tree::{Expression, Infix, Prefix, Suffix, Target, Unit};
 use std::alloc::Global;
 
-fn number(n: Number) -> Meant
-    ensures is { (nodes : List Node) → meant_of nodes result ≡ number_meant n }
-    ensures inside { (nodes : List Node) → IsInside nodes result.sort }
+/// Whether the number's type has a width from 1 to 64 bits, and holds its value.
+fn is_held(n: Number) -> bool
+    ensures { result ≡ is_held n }
 {
+    if n.width < 1 || n.width > 64 {
+        return false;
+    }
+    let bits = if n.signed { n.width - 1 } else { n.width };
+    bits == 64 || n.value < 1u64 << bits
+}
+
+/// A number, where its type holds it.
+fn number(n: Number) -> Result<Meant, FaultKind>
+    ensures gives { (nodes : List Node) → Gives (meant_of nodes) result (number_meant n) }
+    ensures sound { (nodes : List Node) → IfOk result (IsSoundMeant nodes) }
+{
+    if !is_held(n) {
+        return Err(FaultKind::Width);
+    }
     let ty = IntegerType {
         width: n.width,
         signed: n.signed,
     };
-    Meant {
+    Ok(Meant {
         term: Resolved::Number(ty, n.value),
         sort: Sort::Scalar(Scalar::Integer(ty)),
-    }
+    })
 }
 
 fn character(byte: u8) -> Meant
     ensures is { (nodes : List Node) → meant_of nodes result ≡ character_meant byte }
-    ensures inside { (nodes : List Node) → IsInside nodes result.sort }
+    ensures sound { (nodes : List Node) → IsSoundMeant nodes result }
 {
     let ty = IntegerType {
         width: 8,
@@ -49,7 +65,7 @@ fn character(byte: u8) -> Meant
 
 fn text(alloc: Global, bytes: &[u8]) -> Result<Meant, FaultKind>
     ensures gives { (nodes : List Node) → Gives (meant_of nodes) result (Ok (text_meant bytes.now)) }
-    ensures inside { (nodes : List Node) → IfOk result (λ x. IsInside nodes x.sort) }
+    ensures sound { (nodes : List Node) → IfOk result (IsSoundMeant nodes) }
 {
     Ok(Meant {
         term: Resolved::Text(Vec::from_slice(alloc, bytes)?),
@@ -61,7 +77,7 @@ fn text(alloc: Global, bytes: &[u8]) -> Result<Meant, FaultKind>
 fn name(seen: &[Seen], levels: u8, word: &[u8]) -> Result<Meant, FaultKind>
     requires below { (n : ℕ) × AreBelow n levels seen.now }
     ensures gives { (nodes : List Node) → Gives (meant_of nodes) result (resolved (views_of nodes seen.now) levels word.now) }
-    ensures inside { (nodes : List Node) → AreBelow (length nodes) levels seen.now → IfOk result (λ x. IsInside nodes x.sort) }
+    ensures sound { (nodes : List Node) → AreBelow (length nodes) levels seen.now → IfOk result (IsSoundMeant nodes) }
 {
     match resolve(seen, word) {
         Some(s) => Ok(Meant {
@@ -74,7 +90,7 @@ fn name(seen: &[Seen], levels: u8, word: &[u8]) -> Result<Meant, FaultKind>
 
 fn bracket(alloc: Global, x: Meant) -> Result<Meant, FaultKind>
     ensures gives { (nodes : List Node) → Gives (meant_of nodes) result (bracketed (meant_of nodes x)) }
-    ensures inside { (nodes : List Node) → IsInside nodes x.sort → IfOk result (λ y. IsInside nodes y.sort) }
+    ensures sound { (nodes : List Node) → IsSoundMeant nodes x → IfOk result (IsSoundMeant nodes) }
 {
     match x.sort {
         Sort::Text => Err(FaultKind::Mismatch),
@@ -87,9 +103,9 @@ fn bracket(alloc: Global, x: Meant) -> Result<Meant, FaultKind>
 
 fn prefix(alloc: Global, nodes: &[Node], op: Prefix, x: Meant) -> Result<Meant, FaultKind>
     requires table { IsTable nodes.now }
-    requires inside { IsInside nodes.now x.sort }
+    requires sound { IsSoundMeant nodes.now x }
     ensures gives { Gives (meant_of nodes.now) result (prefixed op (meant_of nodes.now x)) }
-    ensures inside { IfOk result (λ y. IsInside nodes.now y.sort) }
+    ensures sound { IfOk result (IsSoundMeant nodes.now) }
 {
     match before(op, operand_of(nodes, x.sort)) {
         Some(s) => Ok(Meant {
@@ -102,10 +118,10 @@ fn prefix(alloc: Global, nodes: &[Node], op: Prefix, x: Meant) -> Result<Meant, 
 
 fn infix(alloc: Global, nodes: &[Node], op: Infix, x: Meant, y: Meant) -> Result<Meant, FaultKind>
     requires table { IsTable nodes.now }
-    requires left { IsInside nodes.now x.sort }
-    requires right { IsInside nodes.now y.sort }
+    requires left { IsSoundMeant nodes.now x }
+    requires right { IsSoundMeant nodes.now y }
     ensures gives { Gives (meant_of nodes.now) result (infixed op (meant_of nodes.now x) (meant_of nodes.now y)) }
-    ensures inside { IfOk result (λ z. IsInside nodes.now z.sort) }
+    ensures sound { IfOk result (IsSoundMeant nodes.now) }
 {
     match between(op, operand_of(nodes, x.sort), operand_of(nodes, y.sort)) {
         Some(s) => Ok(Meant {
@@ -119,10 +135,11 @@ fn infix(alloc: Global, nodes: &[Node], op: Infix, x: Meant, y: Meant) -> Result
 /// A choice between x and y by z, which is an integer.
 fn select(alloc: Global, nodes: &[Node], z: Meant, x: Meant, y: Meant) -> Result<Meant, FaultKind>
     requires table { IsTable nodes.now }
-    requires left { IsInside nodes.now x.sort }
-    requires right { IsInside nodes.now y.sort }
+    requires condition { IsSoundMeant nodes.now z }
+    requires left { IsSoundMeant nodes.now x }
+    requires right { IsSoundMeant nodes.now y }
     ensures gives { Gives (meant_of nodes.now) result (selected (meant_of nodes.now z) (meant_of nodes.now x) (meant_of nodes.now y)) }
-    ensures inside { IfOk result (λ r. IsInside nodes.now r.sort) }
+    ensures sound { IfOk result (IsSoundMeant nodes.now) }
 {
     match choice(operand_of(nodes, x.sort), operand_of(nodes, y.sort)) {
         Some(s) => {
@@ -142,7 +159,8 @@ fn select(alloc: Global, nodes: &[Node], z: Meant, x: Meant, y: Meant) -> Result
 pub fn integer(nodes: &[Node], sort: Sort) -> Result<IntegerType, FaultKind>
     requires table { IsTable nodes.now }
     requires inside { IsInside nodes.now sort }
-    ensures { result ≡ integer_or_wrong (sort_of nodes.now sort) }
+    ensures is { result ≡ integer_or_wrong (sort_of nodes.now sort) }
+    ensures wide { IfOk result IsWidth }
 {
     match operand_of(nodes, sort).integer() {
         Some(t) => Ok(t),
@@ -160,9 +178,10 @@ fn index(
 ) -> Result<Meant, FaultKind>
     requires table { IsTable nodes.now }
     requires element { element < length nodes.now }
-    requires inside { IsInside nodes.now y.sort }
+    requires left { IsSoundMeant nodes.now x }
+    requires right { IsSoundMeant nodes.now y }
     ensures gives { Gives (meant_of nodes.now) result (indexed (meant_of nodes.now x) (type_of nodes.now element) (meant_of nodes.now y)) }
-    ensures inside { IfOk result (λ z. IsInside nodes.now z.sort) }
+    ensures sound { IfOk result (IsSoundMeant nodes.now) }
 {
     integer(nodes, y.sort)?;
     Ok(Meant {
@@ -173,9 +192,9 @@ fn index(
 
 fn select_field(alloc: Global, nodes: &[Node], x: Meant, word: &[u8]) -> Result<Meant, FaultKind>
     requires table { IsTable nodes.now }
-    requires inside { IsInside nodes.now x.sort }
+    requires sound { IsSoundMeant nodes.now x }
     ensures gives { Gives (meant_of nodes.now) result (selection word.now (meant_of nodes.now x)) }
-    ensures inside { IfOk result (λ y. IsInside nodes.now y.sort) }
+    ensures sound { IfOk result (IsSoundMeant nodes.now) }
 {
     let (place, node) = field_of(nodes, x.sort, word)?;
     Ok(Meant {
@@ -187,9 +206,9 @@ fn select_field(alloc: Global, nodes: &[Node], x: Meant, word: &[u8]) -> Result<
 /// The number of an array's elements.
 fn length(alloc: Global, nodes: &[Node], x: Meant) -> Result<Meant, FaultKind>
     requires table { IsTable nodes.now }
-    requires inside { IsInside nodes.now x.sort }
+    requires sound { IsSoundMeant nodes.now x }
     ensures gives { Gives (meant_of nodes.now) result (length_of (meant_of nodes.now x)) }
-    ensures inside { IfOk result (λ y. IsInside nodes.now y.sort) }
+    ensures sound { IfOk result (IsSoundMeant nodes.now) }
 {
     match element_of(nodes, x.sort) {
         Some(_) => Ok(Meant {
@@ -206,7 +225,7 @@ fn length(alloc: Global, nodes: &[Node], x: Meant) -> Result<Meant, FaultKind>
 /// The size of a path's value.
 fn size(alloc: Global, path: bool, x: Meant) -> Result<Meant, FaultKind>
     ensures gives { (nodes : List Node) → Gives (meant_of nodes) result (size_of path (meant_of nodes x)) }
-    ensures inside { (nodes : List Node) → IfOk result (λ y. IsInside nodes y.sort) }
+    ensures sound { (nodes : List Node) → IsSoundMeant nodes x → IfOk result (IsSoundMeant nodes) }
 {
     if !path {
         return Err(FaultKind::Mismatch);
@@ -226,9 +245,9 @@ fn size(alloc: Global, path: bool, x: Meant) -> Result<Meant, FaultKind>
 /// An offset of an integer's magnitude.
 fn in_unit(alloc: Global, nodes: &[Node], x: Meant, unit: Unit) -> Result<Meant, FaultKind>
     requires table { IsTable nodes.now }
-    requires inside { IsInside nodes.now x.sort }
+    requires sound { IsSoundMeant nodes.now x }
     ensures gives { Gives (meant_of nodes.now) result (in_unit unit (meant_of nodes.now x)) }
-    ensures inside { IfOk result (λ y. IsInside nodes.now y.sort) }
+    ensures sound { IfOk result (IsSoundMeant nodes.now) }
 {
     let t = integer(nodes, x.sort)?;
     let bits = unit_bits(unit)?;
@@ -248,9 +267,9 @@ fn convert(
 ) -> Result<Meant, FaultKind>
     requires table { IsTable nodes.now }
     requires names { AreNamed nodes.now names.now }
-    requires inside { IsInside nodes.now x.sort }
+    requires sound { IsSoundMeant nodes.now x }
     ensures gives { Gives (meant_of nodes.now) result (conversion (names_of nodes.now names.now) (target_tree target.now) (meant_of nodes.now x)) }
-    ensures inside { IfOk result (λ y. IsInside nodes.now y.sort) }
+    ensures sound { IfOk result (IsSoundMeant nodes.now) }
 {
     let Some(from) = operand_of(nodes, x.sort).number() else {
         return Err(FaultKind::Mismatch);
@@ -284,9 +303,9 @@ fn suffix(
 ) -> Result<Meant, FaultKind>
     requires table { IsTable nodes.now }
     requires names { AreNamed nodes.now names.now }
-    requires inside { IsInside nodes.now x.sort }
+    requires sound { IsSoundMeant nodes.now x }
     ensures gives { Gives (meant_of nodes.now) result (suffixed (names_of nodes.now names.now) path (suffix_tree suffix.now) (meant_of nodes.now x)) }
-    ensures inside { IfOk result (λ y. IsInside nodes.now y.sort) }
+    ensures sound { IfOk result (IsSoundMeant nodes.now) }
 {
     match suffix {
         Suffix::Select(word) => select_field(alloc, nodes, x, word),
@@ -324,10 +343,10 @@ pub fn typed(
     requires names { AreNamed nodes.now names.now }
     requires seen { AreBelow (length nodes.now) levels seen.now }
     ensures gives { Gives (meant_of nodes.now) result (typed (names_of nodes.now names.now) (views_of nodes.now seen.now) levels (expression_tree e.now)) }
-    ensures inside { IfOk result (λ x. IsInside nodes.now x.sort) }
+    ensures sound { IfOk result (IsSoundMeant nodes.now) }
 {
     match e {
-        Expression::Number(n) => Ok(number(*n)),
+        Expression::Number(n) => number(*n),
         Expression::Character(byte) => Ok(character(*byte)),
         Expression::Text(bytes) => text(alloc, bytes),
         Expression::Name(word) => name(seen, levels, word),

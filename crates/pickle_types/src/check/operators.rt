@@ -1,6 +1,7 @@
 //! What operators make of the types of their operands.
 
-ghost use Rattle.std.specs.Prelude.{◌≡◌};
+ghost use Rattle.std.specs.Prelude.{◌≡◌, IfSome};
+ghost use Rattle.pickle_types.specs.Sound.{IsWidth, IsSoundScalar, IsSoundOperand};
 ghost use Rattle.pickle_types.specs.Operators.{common, greatest_divisor, arithmetic, sum, product, quotient, shift, logic, comparison, between_numbers, between, before_number, before, number_in, integer_in, integer_operand, chosen, choice, same_type};
 
 use crate::integer::IntegerType;
@@ -188,7 +189,8 @@ fn is_same(a: IntegerType, b: IntegerType) -> bool
 
 impl Scalar {
     pub fn integer(self) -> Option<IntegerType>
-        ensures { result ≡ integer_in self }
+        ensures is { result ≡ integer_in self }
+        ensures wide { IsSoundScalar self → IfSome result IsWidth }
     {
         match self {
             Scalar::Integer(t) => Some(t),
@@ -208,7 +210,8 @@ impl Operand {
     }
 
     pub fn integer(self) -> Option<IntegerType>
-        ensures { result ≡ integer_operand self }
+        ensures is { result ≡ integer_operand self }
+        ensures wide { IsSoundOperand self → IfSome result IsWidth }
     {
         match self {
             Operand::Number(s) => s.integer(),

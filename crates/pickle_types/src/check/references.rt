@@ -4,7 +4,8 @@ ghost use Rattle.std.specs.Prelude.{◌≡◌, ◌<◌, ◌≤◌, ℕ, List, le
 ghost use Rattle.pickle_syntax.specs.Tree.{reference_tree, target_tree};
 ghost use Rattle.pickle_types.specs.Table.{IsTable, IsWidth};
 ghost use Rattle.pickle_types.specs.Expressions.{in_range, operand_referred, integer_referred, unit_bits, offset_referred, target_type};
-ghost use Rattle.pickle_types.specs.Built.{Gives, names_of, AreNamed, IsWide};
+ghost use Rattle.pickle_types.specs.Sound.{IsSoundScalar, IsSoundOperand};
+ghost use Rattle.pickle_types.specs.Built.{Gives, names_of, AreNamed};
 
 use crate::check::operators::{Operand, Scalar};
 use crate::check::sorts::node_operand;
@@ -38,7 +39,7 @@ fn operand_referred(
     requires table { IsTable nodes.now }
     requires names { AreNamed nodes.now names.now }
     ensures gives { Gives (λ o. o) result (operand_referred (names_of nodes.now names.now) (reference_tree reference.now)) }
-    ensures wide { IfOk result IsWide }
+    ensures wide { IfOk result IsSoundOperand }
 {
     match reference {
         Reference::Int(n) => Ok(Operand::Number(Scalar::Integer(in_range(true, n.value)?))),
@@ -113,7 +114,8 @@ fn offset_referred(
 ) -> Result<Scalar, FaultKind>
     requires table { IsTable nodes.now }
     requires names { AreNamed nodes.now names.now }
-    ensures { Gives (λ s. s) result (offset_referred (names_of nodes.now names.now) (reference_tree reference.now) unit) }
+    ensures gives { Gives (λ s. s) result (offset_referred (names_of nodes.now names.now) (reference_tree reference.now) unit) }
+    ensures wide { IfOk result IsSoundScalar }
 {
     let (t, bits) = offset_parts(names, nodes, reference, unit)?;
     Ok(Scalar::Offset(t, bits))
@@ -123,7 +125,8 @@ fn offset_referred(
 pub fn target_type(names: &Names, nodes: &[Node], target: &Target) -> Result<Scalar, FaultKind>
     requires table { IsTable nodes.now }
     requires names { AreNamed nodes.now names.now }
-    ensures { Gives (λ s. s) result (target_type (names_of nodes.now names.now) (target_tree target.now)) }
+    ensures gives { Gives (λ s. s) result (target_type (names_of nodes.now names.now) (target_tree target.now)) }
+    ensures wide { IfOk result IsSoundScalar }
 {
     match target {
         Target::Reference(reference) => {

@@ -5,7 +5,8 @@ ghost use Rattle.pickle_types.specs.Types.{PokeType};
 ghost use Rattle.pickle_types.specs.Table.{open_shape, open_fields, open_parts, type_of, FieldsBelow, PartsBelow, NamesBelow, IsTable};
 ghost use Rattle.pickle_types.specs.Expressions.{or_wrong, type_operand, operand_of, element_in, sort_element, find_field, find_part, field_in, sort_field};
 ghost use Rattle.pickle_types.specs.Meaning.{bit_width, has_some};
-ghost use Rattle.pickle_types.specs.Built.{Gives, sort_of, IsInside, IsFoundField, IsWide};
+ghost use Rattle.pickle_types.specs.Sound.{IsSoundOperand};
+ghost use Rattle.pickle_types.specs.Built.{Gives, sort_of, IsInside, IsFoundField};
 
 use crate::check::operators::{Operand, Scalar};
 use crate::fault::FaultKind;
@@ -41,7 +42,7 @@ pub fn shape_at(nodes: &[Node], i: usize) -> &Shape
 
 fn shape_operand(shape: &Shape) -> Operand
     ensures is { (at : ℕ → PokeType) → result ≡ type_operand (open_shape at shape.now) }
-    ensures wide { (n : ℕ) → NamesBelow n shape.now → IsWide result }
+    ensures wide { (n : ℕ) → NamesBelow n shape.now → IsSoundOperand result }
 {
     match shape {
         Shape::Integer(t) => Operand::Number(Scalar::Integer(*t)),
@@ -56,7 +57,7 @@ pub fn node_operand(nodes: &[Node], i: usize) -> Operand
     requires table { IsTable nodes.now }
     requires inside { i < length nodes.now }
     ensures is { result ≡ type_operand (type_of nodes.now i) }
-    ensures wide { IsWide result }
+    ensures wide { IsSoundOperand result }
 {
     shape_operand(shape_at(nodes, i))
 }
@@ -65,7 +66,8 @@ pub fn node_operand(nodes: &[Node], i: usize) -> Operand
 pub fn operand_of(nodes: &[Node], sort: Sort) -> Operand
     requires table { IsTable nodes.now }
     requires inside { IsInside nodes.now sort }
-    ensures { result ≡ operand_of (sort_of nodes.now sort) }
+    ensures is { result ≡ operand_of (sort_of nodes.now sort) }
+    ensures wide { IsSoundOperand result }
 {
     match sort {
         Sort::Text => Operand::Text,

@@ -1,9 +1,10 @@
 //! The types of forms, as nodes of a table.
 
-ghost use Rattle.std.specs.Prelude.{◌≡◌, ◌+◌, ◌<◌, ◌≤◌, ℕ, List, [], ◌∷◌, ◌++◌, length, true, false, Ok, None, IfOk, IfErr, OnOk};
+ghost use Rattle.std.specs.Prelude.{◌≡◌, ◌+◌, ◌<◌, ◌≤◌, ℕ, List, [], ◌∷◌, ◌++◌, length, true, false, Ok, None, IfOk, IfErr, OnOk, All};
 ghost use Rattle.pickle_syntax.specs.Tree.{reference_tree, optional_tree, form_tree, field_tree, fields_tree, ArrayForm, StructForm, IntegralForm, UnionForm, OffsetForm};
 ghost use Rattle.pickle_types.specs.Types;
-ghost use Rattle.pickle_types.specs.Table.{optional_term, bound_of, type_of, open_shape, IsTable, NamesBelow};
+ghost use Rattle.pickle_types.specs.Sound.{IsSoundClause, IsSoundBound};
+ghost use Rattle.pickle_types.specs.Table.{optional_term, bound_of, type_of, open_shape, IsTable, NamesBelow, IsSoundField, IsSoundShape};
 ghost use Rattle.pickle_types.specs.Meaning.{integer_expression, offset_expression, bound_expression, integer_type, called, plain, offset_type, field_meaning, struct_place, meaning, fields_meaning};
 ghost use Rattle.pickle_types.specs.Built.{Gives, bytes_now, views_of, AreNamed, AreBelow, names_in};
 ghost use Rattle.pickle_types.specs.Building.{known_types, visible_in, after_itself, Builds, FieldGives, FieldBuilds, FieldsBuild};
@@ -20,7 +21,7 @@ use crate::check::sorts::{has_width, operand_of};
 use crate::fault::FaultKind;
 use crate::names::{Names, find_name};
 use crate::scopes::Seen;
-use crate::table::{Extent, Field, Node, Resolved, Shape};
+use crate::table::{Extent, Field, MOST_ALTERNATIVES, MOST_NODES, Node, Resolved, Shape};
 use pickle_syntax::tree;
 use pickle_syntax::tree::{Expression, Form, Reference, Unit};
 use std::alloc::Global;
@@ -59,7 +60,8 @@ impl<'n> Builder<'n> {
         requires table { IsTable self.now.nodes.items }
         requires names { AreNamed self.now.nodes.items self.now.names }
         requires seen { AreBelow (length self.now.nodes.items) levels self.now.seen.items }
-        ensures { Gives optional_term result (integer_expression (known_types self.now) (visible_in self.now) levels (optional_tree e.now)) }
+        ensures gives { Gives optional_term result (integer_expression (known_types self.now) (visible_in self.now) levels (optional_tree e.now)) }
+        ensures sound { IfOk result (λ c. IsSoundClause (optional_term c)) }
     {
         let Some(e) = e else {
             return Ok(None);
@@ -79,7 +81,8 @@ impl<'n> Builder<'n> {
         requires table { IsTable self.now.nodes.items }
         requires names { AreNamed self.now.nodes.items self.now.names }
         requires seen { AreBelow (length self.now.nodes.items) levels self.now.seen.items }
-        ensures { Gives optional_term result (offset_expression (known_types self.now) (visible_in self.now) levels (optional_tree e.now)) }
+        ensures gives { Gives optional_term result (offset_expression (known_types self.now) (visible_in self.now) levels (optional_tree e.now)) }
+        ensures sound { IfOk result (λ c. IsSoundClause (optional_term c)) }
     {
         let Some(e) = e else {
             return Ok(None);
@@ -97,7 +100,8 @@ impl<'n> Builder<'n> {
         requires table { IsTable self.now.nodes.items }
         requires names { AreNamed self.now.nodes.items self.now.names }
         requires seen { AreBelow (length self.now.nodes.items) levels self.now.seen.items }
-        ensures { Gives bound_of result (bound_expression (known_types self.now) (visible_in self.now) levels (optional_tree e.now)) }
+        ensures gives { Gives bound_of result (bound_expression (known_types self.now) (visible_in self.now) levels (optional_tree e.now)) }
+        ensures sound { IfOk result (λ b. IsSoundBound (bound_of b)) }
     {
         let Some(e) = e else {
             return Ok(Extent::Unbounded);
@@ -123,6 +127,7 @@ impl<'n> Builder<'n> {
         requires inside { itself.node < length self.old.nodes.items }
         requires seen { AreBelow (length self.old.nodes.items) (itself.level + 1) self.old.seen.items }
         ensures gives { Gives optional_term result (integer_expression (known_types self.old) (views_of self.old.nodes.items (self.old.seen.items ++ itself.entry ∷ [])) (itself.entry.level + 1) (optional_tree e.now)) }
+        ensures sound { IfOk result (λ c. IsSoundClause (optional_term c)) }
         ensures names { self.new.names ≡ self.old.names }
         ensures nodes { self.new.nodes.items ≡ self.old.nodes.items }
         ensures seen { OnOk result (self.new.seen.items ≡ after_itself place self.old.seen.items itself.entry) }
@@ -151,6 +156,7 @@ impl<'n> Builder<'n> {
         requires few { levels < 64 }
         requires inside { found.node < length self.old.nodes.items }
         ensures gives { FieldGives self.old self.new place levels (length before.now) (field_tree written.now).parts result (field_meaning (known_types self.old) place (visible_in self.old) levels (names_in before.now) (field_tree written.now).parts (Ok (type_of self.old.nodes.items found.node))) }
+        ensures sound { IfOk result IsSoundField }
         ensures node { IfOk result (λ field. field.node ≡ found.node) }
     {
         let bits = has_width(&self.nodes, found.node);
@@ -177,16 +183,22 @@ impl<'n> Builder<'n> {
         })
     }
 
+    /// A new node, with the depth of its type. `Memory` is answered also where the table is full.
     pub fn push(&mut self, slot: Option<u16>, shape: Shape, depth: u8) -> Result<Found, FaultKind>
         requires table { IsTable self.old.nodes.items }
         requires names { AreNamed self.old.nodes.items self.old.names }
         requires below { NamesBelow (length self.old.nodes.items) shape }
+        requires sound { IsSoundShape shape }
         requires depth { depth ≡ Types.depth (open_shape (type_of self.old.nodes.items) shape) }
+        requires low { depth ≤ 64 }
         ensures builds { Builds self.old self.new result (Ok (open_shape (type_of self.old.nodes.items) shape)) }
         ensures depth { IfOk result (λ found. found.depth ≡ depth) }
         ensures memory { IfErr result (λ e. e ≡ FaultKind.Memory) }
     {
         let node = self.nodes.len();
+        if node >= MOST_NODES {
+            return Err(FaultKind::Memory);
+        }
         self.nodes.push(Node { shape, slot })?;
         Ok(Found { node, depth })
     }
@@ -409,6 +421,9 @@ impl<'n> Builder<'n> {
         }
         let (fields, depth) = self.fields_at(Place::Union, levels, room - 1, written)?;
         let alternatives = parts_from(self.alloc, fields)?;
+        if alternatives.len() > MOST_ALTERNATIVES {
+            return Err(FaultKind::Memory);
+        }
         let name = copied(self.alloc, title.name)?;
         self.push(title.slot, Shape::Union { name, alternatives }, depth + 1)
     }
@@ -428,6 +443,7 @@ impl<'n> Builder<'n> {
         requires seen { AreBelow (length self.old.nodes.items) (levels + 1) self.old.seen.items }
         requires few { levels + 1 + room ≤ 64 }
         ensures builds { FieldBuilds self.old self.new place levels (length before.now) (field_tree written.now).parts result (field_meaning (known_types self.old) place (visible_in self.old) levels (names_in before.now) (field_tree written.now).parts (meaning (known_types self.old) (visible_in self.old) (levels + 1) None room (field_tree written.now).form)) }
+        ensures sound { IfOk result (λ x. IsSoundField x.0) }
         ensures low { IfOk result (λ x. x.1 ≤ room) }
     {
         let found = self.type_at(
@@ -458,6 +474,7 @@ impl<'n> Builder<'n> {
         requires seen { AreBelow (length self.old.nodes.items) levels self.old.seen.items }
         requires few { levels + 1 + room ≤ 64 }
         ensures builds { FieldsBuild self.old self.new result (fields_meaning (known_types self.old) place (visible_in self.old) levels room [] (fields_tree written.now)) }
+        ensures sound { IfOk result (λ x. All IsSoundField x.0.items) }
         ensures low { IfOk result (λ x. x.1 ≤ room) }
     {
         let mark = self.seen.len();

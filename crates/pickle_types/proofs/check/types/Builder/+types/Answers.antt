@@ -1,17 +1,18 @@
-use Rattle.std.proofs.Common.{◌≡◌, [], ◌+◌, length, drop, refl, sym, ap, ◌∙◌, arith, eqb-true}
+use Rattle.std.proofs.Common.{◌≡◌, [], ◌∷◌, ◌+◌, length, drop, refl, sym, ap, ◌∙◌, arith, eqb-true}
 use Rattle.std.proofs.lemmas.Bool.{eqb-false}
 use Rattle.std.proofs.lemmas.List.{take_all}
+use Rattle.std.proofs.lemmas.List.Elements.{All-append}
 use Rattle.std.proofs.lemmas.Result.{err_from_is_err_and}
 use Rattle.pickle_syntax.specs.Tree.{Plain, StringForm, OffsetForm, reference_tree, optional_tree, form_tree, fields_tree}
 use Rattle.pickle_types.specs.Types.{depth}
-use Rattle.pickle_types.specs.Table.{type_of}
+use Rattle.pickle_types.specs.Table.{type_of, IsSoundField}
 use Rattle.pickle_types.specs.Meaning.{meaning}
 use Rattle.pickle_types.specs.Built.{bytes_now}
 use Rattle.pickle_types.specs.Building.{known_types, visible_in}
 use Rattle.pickle_types.proofs.Forms.{reference_form, string_form, offset_form}
 use Rattle.pickle_types.proofs.Growth.{type_kept}
 use Rattle.pickle_types.proofs.Steps.{fails_bind}
-use Rattle.pickle_types.proofs.Buildings.{meaning_plain, meaning_string, meaning_offset, meaning_array, meaning_struct, meaning_integral, meaning_union, built_then, visible_kept, array_depth, struct_depth, integral_depth, union_depth, parts_opened, parts_below, some_alternative, integral_fits, integral_wrong, so_far_more, so_far_none, fields_next, drop_item, kept_on, builds_as, no_alternative, field_on}
+use Rattle.pickle_types.proofs.Buildings.{meaning_plain, meaning_string, meaning_offset, meaning_array, meaning_struct, meaning_integral, meaning_union, built_then, visible_kept, array_depth, struct_depth, integral_depth, union_depth, parts_opened, parts_below, parts_sound, some_alternative, integral_fits, integral_wrong, so_far_more, so_far_none, fields_next, drop_item, kept_on, builds_as, no_alternative, field_on}
 use Rattle.pickle_types.proofs.check.types.Builder.+types.Goals as goal
 
 pub type_at-returns-then-room-eq0-clause-builds : goal.type_at-returns-then-room-eq0-clause-builds
@@ -57,7 +58,7 @@ array_at-returns-in_err-bound-clause-builds t c =
     let m = meaning_array (known_types b) (visible_in b) c.args.levels (bytes_now c.args.title.name) c.args.room (form_tree c.args.element.now) (optional_tree c.args.bound.now) (omega arith) in
     let e = c.in_ok-found.ensures.builds in
     let seen = visible_kept b c.type_at.new.self c.requires.table e.2.keeps e.2.seen c.args.levels c.requires.seen in
-    let h = rw (e.2.keeps.known, seen) at c.in_err-bound.ensures in
+    let h = rw (e.2.keeps.known, seen) at c.in_err-bound.ensures.gives in
     rw (p.1, p.2, m, e.1) (fails_bind _ _ _ h)
 
 pub array_at-push-requires-clause-depth : goal.array_at-push-requires-clause-depth
@@ -72,7 +73,7 @@ array_at-returns-clause-builds t c =
     let m = meaning_array (known_types b) (visible_in b) c.args.levels (bytes_now c.args.title.name) c.args.room (form_tree c.args.element.now) (optional_tree c.args.bound.now) (omega arith) in
     let e = c.in_ok-found.ensures.builds in
     let seen = visible_kept b c.type_at.new.self c.requires.table e.2.keeps e.2.seen c.args.levels c.requires.seen in
-    let h = rw (e.2.keeps.known, seen) at c.in_ok-bound.ensures in
+    let h = rw (e.2.keeps.known, seen) at c.in_ok-bound.ensures.gives in
     built_then _ _ _ c.push.result _ _ e.2.keeps e.2.seen (rw (m, e.1, h, e.2.type) refl) c.push.ensures.builds
 
 pub struct_at-returns-in_err-fields-clause-builds : goal.struct_at-returns-in_err-fields-clause-builds
@@ -126,6 +127,9 @@ integral_at-returns-then-total_width-from-clause-builds t c =
 pub integral_at-push-requires-clause-below : goal.integral_at-push-requires-clause-below
 integral_at-push-requires-clause-below t c = (c.in_ok-number.ensures.wide, rw c.in_ok-fields-2.ensures.ok (parts_below _ c.in_ok-fields.fields.items c.in_ok-fields.ensures.builds.2.below))
 
+pub integral_at-push-requires-clause-sound : goal.integral_at-push-requires-clause-sound
+integral_at-push-requires-clause-sound t c = rw c.in_ok-fields-2.ensures.ok (parts_sound c.in_ok-fields.fields.items c.in_ok-fields.ensures.sound)
+
 pub integral_at-push-requires-clause-depth : goal.integral_at-push-requires-clause-depth
 integral_at-push-requires-clause-depth t c =
     let e = c.in_ok-fields.ensures.builds in
@@ -162,6 +166,9 @@ union_at-returns-in_err-fields-clause-builds t c =
 pub union_at-push-requires-clause-below : goal.union_at-push-requires-clause-below
 union_at-push-requires-clause-below t c = rw c.in_ok-alternatives.ensures.ok (parts_below _ c.in_ok-fields.fields.items c.in_ok-fields.ensures.builds.2.below)
 
+pub union_at-push-requires-clause-sound : goal.union_at-push-requires-clause-sound
+union_at-push-requires-clause-sound t c = (rw c.in_ok-alternatives.ensures.ok (parts_sound c.in_ok-fields.fields.items c.in_ok-fields.ensures.sound), omega arith)
+
 pub union_at-push-requires-clause-depth : goal.union_at-push-requires-clause-depth
 union_at-push-requires-clause-depth t c =
     let e = c.in_ok-fields.ensures.builds in
@@ -195,6 +202,7 @@ fields_at-loop-f-init t c = record {
   low = omega arith;
   kept = take_all _ _ (omega arith);
   below = λ k d lt. let b = c.requires.seen k d lt in record { node = b.node; level = omega arith };
+  sound = rw c.new-fields.ensures.items (λ k d lt. absurd (omega arith));
   so_far = rw c.new-fields.ensures.items (so_far_none c.args.self.now [] _ c.requires.table c.requires.names refl);
 }
 
@@ -215,6 +223,7 @@ fields_at-loop-f-preserved t c =
       low = rw c.max-deepest.ensures (omega arith);
       kept = kept_on c.len-mark.result a.seen.items b.seen.items n.seen.items i.kept (omega arith) h.2.kept;
       below = h.2.below;
+      sound = rw c.in_ok-push.ensures.items (All-append IsSoundField c.loop-f.fields.items (c.in_ok-field.field ∷ []) i.sound (λ k d lt. let z : k ≡ 0 = omega arith in rw z c.in_ok-field.ensures.sound));
       so_far = rw (c.in_ok-push.ensures.items, c.max-deepest.ensures) more;
     }
 

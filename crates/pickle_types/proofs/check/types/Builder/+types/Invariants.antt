@@ -1,5 +1,7 @@
 use Rattle.std.proofs.Common.{◌≡◌, ◌+◌, ◌*◌, ◌≤◌, [], length, drop, take}
+use Rattle.std.specs.Prelude.{All}
 use Rattle.pickle_syntax.specs.Tree.{fields_tree}
+use Rattle.pickle_types.specs.Table.{IsSoundField}
 use Rattle.pickle_types.specs.Meaning.{fields_meaning}
 use Rattle.pickle_types.specs.Built.{AreBelow, names_in}
 use Rattle.pickle_types.specs.Building.{known_types, visible_in, FieldsSoFar}
@@ -31,6 +33,7 @@ invariant-fields_at-loop-f l = record {
   low : l.deepest ≤ l.room;
   kept : take l.mark l.self.seen.items ≡ l.initial.self.seen.items;
   below : AreBelow (length l.self.nodes.items) (l.levels + 1) l.self.seen.items;
+  sound : All IsSoundField l.fields.items;
   so_far : FieldsSoFar l.initial.self l.self l.fields.items l.deepest
       (fields_meaning (known_types l.initial.self) l.place (visible_in l.initial.self) l.levels l.room [] (fields_tree l.written))
       (fields_meaning (known_types l.initial.self) l.place (visible_in l.self) l.levels l.room (names_in l.fields.items) (fields_tree (drop l.f-index l.written)));

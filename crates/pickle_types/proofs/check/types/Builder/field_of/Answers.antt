@@ -18,8 +18,8 @@ returns-in_err-constraint-clause-gives c =
     let p = err_from_is_err_and c.from_residual-in_err-constraint.result c.from_residual-in_err-constraint.ensures.1 in
     let stands : if_here (may_stand c.args.place (has_some (bit_width t)) parts) ≡ Ok tt = rw (c.has_width-bits.ensures, c.deref.ensures.value) at c.in_ok-stand.ensures in
     let new : fresh parts.name (names_in c.args.before.now) ≡ Ok tt = rw c.name_in-word.ensures at c.in_ok-fresh.ensures in
-    let label = rw c.label_in.ensures at c.in_ok-label.ensures in
-    let condition = rw c.condition_in.ensures at c.in_ok-condition.ensures in
+    let label = rw c.label_in.ensures at c.in_ok-label.ensures.gives in
+    let condition = rw c.condition_in.ensures at c.in_ok-condition.ensures.gives in
     let s : Seen = record { name = c.name_in-word.result; level = c.args.levels; place = c.place_in.result; node = c.args.found.node } in
     let seen = itself_seen b.nodes.items b.seen.items s c.args.place (length c.args.before.now) parts c.name_in-word.ensures c.place_in.ensures in
     let h = rw (seen, c.constraint_in.ensures) at c.in_err-constraint.ensures.gives in
@@ -32,8 +32,8 @@ returns-clause-gives c =
     let t = type_of b.nodes.items c.args.found.node in
     let stands : if_here (may_stand c.args.place (has_some (bit_width t)) parts) ≡ Ok tt = rw (c.has_width-bits.ensures, c.deref.ensures.value) at c.in_ok-stand.ensures in
     let new : fresh parts.name (names_in c.args.before.now) ≡ Ok tt = rw c.name_in-word.ensures at c.in_ok-fresh.ensures in
-    let label = rw c.label_in.ensures at c.in_ok-label.ensures in
-    let condition = rw c.condition_in.ensures at c.in_ok-condition.ensures in
+    let label = rw c.label_in.ensures at c.in_ok-label.ensures.gives in
+    let condition = rw c.condition_in.ensures at c.in_ok-condition.ensures.gives in
     let s : Seen = record { name = c.name_in-word.result; level = c.args.levels; place = c.place_in.result; node = c.args.found.node } in
     let seen = itself_seen b.nodes.items b.seen.items s c.args.place (length c.args.before.now) parts c.name_in-word.ensures c.place_in.ensures in
     let h = rw (seen, c.constraint_in.ensures) at c.in_ok-constraint.ensures.gives in
