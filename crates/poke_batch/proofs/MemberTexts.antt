@@ -1,11 +1,11 @@
 -- Laws of the texts of values with members.
-use Rattle.std.proofs.Common.{◌≡◌, ℕ, zero, suc, add-one, ◌+◌, ◌<◌, ◌≤◌, List, [], ◌++◌, Option, Some, None, Bool, true, false, codes, refl, sym, ◌∙◌, ap, subst, arith}
+use Rattle.std.proofs.Common.{◌≡◌, ℕ, zero, suc, add-one, ◌+◌, ◌<◌, ◌≤◌, List, [], ◌++◌, Option, Some, None, Bool, false, codes, refl, sym, ◌∙◌, ap, subst, arith}
 use Rattle.std.specs.Io.KnownBytes.{Appends}
 use Rattle.pickle_map.specs.declared.value.Kind.TheVariants as kind
 use Rattle.pickle_map.specs.Values.{Value, Mapped, Label, IntegerLabel, OffsetLabel, TextLabel, ArrayLabel, StructLabel, UnionLabel, Members, NoMembers, MemberThen, AbsentThen, label_of, members_of, member_count, member_at}
 use Rattle.pickle_map.specs.Labels.{kind_of, number_of, unit_of, bytes_of, member_name}
 use Rattle.poke_batch.specs.ValueText.{value_text, members_text, integer_text, offset_text, string_text}
-use Rattle.poke_batch.specs.PartText.{type_of, all_members_text, array_text, titled_text, member_text}
+use Rattle.poke_batch.specs.PartText.{type_of, array_text, titled_text, member_text}
 use Rattle.poke_batch.proofs.Parts.{Told, told_all}
 
 -- the members from a place on

@@ -1,8 +1,8 @@
 -- Values and their texts, worked out by hand, against the definition.
-use Rattle.std.proofs.Common.{◌≡◌, ℕ, ℤ, pos, negsuc, refl, true, false, codes, List, [], ◌∷◌, Some, None}
+use Rattle.std.proofs.Common.{◌≡◌, ℕ, pos, negsuc, refl, true, false, codes, [], ◌∷◌, Some, None}
 use Rattle.std.specs.Fmt.{digits}
 use Rattle.pickle_types.specs.declared.integer.IntegerType.{IntegerType}
-use Rattle.pickle_map.specs.Values.{Value, Mapped, Label, IntegerLabel, OffsetLabel, TextLabel, ArrayLabel, StructLabel, UnionLabel, Members, NoMembers, MemberThen, AbsentThen}
+use Rattle.pickle_map.specs.Values.{Value, Mapped, Label, IntegerLabel, OffsetLabel, TextLabel, ArrayLabel, StructLabel, UnionLabel, NoMembers, MemberThen, AbsentThen}
 use Rattle.poke_batch.specs.ValueText.{printed, integer_text, offset_text, string_text}
 
 abbrev unsigned_type : ℕ → IntegerType

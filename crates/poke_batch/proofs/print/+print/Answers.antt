@@ -1,6 +1,6 @@
-use Rattle.std.proofs.Common.{◌≡◌, ◌+◌, ◌≤◌, ◌++◌, codes, arith, rules, sym, true, None, Some}
+use Rattle.std.proofs.Common.{◌≡◌, codes, arith, None}
 use Rattle.std.proofs.lemmas.Result.{err_from_is_err_and}
-use Rattle.pickle_map.specs.Values.{label_of, members_of, member_count, member_at}
+use Rattle.pickle_map.specs.Values.{label_of, members_of, member_at}
 use Rattle.pickle_map.specs.Labels.{name_of, member_name}
 use Rattle.pickle_map.specs.Refs.{value_shown}
 use Rattle.poke_batch.specs.ValueText.{title_text}

@@ -1,5 +1,4 @@
 use Rattle.std.proofs.Common.{◌+◌, ◌*◌}
-use Rattle.std.specs.Io.KnownBytes.{Appends}
 use Rattle.pickle_map.specs.Values.{label_of, members_of}
 use Rattle.pickle_map.specs.Refs.{value_shown, rank_of}
 use Rattle.poke_batch.specs.ValueText.{members_text}

@@ -1,9 +1,7 @@
-use Rattle.std.proofs.Common.{◌≡◌, ◌∙◌, take, drop, subst, sym, ap, rules}
+use Rattle.std.proofs.Common.{◌≡◌, take, drop, rules}
 use Rattle.std.specs.Prelude.{slice_index}
-use Rattle.std.specs.Io.KnownBytes.{Appends}
 use Rattle.std.specs.List.{prefix_len}
 use Rattle.std.proofs.lemmas.Result.{err_from_is_err_and}
-use Rattle.poke_batch.specs.Written.{AppendsPart}
 use Rattle.poke_batch.specs.ValueText.{bytes_text, escape_text, is_plain}
 use Rattle.poke_batch.proofs.Parts.{part_first}
 use Rattle.poke_batch.proofs.StringTexts.{plain_text, plain_then, escape_then}
