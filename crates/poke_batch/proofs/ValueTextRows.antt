@@ -147,3 +147,22 @@ string_and_offset : printed (Mapped (StructLabel (Some (codes "T")) (Some (codes
     ≡ codes "T {s=\"hi\",o=3#B}\n"
 unfolding integer_text offset_text string_text digits
 string_and_offset = refl
+
+-- a size in bytes, so many bytes, and a negative offset in units of 4 bits
+sizes : printed (Mapped (StructLabel (Some (codes "T")) (Some (codes "len") ∷ Some (codes "data") ∷ Some (codes "o") ∷ [])) 0 40
+    (MemberThen (leaf (OffsetLabel (pos 2) (unsigned_type 8) 8))
+    (MemberThen (Mapped ArrayLabel 8 24 (MemberThen (byte 170) (MemberThen (byte 187) NoMembers)))
+    (MemberThen (leaf (OffsetLabel (negsuc 1) (signed_type 16) 4)) NoMembers))))
+    ≡ codes "T {len=2UB#B,data=[170UB,187UB],o=-2H#4}\n"
+unfolding integer_text offset_text digits
+sizes = refl
+
+-- an array of structs
+elements : printed (Mapped (StructLabel (Some (codes "A")) (Some (codes "es") ∷ Some (codes "z") ∷ [])) 0 24
+    (MemberThen (Mapped ArrayLabel 0 16
+    (MemberThen (Mapped (StructLabel (Some (codes "E")) (Some (codes "v") ∷ [])) 0 8 (MemberThen (byte 5) NoMembers))
+    (MemberThen (Mapped (StructLabel (Some (codes "E")) (Some (codes "v") ∷ [])) 8 16 (MemberThen (byte 6) NoMembers)) NoMembers)))
+    (MemberThen (byte 0) NoMembers)))
+    ≡ codes "A {es=[E {v=5UB},E {v=6UB}],z=0UB}\n"
+unfolding integer_text digits
+elements = refl
