@@ -1,6 +1,5 @@
 -- What the label of a value tells of it.
-use Rattle.std.specs.Prelude.{ℕ, zero, suc, ℤ, pos, Bool, false, List, [], ◌∷◌, Option, Some, None, slice_get, unwrap_or}
-use Rattle.pickle_types.specs.declared.integer.IntegerType.{IntegerType}
+use Rattle.std.specs.Prelude.{ℕ, zero, suc, ℤ, pos, Bool, false, List, [], None, slice_get, unwrap_or}
 use Rattle.pickle_map.specs.declared.value.Kind.{Kind}
 use Rattle.pickle_map.specs.declared.value.Kind.TheVariants.{Integer, Offset, Text, Array, Struct, Union}
 use Rattle.pickle_map.specs.Values.{Naming, Label, IntegerLabel, OffsetLabel, TextLabel, ArrayLabel, StructLabel, UnionLabel}
