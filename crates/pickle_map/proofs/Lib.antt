@@ -26,6 +26,7 @@ mod Makes
 pub mod Walks
 pub mod Found
 pub mod ShownPaths
+pub mod ShownLabels
 pub mod Lookup
 pub mod Elements
 mod Always

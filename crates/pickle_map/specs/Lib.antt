@@ -21,6 +21,7 @@ pub mod Levels
 pub mod Links
 pub mod Slots
 pub mod Kinds
+pub mod Labels
 pub mod Shown
 pub mod Stops
 pub mod Framed

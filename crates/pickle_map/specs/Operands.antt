@@ -9,7 +9,7 @@ use Rattle.pickle_map.specs.declared.evaluate.operand.Unvalued.TheVariants.{Faul
 use Rattle.pickle_map.specs.Tree as tree
 use Rattle.pickle_map.specs.declared.faults.MapFaultKind.{MapFaultKind}
 use Rattle.pickle_map.specs.declared.faults.MapFaultKind.TheVariants as fault
-use Rattle.pickle_map.specs.declared.value.ValueRef.{ValueRef}
+use Rattle.pickle_map.specs.declared.stored.StoredValue.{StoredValue}
 use Rattle.pickle_map.specs.Refs.{value_of}
 use Rattle.pickle_map.specs.Values.{Label, TextLabel, Value}
 use Rattle.pickle_map.specs.Evaluation.{Operand, AtPath, Plain, Evaluation}
@@ -49,7 +49,7 @@ tree_element (tree.Tree tree.ArrayLabel b z ps) (negsuc i) = Err fault.Index
 tree_element (tree.Tree (tree.StructLabel of) b z ps) index = Err fault.Absent
 tree_element (tree.Tree (tree.UnionLabel of taken) b z ps) index = Err fault.Absent
 
-abbrev pub found_value : Result ValueRef MapFaultKind → Result tree.Value MapFaultKind
+abbrev pub found_value : Result StoredValue MapFaultKind → Result tree.Value MapFaultKind
 found_value (Ok r) = Ok (value_of r)
 found_value (Err kind) = Err kind
 

@@ -1,7 +1,22 @@
 -- The value that is lent.
+use Rattle.std.specs.Prelude.{ℕ}
+use Rattle.pickle_map.specs.declared.stored.StoredValue.{StoredValue}
 use Rattle.pickle_map.specs.declared.value.ValueRef.{ValueRef}
-use Rattle.pickle_map.specs.Tree.{Value}
+use Rattle.pickle_map.specs.Tree as tree
 use Rattle.pickle_map.specs.Slots.{value_at}
+use Rattle.pickle_map.specs.Values.{Value}
+use Rattle.pickle_map.specs.Shown.{shown}
 
-abbrev pub value_of : ValueRef → Value
+abbrev pub value_of : StoredValue → tree.Value
 value_of r = value_at r.store.now.slots r.node
+
+-- the same with the names of its type
+abbrev pub value_shown : ValueRef → Value
+value_shown r = shown r.nodes.now (value_of r.stored)
+
+-- a number that falls from a value to each of its members
+abbrev pub stored_rank : StoredValue → ℕ
+stored_rank r = r.node
+
+abbrev pub rank_of : ValueRef → ℕ
+rank_of r = stored_rank r.stored

@@ -7,7 +7,12 @@ pub mod faults;
 pub mod laws;
 pub mod map;
 pub mod memory;
+mod names;
 pub mod store;
+pub(crate) mod stored;
 #[cfg(test)]
 mod tests;
 pub mod value;
+
+pub use store::Store;
+pub use value::{Kind, ValueRef};

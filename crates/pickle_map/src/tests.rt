@@ -4,12 +4,34 @@ ghost use Rattle.pickle_map.specs.Slots.{levels};
 use crate::memory::Memory;
 use crate::store::Store;
 use crate::value::{Kind, ValueRef};
+use pickle_syntax::lexer::lex;
+use pickle_syntax::parser::parse;
+use pickle_types::type_table::Table;
+use std::alloc::Global;
 use std::process::Abort;
 use std::test::Fail;
 
+// The types of the values below.
+fn types(alloc: Global) -> Result<Table, Fail> {
+    let text = b"
+        type U = union { byte a : a == 1; byte b : b == 2; bit c; };
+        type R = struct { byte x; int<12> y; offset<uint<8>,B> units; byte[2] bytes; byte gone if 0; U; };";
+    let tokens = lex(alloc, text)?;
+    let pickle = parse(alloc, &tokens)?;
+    Ok(Table::build(alloc, &pickle)?)
+}
+
+// The index of a type, and 0 where there is none of that name.
+fn index_of(table: &Table, name: &[u8]) -> u32 {
+    match table.find(name) {
+        Some(id) => u32::try_from(id.node).unwrap_or(0),
+        None => 0,
+    }
+}
+
 // A record of six fields at bit 8: the byte 5, a signed integer of 12 bits, 3 units of 8 bits, an array of the bytes 7 and 9, a field that is
 // absent, and a union that took its alternative 2, the bit 1. It takes 8 nodes, 9 links and 6 pending children.
-fn build(store: &mut Store) -> Result<(), Memory>
+fn build(table: &Table, store: &mut Store) -> Result<(), Memory>
     requires { length (levels store.old) ≤ 8 }
     ensures { store.new.room ≡ store.old.room }
 {
@@ -24,8 +46,8 @@ fn build(store: &mut Store) -> Result<(), Memory>
     store.push_absent()?;
     store.open_level();
     store.push_integer(1, false, 1, 52)?;
-    store.close_union(6, 2, 52, 1)?;
-    store.close_struct(4, 8, 45)
+    store.close_union(index_of(table, b"U"), 2, 52, 1)?;
+    store.close_struct(index_of(table, b"R"), 8, 45)
 }
 
 fn expect_integer(
@@ -48,19 +70,36 @@ fn expect_integer(
             assert_eq!(rt; value.len(), 0);
             assert_eq!(rt; value.bytes().len(), 0);
             assert!(rt; value.child(0).is_none());
+            assert!(rt; value.type_name().is_none());
+            assert!(rt; value.field_name(0).is_none());
         }
         None => assert!(rt; false, "no value"),
     }
 }
 
-fn expect_record(rt: &impl Abort, store: &Store) {
-    let Some(record) = store.root() else {
+// A name, and no bytes where there is none.
+fn letters<'a>(name: Option<&'a [u8]>) -> &'a [u8] {
+    match name {
+        Some(name) => name,
+        None => b"",
+    }
+}
+
+fn expect_names(rt: &impl Abort, record: ValueRef<'_>) {
+    let names: [&[u8]; 7] = [b"x", b"y", b"units", b"bytes", b"gone", b"", b""];
+    assert_eq!(rt; letters(record.type_name()), b"R".as_slice());
+    for (i, name) in names.iter().enumerate() {
+        assert_eq!(rt; letters(record.field_name(i)), *name);
+    }
+}
+
+fn expect_record(rt: &impl Abort, table: &Table, store: &Store) {
+    let Some(record) = store.root(table) else {
         assert!(rt; false, "no value");
         return;
     };
     assert_eq!(rt; record.kind(), Kind::Struct);
-    assert_eq!(rt; record.type_index(), Some(4));
-    assert_eq!(rt; record.taken(), None);
+    expect_names(rt, record);
     assert_eq!(rt; record.start(), 8);
     assert_eq!(rt; record.size(), 45);
     assert_eq!(rt; record.len(), 6);
@@ -84,34 +123,39 @@ fn expect_record(rt: &impl Abort, store: &Store) {
     assert_eq!(rt; array.kind(), Kind::Array);
     assert_eq!(rt; array.len(), 2);
     assert_eq!(rt; array.size(), 16);
+    assert!(rt; array.type_name().is_none());
+    assert!(rt; array.field_name(0).is_none());
     expect_integer(rt, array.child(1), 9, 8, false, 44);
     assert!(rt; array.child(2).is_none());
     assert_eq!(rt; union.kind(), Kind::Union);
-    assert_eq!(rt; union.type_index(), Some(6));
-    assert_eq!(rt; union.taken(), Some(2));
+    assert_eq!(rt; letters(union.type_name()), b"U".as_slice());
+    assert_eq!(rt; letters(union.field_name(0)), b"c".as_slice());
+    assert!(rt; union.field_name(1).is_none());
     assert_eq!(rt; union.len(), 1);
     expect_integer(rt, union.child(0), 1, 1, false, 52);
 }
 
 #[test]
 fn a_record_is_read_back(rt: HostRuntime) -> Result<(), Fail> {
+    let table = types(rt.alloc())?;
     let mut store = Store::new(rt.alloc());
-    assert!(rt; store.root().is_none());
-    build(&mut store)?;
-    expect_record(&rt, &store);
+    assert!(rt; store.root(&table).is_none());
+    build(&table, &mut store)?;
+    expect_record(&rt, &table, &store);
     Ok(())
 }
 
-// Eight of each kind but links are enough, and nine links. No memory is asked for after `with_room`: run with the eighth allocation refused,
-// this test passes as well.
+// Eight of each kind but links are enough, and nine links. No memory is asked for after `with_room`: the test passes as well
+// where any later allocation is refused.
 #[test]
 fn a_store_is_used_again_in_its_room(rt: HostRuntime) -> Result<(), Fail> {
+    let table = types(rt.alloc())?;
     let mut store = Store::with_room(rt.alloc(), 9)?;
-    build(&mut store)?;
-    expect_record(&rt, &store);
+    build(&table, &mut store)?;
+    expect_record(&rt, &table, &store);
     store.clear();
-    assert!(rt; store.root().is_none());
-    build(&mut store)?;
-    expect_record(&rt, &store);
+    assert!(rt; store.root(&table).is_none());
+    build(&table, &mut store)?;
+    expect_record(&rt, &table, &store);
     Ok(())
 }

@@ -1,12 +1,12 @@
-ghost use Rattle.std.specs.Prelude.{◌≡◌, ◌<◌, length, IfSome};
+ghost use Rattle.std.specs.Prelude.{◌≡◌, ◌<◌, ◌-◌, IfSome};
 ghost use Rattle.std.specs.Option.{option_map};
-ghost use Rattle.pickle_map.specs.Kinds.{kind_of};
-ghost use Rattle.pickle_map.specs.Tree.{label, start, size, parts, part_at, number_of, signed_of, width_of, unit_of, bytes_of, type_of, taken_of};
-ghost use Rattle.pickle_map.specs.Slots.{value_at};
-ghost use Rattle.pickle_map.specs.Scalars.{scalar_label, scalar_in, IsScalar};
+ghost use Rattle.pickle_map.specs.Values.{label_of, start_of, end_of, members_of, member_count, member_at};
+ghost use Rattle.pickle_map.specs.Labels.{kind_of, number_of, signed_of, width_of, unit_of, bytes_of, name_of, member_name};
+ghost use Rattle.pickle_map.specs.Shown.{shown};
 
-use crate::evaluate::integers::Scalar;
-use crate::store::Store;
+use crate::names::{part_name, title};
+use crate::stored::StoredValue;
+use pickle_types::table::Node;
 
 /// What sort of value one is.
 #[derive(Clone, Copy, Debug, PartialEq, Eq)]
@@ -19,119 +19,122 @@ pub enum Kind {
     Union,
 }
 
-/// A value that a store holds. It copies nothing.
+/// A mapped value, as a store holds it and with the names of its table. It copies nothing.
 #[derive(Clone, Copy)]
 pub struct ValueRef<'a> {
-    store: &'a Store,
-    node: usize,
-    ghost in_range: { node < length store.now.slots.nodes },
+    stored: StoredValue<'a>,
+    nodes: &'a [Node],
 }
 
+#[tactic(auto, using(crate::proofs::ShownLabels::shown_reads))]
 impl<'a> ValueRef<'a> {
-    ghost use Rattle.pickle_map.specs.Refs.{value_of};
+    ghost use Rattle.pickle_map.specs.Refs.{value_of, value_shown, rank_of};
 
-    pub(crate) fn new(store: &'a Store, node: usize) -> ValueRef<'a>
-        requires { node < length store.now.slots.nodes }
-        ensures { value_of result ≡ value_at store.now.slots node }
+    pub(crate) fn new(stored: StoredValue<'a>, nodes: &'a [Node]) -> ValueRef<'a>
+        ensures { value_shown result ≡ shown nodes.now (value_of stored.entry) }
     {
-        ValueRef { store, node }
+        ValueRef { stored, nodes }
     }
 
     pub fn kind(&self) -> Kind
-        ensures { result ≡ kind_of (label (value_of self.now)) }
+        ensures { result ≡ kind_of (label_of (value_shown self.now)) }
     {
-        self.store.kind_at(self.node)
+        self.stored.kind()
     }
 
     /// The bit at which the value starts.
     pub fn start(&self) -> u64
-        ensures { result ≡ start (value_of self.now) }
+        ensures { result ≡ start_of (value_shown self.now) }
     {
-        self.store.start_at(self.node)
+        self.stored.start()
     }
 
-    /// How many bits the value takes.
+    /// How many bits the value takes, from its start to its end.
     pub fn size(&self) -> u64
-        ensures { result ≡ size (value_of self.now) }
+        ensures { result ≡ end_of (value_shown self.now) - start_of (value_shown self.now) }
     {
-        self.store.size_at(self.node)
+        self.stored.size()
     }
 
     /// The number of an integer, the magnitude of an offset, else 0.
     pub fn number(&self) -> i128
-        ensures { result ≡ number_of (label (value_of self.now)) }
+        ensures { result ≡ number_of (label_of (value_shown self.now)) }
     {
-        self.store.number_at(self.node)
+        self.stored.number()
     }
 
     /// Whether the type of an integer or of an offset's magnitude has a sign, else false.
     pub fn signed(&self) -> bool
-        ensures { result ≡ signed_of (label (value_of self.now)) }
+        ensures { result ≡ signed_of (label_of (value_shown self.now)) }
     {
-        self.store.signed_at(self.node)
+        self.stored.signed()
     }
 
-    /// The number of an integer or an offset, with its type.
-    pub(crate) fn scalar(&self) -> Option<Scalar>
-        ensures is { option_map scalar_label result ≡ scalar_in (label (value_of self.now)) }
-        ensures scalar { IfSome result IsScalar }
-    {
-        self.store.scalar_at(self.node)
-    }
-
-    /// The width in bits of an integer or of an offset's magnitude, else 0.
+    /// The width in bits of an integer or of an offset's magnitude, 1 to 64, else 0.
     pub fn width(&self) -> u8
-        ensures { result ≡ width_of (label (value_of self.now)) }
+        ensures { result ≡ width_of (label_of (value_shown self.now)) }
     {
-        self.store.width_at(self.node)
+        self.stored.width()
     }
 
     /// The unit of an offset in bits, else 0.
     pub fn unit(&self) -> u32
-        ensures { result ≡ unit_of (label (value_of self.now)) }
+        ensures { result ≡ unit_of (label_of (value_shown self.now)) }
     {
-        self.store.unit_at(self.node)
+        self.stored.unit()
     }
 
     /// The bytes of a text without its final 0, else none.
     pub fn bytes(&self) -> &'a [u8]
-        ensures { result.now ≡ bytes_of (label (value_of self.now)) }
+        ensures { result.now ≡ bytes_of (label_of (value_shown self.now)) }
     {
-        self.store.bytes_at(self.node)
+        self.stored.bytes()
     }
 
     /// The number of elements of an array, of declared fields of a struct, absent ones too; 1 for a union, else 0.
     pub fn len(&self) -> usize
-        ensures { result ≡ length (parts (value_of self.now)) }
+        ensures { result ≡ member_count (members_of (value_shown self.now)) }
     {
-        self.store.len_at(self.node)
+        self.stored.len()
     }
 
     /// The element or field at a place, the alternative taken at place 0; nothing for an absent field and past the end.
     pub fn child(&self, i: usize) -> Option<ValueRef<'a>>
-        ensures part { option_map value_of result ≡ part_at (value_of self.now) i }
-        ensures below { IfSome result (λ c. c.node < self.now.node) }
+        ensures member { option_map value_shown result ≡ member_at (members_of (value_shown self.now)) i }
+        ensures below { IfSome result (λ c. rank_of c < rank_of self.now) }
     {
-        match self.store.child_at(self.node, i) {
-            Some(node) => Some(ValueRef {
-                store: self.store,
-                node,
+        match self.stored.child(i) {
+            Some(stored) => Some(ValueRef {
+                stored,
+                nodes: self.nodes,
             }),
             None => None,
         }
     }
 
-    /// The index of the type that names a struct or a union.
-    pub(crate) fn type_index(&self) -> Option<u32>
-        ensures { result ≡ type_of (label (value_of self.now)) }
+    /// The name that a struct or a union is printed with; nothing where its type is nameless, and for all other values.
+    pub fn type_name(&self) -> Option<&'a [u8]>
+        ensures { option_map (λ name. name.now) result ≡ name_of (label_of (value_shown self.now)) }
     {
-        self.store.type_at(self.node)
+        match self.stored.type_index() {
+            Some(of) => title(self.nodes, of),
+            None => None,
+        }
     }
 
-    /// The alternative that a union took.
-    pub(crate) fn taken(&self) -> Option<u16>
-        ensures { result ≡ taken_of (label (value_of self.now)) }
+    /// The name of the field at a place of a struct, of the alternative taken at place 0 of a union; nothing for nameless
+    /// fields, for elements and past the end.
+    pub fn field_name(&self, i: usize) -> Option<&'a [u8]>
+        ensures { option_map (λ name. name.now) result ≡ member_name (label_of (value_shown self.now)) i }
     {
-        self.store.taken_at(self.node)
+        let of = match self.stored.type_index() {
+            Some(of) => of,
+            None => return None,
+        };
+        match self.stored.taken() {
+            None => part_name(self.nodes, of, i),
+            Some(taken) if i == 0 => part_name(self.nodes, of, usize::from(taken)),
+            Some(_) => None,
+        }
     }
 }

@@ -1,36 +1,10 @@
 -- Laws of the texts of values.
-use Rattle.std.proofs.Common.{◌≡◌, ℕ, ◌+◌, ◌<◌, ◌≤◌, List, [], ◌∷◌, ◌++◌, Option, Bool, false, length, map, drop, get_or, refl, sym, ◌∙◌, ap, subst, arith}
-use Rattle.std.specs.Io.KnownBytes.{Appends}
-use Rattle.std.proofs.KnownBytes.{Appends-trans, Appends-nil}
-use Rattle.std.proofs.lemmas.List.{append_assoc, append-nil, drop_all, drop_more, length-map, get_or-map}
-use Rattle.poke_batch.specs.Written.{AppendsPart}
+use Rattle.std.proofs.Common.{◌≡◌, ℕ, ◌+◌, ◌<◌, ◌≤◌, List, [], ◌∷◌, ◌++◌, Bool, false, length, map, drop, get_or, refl, sym, ◌∙◌, ap, arith}
+use Rattle.std.proofs.lemmas.List.{drop_all, drop_more, length-map, get_or-map}
 use Rattle.poke_batch.specs.First.Declared.{Member}
 use Rattle.poke_batch.specs.declared.first.field.Field.{Field}
 use Rattle.poke_batch.specs.First.View.{member}
 use Rattle.poke_batch.specs.First.Text.{field_text, fields_text}
-use Rattle.poke_batch.proofs.Parts.{part_first, part_next}
-
--- a text is written but for a rest
-pub record Told (old new : Option (List ℕ)) (rest text : List ℕ) : Type 0 where
-  pub taken : List ℕ
-  pub appends : Appends old new taken
-  pub whole : taken ++ rest ≡ text
-
-pub told_none : (a : Option (List ℕ)) (text : List ℕ) → Told a a text text
-told_none a text = record { taken = []; appends = Appends-nil a; whole = refl }
-
-pub told_more : (a b c : Option (List ℕ)) (x y text : List ℕ) → Told a b (x ++ y) text → Appends b c x → Told a c y text
-told_more a b c x y text h g = record {
-  taken = h.taken ++ x;
-  appends = Appends-trans a b c h.taken x h.appends g;
-  whole = append_assoc h.taken x y ∙ h.whole;
-}
-
-pub told_cut : (a b c : Option (List ℕ)) (x y text : List ℕ) → Told a b (x ++ y) text → AppendsPart b c x → AppendsPart a c text
-told_cut a b c x y text h g = subst (AppendsPart a c) h.whole (part_next a b c h.taken (x ++ y) h.appends (part_first b c x y g))
-
-pub told_all : (a b : Option (List ℕ)) (rest text : List ℕ) → Told a b rest text → rest ≡ [] → Appends a b text
-told_all a b rest text h e = subst (Appends a b) (sym (append-nil h.taken) ∙ ap (λ r. h.taken ++ r) (sym e) ∙ h.whole) h.appends
 
 -- the texts of the fields from a place on
 pub fields_at : (first : Bool) (fields : List Member) (numbers : List ℕ) (i : ℕ) (field : Member) (n : ℕ) → i < length fields → length numbers ≡ length fields → field ≡ get_or fields i field → n ≡ get_or numbers i 0

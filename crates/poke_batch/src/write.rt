@@ -12,6 +12,8 @@ pub struct WriteFault;
 
 /// Writes the bytes of `text`, all of them or, with a fault, some first of them. What the writer took is never offered
 /// to it again. An error of the writer isn't tried again.
+// Not inlined: a caller would clear the large result of a write at each entry.
+#[inline(never)]
 pub fn put<W: Write>(w: &mut W, text: &[u8]) -> Result<(), WriteFault>
     ensures ok { OnOk result (Appends (W.contents w.old) (W.contents w.new) text.now) }
     ensures err { OnErr result (AppendsPart (W.contents w.old) (W.contents w.new) text.now) }

@@ -5,7 +5,7 @@ ghost use Rattle.pickle_map.specs.declared.evaluate.operand.Unvalued.TheVariants
 
 use crate::evaluate::integers::Scalar;
 use crate::faults::MapFaultKind;
-use crate::value::ValueRef;
+use crate::stored::StoredValue;
 use bit_space::LimitPassed;
 
 /// What an expression comes to: a computed number, a text, or the value at a path, as the store lends it.
@@ -13,7 +13,7 @@ use bit_space::LimitPassed;
 pub enum Operand<'a> {
     Scalar(Scalar),
     Text(&'a [u8]),
-    Value(ValueRef<'a>),
+    Value(StoredValue<'a>),
 }
 
 /// Why an expression has no value: its first fault, or no step was left.

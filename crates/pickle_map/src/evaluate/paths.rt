@@ -7,10 +7,11 @@ ghost use Rattle.pickle_map.specs.Operands.{tree_selected, tree_element, found_v
 
 use crate::evaluate::integers::Scalar;
 use crate::faults::MapFaultKind;
-use crate::value::{Kind, ValueRef};
+use crate::stored::StoredValue;
+use crate::value::Kind;
 
 /// The field of a struct, or the alternative of a union if it was taken.
-pub fn selected(value: ValueRef<'_>, place: usize) -> Option<ValueRef<'_>>
+pub fn selected(value: StoredValue<'_>, place: usize) -> Option<StoredValue<'_>>
     ensures { option_map value_of result ≡ tree_selected (value_of value.entry) place }
 {
     match value.kind() {
@@ -25,7 +26,7 @@ pub fn selected(value: ValueRef<'_>, place: usize) -> Option<ValueRef<'_>>
 
 #[tactic(auto, using(crate::proofs::Elements::element_before, crate::proofs::Elements::element_behind))]
 /// The element of an array, by an index that is not negative and below the count.
-pub fn element(value: ValueRef<'_>, index: i128) -> Result<ValueRef<'_>, MapFaultKind>
+pub fn element(value: StoredValue<'_>, index: i128) -> Result<StoredValue<'_>, MapFaultKind>
     ensures { found_value result ≡ tree_element (value_of value.entry) index }
 {
     if !matches!(value.kind(), Kind::Array) {

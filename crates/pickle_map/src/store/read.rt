@@ -10,7 +10,7 @@ ghost use Rattle.pickle_map.specs.Scalars.{scalar_label, scalar_in, IsScalar};
 use crate::evaluate::integers::Scalar;
 use crate::store::Store;
 use crate::store::slots::{Link, Marks, Node, Shape};
-use crate::value::{Kind, ValueRef};
+use crate::value::Kind;
 use pickle_types::integer::IntegerType;
 
 // The number that 64 bits stand for.

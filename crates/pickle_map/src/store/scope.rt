@@ -2,13 +2,17 @@ ghost use Rattle.std.specs.Prelude.{◌≡◌, ℕ, ◌<◌, ◌≤◌, None, le
 ghost use Rattle.std.specs.Option.{option_map};
 ghost use Rattle.pickle_map.specs.Levels.{part_in, level_at};
 ghost use Rattle.pickle_map.specs.Slots.{levels, marks_at, level_end, value_at};
+ghost use Rattle.pickle_map.specs.Values.{value_at as shown_at};
+ghost use Rattle.pickle_map.specs.Shown.{kept};
 
 use crate::store::Store;
 use crate::store::slots::{Link, Marks};
+use crate::stored::StoredValue;
 use crate::value::ValueRef;
+use pickle_types::type_table::Table;
 
 impl Store {
-    ghost use Rattle.pickle_map.specs.Refs.{value_of};
+    ghost use Rattle.pickle_map.specs.Refs.{value_of, value_shown};
 
     // The marks of an open value, counted from the innermost; past the outermost those of the whole.
     fn frame(&self, level: usize) -> Marks
@@ -65,19 +69,22 @@ impl Store {
 
     /// The part at a place of an open value, unless it is absent or there is none. Open values are counted from the innermost, and the last is
     /// the whole.
-    pub fn part(&self, level: usize, i: usize) -> Option<ValueRef<'_>>
+    pub fn part(&self, level: usize, i: usize) -> Option<StoredValue<'_>>
         ensures { option_map value_of result ≡ part_in (levels self.now) level i }
     {
         match self.part_at(level, i) {
-            Some(node) => Some(ValueRef::new(self, node)),
+            Some(node) => Some(StoredValue::new(self, node)),
             None => None,
         }
     }
 
-    /// The value that was mapped, where no value is open.
-    pub fn root(&self) -> Option<ValueRef<'_>>
-        ensures { option_map value_of result ≡ part_in (levels self.now) 0 0 }
+    /// The value that was mapped, with the names of its table, where no value is open; nothing in an empty store.
+    pub fn root<'a>(&'a self, table: &'a Table) -> Option<ValueRef<'a>>
+        ensures { option_map value_shown result ≡ shown_at (kept table.now.nodes.items self.now) 0 0 }
     {
-        self.part(0, 0)
+        match self.part(0, 0) {
+            Some(stored) => Some(ValueRef::new(stored, &table.nodes)),
+            None => None,
+        }
     }
 }

@@ -2,11 +2,10 @@
 ghost use Rattle.std.specs.Prelude.{◌≡◌, ℕ, ◌+◌, ◌-◌, ◌*◌, ◌^◌, ◌<◌, ◌≤◌, [], ◌∷◌, ◌++◌, length, map, max, take};
 ghost use Rattle.poke_batch.specs.DumpText.{hex_digit, place_text, gap, column, columns, shown, line_text};
 
+use crate::hex::hex_digit;
+
 /// Room for the longest line: a place of 16 digits, 16 columns of up to 3 bytes, 16 bytes as text, and 4 bytes between and after them.
 pub const LINE_ROOM: usize = 84;
-
-/// The hexadecimal digits.
-static DIGITS: [u8; 16] = *b"0123456789abcdef";
 
 /// Each byte as text. It is looked up, since no processor foresees a test of unknown bytes.
 static SHOWN: [u8; 256] = *b"................................ !\"#$%&'()*+,-./0123456789:;<=>?\
@@ -123,14 +122,6 @@ fn push_shown(line: &mut Line, start: usize, bytes: &[u8]) -> usize
         at = push(line, at, shown(*byte));
     }
     at
-}
-
-#[inline(always)]
-fn hex_digit(value: u8) -> u8
-    requires { value < 16 }
-    ensures { result ≡ hex_digit value }
-{
-    DIGITS[usize::from(value)]
 }
 
 #[inline(always)]

@@ -2,7 +2,8 @@ use Rattle.std.proofs.Common.{true, map, get_or, subst}
 use Rattle.std.proofs.lemmas.Result.{err_from_is_err_and}
 use Rattle.poke_batch.specs.First.Text.{field_text, fields_text}
 use Rattle.poke_batch.specs.First.View.{member}
-use Rattle.poke_batch.proofs.Texts.{Told, told_more, told_cut, fields_next}
+use Rattle.poke_batch.proofs.Parts.{Told, told_more, told_cut}
+use Rattle.poke_batch.proofs.Texts.{fields_next}
 use Rattle.poke_batch.proofs.first.text.put_fields.Goals as goal
 
 pub loop-i-preserved : goal.loop-i-preserved

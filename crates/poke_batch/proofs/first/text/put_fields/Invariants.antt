@@ -1,7 +1,7 @@
 use Rattle.std.proofs.Common.{true, map, drop}
 use Rattle.poke_batch.specs.First.Text.{fields_text}
 use Rattle.poke_batch.specs.First.View.{member}
-use Rattle.poke_batch.proofs.Texts.{Told}
+use Rattle.poke_batch.proofs.Parts.{Told}
 use Rattle.poke_batch.proofs.first.text.put_fields.Given as goal
 
 abbrev pub invariant-loop-i : goal.invariant-loop-i

@@ -1,0 +1,19 @@
+use Rattle.std.proofs.Common.{codes}
+use Rattle.std.proofs.lemmas.Result.{err_from_is_err_and}
+use Rattle.poke_batch.specs.ValueText.{string_text, bytes_text}
+use Rattle.poke_batch.proofs.Parts.{part_first, part_next}
+use Rattle.poke_batch.proofs.print.string.put_string.Goals as goal
+
+pub returns-in_err-put_bytes-clause-err : goal.returns-in_err-put_bytes-clause-err
+unfolding string_text
+returns-in_err-put_bytes-clause-err g c =
+    let p = err_from_is_err_and c.from_residual-in_err-put_bytes.result c.from_residual-in_err-put_bytes.ensures.1 in
+    rw p.1 (part_next _ _ _ (codes "\"") _ c.in_ok-put.ensures.ok (part_first _ _ (bytes_text c.args.bytes.now) (codes "\"") c.in_err-put_bytes.ensures.err))
+
+pub returns-in_err-put-2-clause-err : goal.returns-in_err-put-2-clause-err
+unfolding string_text
+returns-in_err-put-2-clause-err g c =
+    let p = err_from_is_err_and c.from_residual-in_err-put-2.result c.from_residual-in_err-put-2.ensures.1 in
+    rw p.1
+    (part_next _ _ _ (codes "\"") _ c.in_ok-put.ensures.ok
+    (part_next _ _ _ (bytes_text c.args.bytes.now) (codes "\"") c.in_ok-put_bytes.ensures.ok c.in_err-put-2.ensures.err))

@@ -1,0 +1,161 @@
+//! Prints mapped values.
+mod number;
+mod string;
+
+ghost use Rattle.std.specs.Prelude.{◌≡◌, ◌++◌, OnOk, OnErr, codes};
+ghost use Rattle.std.specs.Option.{option_map};
+ghost use Rattle.std.specs.Io.KnownBytes.{Appends};
+ghost use Rattle.pickle_map.specs.Values.{label_of};
+ghost use Rattle.pickle_map.specs.Refs.{value_shown};
+ghost use Rattle.poke_batch.specs.Written.{AppendsPart};
+ghost use Rattle.poke_batch.specs.ValueText.{printed, value_text, title_text, name_text, comma};
+ghost use Rattle.poke_batch.specs.PartText.{type_of, array_text, titled_text, all_members_text, member_text};
+
+use crate::mode::Mode;
+use crate::write::{WriteFault, put};
+use number::{put_integer, put_offset};
+use pickle_map::{Kind, ValueRef};
+use pickle_types::integer::IntegerType;
+use std::io::Write;
+use string::put_string;
+
+/// Writes the text of a value and a line feed. What the writer took before a fault is a part of that, from its front.
+pub fn print<W: Write>(value: ValueRef<'_>, mode: Mode, w: &mut W) -> Result<(), WriteFault>
+    ensures ok { OnOk result (Appends (W.contents w.old) (W.contents w.new) (printed (value_shown value.entry))) }
+    ensures err { OnErr result (AppendsPart (W.contents w.old) (W.contents w.new) (printed (value_shown value.entry))) }
+{
+    match mode {
+        Mode::Flat => print_flat(value, w),
+    }
+}
+
+#[tactic(auto, using(crate::proofs::Parts::written))]
+fn print_flat<W: Write>(value: ValueRef<'_>, w: &mut W) -> Result<(), WriteFault>
+    ensures ok { OnOk result (Appends (W.contents w.old) (W.contents w.new) (printed (value_shown value.entry))) }
+    ensures err { OnErr result (AppendsPart (W.contents w.old) (W.contents w.new) (printed (value_shown value.entry))) }
+{
+    put_value(w, value)?;
+    put(w, b"\n")?;
+    Ok(())
+}
+
+#[tactic(auto, using(crate::proofs::MemberTexts::by_kind))]
+#[cycle(print)]
+fn put_value<W: Write>(w: &mut W, value: ValueRef<'_>) -> Result<(), WriteFault>
+    ensures ok { OnOk result (Appends (W.contents w.old) (W.contents w.new) (value_text (value_shown value.entry))) }
+    ensures err { OnErr result (AppendsPart (W.contents w.old) (W.contents w.new) (value_text (value_shown value.entry))) }
+{
+    match value.kind() {
+        Kind::Integer => put_integer(w, type_of(value), value.number()),
+        Kind::Offset => put_offset(w, type_of(value), value.unit(), value.number()),
+        Kind::Text => put_string(w, value.bytes()),
+        Kind::Array => put_array(w, value),
+        Kind::Struct => put_titled(w, value, b"struct"),
+        Kind::Union => put_titled(w, value, b"union"),
+    }
+}
+
+// The type of an integer, or of an offset's magnitude.
+fn type_of(value: ValueRef<'_>) -> IntegerType
+    ensures { result ≡ type_of (label_of (value_shown value.entry)) }
+{
+    IntegerType {
+        width: value.width(),
+        signed: value.signed(),
+    }
+}
+
+#[tactic(auto, using(crate::proofs::Parts::written))]
+#[cycle(print)]
+fn put_array<W: Write>(w: &mut W, value: ValueRef<'_>) -> Result<(), WriteFault>
+    ensures ok { OnOk result (Appends (W.contents w.old) (W.contents w.new) (array_text (value_shown value.entry))) }
+    ensures err { OnErr result (AppendsPart (W.contents w.old) (W.contents w.new) (array_text (value_shown value.entry))) }
+{
+    put(w, b"[")?;
+    put_members(w, value)?;
+    put(w, b"]")?;
+    Ok(())
+}
+
+// Writes a struct or a union, with the word for its sort where it is nameless.
+#[tactic(auto, using(crate::proofs::Parts::written))]
+#[cycle(print)]
+fn put_titled<W: Write>(w: &mut W, value: ValueRef<'_>, sort: &[u8]) -> Result<(), WriteFault>
+    ensures ok { OnOk result (Appends (W.contents w.old) (W.contents w.new) (titled_text sort.now (value_shown value.entry))) }
+    ensures err { OnErr result (AppendsPart (W.contents w.old) (W.contents w.new) (titled_text sort.now (value_shown value.entry))) }
+{
+    put_title(w, sort, value.type_name())?;
+    put(w, b" {")?;
+    put_members(w, value)?;
+    put(w, b"}")?;
+    Ok(())
+}
+
+fn put_title<W: Write>(w: &mut W, sort: &[u8], name: Option<&[u8]>) -> Result<(), WriteFault>
+    ensures ok { OnOk result (Appends (W.contents w.old) (W.contents w.new) (title_text sort.now (option_map (λ name. name.now) name.entry))) }
+    ensures err { OnErr result (AppendsPart (W.contents w.old) (W.contents w.new) (title_text sort.now (option_map (λ name. name.now) name.entry))) }
+{
+    match name {
+        Some(name) => put(w, name),
+        None => put(w, sort),
+    }
+}
+
+#[cycle(print)]
+fn put_members<W: Write>(w: &mut W, value: ValueRef<'_>) -> Result<(), WriteFault>
+    ensures ok { OnOk result (Appends (W.contents w.old) (W.contents w.new) (all_members_text (value_shown value.entry))) }
+    ensures err { OnErr result (AppendsPart (W.contents w.old) (W.contents w.new) (all_members_text (value_shown value.entry))) }
+{
+    let mut first = true;
+    for place in 0..value.len() {
+        if let Some(member) = value.child(place) {
+            put_member(w, first, value.field_name(place), member)?;
+            first = false;
+        }
+    }
+    Ok(())
+}
+
+#[tactic(auto, using(crate::proofs::Parts::written))]
+#[cycle(print)]
+fn put_member<W: Write>(
+    w: &mut W,
+    first: bool,
+    name: Option<&[u8]>,
+    member: ValueRef<'_>,
+) -> Result<(), WriteFault>
+    ensures ok { OnOk result (Appends (W.contents w.old) (W.contents w.new) (member_text first (option_map (λ name. name.now) name.entry) (value_shown member.entry))) }
+    ensures err { OnErr result (AppendsPart (W.contents w.old) (W.contents w.new) (member_text first (option_map (λ name. name.now) name.entry) (value_shown member.entry))) }
+{
+    put_comma(w, first)?;
+    put_name(w, name)?;
+    put_value(w, member)?;
+    Ok(())
+}
+
+fn put_comma<W: Write>(w: &mut W, first: bool) -> Result<(), WriteFault>
+    ensures ok { OnOk result (Appends (W.contents w.old) (W.contents w.new) (comma first)) }
+    ensures err { OnErr result (AppendsPart (W.contents w.old) (W.contents w.new) (comma first)) }
+{
+    if first { Ok(()) } else { put(w, b",") }
+}
+
+fn put_name<W: Write>(w: &mut W, name: Option<&[u8]>) -> Result<(), WriteFault>
+    ensures ok { OnOk result (Appends (W.contents w.old) (W.contents w.new) (name_text (option_map (λ name. name.now) name.entry))) }
+    ensures err { OnErr result (AppendsPart (W.contents w.old) (W.contents w.new) (name_text (option_map (λ name. name.now) name.entry))) }
+{
+    match name {
+        Some(name) => put_name_before(w, name),
+        None => Ok(()),
+    }
+}
+
+#[tactic(auto, using(crate::proofs::Parts::written))]
+fn put_name_before<W: Write>(w: &mut W, name: &[u8]) -> Result<(), WriteFault>
+    ensures ok { OnOk result (Appends (W.contents w.old) (W.contents w.new) (name.now ++ codes "=")) }
+    ensures err { OnErr result (AppendsPart (W.contents w.old) (W.contents w.new) (name.now ++ codes "=")) }
+{
+    put(w, name)?;
+    put(w, b"=")?;
+    Ok(())
+}

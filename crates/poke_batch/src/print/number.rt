@@ -1,0 +1,133 @@
+//! Prints integers and offsets.
+ghost use Rattle.std.specs.Prelude.{◌≡◌, ◌++◌, true, false, OnOk, OnErr, decimal};
+ghost use Rattle.std.specs.Fmt.{signed_decimal};
+ghost use Rattle.std.specs.Option.{option_map};
+ghost use Rattle.std.specs.Io.KnownBytes.{Appends};
+ghost use Rattle.poke_batch.specs.Written.{AppendsPart};
+ghost use Rattle.poke_batch.specs.ValueText.{integer_text, offset_text, cast_text, type_word, unit_text, suffix_of, with_sign_letter, width_letter};
+
+use crate::write::{WriteFault, put};
+use itoa::Buffer;
+use pickle_types::integer::IntegerType;
+use std::io::Write;
+
+/// Writes an offset of so many units, of a number of bits each.
+#[tactic(auto, using(crate::proofs::Parts::written), unfolding(crate::specs::ValueText::offset_text))]
+pub fn put_offset<W: Write>(
+    w: &mut W,
+    ty: IntegerType,
+    unit: u32,
+    magnitude: i128,
+) -> Result<(), WriteFault>
+    ensures ok { OnOk result (Appends (W.contents w.old) (W.contents w.new) (offset_text ty unit magnitude)) }
+    ensures err { OnErr result (AppendsPart (W.contents w.old) (W.contents w.new) (offset_text ty unit magnitude)) }
+{
+    put_integer(w, ty, magnitude)?;
+    put(w, b"#")?;
+    put_unit(w, unit)?;
+    Ok(())
+}
+
+fn put_unit<W: Write>(w: &mut W, unit: u32) -> Result<(), WriteFault>
+    ensures ok { OnOk result (Appends (W.contents w.old) (W.contents w.new) (unit_text unit)) }
+    ensures err { OnErr result (AppendsPart (W.contents w.old) (W.contents w.new) (unit_text unit)) }
+{
+    match unit {
+        1 => put(w, b"b"),
+        8 => put(w, b"B"),
+        _ => put_digits(w, unit),
+    }
+}
+
+/// Writes an integer of a type.
+#[tactic(auto, unfolding(crate::specs::ValueText::integer_text))]
+pub fn put_integer<W: Write>(w: &mut W, ty: IntegerType, number: i128) -> Result<(), WriteFault>
+    ensures ok { OnOk result (Appends (W.contents w.old) (W.contents w.new) (integer_text ty number)) }
+    ensures err { OnErr result (AppendsPart (W.contents w.old) (W.contents w.new) (integer_text ty number)) }
+{
+    match suffix_of(ty) {
+        Some(suffix) => put_suffixed(w, number, suffix),
+        None => put_cast(w, ty, number),
+    }
+}
+
+#[tactic(auto, using(crate::proofs::Parts::written))]
+fn put_suffixed<W: Write>(w: &mut W, number: i128, suffix: &[u8]) -> Result<(), WriteFault>
+    ensures ok { OnOk result (Appends (W.contents w.old) (W.contents w.new) (signed_decimal number ++ suffix.now)) }
+    ensures err { OnErr result (AppendsPart (W.contents w.old) (W.contents w.new) (signed_decimal number ++ suffix.now)) }
+{
+    put_signed(w, number)?;
+    put(w, suffix)?;
+    Ok(())
+}
+
+#[tactic(auto, using(crate::proofs::Parts::written))]
+fn put_cast<W: Write>(w: &mut W, ty: IntegerType, number: i128) -> Result<(), WriteFault>
+    ensures ok { OnOk result (Appends (W.contents w.old) (W.contents w.new) (cast_text ty number)) }
+    ensures err { OnErr result (AppendsPart (W.contents w.old) (W.contents w.new) (cast_text ty number)) }
+{
+    put(w, type_word(ty.signed))?;
+    put_digits(w, u32::from(ty.width))?;
+    put(w, b">) ")?;
+    put_signed(w, number)?;
+    Ok(())
+}
+
+fn put_signed<W: Write>(w: &mut W, number: i128) -> Result<(), WriteFault>
+    ensures ok { OnOk result (Appends (W.contents w.old) (W.contents w.new) (signed_decimal number)) }
+    ensures err { OnErr result (AppendsPart (W.contents w.old) (W.contents w.new) (signed_decimal number)) }
+{
+    let mut digits = Buffer::new();
+    put(w, digits.format(number).as_bytes())
+}
+
+fn put_digits<W: Write>(w: &mut W, number: u32) -> Result<(), WriteFault>
+    ensures ok { OnOk result (Appends (W.contents w.old) (W.contents w.new) (decimal number)) }
+    ensures err { OnErr result (AppendsPart (W.contents w.old) (W.contents w.new) (decimal number)) }
+{
+    let mut digits = Buffer::new();
+    put(w, digits.format(number).as_bytes())
+}
+
+fn type_word(signed: bool) -> &'static [u8]
+    ensures { result.now ≡ type_word signed }
+{
+    if signed { b"(int<" } else { b"(uint<" }
+}
+
+// What tells the type behind the digits, where a suffix does.
+fn suffix_of(ty: IntegerType) -> Option<&'static [u8]>
+    ensures { option_map (λ suffix. suffix.now) result ≡ suffix_of ty }
+{
+    if ty.signed {
+        signed_suffix(ty.width)
+    } else {
+        unsigned_suffix(ty.width)
+    }
+}
+
+fn signed_suffix(width: u8) -> Option<&'static [u8]>
+    ensures { option_map (λ suffix. suffix.now) result ≡ with_sign_letter true (width_letter width) }
+{
+    match width {
+        4 => Some(b"N"),
+        8 => Some(b"B"),
+        16 => Some(b"H"),
+        32 => Some(b""),
+        64 => Some(b"L"),
+        _ => None,
+    }
+}
+
+fn unsigned_suffix(width: u8) -> Option<&'static [u8]>
+    ensures { option_map (λ suffix. suffix.now) result ≡ with_sign_letter false (width_letter width) }
+{
+    match width {
+        4 => Some(b"UN"),
+        8 => Some(b"UB"),
+        16 => Some(b"UH"),
+        32 => Some(b"U"),
+        64 => Some(b"UL"),
+        _ => None,
+    }
+}
