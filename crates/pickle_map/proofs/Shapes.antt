@@ -10,21 +10,21 @@ use Rattle.pickle_types.specs.declared.table.Shape.{Shape}
 use Rattle.pickle_types.specs.declared.table.Shape.TheVariants as shape
 use Rattle.pickle_types.specs.declared.table.Node.{Node}
 use Rattle.pickle_types.specs.Types.{PokeType, StructOf, IntegralOf, UnionOf, depth, fields_depth, parts_depth}
-use Rattle.pickle_types.specs.Table.{open_shape, open_fields, open_parts, type_of, FieldsBelow, PartsBelow, NamesBelow, IsWidth}
+use Rattle.pickle_types.specs.Table.{open_shape, open_fields, open_parts, type_of, FieldsBelow, PartsBelow, NamesBelow, IsSoundField, IsSoundPart, IsSoundShape, IsTable}
 use Rattle.pickle_types.proofs.Tables.{opens}
 use Rattle.pickle_map.specs.Means.{field_names, part_names, number_type}
 use Rattle.pickle_map.specs.Shown.{field_name, part_name, shape_title, shape_names, found_title, found_names, title_at, names_at}
-use Rattle.pickle_map.specs.Mappable.{IsSoundField, IsSoundPart, IsSoundShape, IsMappable, IsFieldOf, IsPartOf}
+use Rattle.pickle_map.specs.Mappable.{IsFieldOf, IsPartOf}
 
-module _ (nodes : List Node) (table : IsMappable nodes) (at : ℕ) (inside : at < length nodes) (other : Node) (s : Shape) (is : (get_or nodes at other).shape ≡ s) where
+module _ (nodes : List Node) (table : IsTable nodes) (at : ℕ) (inside : at < length nodes) (other : Node) (s : Shape) (is : (get_or nodes at other).shape ≡ s) where
   found : slice_get nodes at ≡ Some (get_or nodes at other)
   found = slice_get-get_or nodes at other inside
 
   pub opened_as : type_of nodes at ≡ open_shape (type_of nodes) s
-  opened_as = opens nodes table.table at _ found ∙ ap (open_shape (type_of nodes)) is
+  opened_as = opens nodes table at _ found ∙ ap (open_shape (type_of nodes)) is
 
   pub below_as : NamesBelow at s
-  below_as = subst (NamesBelow at) is (table.table.below at _ found)
+  below_as = subst (NamesBelow at) is (table.below at _ found)
 
   pub sound_as : IsSoundShape s
   sound_as = subst IsSoundShape is (table.sound at _ found)
@@ -35,7 +35,7 @@ module _ (nodes : List Node) (table : IsMappable nodes) (at : ℕ) (inside : at 
   pub names_as : names_at nodes at ≡ shape_names s
   names_as = ap found_names found ∙ ap shape_names is
 
-module _ (nodes : List Node) (table : IsMappable nodes) (at : ℕ) (inside : at < length nodes) (other : Node) where
+module _ (nodes : List Node) (table : IsTable nodes) (at : ℕ) (inside : at < length nodes) (other : Node) where
   abbrev Is : Shape → Type 0
   Is s = (get_or nodes at other).shape ≡ s
 

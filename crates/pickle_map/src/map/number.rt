@@ -3,11 +3,11 @@
 ghost use Rattle.std.specs.Prelude.{◌≡◌, ◌≢◌, ℕ, ◌+◌, ◌*◌, ◌<◌, ◌≤◌, ◌^◌, Some, Ok, map, length, All, IfOk, IfErr, OnOk, OnErr};
 ghost use Rattle.bit_space.specs.SpaceView.{HasRisen};
 ghost use Rattle.pickle_types.specs.Types.{IntegerOf, OffsetOf, IntegralOf, depth};
-ghost use Rattle.pickle_types.specs.Table.{type_of, open_parts, optional_term, IsWidth};
+ghost use Rattle.pickle_types.specs.Table.{IsTable, type_of, open_parts, optional_term, IsWidth};
 ghost use Rattle.pickle_map.specs.Follows.{Done};
 ghost use Rattle.pickle_map.specs.Framed.{Mapped, Runs, Places, PlacesIn, Works};
 ghost use Rattle.pickle_map.specs.Values.{outer_of};
-ghost use Rattle.pickle_map.specs.Mappable.{IsMappable, IsPartOf};
+ghost use Rattle.pickle_map.specs.Mappable.{IsPartOf};
 ghost use Rattle.pickle_map.specs.Mapping.{read_plan, number_plan, digits_plan, constrained, closes};
 ghost use Rattle.pickle_map.specs.Means.{first_digits, number_type, width_in, struct_value, part_names};
 ghost use Rattle.pickle_map.specs.Plan.{Tick, then_ok};
@@ -37,7 +37,7 @@ pub(crate) fn map_number<S: Space>(
     meter: &mut Meter,
     store: &mut Store,
 ) -> Result<u64, Stop>
-    requires table { IsMappable nodes.now }
+    requires table { IsTable nodes.now }
     requires at { at < length nodes.now }
     requires open { length (levels store.old) + depth (type_of nodes.now at) ≤ 65 }
     requires number { number_type (type_of nodes.now at) ≡ Some number }
@@ -71,7 +71,7 @@ fn place_number(
     meter: &mut Meter,
     store: &mut Store,
 ) -> Result<(), Stop>
-    requires table { IsMappable nodes.now }
+    requires table { IsTable nodes.now }
     requires at { at < length nodes.now }
     requires open { length (levels store.old) + depth (type_of nodes.now at) ≤ 65 }
     requires digits { digits < 2 ^ width_in (number_type (type_of nodes.now at)) }
@@ -176,7 +176,7 @@ fn place_integral(
     meter: &mut Meter,
     store: &mut Store,
 ) -> Result<(), Stop>
-    requires table { IsMappable nodes.now }
+    requires table { IsTable nodes.now }
     requires at { at < length nodes.now }
     requires fields { All (IsPartOf nodes.now (length (levels store.old) + 1)) fields.now }
     requires names { names_at nodes.now at ≡ map part_name fields.now }
@@ -215,7 +215,7 @@ fn integral_body(
     meter: &mut Meter,
     store: &mut Store,
 ) -> Result<(), Stop>
-    requires table { IsMappable nodes.now }
+    requires table { IsTable nodes.now }
     requires at { at < length nodes.now }
     requires fields { All (IsPartOf nodes.now (length (levels store.old))) fields.now }
     requires names { names_at nodes.now at ≡ map part_name fields.now }
@@ -256,7 +256,7 @@ fn place_fields(
     meter: &mut Meter,
     store: &mut Store,
 ) -> Result<(), Stop>
-    requires table { IsMappable nodes.now }
+    requires table { IsTable nodes.now }
     requires fields { All (IsPartOf nodes.now (length (levels store.old))) fields.now }
     requires width { width ≤ 64 }
     requires start { start < 2 ^ 63 }
@@ -290,7 +290,7 @@ fn place_part(
     meter: &mut Meter,
     store: &mut Store,
 ) -> Result<(), Stop>
-    requires table { IsMappable nodes.now }
+    requires table { IsTable nodes.now }
     requires part { IsPartOf nodes.now (length (levels store.old)) part.now }
     requires digits { digits < 2 ^ width_in (number_type (type_of nodes.now part.now.node)) }
     requires start { start < 2 ^ 63 }
@@ -322,7 +322,7 @@ fn first_digits(digits: u64, left: u8, width: u8) -> u64
 
 /// How many bits a type takes that is read as one number, else 0.
 fn width_at(nodes: &[Node], at: usize) -> u8
-    requires table { IsMappable nodes.now }
+    requires table { IsTable nodes.now }
     requires at { at < length nodes.now }
     ensures is { result ≡ width_in (number_type (type_of nodes.now at)) }
     ensures most { result ≤ 64 }

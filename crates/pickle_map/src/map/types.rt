@@ -4,16 +4,16 @@ ghost use Rattle.std.specs.Prelude.{◌≡◌, ◌+◌, ◌*◌, ◌^◌, ◌<�
 ghost use Rattle.bit_space.specs.SpaceView.{HasRisen};
 ghost use Rattle.pickle_types.specs.Types.{ArrayOf, StructOf, UnionOf, depth};
 ghost use Rattle.pickle_types.specs.Bounds.{least_width, count_of};
-ghost use Rattle.pickle_types.specs.Table.{type_of, open_fields, open_parts, optional_term, bound_of};
+ghost use Rattle.pickle_types.specs.Table.{IsTable, type_of, open_fields, open_parts, optional_term, bound_of};
 ghost use Rattle.pickle_map.specs.Follows.{Done};
 ghost use Rattle.pickle_map.specs.Framed.{Mapped, Closed, Takes, Runs};
 ghost use Rattle.pickle_map.specs.Values.{outer_of};
-ghost use Rattle.pickle_map.specs.Mappable.{IsMappable, IsFieldOf, IsPartOf};
+ghost use Rattle.pickle_map.specs.Mappable.{IsFieldOf, IsPartOf};
 ghost use Rattle.pickle_map.specs.Mapping.{plan, fields_plan, elements_plan, alternatives_plan, constrained, array_closes, struct_closes, union_closes};
 ghost use Rattle.pickle_map.specs.Means.{ordered, field_names};
 ghost use Rattle.pickle_map.specs.Plan.{after, then_ok};
 ghost use Rattle.pickle_map.specs.Clauses.{field_start, label_steps};
-ghost use Rattle.pickle_map.specs.Settles.{IsSoundClause, IsSoundBound};
+ghost use Rattle.pickle_types.specs.Sound.{IsSoundClause, IsSoundBound};
 ghost use Rattle.pickle_map.specs.Shown.{kept, title_at, names_at, field_name, part_name};
 ghost use Rattle.pickle_map.specs.Slots.{levels};
 ghost use Rattle.pickle_map.specs.Stops.{stop_finish};
@@ -41,7 +41,7 @@ pub(crate) fn map_type<S: Space>(
     meter: &mut Meter,
     store: &mut Store,
 ) -> Result<u64, Stop>
-    requires table { IsMappable nodes.now }
+    requires table { IsTable nodes.now }
     requires at { at < length nodes.now }
     requires open { length (levels store.old) + depth (type_of nodes.now at) ≤ 65 }
     ensures limit { meter.new.limit ≡ meter.old.limit }
@@ -74,7 +74,7 @@ fn map_inside<S: Space>(
     meter: &mut Meter,
     store: &mut Store,
 ) -> Result<u64, Stop>
-    requires table { IsMappable nodes.now }
+    requires table { IsTable nodes.now }
     requires at { at < length nodes.now }
     requires open { length (levels store.old) + depth (type_of nodes.now at) ≤ 65 }
     requires inside { start ≤ 8 * (S.view space.old).len }
@@ -133,7 +133,7 @@ fn map_checked<S: Space>(
     meter: &mut Meter,
     store: &mut Store,
 ) -> Result<u64, Stop>
-    requires table { IsMappable nodes.now }
+    requires table { IsTable nodes.now }
     requires at { node < length nodes.now }
     requires open { length (levels store.old) + depth (type_of nodes.now node) ≤ 65 }
     requires sound { IsSoundClause (optional_term constraint.now) }
@@ -167,7 +167,7 @@ fn map_array<S: Space>(
     meter: &mut Meter,
     store: &mut Store,
 ) -> Result<u64, Stop>
-    requires table { IsMappable nodes.now }
+    requires table { IsTable nodes.now }
     requires element { element < length nodes.now }
     requires open { length (levels store.old) + 1 + depth (type_of nodes.now element) ≤ 65 }
     requires sound { IsSoundBound (bound_of bound.now) }
@@ -209,7 +209,7 @@ fn array_body<S: Space>(
     meter: &mut Meter,
     store: &mut Store,
 ) -> Result<u64, Stop>
-    requires table { IsMappable nodes.now }
+    requires table { IsTable nodes.now }
     requires element { element < length nodes.now }
     requires open { (1 < length (levels store.old)) × (length (levels store.old) + depth (type_of nodes.now element) ≤ 65) }
     requires inside { start ≤ 8 * (S.view space.old).len }
@@ -246,7 +246,7 @@ fn map_elements<S: Space>(
     meter: &mut Meter,
     store: &mut Store,
 ) -> Result<u64, Stop>
-    requires table { IsMappable nodes.now }
+    requires table { IsTable nodes.now }
     requires element { element < length nodes.now }
     requires open { length (levels store.old) + depth (type_of nodes.now element) ≤ 65 }
     requires inside { start ≤ 8 * (S.view space.old).len }
@@ -312,7 +312,7 @@ fn map_struct<S: Space>(
     meter: &mut Meter,
     store: &mut Store,
 ) -> Result<u64, Stop>
-    requires table { IsMappable nodes.now }
+    requires table { IsTable nodes.now }
     requires at { at < length nodes.now }
     requires fields { All (IsFieldOf nodes.now (length (levels store.old) + 1)) fields.now }
     requires names { names_at nodes.now at ≡ map field_name fields.now }
@@ -355,7 +355,7 @@ fn struct_body<S: Space>(
     meter: &mut Meter,
     store: &mut Store,
 ) -> Result<u64, Stop>
-    requires table { IsMappable nodes.now }
+    requires table { IsTable nodes.now }
     requires at { at < length nodes.now }
     requires fields { All (IsFieldOf nodes.now (length (levels store.old))) fields.now }
     requires names { names_at nodes.now at ≡ map field_name fields.now }
@@ -394,7 +394,7 @@ fn map_fields<S: Space>(
     meter: &mut Meter,
     store: &mut Store,
 ) -> Result<u64, Stop>
-    requires table { IsMappable nodes.now }
+    requires table { IsTable nodes.now }
     requires fields { All (IsFieldOf nodes.now (length (levels store.old))) fields.now }
     requires inside { start ≤ 8 * (S.view space.old).len }
     ensures limit { meter.new.limit ≡ meter.old.limit }
@@ -455,7 +455,7 @@ fn map_union<S: Space>(
     meter: &mut Meter,
     store: &mut Store,
 ) -> Result<u64, Stop>
-    requires table { IsMappable nodes.now }
+    requires table { IsTable nodes.now }
     requires at { at < length nodes.now }
     requires alternatives { All (IsPartOf nodes.now (length (levels store.old) + 1)) alternatives.now }
     requires few { length alternatives.now ≤ 2 ^ 16 }
@@ -498,7 +498,7 @@ fn union_body<S: Space>(
     meter: &mut Meter,
     store: &mut Store,
 ) -> Result<u64, Stop>
-    requires table { IsMappable nodes.now }
+    requires table { IsTable nodes.now }
     requires at { at < length nodes.now }
     requires alternatives { All (IsPartOf nodes.now (length (levels store.old))) alternatives.now }
     requires few { length alternatives.now ≤ 2 ^ 16 }
@@ -538,7 +538,7 @@ fn map_alternatives<S: Space>(
     meter: &mut Meter,
     store: &mut Store,
 ) -> Result<(usize, u64), Stop>
-    requires table { IsMappable nodes.now }
+    requires table { IsTable nodes.now }
     requires alternatives { All (IsPartOf nodes.now (length (levels store.old))) alternatives.now }
     requires fresh { kept nodes.now store.old ≡ [] ∷ outer_of (kept nodes.now store.old) }
     requires inside { start ≤ 8 * (S.view space.old).len }
