@@ -32,6 +32,7 @@ mod Always
 mod Fitting
 mod Rooms
 mod Followed
+pub mod FaultKinds
 mod Counts
 pub mod Evaluations
 pub mod Sizes
