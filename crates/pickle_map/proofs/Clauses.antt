@@ -1,8 +1,8 @@
 -- Calls that follow the plan of a clause, as it settles, and of a value with its constraint.
 use Rattle.std.proofs.Common.{◌≡◌, ℕ, ◌+◌, ◌<◌, ◌≤◌, Option, Some, Result, Ok, Err, sym, ap, subst, ◌∙◌, refl}
 use Rattle.pickle_types.specs.Types.{Term}
-use Rattle.pickle_map.specs.declared.map.stop.Stop.{Stop}
-use Rattle.pickle_map.specs.declared.map.stop.Stop.TheVariants.{Fault, Limit, Device, Memory}
+use Rattle.pickle_map.specs.declared.mapper.stop.Stop.{Stop}
+use Rattle.pickle_map.specs.declared.mapper.stop.Stop.TheVariants.{Fault, Limit, Device, Memory}
 use Rattle.pickle_map.specs.Values.{Value, Levels, pushed}
 use Rattle.pickle_map.specs.Clauses.{FaultAt, constraint, clause_steps}
 use Rattle.pickle_map.specs.Settles.{Settles}

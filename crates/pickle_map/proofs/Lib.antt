@@ -33,6 +33,8 @@ mod Always
 mod Fitting
 mod Rooms
 pub mod Followed
+mod Followed
+pub mod FaultKinds
 mod Counts
 pub mod Evaluations
 pub mod Sizes

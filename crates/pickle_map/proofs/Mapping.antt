@@ -16,8 +16,8 @@ use Rattle.pickle_types.specs.Bounds.{least_width, count_of}
 use Rattle.pickle_types.specs.Table.{optional_term, open_fields, open_parts, name_of}
 use Rattle.pickle_map.specs.declared.extent.Extent.{Extent}
 use Rattle.pickle_map.specs.declared.faults.MapFaultKind.TheVariants.{End, Bounds, Constraint, NoBits}
-use Rattle.pickle_map.specs.declared.map.stop.Stop.{Stop}
-use Rattle.pickle_map.specs.declared.map.stop.Stop.TheVariants.{Fault, Limit, Device, Memory}
+use Rattle.pickle_map.specs.declared.mapper.stop.Stop.{Stop}
+use Rattle.pickle_map.specs.declared.mapper.stop.Stop.TheVariants.{Fault, Limit, Device, Memory}
 use Rattle.pickle_map.specs.Values.{Naming, Value, end_of, Levels, pushed, opened, outer_of}
 use Rattle.pickle_map.specs.Clauses.{FaultAt, condition, field_start, clause_steps, label_steps, extent_of, bound_steps, is_due, is_met, ends_before, misses}
 use Rattle.pickle_map.specs.Settles.{Settles}

@@ -1,7 +1,7 @@
 -- Clauses, as the expressions in them come to an end.
 use Rattle.std.proofs.Common.{◌≡◌, ℕ, ◌+◌, ◌<◌, ℤ, pos, negsuc, Option, Some, None, Result, Ok, Err, refl, sym, ap}
-use Rattle.pickle_map.specs.declared.map.stop.Stop.{Stop}
-use Rattle.pickle_map.specs.declared.map.stop.Stop.TheVariants as stop
+use Rattle.pickle_map.specs.declared.mapper.stop.Stop.{Stop}
+use Rattle.pickle_map.specs.declared.mapper.stop.Stop.TheVariants as stop
 use Rattle.pickle_map.specs.declared.evaluate.content.Content.{Content}
 use Rattle.pickle_map.specs.declared.faults.MapFaultKind.TheVariants as fault
 use Rattle.pickle_map.specs.Values.{Label}

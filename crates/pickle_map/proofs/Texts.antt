@@ -6,7 +6,7 @@ use Rattle.bit_space.specs.Bits.{bits_of}
 use Rattle.bit_space.specs.SpaceView.{SpaceView, HasRisen}
 use Rattle.bit_space.specs.Reading.{MayRead}
 use Rattle.pickle_types.specs.declared.table.Node.{Node}
-use Rattle.pickle_map.specs.declared.map.stop.Stop.{Stop}
+use Rattle.pickle_map.specs.declared.mapper.stop.Stop.{Stop}
 use Rattle.pickle_map.specs.Values.{Value, Levels, pushed, outer_of, text_value, text_level}
 use Rattle.pickle_map.specs.Levels as stored
 use Rattle.pickle_map.specs.Tree as tree

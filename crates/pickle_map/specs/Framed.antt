@@ -5,8 +5,8 @@ use Rattle.bit_space.specs.declared.meter.Meter.{Meter}
 use Rattle.bit_space.specs.SpaceView.{SpaceView, known_bits, Keeps, HasRisen}
 use Rattle.bit_space.specs.Reading.{MayRead}
 use Rattle.pickle_map.specs.declared.faults.MapFaultKind.TheVariants.{End}
-use Rattle.pickle_map.specs.declared.map.stop.Stop.{Stop}
-use Rattle.pickle_map.specs.declared.map.stop.Stop.TheVariants.{Fault, Limit, Device, Memory}
+use Rattle.pickle_map.specs.declared.mapper.stop.Stop.{Stop}
+use Rattle.pickle_map.specs.declared.mapper.stop.Stop.TheVariants.{Fault, Limit, Device, Memory}
 use Rattle.pickle_map.specs.Values.{Naming, Value, end_of, Levels, pushed, outer_of}
 use Rattle.pickle_map.specs.Clauses.{FaultAt}
 use Rattle.pickle_map.specs.Means.{Taken}

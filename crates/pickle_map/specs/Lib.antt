@@ -9,6 +9,7 @@ pub mod Plan
 pub mod Follows
 pub mod Mapping
 pub mod Answer
+pub mod FaultKinds
 pub mod Fits
 pub mod Ranges
 pub mod Scalars

@@ -1,7 +1,7 @@
 -- How a clause of a run ends: with its outcome after all its steps, or for want of steps.
 use Rattle.std.specs.Prelude.{◌≡◌, ℕ, ◌+◌, ◌<◌, ℤ, pos, negsuc, Result, Ok, Err}
-use Rattle.pickle_map.specs.declared.map.stop.Stop.{Stop}
-use Rattle.pickle_map.specs.declared.map.stop.Stop.TheVariants as stop
+use Rattle.pickle_map.specs.declared.mapper.stop.Stop.{Stop}
+use Rattle.pickle_map.specs.declared.mapper.stop.Stop.TheVariants as stop
 use Rattle.pickle_map.specs.declared.evaluate.content.Content.{Content}
 use Rattle.pickle_map.specs.Clauses.{FaultAt}
 use Rattle.pickle_map.specs.Contents.{IsHeld}

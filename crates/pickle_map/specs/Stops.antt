@@ -1,8 +1,8 @@
 -- Why a mapping under way stops, as the end of a plan.
 use Rattle.std.specs.Prelude.{◌≡◌, ℕ, Bool, true, false, Result, Ok, Err}
 use Rattle.pickle_map.specs.declared.extent.Extent.{Extent}
-use Rattle.pickle_map.specs.declared.map.stop.Stop.{Stop}
-use Rattle.pickle_map.specs.declared.map.stop.Stop.TheVariants.{Fault, Limit, Device, Memory}
+use Rattle.pickle_map.specs.declared.mapper.stop.Stop.{Stop}
+use Rattle.pickle_map.specs.declared.mapper.stop.Stop.TheVariants.{Fault, Limit, Device, Memory}
 use Rattle.pickle_map.specs.Clauses.{FaultAt, misses, ends_before}
 use Rattle.pickle_map.specs.Follows.{Finish, Done, NoSteps, Broken, NoRoom}
 

@@ -5,7 +5,7 @@ pub mod evaluate;
 pub mod extent;
 pub mod faults;
 pub mod laws;
-pub mod map;
+pub mod mapper;
 pub mod memory;
 mod names;
 pub mod store;

@@ -1,0 +1,11 @@
+use Rattle.std.proofs.Common.{rules, ◌≡◌, ◌+◌, ◌-◌, Some, None, ℤ, sym, ap, subst, ◌∙◌, arith}
+use Rattle.std.specs.Prelude.{OnOk, OnErr}
+use Rattle.pickle_map.specs.Tree as tree
+use Rattle.pickle_map.proofs.Keeping.{ok_member, full_member, ok_closed, full_closed}
+use Rattle.pickle_map.proofs.mapper.keep.close_struct.Goals as goal
+
+pub returns-clause-ok : goal.returns-clause-ok
+returns-clause-ok c = ok_closed c.args.nodes.now c.close_struct.result (tree.StructLabel c.args.of) c.args.start (c.args.end - c.args.start) c.args.end c.args.store.now c.close_struct.new.self (omega (arith, c.requires)) c.close_struct.ensures.ok
+
+pub returns-clause-full : goal.returns-clause-full
+returns-clause-full c = full_closed c.args.nodes.now c.close_struct.result (tree.StructLabel c.args.of) c.args.start (c.args.end - c.args.start) c.args.end c.args.store.now (omega (arith, c.requires)) c.close_struct.ensures.succeeds

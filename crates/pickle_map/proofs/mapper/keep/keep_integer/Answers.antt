@@ -1,0 +1,23 @@
+use Rattle.std.proofs.Common.{rules, ◌≡◌, ◌+◌, ◌-◌, Some, None, ℤ, sym, ap, subst, ◌∙◌, arith}
+use Rattle.std.specs.Prelude.{OnOk, OnErr}
+use Rattle.std.proofs.lemmas.Int.{to_z-of_z}
+use mir.Syntax.{w128}
+use mir.Val.{SFits}
+use Rattle.pickle_map.specs.Values.{Mapped, NoMembers, IntegerLabel, pushed}
+use Rattle.pickle_map.specs.Room.{Exceeds}
+use Rattle.pickle_map.specs.Shown.{kept}
+use Rattle.pickle_map.specs.Tree as tree
+use Rattle.pickle_map.proofs.Keeping.{ok_member, full_member, ok_closed, full_closed}
+use Rattle.pickle_map.proofs.mapper.keep.keep_integer.Goals as goal
+
+pub returns-clause-ok : goal.returns-clause-ok
+returns-clause-ok c =
+    let fits : SFits w128 c.with_sign.result = search rules in
+    subst (λ z. OnOk c.push_integer.result (kept c.args.nodes.now c.push_integer.new.self ≡ pushed (kept c.args.nodes.now c.args.store.now) (Some (Mapped (IntegerLabel z c.args.number) c.args.start (c.args.start + c.args.number.width) NoMembers)))) (to_z-of_z w128 _ fits ∙ c.with_sign.ensures.is)
+    (ok_member c.args.nodes.now c.push_integer.result c.args.store.now c.push_integer.new.self (Some (tree.Tree (tree.IntegerLabel _ c.args.number.width c.args.number.signed) c.args.start c.args.number.width tree.End)) c.push_integer.ensures.ok)
+
+pub returns-clause-full : goal.returns-clause-full
+returns-clause-full c =
+    let fits : SFits w128 c.with_sign.result = search rules in
+    subst (λ z. OnErr c.push_integer.result (Exceeds c.args.store.now.room (pushed (kept c.args.nodes.now c.args.store.now) (Some (Mapped (IntegerLabel z c.args.number) c.args.start (c.args.start + c.args.number.width) NoMembers))))) (to_z-of_z w128 _ fits ∙ c.with_sign.ensures.is)
+    (full_member c.args.nodes.now c.push_integer.result c.args.store.now (Some (tree.Tree (tree.IntegerLabel _ c.args.number.width c.args.number.signed) c.args.start c.args.number.width tree.End)) c.push_integer.ensures.succeeds)

@@ -1,0 +1,38 @@
+use Rattle.std.proofs.Common.{◌≡◌, ℕ, ◌+◌, ◌*◌, ◌≤◌, drop, length, List, Option}
+use Rattle.pickle_types.specs.Table.{type_of, open_parts}
+use Rattle.pickle_map.specs.Follows.{Follows, Partly}
+use Rattle.pickle_map.specs.Framed.{Works}
+use Rattle.pickle_map.specs.Values.{outer_of}
+use Rattle.pickle_map.specs.Mapping.{digits_plan}
+use Rattle.pickle_map.specs.Shown.{kept}
+use Rattle.pickle_map.specs.Slots.{levels}
+use Rattle.pickle_map.proofs.Shapes.{parts_bound}
+use Rattle.pickle_map.proofs.mapper.number.+placing.Given as goal
+
+abbrev pub decreases-place_number : goal.decreases-place_number
+decreases-place_number l = 5 * l.at + 4
+
+abbrev pub decreases-place_integral : goal.decreases-place_integral
+decreases-place_integral l = 5 * parts_bound l.fields.now + 3
+
+abbrev pub decreases-integral_body : goal.decreases-integral_body
+decreases-integral_body l = 5 * parts_bound l.fields.now + 2
+
+abbrev pub decreases-place_fields : goal.decreases-place_fields
+decreases-place_fields l = 5 * parts_bound l.fields.now + 1
+
+abbrev pub decreases-place_part : goal.decreases-place_part
+decreases-place_part l = 5 * l.part.now.node + 5
+
+abbrev pub invariant-place_fields-loop-part : goal.invariant-place_fields-loop-part
+invariant-place_fields-loop-part l = record {
+  limit : l.meter.limit ≡ l.initial.meter.limit;
+  room : l.store.room ≡ l.initial.store.room;
+  made : l.meter.made + l.initial.meter.steps ≤ l.initial.meter.made + l.meter.steps;
+  left : l.left ≤ 64;
+  outer : outer_of (kept l.nodes l.store) ≡ outer_of (kept l.nodes l.initial.store);
+  depth : length (levels l.store) ≡ length (levels l.initial.store);
+  so_far : Works l.initial.meter l.meter l.initial.store
+      (digits_plan (open_parts (type_of l.nodes) l.fields) l.digits l.width (kept l.nodes l.initial.store) l.start)
+      (Partly (digits_plan (open_parts (type_of l.nodes) (drop l.part-index l.fields)) l.digits l.left (kept l.nodes l.store) l.start));
+}

@@ -1,0 +1,23 @@
+use Rattle.std.proofs.Common.{◌≡◌, ◌+◌, Ok, refl, sym, ◌∙◌}
+use Rattle.std.proofs.lemmas.Result.{err_from_is_err_and}
+use Rattle.pickle_map.specs.Means.{offset_value}
+use Rattle.pickle_map.specs.Mapping.{number_plan}
+use Rattle.pickle_map.proofs.Walks.{follow_made, follow_done, follow_no_room}
+use Rattle.pickle_map.proofs.mapper.number.place_offset.Goals as goal
+
+pub returns-in_err-keep_offset-clause-err : goal.returns-in_err-keep_offset-clause-err
+unfolding number_plan
+returns-in_err-keep_offset-clause-err c =
+    let p = err_from_is_err_and c.from_residual.result c.from_residual.ensures.1 in
+    rw (p.1, p.2) (λ known. follow_no_room c.in_err-keep_offset.ensures.full)
+
+pub returns-clause-ok : goal.returns-clause-ok
+unfolding number_plan
+returns-clause-ok c =
+    let n = c.note_made.ensures in
+    λ known. record {
+      value = offset_value c.args.number c.args.unit c.args.digits c.args.start;
+      kept = c.in_ok-keep_offset.ensures.ok;
+      ends = refl;
+      follows = follow_made n.limit n.steps n.made follow_done;
+    }

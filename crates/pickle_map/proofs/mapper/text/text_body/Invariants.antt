@@ -1,0 +1,29 @@
+use Rattle.std.proofs.Common.{◌≡◌, ℕ, ◌+◌, ◌-◌, ◌*◌, ◌/◌, ◌≤◌, ◌<◌, List, [], length}
+use Rattle.pickle_map.specs.Framed.{Runs}
+use Rattle.pickle_map.specs.Follows.{Partly}
+use Rattle.pickle_map.specs.Levels as stored
+use Rattle.pickle_map.specs.Mapping.{text_plan}
+use Rattle.pickle_map.specs.Shown.{kept}
+use Rattle.pickle_map.specs.Slots.{levels, IsWriting}
+use Rattle.pickle_map.specs.Values.{outer_of}
+use Rattle.pickle_map.proofs.mapper.text.text_body.Given as goal
+
+abbrev pub invariant-loop-byte : goal.invariant-loop-byte
+invariant-loop-byte g l = record {
+  limit : l.meter.limit ≡ l.initial.meter.limit;
+  len : (g.S.Space.view l.space).len ≡ (g.S.Space.view l.initial.space).len;
+  bytes : (g.S.Space.view l.space).bytes ≡ (g.S.Space.view l.initial.space).bytes;
+  failures : (g.S.Space.view l.initial.space).failures ≤ (g.S.Space.view l.space).failures;
+  room : l.store.room ≡ l.initial.store.room;
+  made : l.meter.made + l.initial.meter.steps ≤ l.initial.meter.made + l.meter.steps;
+  after : l.start ≤ l.place;
+  inside : l.place ≤ 8 * (g.S.Space.view l.initial.space).len;
+  depth : length (levels l.store) ≡ length (levels l.initial.store);
+  so_far : (bytes : List ℕ) × (n : ℕ) × (8 * (g.S.Space.view l.initial.space).len < l.place + 8 * n) × (l.place ≡ l.start + 8 * length bytes) × IsWriting l.store bytes l.start (stored.outer_of (levels l.initial.store)) ×
+      Runs (g.S.Space.view l.initial.space) l.initial.meter l.meter l.initial.store
+      (text_plan (8 * (g.S.Space.view l.initial.space).len) (8 * (g.S.Space.view l.initial.space).len / 8 + 1) [] (outer_of (kept l.nodes l.initial.store)) l.start l.start)
+      (Partly (text_plan (8 * (g.S.Space.view l.initial.space).len) n bytes (outer_of (kept l.nodes l.initial.store)) l.start l.place));
+}
+
+abbrev pub decreases-loop-byte : goal.decreases-loop-byte
+decreases-loop-byte g l = 8 * (g.S.Space.view l.initial.space).len - l.place

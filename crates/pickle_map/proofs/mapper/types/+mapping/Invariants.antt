@@ -1,0 +1,102 @@
+use Rattle.std.proofs.Common.{◌≡◌, ℕ, suc, ◌+◌, ◌-◌, ◌*◌, ◌≤◌, ◌<◌, max, length, drop, Ok}
+use Rattle.pickle_types.specs.Bounds.{least_width, count_of}
+use Rattle.pickle_types.specs.Table.{type_of, open_fields, open_parts}
+use Rattle.pickle_map.specs.Follows.{Partly}
+use Rattle.pickle_map.specs.Framed.{Runs}
+use Rattle.pickle_map.specs.Mapping.{plan, fields_plan, elements_plan, alternatives_plan}
+use Rattle.pickle_map.specs.Shown.{kept}
+use Rattle.pickle_map.specs.Slots.{levels}
+use Rattle.pickle_map.specs.Values.{outer_of}
+use Rattle.pickle_map.proofs.Shapes.{fields_bound, parts_bound}
+use Rattle.pickle_map.proofs.mapper.types.+mapping.Given as goal
+
+-- a type calls no other but for the nodes before its own
+abbrev pub decreases-map_type : goal.decreases-map_type
+decreases-map_type g l = 8 * l.at + 6
+
+abbrev pub decreases-map_inside : goal.decreases-map_inside
+decreases-map_inside g l = 8 * l.at + 5
+
+abbrev pub decreases-map_checked : goal.decreases-map_checked
+decreases-map_checked g l = 8 * l.node + 7
+
+abbrev pub decreases-map_array : goal.decreases-map_array
+decreases-map_array g l = 8 * l.element + 9
+
+abbrev pub decreases-array_body : goal.decreases-array_body
+decreases-array_body g l = 8 * l.element + 8
+
+abbrev pub decreases-map_elements : goal.decreases-map_elements
+decreases-map_elements g l = 8 * l.element + 7
+
+abbrev pub decreases-map_struct : goal.decreases-map_struct
+decreases-map_struct g l = 8 * fields_bound l.fields.now + 2
+
+abbrev pub decreases-struct_body : goal.decreases-struct_body
+decreases-struct_body g l = 8 * fields_bound l.fields.now + 1
+
+abbrev pub decreases-map_fields : goal.decreases-map_fields
+decreases-map_fields g l = 8 * fields_bound l.fields.now
+
+abbrev pub decreases-map_union : goal.decreases-map_union
+decreases-map_union g l = 8 * parts_bound l.alternatives.now + 2
+
+abbrev pub decreases-union_body : goal.decreases-union_body
+decreases-union_body g l = 8 * parts_bound l.alternatives.now + 1
+
+abbrev pub decreases-map_alternatives : goal.decreases-map_alternatives
+decreases-map_alternatives g l = 8 * parts_bound l.alternatives.now
+
+abbrev pub invariant-map_fields-loop-field : goal.invariant-map_fields-loop-field
+invariant-map_fields-loop-field g l = record {
+  limit : l.meter.limit ≡ l.initial.meter.limit;
+  len : (g.S.Space.view l.space).len ≡ (g.S.Space.view l.initial.space).len;
+  bytes : (g.S.Space.view l.space).bytes ≡ (g.S.Space.view l.initial.space).bytes;
+  failures : (g.S.Space.view l.initial.space).failures ≤ (g.S.Space.view l.space).failures;
+  room : l.store.room ≡ l.initial.store.room;
+  made : l.meter.made + l.initial.meter.steps ≤ l.initial.meter.made + l.meter.steps;
+  after : l.start ≤ l.top;
+  inside : l.top ≤ 8 * (g.S.Space.view l.initial.space).len;
+  outer : outer_of (kept l.nodes l.store) ≡ outer_of (kept l.nodes l.initial.store);
+  depth : length (levels l.store) ≡ length (levels l.initial.store);
+  so_far : Runs (g.S.Space.view l.initial.space) l.initial.meter l.meter l.initial.store
+      (fields_plan (8 * (g.S.Space.view l.initial.space).len) l.pinned l.start (open_fields (type_of l.nodes) l.fields) l.order (kept l.nodes l.initial.store) l.start l.start)
+      (Partly (fields_plan (8 * (g.S.Space.view l.initial.space).len) l.pinned l.start (open_fields (type_of l.nodes) (drop l.field-index l.fields)) l.order (kept l.nodes l.store) l.behind l.top));
+}
+
+abbrev pub invariant-map_alternatives-loop-index : goal.invariant-map_alternatives-loop-index
+invariant-map_alternatives-loop-index g l = record {
+  limit : l.meter.limit ≡ l.initial.meter.limit;
+  len : (g.S.Space.view l.space).len ≡ (g.S.Space.view l.initial.space).len;
+  bytes : (g.S.Space.view l.space).bytes ≡ (g.S.Space.view l.initial.space).bytes;
+  failures : (g.S.Space.view l.initial.space).failures ≤ (g.S.Space.view l.space).failures;
+  room : l.store.room ≡ l.initial.store.room;
+  made : l.meter.made + l.initial.meter.steps ≤ l.initial.meter.made + l.meter.steps;
+  same : kept l.nodes l.store ≡ kept l.nodes l.initial.store;
+  depth : length (levels l.store) ≡ length (levels l.initial.store);
+  so_far : Runs (g.S.Space.view l.initial.space) l.initial.meter l.meter l.initial.store
+      (alternatives_plan (8 * (g.S.Space.view l.initial.space).len) (open_parts (type_of l.nodes) l.alternatives) 0 l.order (kept l.nodes l.initial.store) l.start)
+      (Partly (alternatives_plan (8 * (g.S.Space.view l.initial.space).len) (open_parts (type_of l.nodes) (drop l.index l.alternatives)) l.index l.order (kept l.nodes l.initial.store) l.start));
+}
+
+abbrev pub decreases-map_elements-loop-order : goal.decreases-map_elements-loop-order
+decreases-map_elements-loop-order g l = 8 * (g.S.Space.view l.initial.space).len - l.place
+
+abbrev pub invariant-map_elements-loop-order : goal.invariant-map_elements-loop-order
+invariant-map_elements-loop-order g l = record {
+  limit : l.meter.limit ≡ l.initial.meter.limit;
+  len : (g.S.Space.view l.space).len ≡ (g.S.Space.view l.initial.space).len;
+  bytes : (g.S.Space.view l.space).bytes ≡ (g.S.Space.view l.initial.space).bytes;
+  failures : (g.S.Space.view l.initial.space).failures ≤ (g.S.Space.view l.space).failures;
+  room : l.store.room ≡ l.initial.store.room;
+  made : l.meter.made + l.initial.meter.steps ≤ l.initial.meter.made + l.meter.steps;
+  after : l.start ≤ l.place;
+  inside : l.place ≤ 8 * (g.S.Space.view l.initial.space).len;
+  outer : outer_of (kept l.nodes l.store) ≡ outer_of (kept l.nodes l.initial.store);
+  depth : length (levels l.store) ≡ length (levels l.initial.store);
+  counted : l.count + l.start ≤ l.place;
+  so_far : (n : ℕ) × (8 * (g.S.Space.view l.initial.space).len < l.place + n * max 1 (least_width (type_of l.nodes l.element))) ×
+      Runs (g.S.Space.view l.initial.space) l.initial.meter l.meter l.initial.store
+          (elements_plan (plan (8 * (g.S.Space.view l.initial.space).len) (type_of l.nodes l.element) l.order) (8 * (g.S.Space.view l.initial.space).len) l.start l.extent (count_of (8 * (g.S.Space.view l.initial.space).len) (least_width (type_of l.nodes l.element))) 0 (kept l.nodes l.initial.store) l.start)
+          (Partly (elements_plan (plan (8 * (g.S.Space.view l.initial.space).len) (type_of l.nodes l.element) l.order) (8 * (g.S.Space.view l.initial.space).len) l.start l.extent n l.count (kept l.nodes l.store) l.place));
+}

@@ -1,0 +1,212 @@
+//! What stands beside the types in a pickle: constraints, conditions, labels and bounds.
+
+ghost use Rattle.std.specs.Prelude.{◌≡◌, ℕ, ◌+◌, ◌<◌, ◌≤◌, ◌^◌, Ok, IfOk};
+ghost use Rattle.pickle_types.specs.Table.{term_of, optional_term, bound_of};
+ghost use Rattle.pickle_types.specs.Sound.{IsSoundTerm, IsSoundClause, IsSoundBound};
+ghost use Rattle.pickle_map.specs.Values.{Label};
+ghost use Rattle.pickle_map.specs.Evaluation.{evaluation, truth_of};
+ghost use Rattle.pickle_map.specs.Clauses.{constraint, condition, field_start, extent_of, clause_steps, label_steps, bound_steps, satisfied, kind_at, behind_start, count_of, size_of};
+ghost use Rattle.pickle_map.specs.Contents.{IsHeld, IsSoundContent};
+ghost use Rattle.pickle_map.specs.Settles.{Ends, Settles, Sees, natural};
+ghost use Rattle.pickle_map.specs.Shown.{kept};
+
+use crate::evaluate::content::{Content, seen, truth_of};
+use crate::evaluate::expression::evaluate;
+use crate::evaluate::integers::Scalar;
+use crate::evaluate::offsets::bits_in;
+use crate::evaluate::operand::Unvalued;
+use crate::extent::Extent;
+use crate::faults::MapFaultKind;
+use crate::mapper::stop::Stop;
+use crate::store::Store;
+use bit_space::Meter;
+use pickle_types::table::{Extent as Bound, Node, Resolved};
+
+/// Checks a constraint on the last value of the innermost level; one that is 0 is a Constraint fault. All its faults are
+/// told at `place`, the bit where that value starts.
+pub fn check(
+    table: &[Node],
+    clause: &Option<Resolved>,
+    store: &Store,
+    place: u128,
+    meter: &mut Meter,
+) -> Result<(), Stop>
+    requires sound { IsSoundClause (optional_term clause.now) }
+    ensures limit { meter.new.limit ≡ meter.old.limit }
+    ensures made { meter.new.made ≡ meter.old.made }
+    ensures steps { meter.old.steps ≤ meter.new.steps }
+    ensures is { Settles meter.old.limit meter.old.steps meter.new.steps result (constraint (optional_term clause.now) (kept table.now store.now) place) (clause_steps (optional_term clause.now) (kept table.now store.now)) }
+{
+    match clause {
+        None => Ok(()),
+        Some(e) => satisfied(told(table, e, store, place, meter)?, place),
+    }
+}
+
+/// Whether a field of a struct is there: its condition isn't 0. Faults are told at `start`, the struct's first bit.
+pub fn is_there(
+    table: &[Node],
+    clause: &Option<Resolved>,
+    store: &Store,
+    start: u128,
+    meter: &mut Meter,
+) -> Result<bool, Stop>
+    requires sound { IsSoundClause (optional_term clause.now) }
+    ensures limit { meter.new.limit ≡ meter.old.limit }
+    ensures made { meter.new.made ≡ meter.old.made }
+    ensures steps { meter.old.steps ≤ meter.new.steps }
+    ensures is { Settles meter.old.limit meter.old.steps meter.new.steps result (condition (optional_term clause.now) (kept table.now store.now) start) (clause_steps (optional_term clause.now) (kept table.now store.now)) }
+{
+    match clause {
+        None => Ok(true),
+        Some(e) => told_truth(told(table, e, store, start, meter)?, start),
+    }
+}
+
+/// The bit where a field of a struct starts: at `start`, the struct's first bit, in a pinned struct; so many bits behind
+/// `start` as its label says; or at `behind`, where the last field before it that is there ended. A negative label is a
+/// Bounds fault. A label's faults are told at `start`.
+pub fn find_start(
+    table: &[Node],
+    pinned: bool,
+    label: &Option<Resolved>,
+    store: &Store,
+    start: u128,
+    behind: u128,
+    meter: &mut Meter,
+) -> Result<u128, Stop>
+    requires sound { IsSoundClause (optional_term label.now) }
+    requires start { start < 2 ^ 127 }
+    ensures limit { meter.new.limit ≡ meter.old.limit }
+    ensures made { meter.new.made ≡ meter.old.made }
+    ensures steps { meter.old.steps ≤ meter.new.steps }
+    ensures is { Settles meter.old.limit meter.old.steps meter.new.steps result (field_start pinned (optional_term label.now) (kept table.now store.now) start behind) (label_steps pinned (optional_term label.now) (kept table.now store.now)) }
+{
+    if pinned {
+        return Ok(start);
+    }
+    match label {
+        None => Ok(behind),
+        Some(e) => behind_start(told(table, e, store, start, meter)?, start),
+    }
+}
+
+/// How far an array goes, by its bound. A negative one is a Bounds fault. A bound's faults are told at `start`, the
+/// array's first bit.
+pub fn find_extent(
+    table: &[Node],
+    bound: &Bound,
+    store: &Store,
+    start: u128,
+    meter: &mut Meter,
+) -> Result<Extent, Stop>
+    requires sound { IsSoundBound (bound_of bound.now) }
+    ensures limit { meter.new.limit ≡ meter.old.limit }
+    ensures made { meter.new.made ≡ meter.old.made }
+    ensures steps { meter.old.steps ≤ meter.new.steps }
+    ensures is { Settles meter.old.limit meter.old.steps meter.new.steps result (extent_of (bound_of bound.now) (kept table.now store.now) start) (bound_steps (bound_of bound.now) (kept table.now store.now)) }
+{
+    match bound {
+        Bound::Unbounded => Ok(Extent::Open),
+        Bound::Count(e) => count_of(told(table, e, store, start, meter)?, start),
+        Bound::Size(e) => size_of(told(table, e, store, start, meter)?, start),
+    }
+}
+
+/// What operators see of an expression's value; its fault is told at a place.
+fn told<'a>(
+    table: &[Node],
+    e: &'a Resolved,
+    store: &'a Store,
+    place: u128,
+    meter: &mut Meter,
+) -> Result<Content<'a>, Stop>
+    requires { IsSoundTerm (term_of e.now) }
+    ensures limit { meter.new.limit ≡ meter.old.limit }
+    ensures made { meter.new.made ≡ meter.old.made }
+    ensures steps { meter.old.steps ≤ meter.new.steps }
+    ensures is { Sees meter.old.limit meter.old.steps meter.new.steps place result (evaluation (term_of e.now) (kept table.now store.now)) }
+    ensures sound { IfOk result IsSoundContent }
+{
+    match evaluate(table, e, store, meter) {
+        Ok(x) => Ok(seen(x)),
+        Err(Unvalued::Fault(kind)) => Err(Stop::Fault(kind, place)),
+        Err(Unvalued::Limit) => Err(Stop::Limit),
+    }
+}
+
+/// A constraint's value: anything but 0 satisfies it.
+fn satisfied(x: Content<'_>, place: u128) -> Result<(), Stop>
+    ensures { (y : Label) → IsHeld x.entry y → Ends result (satisfied place (truth_of y)) }
+{
+    match truth_of(x) {
+        Ok(true) => Ok(()),
+        Ok(false) => Err(Stop::Fault(MapFaultKind::Constraint, place)),
+        Err(kind) => Err(Stop::Fault(kind, place)),
+    }
+}
+
+/// A condition's truth.
+fn told_truth(x: Content<'_>, place: u128) -> Result<bool, Stop>
+    ensures { (y : Label) → IsHeld x.entry y → Ends result (kind_at place (truth_of y)) }
+{
+    match truth_of(x) {
+        Ok(holds) => Ok(holds),
+        Err(kind) => Err(Stop::Fault(kind, place)),
+    }
+}
+
+/// A number that isn't negative.
+fn natural(number: i128) -> Option<u128>
+    ensures { result ≡ natural number }
+{
+    if number < 0 {
+        return None;
+    }
+    Some(number as u128)
+}
+
+/// The bit that a label leads to.
+#[tactic(auto, using(crate::proofs::Settling::is_natural, crate::proofs::Settling::is_negative))]
+fn behind_start(x: Content<'_>, start: u128) -> Result<u128, Stop>
+    requires content { IsSoundContent x }
+    requires start { start < 2 ^ 127 }
+    ensures { (y : Label) → IsHeld x.entry y → Ends result (behind_start start y) }
+{
+    let Content::Scalar(Scalar::Offset(magnitude, number, unit)) = x else {
+        return Err(Stop::Fault(MapFaultKind::Absent, start));
+    };
+    match natural(bits_in(magnitude, number.signed, unit)) {
+        Some(bits) => Ok(start + bits),
+        None => Err(Stop::Fault(MapFaultKind::Bounds, start)),
+    }
+}
+
+/// A number of elements.
+#[tactic(auto, using(crate::proofs::Settling::is_natural, crate::proofs::Settling::is_negative))]
+fn count_of(x: Content<'_>, start: u128) -> Result<Extent, Stop>
+    ensures { (y : Label) → IsHeld x.entry y → Ends result (count_of start y) }
+{
+    let Content::Scalar(Scalar::Integer(count, _number)) = x else {
+        return Err(Stop::Fault(MapFaultKind::Absent, start));
+    };
+    match natural(count) {
+        Some(count) => Ok(Extent::Count(count)),
+        None => Err(Stop::Fault(MapFaultKind::Bounds, start)),
+    }
+}
+
+/// A number of bits.
+#[tactic(auto, using(crate::proofs::Settling::is_natural, crate::proofs::Settling::is_negative))]
+fn size_of(x: Content<'_>, start: u128) -> Result<Extent, Stop>
+    requires content { IsSoundContent x }
+    ensures { (y : Label) → IsHeld x.entry y → Ends result (size_of start y) }
+{
+    let Content::Scalar(Scalar::Offset(magnitude, number, unit)) = x else {
+        return Err(Stop::Fault(MapFaultKind::Absent, start));
+    };
+    match natural(bits_in(magnitude, number.signed, unit)) {
+        Some(bits) => Ok(Extent::Size(bits)),
+        None => Err(Stop::Fault(MapFaultKind::Bounds, start)),
+    }
+}

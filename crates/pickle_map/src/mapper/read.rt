@@ -1,0 +1,36 @@
+//! Reads of a mapping.
+
+ghost use Rattle.std.specs.Prelude.{◌≡◌, ℕ, ◌+◌, ◌*◌, ◌<◌, ◌≤◌, OnOk, IfOk, IfErr};
+ghost use Rattle.bit_space.specs.SpaceView.{known_bits, Keeps};
+ghost use Rattle.bit_space.specs.Reading.{MayRead};
+ghost use Rattle.pickle_map.specs.Framed.{ReadStops};
+
+use crate::faults::MapFaultKind;
+use crate::mapper::stop::Stop;
+use bit_space::{BitFault, Meter, Order, Space, read_number};
+
+/// The binary digits of `width` bits from the bit `start` on, as a number without a sign.
+pub fn read_digits<S: Space>(
+    space: &mut S,
+    start: u64,
+    width: u8,
+    order: Order,
+    meter: &mut Meter,
+) -> Result<u64, Stop>
+    requires some { 0 < width }
+    requires most { width ≤ 64 }
+    ensures keeps { Keeps (S.view space.old) (S.view space.new) }
+    ensures limit { meter.new.limit ≡ meter.old.limit }
+    ensures made { meter.new.made ≡ meter.old.made }
+    ensures steps { OnOk result (meter.new.steps ≡ meter.old.steps + 1) }
+    ensures inside { OnOk result (start + width ≤ 8 * (S.view space.old).len) }
+    ensures ok { IfOk result (λ n. MayRead (known_bits (S.view space.old)) order start width n) }
+    ensures err { IfErr result (λ stop. ReadStops stop start (start + width) (S.view space.old) (S.view space.new) meter.old.limit meter.old.steps meter.new.steps) }
+{
+    match read_number(space, start, width, order, meter) {
+        Ok(digits) => Ok(digits),
+        Err(BitFault::End) => Err(Stop::Fault(MapFaultKind::End, u128::from(start))),
+        Err(BitFault::Device) => Err(Stop::Device),
+        Err(BitFault::Limit) => Err(Stop::Limit),
+    }
+}

@@ -1,0 +1,67 @@
+//! Why a mapping under way stops.
+
+ghost use Rattle.std.specs.Prelude.{◌≡◌};
+ghost use Rattle.pickle_map.specs.Stops.{stop_misses, stop_ends};
+ghost use Rattle.pickle_map.specs.declared.mapper.stop.Stop.TheVariants.{Device, Limit, Memory};
+
+use crate::extent::Extent;
+use crate::faults::MapFaultKind;
+use bit_space::{DeviceFault, LimitPassed};
+
+/// Why a mapping under way stops: a fault of the type's meaning, at a bit position, or one of the run.
+#[derive(Clone, Copy, Debug, PartialEq, Eq)]
+pub enum Stop {
+    Fault(MapFaultKind, u128),
+    Limit,
+    Device,
+    Memory,
+}
+
+impl From<LimitPassed> for Stop {
+    ghost from_gives = { λ _ stop. stop ≡ Limit };
+
+    fn from(_passed: LimitPassed) -> Stop {
+        Stop::Limit
+    }
+}
+
+impl From<DeviceFault> for Stop {
+    ghost from_gives = { λ _ stop. stop ≡ Device };
+
+    fn from(_fault: DeviceFault) -> Stop {
+        Stop::Device
+    }
+}
+
+impl From<crate::memory::Memory> for Stop {
+    ghost from_gives = { λ _ stop. stop ≡ Memory };
+
+    fn from(_refused: crate::memory::Memory) -> Stop {
+        Stop::Memory
+    }
+}
+
+impl Stop {
+    /// Whether a union tries its next alternative after one that stops so.
+    pub fn misses(self) -> bool
+        ensures { result ≡ stop_misses self }
+    {
+        match self {
+            Stop::Fault(kind, _) => matches!(kind, MapFaultKind::Constraint),
+            Stop::Limit | Stop::Device | Stop::Memory => false,
+        }
+    }
+
+    /// Whether an array ends before an element that stops so.
+    pub fn ends(self, extent: Extent) -> bool
+        ensures { result ≡ stop_ends extent self }
+    {
+        match self {
+            Stop::Fault(kind, _) => {
+                matches!(extent, Extent::Open)
+                    && matches!(kind, MapFaultKind::Constraint | MapFaultKind::End)
+            }
+            Stop::Limit | Stop::Device | Stop::Memory => false,
+        }
+    }
+}

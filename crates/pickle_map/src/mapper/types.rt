@@ -1,0 +1,593 @@
+//! The types of a table, over the bits of a space.
+
+ghost use Rattle.std.specs.Prelude.{◌≡◌, ◌+◌, ◌*◌, ◌^◌, ◌<◌, ◌≤◌, ◌∷◌, [], Ok, map, length, All, IfOk, IfErr, OnOk, OnErr};
+ghost use Rattle.bit_space.specs.SpaceView.{HasRisen};
+ghost use Rattle.pickle_types.specs.Types.{ArrayOf, StructOf, UnionOf, depth};
+ghost use Rattle.pickle_types.specs.Bounds.{least_width, count_of};
+ghost use Rattle.pickle_types.specs.Table.{IsTable, type_of, open_fields, open_parts, optional_term, bound_of};
+ghost use Rattle.pickle_map.specs.Follows.{Done};
+ghost use Rattle.pickle_map.specs.Framed.{Mapped, Closed, Takes, Runs};
+ghost use Rattle.pickle_map.specs.Values.{outer_of};
+ghost use Rattle.pickle_map.specs.Mappable.{IsFieldOf, IsPartOf};
+ghost use Rattle.pickle_map.specs.Mapping.{plan, fields_plan, elements_plan, alternatives_plan, constrained, array_closes, struct_closes, union_closes};
+ghost use Rattle.pickle_map.specs.Means.{ordered, field_names};
+ghost use Rattle.pickle_map.specs.Plan.{after, then_ok};
+ghost use Rattle.pickle_map.specs.Clauses.{field_start, label_steps};
+ghost use Rattle.pickle_types.specs.Sound.{IsSoundClause, IsSoundBound};
+ghost use Rattle.pickle_map.specs.Shown.{kept, title_at, names_at, field_name, part_name};
+ghost use Rattle.pickle_map.specs.Slots.{levels};
+ghost use Rattle.pickle_map.specs.Stops.{stop_finish};
+
+use crate::extent::Extent;
+use crate::faults::MapFaultKind;
+use crate::mapper::clauses::{check, find_extent, find_start, is_there};
+use crate::mapper::keep::{close_array, close_struct, close_union, keep_absent};
+use crate::mapper::number::map_number;
+use crate::mapper::stop::Stop;
+use crate::mapper::text::map_text;
+use crate::store::Store;
+use bit_space::{Meter, Order, Space};
+use pickle_syntax::tree::ByteOrder;
+use pickle_types::table::{Extent as Bound, Field, Node, Part, Resolved, Shape};
+
+/// Maps the type at a place of the table from the bit `start` on, and gives the bit behind it.
+#[cycle(mapping)]
+pub(crate) fn map_type<S: Space>(
+    nodes: &[Node],
+    at: usize,
+    order: Order,
+    start: u128,
+    space: &mut S,
+    meter: &mut Meter,
+    store: &mut Store,
+) -> Result<u64, Stop>
+    requires table { IsTable nodes.now }
+    requires at { at < length nodes.now }
+    requires open { length (levels store.old) + depth (type_of nodes.now at) ≤ 65 }
+    ensures limit { meter.new.limit ≡ meter.old.limit }
+    ensures len { (S.view space.new).len ≡ (S.view space.old).len }
+    ensures bytes { (S.view space.new).bytes ≡ (S.view space.old).bytes }
+    ensures failures { (S.view space.old).failures ≤ (S.view space.new).failures }
+    ensures room { store.new.room ≡ store.old.room }
+    ensures made { meter.new.made + meter.old.steps ≤ meter.old.made + meter.new.steps }
+    ensures ends { IfOk result (λ end. (start ≤ end) × (end ≤ 8 * (S.view space.old).len)) }
+    ensures ok { IfOk result (λ end. Mapped nodes.now (S.view space.old) meter.old meter.new store.old store.new (plan (8 * (S.view space.old).len) (type_of nodes.now at) order (kept nodes.now store.old) start) end) }
+    ensures same { OnErr result (kept nodes.now store.new ≡ kept nodes.now store.old) }
+    ensures depth { length (levels store.new) ≡ length (levels store.old) }
+    ensures err { IfErr result (λ stop. Runs (S.view space.old) meter.old meter.new store.old (plan (8 * (S.view space.old).len) (type_of nodes.now at) order (kept nodes.now store.old) start) (stop_finish stop)) }
+    ensures device { IfErr result (λ stop. stop ≡ Stop.Device → HasRisen (S.view space.old).failures (S.view space.new).failures) }
+{
+    if u128::from(8 * space.len()) < start {
+        return Err(Stop::Fault(MapFaultKind::End, start));
+    }
+    map_inside(nodes, at, order, start as u64, space, meter, store)
+}
+
+/// Maps the type at a place of the table, whose start is inside the file.
+#[cycle(mapping)]
+fn map_inside<S: Space>(
+    nodes: &[Node],
+    at: usize,
+    order: Order,
+    start: u64,
+    space: &mut S,
+    meter: &mut Meter,
+    store: &mut Store,
+) -> Result<u64, Stop>
+    requires table { IsTable nodes.now }
+    requires at { at < length nodes.now }
+    requires open { length (levels store.old) + depth (type_of nodes.now at) ≤ 65 }
+    requires inside { start ≤ 8 * (S.view space.old).len }
+    ensures limit { meter.new.limit ≡ meter.old.limit }
+    ensures len { (S.view space.new).len ≡ (S.view space.old).len }
+    ensures bytes { (S.view space.new).bytes ≡ (S.view space.old).bytes }
+    ensures failures { (S.view space.old).failures ≤ (S.view space.new).failures }
+    ensures room { store.new.room ≡ store.old.room }
+    ensures made { meter.new.made + meter.old.steps ≤ meter.old.made + meter.new.steps }
+    ensures ends { IfOk result (λ end. (start ≤ end) × (end ≤ 8 * (S.view space.old).len)) }
+    ensures ok { IfOk result (λ end. Mapped nodes.now (S.view space.old) meter.old meter.new store.old store.new (plan (8 * (S.view space.old).len) (type_of nodes.now at) order (kept nodes.now store.old) start) end) }
+    ensures same { OnErr result (kept nodes.now store.new ≡ kept nodes.now store.old) }
+    ensures depth { length (levels store.new) ≡ length (levels store.old) }
+    ensures err { IfErr result (λ stop. Runs (S.view space.old) meter.old meter.new store.old (plan (8 * (S.view space.old).len) (type_of nodes.now at) order (kept nodes.now store.old) start) (stop_finish stop)) }
+    ensures device { IfErr result (λ stop. stop ≡ Stop.Device → HasRisen (S.view space.old).failures (S.view space.new).failures) }
+{
+    match &nodes[at].shape {
+        Shape::Integer(number) => {
+            map_number(nodes, at, *number, order, start, space, meter, store)
+        }
+        Shape::Offset(number, _) => {
+            map_number(nodes, at, *number, order, start, space, meter, store)
+        }
+        Shape::Integral {
+            name: _,
+            number,
+            fields: _,
+        } => map_number(nodes, at, *number, order, start, space, meter, store),
+        Shape::String => map_text(nodes, start, space, meter, store),
+        Shape::Array(element, bound) => {
+            map_array(nodes, *element, bound, order, start, space, meter, store)
+        }
+        Shape::Struct {
+            name: _,
+            pinned,
+            fields,
+        } => map_struct(
+            nodes, at, *pinned, fields, order, start, space, meter, store,
+        ),
+        Shape::Union {
+            name: _,
+            alternatives,
+        } => map_union(nodes, at, alternatives, order, start, space, meter, store),
+    }
+}
+
+/// Maps a type into the innermost level, and checks the constraint that stands beside it.
+#[cycle(mapping)]
+fn map_checked<S: Space>(
+    nodes: &[Node],
+    node: usize,
+    constraint: &Option<Resolved>,
+    order: Order,
+    start: u128,
+    space: &mut S,
+    meter: &mut Meter,
+    store: &mut Store,
+) -> Result<u64, Stop>
+    requires table { IsTable nodes.now }
+    requires at { node < length nodes.now }
+    requires open { length (levels store.old) + depth (type_of nodes.now node) ≤ 65 }
+    requires sound { IsSoundClause (optional_term constraint.now) }
+    ensures limit { meter.new.limit ≡ meter.old.limit }
+    ensures len { (S.view space.new).len ≡ (S.view space.old).len }
+    ensures bytes { (S.view space.new).bytes ≡ (S.view space.old).bytes }
+    ensures failures { (S.view space.old).failures ≤ (S.view space.new).failures }
+    ensures room { store.new.room ≡ store.old.room }
+    ensures made { meter.new.made + meter.old.steps ≤ meter.old.made + meter.new.steps }
+    ensures ends { IfOk result (λ end. (start ≤ end) × (end ≤ 8 * (S.view space.old).len)) }
+    ensures ok { IfOk result (λ end. Mapped nodes.now (S.view space.old) meter.old meter.new store.old store.new (then_ok (plan (8 * (S.view space.old).len) (type_of nodes.now node) order (kept nodes.now store.old) start) (constrained (optional_term constraint.now) (kept nodes.now store.old) start)) end) }
+    ensures outer { outer_of (kept nodes.now store.new) ≡ outer_of (kept nodes.now store.old) }
+    ensures depth { length (levels store.new) ≡ length (levels store.old) }
+    ensures err { IfErr result (λ stop. Runs (S.view space.old) meter.old meter.new store.old (then_ok (plan (8 * (S.view space.old).len) (type_of nodes.now node) order (kept nodes.now store.old) start) (constrained (optional_term constraint.now) (kept nodes.now store.old) start)) (stop_finish stop)) }
+    ensures device { IfErr result (λ stop. stop ≡ Stop.Device → HasRisen (S.view space.old).failures (S.view space.new).failures) }
+{
+    let end = map_type(nodes, node, order, start, space, meter, store)?;
+    check(nodes, constraint, store, start, meter)?;
+    Ok(end)
+}
+
+/// Maps an array, whose start is inside the file.
+#[cycle(mapping)]
+fn map_array<S: Space>(
+    nodes: &[Node],
+    element: usize,
+    bound: &Bound,
+    order: Order,
+    start: u64,
+    space: &mut S,
+    meter: &mut Meter,
+    store: &mut Store,
+) -> Result<u64, Stop>
+    requires table { IsTable nodes.now }
+    requires element { element < length nodes.now }
+    requires open { length (levels store.old) + 1 + depth (type_of nodes.now element) ≤ 65 }
+    requires sound { IsSoundBound (bound_of bound.now) }
+    requires inside { start ≤ 8 * (S.view space.old).len }
+    ensures limit { meter.new.limit ≡ meter.old.limit }
+    ensures len { (S.view space.new).len ≡ (S.view space.old).len }
+    ensures bytes { (S.view space.new).bytes ≡ (S.view space.old).bytes }
+    ensures failures { (S.view space.old).failures ≤ (S.view space.new).failures }
+    ensures room { store.new.room ≡ store.old.room }
+    ensures made { meter.new.made + meter.old.steps ≤ meter.old.made + meter.new.steps }
+    ensures ends { IfOk result (λ end. (start ≤ end) × (end ≤ 8 * (S.view space.old).len)) }
+    ensures ok { IfOk result (λ end. Mapped nodes.now (S.view space.old) meter.old meter.new store.old store.new (plan (8 * (S.view space.old).len) (ArrayOf (type_of nodes.now element) (bound_of bound.now)) order (kept nodes.now store.old) start) end) }
+    ensures same { OnErr result (kept nodes.now store.new ≡ kept nodes.now store.old) }
+    ensures depth { length (levels store.new) ≡ length (levels store.old) }
+    ensures err { IfErr result (λ stop. Runs (S.view space.old) meter.old meter.new store.old (plan (8 * (S.view space.old).len) (ArrayOf (type_of nodes.now element) (bound_of bound.now)) order (kept nodes.now store.old) start) (stop_finish stop)) }
+    ensures device { IfErr result (λ stop. stop ≡ Stop.Device → HasRisen (S.view space.old).failures (S.view space.new).failures) }
+{
+    meter.tick()?;
+    let extent = find_extent(nodes, bound, store, u128::from(start), meter)?;
+    store.open_level();
+    match array_body(nodes, element, extent, order, start, space, meter, store) {
+        Ok(end) => Ok(end),
+        Err(stop) => {
+            store.drop_level();
+            Err(stop)
+        }
+    }
+}
+
+/// Maps the elements of an array into its level, and closes it.
+#[cycle(mapping)]
+fn array_body<S: Space>(
+    nodes: &[Node],
+    element: usize,
+    extent: Extent,
+    order: Order,
+    start: u64,
+    space: &mut S,
+    meter: &mut Meter,
+    store: &mut Store,
+) -> Result<u64, Stop>
+    requires table { IsTable nodes.now }
+    requires element { element < length nodes.now }
+    requires open { (1 < length (levels store.old)) × (length (levels store.old) + depth (type_of nodes.now element) ≤ 65) }
+    requires inside { start ≤ 8 * (S.view space.old).len }
+    requires free { meter.old.made < meter.old.steps }
+    ensures limit { meter.new.limit ≡ meter.old.limit }
+    ensures len { (S.view space.new).len ≡ (S.view space.old).len }
+    ensures bytes { (S.view space.new).bytes ≡ (S.view space.old).bytes }
+    ensures failures { (S.view space.old).failures ≤ (S.view space.new).failures }
+    ensures room { store.new.room ≡ store.old.room }
+    ensures made { meter.new.made + meter.old.steps ≤ meter.old.made + meter.new.steps + 1 }
+    ensures ends { IfOk result (λ end. (start ≤ end) × (end ≤ 8 * (S.view space.old).len)) }
+    ensures ok { IfOk result (λ end. Closed nodes.now (S.view space.old) meter.old meter.new store.old store.new (then_ok (elements_plan (plan (8 * (S.view space.old).len) (type_of nodes.now element) order) (8 * (S.view space.old).len) start extent (count_of (8 * (S.view space.old).len) (least_width (type_of nodes.now element))) 0 (kept nodes.now store.old) start) (array_closes start)) end) }
+    ensures outer { OnErr result (outer_of (kept nodes.now store.new) ≡ outer_of (kept nodes.now store.old)) }
+    ensures closed { OnOk result (length (levels store.new) + 1 ≡ length (levels store.old)) }
+    ensures depth { OnErr result (length (levels store.new) ≡ length (levels store.old)) }
+    ensures err { IfErr result (λ stop. Runs (S.view space.old) meter.old meter.new store.old (then_ok (elements_plan (plan (8 * (S.view space.old).len) (type_of nodes.now element) order) (8 * (S.view space.old).len) start extent (count_of (8 * (S.view space.old).len) (least_width (type_of nodes.now element))) 0 (kept nodes.now store.old) start) (array_closes start)) (stop_finish stop)) }
+    ensures device { IfErr result (λ stop. stop ≡ Stop.Device → HasRisen (S.view space.old).failures (S.view space.new).failures) }
+{
+    let end = map_elements(nodes, element, extent, order, start, space, meter, store)?;
+    close_array(nodes, store, start, end)?;
+    meter.note_made();
+    Ok(end)
+}
+
+/// Maps elements, one after the other, into their level.
+#[cycle(mapping)]
+fn map_elements<S: Space>(
+    nodes: &[Node],
+    element: usize,
+    extent: Extent,
+    order: Order,
+    start: u64,
+    space: &mut S,
+    meter: &mut Meter,
+    store: &mut Store,
+) -> Result<u64, Stop>
+    requires table { IsTable nodes.now }
+    requires element { element < length nodes.now }
+    requires open { length (levels store.old) + depth (type_of nodes.now element) ≤ 65 }
+    requires inside { start ≤ 8 * (S.view space.old).len }
+    ensures limit { meter.new.limit ≡ meter.old.limit }
+    ensures len { (S.view space.new).len ≡ (S.view space.old).len }
+    ensures bytes { (S.view space.new).bytes ≡ (S.view space.old).bytes }
+    ensures failures { (S.view space.old).failures ≤ (S.view space.new).failures }
+    ensures room { store.new.room ≡ store.old.room }
+    ensures made { meter.new.made + meter.old.steps ≤ meter.old.made + meter.new.steps }
+    ensures ends { IfOk result (λ end. (start ≤ end) × (end ≤ 8 * (S.view space.old).len)) }
+    ensures ok { IfOk result (λ end. Runs (S.view space.old) meter.old meter.new store.old (elements_plan (plan (8 * (S.view space.old).len) (type_of nodes.now element) order) (8 * (S.view space.old).len) start extent (count_of (8 * (S.view space.old).len) (least_width (type_of nodes.now element))) 0 (kept nodes.now store.old) start) (Done (Ok (kept nodes.now store.new, end)))) }
+    ensures outer { outer_of (kept nodes.now store.new) ≡ outer_of (kept nodes.now store.old) }
+    ensures depth { length (levels store.new) ≡ length (levels store.old) }
+    ensures err { IfErr result (λ stop. Runs (S.view space.old) meter.old meter.new store.old (elements_plan (plan (8 * (S.view space.old).len) (type_of nodes.now element) order) (8 * (S.view space.old).len) start extent (count_of (8 * (S.view space.old).len) (least_width (type_of nodes.now element))) 0 (kept nodes.now store.old) start) (stop_finish stop)) }
+    ensures device { IfErr result (λ stop. stop ≡ Stop.Device → HasRisen (S.view space.old).failures (S.view space.new).failures) }
+{
+    let bits = 8 * space.len();
+    let mut place = start;
+    let mut count = 0;
+    while extent.is_due(bits, start, count, place) {
+        meter.tick()?;
+        match map_type(
+            nodes,
+            element,
+            order,
+            u128::from(place),
+            space,
+            meter,
+            store,
+        ) {
+            Ok(end) => {
+                if end == place {
+                    return Err(Stop::Fault(MapFaultKind::NoBits, u128::from(place)));
+                }
+                place = end;
+                count += 1;
+            }
+            Err(stop) => {
+                if stop.ends(extent) {
+                    return Ok(place);
+                }
+                return Err(stop);
+            }
+        }
+    }
+    if extent.is_met(start, place) {
+        Ok(place)
+    } else {
+        Err(Stop::Fault(MapFaultKind::Bounds, u128::from(start)))
+    }
+}
+
+/// Maps a struct, whose start is inside the file.
+#[cycle(mapping)]
+fn map_struct<S: Space>(
+    nodes: &[Node],
+    at: usize,
+    pinned: bool,
+    fields: &[Field],
+    order: Order,
+    start: u64,
+    space: &mut S,
+    meter: &mut Meter,
+    store: &mut Store,
+) -> Result<u64, Stop>
+    requires table { IsTable nodes.now }
+    requires at { at < length nodes.now }
+    requires fields { All (IsFieldOf nodes.now (length (levels store.old) + 1)) fields.now }
+    requires names { names_at nodes.now at ≡ map field_name fields.now }
+    requires open { length (levels store.old) ≤ 64 }
+    requires inside { start ≤ 8 * (S.view space.old).len }
+    ensures limit { meter.new.limit ≡ meter.old.limit }
+    ensures len { (S.view space.new).len ≡ (S.view space.old).len }
+    ensures bytes { (S.view space.new).bytes ≡ (S.view space.old).bytes }
+    ensures failures { (S.view space.old).failures ≤ (S.view space.new).failures }
+    ensures room { store.new.room ≡ store.old.room }
+    ensures made { meter.new.made + meter.old.steps ≤ meter.old.made + meter.new.steps }
+    ensures ends { IfOk result (λ end. (start ≤ end) × (end ≤ 8 * (S.view space.old).len)) }
+    ensures ok { IfOk result (λ end. Mapped nodes.now (S.view space.old) meter.old meter.new store.old store.new (plan (8 * (S.view space.old).len) (StructOf (title_at nodes.now at) pinned (open_fields (type_of nodes.now) fields.now)) order (kept nodes.now store.old) start) end) }
+    ensures same { OnErr result (kept nodes.now store.new ≡ kept nodes.now store.old) }
+    ensures depth { length (levels store.new) ≡ length (levels store.old) }
+    ensures err { IfErr result (λ stop. Runs (S.view space.old) meter.old meter.new store.old (plan (8 * (S.view space.old).len) (StructOf (title_at nodes.now at) pinned (open_fields (type_of nodes.now) fields.now)) order (kept nodes.now store.old) start) (stop_finish stop)) }
+    ensures device { IfErr result (λ stop. stop ≡ Stop.Device → HasRisen (S.view space.old).failures (S.view space.new).failures) }
+{
+    meter.tick()?;
+    store.open_level();
+    match struct_body(nodes, at, pinned, fields, order, start, space, meter, store) {
+        Ok(end) => Ok(end),
+        Err(stop) => {
+            store.drop_level();
+            Err(stop)
+        }
+    }
+}
+
+/// Maps the fields of a struct into its level, and closes it.
+#[cycle(mapping)]
+fn struct_body<S: Space>(
+    nodes: &[Node],
+    at: usize,
+    pinned: bool,
+    fields: &[Field],
+    order: Order,
+    start: u64,
+    space: &mut S,
+    meter: &mut Meter,
+    store: &mut Store,
+) -> Result<u64, Stop>
+    requires table { IsTable nodes.now }
+    requires at { at < length nodes.now }
+    requires fields { All (IsFieldOf nodes.now (length (levels store.old))) fields.now }
+    requires names { names_at nodes.now at ≡ map field_name fields.now }
+    requires open { 1 < length (levels store.old) }
+    requires inside { start ≤ 8 * (S.view space.old).len }
+    requires free { meter.old.made < meter.old.steps }
+    ensures limit { meter.new.limit ≡ meter.old.limit }
+    ensures len { (S.view space.new).len ≡ (S.view space.old).len }
+    ensures bytes { (S.view space.new).bytes ≡ (S.view space.old).bytes }
+    ensures failures { (S.view space.old).failures ≤ (S.view space.new).failures }
+    ensures room { store.new.room ≡ store.old.room }
+    ensures made { meter.new.made + meter.old.steps ≤ meter.old.made + meter.new.steps + 1 }
+    ensures ends { IfOk result (λ end. (start ≤ end) × (end ≤ 8 * (S.view space.old).len)) }
+    ensures ok { IfOk result (λ end. Closed nodes.now (S.view space.old) meter.old meter.new store.old store.new (then_ok (fields_plan (8 * (S.view space.old).len) pinned start (open_fields (type_of nodes.now) fields.now) order (kept nodes.now store.old) start start) (struct_closes (title_at nodes.now at) (field_names (open_fields (type_of nodes.now) fields.now)) start)) end) }
+    ensures outer { OnErr result (outer_of (kept nodes.now store.new) ≡ outer_of (kept nodes.now store.old)) }
+    ensures closed { OnOk result (length (levels store.new) + 1 ≡ length (levels store.old)) }
+    ensures depth { OnErr result (length (levels store.new) ≡ length (levels store.old)) }
+    ensures err { IfErr result (λ stop. Runs (S.view space.old) meter.old meter.new store.old (then_ok (fields_plan (8 * (S.view space.old).len) pinned start (open_fields (type_of nodes.now) fields.now) order (kept nodes.now store.old) start start) (struct_closes (title_at nodes.now at) (field_names (open_fields (type_of nodes.now) fields.now)) start)) (stop_finish stop)) }
+    ensures device { IfErr result (λ stop. stop ≡ Stop.Device → HasRisen (S.view space.old).failures (S.view space.new).failures) }
+{
+    let end = map_fields(nodes, pinned, fields, order, start, space, meter, store)?;
+    close_struct(nodes, store, at as u32, start, end)?;
+    meter.note_made();
+    Ok(end)
+}
+
+/// Maps fields, one after the other, into their level, and gives their greatest end.
+#[cycle(mapping)]
+fn map_fields<S: Space>(
+    nodes: &[Node],
+    pinned: bool,
+    fields: &[Field],
+    order: Order,
+    start: u64,
+    space: &mut S,
+    meter: &mut Meter,
+    store: &mut Store,
+) -> Result<u64, Stop>
+    requires table { IsTable nodes.now }
+    requires fields { All (IsFieldOf nodes.now (length (levels store.old))) fields.now }
+    requires inside { start ≤ 8 * (S.view space.old).len }
+    ensures limit { meter.new.limit ≡ meter.old.limit }
+    ensures len { (S.view space.new).len ≡ (S.view space.old).len }
+    ensures bytes { (S.view space.new).bytes ≡ (S.view space.old).bytes }
+    ensures failures { (S.view space.old).failures ≤ (S.view space.new).failures }
+    ensures room { store.new.room ≡ store.old.room }
+    ensures made { meter.new.made + meter.old.steps ≤ meter.old.made + meter.new.steps }
+    ensures ends { IfOk result (λ end. (start ≤ end) × (end ≤ 8 * (S.view space.old).len)) }
+    ensures ok { IfOk result (λ end. Runs (S.view space.old) meter.old meter.new store.old (fields_plan (8 * (S.view space.old).len) pinned start (open_fields (type_of nodes.now) fields.now) order (kept nodes.now store.old) start start) (Done (Ok (kept nodes.now store.new, end)))) }
+    ensures outer { outer_of (kept nodes.now store.new) ≡ outer_of (kept nodes.now store.old) }
+    ensures depth { length (levels store.new) ≡ length (levels store.old) }
+    ensures err { IfErr result (λ stop. Runs (S.view space.old) meter.old meter.new store.old (fields_plan (8 * (S.view space.old).len) pinned start (open_fields (type_of nodes.now) fields.now) order (kept nodes.now store.old) start start) (stop_finish stop)) }
+    ensures device { IfErr result (λ stop. stop ≡ Stop.Device → HasRisen (S.view space.old).failures (S.view space.new).failures) }
+{
+    let origin = u128::from(start);
+    let mut behind = start;
+    let mut top = start;
+    for field in fields {
+        meter.tick()?;
+        if is_there(nodes, &field.condition, store, origin, meter)? {
+            let place = find_start(
+                nodes,
+                pinned,
+                &field.label,
+                store,
+                origin,
+                u128::from(behind),
+                meter,
+            )?;
+            behind = map_checked(
+                nodes,
+                field.node,
+                &field.constraint,
+                ordered(field.order, order),
+                place,
+                space,
+                meter,
+                store,
+            )?;
+            top = top.max(behind);
+        } else {
+            keep_absent(nodes, store)?;
+        }
+    }
+    Ok(top)
+}
+
+/// Maps a union, whose start is inside the file.
+#[cycle(mapping)]
+fn map_union<S: Space>(
+    nodes: &[Node],
+    at: usize,
+    alternatives: &[Part],
+    order: Order,
+    start: u64,
+    space: &mut S,
+    meter: &mut Meter,
+    store: &mut Store,
+) -> Result<u64, Stop>
+    requires table { IsTable nodes.now }
+    requires at { at < length nodes.now }
+    requires alternatives { All (IsPartOf nodes.now (length (levels store.old) + 1)) alternatives.now }
+    requires few { length alternatives.now ≤ 2 ^ 16 }
+    requires names { names_at nodes.now at ≡ map part_name alternatives.now }
+    requires open { length (levels store.old) ≤ 64 }
+    requires inside { start ≤ 8 * (S.view space.old).len }
+    ensures limit { meter.new.limit ≡ meter.old.limit }
+    ensures len { (S.view space.new).len ≡ (S.view space.old).len }
+    ensures bytes { (S.view space.new).bytes ≡ (S.view space.old).bytes }
+    ensures failures { (S.view space.old).failures ≤ (S.view space.new).failures }
+    ensures room { store.new.room ≡ store.old.room }
+    ensures made { meter.new.made + meter.old.steps ≤ meter.old.made + meter.new.steps }
+    ensures ends { IfOk result (λ end. (start ≤ end) × (end ≤ 8 * (S.view space.old).len)) }
+    ensures ok { IfOk result (λ end. Mapped nodes.now (S.view space.old) meter.old meter.new store.old store.new (plan (8 * (S.view space.old).len) (UnionOf (title_at nodes.now at) (open_parts (type_of nodes.now) alternatives.now)) order (kept nodes.now store.old) start) end) }
+    ensures same { OnErr result (kept nodes.now store.new ≡ kept nodes.now store.old) }
+    ensures depth { length (levels store.new) ≡ length (levels store.old) }
+    ensures err { IfErr result (λ stop. Runs (S.view space.old) meter.old meter.new store.old (plan (8 * (S.view space.old).len) (UnionOf (title_at nodes.now at) (open_parts (type_of nodes.now) alternatives.now)) order (kept nodes.now store.old) start) (stop_finish stop)) }
+    ensures device { IfErr result (λ stop. stop ≡ Stop.Device → HasRisen (S.view space.old).failures (S.view space.new).failures) }
+{
+    meter.tick()?;
+    store.open_level();
+    match union_body(nodes, at, alternatives, order, start, space, meter, store) {
+        Ok(end) => Ok(end),
+        Err(stop) => {
+            store.drop_level();
+            Err(stop)
+        }
+    }
+}
+
+/// Maps an alternative of a union into its level, and closes it.
+#[cycle(mapping)]
+fn union_body<S: Space>(
+    nodes: &[Node],
+    at: usize,
+    alternatives: &[Part],
+    order: Order,
+    start: u64,
+    space: &mut S,
+    meter: &mut Meter,
+    store: &mut Store,
+) -> Result<u64, Stop>
+    requires table { IsTable nodes.now }
+    requires at { at < length nodes.now }
+    requires alternatives { All (IsPartOf nodes.now (length (levels store.old))) alternatives.now }
+    requires few { length alternatives.now ≤ 2 ^ 16 }
+    requires names { names_at nodes.now at ≡ map part_name alternatives.now }
+    requires open { 1 < length (levels store.old) }
+    requires fresh { kept nodes.now store.old ≡ [] ∷ outer_of (kept nodes.now store.old) }
+    requires inside { start ≤ 8 * (S.view space.old).len }
+    requires free { meter.old.made < meter.old.steps }
+    ensures limit { meter.new.limit ≡ meter.old.limit }
+    ensures len { (S.view space.new).len ≡ (S.view space.old).len }
+    ensures bytes { (S.view space.new).bytes ≡ (S.view space.old).bytes }
+    ensures failures { (S.view space.old).failures ≤ (S.view space.new).failures }
+    ensures room { store.new.room ≡ store.old.room }
+    ensures made { meter.new.made + meter.old.steps ≤ meter.old.made + meter.new.steps + 1 }
+    ensures ends { IfOk result (λ end. (start ≤ end) × (end ≤ 8 * (S.view space.old).len)) }
+    ensures ok { IfOk result (λ end. Closed nodes.now (S.view space.old) meter.old meter.new store.old store.new (then_ok (alternatives_plan (8 * (S.view space.old).len) (open_parts (type_of nodes.now) alternatives.now) 0 order (kept nodes.now store.old) start) (union_closes (title_at nodes.now at) (outer_of (kept nodes.now store.old)) start)) end) }
+    ensures outer { OnErr result (outer_of (kept nodes.now store.new) ≡ outer_of (kept nodes.now store.old)) }
+    ensures closed { OnOk result (length (levels store.new) + 1 ≡ length (levels store.old)) }
+    ensures depth { OnErr result (length (levels store.new) ≡ length (levels store.old)) }
+    ensures err { IfErr result (λ stop. Runs (S.view space.old) meter.old meter.new store.old (then_ok (alternatives_plan (8 * (S.view space.old).len) (open_parts (type_of nodes.now) alternatives.now) 0 order (kept nodes.now store.old) start) (union_closes (title_at nodes.now at) (outer_of (kept nodes.now store.old)) start)) (stop_finish stop)) }
+    ensures device { IfErr result (λ stop. stop ≡ Stop.Device → HasRisen (S.view space.old).failures (S.view space.new).failures) }
+{
+    let (index, end) = map_alternatives(nodes, alternatives, order, start, space, meter, store)?;
+    close_union(nodes, store, at as u32, index as u16, start, end)?;
+    meter.note_made();
+    Ok(end)
+}
+
+/// Maps the first alternative that fits into its level, and gives its index and its end.
+#[cycle(mapping)]
+fn map_alternatives<S: Space>(
+    nodes: &[Node],
+    alternatives: &[Part],
+    order: Order,
+    start: u64,
+    space: &mut S,
+    meter: &mut Meter,
+    store: &mut Store,
+) -> Result<(usize, u64), Stop>
+    requires table { IsTable nodes.now }
+    requires alternatives { All (IsPartOf nodes.now (length (levels store.old))) alternatives.now }
+    requires fresh { kept nodes.now store.old ≡ [] ∷ outer_of (kept nodes.now store.old) }
+    requires inside { start ≤ 8 * (S.view space.old).len }
+    ensures limit { meter.new.limit ≡ meter.old.limit }
+    ensures len { (S.view space.new).len ≡ (S.view space.old).len }
+    ensures bytes { (S.view space.new).bytes ≡ (S.view space.old).bytes }
+    ensures failures { (S.view space.old).failures ≤ (S.view space.new).failures }
+    ensures room { store.new.room ≡ store.old.room }
+    ensures made { meter.new.made + meter.old.steps ≤ meter.old.made + meter.new.steps }
+    ensures ends { IfOk result (λ r. (start ≤ r.1) × (r.1 ≤ 8 * (S.view space.old).len) × (r.0 < length alternatives.now)) }
+    ensures ok { IfOk result (λ r. Takes nodes.now (S.view space.old) meter.old meter.new store.old store.new (map part_name alternatives.now) (alternatives_plan (8 * (S.view space.old).len) (open_parts (type_of nodes.now) alternatives.now) 0 order (kept nodes.now store.old) start) r.0 r.1) }
+    ensures outer { outer_of (kept nodes.now store.new) ≡ outer_of (kept nodes.now store.old) }
+    ensures depth { length (levels store.new) ≡ length (levels store.old) }
+    ensures err { IfErr result (λ stop. Runs (S.view space.old) meter.old meter.new store.old (alternatives_plan (8 * (S.view space.old).len) (open_parts (type_of nodes.now) alternatives.now) 0 order (kept nodes.now store.old) start) (stop_finish stop)) }
+    ensures device { IfErr result (λ stop. stop ≡ Stop.Device → HasRisen (S.view space.old).failures (S.view space.new).failures) }
+{
+    for (index, part) in alternatives.iter().enumerate() {
+        meter.tick()?;
+        let prefixed = ordered(part.order, order);
+        let origin = u128::from(start);
+        match map_checked(
+            nodes,
+            part.node,
+            &part.constraint,
+            prefixed,
+            origin,
+            space,
+            meter,
+            store,
+        ) {
+            Ok(end) => return Ok((index, end)),
+            Err(stop) => {
+                if !stop.misses() {
+                    return Err(stop);
+                }
+                store.clear_level();
+            }
+        }
+    }
+    Err(Stop::Fault(MapFaultKind::Constraint, u128::from(start)))
+}
+
+/// The order of a field: its prefix's, or the one around it.
+fn ordered(prefix: Option<ByteOrder>, order: Order) -> Order
+    ensures { result ≡ ordered prefix order }
+{
+    match prefix {
+        None => order,
+        Some(ByteOrder::Big) => Order::Big,
+        Some(ByteOrder::Little) => Order::Little,
+    }
+}
