@@ -33,7 +33,7 @@ mod Always
 mod Fitting
 mod Rooms
 pub mod Followed
-mod Followed
+pub mod Followed
 pub mod FaultKinds
 mod Counts
 pub mod Evaluations
@@ -45,3 +45,4 @@ pub mod Clauses
 pub mod Placing
 pub mod Texts
 pub mod Mapping
+pub mod Stopped

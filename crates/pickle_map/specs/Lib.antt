@@ -29,3 +29,4 @@ pub mod Framed
 pub mod Refs
 pub mod Settles
 pub mod Mappable
+pub mod Mapped

@@ -14,5 +14,7 @@ pub(crate) mod stored;
 mod tests;
 pub mod value;
 
+pub use faults::{MapFault, MapFaultKind};
+pub use mapper::map;
 pub use store::Store;
 pub use value::{Kind, ValueRef};

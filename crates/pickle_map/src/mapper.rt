@@ -1,5 +1,17 @@
 //! Mapping of types over the bits of a space.
 
+ghost use Rattle.std.specs.Prelude.{◌≡◌, ℕ, ◌+◌, ◌-◌, ◌*◌, ◌<◌, ◌≤◌, List, Some, Ok, IfErr, OnOk, OnErr};
+ghost use Rattle.bit_space.specs.Bits.{bits_of};
+ghost use Rattle.bit_space.specs.SpaceView.{HasRisen};
+ghost use Rattle.pickle_types.specs.Bounds.{cost, room};
+ghost use Rattle.pickle_types.specs.TypeTable.{nodes_of, type_named, IsSound, IsInTable};
+ghost use Rattle.pickle_map.specs.Answer.{Answer};
+ghost use Rattle.pickle_map.specs.Fits.{Fits};
+ghost use Rattle.pickle_map.specs.Mapped.{Gives, FaultMeans, EndsRun, told};
+ghost use Rattle.pickle_map.specs.Room.{NodeSlot, ByteSlot, value_slots};
+ghost use Rattle.pickle_map.specs.Slots.{empty};
+ghost use Rattle.pickle_map.specs.Values.{no_values};
+
 pub mod clauses;
 pub(crate) mod keep;
 pub(crate) mod number;
@@ -7,3 +19,79 @@ pub(crate) mod read;
 pub(crate) mod stop;
 pub(crate) mod text;
 pub(crate) mod types;
+
+use crate::faults::{MapFault, MapFaultKind};
+use crate::store::Store;
+use bit_space::{Meter, Order, Space};
+use pickle_types::type_table::{Table, TypeId};
+use stop::Stop;
+use types::map_type;
+
+/// Maps a type from the bit `start` on: the store then holds the value that it has there, or is empty, with the fault
+/// that the type has there or that ended the run. A store keeps its room, and a meter its counts.
+///
+/// Each value and each byte of a string is counted by the meter, and kept in a slot of each kind that it needs. The steps
+/// of a mapping are those of the table's `step_bound` at most; its slots those of `slot_bound`.
+pub fn map<S: Space>(
+    table: &Table,
+    id: TypeId,
+    order: Order,
+    start: u64,
+    space: &mut S,
+    meter: &mut Meter,
+    store: &mut Store,
+) -> Result<(), MapFault>
+    requires sound { IsSound table.now }
+    requires known { IsInTable table.now id }
+    requires empty { store.old ≡ empty store.old.room }
+    // Where the bytes are known: the value that the type means there, in its steps and with its values made.
+    ensures value { (bytes : List ℕ) → (S.view space.old).bytes ≡ Some bytes → OnOk result (Gives (nodes_of table.now) store.new (λ v. Answer (bits_of bytes) (type_named table.now id) order start (meter.old.limit - meter.old.steps) (Ok v) (meter.new.steps - meter.old.steps) (meter.new.made - meter.old.made))) }
+    // Where they are known: the fault that the type means there, or Limit where that takes more steps than are left.
+    ensures fault { (bytes : List ℕ) → (S.view space.old).bytes ≡ Some bytes → IfErr result (λ f. FaultMeans (bits_of bytes) (type_named table.now id) order start (meter.old.limit - meter.old.steps) f.kind f.at (meter.new.steps - meter.old.steps) (meter.new.made - meter.old.made)) }
+    // Whatever the space gives: a value fits its type by the parts that are kept, and each of them was counted.
+    ensures fits { OnOk result (Gives (nodes_of table.now) store.new (λ v. Fits (8 * (S.view space.old).len) (type_named table.now id) no_values start v)) }
+    ensures size { OnOk result (Gives (nodes_of table.now) store.new (λ v. meter.old.made + (value_slots NodeSlot v + value_slots ByteSlot v) ≤ meter.new.made)) }
+    ensures rise { meter.old.steps ≤ meter.new.steps }
+    ensures steps { meter.new.steps ≤ meter.old.steps + cost (type_named table.now id) (8 * (S.view space.old).len) }
+    ensures made { (meter.old.made ≤ meter.new.made) × (meter.new.made + meter.old.steps ≤ meter.old.made + meter.new.steps) }
+    ensures limit { IfErr result (λ f. f.kind ≡ MapFaultKind.Limit → (meter.new.steps ≡ meter.old.limit) × (meter.old.limit < meter.old.steps + cost (type_named table.now id) (8 * (S.view space.old).len))) }
+    ensures memory { IfErr result (λ f. f.kind ≡ MapFaultKind.Memory → store.old.room < room (type_named table.now id) (8 * (S.view space.old).len)) }
+    ensures device { IfErr result (λ f. f.kind ≡ MapFaultKind.Device → HasRisen (S.view space.old).failures (S.view space.new).failures) }
+    // What ends a run is told at the mapping's start.
+    ensures place { IfErr result (λ f. EndsRun f.kind → f.at ≡ start) }
+    ensures emptied { OnErr result (store.new ≡ empty store.old.room) }
+    ensures room { store.new.room ≡ store.old.room }
+    ensures most { meter.new.limit ≡ meter.old.limit }
+    ensures len { (S.view space.new).len ≡ (S.view space.old).len }
+    ensures bytes { (S.view space.new).bytes ≡ (S.view space.old).bytes }
+    ensures failures { (S.view space.old).failures ≤ (S.view space.new).failures }
+{
+    match map_type(
+        &table.nodes,
+        id.node,
+        order,
+        u128::from(start),
+        space,
+        meter,
+        store,
+    ) {
+        Ok(_) => Ok(()),
+        Err(stop) => {
+            store.clear();
+            Err(told(stop, start))
+        }
+    }
+}
+
+/// A stop, as the fault of a mapping that began at `start`.
+fn told(stop: Stop, start: u64) -> MapFault
+    ensures { result ≡ told stop start }
+{
+    let (kind, at) = match stop {
+        Stop::Fault(kind, at) => (kind, at),
+        Stop::Limit => (MapFaultKind::Limit, u128::from(start)),
+        Stop::Device => (MapFaultKind::Device, u128::from(start)),
+        Stop::Memory => (MapFaultKind::Memory, u128::from(start)),
+    };
+    MapFault { kind, at }
+}

@@ -400,42 +400,42 @@ map_fields-loop-field-preserved g t c =
     let there = c.in_ok-is_there.ensures in
     elim c.if-branch.branch [
       | map_fields-then-branch+in_ok-place+in_ok-behind w ↦
-        let there_is = rw (w.if-branch.true, c.from-origin.ensures) at there.is in
-        let start = w.in_ok-place.ensures in
-        let start_is = rw (c.from-origin.ensures, w.from.ensures) at start.is in
-        let m = w.in_ok-behind.ensures.ok in
-        let h = rw (i.len, w.ordered.ensures) at m.follows in
-        let h = in_world (g.S.Space.view c.args.space.now) (g.S.Space.view c.loop-field.space) c.args.store.now c.loop-field.store i.bytes i.room h in
-        let outer = ap outer_of m.kept ∙ outer_pushed (kept c.args.nodes.now c.loop-field.store) (Some m.value) ∙ i.outer in
-        rw (w.space-is, w.meter-is, w.store-is, w.behind-is, w.top-is) (record {
-          limit = search rules;
-          len = search rules;
-          bytes = search rules;
-          failures = search rules;
-          room = search rules;
-          made = search rules;
-          after = search rules;
-          inside = search rules;
-          outer = outer;
-          depth = search rules;
-          so_far = rw m.kept (follow_on i.so_far (field_goes _ _ _ _ _ _ _ _ _ _ _ next (e.limit ∙ i.limit) e.ok e.made there.made there_is there.limit start.made _ start_is start.limit m.value _ _ m.ends w.max-top.ensures h));
-        })
+          let there_is = rw (w.if-branch.true, c.from-origin.ensures) at there.is in
+          let start = w.in_ok-place.ensures in
+          let start_is = rw (c.from-origin.ensures, w.from.ensures) at start.is in
+          let m = w.in_ok-behind.ensures.ok in
+          let h = rw (i.len, w.ordered.ensures) at m.follows in
+          let h = in_world (g.S.Space.view c.args.space.now) (g.S.Space.view c.loop-field.space) c.args.store.now c.loop-field.store i.bytes i.room h in
+          let outer = ap outer_of m.kept ∙ outer_pushed (kept c.args.nodes.now c.loop-field.store) (Some m.value) ∙ i.outer in
+          rw (w.space-is, w.meter-is, w.store-is, w.behind-is, w.top-is) (record {
+            limit = search rules;
+            len = search rules;
+            bytes = search rules;
+            failures = search rules;
+            room = search rules;
+            made = search rules;
+            after = search rules;
+            inside = search rules;
+            outer = outer;
+            depth = search rules;
+            so_far = rw m.kept (follow_on i.so_far (field_goes _ _ _ _ _ _ _ _ _ _ _ next (e.limit ∙ i.limit) e.ok e.made there.made there_is there.limit start.made _ start_is start.limit m.value _ _ m.ends w.max-top.ensures h));
+          })
       | map_fields-else-branch+in_ok-keep_absent w ↦
-        let there_is = rw (w.if-branch.false, c.from-origin.ensures) at there.is in
-        let keeps = w.in_ok-keep_absent.ensures.ok in
-        rw (w.space-is, w.meter-is, w.store-is, w.behind-is, w.top-is) (record {
-          limit = search rules;
-          len = search rules;
-          bytes = search rules;
-          failures = search rules;
-          room = search rules;
-          made = search rules;
-          after = search rules;
-          inside = search rules;
-          outer = ap outer_of keeps ∙ outer_pushed (kept c.args.nodes.now c.loop-field.store) None ∙ i.outer;
-          depth = search rules;
-          so_far = rw keeps (follow_on i.so_far (absent_goes _ _ _ _ _ _ _ _ _ _ _ next (e.limit ∙ i.limit) e.ok e.made there.made there_is));
-        })
+          let there_is = rw (w.if-branch.false, c.from-origin.ensures) at there.is in
+          let keeps = w.in_ok-keep_absent.ensures.ok in
+          rw (w.space-is, w.meter-is, w.store-is, w.behind-is, w.top-is) (record {
+            limit = search rules;
+            len = search rules;
+            bytes = search rules;
+            failures = search rules;
+            room = search rules;
+            made = search rules;
+            after = search rules;
+            inside = search rules;
+            outer = ap outer_of keeps ∙ outer_pushed (kept c.args.nodes.now c.loop-field.store) None ∙ i.outer;
+            depth = search rules;
+            so_far = rw keeps (follow_on i.so_far (absent_goes _ _ _ _ _ _ _ _ _ _ _ next (e.limit ∙ i.limit) e.ok e.made there.made there_is));
+          })
     ]
 
 pub map_fields-returns-clause-ok : goal.map_fields-returns-clause-ok

@@ -97,6 +97,6 @@ invariant-map_elements-loop-order g l = record {
   counted : l.count + l.start ≤ l.place;
   so_far : (n : ℕ) × (8 * (g.S.Space.view l.initial.space).len < l.place + n * max 1 (least_width (type_of l.nodes l.element))) ×
       Runs (g.S.Space.view l.initial.space) l.initial.meter l.meter l.initial.store
-          (elements_plan (plan (8 * (g.S.Space.view l.initial.space).len) (type_of l.nodes l.element) l.order) (8 * (g.S.Space.view l.initial.space).len) l.start l.extent (count_of (8 * (g.S.Space.view l.initial.space).len) (least_width (type_of l.nodes l.element))) 0 (kept l.nodes l.initial.store) l.start)
-          (Partly (elements_plan (plan (8 * (g.S.Space.view l.initial.space).len) (type_of l.nodes l.element) l.order) (8 * (g.S.Space.view l.initial.space).len) l.start l.extent n l.count (kept l.nodes l.store) l.place));
+      (elements_plan (plan (8 * (g.S.Space.view l.initial.space).len) (type_of l.nodes l.element) l.order) (8 * (g.S.Space.view l.initial.space).len) l.start l.extent (count_of (8 * (g.S.Space.view l.initial.space).len) (least_width (type_of l.nodes l.element))) 0 (kept l.nodes l.initial.store) l.start)
+      (Partly (elements_plan (plan (8 * (g.S.Space.view l.initial.space).len) (type_of l.nodes l.element) l.order) (8 * (g.S.Space.view l.initial.space).len) l.start l.extent n l.count (kept l.nodes l.store) l.place));
 }

@@ -1,0 +1,80 @@
+-- What the fault of a mapping says that followed its type's plan.
+use Rattle.std.proofs.Common.{◌≡◌, ℕ, ◌+◌, ◌-◌, ◌<◌, ◌≤◌, length, List, Some, Ok, Err, refl, sym, arith}
+use Rattle.bit_space.specs.declared.order.Order.{Order}
+use Rattle.pickle_types.specs.Types.{PokeType}
+use Rattle.pickle_types.specs.Bounds.{cost, room}
+use Rattle.pickle_map.specs.declared.faults.MapFaultKind.{MapFaultKind}
+use Rattle.pickle_map.specs.declared.faults.MapFaultKind.TheVariants as fault
+use Rattle.pickle_map.specs.declared.mapper.stop.Stop.{Stop}
+use Rattle.pickle_map.specs.declared.mapper.stop.Stop.TheVariants.{Fault, Limit, Device, Memory}
+use Rattle.pickle_map.specs.Answer.{Answer}
+use Rattle.pickle_map.specs.FaultKinds.{IsMeant}
+use Rattle.pickle_map.specs.Follows.{World, Follows}
+use Rattle.pickle_map.specs.Mapped.{told, FaultMeans, EndsRun}
+use Rattle.pickle_map.specs.Mapping.{plan}
+use Rattle.pickle_map.specs.Room.{slots}
+use Rattle.pickle_map.specs.Stops.{stop_finish}
+use Rattle.pickle_map.specs.Values.{no_values}
+use Rattle.pickle_map.proofs.FaultKinds.{followed_kind}
+use Rattle.pickle_map.proofs.Followed.{followed_limit, followed_room, followed_result, followed_too_long, followed_part}
+
+answered : (bits : List ℕ) (ty : PokeType) (order : Order) (s limit : ℕ) (kind : MapFaultKind) (at k j : ℕ) → IsMeant kind → Answer bits ty order s limit (Err (kind, at)) k j → FaultMeans bits ty order s limit kind at k j
+answered bits ty order s limit fault.End at k j m a = a
+answered bits ty order s limit fault.Constraint at k j m a = a
+answered bits ty order s limit fault.Bounds at k j m a = a
+answered bits ty order s limit fault.NoBits at k j m a = a
+answered bits ty order s limit fault.Zero at k j m a = a
+answered bits ty order s limit fault.Overflow at k j m a = a
+answered bits ty order s limit fault.Absent at k j m a = a
+answered bits ty order s limit fault.Index at k j m a = a
+answered bits ty order s limit fault.Limit at k j m a = absurd m
+answered bits ty order s limit fault.Device at k j m a = absurd m
+answered bits ty order s limit fault.Memory at k j m a = absurd m
+
+no_run : (kind : MapFaultKind) → IsMeant kind → EndsRun kind → ⊥
+no_run fault.End m r = r
+no_run fault.Constraint m r = r
+no_run fault.Bounds m r = r
+no_run fault.NoBits m r = r
+no_run fault.Zero m r = r
+no_run fault.Overflow m r = r
+no_run fault.Absent m r = r
+no_run fault.Index m r = r
+no_run fault.Limit m r = m
+no_run fault.Device m r = m
+no_run fault.Memory m r = m
+
+module _ {world : World} {limit : ℕ} (m : ℕ) (ty : PokeType) (order : Order) (s : ℕ) {k j k' j' : ℕ} where
+  -- what ends a run is told where the mapping began
+  pub told_there : (stop : Stop) → Follows world limit (plan m ty order no_values s) k j k' j' (stop_finish stop) → EndsRun (told stop s).kind → (told stop s).at ≡ s
+  told_there (Fault kind place) h r = absurd (no_run kind (followed_kind m ty order no_values s h) r)
+  told_there Limit h r = refl
+  told_there Device h r = refl
+  told_there Memory h r = refl
+
+  -- a limit that was reached is below the bound
+  pub told_limit : (stop : Stop) → Follows world limit (plan m ty order no_values s) k j k' j' (stop_finish stop) → (told stop s).kind ≡ fault.Limit → (k' ≡ limit) × (limit < k + cost ty m)
+  told_limit (Fault kind place) h e = absurd (no_run kind (followed_kind m ty order no_values s h) (rw e tt))
+  told_limit Limit h e = followed_limit m ty order no_values s h
+  told_limit Device h e = cc
+  told_limit Memory h e = cc
+
+  -- room was wanted only where there is less than the type's
+  pub told_memory : (stop : Stop) → Follows world limit (plan m ty order no_values s) k j k' j' (stop_finish stop) → (told stop s).kind ≡ fault.Memory → world.room < room ty m
+  told_memory (Fault kind place) h e = absurd (no_run kind (followed_kind m ty order no_values s h) (rw e tt))
+  told_memory Limit h e = cc
+  told_memory Device h e = cc
+  told_memory Memory h e = let f = followed_room m ty order no_values s h in let less : world.room < 0 + 0 + room ty m = f.1 in omega (arith, less)
+
+  pub told_device : (stop : Stop) → Follows world limit (plan m ty order no_values s) k j k' j' (stop_finish stop) → (told stop s).kind ≡ fault.Device → stop ≡ Device
+  told_device (Fault kind place) h e = absurd (no_run kind (followed_kind m ty order no_values s h) (rw e tt))
+  told_device Limit h e = cc
+  told_device Device h e = refl
+  told_device Memory h e = cc
+
+module _ {world : World} {limit : ℕ} (bits : List ℕ) (ty : PokeType) (order : Order) (s : ℕ) {k j k' j' : ℕ} (known : world.known ≡ Some bits) (within : k' ≤ limit) where
+  pub told_means : (stop : Stop) → Follows world limit (plan (length bits) ty order no_values s) k j k' j' (stop_finish stop) → FaultMeans bits ty order s (limit - k) (told stop s).kind (told stop s).at (k' - k) (j' - j)
+  told_means (Fault kind place) h = answered bits ty order s (limit - k) kind place (k' - k) (j' - j) (followed_kind (length bits) ty order no_values s h) (followed_result bits ty order s known within h)
+  told_means Limit h = followed_too_long bits ty order s known within h
+  told_means Device h = followed_part bits ty order s known within h
+  told_means Memory h = followed_part bits ty order s known within h

@@ -1,0 +1,41 @@
+-- What a mapping gives and answers.
+use Rattle.std.specs.Prelude.{◌≡◌, ℕ, List, Some, Err}
+use Rattle.bit_space.specs.declared.order.Order.{Order}
+use Rattle.pickle_types.specs.declared.table.Node.{Node}
+use Rattle.pickle_types.specs.Types.{PokeType}
+use Rattle.pickle_map.specs.declared.faults.MapFault.{MapFault}
+use Rattle.pickle_map.specs.declared.faults.MapFaultKind.{MapFaultKind}
+use Rattle.pickle_map.specs.declared.faults.MapFaultKind.TheVariants as fault
+use Rattle.pickle_map.specs.declared.mapper.stop.Stop.{Stop}
+use Rattle.pickle_map.specs.declared.mapper.stop.Stop.TheVariants.{Fault, Limit, Device, Memory}
+use Rattle.pickle_map.specs.Answer.{Answer, BrokenOff}
+use Rattle.pickle_map.specs.Shown.{kept}
+use Rattle.pickle_map.specs.Slots.{Held}
+use Rattle.pickle_map.specs.Values.{Value, no_values, pushed}
+
+-- a store that holds one value, with the names of a table, and a fact of that value
+pub record Gives (nodes : List Node) (store : Held) (P : Value → Type 0) : Type 0 where
+  pub value : Value
+  pub keeps : kept nodes store ≡ pushed no_values (Some value)
+  pub holds : P value
+
+-- a stop, as the fault of a mapping that began at s: what ends a run is told there
+abbrev pub told : Stop → (s : ℕ) → MapFault
+told (Fault kind place) s = record { kind = kind; at = place }
+told Limit s = record { kind = fault.Limit; at = s }
+told Device s = record { kind = fault.Device; at = s }
+told Memory s = record { kind = fault.Memory; at = s }
+
+-- What a fault says on these bits: it is the answer under the limit of steps, and the steps and the values made are the
+-- answer's; or, where a device or want of memory broke the mapping off, these are at most the answer's.
+abbrev pub FaultMeans : List ℕ → PokeType → Order → (s limit : ℕ) → MapFaultKind → (at steps made : ℕ) → Type 0
+FaultMeans bits ty order s limit fault.Device at k j = BrokenOff bits ty order s limit k j
+FaultMeans bits ty order s limit fault.Memory at k j = BrokenOff bits ty order s limit k j
+FaultMeans bits ty order s limit kind at k j = Answer bits ty order s limit (Err (kind, at)) k j
+
+-- faults that a run ends with, which no type means
+abbrev pub EndsRun : MapFaultKind → Type 0
+EndsRun fault.Limit = Unit {0}
+EndsRun fault.Device = Unit {0}
+EndsRun fault.Memory = Unit {0}
+EndsRun kind = ⊥
