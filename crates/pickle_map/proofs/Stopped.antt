@@ -1,6 +1,13 @@
 -- What the fault of a mapping says that followed its type's plan.
-use Rattle.std.proofs.Common.{◌≡◌, ℕ, ◌+◌, ◌-◌, ◌<◌, ◌≤◌, length, List, Some, Ok, Err, refl, sym, arith}
+use Rattle.std.proofs.Common.{◌≡◌, ℕ, ◌+◌, ◌-◌, ◌*◌, ◌<◌, ◌≤◌, length, List, Some, Ok, Err, refl, sym, ap, subst, ◌∙◌, arith}
 use Rattle.bit_space.specs.declared.order.Order.{Order}
+use Rattle.bit_space.specs.Bits.{bits_of}
+use Rattle.bit_space.specs.SpaceView.{SpaceView, IsWhole}
+use Rattle.bit_space.proofs.Digits.{length-bits_of}
+use Rattle.pickle_types.specs.declared.table.Node.{Node}
+use Rattle.pickle_map.specs.Shown.{shown_levels, kept}
+use Rattle.pickle_map.specs.Slots.{Held, levels, empty}
+use Rattle.pickle_map.proofs.Held.{none-open}
 use Rattle.pickle_types.specs.Types.{PokeType}
 use Rattle.pickle_types.specs.Bounds.{cost, room}
 use Rattle.pickle_map.specs.declared.faults.MapFaultKind.{MapFaultKind}
@@ -78,3 +85,12 @@ module _ {world : World} {limit : ℕ} (bits : List ℕ) (ty : PokeType) (order 
   told_means Limit h = followed_too_long bits ty order s known within h
   told_means Device h = followed_part bits ty order s known within h
   told_means Memory h = followed_part bits ty order s known within h
+
+-- an empty store keeps no values
+pub none_kept : (nodes : List Node) (store : Held) → store ≡ empty store.room → kept nodes store ≡ no_values
+unfolding kept
+none_kept nodes store e = ap (shown_levels nodes) (ap levels e ∙ none-open store.room)
+
+-- a plan on so many bits as known bytes have
+pub in_bits : {A : Type 0} (P : ℕ → A → Type 0) (a : A) (space : SpaceView) (bytes : List ℕ) → IsWhole space → space.bytes ≡ Some bytes → P (8 * space.len) a → P (length (bits_of bytes)) a
+in_bits P a space bytes whole e h = subst (λ m. P m a) (ap (λ n. 8 * n) (sym (whole bytes e)) ∙ sym (length-bits_of bytes)) h
