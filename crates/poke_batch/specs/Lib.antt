@@ -7,7 +7,6 @@ pub mod BoundText
 pub mod Written
 pub mod Taken
 pub mod Lines
-pub mod First
 pub mod Told
 pub mod Runs
 pub mod Accepted

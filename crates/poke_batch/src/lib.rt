@@ -8,7 +8,7 @@ pub mod accept;
 pub mod ask;
 pub mod bound;
 pub mod dump;
-pub mod first;
+pub mod fault;
 mod hex;
 pub mod lines;
 pub mod mode;

@@ -14,13 +14,15 @@ ghost use Rattle.std.specs.Io.KnownBytes.{Appends};
 use crate::accept::{accept, tell_refusal};
 use crate::ask::Ask;
 use crate::bound::{put_bounds, put_line};
-use crate::first::map::{FirstFault, map_first};
-use crate::first::text::put_value;
-use crate::first::{First, ReadFault};
+use crate::fault::tell_fault;
+use crate::mode::Mode;
+use crate::print::print;
 use crate::status::Status;
-use crate::tell::{answer, fail, fault_at, refuse};
+use crate::tell::{answer, refuse};
 use crate::write::WriteFault;
 use bit_space::{Meter, Space};
+use pickle_map::{Store, map};
+use pickle_types::type_table::{Table, TypeId};
 use std::alloc::Global;
 use std::io::Write;
 
@@ -74,8 +76,12 @@ pub fn run_bound<O: Write, E: Write>(
     }
 }
 
-/// Maps a type of a pickle over a space, and writes its value or the fault that it has. Only structs of unsigned integers of
-/// whole bytes are mapped yet.
+/// For every accepted pickle, type t of it, start and file of m bits, mapping takes at most C(t,m) steps and makes at most
+/// C(t,m) nodes and string bytes, discarded attempts included; where memory suffices, the space is honest and no read or
+/// write fails, the bytes written are the text of the value or fault that t means at that start on the file's bits.
+///
+/// The first half is what [`pickle_map::map`] ensures by its clauses `steps` and `made`, with C the recursion `cost`; the
+/// second is this function's own clause `says`, by `MapsAs`.
 pub fn run_map<S: Space, O: Write, E: Write>(
     alloc: Global,
     pickle: &[u8],
@@ -92,54 +98,40 @@ pub fn run_map<S: Space, O: Write, E: Write>(
         Err(refusal) => return tell_refusal(err, refusal),
     };
     match table.find(ask.name) {
-        Some(_) => map_accepted(alloc, pickle, ask, space, out, err),
+        Some(id) => map_found(alloc, &table, id, ask, space, out, err),
         None => refuse(err, b"NoSuchType"),
     }
 }
 
-fn map_accepted<S: Space, O: Write, E: Write>(
+// Maps a type of a table, and writes its value or tells its fault.
+fn map_found<S: Space, O: Write, E: Write>(
     alloc: Global,
-    pickle: &[u8],
+    table: &Table,
+    id: TypeId,
     ask: &Ask<'_>,
     space: &mut S,
     out: &mut O,
     err: &mut E,
-) -> Status
-    ensures { (declarations : List DeclarationTree) (types : Names) → IsAccepted pickle.now declarations types
-        → Says (MapsAs pickle.now ask.now.name.now ask.now.order ask.now.start ask.now.limit (S.view space.old) (S.view space.new)) result
-        (O.contents out.old) (O.contents out.new) (E.contents err.old) (E.contents err.new) }
-{
-    let first = match First::read(alloc, pickle) {
-        Ok(first) => first,
-        Err(ReadFault::NotYet) => return refuse(err, b"NotYet"),
-        Err(ReadFault::Memory) => return fail(err, b"Memory"),
-    };
-    if !first.is_named(ask.name) || ask.start % 8 != 0 {
-        return refuse(err, b"NotYet");
+) -> Status {
+    let mut meter = Meter::new(ask.limit);
+    let mut store = Store::new(alloc);
+    match map(
+        table, id, ask.order, ask.start, space, &mut meter, &mut store,
+    ) {
+        Ok(()) => answer(put_root(&store, table, ask.mode, out), err),
+        Err(fault) => tell_fault(err, fault),
     }
-    map_asked(alloc, &first, ask, space, out, err)
 }
 
-fn map_asked<S: Space, O: Write, E: Write>(
-    alloc: Global,
-    first: &First,
-    ask: &Ask<'_>,
-    space: &mut S,
-    out: &mut O,
-    err: &mut E,
-) -> Status
-    requires named { ask.now.name.now ≡ name_of first.now }
-    requires whole { ask.now.start % 8 ≡ 0 }
-    ensures { (pickle : List ℕ) → Declares pickle (name_of first.now) (members_of first.now)
-        → Says (MapsAs pickle ask.now.name.now ask.now.order ask.now.start ask.now.limit (S.view space.old) (S.view space.new)) result
-        (O.contents out.old) (O.contents out.new) (E.contents err.old) (E.contents err.new) }
-{
-    let mut meter = Meter::new(ask.limit);
-    match map_first(alloc, first, ask.order, ask.start, space, &mut meter) {
-        Ok(value) => answer(put_value(out, first, &value), err),
-        Err(FirstFault::End(at)) => fault_at(err, b"End", u128::from(at)),
-        Err(FirstFault::Limit(at)) => fault_at(err, b"Limit", u128::from(at)),
-        Err(FirstFault::Device) => fail(err, b"Device"),
-        Err(FirstFault::Memory) => fail(err, b"Memory"),
+// Writes the value that a store holds.
+fn put_root<W: Write>(
+    store: &Store,
+    table: &Table,
+    mode: Mode,
+    w: &mut W,
+) -> Result<(), WriteFault> {
+    match store.root(table) {
+        Some(value) => print(value, mode, w),
+        None => unreachable!(),
     }
 }

@@ -1,6 +1,5 @@
 //! Which pickles are accepted, and what refuses the others.
 
-use poke_batch::first::{First, ReadFault};
 use poke_batch::run::run_check;
 use poke_batch::status::Status;
 use std::alloc::{AllocError, Global};
@@ -183,17 +182,19 @@ fn long_pickle(alloc: Global, fields: u32, length: usize) -> Result<Vec<u8>, All
 #[test]
 fn reads_up_to_the_limits(rt: HostRuntime) -> Result<(), Fail> {
     let alloc = rt.alloc();
-    for (fields, length, steps) in [
-        (1024, 0, Some(2049)),
-        (1025, 0, None),
-        (2, 1_048_576, Some(5)),
-        (2, 1_048_577, None),
-    ] {
+    let rows: [(u32, usize, &[u8], &[u8]); 4] = [
+        (1024, 0, b"types 1\n", b""),
+        (1025, 0, b"", b"refused TooMany\n"),
+        (2, 1_048_576, b"types 1\n", b""),
+        (2, 1_048_577, b"", b"refused TooLong at byte 1048576\n"),
+    ];
+    for (fields, length, text, line) in rows {
         let pickle = long_pickle(alloc, fields, length)?;
-        match First::read(alloc, &pickle) {
-            Ok(first) => assert!(rt; steps == Some(first.step_bound())),
-            Err(fault) => assert!(rt; steps.is_none() && fault == ReadFault::NotYet),
-        }
+        let mut out = Vec::new(alloc);
+        let mut err = Vec::new(alloc);
+        run_check(alloc, &pickle, &mut out, &mut err);
+        assert_eq!(rt; out.as_slice(), text);
+        assert_eq!(rt; err.as_slice(), line);
     }
     Ok(())
 }

@@ -1,11 +1,9 @@
-//! Structs of unsigned integers, from bytes to text.
+//! Mappings, from bytes to text.
 
 use crate::devices::Shifting;
 use crate::streams::Halting;
-use bit_space::{MemSpace, Meter, Order};
+use bit_space::{MemSpace, Order};
 use poke_batch::ask::Ask;
-use poke_batch::first::First;
-use poke_batch::first::map::{FirstFault, map_first};
 use poke_batch::mode::Mode;
 use poke_batch::run::run_map;
 use poke_batch::status::Status;
@@ -19,6 +17,11 @@ const EMPTY: &[u8] = b"type P = struct {};";
 
 /// Widths without a suffix of their own, and the widest ones.
 const WIDE: &[u8] = b"type T = struct { uint<24> a; uint<32> b; uint<40> c; uint<64> d; };";
+
+/// A union of a small number and an array of strings, behind its count.
+const MIXED: &[u8] = b"type N = uint<16>;\n\
+type U = union { N n : n <= 256; struct { byte count; string[count] words; } list; };\n\
+type M = struct { U[2] us; int<8> last : last < 0; offset<uint<8>,B> o; };\n";
 
 const LIMIT: u64 = 1_000_000_000;
 
@@ -129,25 +132,25 @@ fn writes_values_and_faults(rt: HostRuntime) -> Result<(), Fail> {
             PAIR,
             ask(b"byte", 4, Order::Big, LIMIT),
             b"\x01\x02\x03",
+            b"16UB\n",
             b"",
-            b"refused NotYet\n",
-            Status::Refused,
+            Status::Done,
         ),
         (
             PAIR,
             ask(b"P", 4, Order::Big, LIMIT),
             b"\x01\x02\x03",
             b"",
-            b"refused NotYet\n",
-            Status::Refused,
+            b"fault End at 12#b\n",
+            Status::Fault,
         ),
         (
             b"type P = byte;",
             ask(b"P", 0, Order::Big, LIMIT),
             b"",
             b"",
-            b"refused NotYet\n",
-            Status::Refused,
+            b"fault End at 0#b\n",
+            Status::Fault,
         ),
         (
             EMPTY,
@@ -187,68 +190,43 @@ fn writes_values_and_faults(rt: HostRuntime) -> Result<(), Fail> {
 }
 
 #[test]
-fn counts_steps_and_values(rt: HostRuntime) -> Result<(), Fail> {
-    let rows: [(&[u8], &[u8], u64, u64, Option<FirstFault>, u64, u64); 8] = [
-        (PAIR, b"\x01\x02\x03", 0, LIMIT, None, 5, 3),
-        (PAIR, b"\x01\x02", 0, LIMIT, Some(FirstFault::End(8)), 5, 1),
+fn maps_unions_arrays_and_strings(rt: HostRuntime) -> Result<(), Fail> {
+    let rows: [(&[u8], &[u8], &[u8], Status); 4] = [
         (
-            PAIR,
-            b"\x01\x02\x03",
-            0,
-            4,
-            Some(FirstFault::Limit(0)),
-            4,
-            1,
+            b"\x01\x00\x02a\x00bc\"\x00\xff\x07",
+            b"M {us=[U {n=256UH},U {list=struct {count=2UB,words=[\"a\",\"bc\\\"\"]}}],last=-1B,o=7UB#B}\n",
+            b"",
+            Status::Done,
         ),
         (
-            PAIR,
-            b"\x01\x02\x03",
-            0,
-            3,
-            Some(FirstFault::Limit(0)),
-            3,
-            1,
+            b"\x01\x00\x02a\x00bc",
+            b"",
+            b"fault End at 40#b\n",
+            Status::Fault,
         ),
         (
-            PAIR,
-            b"\x01\x02\x03",
-            0,
-            2,
-            Some(FirstFault::Limit(0)),
-            2,
-            0,
+            b"\x01\x00\x02\x00\x00\x07",
+            b"",
+            b"fault Constraint at 40#b\n",
+            Status::Fault,
         ),
         (
-            PAIR,
-            b"\x01\x02\x03",
-            0,
-            0,
-            Some(FirstFault::Limit(0)),
-            0,
-            0,
+            b"\x01\x00\x02\x00\x00\xff",
+            b"",
+            b"fault End at 48#b\n",
+            Status::Fault,
         ),
-        (EMPTY, b"", 0, LIMIT, None, 1, 1),
-        (EMPTY, b"", 8, 0, Some(FirstFault::End(8)), 0, 0),
     ];
-    for (pickle, bytes, start, limit, fault, steps, made) in rows {
-        let first = First::read(rt.alloc(), pickle)?;
+    for (bytes, text, line, expected) in rows {
         let mut space = MemSpace::new(bytes.to_vec(rt.alloc())?)?;
-        let mut meter = Meter::new(limit);
-        if start % 8 == 0 {
-            let mapped = map_first(
-                rt.alloc(),
-                &first,
-                Order::Big,
-                start,
-                &mut space,
-                &mut meter,
-            );
-            assert!(rt; mapped.err() == fault);
-        }
-        assert_eq!(rt; meter.steps(), steps);
-        assert_eq!(rt; meter.made(), made);
+        let mut out = Vec::new(rt.alloc());
+        let mut err = Vec::new(rt.alloc());
+        let ask = ask(b"M", 0, Order::Big, LIMIT);
+        let status = run_map(rt.alloc(), MIXED, &ask, &mut space, &mut out, &mut err);
+        assert_eq!(rt; err.as_slice(), line);
+        assert_eq!(rt; out.as_slice(), text);
+        assert_eq!(rt; status, expected);
     }
-    assert!(rt; First::read(rt.alloc(), PAIR)?.step_bound() == 5);
     Ok(())
 }
 

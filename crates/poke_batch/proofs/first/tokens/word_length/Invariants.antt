@@ -1,6 +1,0 @@
-use Rattle.std.proofs.Common.{◌≡◌, ℕ, ◌<◌, true, get_or}
-use Rattle.poke_batch.specs.First.Tokens.{is_word_byte}
-use Rattle.poke_batch.proofs.first.tokens.word_length.Given as goal
-
-abbrev pub invariant-loop-i : goal.invariant-loop-i
-invariant-loop-i l = (k : ℕ) → k < l.i → is_word_byte (get_or l.text k 0) ≡ true

@@ -1,0 +1,32 @@
+//! The lines that tell the faults of a mapping.
+
+use crate::status::Status;
+use crate::tell::{fail, fault_at};
+use pickle_map::{MapFault, MapFaultKind};
+use std::io::Write;
+
+/// Tells a fault of a mapping, at a bit of the file, or what failed outside it.
+pub fn tell_fault<E: Write>(err: &mut E, fault: MapFault) -> Status {
+    match fault.kind {
+        MapFaultKind::Device => fail(err, b"Device"),
+        MapFaultKind::Memory => fail(err, b"Memory"),
+        kind => fault_at(err, kind_name(kind), fault.at),
+    }
+}
+
+/// The name of a fault of a mapping.
+fn kind_name(kind: MapFaultKind) -> &'static [u8] {
+    match kind {
+        MapFaultKind::End => b"End",
+        MapFaultKind::Constraint => b"Constraint",
+        MapFaultKind::Bounds => b"Bounds",
+        MapFaultKind::NoBits => b"NoBits",
+        MapFaultKind::Zero => b"Zero",
+        MapFaultKind::Overflow => b"Overflow",
+        MapFaultKind::Absent => b"Absent",
+        MapFaultKind::Index => b"Index",
+        MapFaultKind::Limit => b"Limit",
+        MapFaultKind::Device => b"Device",
+        MapFaultKind::Memory => b"Memory",
+    }
+}
