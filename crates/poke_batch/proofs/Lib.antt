@@ -7,4 +7,5 @@ pub mod StringTexts
 pub mod MemberTexts
 pub mod Refusing
 pub mod Sayings
+pub mod Mappings
 mod ValueTextRows

@@ -1,5 +1,9 @@
 //! The lines that tell the faults of a mapping.
 
+ghost use Rattle.std.specs.Prelude.{◌≡◌, ℕ, List, Option};
+ghost use Rattle.poke_batch.specs.FaultLines.{fault_kind, fault_saying};
+ghost use Rattle.poke_batch.specs.Told.{IsSaid};
+
 use crate::status::Status;
 use crate::tell::{fail, fault_at};
 use pickle_map::{MapFault, MapFaultKind};
