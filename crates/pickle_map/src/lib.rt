@@ -6,7 +6,6 @@ pub(crate) mod extent;
 pub mod faults;
 pub mod laws;
 pub mod mapper;
-pub mod memory;
 mod names;
 pub mod store;
 pub(crate) mod stored;

@@ -3,9 +3,9 @@ ghost use Rattle.pickle_map.specs.Tree.{Tree, End, parts_of, text_value, Integer
 ghost use Rattle.pickle_map.specs.Levels.{Levels, pushed, outer_of, top_of, extended, text_level, FitsIn};
 ghost use Rattle.pickle_map.specs.Slots.{levels, IsNumber, number_value, number_in, IsContentNumber, IsComposite, composite_label};
 
-use crate::memory::Memory;
 use crate::store::Store;
 use crate::store::slots::{Family, Link, Node, Shape};
+use bit_space::Memory;
 use std::alloc::AllocError;
 
 // Moves the links above a mark, for which there is room.

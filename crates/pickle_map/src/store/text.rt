@@ -3,9 +3,9 @@ ghost use Rattle.pickle_map.specs.Tree.{text_value};
 ghost use Rattle.pickle_map.specs.Levels.{Levels, pushed, text_level, FitsIn};
 ghost use Rattle.pickle_map.specs.Slots.{levels, innermost, with_text, with_byte, IsShort, IsWriting, IsText, TakesByte, GoesOn};
 
-use crate::memory::Memory;
 use crate::store::Store;
 use crate::store::slots::{Link, Node, Shape};
+use bit_space::Memory;
 
 // Appends bytes, for which there is room.
 fn append(to: &mut Vec<u8>, bytes: &[u8])
