@@ -12,7 +12,7 @@ ghost use Rattle.pickle_map.specs.Room.{NodeSlot, ByteSlot, value_slots};
 ghost use Rattle.pickle_map.specs.Slots.{empty};
 ghost use Rattle.pickle_map.specs.Values.{no_values};
 
-pub mod clauses;
+pub(crate) mod clauses;
 pub(crate) mod keep;
 pub(crate) mod number;
 pub(crate) mod read;

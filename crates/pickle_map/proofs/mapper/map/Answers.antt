@@ -123,4 +123,3 @@ returns-in-Ok-clause-size g c =
     let keeps = rw (c.deref.ensures.value, none) at m.kept in
     let h = rw (c.deref.ensures.value, none, c.from.ensures) at m.follows in
     record { value = m.value; keeps = keeps; holds = followed_size (8 * (g.S.Space.view c.args.space.now).len) (type_of c.args.table.now.nodes.items c.args.id.node) c.args.order no_values c.args.start h }
-
