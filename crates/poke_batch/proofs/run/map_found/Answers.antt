@@ -1,4 +1,3 @@
-use Rattle.std.proofs.Common.{◌∙◌, refl}
 use Rattle.pickle_types.specs.TypeTable.{nodes_of, type_named}
 use Rattle.poke_batch.specs.FaultLines.{fault_saying}
 use Rattle.poke_batch.specs.ValueText.{printed}
