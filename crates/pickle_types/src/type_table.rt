@@ -145,7 +145,7 @@ pub struct TypeId {
 /// The types of a pickle and the predeclared types, found by their names.
 #[derive(Drop)]
 pub struct Table {
-    pub nodes: Vec<Node>,
+    pub(crate) nodes: Vec<Node>,
     /// The nodes of the declared types that are no other names of earlier ones, in rising order.
     pub(crate) roots: Vec<usize>,
     names: Names,
