@@ -33,7 +33,7 @@ use Rattle.pickle_types.proofs.Steps.{fails_bind, views_kept, below_kept, names_
 
 -- a node that is pushed has the type that it opens to
 pub pushed : (old new : Builder) (node : Node) → IsTable old.nodes.items → AreNamed old.nodes.items old.names → NamesBelow (length old.nodes.items) node.shape → IsSoundShape node.shape →
-    new.nodes.items ≡ old.nodes.items ++ node ∷ [] → new.names ≡ old.names → new.seen.items ≡ old.seen.items →
+    new.nodes.items ≡ old.nodes.items ++ node ∷ [] → new.names ≡ old.names → new.seen ≡ old.seen →
     (d at : ℕ) → d ≡ depth (open_shape (type_of old.nodes.items) node.shape) → at ≡ length old.nodes.items →
     IsBuilt old new (record { node = at; depth = d }) (open_shape (type_of old.nodes.items) node.shape)
 pushed old new node table named below sound is same seen d at deep last =
@@ -99,20 +99,20 @@ pub keeps_on : (a b c : Builder) → Keeps a b → Keeps b c → Keeps a c
 keeps_on a b c g h = record { grows = grows_on a.nodes.items b.nodes.items c.nodes.items g.grows h.grows; table = h.table; named = h.named; known = h.known ∙ g.known }
 
 -- what is built on a table that had grown
-pub built_on : (a b c : Builder) (found : Found) (t : PokeType) → Keeps a b → b.seen.items ≡ a.seen.items → IsBuilt b c found t → IsBuilt a c found t
+pub built_on : (a b c : Builder) (found : Found) (t : PokeType) → Keeps a b → b.seen ≡ a.seen → IsBuilt b c found t → IsBuilt a c found t
 built_on a b c found t g s h = record { keeps = keeps_on a b c g h.keeps; seen = h.seen ∙ s; inside = h.inside; type = h.type; deep = h.deep }
 
-pub built_then : (a b c : Builder) (r : Result Found FaultKind) (given whole : Result PokeType FaultKind) → Keeps a b → b.seen.items ≡ a.seen.items → whole ≡ given → Builds b c r given → Builds a c r whole
+pub built_then : (a b c : Builder) (r : Result Found FaultKind) (given whole : Result PokeType FaultKind) → Keeps a b → b.seen ≡ a.seen → whole ≡ given → Builds b c r given → Builds a c r whole
 built_then a b c (Ok found) given whole g s e h = (h.0, e ∙ h.1, built_on a b c found h.0 g s h.2)
 built_then a b c (Err Memory) given whole g s e h = tt
 built_then a b c (Err _) given whole g s e h = e ∙ h
 
 -- what is seen is the same over a table that grew
-pub visible_kept : (old new : Builder) → IsTable old.nodes.items → Keeps old new → new.seen.items ≡ old.seen.items → (levels : ℕ) → AreBelow (length old.nodes.items) levels old.seen.items → visible_in new ≡ visible_in old
-visible_kept old new table keeps same levels below = rw same (views_kept old.nodes.items new.nodes.items table keeps.grows levels old.seen.items below)
+pub visible_kept : (old new : Builder) → IsTable old.nodes.items → Keeps old new → new.seen ≡ old.seen → (levels : ℕ) → AreBelow (length old.nodes.items) levels old.seen → visible_in new ≡ visible_in old
+visible_kept old new table keeps same levels below = rw same (views_kept old.nodes.items new.nodes.items table keeps.grows levels old.seen below)
 
-pub seen_kept : (old new : Builder) → IsTable old.nodes.items → Keeps old new → new.seen.items ≡ old.seen.items → (levels : ℕ) → AreBelow (length old.nodes.items) levels old.seen.items → AreBelow (length new.nodes.items) levels new.seen.items
-seen_kept old new table keeps same levels below = rw same (below_kept old.nodes.items new.nodes.items table keeps.grows levels old.seen.items below)
+pub seen_kept : (old new : Builder) → IsTable old.nodes.items → Keeps old new → new.seen ≡ old.seen → (levels : ℕ) → AreBelow (length old.nodes.items) levels old.seen → AreBelow (length new.nodes.items) levels new.seen
+seen_kept old new table keeps same levels below = rw same (below_kept old.nodes.items new.nodes.items table keeps.grows levels old.seen below)
 
 pub array_depth : (t : PokeType) (b : Bound) → depth (ArrayOf t b) ≡ 1 + depth t
 unfolding depth
@@ -255,8 +255,8 @@ after_below n levels seen s place.Union below h = below
 
 -- a field that is built on a table that stays as it is
 pub field_built : (old new : Builder) (s : Seen) (here : Place) (index : ℕ) (parts : FieldParts) (field : Field) →
-    IsTable old.nodes.items → AreNamed old.nodes.items old.names → AreBelow (length old.nodes.items) (s.level + 1) old.seen.items → s.node < length old.nodes.items →
-    new.names ≡ old.names → new.nodes.items ≡ old.nodes.items → new.seen.items ≡ after_itself here old.seen.items s →
+    IsTable old.nodes.items → AreNamed old.nodes.items old.names → AreBelow (length old.nodes.items) (s.level + 1) old.seen → s.node < length old.nodes.items →
+    new.names ≡ old.names → new.nodes.items ≡ old.nodes.items → new.seen ≡ after_itself here old.seen s →
     bytes_now s.name ≡ parts.name → s.place ≡ place_in here index → field.node ≡ s.node → name_of field.name ≡ parts.name → field.order ≡ parts.order →
     IsFieldBuilt old new here s.level index parts field
     (record { type = type_of old.nodes.items s.node; constraint = optional_term field.constraint; label = optional_term field.label; condition = optional_term field.condition })
@@ -267,9 +267,9 @@ field_built old new s here index parts field table named below inside names node
       name = name;
       type = rw (nodes, node) refl;
       opened = λ rest. rw (nodes, node, name, order) refl;
-      below = rw (nodes, seen) (after_below (length old.nodes.items) (s.level + 1) old.seen.items s here below (record { node = inside; level = omega arith }));
-      kept = rw seen (after_kept old.seen.items s here);
-      seen = rw (nodes, seen) (after_views old.nodes.items old.seen.items s here _ (itself_seen old.nodes.items old.seen.items s here index parts en ep));
+      below = rw (nodes, seen) (after_below (length old.nodes.items) (s.level + 1) old.seen s here below (record { node = inside; level = omega arith }));
+      kept = rw seen (after_kept old.seen s here);
+      seen = rw (nodes, seen) (after_views old.nodes.items old.seen s here _ (itself_seen old.nodes.items old.seen s here index parts en ep));
     }
 
 pub field_meaning_is : (names : Names) (here : Place) (seen : List Visible) (levels : ℕ) (before : List (Option (List ℕ))) (parts : FieldParts) (t : PokeType) (l d c : Option Term) →
@@ -329,7 +329,7 @@ no_alternative [] e = refl
 no_alternative (f ∷ fs) e = absurd (omega arith)
 
 -- a field that is built on a table that had grown
-pub field_on : (a b c : Builder) (here : Place) (levels index : ℕ) (parts : FieldParts) (field : Field) (f : FieldMeaning) → Keeps a b → b.seen.items ≡ a.seen.items → visible_in b ≡ visible_in a →
+pub field_on : (a b c : Builder) (here : Place) (levels index : ℕ) (parts : FieldParts) (field : Field) (f : FieldMeaning) → Keeps a b → b.seen ≡ a.seen → visible_in b ≡ visible_in a →
     IsFieldBuilt b c here levels index parts field f → IsFieldBuilt a c here levels index parts field f
 field_on a b c here levels index parts field f g s v h = record {
   keeps = keeps_on a b c g h.keeps;

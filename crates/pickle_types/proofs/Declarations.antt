@@ -31,7 +31,7 @@ pub record IsAdded (old new : Builder) (word : List ℕ) (node : ℕ) : Type 0 w
 
 -- one more name
 pub added : (old new : Builder) (word : List ℕ) (d : Declared) → IsReady old → AddsEntry old.names.map.entries new.names.map.entries word d →
-    new.nodes.items ≡ old.nodes.items → new.seen.items ≡ old.seen.items → IsNamed old.nodes.items d → IsAdded old new word d.node
+    new.nodes.items ≡ old.nodes.items → new.seen ≡ old.seen → IsNamed old.nodes.items d → IsAdded old new word d.node
 added old new word d ready adds nodes seen named =
     let values = values_append old.names.map.entries ((adds.key, d) ∷ []) in
     record {

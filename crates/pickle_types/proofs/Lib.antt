@@ -12,3 +12,4 @@ pub mod Buildings
 pub mod Forms
 pub mod Declarations
 pub mod IllTyped
+pub mod Places

@@ -24,7 +24,7 @@ known_types b = names_of b.nodes.items b.names
 
 -- the fields that are seen
 abbrev pub visible_in : Builder → List Visible
-visible_in b = views_of b.nodes.items b.seen.items
+visible_in b = views_of b.nodes.items b.seen
 
 -- what the parts after a field see besides: in a union nothing
 abbrev pub after_itself : Place → List Seen → Seen → List Seen
@@ -43,7 +43,7 @@ pub record Keeps (old new : Builder) : Type 0 where
 -- a node of a table that grew has a type
 pub record IsBuilt (old new : Builder) (found : Found) (t : PokeType) : Type 0 where
   pub keeps : Keeps old new
-  pub seen : new.seen.items ≡ old.seen.items
+  pub seen : new.seen ≡ old.seen
   pub inside : found.node < length new.nodes.items
   pub type : type_of new.nodes.items found.node ≡ t
   pub deep : found.depth ≡ depth t
@@ -60,8 +60,8 @@ pub record IsFieldBuilt (old new : Builder) (place : Place) (levels index : ℕ)
   pub name : name_of field.name ≡ parts.name
   pub type : type_of new.nodes.items field.node ≡ f.type
   pub opened : (rest : Fields) → fields_onto (type_of new.nodes.items) (field ∷ []) rest ≡ field_then parts f rest
-  pub below : AreBelow (length new.nodes.items) (levels + 1) new.seen.items
-  pub kept : take (length old.seen.items) new.seen.items ≡ old.seen.items
+  pub below : AreBelow (length new.nodes.items) (levels + 1) new.seen
+  pub kept : take (length old.seen) new.seen ≡ old.seen
   pub seen : visible_in new ≡ after_field place (visible_in old) (with_itself place (visible_in old) levels index parts f.type)
 
 abbrev pub FieldGives : Builder → Builder → Place → ℕ → ℕ → FieldParts → Result Field FaultKind → Result FieldMeaning FaultKind → Type 0
@@ -75,7 +75,7 @@ FieldBuilds old new place levels index parts (Err e) given = Fails e given
 
 pub record AreBuilt (old new : Builder) (fields : List Field) (deepest : ℕ) (fs : Fields) : Type 0 where
   pub keeps : Keeps old new
-  pub seen : new.seen.items ≡ old.seen.items
+  pub seen : new.seen ≡ old.seen
   pub below : FieldsBelow (length new.nodes.items) fields
   pub opened : open_fields (type_of new.nodes.items) fields ≡ fs
   pub deep : deepest ≡ fields_depth fs
@@ -99,7 +99,7 @@ pub record FieldsSoFar (old new : Builder) (fields : List Field) (deepest : ℕ)
 pub record IsReady (b : Builder) : Type 0 where
   pub table : IsTable b.nodes.items
   pub named : AreNamed b.nodes.items b.names
-  pub none : b.seen.items ≡ []
+  pub none : b.seen ≡ []
 
 -- what a declaration added
 abbrev pub AddsType : Builder → Builder → List ℕ → Result ℕ FaultKind → Result PokeType FaultKind → Type 0

@@ -3,6 +3,7 @@ pub mod Sound
 pub mod Table
 pub mod Bounds
 pub mod Scopes
+pub mod Innermost
 pub mod Names
 pub mod Operators
 pub mod Expressions

@@ -19,6 +19,7 @@ use crate::fault::{FaultKind, TypeFault};
 use crate::integer::IntegerType;
 use crate::names::{Declared, Names, find_name, insert};
 use crate::predeclared::PREDECLARED;
+use crate::scopes::Scopes;
 use crate::table::{Node, Shape};
 use pickle_syntax::tree::{Declaration, Pickle};
 use std::alloc::Global;
@@ -32,7 +33,7 @@ impl<'n> Builder<'n> {
             alloc,
             names: Names::new(alloc),
             nodes: Vec::new(alloc),
-            seen: Vec::new(alloc),
+            seen: Scopes::new(alloc),
         }
     }
 

@@ -14,7 +14,7 @@ use crate::check::sorts::{Meant, Sort, element_of, field_of, operand_of};
 use crate::fault::FaultKind;
 use crate::integer::IntegerType;
 use crate::names::Names;
-use crate::scopes::{Seen, resolve};
+use crate::scopes::Scopes;
 use crate::table::{Node, Resolved};
 use pickle_syntax::token::{Attribute, Number};
 use pickle_syntax::tree::{Expression, Infix, Prefix, Suffix, Target, Unit};
@@ -74,12 +74,12 @@ fn text(alloc: Global, bytes: &[u8]) -> Result<Meant, FaultKind>
 }
 
 /// A name is the open level of the field that is meant, counted from the innermost, and its place there.
-fn name(seen: &[Seen], levels: u8, word: &[u8]) -> Result<Meant, FaultKind>
+fn name(seen: &Scopes, levels: u8, word: &[u8]) -> Result<Meant, FaultKind>
     requires below { (n : ℕ) × AreBelow n levels seen.now }
     ensures gives { (nodes : List Node) → Gives (meant_of nodes) result (resolved (views_of nodes seen.now) levels word.now) }
     ensures sound { (nodes : List Node) → AreBelow (length nodes) levels seen.now → IfOk result (IsSoundMeant nodes) }
 {
-    match resolve(seen, word) {
+    match seen.resolve(word) {
         Some(s) => Ok(Meant {
             term: Resolved::Name(usize::from(levels - 1 - s.level), s.place),
             sort: Sort::Node(s.node),
@@ -335,7 +335,7 @@ pub fn typed(
     alloc: Global,
     names: &Names,
     nodes: &[Node],
-    seen: &[Seen],
+    seen: &Scopes,
     levels: u8,
     e: &Expression,
 ) -> Result<Meant, FaultKind>

@@ -20,7 +20,7 @@ use crate::check::references::{in_range, integer_referred, offset_parts};
 use crate::check::sorts::{has_width, operand_of};
 use crate::fault::FaultKind;
 use crate::names::{Names, find_name};
-use crate::scopes::Seen;
+use crate::scopes::{Scopes, Seen};
 use crate::table::{Extent, Field, Node, Resolved, Shape};
 use pickle_syntax::tree;
 use pickle_syntax::tree::{Expression, Form, Reference, Unit};
@@ -46,7 +46,7 @@ pub struct Builder<'n> {
     pub alloc: Global,
     pub names: Names,
     pub nodes: Vec<Node>,
-    pub seen: Vec<Seen<'n>>,
+    pub seen: Scopes<'n>,
 }
 
 impl<'n> Builder<'n> {
@@ -59,7 +59,7 @@ impl<'n> Builder<'n> {
     ) -> Result<Option<Resolved>, FaultKind>
         requires table { IsTable self.now.nodes.items }
         requires names { AreNamed self.now.nodes.items self.now.names }
-        requires seen { AreBelow (length self.now.nodes.items) levels self.now.seen.items }
+        requires seen { AreBelow (length self.now.nodes.items) levels self.now.seen }
         ensures gives { Gives optional_term result (integer_expression (known_types self.now) (visible_in self.now) levels (optional_tree e.now)) }
         ensures sound { IfOk result (λ c. IsSoundClause (optional_term c)) }
     {
@@ -80,7 +80,7 @@ impl<'n> Builder<'n> {
     ) -> Result<Option<Resolved>, FaultKind>
         requires table { IsTable self.now.nodes.items }
         requires names { AreNamed self.now.nodes.items self.now.names }
-        requires seen { AreBelow (length self.now.nodes.items) levels self.now.seen.items }
+        requires seen { AreBelow (length self.now.nodes.items) levels self.now.seen }
         ensures gives { Gives optional_term result (offset_expression (known_types self.now) (visible_in self.now) levels (optional_tree e.now)) }
         ensures sound { IfOk result (λ c. IsSoundClause (optional_term c)) }
     {
@@ -99,7 +99,7 @@ impl<'n> Builder<'n> {
     fn bound_expression(&self, levels: u8, e: &Option<Expression>) -> Result<Extent, FaultKind>
         requires table { IsTable self.now.nodes.items }
         requires names { AreNamed self.now.nodes.items self.now.names }
-        requires seen { AreBelow (length self.now.nodes.items) levels self.now.seen.items }
+        requires seen { AreBelow (length self.now.nodes.items) levels self.now.seen }
         ensures gives { Gives bound_of result (bound_expression (known_types self.now) (visible_in self.now) levels (optional_tree e.now)) }
         ensures sound { IfOk result (λ b. IsSoundBound (bound_of b)) }
     {
@@ -125,12 +125,12 @@ impl<'n> Builder<'n> {
         requires names { AreNamed self.old.nodes.items self.old.names }
         requires level { itself.level < 64 }
         requires inside { itself.node < length self.old.nodes.items }
-        requires seen { AreBelow (length self.old.nodes.items) (itself.level + 1) self.old.seen.items }
-        ensures gives { Gives optional_term result (integer_expression (known_types self.old) (views_of self.old.nodes.items (self.old.seen.items ++ itself.entry ∷ [])) (itself.entry.level + 1) (optional_tree e.now)) }
+        requires seen { AreBelow (length self.old.nodes.items) (itself.level + 1) self.old.seen }
+        ensures gives { Gives optional_term result (integer_expression (known_types self.old) (views_of self.old.nodes.items (self.old.seen ++ itself.entry ∷ [])) (itself.entry.level + 1) (optional_tree e.now)) }
         ensures sound { IfOk result (λ c. IsSoundClause (optional_term c)) }
         ensures names { self.new.names ≡ self.old.names }
         ensures nodes { self.new.nodes.items ≡ self.old.nodes.items }
-        ensures seen { OnOk result (self.new.seen.items ≡ after_itself place self.old.seen.items itself.entry) }
+        ensures seen { OnOk result (self.new.seen ≡ after_itself place self.old.seen itself.entry) }
     {
         let mark = self.seen.len();
         self.seen.push(itself)?;
@@ -152,7 +152,7 @@ impl<'n> Builder<'n> {
     ) -> Result<Field, FaultKind>
         requires table { IsTable self.old.nodes.items }
         requires names { AreNamed self.old.nodes.items self.old.names }
-        requires seen { AreBelow (length self.old.nodes.items) (levels + 1) self.old.seen.items }
+        requires seen { AreBelow (length self.old.nodes.items) (levels + 1) self.old.seen }
         requires few { levels < 64 }
         requires inside { found.node < length self.old.nodes.items }
         ensures gives { FieldGives self.old self.new place levels (length before.now) (field_tree written.now).parts result (field_meaning (known_types self.old) place (visible_in self.old) levels (names_in before.now) (field_tree written.now).parts (Ok (type_of self.old.nodes.items found.node))) }
@@ -279,7 +279,7 @@ impl<'n> Builder<'n> {
     ) -> Result<Found, FaultKind>
         requires table { IsTable self.old.nodes.items }
         requires names { AreNamed self.old.nodes.items self.old.names }
-        requires seen { AreBelow (length self.old.nodes.items) levels self.old.seen.items }
+        requires seen { AreBelow (length self.old.nodes.items) levels self.old.seen }
         requires few { levels + room ≤ 64 }
         ensures builds { Builds self.old self.new result (meaning (known_types self.old) (visible_in self.old) levels (bytes_now title.entry.name) room (form_tree form.now)) }
         ensures low { IfOk result (λ found. found.depth ≤ room) }
@@ -311,7 +311,7 @@ impl<'n> Builder<'n> {
     ) -> Result<Found, FaultKind>
         requires table { IsTable self.old.nodes.items }
         requires names { AreNamed self.old.nodes.items self.old.names }
-        requires seen { AreBelow (length self.old.nodes.items) levels self.old.seen.items }
+        requires seen { AreBelow (length self.old.nodes.items) levels self.old.seen }
         requires some { 0 < room }
         requires few { levels + room ≤ 64 }
         ensures builds { Builds self.old self.new result (meaning (known_types self.old) (visible_in self.old) levels (bytes_now title.entry.name) room (ArrayForm (form_tree element.now) (optional_tree bound.now))) }
@@ -341,7 +341,7 @@ impl<'n> Builder<'n> {
     ) -> Result<Found, FaultKind>
         requires table { IsTable self.old.nodes.items }
         requires names { AreNamed self.old.nodes.items self.old.names }
-        requires seen { AreBelow (length self.old.nodes.items) levels self.old.seen.items }
+        requires seen { AreBelow (length self.old.nodes.items) levels self.old.seen }
         requires some { 0 < room }
         requires few { levels + room ≤ 64 }
         ensures builds { Builds self.old self.new result (meaning (known_types self.old) (visible_in self.old) levels (bytes_now title.entry.name) room (StructForm pinned (fields_tree written.now))) }
@@ -371,7 +371,7 @@ impl<'n> Builder<'n> {
     ) -> Result<Found, FaultKind>
         requires table { IsTable self.old.nodes.items }
         requires names { AreNamed self.old.nodes.items self.old.names }
-        requires seen { AreBelow (length self.old.nodes.items) levels self.old.seen.items }
+        requires seen { AreBelow (length self.old.nodes.items) levels self.old.seen }
         requires some { 0 < room }
         requires few { levels + room ≤ 64 }
         ensures builds { Builds self.old self.new result (meaning (known_types self.old) (visible_in self.old) levels (bytes_now title.entry.name) room (IntegralForm (reference_tree reference.now) (fields_tree written.now))) }
@@ -405,7 +405,7 @@ impl<'n> Builder<'n> {
     ) -> Result<Found, FaultKind>
         requires table { IsTable self.old.nodes.items }
         requires names { AreNamed self.old.nodes.items self.old.names }
-        requires seen { AreBelow (length self.old.nodes.items) levels self.old.seen.items }
+        requires seen { AreBelow (length self.old.nodes.items) levels self.old.seen }
         requires some { 0 < room }
         requires few { levels + room ≤ 64 }
         ensures builds { Builds self.old self.new result (meaning (known_types self.old) (visible_in self.old) levels (bytes_now title.entry.name) room (UnionForm (fields_tree written.now))) }
@@ -432,7 +432,7 @@ impl<'n> Builder<'n> {
     ) -> Result<(Field, u8), FaultKind>
         requires table { IsTable self.old.nodes.items }
         requires names { AreNamed self.old.nodes.items self.old.names }
-        requires seen { AreBelow (length self.old.nodes.items) (levels + 1) self.old.seen.items }
+        requires seen { AreBelow (length self.old.nodes.items) (levels + 1) self.old.seen }
         requires few { levels + 1 + room ≤ 64 }
         ensures builds { FieldBuilds self.old self.new place levels (length before.now) (field_tree written.now).parts result (field_meaning (known_types self.old) place (visible_in self.old) levels (names_in before.now) (field_tree written.now).parts (meaning (known_types self.old) (visible_in self.old) (levels + 1) None room (field_tree written.now).form)) }
         ensures sound { IfOk result (λ x. IsSoundField x.0) }
@@ -463,7 +463,7 @@ impl<'n> Builder<'n> {
     ) -> Result<(Vec<Field>, u8), FaultKind>
         requires table { IsTable self.old.nodes.items }
         requires names { AreNamed self.old.nodes.items self.old.names }
-        requires seen { AreBelow (length self.old.nodes.items) levels self.old.seen.items }
+        requires seen { AreBelow (length self.old.nodes.items) levels self.old.seen }
         requires few { levels + 1 + room ≤ 64 }
         ensures builds { FieldsBuild self.old self.new result (fields_meaning (known_types self.old) place (visible_in self.old) levels room [] (fields_tree written.now)) }
         ensures sound { IfOk result (λ x. All IsSoundField x.0.items) }

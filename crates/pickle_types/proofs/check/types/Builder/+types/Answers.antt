@@ -221,7 +221,7 @@ fields_at-loop-f-preserved t c =
     let more = so_far_more a b n c.loop-f.fields.items c.in_ok-field.field c.loop-f.deepest c.in_ok-field.depth c.args.place c.args.levels _ _ h.0 _ _ _ i.so_far h.2 h.3 (rw e next) in
     record {
       low = rw c.max-deepest.ensures (omega arith);
-      kept = kept_on c.len-mark.result a.seen.items b.seen.items n.seen.items i.kept (omega arith) h.2.kept;
+      kept = kept_on c.len-mark.result a.seen b.seen n.seen i.kept (omega arith) h.2.kept;
       below = h.2.below;
       sound = rw c.in_ok-push.ensures.items (All-append IsSoundField c.loop-f.fields.items (c.in_ok-field.field ∷ []) i.sound (λ k d lt. let z : k ≡ 0 = omega arith in rw z c.in_ok-field.ensures.sound));
       so_far = rw (c.in_ok-push.ensures.items, c.max-deepest.ensures) more;
