@@ -13,3 +13,4 @@ pub mod Forms
 pub mod Declarations
 pub mod IllTyped
 pub mod Places
+pub mod Placed

@@ -4,6 +4,7 @@ pub mod Table
 pub mod Bounds
 pub mod Scopes
 pub mod Innermost
+pub mod FieldPlaces
 pub mod Names
 pub mod Operators
 pub mod Expressions

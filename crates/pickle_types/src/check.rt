@@ -1,6 +1,7 @@
 //! The type rules.
 
 pub mod expressions;
+pub mod field_list;
 pub mod fields;
 pub mod operators;
 pub mod places;

@@ -7,10 +7,10 @@ ghost use Rattle.pickle_types.specs.Table.{name_of, optional_term, open_fields, 
 ghost use Rattle.pickle_types.specs.Meaning.{has_name, fresh, may_stand, if_here, struct_place, place_in, parts_of, total_width};
 ghost use Rattle.pickle_types.specs.Built.{Gives, bytes_now, names_in, part_of};
 
+use crate::check::field_list::FieldList;
 use crate::check::places::Place;
 use crate::check::sorts::width_of;
 use crate::fault::FaultKind;
-use crate::scopes::is_named;
 use crate::table::{Field, Node, Part};
 use pickle_syntax::tree;
 use pickle_syntax::tree::{ByteOrder, Expression, Form};
@@ -85,26 +85,15 @@ pub fn stand(place: Place, bits: bool, field: &tree::Field) -> Result<(), FaultK
     }
 }
 
-fn has_name(fields: &[Field], word: &[u8]) -> bool
-    ensures { result ≡ has_name word.now (names_in fields.now) }
-{
-    for f in fields {
-        if is_named(f.name.as_deref(), word) {
-            return true;
-        }
-    }
-    false
-}
-
 /// That no earlier field has this name.
 #[tactic(auto, unfolding(crate::specs::Meaning::fresh))]
-pub fn fresh(name: Option<&[u8]>, fields: &[Field]) -> Result<(), FaultKind>
+pub fn fresh(name: Option<&[u8]>, fields: &FieldList) -> Result<(), FaultKind>
     ensures { Gives (λ u. u) result (fresh (bytes_now name.entry) (names_in fields.now)) }
 {
     match name {
         None => Ok(()),
         Some(word) => {
-            if has_name(fields, word) {
+            if fields.has_name(word) {
                 return Err(FaultKind::DuplicateField);
             }
             Ok(())

@@ -5,11 +5,12 @@ ghost use Rattle.pickle_syntax.specs.Tree.{reference_tree, optional_tree, form_t
 ghost use Rattle.pickle_types.specs.Types;
 ghost use Rattle.pickle_types.specs.Sound.{IsSoundClause, IsSoundBound};
 ghost use Rattle.pickle_types.specs.Table.{optional_term, bound_of, type_of, open_shape, IsTable, NamesBelow, IsSoundField, IsSoundShape};
-ghost use Rattle.pickle_types.specs.Meaning.{integer_expression, offset_expression, bound_expression, integer_type, called, plain, offset_type, field_meaning, struct_place, meaning, fields_meaning};
+ghost use Rattle.pickle_types.specs.Meaning.{fresh, integer_expression, offset_expression, bound_expression, integer_type, called, plain, offset_type, field_meaning, struct_place, meaning, fields_meaning};
 ghost use Rattle.pickle_types.specs.Built.{Gives, bytes_now, views_of, AreNamed, AreBelow, names_in};
 ghost use Rattle.pickle_types.specs.Building.{known_types, visible_in, after_itself, Builds, FieldGives, FieldBuilds, FieldsBuild};
 
 use crate::check::expressions::{integer, typed};
+use crate::check::field_list::FieldList;
 use crate::check::fields::{
     condition_in, constraint_in, copied, form_in, fresh, label_in, name_in, order_in, parts_from,
     place_in, stand, struct_place, total_width,
@@ -147,7 +148,7 @@ impl<'n> Builder<'n> {
         place: Place,
         levels: u8,
         found: Found,
-        before: &[Field],
+        before: &FieldList,
         written: &'n tree::Field,
     ) -> Result<Field, FaultKind>
         requires table { IsTable self.old.nodes.items }
@@ -157,6 +158,7 @@ impl<'n> Builder<'n> {
         requires inside { found.node < length self.old.nodes.items }
         ensures gives { FieldGives self.old self.new place levels (length before.now) (field_tree written.now).parts result (field_meaning (known_types self.old) place (visible_in self.old) levels (names_in before.now) (field_tree written.now).parts (Ok (type_of self.old.nodes.items found.node))) }
         ensures sound { IfOk result IsSoundField }
+        ensures fresh { IfOk result (λ _. fresh (field_tree written.now).parts.name (names_in before.now) ≡ Ok tt) }
         ensures node { IfOk result (λ field. field.node ≡ found.node) }
     {
         let bits = has_width(&self.nodes, found.node);
@@ -427,7 +429,7 @@ impl<'n> Builder<'n> {
         place: Place,
         levels: u8,
         room: u8,
-        before: &[Field],
+        before: &FieldList,
         written: &'n tree::Field,
     ) -> Result<(Field, u8), FaultKind>
         requires table { IsTable self.old.nodes.items }
@@ -436,6 +438,7 @@ impl<'n> Builder<'n> {
         requires few { levels + 1 + room ≤ 64 }
         ensures builds { FieldBuilds self.old self.new place levels (length before.now) (field_tree written.now).parts result (field_meaning (known_types self.old) place (visible_in self.old) levels (names_in before.now) (field_tree written.now).parts (meaning (known_types self.old) (visible_in self.old) (levels + 1) None room (field_tree written.now).form)) }
         ensures sound { IfOk result (λ x. IsSoundField x.0) }
+        ensures fresh { IfOk result (λ _. fresh (field_tree written.now).parts.name (names_in before.now) ≡ Ok tt) }
         ensures low { IfOk result (λ x. x.1 ≤ room) }
     {
         let found = self.type_at(
@@ -470,14 +473,14 @@ impl<'n> Builder<'n> {
         ensures low { IfOk result (λ x. x.1 ≤ room) }
     {
         let mark = self.seen.len();
-        let mut fields = Vec::new(self.alloc);
+        let mut fields = FieldList::new(self.alloc);
         let mut deepest: u8 = 0;
         for f in written {
             let (field, depth) = self.field_at(place, levels, room, &fields, f)?;
-            fields.push(field)?;
+            fields.push(name_in(f), field)?;
             deepest = deepest.max(depth);
         }
         self.seen.truncate(mark);
-        Ok((fields, deepest))
+        Ok((fields.into_fields(), deepest))
     }
 }

@@ -202,8 +202,8 @@ fields_at-loop-f-init t c = record {
   low = omega arith;
   kept = take_all _ _ (omega arith);
   below = λ k d lt. let b = c.requires.seen k d lt in record { node = b.node; level = omega arith };
-  sound = rw c.new-fields.ensures.items (λ k d lt. absurd (omega arith));
-  so_far = rw c.new-fields.ensures.items (so_far_none c.args.self.now [] _ c.requires.table c.requires.names refl);
+  sound = rw c.new-fields.ensures (λ k d lt. absurd (omega arith));
+  so_far = rw c.new-fields.ensures (so_far_none c.args.self.now [] _ c.requires.table c.requires.names refl);
 }
 
 pub fields_at-loop-f-preserved : goal.fields_at-loop-f-preserved
@@ -215,16 +215,15 @@ fields_at-loop-f-preserved t c =
     let h = c.in_ok-field.ensures.builds in
     let low = c.in_ok-field.ensures.low in
     let e = drop_item c.args.written.now c.loop-f.f-index c.f-item.result (omega arith) c.f-item.is in
-    let given = rw (i.so_far.keeps.known, c.deref.ensures.value) at h.1 in
-    let seen = rw c.deref.ensures.value at h.2.seen in
-    let next = fields_next (known_types a) c.args.place (visible_in b) (visible_in n) c.args.levels c.args.room c.loop-f.fields.items c.in_ok-field.field c.f-item.result (drop (c.loop-f.f-index + 1) c.args.written.now) h.0 given h.2.name seen in
-    let more = so_far_more a b n c.loop-f.fields.items c.in_ok-field.field c.loop-f.deepest c.in_ok-field.depth c.args.place c.args.levels _ _ h.0 _ _ _ i.so_far h.2 h.3 (rw e next) in
+    let given = rw i.so_far.keeps.known at h.1 in
+    let next = fields_next (known_types a) c.args.place (visible_in b) (visible_in n) c.args.levels c.args.room c.loop-f.fields c.in_ok-field.field c.f-item.result (drop (c.loop-f.f-index + 1) c.args.written.now) h.0 given h.2.name h.2.seen in
+    let more = so_far_more a b n c.loop-f.fields c.in_ok-field.field c.loop-f.deepest c.in_ok-field.depth c.args.place c.args.levels _ _ h.0 _ _ _ i.so_far h.2 h.3 (rw e next) in
     record {
       low = rw c.max-deepest.ensures (omega arith);
       kept = kept_on c.len-mark.result a.seen b.seen n.seen i.kept (omega arith) h.2.kept;
       below = h.2.below;
-      sound = rw c.in_ok-push.ensures.items (All-append IsSoundField c.loop-f.fields.items (c.in_ok-field.field ∷ []) i.sound (λ k d lt. let z : k ≡ 0 = omega arith in rw z c.in_ok-field.ensures.sound));
-      so_far = rw (c.in_ok-push.ensures.items, c.max-deepest.ensures) more;
+      sound = rw c.in_ok-push.ensures.ok (All-append IsSoundField c.loop-f.fields (c.in_ok-field.field ∷ []) i.sound (λ k d lt. let z : k ≡ 0 = omega arith in rw z c.in_ok-field.ensures.sound));
+      so_far = rw (c.in_ok-push.ensures.ok, c.max-deepest.ensures) more;
     }
 
 pub field_at-returns-in_err-field-clause-builds : goal.field_at-returns-in_err-field-clause-builds
