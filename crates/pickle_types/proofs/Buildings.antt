@@ -25,7 +25,7 @@ use Rattle.pickle_types.specs.Names.{Names}
 use Rattle.pickle_types.specs.Expressions.{◌>>=◌, integer_referred}
 use Rattle.pickle_types.specs.Meaning.{plain, offset_type, integer_expression, offset_expression, bound_expression, fresh, bit_width, has_some, may_stand, if_here, place_in, struct_place, parts_of, total_width, integral_type, if_some_alternative, after_field, with_itself, FieldMeaning, field_meaning, field_then, meaning, fields_meaning}
 use Rattle.pickle_types.specs.Built.{Fails, bytes_now, view_of, views_of, IsInLevel, AreNamed, AreBelow, names_in, part_of}
-use Rattle.pickle_types.specs.Building.{visible_in, after_itself, Keeps, IsBuilt, Builds, IsFieldBuilt, with_front, FieldsSoFar}
+use Rattle.pickle_types.specs.Building.{visible_in, after_itself, Keeps, IsBuilt, Builds, IsFieldBuilt, AreBuilt, with_front, FieldsSoFar}
 use Rattle.pickle_types.proofs.Growth.{push_table, push_type, type_kept, longer}
 use Rattle.pickle_types.proofs.Meanings.{parts_depth_is}
 use Rattle.pickle_types.proofs.Tables.{fields_same}
@@ -341,3 +341,23 @@ field_on a b c here levels index parts field f g s v h = record {
   kept = rw (← s) h.kept;
   seen = h.seen ∙ ap (λ w. after_field here w (with_itself here w levels index parts f.type)) v;
 }
+
+pub fields_end : (names : Names) (here : Place) (seen : List Visible) (levels room : ℕ) (before : List (Option (List ℕ))) (fs : List tree.Field) → fs ≡ [] → fields_meaning names here seen levels room before (fields_tree fs) ≡ Ok NoFields
+unfolding fields_meaning
+fields_end names here seen levels room before fs none = rw none refl
+
+-- all fields are built
+pub all_built : (a b c : Builder) (fields : List Field) (deepest : ℕ) (whole rest : Result Fields FaultKind) → FieldsSoFar a b fields deepest whole rest → rest ≡ Ok NoFields →
+    c.names ≡ b.names → c.nodes.items ≡ b.nodes.items → c.seen ≡ a.seen → (fs : Fields) × (whole ≡ Ok fs) × AreBuilt a c fields deepest fs
+all_built a b c fields deepest whole rest h none names nodes seen =
+    let k = h.keeps in (
+      open_fields (type_of b.nodes.items) fields,
+      h.given ∙ ap (with_front (fields_onto (type_of b.nodes.items) fields)) none,
+      record {
+        keeps = record { grows = rw nodes k.grows; table = rw nodes k.table; named = rw (nodes, names) k.named; known = rw (nodes, names) k.known };
+        seen = seen;
+        below = rw nodes h.below;
+        opened = rw nodes refl;
+        deep = h.deep;
+      },
+    )

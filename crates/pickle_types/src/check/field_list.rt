@@ -1,6 +1,6 @@
 //! The fields of one type, found by their names.
 
-ghost use Rattle.std.specs.Prelude.{◌≡◌, ◌++◌, ◌∷◌, [], List, length, Ok, IfErr, OnOk, OnErr};
+ghost use Rattle.std.specs.Prelude.{◌≡◌, ◌++◌, ◌∷◌, [], List, length, Ok, IfOk, IfErr, OnOk, OnErr};
 ghost use Rattle.std.specs.Coded.{codes};
 ghost use Rattle.pickle_types.specs.Table.{name_of};
 ghost use Rattle.pickle_types.specs.Meaning.{has_name, fresh};
@@ -33,13 +33,15 @@ impl<'n> Model for FieldList<'n> {
 }
 
 impl<'n> FieldList<'n> {
-    pub fn new(alloc: Global) -> FieldList<'n>
-        ensures { result ≡ [] }
+    /// No fields, and room for so many.
+    pub fn with_capacity(alloc: Global, count: usize) -> Result<FieldList<'n>, FaultKind>
+        ensures ok { IfOk result (λ l. l ≡ []) }
+        ensures kind { IfErr result (λ e. e ≡ FaultKind.Memory) }
     {
-        FieldList {
-            fields: Vec::new(alloc),
-            places: IndexMap::new(alloc),
-        }
+        Ok(FieldList {
+            fields: Vec::with_capacity(alloc, count)?,
+            places: IndexMap::with_capacity(alloc, count)?,
+        })
     }
 
     pub fn len(&self) -> usize

@@ -473,7 +473,7 @@ impl<'n> Builder<'n> {
         ensures low { IfOk result (λ x. x.1 ≤ room) }
     {
         let mark = self.seen.len();
-        let mut fields = FieldList::new(self.alloc);
+        let mut fields = FieldList::with_capacity(self.alloc, written.len())?;
         let mut deepest: u8 = 0;
         for f in written {
             let (field, depth) = self.field_at(place, levels, room, &fields, f)?;

@@ -1,9 +1,10 @@
 use Rattle.std.proofs.Common.{◌≡◌, [], ◌∷◌, ◌+◌, length, drop, refl, sym, ap, ◌∙◌, arith, eqb-true}
 use Rattle.std.proofs.lemmas.Bool.{eqb-false}
-use Rattle.std.proofs.lemmas.List.{take_all}
+use Rattle.std.proofs.lemmas.List.{drop_all, take_all}
 use Rattle.std.proofs.lemmas.List.Elements.{All-append}
 use Rattle.std.proofs.lemmas.Result.{err_from_is_err_and}
 use Rattle.pickle_syntax.specs.Tree.{Plain, StringForm, OffsetForm, reference_tree, optional_tree, form_tree, fields_tree}
+use Rattle.pickle_types.specs.declared.check.types.Builder.{Builder}
 use Rattle.pickle_types.specs.Types.{depth}
 use Rattle.pickle_types.specs.Table.{type_of, IsSoundField}
 use Rattle.pickle_types.specs.Meaning.{meaning}
@@ -12,7 +13,7 @@ use Rattle.pickle_types.specs.Building.{known_types, visible_in}
 use Rattle.pickle_types.proofs.Forms.{reference_form, string_form, offset_form}
 use Rattle.pickle_types.proofs.Growth.{type_kept}
 use Rattle.pickle_types.proofs.Steps.{fails_bind}
-use Rattle.pickle_types.proofs.Buildings.{meaning_plain, meaning_string, meaning_offset, meaning_array, meaning_struct, meaning_integral, meaning_union, built_then, visible_kept, array_depth, struct_depth, integral_depth, union_depth, parts_opened, parts_below, parts_sound, some_alternative, integral_fits, integral_wrong, so_far_more, so_far_none, fields_next, drop_item, kept_on, builds_as, no_alternative, field_on}
+use Rattle.pickle_types.proofs.Buildings.{meaning_plain, meaning_string, meaning_offset, meaning_array, meaning_struct, meaning_integral, meaning_union, built_then, visible_kept, array_depth, struct_depth, integral_depth, union_depth, parts_opened, parts_below, parts_sound, some_alternative, integral_fits, integral_wrong, so_far_more, so_far_none, fields_next, drop_item, kept_on, builds_as, no_alternative, field_on, fields_end, all_built}
 use Rattle.pickle_types.proofs.check.types.Builder.+types.Goals as goal
 
 pub type_at-returns-then-room-eq0-clause-builds : goal.type_at-returns-then-room-eq0-clause-builds
@@ -202,8 +203,8 @@ fields_at-loop-f-init t c = record {
   low = omega arith;
   kept = take_all _ _ (omega arith);
   below = λ k d lt. let b = c.requires.seen k d lt in record { node = b.node; level = omega arith };
-  sound = rw c.new-fields.ensures (λ k d lt. absurd (omega arith));
-  so_far = rw c.new-fields.ensures (so_far_none c.args.self.now [] _ c.requires.table c.requires.names refl);
+  sound = rw c.in_ok-fields.ensures.ok (λ k d lt. absurd (omega arith));
+  so_far = rw c.in_ok-fields.ensures.ok (so_far_none c.args.self.now [] _ c.requires.table c.requires.names refl);
 }
 
 pub fields_at-loop-f-preserved : goal.fields_at-loop-f-preserved
@@ -235,3 +236,13 @@ field_at-returns-in_err-field-clause-builds t c =
     let seen = visible_kept b c.type_at.new.self c.requires.table e.2.keeps e.2.seen (c.args.levels + 1) c.requires.seen in
     let h = rw (e.2.keeps.known, seen, e.2.type) at c.in_err-field.ensures.gives in
     rw (p.1, p.2, given) h
+
+pub fields_at-returns-clause-builds : goal.fields_at-returns-clause-builds
+fields_at-returns-clause-builds t c =
+    let a = c.args.self.now in
+    let b = c.loop-f.self in
+    let n : Builder = record { alloc = b.alloc; names = b.names; nodes = b.nodes; seen = c.truncate.new.self } in
+    let i = c.loop-f.invariant in
+    let none = drop_all c.loop-f.f-index c.args.written.now (omega arith) in
+    let end = fields_end (known_types a) c.args.place (visible_in b) c.args.levels c.args.room _ _ none in
+    rw c.into_fields.ensures (all_built a b n c.loop-f.fields c.loop-f.deepest _ _ i.so_far end refl refl (c.truncate.ensures ∙ i.kept))
