@@ -14,3 +14,6 @@ pub mod Declarations
 pub mod IllTyped
 pub mod Places
 pub mod Placed
+pub mod Items
+pub mod Indexed
+pub mod Selections

@@ -1,4 +1,4 @@
--- Where the fields of one type stand.
+-- The names of a type's fields, and their places.
 use Rattle.std.proofs.Common.{◌≡◌, ℕ, suc, List, [], ◌∷◌, ◌++◌, ◌||◌, length, Option, Some, None, Ok, Bool, true, false, cond, refl, sym, ap, ◌∙◌}
 use denote.Bor.{Bor}
 use Rattle.std.specs.Prelude.{if◌then◌else◌, option_map, is_some}
@@ -6,12 +6,16 @@ use Rattle.std.specs.Map.{lookup}
 use Rattle.std.specs.Str.{bytes_eq}
 use Rattle.std.specs.Cmp.Lexicographic.{bytes_decides}
 use Rattle.std.proofs.lemmas.Bool.{or_parts}
-use Rattle.pickle_types.specs.declared.table.Field.{Field}
-use Rattle.pickle_types.specs.Table.{name_of}
+use Rattle.pickle_types.specs.declared.check.field_names.FieldNames.{FieldNames}
 use Rattle.pickle_types.specs.Scopes.{is_named}
 use Rattle.pickle_types.specs.Meaning.{has_name, fresh}
-use Rattle.pickle_types.specs.Built.{names_in}
-use Rattle.pickle_types.specs.FieldPlaces.{place_of, ArePlaced}
+use Rattle.pickle_types.specs.FieldNames.{place_named, kept_in, ArePlaced}
+
+-- a place that is kept for a name
+pub place_kept : (new old : List (Bor (List ℕ) × ℕ)) (name : Bor (List ℕ)) (place : ℕ) →
+    ((q : Bor (List ℕ)) → lookup (λ k. bytes_eq q.now k.now) new ≡ cond (bytes_eq name.now q.now) (Some place) (lookup (λ k. bytes_eq q.now k.now) old)) →
+    (word : List ℕ) → lookup (λ (k : Bor (List ℕ)). bytes_eq word k.now) new ≡ (if bytes_eq name.now word then Some place else lookup (λ (k : Bor (List ℕ)). bytes_eq word k.now) old)
+place_kept new old name place h word = h (record { ref_ptr = (0, 0); now = word })
 
 module _ (word : List ℕ) where
   some_here : (b c : Bool) (o : Option ℕ) → is_some o ≡ c → is_some (if b then Some 0 else option_map suc o) ≡ (b || c)
@@ -20,34 +24,23 @@ module _ (word : List ℕ) where
   some_here false c (Some i) e = e
 
   -- a name has a place where it is one of the names
-  pub placed_is : (fs : List Field) → is_some (place_of word fs) ≡ has_name word (names_in fs)
+  pub placed_is : (names : List (Option (List ℕ))) → is_some (place_named word names) ≡ has_name word names
   placed_is [] = refl
-  placed_is (f ∷ fs) = some_here (is_named (name_of f.name) word) _ (place_of word fs) (placed_is fs)
+  placed_is (n ∷ names) = some_here (is_named n word) _ (place_named word names) (placed_is names)
 
-  place_other : (fs : List Field) (f : Field) → is_named (name_of f.name) word ≡ false → place_of word (fs ++ f ∷ []) ≡ place_of word fs
-  place_other [] f e = rw e refl
-  place_other (g ∷ fs) f e = ap (λ o. if is_named (name_of g.name) word then Some 0 else option_map suc o) (place_other fs f e)
+  place_other : (names : List (Option (List ℕ))) (n : Option (List ℕ)) → is_named n word ≡ false → place_named word (names ++ n ∷ []) ≡ place_named word names
+  place_other [] n e = rw e refl
+  place_other (m ∷ names) n e = ap (λ o. if is_named m word then Some 0 else option_map suc o) (place_other names n e)
 
-  place_new : (fs : List Field) (f : Field) → is_named (name_of f.name) word ≡ true → has_name word (names_in fs) ≡ false → place_of word (fs ++ f ∷ []) ≡ Some (length fs)
-  place_new [] f e h = rw e refl
-  place_new (g ∷ fs) f e h =
-      let p = or_parts (is_named (name_of g.name) word) (has_name word (names_in fs)) h in
-      let rest = place_new fs f e p.1 in
+  place_new : (names : List (Option (List ℕ))) (n : Option (List ℕ)) → is_named n word ≡ true → has_name word names ≡ false → place_named word (names ++ n ∷ []) ≡ Some (length names)
+  place_new [] n e h = rw e refl
+  place_new (m ∷ names) n e h =
+      let p = or_parts (is_named m word) (has_name word names) h in
+      let rest = place_new names n e p.1 in
       rw (p.0, rest) refl
 
--- one more field, whose name no other has
-pub placed_more : (fs : List Field) (f : Field) (old new : List (Bor (List ℕ) × ℕ)) → ArePlaced fs old →
-    ((word : List ℕ) → is_named (name_of f.name) word ≡ true → has_name word (names_in fs) ≡ false) →
-    ((word : List ℕ) → lookup (λ (k : Bor (List ℕ)). bytes_eq word k.now) new ≡ cond (is_named (name_of f.name) word) (Some (length fs)) (lookup (λ (k : Bor (List ℕ)). bytes_eq word k.now) old)) →
-    ArePlaced (fs ++ f ∷ []) new
-placed_more fs f old new h apart put = record { kept = λ word. put word ∙ by word (is_named (name_of f.name) word) refl }
-  where
-    by : (word : List ℕ) (b : Bool) → is_named (name_of f.name) word ≡ b → cond b (Some (length fs)) (lookup (λ (k : Bor (List ℕ)). bytes_eq word k.now) old) ≡ place_of word (fs ++ f ∷ [])
-    by word true e = sym (place_new word fs f e (apart word e))
-    by word false e = h.kept word ∙ sym (place_other word fs f e)
-
 -- a fresh name is none of the names
-pub fresh_apart : (name : List ℕ) (names : List (Option (List ℕ))) → fresh (Some name) names ≡ Ok tt → (word : List ℕ) → bytes_eq name word ≡ true → has_name word names ≡ false
+fresh_apart : (name : List ℕ) (names : List (Option (List ℕ))) → fresh (Some name) names ≡ Ok tt → (word : List ℕ) → bytes_eq name word ≡ true → has_name word names ≡ false
 unfolding fresh
 fresh_apart name names e word same = rw (← (bytes_decides name word).0 same) (by (has_name name names) refl)
   where
@@ -55,6 +48,15 @@ fresh_apart name names e word same = rw (← (bytes_decides name word).0 same) (
     by true found = cc (rw found at e)
     by false found = found
 
--- a nameless field has no place
-pub nameless : (fs : List Field) (f : Field) (places : List (Bor (List ℕ) × ℕ)) → name_of f.name ≡ None → ArePlaced fs places → ArePlaced (fs ++ f ∷ []) places
-nameless fs f places none h = record { kept = λ word. h.kept word ∙ sym (place_other word fs f (rw none refl)) }
+apart : (n : Option (List ℕ)) (names : List (Option (List ℕ))) → fresh n names ≡ Ok tt → (word : List ℕ) → is_named n word ≡ true → has_name word names ≡ false
+apart None names e word same = cc
+apart (Some name) names e word same = fresh_apart name names e word same
+
+-- one more field, whose name no other has
+pub placed_more : (names : List (Option (List ℕ))) (n : Option (List ℕ)) (old new : FieldNames) → ArePlaced names old → fresh n names ≡ Ok tt →
+    ((word : List ℕ) → kept_in new word ≡ (if is_named n word then Some (length names) else kept_in old word)) → ArePlaced (names ++ n ∷ []) new
+placed_more names n old new h new_name put = record { kept = λ word. put word ∙ by word (is_named n word) refl }
+  where
+    by : (word : List ℕ) (b : Bool) → is_named n word ≡ b → (if b then Some (length names) else kept_in old word) ≡ place_named word (names ++ n ∷ [])
+    by word true e = sym (place_new word names n e (apart n names new_name word e))
+    by word false e = h.kept word ∙ sym (place_other word names n e)

@@ -7,9 +7,9 @@ use Rattle.std.specs.Map.{lookup}
 use Rattle.std.specs.Str.{bytes_eq}
 use Rattle.std.specs.Cmp.Lexicographic.{bytes_decides}
 use Rattle.std.proofs.lemmas.Bool.{cases_lt}
-use Rattle.std.proofs.lemmas.Option.{slice_get-get_or, slice_get_within}
-use Rattle.std.proofs.lemmas.List.{length-append, length-map, map_push, take-append-le, take_all, get_or_append_left, get_or-map}
-use Rattle.std.proofs.Math.Seq.{get_or-append_seam}
+use Rattle.std.proofs.lemmas.Option.{slice_get_within}
+use Rattle.std.proofs.lemmas.List.{length-map, map_push, take-append-le, take_all, get_or-map}
+use Rattle.pickle_types.proofs.Items.{get_front, get_last, is_last}
 use Rattle.pickle_types.specs.declared.table.Node.{Node}
 use Rattle.pickle_types.specs.declared.scopes.Seen.{Seen}
 use Rattle.pickle_types.specs.declared.scopes.Entry.{Entry}
@@ -68,16 +68,6 @@ module _ (es : List Entry) (e : Entry) where
   taken_less : (i : ℕ) → i ≤ length es → take i (fields_of (es ++ e ∷ [])) ≡ take i (fields_of es)
   taken_less i le = let n = length-map es (λ x. x.field) in ap (take i) fields_more ∙ take-append-le i (fields_of es) (e.field ∷ []) (omega arith)
 
-  get_less : (i : ℕ) → i < length es → slice_get (es ++ e ∷ []) i ≡ slice_get es i
-  get_less i lt =
-      let longer = length-append es (e ∷ []) in
-      slice_get-get_or (es ++ e ∷ []) i e (omega arith) ∙ ap Some (get_or_append_left es (e ∷ []) e i lt) ∙ sym (slice_get-get_or es i e lt)
-
-  get_last : slice_get (es ++ e ∷ []) (length es) ≡ Some e
-  get_last =
-      let longer = length-append es (e ∷ []) in
-      slice_get-get_or (es ++ e ∷ []) (length es) e (omega arith) ∙ ap Some (get_or-append_seam es e [] e)
-
   module _ (old new : List (Bor (List ℕ) × Option ℕ)) where
     pub indexed_more : IsIndexed es old → IfSome e.field.name (λ n. e.hidden ≡ kept_place old n.now) →
         ((word : List ℕ) → kept_place new word ≡ (if is_named (bytes_now e.field.name) word then Some (length es) else kept_place old word)) → IsIndexed (es ++ e ∷ []) new
@@ -86,7 +76,7 @@ module _ (es : List Entry) (e : Entry) where
           let n = length-map es (λ x. x.field) in
           put word ∙ rw (h.innermost word, ← n) refl ∙ sym (last_more word (fields_of es) e.field) ∙ ap (last_place word) (sym fields_more);
       hidden = λ i x name at is. elim (cases_lt i (length es)) [
-        | inl lt ↦ h.hidden i x name (sym (get_less i lt) ∙ at) is ∙ ap (last_place name.now) (sym (taken_less i (omega arith)))
+        | inl lt ↦ h.hidden i x name (sym (get_front es (e ∷ []) i lt) ∙ at) is ∙ ap (last_place name.now) (sym (taken_less i (omega arith)))
         | inr le ↦ at_end i x name at is le
       ];
     }
@@ -94,10 +84,9 @@ module _ (es : List Entry) (e : Entry) where
         at_end : (i : ℕ) (x : Entry) (name : Bor (List ℕ)) → slice_get (es ++ e ∷ []) i ≡ Some x → x.field.name ≡ Some name → length es ≤ i →
             x.hidden ≡ last_place name.now (take i (fields_of (es ++ e ∷ [])))
         at_end i x name at is le =
-            let within = slice_get_within (es ++ e ∷ []) i x at in
-            let longer = length-append es (e ∷ []) in
-            let last : i ≡ length es = omega arith in
-            let same : x ≡ e = let a = rw last at at in cc (get_last, a) in
+            let end = is_last es e i x at le in
+            let same = end.item in
+            let last = end.place in
             let n = length-map es (λ y. y.field) in
             let named : e.field.name ≡ Some name = ap (λ y. y.field.name) (sym same) ∙ is in
             let hidden = rw named at hides in
@@ -108,7 +97,7 @@ module _ (es : List Entry) (e : Entry) where
       innermost = λ word. put word ∙ by word e.field.name refl;
       hidden = λ i x name at is.
           let lt = slice_get_within es i x at in
-          h.hidden i x name (get_less i lt ∙ at) is ∙ ap (last_place name.now) (taken_less i (omega arith));
+          h.hidden i x name (get_front es (e ∷ []) i lt ∙ at) is ∙ ap (last_place name.now) (taken_less i (omega arith));
     }
       where
         before : (word : List ℕ) → last_place word (take (length es) (fields_of (es ++ e ∷ []))) ≡ last_place word (fields_of es)
@@ -124,7 +113,7 @@ module _ (es : List Entry) (e : Entry) where
             cases : (b : Bool) → bytes_eq name.now word ≡ b → (if b then e.hidden else kept_place old word) ≡ last_place word (fields_of es)
             cases true same =
                 let equal : name.now ≡ word = (bytes_decides name.now word).0 same in
-                h.hidden (length es) e name get_last is ∙ before name.now ∙ ap (λ w. last_place w (fields_of es)) equal
+                h.hidden (length es) e name (get_last es e) is ∙ before name.now ∙ ap (λ w. last_place w (fields_of es)) equal
             cases false apart = other word (rw is apart)
 
     -- the last field is kept for its name

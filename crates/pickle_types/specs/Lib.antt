@@ -4,7 +4,7 @@ pub mod Table
 pub mod Bounds
 pub mod Scopes
 pub mod Innermost
-pub mod FieldPlaces
+pub mod FieldNames
 pub mod Names
 pub mod Operators
 pub mod Expressions

@@ -2,7 +2,9 @@
 
 pub mod expressions;
 pub mod field_list;
+pub mod field_names;
 pub mod fields;
+pub mod nodes;
 pub mod operators;
 pub mod places;
 pub mod references;

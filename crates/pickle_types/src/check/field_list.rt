@@ -5,13 +5,13 @@ ghost use Rattle.std.specs.Coded.{codes};
 ghost use Rattle.pickle_types.specs.Table.{name_of};
 ghost use Rattle.pickle_types.specs.Meaning.{has_name, fresh};
 ghost use Rattle.pickle_types.specs.Built.{bytes_now, names_in};
-ghost use Rattle.pickle_types.specs.FieldPlaces.{ArePlaced};
+ghost use Rattle.pickle_types.specs.FieldNames.{ArePlaced};
 ghost use Rattle.pickle_types.specs.declared.table.Field.{Field};
 ghost use Rattle.pickle_types.specs.contracts.table.Resolved as resolved;
 
+use crate::check::field_names::FieldNames;
 use crate::fault::FaultKind;
 use crate::table::Field;
-use indexmap::IndexMap;
 use std::alloc::Global;
 use std::marker::Model;
 
@@ -19,7 +19,7 @@ use std::marker::Model;
 #[derive(Drop)]
 pub struct FieldList<'n> {
     fields: Vec<Field>,
-    places: IndexMap<&'n [u8], usize>,
+    names: FieldNames<'n>,
 }
 
 impl<'n> Model for FieldList<'n> {
@@ -29,7 +29,7 @@ impl<'n> Model for FieldList<'n> {
 
     ghost view = { λ l. l.fields.items };
 
-    ghost invariant = { λ l. ArePlaced l.fields.items l.places.entries };
+    ghost invariant = { λ l. ArePlaced (names_in l.fields.items) l.names };
 }
 
 impl<'n> FieldList<'n> {
@@ -40,7 +40,7 @@ impl<'n> FieldList<'n> {
     {
         Ok(FieldList {
             fields: Vec::with_capacity(alloc, count)?,
-            places: IndexMap::with_capacity(alloc, count)?,
+            names: FieldNames::with_capacity(alloc, count)?,
         })
     }
 
@@ -53,7 +53,7 @@ impl<'n> FieldList<'n> {
     pub fn has_name(&self, word: &[u8]) -> bool
         ensures { result ≡ has_name word.now (names_in self.now) }
     {
-        self.places.contains_key(word)
+        self.names.find(word).is_some()
     }
 
     /// One more field. No other has its name.
@@ -66,22 +66,20 @@ impl<'n> FieldList<'n> {
     {
         let place = self.fields.len();
         self.fields.push(field)?;
-        let Some(name) = name else {
-            return Ok(());
-        };
-        match self.places.insert(name, place) {
-            Ok(_) => Ok(()),
-            Err(_) => {
+        match self.names.add(name, place) {
+            Ok(()) => Ok(()),
+            Err(kind) => {
                 self.fields.truncate(place);
-                Err(FaultKind::Memory)
+                Err(kind)
             }
         }
     }
 
-    pub fn into_fields(self) -> Vec<Field>
-        ensures { result.items ≡ self.entry }
+    pub fn into_parts(self) -> (Vec<Field>, FieldNames<'n>)
+        ensures fields { result.0.items ≡ self.entry }
+        ensures names { ArePlaced (names_in self.entry) result.1 }
     {
-        let FieldList { fields, places: _ } = self;
-        fields
+        let FieldList { fields, names } = self;
+        (fields, names)
     }
 }

@@ -8,10 +8,11 @@ ghost use Rattle.pickle_types.specs.Meaning.{has_name, fresh, may_stand, if_here
 ghost use Rattle.pickle_types.specs.Built.{Gives, bytes_now, names_in, part_of};
 
 use crate::check::field_list::FieldList;
+use crate::check::nodes::Nodes;
 use crate::check::places::Place;
 use crate::check::sorts::width_of;
 use crate::fault::FaultKind;
-use crate::table::{Field, Node, Part};
+use crate::table::{Field, Part};
 use pickle_syntax::tree;
 use pickle_syntax::tree::{ByteOrder, Expression, Form};
 use std::alloc::Global;
@@ -128,7 +129,7 @@ pub fn copied(alloc: Global, name: Option<&[u8]>) -> Result<Option<Vec<u8>>, Fau
 }
 
 /// How many bits the fields of an integral struct have together.
-pub fn total_width(nodes: &[Node], fields: &[Field]) -> u128
+pub fn total_width(nodes: &Nodes, fields: &[Field]) -> u128
     requires table { IsTable nodes.now }
     requires below { FieldsBelow (length nodes.now) fields.now }
     ensures { result ≡ total_width (open_fields (type_of nodes.now) fields.now) }

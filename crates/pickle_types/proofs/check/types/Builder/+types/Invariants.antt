@@ -32,7 +32,7 @@ abbrev pub invariant-fields_at-loop-f : goal.invariant-fields_at-loop-f
 invariant-fields_at-loop-f l = record {
   low : l.deepest ≤ l.room;
   kept : take l.mark l.self.seen ≡ l.initial.self.seen;
-  below : AreBelow (length l.self.nodes.items) (l.levels + 1) l.self.seen;
+  below : AreBelow (length l.self.nodes) (l.levels + 1) l.self.seen;
   sound : All IsSoundField l.fields;
   so_far : FieldsSoFar l.initial.self l.self l.fields l.deepest
       (fields_meaning (known_types l.initial.self) l.place (visible_in l.initial.self) l.levels l.room [] (fields_tree l.written))
