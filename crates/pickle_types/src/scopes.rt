@@ -44,15 +44,6 @@ impl<'n> Model for Scopes<'n> {
     ghost invariant = { λ s. IsIndexed s.entries.items s.places.entries };
 }
 
-pub fn is_named(name: Option<&[u8]>, word: &[u8]) -> bool
-    ensures { result ≡ is_named (bytes_now name.entry) word.now }
-{
-    match name {
-        None => false,
-        Some(name) => name == word,
-    }
-}
-
 fn place_of(places: &IndexMap<&[u8], Option<usize>>, word: &[u8]) -> Option<usize>
     ensures { result ≡ kept_place places.now.entries word.now }
 {
