@@ -1,5 +1,5 @@
 -- One step of the definitions for each step of the builder.
-use Rattle.std.proofs.Common.{◌≡◌, ℕ, zero, suc, ◌+◌, ◌-◌, ◌<◌, ◌≤◌, max, List, [], ◌∷◌, ◌++◌, map, Option, Some, None, Result, Ok, Err, Bool, length, take, drop, get_or, refl, sym, ap, ◌∙◌, arith}
+use Rattle.std.proofs.Common.{◌≡◌, ℕ, zero, suc, ◌+◌, ◌-◌, ◌<◌, ◌≤◌, ◌^◌, max, List, [], ◌∷◌, ◌++◌, map, Option, Some, None, Result, Ok, Err, Bool, length, take, drop, get_or, refl, sym, ap, ◌∙◌, arith}
 use Rattle.std.specs.Prelude.{is_some, All}
 use Rattle.std.specs.Map.{values_of}
 use Rattle.std.proofs.lemmas.Bool.{eq-eqb, ne_eqb}
@@ -34,9 +34,9 @@ use Rattle.pickle_types.proofs.Steps.{fails_bind, views_kept, below_kept, names_
 -- a node that is pushed has the type that it opens to
 pub pushed : (old new : Builder) (node : Node) → IsTable old.nodes → AreNamed old.nodes old.names → NamesBelow (length old.nodes) node.shape → IsSoundShape node.shape →
     new.nodes ≡ old.nodes ++ node ∷ [] → new.names ≡ old.names → new.seen ≡ old.seen →
-    (d at : ℕ) → d ≡ depth (open_shape (type_of old.nodes) node.shape) → at ≡ length old.nodes →
+    (d at : ℕ) → d ≡ depth (open_shape (type_of old.nodes) node.shape) → d ≤ 64 → at ≡ length old.nodes → at < 2 ^ 32 →
     IsBuilt old new (record { node = at; depth = d }) (open_shape (type_of old.nodes) node.shape)
-pushed old new node table named below sound is same seen d at deep last =
+pushed old new node table named below sound is same seen d at deep low last few =
     let grows : Grows old.nodes new.nodes = record { more = node ∷ []; is = is } in
     let longer = length-append old.nodes (node ∷ []) in
     let known = names_kept old.nodes new.nodes table grows old.names.map.entries named in
@@ -44,13 +44,13 @@ pushed old new node table named below sound is same seen d at deep last =
     record {
       keeps = record {
         grows = grows;
-        table = rw is (push_table old.nodes table node below sound);
+        table = rw is (push_table old.nodes table node below sound (omega arith) (omega arith));
         named = rw same still;
         known = rw same known;
       };
       seen = seen;
       inside = rw is (omega arith);
-      type = rw (is, last) (push_type old.nodes table node below sound);
+      type = rw (is, last) (push_type old.nodes table node below);
       deep = deep;
     }
 

@@ -34,10 +34,10 @@ module _ (at at' : ℕ → PokeType) (i : ℕ) (same : (e : ℕ) → e < i → a
   shape_same (shape.Integral name number fields) h = ap (IntegralOf (name_of name) number) (parts_same fields.items NoParts h.1)
   shape_same (shape.Union name alternatives) h = ap (UnionOf (name_of name)) (parts_same alternatives.items NoParts h)
 
-module _ (nodes : List Node) (table : IsTable nodes) where
+module _ (nodes : List Node) (below : (i : ℕ) (node : Node) → slice_get nodes i ≡ Some node → NamesBelow i node.shape) where
   found_same : (at at' : ℕ → PokeType) (i : ℕ) → ((e : ℕ) → e < i → at e ≡ at' e) → (o : Option Node) → slice_get nodes i ≡ o → open_found at o ≡ open_found at' o
   found_same at at' i same None e = refl
-  found_same at at' i same (Some node) e = shape_same at at' i same node.shape (table.below i node e)
+  found_same at at' i same (Some node) e = shape_same at at' i same node.shape (below i node e)
 
   depth_same : (d d' i : ℕ) → i < d → i < d' → type_at nodes d i ≡ type_at nodes d' i
   unfolding type_at
@@ -47,11 +47,14 @@ module _ (nodes : List Node) (table : IsTable nodes) where
       found_same (type_at nodes d) (type_at nodes d') i (λ e lt. depth_same d d' e (omega arith) (omega arith)) (slice_get nodes i) refl
 
   -- the type of a node, by the types of the nodes that it names
-  pub opens : (i : ℕ) (node : Node) → slice_get nodes i ≡ Some node → type_of nodes i ≡ open_shape (type_of nodes) node.shape
+  pub opens_below : (i : ℕ) (node : Node) → slice_get nodes i ≡ Some node → type_of nodes i ≡ open_shape (type_of nodes) node.shape
   unfolding type_of type_at
-  opens i node e =
+  opens_below i node e =
       ap (open_found (type_at nodes i)) e
-      ∙ shape_same (type_at nodes i) (type_of nodes) i (λ e lt. depth_same i (suc e) e lt (omega arith)) node.shape (table.below i node e)
+      ∙ shape_same (type_at nodes i) (type_of nodes) i (λ e lt. depth_same i (suc e) e lt (omega arith)) node.shape (below i node e)
+
+pub opens : (nodes : List Node) → IsTable nodes → (i : ℕ) (node : Node) → slice_get nodes i ≡ Some node → type_of nodes i ≡ open_shape (type_of nodes) node.shape
+opens nodes table i node e = opens_below nodes table.below i node e
 
 pub node_at : (nodes : List Node) (i : ℕ) (node : Node) → i < length nodes → node ≡ get_or nodes i node → slice_get nodes i ≡ Some node
 node_at nodes i node lt e = slice_get-get_or nodes i node lt ∙ ap Some (sym e)

@@ -1,5 +1,5 @@
 -- The types that the nodes of a table mean.
-use Rattle.std.specs.Prelude.{◌≡◌, ℕ, zero, suc, ◌<◌, ◌≤◌, false, List, [], ◌∷◌, ◌++◌, Option, Some, None, Vec, slice_get, All}
+use Rattle.std.specs.Prelude.{◌≡◌, ℕ, zero, suc, ◌<◌, ◌≤◌, ◌^◌, length, false, List, [], ◌∷◌, ◌++◌, Option, Some, None, Vec, slice_get, All}
 use Rattle.std.specs.declared.alloc.Global.{Global}
 use Rattle.pickle_types.specs.declared.table.Resolved.{Resolved}
 use Rattle.pickle_types.specs.declared.table.Resolved.TheVariants as resolved
@@ -10,7 +10,7 @@ use Rattle.pickle_types.specs.declared.table.Part.{Part}
 use Rattle.pickle_types.specs.declared.table.Shape.{Shape}
 use Rattle.pickle_types.specs.declared.table.Shape.TheVariants as shape
 use Rattle.pickle_types.specs.declared.table.Node.{Node}
-use Rattle.pickle_types.specs.Types.{Term, Number, Text, Name, Bracket, Before, Between, Choice, Index, Select, AttributeOf, ToInteger, ToOffset, InUnit, Bound, Unbounded, ByCount, BySize, PokeType, IntegerOf, OffsetOf, StringOf, ArrayOf, StructOf, IntegralOf, UnionOf, Fields, NoFields, FieldThen, Parts, NoParts, PartThen}
+use Rattle.pickle_types.specs.Types.{Term, Number, Text, Name, Bracket, Before, Between, Choice, Index, Select, AttributeOf, ToInteger, ToOffset, InUnit, Bound, Unbounded, ByCount, BySize, PokeType, IntegerOf, OffsetOf, StringOf, ArrayOf, StructOf, IntegralOf, UnionOf, Fields, NoFields, FieldThen, Parts, NoParts, PartThen, depth}
 pub use Rattle.pickle_types.specs.Sound.{IsWidth}
 use Rattle.pickle_types.specs.Sound.{IsSoundClause, IsSoundBound}
 
@@ -107,7 +107,7 @@ pub record IsSoundField (f : Field) : Type 0 where
 pub record IsSoundPart (p : Part) : Type 0 where
   pub constraint : IsSoundClause (optional_term p.constraint)
 
--- the expressions of a shape are sound
+-- the expressions of a shape are sound, and a union's alternatives no more than 2^16
 abbrev pub IsSoundShape : Shape → Type 0
 IsSoundShape (shape.Integer type) = Unit {0}
 IsSoundShape (shape.Offset type unit) = Unit {0}
@@ -115,12 +115,14 @@ IsSoundShape shape.String = Unit {0}
 IsSoundShape (shape.Array element bound) = IsSoundBound (bound_of bound)
 IsSoundShape (shape.Struct name pinned fields) = All IsSoundField fields.items
 IsSoundShape (shape.Integral name number fields) = All IsSoundPart fields.items
-IsSoundShape (shape.Union name alternatives) = All IsSoundPart alternatives.items
+IsSoundShape (shape.Union name alternatives) = All IsSoundPart alternatives.items × (length alternatives.items ≤ 2 ^ 16)
 
--- each node names only nodes before it, and its expressions are sound
+-- each node names only nodes before it, its expressions are sound and its type no deeper than 64; and there are no more than 2^32 nodes
 pub record IsTable (nodes : List Node) : Type 0 where
   pub below : (i : ℕ) (node : Node) → slice_get nodes i ≡ Some node → NamesBelow i node.shape
   pub sound : (i : ℕ) (node : Node) → slice_get nodes i ≡ Some node → IsSoundShape node.shape
+  pub deep : (i : ℕ) → i < length nodes → depth (type_of nodes i) ≤ 64
+  pub few : length nodes ≤ 2 ^ 32
 
 -- the nodes of an older table stand in front
 pub record Grows (old new : List Node) : Type 0 where

@@ -29,7 +29,7 @@ type_named t id = type_of t.nodes.items id.node
 abbrev pub IsInTable : Table → TypeId → Type 0
 IsInTable t id = id.node < length t.nodes.items
 
--- each node names only nodes before it and its expressions are sound, and each name has a node
+-- the nodes are a table's, and each name has a node
 pub record IsSound (t : Table) : Type 0 where
   pub table : IsTable t.nodes.items
   pub named : AreNamed t.nodes.items t.names

@@ -38,7 +38,7 @@ pub enum FaultKind {
     /// A type deeper than 64, with the types that it names opened.
     #[error("TooDeep")]
     TooDeep,
-    /// A growth of the table was refused.
+    /// A growth of the table was refused, or it would have more than 2^32 nodes or a union more than 2^16 alternatives.
     #[error("Memory")]
     Memory,
 }

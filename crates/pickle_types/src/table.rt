@@ -4,6 +4,14 @@ use crate::integer::IntegerType;
 use pickle_syntax::token::Attribute;
 use pickle_syntax::tree::{ByteOrder, Infix, Prefix};
 
+/// How many nodes a table has at most: a store of mapped values tells them by 32 bits.
+/// No pickle of 1 MiB comes near it.
+pub const MOST_NODES: usize = 4_294_967_296;
+
+/// How many alternatives a union has at most: a store of mapped values tells them by 16 bits.
+/// The parser takes no more than 1,024, so only a tree that was built by hand comes to it.
+pub const MOST_ALTERNATIVES: usize = 65_536;
+
 /// An expression with its names resolved.
 #[derive(Drop)]
 pub enum Resolved {

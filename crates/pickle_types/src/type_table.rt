@@ -14,6 +14,7 @@ ghost use Rattle.pickle_types.specs.Building.{known_types, IsReady, AddsType, na
 ghost use Rattle.pickle_types.specs.TypeTable.{type_named, types_of, count_of, IsSound, IsInTable, IsTypeFound, IsWellTyped};
 
 use crate::bounds::type_bounds;
+use crate::check::field_names::FieldNames;
 use crate::check::nodes::Nodes;
 use crate::check::types::{Builder, Found, Title};
 use crate::fault::{FaultKind, TypeFault};
@@ -78,7 +79,8 @@ impl<'n> Builder<'n> {
         ensures known { OnOk result (known_types self.new ≡ known_types self.old ++ (word.now, IntegerOf ty) ∷ []) }
         ensures err { IfErr result (λ e. e ≡ FaultKind.Memory) }
     {
-        let found = self.push(None, Shape::Integer(ty), 1)?;
+        let names = FieldNames::new(self.alloc);
+        let found = self.push(None, Shape::Integer(ty), names, 1)?;
         self.add(word, found)
     }
 
@@ -156,11 +158,12 @@ pub struct Table {
 
 impl Table {
     /// The types that a pickle declares, where it is well typed and no type is deeper than 64.
+    /// A table has at most 2^32 nodes and a union 2^16 alternatives; beyond either the answer is `Memory`.
     pub fn build(alloc: Global, pickle: &Pickle) -> Result<Table, TypeFault>
         ensures sound { IfOk result IsSound }
         ensures ok { IfOk result (λ table. Declares predeclared (pickle_tree pickle.now) (types_of table)) }
         ensures len { IfOk result (λ table. count_of table ≡ length (pickle_tree pickle.now)) }
-        // Memory is answered only where a growth was refused; any other kind only where the pickle isn't well typed.
+        // Memory is answered only where a growth was refused or the table is full; any other kind only where the pickle isn't well typed.
         ensures wrong { IfErr result (λ e. e.kind ≢ FaultKind.Memory → ¬ IsWellTyped (pickle_tree pickle.now)) }
         ensures kind { IfErr result (λ e. Fails e.kind (declared predeclared (pickle_tree pickle.now))) }
     {

@@ -3,7 +3,7 @@
 ghost use Rattle.std.specs.Prelude.{◌≡◌, ℕ, List, [], Some, if◌then◌else◌, IfOk, IfErr, IsTrue, OnOk, OnErr};
 ghost use Rattle.pickle_types.specs.Scopes.{is_named};
 ghost use Rattle.pickle_types.specs.Built.{bytes_now};
-ghost use Rattle.pickle_types.specs.FieldNames.{kept_in};
+ghost use Rattle.pickle_types.specs.FieldNames.{kept_in, ArePlaced};
 
 use crate::fault::FaultKind;
 use indexmap::IndexMap;
@@ -17,7 +17,7 @@ pub struct FieldNames<'n> {
 
 impl<'n> FieldNames<'n> {
     pub fn new(alloc: Global) -> FieldNames<'n>
-        ensures { result.places.entries ≡ [] }
+        ensures { ArePlaced [] result }
     {
         FieldNames {
             places: IndexMap::new(alloc),

@@ -25,7 +25,7 @@ use crate::check::sorts::{has_width, operand_of};
 use crate::fault::FaultKind;
 use crate::names::{Names, find_name};
 use crate::scopes::{Scopes, Seen};
-use crate::table::{Extent, Field, Node, Resolved, Shape};
+use crate::table::{Extent, Field, MOST_ALTERNATIVES, MOST_NODES, Node, Resolved, Shape};
 use pickle_syntax::tree;
 use pickle_syntax::tree::{Expression, Form, Reference, Unit};
 use std::alloc::Global;
@@ -188,24 +188,8 @@ impl<'n> Builder<'n> {
         })
     }
 
-    /// One more type, which has no fields.
-    pub fn push(&mut self, slot: Option<u16>, shape: Shape, depth: u8) -> Result<Found, FaultKind>
-        requires plain { shape_names shape ≡ [] }
-        requires table { IsTable self.old.nodes }
-        requires names { AreNamed self.old.nodes self.old.names }
-        requires below { NamesBelow (length self.old.nodes) shape }
-        requires sound { IsSoundShape shape }
-        requires depth { depth ≡ Types.depth (open_shape (type_of self.old.nodes) shape) }
-        ensures builds { Builds self.old self.new result (Ok (open_shape (type_of self.old.nodes) shape)) }
-        ensures depth { IfOk result (λ found. found.depth ≡ depth) }
-        ensures memory { IfErr result (λ e. e ≡ FaultKind.Memory) }
-    {
-        let names = FieldNames::new(self.alloc);
-        self.push_named(slot, shape, names, depth)
-    }
-
-    /// One more type, with the names of its fields.
-    fn push_named(
+    /// A new node, with the names of its fields and the depth of its type. `Memory` is answered also where the table is full.
+    pub fn push(
         &mut self,
         slot: Option<u16>,
         shape: Shape,
@@ -218,11 +202,15 @@ impl<'n> Builder<'n> {
         requires below { NamesBelow (length self.old.nodes) shape }
         requires sound { IsSoundShape shape }
         requires depth { depth ≡ Types.depth (open_shape (type_of self.old.nodes) shape) }
+        requires low { depth ≤ 64 }
         ensures builds { Builds self.old self.new result (Ok (open_shape (type_of self.old.nodes) shape)) }
         ensures depth { IfOk result (λ found. found.depth ≡ depth) }
         ensures memory { IfErr result (λ e. e ≡ FaultKind.Memory) }
     {
         let node = self.nodes.len();
+        if node >= MOST_NODES {
+            return Err(FaultKind::Memory);
+        }
         self.nodes.push(Node { shape, slot }, names)?;
         Ok(Found { node, depth })
     }
@@ -260,7 +248,7 @@ impl<'n> Builder<'n> {
         ensures low { IfOk result (λ found. found.depth ≤ 1) }
     {
         let t = in_range(signed, width)?;
-        self.push(slot, Shape::Integer(t), 1)
+        self.push(slot, Shape::Integer(t), FieldNames::new(self.alloc), 1)
     }
 
     fn plain_at(
@@ -294,7 +282,7 @@ impl<'n> Builder<'n> {
         ensures low { IfOk result (λ found. found.depth ≤ 1) }
     {
         let (t, bits) = offset_parts(&self.names, &self.nodes, reference, unit)?;
-        self.push(slot, Shape::Offset(t, bits), 1)
+        self.push(slot, Shape::Offset(t, bits), FieldNames::new(self.alloc), 1)
     }
 
     /// The node of the type that a form means, no deeper than there is room for.
@@ -318,7 +306,7 @@ impl<'n> Builder<'n> {
         }
         match form {
             Form::Reference(reference) => self.plain_at(title.slot, room, reference),
-            Form::String => self.push(title.slot, Shape::String, 1),
+            Form::String => self.push(title.slot, Shape::String, FieldNames::new(self.alloc), 1),
             Form::Offset(reference, unit) => self.offset_at(title.slot, reference, *unit),
             Form::Array(element, bound) => self.array_at(levels, title, room, element, bound),
             Form::Struct(pinned, fields) => self.struct_at(levels, title, room, *pinned, fields),
@@ -356,7 +344,12 @@ impl<'n> Builder<'n> {
             element,
         )?;
         let bound = self.bound_expression(levels, bound)?;
-        self.push(title.slot, Shape::Array(found.node, bound), found.depth + 1)
+        self.push(
+            title.slot,
+            Shape::Array(found.node, bound),
+            FieldNames::new(self.alloc),
+            found.depth + 1,
+        )
     }
 
     #[cycle(types)]
@@ -379,7 +372,7 @@ impl<'n> Builder<'n> {
         let (fields, depth) = self.fields_at(struct_place(pinned), levels, room - 1, written)?;
         let (fields, names) = fields.into_parts();
         let name = copied(self.alloc, title.name)?;
-        self.push_named(
+        self.push(
             title.slot,
             Shape::Struct {
                 name,
@@ -416,7 +409,7 @@ impl<'n> Builder<'n> {
         }
         let fields = parts_from(self.alloc, fields)?;
         let name = copied(self.alloc, title.name)?;
-        self.push_named(
+        self.push(
             title.slot,
             Shape::Integral {
                 name,
@@ -450,8 +443,11 @@ impl<'n> Builder<'n> {
         let (fields, depth) = self.fields_at(Place::Union, levels, room - 1, written)?;
         let (fields, names) = fields.into_parts();
         let alternatives = parts_from(self.alloc, fields)?;
+        if alternatives.len() > MOST_ALTERNATIVES {
+            return Err(FaultKind::Memory);
+        }
         let name = copied(self.alloc, title.name)?;
-        self.push_named(
+        self.push(
             title.slot,
             Shape::Union { name, alternatives },
             names,

@@ -86,8 +86,8 @@ struct_at-returns-in_err-fields-clause-builds t c =
     let h = rw c.struct_place.ensures at c.in_err-fields.ensures.builds in
     rw (p.1, p.2, m) (fails_bind _ _ _ h)
 
-pub struct_at-push_named-requires-clause-depth : goal.struct_at-push_named-requires-clause-depth
-struct_at-push_named-requires-clause-depth t c =
+pub struct_at-push-requires-clause-depth : goal.struct_at-push-requires-clause-depth
+struct_at-push-requires-clause-depth t c =
     let e = c.in_ok-fields.ensures.builds in
     let d = e.2.deep in
     rw (struct_depth _ _ _, c.into_parts-fields.ensures.fields, e.2.opened) (omega arith)
@@ -98,7 +98,7 @@ struct_at-returns-clause-builds t c =
     let m = meaning_struct (known_types b) (visible_in b) c.args.levels (bytes_now c.args.title.name) c.args.room c.args.pinned (fields_tree c.args.written.now) (omega arith) in
     let e = c.in_ok-fields.ensures.builds in
     let h = rw c.struct_place.ensures at e.1 in
-    built_then _ _ _ c.push_named.result _ _ e.2.keeps e.2.seen (rw (m, h, c.into_parts-fields.ensures.fields, e.2.opened, c.in_ok-name.ensures.ok) refl) c.push_named.ensures.builds
+    built_then _ _ _ c.push.result _ _ e.2.keeps e.2.seen (rw (m, h, c.into_parts-fields.ensures.fields, e.2.opened, c.in_ok-name.ensures.ok) refl) c.push.ensures.builds
 
 pub integral_at-returns-in_err-number-clause-builds : goal.integral_at-returns-in_err-number-clause-builds
 integral_at-returns-in_err-number-clause-builds t c =
@@ -126,14 +126,14 @@ integral_at-returns-then-total_width-from-clause-builds t c =
     let wrong = integral_wrong (bytes_now c.args.title.name) c.in_ok-number.number e.0 (λ eq. c.if-total_width-from.true (w ∙ eq ∙ sym c.from.ensures)) in
     rw (m, n, e.1) wrong
 
-pub integral_at-push_named-requires-clause-below : goal.integral_at-push_named-requires-clause-below
-integral_at-push_named-requires-clause-below t c = (c.in_ok-number.ensures.wide, rw (c.in_ok-fields-2.ensures.ok, c.into_parts-fields.ensures.fields) (parts_below _ c.in_ok-fields.fields c.in_ok-fields.ensures.builds.2.below))
+pub integral_at-push-requires-clause-below : goal.integral_at-push-requires-clause-below
+integral_at-push-requires-clause-below t c = (c.in_ok-number.ensures.wide, rw (c.in_ok-fields-2.ensures.ok, c.into_parts-fields.ensures.fields) (parts_below _ c.in_ok-fields.fields c.in_ok-fields.ensures.builds.2.below))
 
-pub integral_at-push_named-requires-clause-sound : goal.integral_at-push_named-requires-clause-sound
-integral_at-push_named-requires-clause-sound t c = rw (c.in_ok-fields-2.ensures.ok, c.into_parts-fields.ensures.fields) (parts_sound c.in_ok-fields.fields c.in_ok-fields.ensures.sound)
+pub integral_at-push-requires-clause-sound : goal.integral_at-push-requires-clause-sound
+integral_at-push-requires-clause-sound t c = rw (c.in_ok-fields-2.ensures.ok, c.into_parts-fields.ensures.fields) (parts_sound c.in_ok-fields.fields c.in_ok-fields.ensures.sound)
 
-pub integral_at-push_named-requires-clause-depth : goal.integral_at-push_named-requires-clause-depth
-integral_at-push_named-requires-clause-depth t c =
+pub integral_at-push-requires-clause-depth : goal.integral_at-push-requires-clause-depth
+integral_at-push-requires-clause-depth t c =
     let e = c.in_ok-fields.ensures.builds in
     let d = e.2.deep in
     rw (c.in_ok-fields-2.ensures.ok, c.into_parts-fields.ensures.fields, parts_opened _ c.in_ok-fields.fields, e.2.opened, integral_depth _ _ _) (omega arith)
@@ -147,7 +147,7 @@ integral_at-returns-clause-builds t c =
     let w = rw (c.deref.ensures.value, c.into_parts-fields.ensures.fields, e.2.opened) at c.total_width.ensures in
     let fits = integral_fits (bytes_now c.args.title.name) c.in_ok-number.number e.0 (sym w ∙ c.if-total_width-from.false ∙ c.from.ensures) in
     let parts = parts_opened (type_of c.fields_at.new.self.nodes) c.in_ok-fields.fields in
-    built_then _ _ _ c.push_named.result _ _ e.2.keeps e.2.seen (rw (m, n, e.1, fits, c.in_ok-fields-2.ensures.ok, c.into_parts-fields.ensures.fields, parts, e.2.opened, c.in_ok-name.ensures.ok) refl) c.push_named.ensures.builds
+    built_then _ _ _ c.push.result _ _ e.2.keeps e.2.seen (rw (m, n, e.1, fits, c.in_ok-fields-2.ensures.ok, c.into_parts-fields.ensures.fields, parts, e.2.opened, c.in_ok-name.ensures.ok) refl) c.push.ensures.builds
 
 pub union_at-returns-then-is_empty-clause-builds : goal.union_at-returns-then-is_empty-clause-builds
 union_at-returns-then-is_empty-clause-builds t c =
@@ -165,14 +165,14 @@ union_at-returns-in_err-fields-clause-builds t c =
     let some = some_alternative c.args.written.now (omega arith) in
     rw (p.1, p.2, m, some) (fails_bind _ _ _ c.in_err-fields.ensures.builds)
 
-pub union_at-push_named-requires-clause-below : goal.union_at-push_named-requires-clause-below
-union_at-push_named-requires-clause-below t c = rw (c.in_ok-alternatives.ensures.ok, c.into_parts-fields.ensures.fields) (parts_below _ c.in_ok-fields.fields c.in_ok-fields.ensures.builds.2.below)
+pub union_at-push-requires-clause-below : goal.union_at-push-requires-clause-below
+union_at-push-requires-clause-below t c = rw (c.in_ok-alternatives.ensures.ok, c.into_parts-fields.ensures.fields) (parts_below _ c.in_ok-fields.fields c.in_ok-fields.ensures.builds.2.below)
 
-pub union_at-push_named-requires-clause-sound : goal.union_at-push_named-requires-clause-sound
-union_at-push_named-requires-clause-sound t c = rw (c.in_ok-alternatives.ensures.ok, c.into_parts-fields.ensures.fields) (parts_sound c.in_ok-fields.fields c.in_ok-fields.ensures.sound)
+pub union_at-push-requires-clause-sound : goal.union_at-push-requires-clause-sound
+union_at-push-requires-clause-sound t c = (rw (c.in_ok-alternatives.ensures.ok, c.into_parts-fields.ensures.fields) (parts_sound c.in_ok-fields.fields c.in_ok-fields.ensures.sound), omega arith)
 
-pub union_at-push_named-requires-clause-depth : goal.union_at-push_named-requires-clause-depth
-union_at-push_named-requires-clause-depth t c =
+pub union_at-push-requires-clause-depth : goal.union_at-push-requires-clause-depth
+union_at-push-requires-clause-depth t c =
     let e = c.in_ok-fields.ensures.builds in
     let d = e.2.deep in
     rw (c.in_ok-alternatives.ensures.ok, c.into_parts-fields.ensures.fields, parts_opened _ c.in_ok-fields.fields, e.2.opened, union_depth _ _) (omega arith)
@@ -185,7 +185,7 @@ union_at-returns-clause-builds t c =
     let some = some_alternative c.args.written.now (omega arith) in
     let e = c.in_ok-fields.ensures.builds in
     let parts = parts_opened (type_of c.fields_at.new.self.nodes) c.in_ok-fields.fields in
-    built_then _ _ _ c.push_named.result _ _ e.2.keeps e.2.seen (rw (m, some, e.1, c.in_ok-alternatives.ensures.ok, c.into_parts-fields.ensures.fields, parts, e.2.opened, c.in_ok-name.ensures.ok) refl) c.push_named.ensures.builds
+    built_then _ _ _ c.push.result _ _ e.2.keeps e.2.seen (rw (m, some, e.1, c.in_ok-alternatives.ensures.ok, c.into_parts-fields.ensures.fields, parts, e.2.opened, c.in_ok-name.ensures.ok) refl) c.push.ensures.builds
 
 pub field_at-returns-clause-builds : goal.field_at-returns-clause-builds
 field_at-returns-clause-builds t c =
@@ -248,8 +248,8 @@ fields_at-returns-clause-builds t c =
     let end = fields_end (known_types a) c.args.place (visible_in b) c.args.levels c.args.room _ _ none in
     all_built a b n c.loop-f.fields c.loop-f.deepest _ _ i.so_far end refl refl (c.truncate.ensures ∙ i.kept)
 
-pub integral_at-push_named-requires-clause-named : goal.integral_at-push_named-requires-clause-named
-integral_at-push_named-requires-clause-named t c = rw (c.in_ok-fields-2.ensures.ok, c.into_parts-fields.ensures.fields, names_of_parts c.in_ok-fields.fields) c.into_parts-fields.ensures.names
+pub integral_at-push-requires-clause-named : goal.integral_at-push-requires-clause-named
+integral_at-push-requires-clause-named t c = rw (c.in_ok-fields-2.ensures.ok, c.into_parts-fields.ensures.fields, names_of_parts c.in_ok-fields.fields) c.into_parts-fields.ensures.names
 
-pub union_at-push_named-requires-clause-named : goal.union_at-push_named-requires-clause-named
-union_at-push_named-requires-clause-named t c = rw (c.in_ok-alternatives.ensures.ok, c.into_parts-fields.ensures.fields, names_of_parts c.in_ok-fields.fields) c.into_parts-fields.ensures.names
+pub union_at-push-requires-clause-named : goal.union_at-push-requires-clause-named
+union_at-push-requires-clause-named t c = rw (c.in_ok-alternatives.ensures.ok, c.into_parts-fields.ensures.fields, names_of_parts c.in_ok-fields.fields) c.into_parts-fields.ensures.names
