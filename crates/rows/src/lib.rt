@@ -10,6 +10,8 @@ mod devices;
 #[cfg(test)]
 mod dumps;
 #[cfg(test)]
+mod mappings;
+#[cfg(test)]
 mod maps;
 #[cfg(test)]
 mod memory;
@@ -19,5 +21,7 @@ mod offset_words;
 mod pickles;
 #[cfg(test)]
 mod streams;
+#[cfg(test)]
+mod tables;
 #[cfg(test)]
 mod words;
