@@ -39,16 +39,16 @@ impl Space for Shifting {
 
 /// Gives its bytes, and fails at the read with a number, counted from 1.
 #[derive(Drop)]
-pub struct Failing {
-    bytes: Vec<u8>,
+pub struct Failing<'a> {
+    bytes: &'a [u8],
     pub reads: u64,
     failing: u64,
     failures: u64,
-    pub ghost short: { length bytes.items < 2 ^ 60 },
+    pub ghost short: { length bytes.now < 2 ^ 60 },
 }
 
-impl Failing {
-    pub fn new(bytes: Vec<u8>, failing: u64) -> Result<Failing, TooLong> {
+impl<'a> Failing<'a> {
+    pub fn new(bytes: &'a [u8], failing: u64) -> Result<Failing<'a>, TooLong> {
         if bytes.len() < 1 << 60 {
             Ok(Failing {
                 bytes,
@@ -62,8 +62,8 @@ impl Failing {
     }
 }
 
-impl Space for Failing {
-    ghost view = { λ s. record { len = length s.bytes.items; bytes = None; failures = s.failures } };
+impl Space for Failing<'_> {
+    ghost view = { λ s. record { len = length s.bytes.now; bytes = None; failures = s.failures } };
 
     ghost short = { λ s. s.short };
 

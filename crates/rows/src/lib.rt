@@ -20,8 +20,12 @@ mod offset_words;
 #[cfg(test)]
 mod pickles;
 #[cfg(test)]
+mod stores;
+#[cfg(test)]
 mod streams;
 #[cfg(test)]
 mod tables;
+#[cfg(test)]
+mod values;
 #[cfg(test)]
 mod words;

@@ -2,25 +2,25 @@
 
 ghost use Rattle.std.specs.Prelude.{◌≡◌, IfOk};
 ghost use Rattle.pickle_map.specs.Slots.{empty};
-ghost use Rattle.pickle_types.specs.TypeTable.{IsSound};
+ghost use Rattle.pickle_types.specs.TypeTable.{IsSound, IsInTable};
 
 use crate::devices::Failing;
 use crate::tables::{Row, all_rows};
 use bit_space::{MemSpace, Meter, Order, Paged, Space};
-use pickle_map::{Store, map};
-use pickle_types::type_table::Table;
+use pickle_map::{MapFault, Store, map};
+use pickle_types::type_table::{Table, TypeId};
 use poke_batch::accept::accept;
 use poke_batch::ask::Ask;
 use poke_batch::mode::Mode;
 use poke_batch::print::print;
 use poke_batch::run::run_map;
 use poke_batch::status::Status;
-use std::alloc::Global;
+use std::alloc::{AllocError, Global};
 use std::process::Abort;
 use std::test::Fail;
 
 /// More steps than any row takes.
-const LIMIT: u64 = 1_000_000_000;
+pub const LIMIT: u64 = 1_000_000_000;
 
 /// What a mapping comes to: the text of its value or its fault, its steps and the values that it made.
 #[derive(Debug, Drop)]
@@ -40,6 +40,16 @@ pub fn table_of(alloc: Global, pickle: &str) -> Result<Table, Fail>
     }
 }
 
+/// The type that a row asks for.
+pub fn type_of(table: &Table, row: &Row<'_>) -> Result<TypeId, Fail>
+    ensures inside { IsSound table.now → IfOk result (IsInTable table.now) }
+{
+    match table.find(row.name.as_bytes()) {
+        Some(id) => Ok(id),
+        None => Err(Fail::from("no type")),
+    }
+}
+
 /// Maps the type of a row into an empty store, under a limit of steps.
 pub fn map_row<S: Space>(
     alloc: Global,
@@ -52,19 +62,22 @@ pub fn map_row<S: Space>(
     requires sound { IsSound table.now }
     requires empty { store.old ≡ empty store.old.room }
 {
-    let Some(id) = table.find(row.name.as_bytes()) else {
-        return Err(Fail::from("no type"));
-    };
+    let id = type_of(table, row)?;
     let mut meter = Meter::new(limit);
     let said = match map(table, id, row.order, row.start, space, &mut meter, store) {
         Ok(()) => text(alloc, table, store)?,
-        Err(fault) => format!(in alloc; "fault {:?} at {}#b", fault.kind, fault.at)?,
+        Err(fault) => fault_text(alloc, fault)?,
     };
     Ok(Mapped {
         said,
         steps: meter.steps(),
         made: meter.made(),
     })
+}
+
+/// A fault, as it is told of a file.
+pub fn fault_text(alloc: Global, fault: MapFault) -> Result<String, AllocError> {
+    format!(in alloc; "fault {:?} at {}#b", fault.kind, fault.at)
 }
 
 /// The text of the value in a store, without its line feed.
@@ -80,7 +93,8 @@ pub fn space_of(alloc: Global, row: &Row<'_>) -> Result<MemSpace, Fail> {
     Ok(MemSpace::new(row.bytes.as_slice().to_vec(alloc)?)?)
 }
 
-fn expect(rt: &impl Abort, row: &Row<'_>, mapped: &Mapped) {
+/// Whether a mapping comes to what a row says.
+pub fn expect(rt: &impl Abort, row: &Row<'_>, mapped: &Mapped) {
     assert_eq!(rt; mapped.said.as_str(), row.said, "{row:?}");
     assert_eq!(rt; mapped.steps, row.steps, "{row:?}");
     assert_eq!(rt; mapped.made, row.made, "{row:?}");
@@ -192,10 +206,10 @@ fn stops_at_each_limit_below_its_steps(rt: HostRuntime) -> Result<(), Fail> {
 
 // Whatever read of a row fails, nothing is written but the device's fault.
 fn expect_failures(rt: &impl Abort, alloc: Global, row: &Row<'_>) -> Result<(), Fail> {
-    let mut all = Failing::new(row.bytes.clone()?, 0)?;
+    let mut all = Failing::new(&row.bytes, 0)?;
     run_row(alloc, row, &mut all);
     for failing in 1..=all.reads {
-        let mut space = Failing::new(row.bytes.clone()?, failing)?;
+        let mut space = Failing::new(&row.bytes, failing)?;
         let ran = run_row(alloc, row, &mut space);
         assert!(rt; ran.out.is_empty(), "{row:?}");
         assert_eq!(rt; ran.err.as_slice(), b"fault Device\n".as_slice(), "{row:?}");
@@ -214,12 +228,13 @@ fn stops_at_each_read_that_fails(rt: HostRuntime) -> Result<(), Fail> {
 }
 
 // The slots that a row can fill, by its bound.
-fn slots_of(table: &Table, row: &Row<'_>) -> Option<usize>
+fn slots_of(table: &Table, row: &Row<'_>) -> Result<usize, Fail>
     requires sound { IsSound table.now }
 {
-    let id = table.find(row.name.as_bytes())?;
+    let id = type_of(table, row)?;
     let bits = (row.bytes.len() as u64).saturating_mul(8);
-    usize::try_from(table.slot_bound(id, bits)?).ok()
+    let slots = table.slot_bound(id, bits).ok_or("no bound")?;
+    Ok(usize::try_from(slots)?)
 }
 
 #[test]
@@ -227,7 +242,7 @@ fn maps_in_the_room_of_its_bound(rt: HostRuntime) -> Result<(), Fail> {
     let alloc = rt.alloc();
     for row in &all_rows(alloc)? {
         let table = table_of(alloc, row.pickle)?;
-        let slots = slots_of(&table, row).ok_or("no bound")?;
+        let slots = slots_of(&table, row)?;
         let mut store = Store::with_room(alloc, slots)?;
         let mut space = space_of(alloc, row)?;
         let mapped = map_row(alloc, &table, row, LIMIT, &mut space, &mut store)?;

@@ -30,6 +30,13 @@ pub struct Row<'a> {
     pub said: &'a str,
 }
 
+/// The rows of a table.
+pub fn read_rows<'a>(alloc: Global, table: &'a str) -> Result<Vec<Row<'a>>, Fail> {
+    let mut rows = Vec::new(alloc);
+    add_rows(alloc, table, &mut rows)?;
+    Ok(rows)
+}
+
 /// The rows of all tables.
 pub fn all_rows(alloc: Global) -> Result<Vec<Row<'static>>, Fail> {
     let mut rows = Vec::new(alloc);
