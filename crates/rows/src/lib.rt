@@ -10,6 +10,8 @@ mod devices;
 #[cfg(test)]
 mod dumps;
 #[cfg(test)]
+mod mappings;
+#[cfg(test)]
 mod maps;
 #[cfg(test)]
 mod memory;
@@ -18,6 +20,12 @@ mod offset_words;
 #[cfg(test)]
 mod pickles;
 #[cfg(test)]
+mod stores;
+#[cfg(test)]
 mod streams;
+#[cfg(test)]
+mod tables;
+#[cfg(test)]
+mod values;
 #[cfg(test)]
 mod words;

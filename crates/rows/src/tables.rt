@@ -1,0 +1,110 @@
+//! Worked rows of mappings, as tables of text.
+//!
+//! A line that begins at the margin is a pickle, for the rows below it. A row is indented, and bars part it: a type's name,
+//! the bit at which it is mapped, the order of the run, and the file's bytes as hexadecimal digits; then the steps that the
+//! mapping takes, and the values that it makes, with the bytes of strings; then what is written: a value's text or a fault.
+
+pub mod arrays;
+pub mod expressions;
+pub mod integers;
+pub mod integral_structs;
+pub mod offsets;
+pub mod strings;
+pub mod structs;
+pub mod unions;
+
+use bit_space::Order;
+use std::alloc::{AllocError, Global};
+use std::test::Fail;
+
+/// A mapping, and what it comes to.
+#[derive(Debug, Drop)]
+pub struct Row<'a> {
+    pub pickle: &'a str,
+    pub name: &'a str,
+    pub start: u64,
+    pub order: Order,
+    pub bytes: Vec<u8>,
+    pub steps: u64,
+    pub made: u64,
+    pub said: &'a str,
+}
+
+/// The rows of a table.
+pub fn read_rows<'a>(alloc: Global, table: &'a str) -> Result<Vec<Row<'a>>, Fail> {
+    let mut rows = Vec::new(alloc);
+    add_rows(alloc, table, &mut rows)?;
+    Ok(rows)
+}
+
+/// The rows of all tables.
+pub fn all_rows(alloc: Global) -> Result<Vec<Row<'static>>, Fail> {
+    let mut rows = Vec::new(alloc);
+    for table in [
+        arrays::TABLE,
+        expressions::TABLE,
+        integers::TABLE,
+        integral_structs::TABLE,
+        offsets::TABLE,
+        strings::TABLE,
+        structs::TABLE,
+        unions::TABLE,
+    ] {
+        add_rows(alloc, table, &mut rows)?;
+    }
+    Ok(rows)
+}
+
+fn add_rows<'a>(alloc: Global, table: &'a str, rows: &mut Vec<Row<'a>>) -> Result<(), Fail> {
+    let mut pickle = "";
+    for line in table.lines() {
+        if line.starts_with(' ') {
+            rows.push(read_row(alloc, pickle, line)?)?;
+        } else {
+            pickle = line;
+        }
+    }
+    Ok(())
+}
+
+fn read_row<'a>(alloc: Global, pickle: &'a str, line: &'a str) -> Result<Row<'a>, Fail> {
+    let (asked, answer) = line.split_once(" | ").ok_or("no bar")?;
+    let (counts, said) = answer.split_once(" | ").ok_or("one bar")?;
+    let mut words = asked.split_ascii_whitespace();
+    let name = words.next().ok_or("no name")?;
+    let start = words.next().ok_or("no start")?.parse::<u64>()?;
+    let order = if words.next().ok_or("no order")? == "little" {
+        Order::Little
+    } else {
+        Order::Big
+    };
+    let bytes = read_bytes(alloc, words.next().unwrap_or(""))?;
+    let (steps, made) = counts.split_once(' ').ok_or("one count")?;
+    Ok(Row {
+        pickle,
+        name,
+        start,
+        order,
+        bytes,
+        steps: steps.parse::<u64>()?,
+        made: made.parse::<u64>()?,
+        said,
+    })
+}
+
+// The bytes that pairs of hexadecimal digits write.
+fn read_bytes(alloc: Global, digits: &str) -> Result<Vec<u8>, AllocError> {
+    let mut bytes = Vec::new(alloc);
+    for pair in digits.as_bytes().chunks_exact(2) {
+        bytes.push(digit(pair[0]) << 4 | digit(pair[1]))?;
+    }
+    Ok(bytes)
+}
+
+fn digit(letter: u8) -> u8 {
+    match letter {
+        b'0'..=b'9' => letter - b'0',
+        b'a'..=b'f' => letter - b'a' + 10,
+        _ => 0,
+    }
+}
