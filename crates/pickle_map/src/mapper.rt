@@ -67,7 +67,7 @@ pub fn map<S: Space>(
     ensures failures { (S.view space.old).failures ≤ (S.view space.new).failures }
 {
     match map_type(
-        &table.nodes,
+        table.nodes(),
         id.node,
         order,
         u128::from(start),

@@ -8,4 +8,5 @@ pub mod MemberTexts
 pub mod Refusing
 pub mod Sayings
 pub mod Mappings
+mod LineRows
 mod ValueTextRows

@@ -1,5 +1,5 @@
 -- Laws of what a mapping says.
-use Rattle.std.proofs.Common.{◌≡◌, ◌≢◌, ◌+◌, ◌-◌, ◌*◌, ◌<◌, ◌∙◌, ℕ, List, Option, Some, Result, Ok, Err, refl, sym, ap, subst, arith}
+use Rattle.std.proofs.Common.{◌≡◌, ◌≢◌, ◌+◌, ◌-◌, ◌*◌, ◌<◌, ◌∙◌, ℕ, List, Some, Result, Ok, Err, refl, sym, ap, subst, arith}
 use Rattle.std.proofs.lemmas.Option.{same_Some}
 use Rattle.bit_space.specs.declared.order.Order.{Order}
 use Rattle.bit_space.specs.Bits.{bits_of}
@@ -45,10 +45,24 @@ stopped : (pickle name : List ℕ) (order : Order) (start limit : ℕ) (before a
     → (kind ≡ fault.Limit → (taken ≡ most) × (most < used + cost type (8 * before.len))) → (EndsRun kind → at ≡ start)
     → kind ≢ fault.Device → kind ≢ fault.Memory
     → MapsAs pickle name order start limit before after (Line Fault (fault_at_line (fault_kind kind) at))
-stopped pickle name order start limit before after type at most used taken k j kind same none a means over place no_device no_memory =
-    stops a no_device no_memory
+stopped pickle name order start limit before after type at most used taken k j kind same none a means over place not_device not_memory =
+    stops a not_device not_memory
     (λ bytes known. has_answer bytes type order start limit most used (Err (kind, at)) k j same none (means bytes known))
     (λ e. (place (subst EndsRun (sym e) tt), omega (arith, (over e).1, same, none)))
+
+-- a fault that is no failure outside the mapping is told with its place
+pub told_at_place : (kind : MapFaultKind) (at : ℕ) → kind ≢ fault.Device → kind ≢ fault.Memory → fault_saying kind at ≡ Line Fault (fault_at_line (fault_kind kind) at)
+told_at_place fault.End at not_device not_memory = refl
+told_at_place fault.Constraint at not_device not_memory = refl
+told_at_place fault.Bounds at not_device not_memory = refl
+told_at_place fault.NoBits at not_device not_memory = refl
+told_at_place fault.Zero at not_device not_memory = refl
+told_at_place fault.Overflow at not_device not_memory = refl
+told_at_place fault.Absent at not_device not_memory = refl
+told_at_place fault.Index at not_device not_memory = refl
+told_at_place fault.Limit at not_device not_memory = refl
+told_at_place fault.Device at not_device not_memory = absurd (not_device refl)
+told_at_place fault.Memory at not_device not_memory = absurd (not_memory refl)
 
 -- what a mapping says of its fault
 pub fault_says : (pickle name : List ℕ) (order : Order) (start limit : ℕ) (before after : SpaceView) (type : PokeType) (at most used taken k j : ℕ) (kind : MapFaultKind)

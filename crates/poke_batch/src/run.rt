@@ -114,7 +114,14 @@ fn map_found<S: Space, O: Write, E: Write>(
     space: &mut S,
     out: &mut O,
     err: &mut E,
-) -> Status {
+) -> Status
+    requires sound { IsSound table.now }
+    requires known { IsInTable table.now id }
+    ensures says { (pickle : List ℕ) → IsAsked pickle ask.now.name.now (type_named table.now id)
+        → Says (MapsAs pickle ask.now.name.now ask.now.order ask.now.start ask.now.limit (S.view space.old) (S.view space.new)) result
+        (O.contents out.old) (O.contents out.new) (E.contents err.old) (E.contents err.new) }
+    ensures keeps { Keeps (S.view space.old) (S.view space.new) }
+{
     let mut meter = Meter::new(ask.limit);
     let mut store = Store::new(alloc);
     match map(
@@ -126,12 +133,13 @@ fn map_found<S: Space, O: Write, E: Write>(
 }
 
 // Writes the value that a store holds.
-fn put_root<W: Write>(
-    store: &Store,
-    table: &Table,
-    mode: Mode,
-    w: &mut W,
-) -> Result<(), WriteFault> {
+fn put_root<W: Write>(store: &Store, table: &Table, mode: Mode, w: &mut W) -> Result<(), WriteFault>
+    requires held { IsSome (value_at (kept (nodes_of table.now) store.now) 0 0) }
+    ensures ok { (value : Value) → value_at (kept (nodes_of table.now) store.now) 0 0 ≡ Some value
+        → OnOk result (Appends (W.contents w.old) (W.contents w.new) (printed value)) }
+    ensures err { (value : Value) → value_at (kept (nodes_of table.now) store.now) 0 0 ≡ Some value
+        → OnErr result (AppendsPart (W.contents w.old) (W.contents w.new) (printed value)) }
+{
     match store.root(table) {
         Some(value) => print(value, mode, w),
         None => unreachable!(),

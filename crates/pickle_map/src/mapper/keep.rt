@@ -12,7 +12,7 @@ use crate::evaluate::ranges::with_sign;
 use crate::store::Store;
 use bit_space::Memory;
 use pickle_types::integer::IntegerType;
-use pickle_types::table::Node;
+use pickle_types::view::Node;
 
 /// Keeps an integer that was read as these binary digits, as a member of the innermost open value.
 pub fn keep_integer(

@@ -83,7 +83,7 @@ impl Store {
         ensures { option_map value_shown result ≡ shown_at (kept table.now.nodes.items self.now) 0 0 }
     {
         match self.part(0, 0) {
-            Some(stored) => Some(ValueRef::new(stored, &table.nodes)),
+            Some(stored) => Some(ValueRef::new(stored, table.nodes())),
             None => None,
         }
     }
