@@ -1,9 +1,9 @@
 -- Laws of what a writer took of a text.
-use Rattle.std.proofs.Common.{◌≡◌, ℕ, ◌+◌, ◌-◌, ◌<◌, ◌≤◌, List, [], ◌++◌, Option, refl, take, drop, length, sym, ◌∙◌, ap, subst, arith, take-add}
+use Rattle.std.proofs.Common.{◌≡◌, ℕ, ◌+◌, ◌-◌, ◌<◌, ◌≤◌, List, ◌++◌, Option, take, drop, length, sym, ◌∙◌, ap, subst, arith, take-add}
 use Rattle.std.specs.Io.KnownBytes.{Appends, Keeps}
 use Rattle.std.proofs.KnownBytes.{Appends-trans, Appends-nil}
 use Rattle.std.proofs.Common.{Some, None}
-use Rattle.std.proofs.lemmas.List.{append_assoc, append-nil, take-append-drop, take_rest, length-drop, length-append}
+use Rattle.std.proofs.lemmas.List.{append_assoc, take-append-drop, take_rest, length-drop, length-append}
 use Rattle.poke_batch.specs.Written.{AppendsPart}
 
 pub Appends-keeps : (a b c : Option (List ℕ)) (x : List ℕ) → Appends a b x → Keeps b c → Appends a c x
@@ -49,27 +49,5 @@ part_next a b c x y h g = record {
   whole = append_assoc x g.taken g.rest ∙ ap (λ s. x ++ s) g.whole;
   more = g.more;
 }
-
--- a text is written but for a rest
-pub record Told (old new : Option (List ℕ)) (rest text : List ℕ) : Type 0 where
-  pub taken : List ℕ
-  pub appends : Appends old new taken
-  pub whole : taken ++ rest ≡ text
-
-pub told_none : (a : Option (List ℕ)) (text : List ℕ) → Told a a text text
-told_none a text = record { taken = []; appends = Appends-nil a; whole = refl }
-
-pub told_more : (a b c : Option (List ℕ)) (x y text : List ℕ) → Told a b (x ++ y) text → Appends b c x → Told a c y text
-told_more a b c x y text h g = record {
-  taken = h.taken ++ x;
-  appends = Appends-trans a b c h.taken x h.appends g;
-  whole = append_assoc h.taken x y ∙ h.whole;
-}
-
-pub told_cut : (a b c : Option (List ℕ)) (x y text : List ℕ) → Told a b (x ++ y) text → AppendsPart b c x → AppendsPart a c text
-told_cut a b c x y text h g = subst (AppendsPart a c) h.whole (part_next a b c h.taken (x ++ y) h.appends (part_first b c x y g))
-
-pub told_all : (a b : Option (List ℕ)) (rest text : List ℕ) → Told a b rest text → rest ≡ [] → Appends a b text
-told_all a b rest text h e = subst (Appends a b) (sym (append-nil h.taken) ∙ ap (λ r. h.taken ++ r) (sym e) ∙ h.whole) h.appends
 
 pub ruleset written = (part_first, part_next, Appends-trans)

@@ -4,9 +4,10 @@ use Rattle.std.specs.Prelude.{slice_index}
 use Rattle.std.specs.List.{prefix_len}
 use Rattle.std.proofs.lemmas.Bool.{cases_Bool}
 use Rattle.std.proofs.lemmas.List.{append_assoc, take-append-drop, drop-drop, take_rest, length-drop}
-use Rattle.std.specs.Io.KnownBytes.{Appends}
+use Rattle.poke_batch.specs.Written.{AppendsPart}
+use Rattle.poke_batch.specs.Gathered.{Gathers}
 use Rattle.poke_batch.specs.ValueText.{bytes_text, byte_text, escape_text, is_plain}
-use Rattle.poke_batch.proofs.Parts.{Told, told_more}
+use Rattle.poke_batch.proofs.Gathered.{Told, told_more, told_part}
 
 one_more : (n : ℕ) → 1 + n ≡ suc n
 one_more n = omega arith
@@ -38,11 +39,16 @@ escape_then (b ∷ bytes) e lt = elim (cases_Bool (is_plain b)) [
 ]
 
 -- one turn of writing what is left
-pub bytes_step : (a b c : Option (List ℕ)) (k n : ℕ) (bytes : List ℕ) → k ≤ length bytes → Told a b (bytes_text (drop k bytes)) (bytes_text bytes) → n ≤ length (take (length bytes - k) (drop k bytes)) → Appends b c (bytes_text (take n (take (length bytes - k) (drop k bytes)))) → (k + n ≤ length bytes) × Told a c (bytes_text (drop (k + n) bytes)) (bytes_text bytes)
-bytes_step a b c k n bytes le told low g =
+pub bytes_step : (a b c : Option (List ℕ)) (l m o : List ℕ) (k n : ℕ) (bytes : List ℕ) → k ≤ length bytes → Told a b l m (bytes_text (drop k bytes)) (bytes_text bytes) → n ≤ length (take (length bytes - k) (drop k bytes)) → Gathers b c m o (bytes_text (take n (take (length bytes - k) (drop k bytes)))) → (k + n ≤ length bytes) × Told a c l o (bytes_text (drop (k + n) bytes)) (bytes_text bytes)
+bytes_step a b c l m o k n bytes le told low g =
     let e : take (length bytes - k) (drop k bytes) ≡ drop k bytes = take_rest bytes k in
     let low' : n ≤ length (drop k bytes) = subst (λ s. n ≤ length s) e low in
-    let g' : Appends b c (bytes_text (take n (drop k bytes))) = subst (λ s. Appends b c (bytes_text (take n s))) e g in
+    let g' : Gathers b c m o (bytes_text (take n (drop k bytes))) = subst (λ s. Gathers b c m o (bytes_text (take n s))) e g in
     let split : bytes_text (drop k bytes) ≡ bytes_text (take n (drop k bytes)) ++ bytes_text (drop (k + n) bytes) =
     bytes_split n (drop k bytes) ∙ ap (λ s. bytes_text (take n (drop k bytes)) ++ bytes_text s) (drop-drop n k bytes) in
-    (omega (arith, length-drop k bytes, le, low'), told_more a b c _ _ _ (subst (λ t. Told a b t (bytes_text bytes)) split told) g')
+    (omega (arith, length-drop k bytes, le, low'), told_more a b c l m o _ _ _ (subst (λ t. Told a b l m t (bytes_text bytes)) split told) g')
+
+-- a part of what is left
+pub bytes_cut : (a b c : Option (List ℕ)) (l m : List ℕ) (k : ℕ) (bytes : List ℕ) → Told a b l m (bytes_text (drop k bytes)) (bytes_text bytes) → AppendsPart b c (m ++ bytes_text (take (length bytes - k) (drop k bytes))) → AppendsPart a c (l ++ bytes_text bytes)
+bytes_cut a b c l m k bytes told g =
+    told_part a b c l m _ _ told (subst (λ s. AppendsPart b c (m ++ bytes_text s)) (take_rest bytes k) g)

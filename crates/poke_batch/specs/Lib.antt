@@ -5,6 +5,7 @@ pub mod PartText
 pub mod Words
 pub mod BoundText
 pub mod Written
+pub mod Gathered
 pub mod Taken
 pub mod Lines
 pub mod Told

@@ -1,4 +1,5 @@
 //! Prints mapped values.
+mod line;
 mod number;
 mod string;
 
@@ -8,11 +9,13 @@ ghost use Rattle.std.specs.Io.KnownBytes.{Appends};
 ghost use Rattle.pickle_map.specs.Values.{label_of};
 ghost use Rattle.pickle_map.specs.Refs.{value_shown};
 ghost use Rattle.poke_batch.specs.Written.{AppendsPart};
+ghost use Rattle.poke_batch.specs.Gathered.{Gathers};
 ghost use Rattle.poke_batch.specs.ValueText.{printed, value_text, title_text, name_text, comma};
 ghost use Rattle.poke_batch.specs.PartText.{type_of, array_text, titled_text, all_members_text, member_text};
 
 use crate::mode::Mode;
-use crate::write::{WriteFault, put};
+use crate::write::WriteFault;
+use line::Line;
 use number::{put_integer, put_offset};
 use pickle_map::{Kind, ValueRef};
 use pickle_types::integer::IntegerType;
@@ -29,29 +32,40 @@ pub fn print<W: Write>(value: ValueRef<'_>, mode: Mode, w: &mut W) -> Result<(),
     }
 }
 
-#[tactic(auto, using(crate::proofs::Parts::written))]
+#[tactic(auto, using(crate::proofs::Gathered::gathered_all, crate::proofs::Gathered::gathered_cut, crate::proofs::Gathered::gathered_last))]
 fn print_flat<W: Write>(value: ValueRef<'_>, w: &mut W) -> Result<(), WriteFault>
     ensures ok { OnOk result (Appends (W.contents w.old) (W.contents w.new) (printed (value_shown value.entry))) }
     ensures err { OnErr result (AppendsPart (W.contents w.old) (W.contents w.new) (printed (value_shown value.entry))) }
 {
-    put_value(w, value)?;
-    put(w, b"\n")?;
+    let mut line = Line::new();
+    put_printed(w, &mut line, value)?;
+    line.finish(w)?;
+    Ok(())
+}
+
+#[tactic(auto, using(crate::proofs::Gathered::gathered))]
+fn put_printed<W: Write>(w: &mut W, line: &mut Line, value: ValueRef<'_>) -> Result<(), WriteFault>
+    ensures ok { OnOk result (Gathers (W.contents w.old) (W.contents w.new) line.old line.new (printed (value_shown value.entry))) }
+    ensures err { OnErr result (AppendsPart (W.contents w.old) (W.contents w.new) (line.old ++ printed (value_shown value.entry))) }
+{
+    put_value(w, line, value)?;
+    line.put(w, b"\n")?;
     Ok(())
 }
 
 #[tactic(auto, using(crate::proofs::MemberTexts::by_kind))]
 #[cycle(print)]
-fn put_value<W: Write>(w: &mut W, value: ValueRef<'_>) -> Result<(), WriteFault>
-    ensures ok { OnOk result (Appends (W.contents w.old) (W.contents w.new) (value_text (value_shown value.entry))) }
-    ensures err { OnErr result (AppendsPart (W.contents w.old) (W.contents w.new) (value_text (value_shown value.entry))) }
+fn put_value<W: Write>(w: &mut W, line: &mut Line, value: ValueRef<'_>) -> Result<(), WriteFault>
+    ensures ok { OnOk result (Gathers (W.contents w.old) (W.contents w.new) line.old line.new (value_text (value_shown value.entry))) }
+    ensures err { OnErr result (AppendsPart (W.contents w.old) (W.contents w.new) (line.old ++ value_text (value_shown value.entry))) }
 {
     match value.kind() {
-        Kind::Integer => put_integer(w, type_of(value), value.number()),
-        Kind::Offset => put_offset(w, type_of(value), value.unit(), value.number()),
-        Kind::Text => put_string(w, value.bytes()),
-        Kind::Array => put_array(w, value),
-        Kind::Struct => put_titled(w, value, b"struct"),
-        Kind::Union => put_titled(w, value, b"union"),
+        Kind::Integer => put_integer(w, line, type_of(value), value.number()),
+        Kind::Offset => put_offset(w, line, type_of(value), value.unit(), value.number()),
+        Kind::Text => put_string(w, line, value.bytes()),
+        Kind::Array => put_array(w, line, value),
+        Kind::Struct => put_titled(w, line, value, b"struct"),
+        Kind::Union => put_titled(w, line, value, b"union"),
     }
 }
 
@@ -65,97 +79,108 @@ fn type_of(value: ValueRef<'_>) -> IntegerType
     }
 }
 
-#[tactic(auto, using(crate::proofs::Parts::written))]
+#[tactic(auto, using(crate::proofs::Gathered::gathered))]
 #[cycle(print)]
-fn put_array<W: Write>(w: &mut W, value: ValueRef<'_>) -> Result<(), WriteFault>
-    ensures ok { OnOk result (Appends (W.contents w.old) (W.contents w.new) (array_text (value_shown value.entry))) }
-    ensures err { OnErr result (AppendsPart (W.contents w.old) (W.contents w.new) (array_text (value_shown value.entry))) }
+fn put_array<W: Write>(w: &mut W, line: &mut Line, value: ValueRef<'_>) -> Result<(), WriteFault>
+    ensures ok { OnOk result (Gathers (W.contents w.old) (W.contents w.new) line.old line.new (array_text (value_shown value.entry))) }
+    ensures err { OnErr result (AppendsPart (W.contents w.old) (W.contents w.new) (line.old ++ array_text (value_shown value.entry))) }
 {
-    put(w, b"[")?;
-    put_members(w, value)?;
-    put(w, b"]")?;
+    line.put(w, b"[")?;
+    put_members(w, line, value)?;
+    line.put(w, b"]")?;
     Ok(())
 }
 
 // Writes a struct or a union, with the word for its sort where it is nameless.
-#[tactic(auto, using(crate::proofs::Parts::written))]
+#[tactic(auto, using(crate::proofs::Gathered::gathered))]
 #[cycle(print)]
-fn put_titled<W: Write>(w: &mut W, value: ValueRef<'_>, sort: &[u8]) -> Result<(), WriteFault>
-    ensures ok { OnOk result (Appends (W.contents w.old) (W.contents w.new) (titled_text sort.now (value_shown value.entry))) }
-    ensures err { OnErr result (AppendsPart (W.contents w.old) (W.contents w.new) (titled_text sort.now (value_shown value.entry))) }
+fn put_titled<W: Write>(
+    w: &mut W,
+    line: &mut Line,
+    value: ValueRef<'_>,
+    sort: &[u8],
+) -> Result<(), WriteFault>
+    ensures ok { OnOk result (Gathers (W.contents w.old) (W.contents w.new) line.old line.new (titled_text sort.now (value_shown value.entry))) }
+    ensures err { OnErr result (AppendsPart (W.contents w.old) (W.contents w.new) (line.old ++ titled_text sort.now (value_shown value.entry))) }
 {
-    put_title(w, sort, value.type_name())?;
-    put(w, b" {")?;
-    put_members(w, value)?;
-    put(w, b"}")?;
+    put_title(w, line, sort, value.type_name())?;
+    line.put(w, b" {")?;
+    put_members(w, line, value)?;
+    line.put(w, b"}")?;
     Ok(())
 }
 
-fn put_title<W: Write>(w: &mut W, sort: &[u8], name: Option<&[u8]>) -> Result<(), WriteFault>
-    ensures ok { OnOk result (Appends (W.contents w.old) (W.contents w.new) (title_text sort.now (option_map (λ name. name.now) name.entry))) }
-    ensures err { OnErr result (AppendsPart (W.contents w.old) (W.contents w.new) (title_text sort.now (option_map (λ name. name.now) name.entry))) }
+fn put_title<W: Write>(
+    w: &mut W,
+    line: &mut Line,
+    sort: &[u8],
+    name: Option<&[u8]>,
+) -> Result<(), WriteFault>
+    ensures ok { OnOk result (Gathers (W.contents w.old) (W.contents w.new) line.old line.new (title_text sort.now (option_map (λ name. name.now) name.entry))) }
+    ensures err { OnErr result (AppendsPart (W.contents w.old) (W.contents w.new) (line.old ++ title_text sort.now (option_map (λ name. name.now) name.entry))) }
 {
     match name {
-        Some(name) => put(w, name),
-        None => put(w, sort),
+        Some(name) => line.put(w, name),
+        None => line.put(w, sort),
     }
 }
 
 #[cycle(print)]
-fn put_members<W: Write>(w: &mut W, value: ValueRef<'_>) -> Result<(), WriteFault>
-    ensures ok { OnOk result (Appends (W.contents w.old) (W.contents w.new) (all_members_text (value_shown value.entry))) }
-    ensures err { OnErr result (AppendsPart (W.contents w.old) (W.contents w.new) (all_members_text (value_shown value.entry))) }
+fn put_members<W: Write>(w: &mut W, line: &mut Line, value: ValueRef<'_>) -> Result<(), WriteFault>
+    ensures ok { OnOk result (Gathers (W.contents w.old) (W.contents w.new) line.old line.new (all_members_text (value_shown value.entry))) }
+    ensures err { OnErr result (AppendsPart (W.contents w.old) (W.contents w.new) (line.old ++ all_members_text (value_shown value.entry))) }
 {
     let mut first = true;
     for place in 0..value.len() {
         if let Some(member) = value.child(place) {
-            put_member(w, first, value.field_name(place), member)?;
+            put_member(w, line, first, value.field_name(place), member)?;
             first = false;
         }
     }
     Ok(())
 }
 
-#[tactic(auto, using(crate::proofs::Parts::written))]
+#[tactic(auto, using(crate::proofs::Gathered::gathered))]
 #[cycle(print)]
 fn put_member<W: Write>(
     w: &mut W,
+    line: &mut Line,
     first: bool,
     name: Option<&[u8]>,
     member: ValueRef<'_>,
 ) -> Result<(), WriteFault>
-    ensures ok { OnOk result (Appends (W.contents w.old) (W.contents w.new) (member_text first (option_map (λ name. name.now) name.entry) (value_shown member.entry))) }
-    ensures err { OnErr result (AppendsPart (W.contents w.old) (W.contents w.new) (member_text first (option_map (λ name. name.now) name.entry) (value_shown member.entry))) }
+    ensures ok { OnOk result (Gathers (W.contents w.old) (W.contents w.new) line.old line.new (member_text first (option_map (λ name. name.now) name.entry) (value_shown member.entry))) }
+    ensures err { OnErr result (AppendsPart (W.contents w.old) (W.contents w.new) (line.old ++ member_text first (option_map (λ name. name.now) name.entry) (value_shown member.entry))) }
 {
-    put_comma(w, first)?;
-    put_name(w, name)?;
-    put_value(w, member)?;
+    put_comma(w, line, first)?;
+    put_name(w, line, name)?;
+    put_value(w, line, member)?;
     Ok(())
 }
 
-fn put_comma<W: Write>(w: &mut W, first: bool) -> Result<(), WriteFault>
-    ensures ok { OnOk result (Appends (W.contents w.old) (W.contents w.new) (comma first)) }
-    ensures err { OnErr result (AppendsPart (W.contents w.old) (W.contents w.new) (comma first)) }
+fn put_comma<W: Write>(w: &mut W, line: &mut Line, first: bool) -> Result<(), WriteFault>
+    ensures ok { OnOk result (Gathers (W.contents w.old) (W.contents w.new) line.old line.new (comma first)) }
+    ensures err { OnErr result (AppendsPart (W.contents w.old) (W.contents w.new) (line.old ++ comma first)) }
 {
-    if first { Ok(()) } else { put(w, b",") }
+    if first { Ok(()) } else { line.put(w, b",") }
 }
 
-fn put_name<W: Write>(w: &mut W, name: Option<&[u8]>) -> Result<(), WriteFault>
-    ensures ok { OnOk result (Appends (W.contents w.old) (W.contents w.new) (name_text (option_map (λ name. name.now) name.entry))) }
-    ensures err { OnErr result (AppendsPart (W.contents w.old) (W.contents w.new) (name_text (option_map (λ name. name.now) name.entry))) }
+fn put_name<W: Write>(w: &mut W, line: &mut Line, name: Option<&[u8]>) -> Result<(), WriteFault>
+    ensures ok { OnOk result (Gathers (W.contents w.old) (W.contents w.new) line.old line.new (name_text (option_map (λ name. name.now) name.entry))) }
+    ensures err { OnErr result (AppendsPart (W.contents w.old) (W.contents w.new) (line.old ++ name_text (option_map (λ name. name.now) name.entry))) }
 {
     match name {
-        Some(name) => put_name_before(w, name),
+        Some(name) => put_name_before(w, line, name),
         None => Ok(()),
     }
 }
 
-#[tactic(auto, using(crate::proofs::Parts::written))]
-fn put_name_before<W: Write>(w: &mut W, name: &[u8]) -> Result<(), WriteFault>
-    ensures ok { OnOk result (Appends (W.contents w.old) (W.contents w.new) (name.now ++ codes "=")) }
-    ensures err { OnErr result (AppendsPart (W.contents w.old) (W.contents w.new) (name.now ++ codes "=")) }
+#[tactic(auto, using(crate::proofs::Gathered::gathered))]
+fn put_name_before<W: Write>(w: &mut W, line: &mut Line, name: &[u8]) -> Result<(), WriteFault>
+    ensures ok { OnOk result (Gathers (W.contents w.old) (W.contents w.new) line.old line.new (name.now ++ codes "=")) }
+    ensures err { OnErr result (AppendsPart (W.contents w.old) (W.contents w.new) (line.old ++ (name.now ++ codes "="))) }
 {
-    put(w, name)?;
-    put(w, b"=")?;
+    line.put(w, name)?;
+    line.put(w, b"=")?;
     Ok(())
 }

@@ -2,91 +2,108 @@
 ghost use Rattle.std.specs.Prelude.{◌≡◌, ◌++◌, true, false, OnOk, OnErr, decimal};
 ghost use Rattle.std.specs.Fmt.{signed_decimal};
 ghost use Rattle.std.specs.Option.{option_map};
-ghost use Rattle.std.specs.Io.KnownBytes.{Appends};
 ghost use Rattle.poke_batch.specs.Written.{AppendsPart};
+ghost use Rattle.poke_batch.specs.Gathered.{Gathers};
 ghost use Rattle.poke_batch.specs.ValueText.{integer_text, offset_text, cast_text, type_word, unit_text, suffix_of, with_sign_letter, width_letter};
 
-use crate::write::{WriteFault, put};
+use super::line::Line;
+use crate::write::WriteFault;
 use itoa::Buffer;
 use pickle_types::integer::IntegerType;
 use std::io::Write;
 
 /// Writes an offset of so many units, of a number of bits each.
-#[tactic(auto, using(crate::proofs::Parts::written), unfolding(crate::specs::ValueText::offset_text))]
+#[tactic(auto, using(crate::proofs::Gathered::gathered), unfolding(crate::specs::ValueText::offset_text))]
 pub fn put_offset<W: Write>(
     w: &mut W,
+    line: &mut Line,
     ty: IntegerType,
     unit: u32,
     magnitude: i128,
 ) -> Result<(), WriteFault>
-    ensures ok { OnOk result (Appends (W.contents w.old) (W.contents w.new) (offset_text ty unit magnitude)) }
-    ensures err { OnErr result (AppendsPart (W.contents w.old) (W.contents w.new) (offset_text ty unit magnitude)) }
+    ensures ok { OnOk result (Gathers (W.contents w.old) (W.contents w.new) line.old line.new (offset_text ty unit magnitude)) }
+    ensures err { OnErr result (AppendsPart (W.contents w.old) (W.contents w.new) (line.old ++ offset_text ty unit magnitude)) }
 {
-    put_integer(w, ty, magnitude)?;
-    put(w, b"#")?;
-    put_unit(w, unit)?;
+    put_integer(w, line, ty, magnitude)?;
+    line.put(w, b"#")?;
+    put_unit(w, line, unit)?;
     Ok(())
 }
 
-fn put_unit<W: Write>(w: &mut W, unit: u32) -> Result<(), WriteFault>
-    ensures ok { OnOk result (Appends (W.contents w.old) (W.contents w.new) (unit_text unit)) }
-    ensures err { OnErr result (AppendsPart (W.contents w.old) (W.contents w.new) (unit_text unit)) }
+fn put_unit<W: Write>(w: &mut W, line: &mut Line, unit: u32) -> Result<(), WriteFault>
+    ensures ok { OnOk result (Gathers (W.contents w.old) (W.contents w.new) line.old line.new (unit_text unit)) }
+    ensures err { OnErr result (AppendsPart (W.contents w.old) (W.contents w.new) (line.old ++ unit_text unit)) }
 {
     match unit {
-        1 => put(w, b"b"),
-        8 => put(w, b"B"),
-        _ => put_digits(w, unit),
+        1 => line.put(w, b"b"),
+        8 => line.put(w, b"B"),
+        _ => put_digits(w, line, unit),
     }
 }
 
 /// Writes an integer of a type.
 #[tactic(auto, unfolding(crate::specs::ValueText::integer_text))]
-pub fn put_integer<W: Write>(w: &mut W, ty: IntegerType, number: i128) -> Result<(), WriteFault>
-    ensures ok { OnOk result (Appends (W.contents w.old) (W.contents w.new) (integer_text ty number)) }
-    ensures err { OnErr result (AppendsPart (W.contents w.old) (W.contents w.new) (integer_text ty number)) }
+pub fn put_integer<W: Write>(
+    w: &mut W,
+    line: &mut Line,
+    ty: IntegerType,
+    number: i128,
+) -> Result<(), WriteFault>
+    ensures ok { OnOk result (Gathers (W.contents w.old) (W.contents w.new) line.old line.new (integer_text ty number)) }
+    ensures err { OnErr result (AppendsPart (W.contents w.old) (W.contents w.new) (line.old ++ integer_text ty number)) }
 {
     match suffix_of(ty) {
-        Some(suffix) => put_suffixed(w, number, suffix),
-        None => put_cast(w, ty, number),
+        Some(suffix) => put_suffixed(w, line, number, suffix),
+        None => put_cast(w, line, ty, number),
     }
 }
 
-#[tactic(auto, using(crate::proofs::Parts::written))]
-fn put_suffixed<W: Write>(w: &mut W, number: i128, suffix: &[u8]) -> Result<(), WriteFault>
-    ensures ok { OnOk result (Appends (W.contents w.old) (W.contents w.new) (signed_decimal number ++ suffix.now)) }
-    ensures err { OnErr result (AppendsPart (W.contents w.old) (W.contents w.new) (signed_decimal number ++ suffix.now)) }
+#[tactic(auto, using(crate::proofs::Gathered::gathered))]
+fn put_suffixed<W: Write>(
+    w: &mut W,
+    line: &mut Line,
+    number: i128,
+    suffix: &[u8],
+) -> Result<(), WriteFault>
+    ensures ok { OnOk result (Gathers (W.contents w.old) (W.contents w.new) line.old line.new (signed_decimal number ++ suffix.now)) }
+    ensures err { OnErr result (AppendsPart (W.contents w.old) (W.contents w.new) (line.old ++ (signed_decimal number ++ suffix.now))) }
 {
-    put_signed(w, number)?;
-    put(w, suffix)?;
+    put_signed(w, line, number)?;
+    line.put(w, suffix)?;
     Ok(())
 }
 
-#[tactic(auto, using(crate::proofs::Parts::written))]
-fn put_cast<W: Write>(w: &mut W, ty: IntegerType, number: i128) -> Result<(), WriteFault>
-    ensures ok { OnOk result (Appends (W.contents w.old) (W.contents w.new) (cast_text ty number)) }
-    ensures err { OnErr result (AppendsPart (W.contents w.old) (W.contents w.new) (cast_text ty number)) }
+#[tactic(auto, using(crate::proofs::Gathered::gathered))]
+fn put_cast<W: Write>(
+    w: &mut W,
+    line: &mut Line,
+    ty: IntegerType,
+    number: i128,
+) -> Result<(), WriteFault>
+    ensures ok { OnOk result (Gathers (W.contents w.old) (W.contents w.new) line.old line.new (cast_text ty number)) }
+    ensures err { OnErr result (AppendsPart (W.contents w.old) (W.contents w.new) (line.old ++ cast_text ty number)) }
 {
-    put(w, type_word(ty.signed))?;
-    put_digits(w, u32::from(ty.width))?;
-    put(w, b">) ")?;
-    put_signed(w, number)?;
+    line.put(w, type_word(ty.signed))?;
+    put_digits(w, line, u32::from(ty.width))?;
+    line.put(w, b">) ")?;
+    put_signed(w, line, number)?;
     Ok(())
 }
 
-fn put_signed<W: Write>(w: &mut W, number: i128) -> Result<(), WriteFault>
-    ensures ok { OnOk result (Appends (W.contents w.old) (W.contents w.new) (signed_decimal number)) }
-    ensures err { OnErr result (AppendsPart (W.contents w.old) (W.contents w.new) (signed_decimal number)) }
+fn put_signed<W: Write>(w: &mut W, line: &mut Line, number: i128) -> Result<(), WriteFault>
+    ensures ok { OnOk result (Gathers (W.contents w.old) (W.contents w.new) line.old line.new (signed_decimal number)) }
+    ensures err { OnErr result (AppendsPart (W.contents w.old) (W.contents w.new) (line.old ++ signed_decimal number)) }
 {
     let mut digits = Buffer::new();
-    put(w, digits.format(number).as_bytes())
+    line.put(w, digits.format(number).as_bytes())
 }
 
-fn put_digits<W: Write>(w: &mut W, number: u32) -> Result<(), WriteFault>
-    ensures ok { OnOk result (Appends (W.contents w.old) (W.contents w.new) (decimal number)) }
-    ensures err { OnErr result (AppendsPart (W.contents w.old) (W.contents w.new) (decimal number)) }
+fn put_digits<W: Write>(w: &mut W, line: &mut Line, number: u32) -> Result<(), WriteFault>
+    ensures ok { OnOk result (Gathers (W.contents w.old) (W.contents w.new) line.old line.new (decimal number)) }
+    ensures err { OnErr result (AppendsPart (W.contents w.old) (W.contents w.new) (line.old ++ decimal number)) }
 {
     let mut digits = Buffer::new();
-    put(w, digits.format(number).as_bytes())
+    line.put(w, digits.format(number).as_bytes())
 }
 
 fn type_word(signed: bool) -> &'static [u8]

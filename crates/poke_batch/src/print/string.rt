@@ -1,50 +1,51 @@
 //! Prints strings.
-ghost use Rattle.std.specs.Prelude.{◌≡◌, ◌<◌, ◌≤◌, false, take, length, slice_index, IfOk, OnErr, OnOk};
+ghost use Rattle.std.specs.Prelude.{◌≡◌, ◌<◌, ◌≤◌, ◌++◌, false, take, length, slice_index, IfOk, OnErr, OnOk};
 ghost use Rattle.std.specs.List.{prefix_len};
-ghost use Rattle.std.specs.Io.KnownBytes.{Appends};
 ghost use Rattle.poke_batch.specs.Written.{AppendsPart};
+ghost use Rattle.poke_batch.specs.Gathered.{Gathers};
 ghost use Rattle.poke_batch.specs.ValueText.{string_text, bytes_text, escape_text, is_plain};
 
+use super::line::Line;
 use crate::hex::hex_digit;
-use crate::write::{WriteFault, put};
+use crate::write::WriteFault;
 use std::io::Write;
 
 /// Writes a string in double quotes.
-#[tactic(auto, using(crate::proofs::Parts::written), unfolding(crate::specs::ValueText::string_text))]
-pub fn put_string<W: Write>(w: &mut W, bytes: &[u8]) -> Result<(), WriteFault>
-    ensures ok { OnOk result (Appends (W.contents w.old) (W.contents w.new) (string_text bytes.now)) }
-    ensures err { OnErr result (AppendsPart (W.contents w.old) (W.contents w.new) (string_text bytes.now)) }
+#[tactic(auto, using(crate::proofs::Gathered::gathered), unfolding(crate::specs::ValueText::string_text))]
+pub fn put_string<W: Write>(w: &mut W, line: &mut Line, bytes: &[u8]) -> Result<(), WriteFault>
+    ensures ok { OnOk result (Gathers (W.contents w.old) (W.contents w.new) line.old line.new (string_text bytes.now)) }
+    ensures err { OnErr result (AppendsPart (W.contents w.old) (W.contents w.new) (line.old ++ string_text bytes.now)) }
 {
-    put(w, b"\"")?;
-    put_bytes(w, bytes)?;
-    put(w, b"\"")?;
+    line.put(w, b"\"")?;
+    put_bytes(w, line, bytes)?;
+    line.put(w, b"\"")?;
     Ok(())
 }
 
-fn put_bytes<W: Write>(w: &mut W, bytes: &[u8]) -> Result<(), WriteFault>
-    ensures ok { OnOk result (Appends (W.contents w.old) (W.contents w.new) (bytes_text bytes.now)) }
-    ensures err { OnErr result (AppendsPart (W.contents w.old) (W.contents w.new) (bytes_text bytes.now)) }
+fn put_bytes<W: Write>(w: &mut W, line: &mut Line, bytes: &[u8]) -> Result<(), WriteFault>
+    ensures ok { OnOk result (Gathers (W.contents w.old) (W.contents w.new) line.old line.new (bytes_text bytes.now)) }
+    ensures err { OnErr result (AppendsPart (W.contents w.old) (W.contents w.new) (line.old ++ bytes_text bytes.now)) }
 {
     let mut done = 0;
     while done < bytes.len() {
-        done += put_next(w, &bytes[done..])?;
+        done += put_next(w, line, &bytes[done..])?;
     }
     Ok(())
 }
 
 // Writes all the plain bytes that come first, or else the first byte as an escape, and tells how many bytes that were.
-fn put_next<W: Write>(w: &mut W, bytes: &[u8]) -> Result<usize, WriteFault>
+fn put_next<W: Write>(w: &mut W, line: &mut Line, bytes: &[u8]) -> Result<usize, WriteFault>
     requires { 0 < length bytes.now }
     ensures some { IfOk result (λ n. (0 < n) × (n ≤ length bytes.now)) }
-    ensures ok { IfOk result (λ n. Appends (W.contents w.old) (W.contents w.new) (bytes_text (take n bytes.now))) }
-    ensures err { OnErr result (AppendsPart (W.contents w.old) (W.contents w.new) (bytes_text bytes.now)) }
+    ensures ok { IfOk result (λ n. Gathers (W.contents w.old) (W.contents w.new) line.old line.new (bytes_text (take n bytes.now))) }
+    ensures err { OnErr result (AppendsPart (W.contents w.old) (W.contents w.new) (line.old ++ bytes_text bytes.now)) }
 {
     let run = plain_len(bytes);
     if run == 0 {
-        put_escape(w, bytes[0])?;
+        put_escape(w, line, bytes[0])?;
         Ok(1)
     } else {
-        put(w, &bytes[..run])?;
+        line.put(w, &bytes[..run])?;
         Ok(run)
     }
 }
@@ -62,16 +63,16 @@ fn is_plain(byte: u8) -> bool
     32 <= byte && byte <= 126 && byte != b'"' && byte != b'\\'
 }
 
-fn put_escape<W: Write>(w: &mut W, byte: u8) -> Result<(), WriteFault>
-    ensures ok { OnOk result (Appends (W.contents w.old) (W.contents w.new) (escape_text byte)) }
-    ensures err { OnErr result (AppendsPart (W.contents w.old) (W.contents w.new) (escape_text byte)) }
+fn put_escape<W: Write>(w: &mut W, line: &mut Line, byte: u8) -> Result<(), WriteFault>
+    ensures ok { OnOk result (Gathers (W.contents w.old) (W.contents w.new) line.old line.new (escape_text byte)) }
+    ensures err { OnErr result (AppendsPart (W.contents w.old) (W.contents w.new) (line.old ++ escape_text byte)) }
 {
     match byte {
-        b'\\' => put(w, b"\\\\"),
-        b'"' => put(w, b"\\\""),
-        b'\n' => put(w, b"\\n"),
-        b'\t' => put(w, b"\\t"),
-        _ => put(
+        b'\\' => line.put(w, b"\\\\"),
+        b'"' => line.put(w, b"\\\""),
+        b'\n' => line.put(w, b"\\n"),
+        b'\t' => line.put(w, b"\\t"),
+        _ => line.put(
             w,
             &[b'\\', b'x', hex_digit(byte >> 4), hex_digit(byte & 15)],
         ),

@@ -5,7 +5,7 @@ use Rattle.pickle_map.specs.Labels.{name_of, member_name}
 use Rattle.pickle_map.specs.Refs.{value_shown}
 use Rattle.poke_batch.specs.ValueText.{title_text}
 use Rattle.poke_batch.specs.PartText.{all_members_text, member_text}
-use Rattle.poke_batch.proofs.Parts.{part_first, part_next, told_more, told_cut}
+use Rattle.poke_batch.proofs.Gathered.{gathers_next, cut_first, cut_next, told_more, told_cut}
 use Rattle.poke_batch.proofs.MemberTexts.{told_present, told_absent, told_end}
 use Rattle.poke_batch.proofs.print.+print.Goals.{put_members-in-Some+in_ok-put_member, put_members-in_default}
 use Rattle.poke_batch.proofs.print.+print.Goals as goal
@@ -13,20 +13,20 @@ use Rattle.poke_batch.proofs.print.+print.Goals as goal
 pub put_array-returns-in_err-put-clause-err : goal.put_array-returns-in_err-put-clause-err
 put_array-returns-in_err-put-clause-err g t c =
     let p = err_from_is_err_and c.from_residual.result c.from_residual.ensures.1 in
-    rw p.1 (part_first _ _ (codes "[") _ c.in_err-put.ensures.err)
+    rw p.1 (cut_first _ _ _ (codes "[") _ c.in_err-put.ensures.err)
 
 pub put_array-returns-in_err-put_members-clause-err : goal.put_array-returns-in_err-put_members-clause-err
 put_array-returns-in_err-put_members-clause-err g t c =
     let p = err_from_is_err_and c.from_residual-in_err-put_members.result c.from_residual-in_err-put_members.ensures.1 in
     rw p.1
-    (part_next _ _ _ (codes "[") _ c.in_ok-put.ensures.ok (part_first _ _ (all_members_text (value_shown c.args.value)) (codes "]") c.in_err-put_members.ensures.err))
+    (cut_next _ _ _ _ _ (codes "[") _ c.in_ok-put.ensures.ok (cut_first _ _ _ (all_members_text (value_shown c.args.value)) (codes "]") c.in_err-put_members.ensures.err))
 
 pub put_array-returns-in_err-put-2-clause-err : goal.put_array-returns-in_err-put-2-clause-err
 put_array-returns-in_err-put-2-clause-err g t c =
     let p = err_from_is_err_and c.from_residual-in_err-put-2.result c.from_residual-in_err-put-2.ensures.1 in
     rw p.1
-    (part_next _ _ _ (codes "[") _ c.in_ok-put.ensures.ok
-    (part_next _ _ _ (all_members_text (value_shown c.args.value)) (codes "]") c.in_ok-put_members.ensures.ok c.in_err-put-2.ensures.err))
+    (cut_next _ _ _ _ _ (codes "[") _ c.in_ok-put.ensures.ok
+    (cut_next _ _ _ _ _ (all_members_text (value_shown c.args.value)) (codes "]") c.in_ok-put_members.ensures.ok c.in_err-put-2.ensures.err))
 
 pub put_members-returns-in_err-put_member-clause-err : goal.put_members-returns-in_err-put_member-clause-err
 put_members-returns-in_err-put_member-clause-err g t c =
@@ -34,8 +34,8 @@ put_members-returns-in_err-put_member-clause-err g t c =
     let v = value_shown c.args.value in
     let i = c.loop-place.place in
     let u = value_shown c.in-Some.member in
-    let h = told_present _ _ v u c.loop-place.first i _ (omega (arith, c.len-place-end.ensures, c.loop-place-test.true)) c.in-Some.ensures.member c.loop-place.invariant in
-    rw p.1 (told_cut _ _ _ (member_text c.loop-place.first (member_name (label_of v) i) u) _ _ h (rw c.field_name.ensures at c.in_err-put_member.ensures.err))
+    let h = told_present _ _ _ _ v u c.loop-place.first i _ (omega (arith, c.len-place-end.ensures, c.loop-place-test.true)) c.in-Some.ensures.member c.loop-place.invariant in
+    rw p.1 (told_cut _ _ _ _ _ (member_text c.loop-place.first (member_name (label_of v) i) u) _ _ h (rw c.field_name.ensures at c.in_err-put_member.ensures.err))
 
 pub put_members-loop-place-preserved : goal.put_members-loop-place-preserved
 put_members-loop-place-preserved g t c =
@@ -44,37 +44,49 @@ put_members-loop-place-preserved g t c =
     elim c.match-child.branch [
       | put_members-in-Some+in_ok-put_member w ↦
           (let u = value_shown w.in-Some.member in
-          let h = told_present _ _ v u c.loop-place.first i _ (omega (arith, c.len-place-end.ensures, c.loop-place-test.true)) w.in-Some.ensures.member c.loop-place.invariant in
-          rw (w.w-is, w.first-is) (told_more _ _ _ (member_text c.loop-place.first (member_name (label_of v) i) u) _ _ h (rw w.field_name.ensures at w.in_ok-put_member.ensures.ok)))
+          let h = told_present _ _ _ _ v u c.loop-place.first i _ (omega (arith, c.len-place-end.ensures, c.loop-place-test.true)) w.in-Some.ensures.member c.loop-place.invariant in
+          rw (w.w-is, w.line-is, w.first-is) (told_more _ _ _ _ _ _ (member_text c.loop-place.first (member_name (label_of v) i) u) _ _ h (rw w.field_name.ensures at w.in_ok-put_member.ensures.ok)))
       | put_members-in_default w ↦
           (let n : None ≡ member_at (members_of v) i = w.in_default.ensures.member in
-          rw (w.w-is, w.first-is) (told_absent _ _ v c.loop-place.first i _ (omega (arith, c.len-place-end.ensures, c.loop-place-test.true)) n c.loop-place.invariant))
+          rw (w.w-is, w.line-is, w.first-is) (told_absent _ _ _ _ v c.loop-place.first i _ (omega (arith, c.len-place-end.ensures, c.loop-place-test.true)) n c.loop-place.invariant))
     ]
 
 pub put_members-returns-clause-ok : goal.put_members-returns-clause-ok
 put_members-returns-clause-ok g t c =
-    told_end _ _ (value_shown c.args.value) c.loop-place.first c.loop-place.place _ (omega (arith, c.len-place-end.ensures, c.loop-place-test.false)) c.loop-place.invariant
+    told_end _ _ _ _ (value_shown c.args.value) c.loop-place.first c.loop-place.place _ (omega (arith, c.len-place-end.ensures, c.loop-place-test.false)) c.loop-place.invariant
 
 pub put_titled-returns-in_err-put-clause-err : goal.put_titled-returns-in_err-put-clause-err
 put_titled-returns-in_err-put-clause-err g t c =
     let p = err_from_is_err_and c.from_residual-in_err-put.result c.from_residual-in_err-put.ensures.1 in
     let title = rw c.type_name.ensures at c.in_ok-put_title.ensures.ok in
     rw p.1
-    (part_next _ _ _ (title_text c.args.sort.now (name_of (label_of (value_shown c.args.value)))) _ title (part_first _ _ (codes " {") _ c.in_err-put.ensures.err))
+    (cut_next _ _ _ _ _ (title_text c.args.sort.now (name_of (label_of (value_shown c.args.value)))) _ title (cut_first _ _ _ (codes " {") _ c.in_err-put.ensures.err))
 
 pub put_titled-returns-in_err-put_members-clause-err : goal.put_titled-returns-in_err-put_members-clause-err
 put_titled-returns-in_err-put_members-clause-err g t c =
     let p = err_from_is_err_and c.from_residual-in_err-put_members.result c.from_residual-in_err-put_members.ensures.1 in
     let title = rw c.type_name.ensures at c.in_ok-put_title.ensures.ok in
     rw p.1
-    (part_next _ _ _ (title_text c.args.sort.now (name_of (label_of (value_shown c.args.value)))) _ title
-    (part_next _ _ _ (codes " {") _ c.in_ok-put.ensures.ok (part_first _ _ (all_members_text (value_shown c.args.value)) (codes "}") c.in_err-put_members.ensures.err)))
+    (cut_next _ _ _ _ _ (title_text c.args.sort.now (name_of (label_of (value_shown c.args.value)))) _ title
+    (cut_next _ _ _ _ _ (codes " {") _ c.in_ok-put.ensures.ok (cut_first _ _ _ (all_members_text (value_shown c.args.value)) (codes "}") c.in_err-put_members.ensures.err)))
 
 pub put_titled-returns-in_err-put-2-clause-err : goal.put_titled-returns-in_err-put-2-clause-err
 put_titled-returns-in_err-put-2-clause-err g t c =
     let p = err_from_is_err_and c.from_residual-in_err-put-2.result c.from_residual-in_err-put-2.ensures.1 in
     let title = rw c.type_name.ensures at c.in_ok-put_title.ensures.ok in
     rw p.1
-    (part_next _ _ _ (title_text c.args.sort.now (name_of (label_of (value_shown c.args.value)))) _ title
-    (part_next _ _ _ (codes " {") _ c.in_ok-put.ensures.ok
-    (part_next _ _ _ (all_members_text (value_shown c.args.value)) (codes "}") c.in_ok-put_members.ensures.ok c.in_err-put-2.ensures.err)))
+    (cut_next _ _ _ _ _ (title_text c.args.sort.now (name_of (label_of (value_shown c.args.value)))) _ title
+    (cut_next _ _ _ _ _ (codes " {") _ c.in_ok-put.ensures.ok
+    (cut_next _ _ _ _ _ (all_members_text (value_shown c.args.value)) (codes "}") c.in_ok-put_members.ensures.ok c.in_err-put-2.ensures.err)))
+
+pub put_array-returns-clause-ok : goal.put_array-returns-clause-ok
+put_array-returns-clause-ok g t c =
+    gathers_next _ _ _ _ _ _ (codes "[") _ c.in_ok-put.ensures.ok
+    (gathers_next _ _ _ _ _ _ (all_members_text (value_shown c.args.value)) (codes "]") c.in_ok-put_members.ensures.ok c.in_ok-put-2.ensures.ok)
+
+pub put_titled-returns-clause-ok : goal.put_titled-returns-clause-ok
+put_titled-returns-clause-ok g t c =
+    let title = rw c.type_name.ensures at c.in_ok-put_title.ensures.ok in
+    gathers_next _ _ _ _ _ _ (title_text c.args.sort.now (name_of (label_of (value_shown c.args.value)))) _ title
+    (gathers_next _ _ _ _ _ _ (codes " {") _ c.in_ok-put.ensures.ok
+    (gathers_next _ _ _ _ _ _ (all_members_text (value_shown c.args.value)) (codes "}") c.in_ok-put_members.ensures.ok c.in_ok-put-2.ensures.ok))

@@ -3,7 +3,7 @@ use Rattle.pickle_map.specs.Values.{label_of, members_of}
 use Rattle.pickle_map.specs.Refs.{value_shown, rank_of}
 use Rattle.poke_batch.specs.ValueText.{members_text}
 use Rattle.poke_batch.specs.PartText.{all_members_text}
-use Rattle.poke_batch.proofs.Parts.{Told}
+use Rattle.poke_batch.proofs.Gathered.{Told}
 use Rattle.poke_batch.proofs.MemberTexts.{members_from}
 use Rattle.poke_batch.proofs.print.+print.Given as goal
 
@@ -24,4 +24,4 @@ decreases-put_value g l = 4 * rank_of l.value + 3
 
 abbrev pub invariant-put_members-loop-place : goal.invariant-put_members-loop-place
 invariant-put_members-loop-place g l =
-    Told (g.W.Write.contents l.initial.w) (g.W.Write.contents l.w) (members_text (label_of (value_shown l.value)) l.place l.first (members_from l.place (members_of (value_shown l.value)))) (all_members_text (value_shown l.value))
+    Told (g.W.Write.contents l.initial.w) (g.W.Write.contents l.w) l.initial.line l.line (members_text (label_of (value_shown l.value)) l.place l.first (members_from l.place (members_of (value_shown l.value)))) (all_members_text (value_shown l.value))

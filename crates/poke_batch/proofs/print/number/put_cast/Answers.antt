@@ -3,7 +3,7 @@ use mir.Syntax.{w128}
 use Rattle.std.specs.Fmt.{signed_decimal}
 use Rattle.std.proofs.lemmas.Result.{err_from_is_err_and}
 use Rattle.poke_batch.specs.ValueText.{type_word}
-use Rattle.poke_batch.proofs.Parts.{part_first, part_next}
+use Rattle.poke_batch.proofs.Gathered.{gathers_next, cut_first, cut_next}
 use Rattle.poke_batch.proofs.print.number.put_cast.Goals as goal
 
 pub returns-in_err-put-2-clause-err : goal.returns-in_err-put-2-clause-err
@@ -12,8 +12,8 @@ returns-in_err-put-2-clause-err g c =
     let word = rw c.type_word.ensures at c.in_ok-put.ensures.ok in
     let width = rw c.from.ensures at c.in_ok-put_digits.ensures.ok in
     rw p.1
-    (part_next _ _ _ (type_word c.args.ty.signed) _ word
-    (part_next _ _ _ (decimal c.args.ty.width) _ width (part_first _ _ (codes ">) ") (signed_decimal c.args.number) c.in_err-put-2.ensures.err)))
+    (cut_next _ _ _ _ _ (type_word c.args.ty.signed) _ word
+    (cut_next _ _ _ _ _ (decimal c.args.ty.width) _ width (cut_first _ _ _ (codes ">) ") (signed_decimal c.args.number) c.in_err-put-2.ensures.err)))
 
 pub returns-in_err-put_signed-clause-err : goal.returns-in_err-put_signed-clause-err
 returns-in_err-put_signed-clause-err g c =
@@ -22,6 +22,15 @@ returns-in_err-put_signed-clause-err g c =
     let word = rw c.type_word.ensures at c.in_ok-put.ensures.ok in
     let width = rw c.from.ensures at c.in_ok-put_digits.ensures.ok in
     rw p.1
-    (part_next _ _ _ (type_word c.args.ty.signed) _ word
-    (part_next _ _ _ (decimal c.args.ty.width) _ width
-    (part_next _ _ _ (codes ">) ") (signed_decimal c.args.number) c.in_ok-put-2.ensures.ok (rw n at c.in_err-put_signed.ensures.err))))
+    (cut_next _ _ _ _ _ (type_word c.args.ty.signed) _ word
+    (cut_next _ _ _ _ _ (decimal c.args.ty.width) _ width
+    (cut_next _ _ _ _ _ (codes ">) ") (signed_decimal c.args.number) c.in_ok-put-2.ensures.ok (rw n at c.in_err-put_signed.ensures.err))))
+
+pub returns-clause-ok : goal.returns-clause-ok
+returns-clause-ok g c =
+    let n : to_z w128 (of_z w128 c.args.number) ≡ c.args.number = search rules in
+    let word = rw c.type_word.ensures at c.in_ok-put.ensures.ok in
+    let width = rw c.from.ensures at c.in_ok-put_digits.ensures.ok in
+    gathers_next _ _ _ _ _ _ (type_word c.args.ty.signed) _ word
+    (gathers_next _ _ _ _ _ _ (decimal c.args.ty.width) _ width
+    (gathers_next _ _ _ _ _ _ (codes ">) ") (signed_decimal c.args.number) c.in_ok-put-2.ensures.ok (rw n at c.in_ok-put_signed.ensures.ok)))
