@@ -20,6 +20,8 @@ mod offset_words;
 #[cfg(test)]
 mod pickles;
 #[cfg(test)]
+mod reads;
+#[cfg(test)]
 mod stores;
 #[cfg(test)]
 mod streams;
@@ -29,3 +31,5 @@ mod tables;
 mod values;
 #[cfg(test)]
 mod words;
+#[cfg(test)]
+mod writers;
