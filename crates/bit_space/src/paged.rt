@@ -6,13 +6,19 @@ ghost use Rattle.bit_space.specs.Pages.{IsPage, ArePages};
 
 use crate::space::{DeviceFault, Space};
 use lru::LruCache;
-use std::alloc::Global;
+use std::alloc::{AllocError, Global};
 use std::marker::Model;
 use std::num::NonZeroUsize;
 
 /// There was no memory.
 #[derive(Clone, Copy, Debug, PartialEq, Eq)]
 pub struct Memory;
+
+impl From<AllocError> for Memory {
+    fn from(_refused: AllocError) -> Memory {
+        Memory
+    }
+}
 
 /// The bytes of a page.
 const PAGE: u64 = 4096;

@@ -33,7 +33,6 @@ mod Always
 mod Fitting
 mod Rooms
 pub mod Followed
-pub mod Followed
 pub mod FaultKinds
 mod Counts
 pub mod Evaluations

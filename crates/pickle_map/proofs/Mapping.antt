@@ -72,10 +72,10 @@ pub text_is : (m : ℕ) (order : Order) (levels : Levels) (s : ℕ) → s ≤ m 
 unfolding plan from_inside
 text_is m order levels s inside = rw (le-leb s m inside) refl
 
-pub struct_is : (m : ℕ) (name : Naming) (pinned : Bool) (fields : Fields) (order : Order) (levels : Levels) (s : ℕ) →
-    plan m (StructOf name pinned fields) order levels s ≡ from_inside m s (Tick (then_ok (fields_plan m pinned s fields order (opened levels) s s) (struct_closes name (field_names fields) s)))
+pub struct_is : (m : ℕ) (name : Naming) (pinned : Bool) (fs : Fields) (order : Order) (levels : Levels) (s : ℕ) →
+    plan m (StructOf name pinned fs) order levels s ≡ from_inside m s (Tick (then_ok (fields_plan m pinned s fs order (opened levels) s s) (struct_closes name (field_names fs) s)))
 unfolding plan
-struct_is m name pinned fields order levels s = refl
+struct_is m name pinned fs order levels s = refl
 
 pub array_is : (m : ℕ) (element : PokeType) (bound : Bound) (order : Order) (levels : Levels) (s : ℕ) →
     plan m (ArrayOf element bound) order levels s ≡ from_inside m s (Tick (then_ok (after (bound_steps bound levels) (extent_of bound levels s)) (λ extent. then_ok (elements_plan (plan m element order) m s extent (count_of m (least_width element)) 0 (opened levels) s) (array_closes s))))

@@ -1,12 +1,11 @@
 //! Maps the types of a pickle over the bits of a space: values, what a mapping means, and its laws.
 #![tactic(auto)]
 
-pub mod evaluate;
-pub mod extent;
+pub(crate) mod evaluate;
+pub(crate) mod extent;
 pub mod faults;
 pub mod laws;
 pub mod mapper;
-pub mod memory;
 mod names;
 pub mod store;
 pub(crate) mod stored;

@@ -12,7 +12,7 @@ ghost use Rattle.pickle_map.specs.Room.{NodeSlot, ByteSlot, value_slots};
 ghost use Rattle.pickle_map.specs.Slots.{empty};
 ghost use Rattle.pickle_map.specs.Values.{no_values};
 
-pub mod clauses;
+pub(crate) mod clauses;
 pub(crate) mod keep;
 pub(crate) mod number;
 pub(crate) mod read;
@@ -67,7 +67,7 @@ pub fn map<S: Space>(
     ensures failures { (S.view space.old).failures ≤ (S.view space.new).failures }
 {
     match map_type(
-        &table.nodes,
+        table.nodes(),
         id.node,
         order,
         u128::from(start),

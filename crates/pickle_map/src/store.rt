@@ -9,8 +9,8 @@ mod scope;
 pub(crate) mod slots;
 mod text;
 
-use crate::memory::Memory;
 use arrayvec::ArrayVec;
+use bit_space::Memory;
 use slots::{Family, Link, Marks, Node};
 use std::alloc::Global;
 use std::marker::Model;

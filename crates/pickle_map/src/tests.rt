@@ -1,9 +1,9 @@
 ghost use Rattle.std.specs.Prelude.{◌≡◌, ◌≤◌, length};
 ghost use Rattle.pickle_map.specs.Slots.{levels};
 
-use crate::memory::Memory;
 use crate::store::Store;
 use crate::value::{Kind, ValueRef};
+use bit_space::Memory;
 use pickle_syntax::lexer::lex;
 use pickle_syntax::parser::parse;
 use pickle_types::type_table::Table;

@@ -6,7 +6,7 @@ ghost use Rattle.pickle_map.specs.Shown.{shown};
 
 use crate::names::{part_name, title};
 use crate::stored::StoredValue;
-use pickle_types::table::Node;
+use pickle_types::view::Node;
 
 /// What sort of value one is.
 #[derive(Clone, Copy, Debug, PartialEq, Eq)]

@@ -25,32 +25,32 @@ use Rattle.pickle_types.specs.Names.{Names}
 use Rattle.pickle_types.specs.Expressions.{◌>>=◌, integer_referred}
 use Rattle.pickle_types.specs.Meaning.{plain, offset_type, integer_expression, offset_expression, bound_expression, fresh, bit_width, has_some, may_stand, if_here, place_in, struct_place, parts_of, total_width, integral_type, if_some_alternative, after_field, with_itself, FieldMeaning, field_meaning, field_then, meaning, fields_meaning}
 use Rattle.pickle_types.specs.Built.{Fails, bytes_now, view_of, views_of, IsInLevel, AreNamed, AreBelow, names_in, part_of}
-use Rattle.pickle_types.specs.Building.{visible_in, after_itself, Keeps, IsBuilt, Builds, IsFieldBuilt, with_front, FieldsSoFar}
+use Rattle.pickle_types.specs.Building.{visible_in, after_itself, Keeps, IsBuilt, Builds, IsFieldBuilt, AreBuilt, with_front, FieldsSoFar}
 use Rattle.pickle_types.proofs.Growth.{push_table, push_type, type_kept, longer}
 use Rattle.pickle_types.proofs.Meanings.{parts_depth_is}
 use Rattle.pickle_types.proofs.Tables.{fields_same}
 use Rattle.pickle_types.proofs.Steps.{fails_bind, views_kept, below_kept, names_kept, named_kept, grows_on}
 
 -- a node that is pushed has the type that it opens to
-pub pushed : (old new : Builder) (node : Node) → IsTable old.nodes.items → AreNamed old.nodes.items old.names → NamesBelow (length old.nodes.items) node.shape → IsSoundShape node.shape →
-    new.nodes.items ≡ old.nodes.items ++ node ∷ [] → new.names ≡ old.names → new.seen.items ≡ old.seen.items →
-    (d at : ℕ) → d ≡ depth (open_shape (type_of old.nodes.items) node.shape) → d ≤ 64 → at ≡ length old.nodes.items → at < 2 ^ 32 →
-    IsBuilt old new (record { node = at; depth = d }) (open_shape (type_of old.nodes.items) node.shape)
+pub pushed : (old new : Builder) (node : Node) → IsTable old.nodes → AreNamed old.nodes old.names → NamesBelow (length old.nodes) node.shape → IsSoundShape node.shape →
+    new.nodes ≡ old.nodes ++ node ∷ [] → new.names ≡ old.names → new.seen ≡ old.seen →
+    (d at : ℕ) → d ≡ depth (open_shape (type_of old.nodes) node.shape) → d ≤ 64 → at ≡ length old.nodes → at < 2 ^ 32 →
+    IsBuilt old new (record { node = at; depth = d }) (open_shape (type_of old.nodes) node.shape)
 pushed old new node table named below sound is same seen d at deep low last few =
-    let grows : Grows old.nodes.items new.nodes.items = record { more = node ∷ []; is = is } in
-    let longer = length-append old.nodes.items (node ∷ []) in
-    let known = names_kept old.nodes.items new.nodes.items table grows old.names.map.entries named in
-    let still = named_kept old.nodes.items new.nodes.items table grows (values_of old.names.map.entries) named in
+    let grows : Grows old.nodes new.nodes = record { more = node ∷ []; is = is } in
+    let longer = length-append old.nodes (node ∷ []) in
+    let known = names_kept old.nodes new.nodes table grows old.names.map.entries named in
+    let still = named_kept old.nodes new.nodes table grows (values_of old.names.map.entries) named in
     record {
       keeps = record {
         grows = grows;
-        table = rw is (push_table old.nodes.items table node below sound (omega arith) (omega arith));
+        table = rw is (push_table old.nodes table node below sound (omega arith) (omega arith));
         named = rw same still;
         known = rw same known;
       };
       seen = seen;
       inside = rw is (omega arith);
-      type = rw (is, last) (push_type old.nodes.items table node below);
+      type = rw (is, last) (push_type old.nodes table node below);
       deep = deep;
     }
 
@@ -96,23 +96,23 @@ module _ (names : Names) (seen : List Visible) (levels : ℕ) (title : Option (L
   meaning_union (suc room) alternatives some = let e : suc room - 1 ≡ room = omega arith in rw e refl
 
 pub keeps_on : (a b c : Builder) → Keeps a b → Keeps b c → Keeps a c
-keeps_on a b c g h = record { grows = grows_on a.nodes.items b.nodes.items c.nodes.items g.grows h.grows; table = h.table; named = h.named; known = h.known ∙ g.known }
+keeps_on a b c g h = record { grows = grows_on a.nodes b.nodes c.nodes g.grows h.grows; table = h.table; named = h.named; known = h.known ∙ g.known }
 
 -- what is built on a table that had grown
-pub built_on : (a b c : Builder) (found : Found) (t : PokeType) → Keeps a b → b.seen.items ≡ a.seen.items → IsBuilt b c found t → IsBuilt a c found t
+pub built_on : (a b c : Builder) (found : Found) (t : PokeType) → Keeps a b → b.seen ≡ a.seen → IsBuilt b c found t → IsBuilt a c found t
 built_on a b c found t g s h = record { keeps = keeps_on a b c g h.keeps; seen = h.seen ∙ s; inside = h.inside; type = h.type; deep = h.deep }
 
-pub built_then : (a b c : Builder) (r : Result Found FaultKind) (given whole : Result PokeType FaultKind) → Keeps a b → b.seen.items ≡ a.seen.items → whole ≡ given → Builds b c r given → Builds a c r whole
+pub built_then : (a b c : Builder) (r : Result Found FaultKind) (given whole : Result PokeType FaultKind) → Keeps a b → b.seen ≡ a.seen → whole ≡ given → Builds b c r given → Builds a c r whole
 built_then a b c (Ok found) given whole g s e h = (h.0, e ∙ h.1, built_on a b c found h.0 g s h.2)
 built_then a b c (Err Memory) given whole g s e h = tt
 built_then a b c (Err _) given whole g s e h = e ∙ h
 
 -- what is seen is the same over a table that grew
-pub visible_kept : (old new : Builder) → IsTable old.nodes.items → Keeps old new → new.seen.items ≡ old.seen.items → (levels : ℕ) → AreBelow (length old.nodes.items) levels old.seen.items → visible_in new ≡ visible_in old
-visible_kept old new table keeps same levels below = rw same (views_kept old.nodes.items new.nodes.items table keeps.grows levels old.seen.items below)
+pub visible_kept : (old new : Builder) → IsTable old.nodes → Keeps old new → new.seen ≡ old.seen → (levels : ℕ) → AreBelow (length old.nodes) levels old.seen → visible_in new ≡ visible_in old
+visible_kept old new table keeps same levels below = rw same (views_kept old.nodes new.nodes table keeps.grows levels old.seen below)
 
-pub seen_kept : (old new : Builder) → IsTable old.nodes.items → Keeps old new → new.seen.items ≡ old.seen.items → (levels : ℕ) → AreBelow (length old.nodes.items) levels old.seen.items → AreBelow (length new.nodes.items) levels new.seen.items
-seen_kept old new table keeps same levels below = rw same (below_kept old.nodes.items new.nodes.items table keeps.grows levels old.seen.items below)
+pub seen_kept : (old new : Builder) → IsTable old.nodes → Keeps old new → new.seen ≡ old.seen → (levels : ℕ) → AreBelow (length old.nodes) levels old.seen → AreBelow (length new.nodes) levels new.seen
+seen_kept old new table keeps same levels below = rw same (below_kept old.nodes new.nodes table keeps.grows levels old.seen below)
 
 pub array_depth : (t : PokeType) (b : Bound) → depth (ArrayOf t b) ≡ 1 + depth t
 unfolding depth
@@ -184,17 +184,17 @@ pub so_far_more : (a b c : Builder) (fields : List Field) (field : Field) (deepe
     FieldsSoFar a c (fields ++ field ∷ []) (max deepest deepness) whole rest'
 unfolding fields_depth
 so_far_more a b c fields field deepest deepness here levels index parts f whole rest rest' h g deep next =
-    let long = longer b.nodes.items c.nodes.items h.keeps.table g.keeps.grows in
-    let same : (more : Fields) → fields_onto (type_of b.nodes.items) fields more ≡ fields_onto (type_of c.nodes.items) fields more =
-    λ more. sym (fields_same (type_of c.nodes.items) (type_of b.nodes.items) (length b.nodes.items) (λ e lt. type_kept b.nodes.items c.nodes.items h.keeps.table g.keeps.grows e lt) fields more h.below) in
-    let opens : open_fields (type_of c.nodes.items) (fields ++ field ∷ []) ≡ fields_onto (type_of b.nodes.items) fields (field_then parts f NoFields) =
-    onto_append (type_of c.nodes.items) fields (field ∷ []) NoFields ∙ ap (fields_onto (type_of c.nodes.items) fields) (g.opened NoFields) ∙ sym (same (field_then parts f NoFields)) in
-    let depths = onto_depth (type_of b.nodes.items) fields (field_then parts f NoFields) in
+    let long = longer b.nodes c.nodes h.keeps.table g.keeps.grows in
+    let same : (more : Fields) → fields_onto (type_of b.nodes) fields more ≡ fields_onto (type_of c.nodes) fields more =
+    λ more. sym (fields_same (type_of c.nodes) (type_of b.nodes) (length b.nodes) (λ e lt. type_kept b.nodes c.nodes h.keeps.table g.keeps.grows e lt) fields more h.below) in
+    let opens : open_fields (type_of c.nodes) (fields ++ field ∷ []) ≡ fields_onto (type_of b.nodes) fields (field_then parts f NoFields) =
+    onto_append (type_of c.nodes) fields (field ∷ []) NoFields ∙ ap (fields_onto (type_of c.nodes) fields) (g.opened NoFields) ∙ sym (same (field_then parts f NoFields)) in
+    let depths = onto_depth (type_of b.nodes) fields (field_then parts f NoFields) in
     let before = h.deep in
     record {
       keeps = keeps_on a b c h.keeps g.keeps;
-      below = All-append (λ (x : Field). x.node < length c.nodes.items) fields (field ∷ []) (λ k d lt. let inside = h.below k d lt in omega arith) (λ k d lt. let e : k ≡ 0 = omega arith in rw e g.inside);
-      given = h.given ∙ ap (with_front (fields_onto (type_of b.nodes.items) fields)) next ∙ front_more (type_of b.nodes.items) (type_of c.nodes.items) fields field parts f same g.opened rest';
+      below = All-append (λ (x : Field). x.node < length c.nodes) fields (field ∷ []) (λ k d lt. let inside = h.below k d lt in omega arith) (λ k d lt. let e : k ≡ 0 = omega arith in rw e g.inside);
+      given = h.given ∙ ap (with_front (fields_onto (type_of b.nodes) fields)) next ∙ front_more (type_of b.nodes) (type_of c.nodes) fields field parts f same g.opened rest';
       deep = rw opens (omega arith);
     }
 
@@ -255,11 +255,11 @@ after_below n levels seen s place.Union below h = below
 
 -- a field that is built on a table that stays as it is
 pub field_built : (old new : Builder) (s : Seen) (here : Place) (index : ℕ) (parts : FieldParts) (field : Field) →
-    IsTable old.nodes.items → AreNamed old.nodes.items old.names → AreBelow (length old.nodes.items) (s.level + 1) old.seen.items → s.node < length old.nodes.items →
-    new.names ≡ old.names → new.nodes.items ≡ old.nodes.items → new.seen.items ≡ after_itself here old.seen.items s →
+    IsTable old.nodes → AreNamed old.nodes old.names → AreBelow (length old.nodes) (s.level + 1) old.seen → s.node < length old.nodes →
+    new.names ≡ old.names → new.nodes ≡ old.nodes → new.seen ≡ after_itself here old.seen s →
     bytes_now s.name ≡ parts.name → s.place ≡ place_in here index → field.node ≡ s.node → name_of field.name ≡ parts.name → field.order ≡ parts.order →
     IsFieldBuilt old new here s.level index parts field
-    (record { type = type_of old.nodes.items s.node; constraint = optional_term field.constraint; label = optional_term field.label; condition = optional_term field.condition })
+    (record { type = type_of old.nodes s.node; constraint = optional_term field.constraint; label = optional_term field.label; condition = optional_term field.condition })
 field_built old new s here index parts field table named below inside names nodes seen en ep node name order =
     record {
       keeps = record { grows = record { more = []; is = nodes ∙ sym (append-nil _) }; table = rw nodes table; named = rw (names, nodes) named; known = rw (names, nodes) refl };
@@ -267,9 +267,9 @@ field_built old new s here index parts field table named below inside names node
       name = name;
       type = rw (nodes, node) refl;
       opened = λ rest. rw (nodes, node, name, order) refl;
-      below = rw (nodes, seen) (after_below (length old.nodes.items) (s.level + 1) old.seen.items s here below (record { node = inside; level = omega arith }));
-      kept = rw seen (after_kept old.seen.items s here);
-      seen = rw (nodes, seen) (after_views old.nodes.items old.seen.items s here _ (itself_seen old.nodes.items old.seen.items s here index parts en ep));
+      below = rw (nodes, seen) (after_below (length old.nodes) (s.level + 1) old.seen s here below (record { node = inside; level = omega arith }));
+      kept = rw seen (after_kept old.seen s here);
+      seen = rw (nodes, seen) (after_views old.nodes old.seen s here _ (itself_seen old.nodes old.seen s here index parts en ep));
     }
 
 pub field_meaning_is : (names : Names) (here : Place) (seen : List Visible) (levels : ℕ) (before : List (Option (List ℕ))) (parts : FieldParts) (t : PokeType) (l d c : Option Term) →
@@ -301,12 +301,12 @@ kept_on mark xs ys zs e n k =
     let same = ap length e in
     sym (take_within mark (length ys) zs (omega arith)) ∙ ap (take mark) k ∙ e
 
-pub so_far_none : (b : Builder) (fields : List Field) (whole : Result Fields FaultKind) → IsTable b.nodes.items → AreNamed b.nodes.items b.names → fields ≡ [] → FieldsSoFar b b fields 0 whole whole
+pub so_far_none : (b : Builder) (fields : List Field) (whole : Result Fields FaultKind) → IsTable b.nodes → AreNamed b.nodes b.names → fields ≡ [] → FieldsSoFar b b fields 0 whole whole
 unfolding fields_depth
 so_far_none b fields whole table named none = rw none (record {
   keeps = record { grows = record { more = []; is = sym (append-nil _) }; table = table; named = named; known = refl };
   below = λ k d lt. absurd (omega arith);
-  given = front_none (type_of b.nodes.items) whole;
+  given = front_none (type_of b.nodes) whole;
   deep = refl;
 })
 
@@ -329,7 +329,7 @@ no_alternative [] e = refl
 no_alternative (f ∷ fs) e = absurd (omega arith)
 
 -- a field that is built on a table that had grown
-pub field_on : (a b c : Builder) (here : Place) (levels index : ℕ) (parts : FieldParts) (field : Field) (f : FieldMeaning) → Keeps a b → b.seen.items ≡ a.seen.items → visible_in b ≡ visible_in a →
+pub field_on : (a b c : Builder) (here : Place) (levels index : ℕ) (parts : FieldParts) (field : Field) (f : FieldMeaning) → Keeps a b → b.seen ≡ a.seen → visible_in b ≡ visible_in a →
     IsFieldBuilt b c here levels index parts field f → IsFieldBuilt a c here levels index parts field f
 field_on a b c here levels index parts field f g s v h = record {
   keeps = keeps_on a b c g h.keeps;
@@ -341,3 +341,23 @@ field_on a b c here levels index parts field f g s v h = record {
   kept = rw (← s) h.kept;
   seen = h.seen ∙ ap (λ w. after_field here w (with_itself here w levels index parts f.type)) v;
 }
+
+pub fields_end : (names : Names) (here : Place) (seen : List Visible) (levels room : ℕ) (before : List (Option (List ℕ))) (fs : List tree.Field) → fs ≡ [] → fields_meaning names here seen levels room before (fields_tree fs) ≡ Ok NoFields
+unfolding fields_meaning
+fields_end names here seen levels room before fs none = rw none refl
+
+-- all fields are built
+pub all_built : (a b c : Builder) (fields : List Field) (deepest : ℕ) (whole rest : Result Fields FaultKind) → FieldsSoFar a b fields deepest whole rest → rest ≡ Ok NoFields →
+    c.names ≡ b.names → c.nodes ≡ b.nodes → c.seen ≡ a.seen → (fs : Fields) × (whole ≡ Ok fs) × AreBuilt a c fields deepest fs
+all_built a b c fields deepest whole rest h none names nodes seen =
+    let k = h.keeps in (
+      open_fields (type_of b.nodes) fields,
+      h.given ∙ ap (with_front (fields_onto (type_of b.nodes) fields)) none,
+      record {
+        keeps = record { grows = rw nodes k.grows; table = rw nodes k.table; named = rw (nodes, names) k.named; known = rw (nodes, names) k.known };
+        seen = seen;
+        below = rw nodes h.below;
+        opened = rw nodes refl;
+        deep = h.deep;
+      },
+    )

@@ -27,20 +27,20 @@ values_append (e ∷ es) fs = ap (λ l. e.1 ∷ l) (values_append es fs)
 
 pub record IsAdded (old new : Builder) (word : List ℕ) (node : ℕ) : Type 0 where
   pub ready : IsReady new
-  pub known : known_types new ≡ known_types old ++ (word, type_of old.nodes.items node) ∷ []
+  pub known : known_types new ≡ known_types old ++ (word, type_of old.nodes node) ∷ []
 
 -- one more name
 pub added : (old new : Builder) (word : List ℕ) (d : Declared) → IsReady old → AddsEntry old.names.map.entries new.names.map.entries word d →
-    new.nodes.items ≡ old.nodes.items → new.seen.items ≡ old.seen.items → IsNamed old.nodes.items d → IsAdded old new word d.node
+    new.nodes ≡ old.nodes → new.seen ≡ old.seen → IsNamed old.nodes d → IsAdded old new word d.node
 added old new word d ready adds nodes seen named =
     let values = values_append old.names.map.entries ((adds.key, d) ∷ []) in
     record {
       ready = record {
         table = rw nodes ready.table;
-        named = rw (nodes, adds.entries, values) (All-append (IsNamed old.nodes.items) (values_of old.names.map.entries) (d ∷ []) ready.named (λ k e lt. let z : k ≡ 0 = omega arith in rw z named));
+        named = rw (nodes, adds.entries, values) (All-append (IsNamed old.nodes) (values_of old.names.map.entries) (d ∷ []) ready.named (λ k e lt. let z : k ≡ 0 = omega arith in rw z named));
         none = seen ∙ ready.none;
       };
-      known = rw (nodes, adds.entries) (map_push (named_of old.nodes.items) old.names.map.entries (adds.key, d) ∙ rw adds.bytes refl);
+      known = rw (nodes, adds.entries) (map_push (named_of old.nodes) old.names.map.entries (adds.key, d) ∙ rw adds.bytes refl);
     }
 
 pub declared_twice : (nodes : List Node) (o : Option Declared) (found : Option PokeType) → IsFound nodes o found → is_some o ≡ true → unless_declared found ≡ Err DuplicateType

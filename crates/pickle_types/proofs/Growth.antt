@@ -2,21 +2,12 @@
 use Rattle.std.proofs.Common.{◌≡◌, ℕ, zero, suc, ◌<◌, ◌≤◌, ◌^◌, List, [], ◌∷◌, ◌++◌, Option, Some, None, length, refl, sym, ap, ◌∙◌, arith, inl, inr}
 use Rattle.std.specs.Prelude.{slice_get}
 use Rattle.std.proofs.lemmas.Bool.{cases_lt}
-use Rattle.std.proofs.lemmas.Option.{slice_get-get_or, slice_get_within}
-use Rattle.std.proofs.lemmas.List.{get_or_append_left, length-append}
-use Rattle.std.proofs.Math.Seq.{get_or-append_seam}
+use Rattle.std.proofs.lemmas.List.{length-append}
 use Rattle.pickle_types.specs.declared.table.Node.{Node}
 use Rattle.pickle_types.specs.Types.{PokeType, depth}
 use Rattle.pickle_types.specs.Table.{open_shape, open_found, type_at, type_of, NamesBelow, IsSoundShape, IsTable, Grows}
+use Rattle.pickle_types.proofs.Items.{get_front, get_last, is_last}
 use Rattle.pickle_types.proofs.Tables.{shape_same, opens_below}
-
-kept : (old more : List Node) (i : ℕ) → i < length old → slice_get (old ++ more) i ≡ slice_get old i
-kept [] more i lt = absurd (omega arith)
-kept (x ∷ old) more i lt =
-    let longer = length-append (x ∷ old) more in
-    slice_get-get_or ((x ∷ old) ++ more) i x (omega arith)
-    ∙ ap Some (get_or_append_left (x ∷ old) more x i lt)
-    ∙ sym (slice_get-get_or (x ∷ old) i x lt)
 
 module _ (old more : List Node) (table : IsTable old) where
   found_grows : (at at' : ℕ → PokeType) (i : ℕ) → ((e : ℕ) → e < i → at e ≡ at' e) → (o : Option Node) → slice_get old i ≡ o → open_found at o ≡ open_found at' o
@@ -27,7 +18,7 @@ module _ (old more : List Node) (table : IsTable old) where
   unfolding type_at
   at_grows zero i lt = refl
   at_grows (suc d) i lt =
-      ap (open_found (type_at (old ++ more) d)) (kept old more i lt)
+      ap (open_found (type_at (old ++ more) d)) (get_front old more i lt)
       ∙ found_grows (type_at (old ++ more) d) (type_at old d) i (λ e below. at_grows d e (omega arith)) (slice_get old i) refl
 
   pub type_grows : (i : ℕ) → i < length old → type_of (old ++ more) i ≡ type_of old i
@@ -35,24 +26,12 @@ module _ (old more : List Node) (table : IsTable old) where
   type_grows i lt = at_grows (suc i) i lt
 
 module _ (old : List Node) (table : IsTable old) (node : Node) (below : NamesBelow (length old) node.shape) where
-  is_last : slice_get (old ++ node ∷ []) (length old) ≡ Some node
-  is_last =
-      let longer = length-append old (node ∷ []) in
-      slice_get-get_or (old ++ node ∷ []) (length old) node (omega arith) ∙ ap Some (get_or-append_seam old node [] node)
-
-  at_end : (i : ℕ) (n : Node) → slice_get (old ++ node ∷ []) i ≡ Some n → length old ≤ i → (i ≡ length old) × (n ≡ node)
-  at_end i n is le =
-      let within = slice_get_within (old ++ node ∷ []) i n is in
-      let longer = length-append old (node ∷ []) in
-      let last : i ≡ length old = omega arith in
-      (last, let e = rw last at is in cc (is_last, e))
-
   push_below : (i : ℕ) (n : Node) → slice_get (old ++ node ∷ []) i ≡ Some n → NamesBelow i n.shape
-  push_below i n is = elim (cases_lt i (length old)) [ inl lt ↦ table.below i n (sym (kept old (node ∷ []) i lt) ∙ is) | inr le ↦ let e = at_end i n is le in rw (e.0, e.1) below ]
+  push_below i n is = elim (cases_lt i (length old)) [ inl lt ↦ table.below i n (sym (get_front old (node ∷ []) i lt) ∙ is) | inr le ↦ let e = is_last old node i n is le in rw (e.place, e.item) below ]
 
   pub push_type : type_of (old ++ node ∷ []) (length old) ≡ open_shape (type_of old) node.shape
   push_type =
-      opens_below (old ++ node ∷ []) push_below (length old) node is_last
+      opens_below (old ++ node ∷ []) push_below (length old) node (get_last old node)
       ∙ shape_same (type_of (old ++ node ∷ [])) (type_of old) (length old) (λ e lt. type_grows old (node ∷ []) table e lt) node.shape below
 
   push_deep : depth (open_shape (type_of old) node.shape) ≤ 64 → (i : ℕ) → i < length (old ++ node ∷ []) → depth (type_of (old ++ node ∷ []) i) ≤ 64
@@ -66,7 +45,7 @@ module _ (old : List Node) (table : IsTable old) (node : Node) (below : NamesBel
   pub push_table : IsSoundShape node.shape → depth (open_shape (type_of old) node.shape) ≤ 64 → length old < 2 ^ 32 → IsTable (old ++ node ∷ [])
   push_table sound low few = record {
     below = push_below;
-    sound = λ i n is. elim (cases_lt i (length old)) [ inl lt ↦ table.sound i n (sym (kept old (node ∷ []) i lt) ∙ is) | inr le ↦ let e = at_end i n is le in rw e.1 sound ];
+    sound = λ i n is. elim (cases_lt i (length old)) [ inl lt ↦ table.sound i n (sym (get_front old (node ∷ []) i lt) ∙ is) | inr le ↦ let e = is_last old node i n is le in rw e.item sound ];
     deep = push_deep low;
     few = let longer = length-append old (node ∷ []) in omega arith;
   }

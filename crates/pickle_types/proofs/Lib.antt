@@ -12,3 +12,8 @@ pub mod Buildings
 pub mod Forms
 pub mod Declarations
 pub mod IllTyped
+pub mod Places
+pub mod Placed
+pub mod Items
+pub mod Indexed
+pub mod Selections

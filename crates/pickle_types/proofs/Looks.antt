@@ -1,33 +1,15 @@
 -- Looking for a name.
-use Rattle.std.proofs.Common.{◌≡◌, ℕ, zero, suc, ◌+◌, ◌-◌, ◌<◌, ◌≤◌, List, [], ◌∷◌, map, Option, Some, None, Bool, true, false, length, get_or, drop, Vec, Global, refl, sym, ap, ◌∙◌, arith}
+use Rattle.std.proofs.Common.{◌≡◌, ℕ, List, [], ◌∷◌, map, Option, Some, None, Bool, true, false, Vec, Global, refl, sym, ap, ◌∙◌}
 use Rattle.std.specs.Prelude.{option_map, if◌then◌else◌}
 use Rattle.std.specs.Map.{lookup}
 use Rattle.std.specs.Str.{bytes_eq}
-use Rattle.std.proofs.lemmas.List.{drop_more}
 use Rattle.pickle_types.specs.declared.table.Node.{Node}
-use Rattle.pickle_types.specs.declared.scopes.Seen.{Seen}
 use Rattle.pickle_types.specs.declared.names.Declared.{Declared}
 use Rattle.pickle_types.specs.Table.{type_of}
-use Rattle.pickle_types.specs.Scopes.{Visible, is_named, resolve}
 use Rattle.pickle_types.specs.Names.{find_type}
-use Rattle.pickle_types.specs.Built.{view_of, views_of, bytes_now, named_of, IsFound}
+use Rattle.pickle_types.specs.Built.{named_of, IsFound}
 
 module _ (nodes : List Node) (word : List ℕ) where
-  resolve_later : (seen : List Seen) (j : ℕ) (v : Visible) → resolve word (views_of nodes (drop j seen)) ≡ Some v → resolve word (views_of nodes seen) ≡ Some v
-  resolve_later seen zero v h = h
-  resolve_later [] (suc j) v h = h
-  resolve_later (s ∷ seen) (suc j) v h = rw (resolve_later seen j v h) refl
-
-  pub resolve_here : (seen : List Seen) (left : ℕ) (d : Seen) → 0 < left → left ≤ length seen →
-      resolve word (views_of nodes (drop left seen)) ≡ None →
-      is_named (bytes_now (get_or seen (left - 1) d).name) word ≡ true →
-      resolve word (views_of nodes seen) ≡ Some (view_of nodes (get_or seen (left - 1) d))
-  resolve_here seen left d pos le none named =
-      let back : left - 1 + 1 ≡ left = omega arith in
-      let more = drop_more seen (left - 1) d (omega arith) in
-      let more = rw back at more in
-      resolve_later seen (left - 1) _ (rw (more, none, named) refl)
-
   find_maps : (es : List (Vec ℕ Global × Declared)) → find_type word (map (named_of nodes) es) ≡ option_map (λ (d : Declared). type_of nodes d.node) (lookup (λ (k : Vec ℕ Global). bytes_eq word k.items) es)
   find_maps [] = refl
   find_maps (e ∷ es) = rw (find_maps es) (cond_map (bytes_eq word e.0.items))

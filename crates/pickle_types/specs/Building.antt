@@ -1,7 +1,6 @@
 -- What a builder of types has built.
-use Rattle.std.specs.Prelude.{◌≡◌, ℕ, ◌+◌, ◌<◌, length, List, [], ◌∷◌, ◌++◌, take, Option, Some, None, Result, Ok, Err, Bool, true, false, ◌&&◌, nat_le, Vec}
+use Rattle.std.specs.Prelude.{◌≡◌, ℕ, ◌+◌, ◌<◌, length, List, [], ◌∷◌, ◌++◌, take, Option, Some, None, Result, Ok, Err, Bool, true, false, ◌&&◌, nat_le}
 use denote.Bor.{Bor}
-use Rattle.std.specs.declared.alloc.Global.{Global}
 use Rattle.pickle_syntax.specs.Tree.{FieldParts}
 use Rattle.pickle_types.specs.declared.integer.IntegerType.{IntegerType}
 use Rattle.pickle_types.specs.declared.fault.FaultKind.{FaultKind}
@@ -20,11 +19,11 @@ use Rattle.pickle_types.specs.Built.{Fails, names_of, views_of, AreNamed, AreBel
 
 -- the types that have names
 abbrev pub known_types : Builder → Names
-known_types b = names_of b.nodes.items b.names
+known_types b = names_of b.nodes b.names
 
 -- the fields that are seen
 abbrev pub visible_in : Builder → List Visible
-visible_in b = views_of b.nodes.items b.seen.items
+visible_in b = views_of b.nodes b.seen
 
 -- what the parts after a field see besides: in a union nothing
 abbrev pub after_itself : Place → List Seen → Seen → List Seen
@@ -35,17 +34,17 @@ after_itself place.Union seen itself = seen
 
 -- a builder whose table grew, and that knows the same types by their names
 pub record Keeps (old new : Builder) : Type 0 where
-  pub grows : Grows old.nodes.items new.nodes.items
-  pub table : IsTable new.nodes.items
-  pub named : AreNamed new.nodes.items new.names
+  pub grows : Grows old.nodes new.nodes
+  pub table : IsTable new.nodes
+  pub named : AreNamed new.nodes new.names
   pub known : known_types new ≡ known_types old
 
 -- a node of a table that grew has a type
 pub record IsBuilt (old new : Builder) (found : Found) (t : PokeType) : Type 0 where
   pub keeps : Keeps old new
-  pub seen : new.seen.items ≡ old.seen.items
-  pub inside : found.node < length new.nodes.items
-  pub type : type_of new.nodes.items found.node ≡ t
+  pub seen : new.seen ≡ old.seen
+  pub inside : found.node < length new.nodes
+  pub type : type_of new.nodes found.node ≡ t
   pub deep : found.depth ≡ depth t
 
 -- what a function built is what the definition gives, unless memory ran out
@@ -56,12 +55,12 @@ Builds old new (Err e) given = Fails e given
 -- one field is built, after others, and what comes after it sees it where it may
 pub record IsFieldBuilt (old new : Builder) (place : Place) (levels index : ℕ) (parts : FieldParts) (field : Field) (f : FieldMeaning) : Type 0 where
   pub keeps : Keeps old new
-  pub inside : field.node < length new.nodes.items
+  pub inside : field.node < length new.nodes
   pub name : name_of field.name ≡ parts.name
-  pub type : type_of new.nodes.items field.node ≡ f.type
-  pub opened : (rest : Fields) → fields_onto (type_of new.nodes.items) (field ∷ []) rest ≡ field_then parts f rest
-  pub below : AreBelow (length new.nodes.items) (levels + 1) new.seen.items
-  pub kept : take (length old.seen.items) new.seen.items ≡ old.seen.items
+  pub type : type_of new.nodes field.node ≡ f.type
+  pub opened : (rest : Fields) → fields_onto (type_of new.nodes) (field ∷ []) rest ≡ field_then parts f rest
+  pub below : AreBelow (length new.nodes) (levels + 1) new.seen
+  pub kept : take (length old.seen) new.seen ≡ old.seen
   pub seen : visible_in new ≡ after_field place (visible_in old) (with_itself place (visible_in old) levels index parts f.type)
 
 abbrev pub FieldGives : Builder → Builder → Place → ℕ → ℕ → FieldParts → Result Field FaultKind → Result FieldMeaning FaultKind → Type 0
@@ -75,13 +74,13 @@ FieldBuilds old new place levels index parts (Err e) given = Fails e given
 
 pub record AreBuilt (old new : Builder) (fields : List Field) (deepest : ℕ) (fs : Fields) : Type 0 where
   pub keeps : Keeps old new
-  pub seen : new.seen.items ≡ old.seen.items
-  pub below : FieldsBelow (length new.nodes.items) fields
-  pub opened : open_fields (type_of new.nodes.items) fields ≡ fs
+  pub seen : new.seen ≡ old.seen
+  pub below : FieldsBelow (length new.nodes) fields
+  pub opened : open_fields (type_of new.nodes) fields ≡ fs
   pub deep : deepest ≡ fields_depth fs
 
-abbrev pub FieldsBuild : Builder → Builder → Result (Vec Field Global × ℕ) FaultKind → Result Fields FaultKind → Type 0
-FieldsBuild old new (Ok x) given = (fs : Fields) × (given ≡ Ok fs) × AreBuilt old new x.0.items x.1 fs
+abbrev pub FieldsBuild : Builder → Builder → Result (List Field × ℕ) FaultKind → Result Fields FaultKind → Type 0
+FieldsBuild old new (Ok x) given = (fs : Fields) × (given ≡ Ok fs) × AreBuilt old new x.0 x.1 fs
 FieldsBuild old new (Err e) given = Fails e given
 
 abbrev pub with_front : (Fields → Fields) → Result Fields FaultKind → Result Fields FaultKind
@@ -91,15 +90,15 @@ with_front f (Err e) = Err e
 -- some fields are built, and the rest of the definition gives the others
 pub record FieldsSoFar (old new : Builder) (fields : List Field) (deepest : ℕ) (whole rest : Result Fields FaultKind) : Type 0 where
   pub keeps : Keeps old new
-  pub below : FieldsBelow (length new.nodes.items) fields
-  pub given : whole ≡ with_front (fields_onto (type_of new.nodes.items) fields) rest
-  pub deep : deepest ≡ fields_depth (open_fields (type_of new.nodes.items) fields)
+  pub below : FieldsBelow (length new.nodes) fields
+  pub given : whole ≡ with_front (fields_onto (type_of new.nodes) fields) rest
+  pub deep : deepest ≡ fields_depth (open_fields (type_of new.nodes) fields)
 
 -- a builder that can take the next declaration
 pub record IsReady (b : Builder) : Type 0 where
-  pub table : IsTable b.nodes.items
-  pub named : AreNamed b.nodes.items b.names
-  pub none : b.seen.items ≡ []
+  pub table : IsTable b.nodes
+  pub named : AreNamed b.nodes b.names
+  pub none : b.seen ≡ []
 
 -- what a declaration added
 abbrev pub AddsType : Builder → Builder → List ℕ → Result ℕ FaultKind → Result PokeType FaultKind → Type 0

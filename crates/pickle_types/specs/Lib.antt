@@ -3,6 +3,8 @@ pub mod Sound
 pub mod Table
 pub mod Bounds
 pub mod Scopes
+pub mod Innermost
+pub mod FieldNames
 pub mod Names
 pub mod Operators
 pub mod Expressions

@@ -1,7 +1,10 @@
 //! The type rules.
 
 pub mod expressions;
+pub mod field_list;
+pub mod field_names;
 pub mod fields;
+pub mod nodes;
 pub mod operators;
 pub mod places;
 pub mod references;

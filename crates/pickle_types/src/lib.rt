@@ -9,7 +9,8 @@ pub mod laws;
 pub mod names;
 pub mod predeclared;
 pub mod scopes;
-pub mod table;
+pub(crate) mod table;
 #[cfg(test)]
 mod tests;
 pub mod type_table;
+pub mod view;

@@ -316,7 +316,7 @@ fn bounds_of(
 #[test]
 fn bounds_of_worked_types(rt: HostRuntime) -> Result<(), Fail> {
     let alloc = rt.alloc();
-    let cases: [(&[u8], &[u8], u64, u128, u128); 5] = [
+    let cases: [(&[u8], &[u8], u64, u128, u128); 6] = [
         (
             b"type E = struct { byte v : v != 0; }; type A = struct { E[] es; byte z; };",
             b"A",
@@ -344,6 +344,13 @@ fn bounds_of_worked_types(rt: HostRuntime) -> Result<(), Fail> {
             8008,
             2012,
             1005,
+        ),
+        (
+            b"type R = struct { byte far @ 1#B; byte n @ 0#B; }; type T = R[2];",
+            b"T",
+            32,
+            52,
+            31,
         ),
         (b"type S = string;", b"S", 25, 5, 5),
     ];

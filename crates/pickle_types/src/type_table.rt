@@ -14,11 +14,14 @@ ghost use Rattle.pickle_types.specs.Building.{known_types, IsReady, AddsType, na
 ghost use Rattle.pickle_types.specs.TypeTable.{type_named, types_of, count_of, IsSound, IsInTable, IsTypeFound, IsWellTyped};
 
 use crate::bounds::type_bounds;
+use crate::check::field_names::FieldNames;
+use crate::check::nodes::Nodes;
 use crate::check::types::{Builder, Found, Title};
 use crate::fault::{FaultKind, TypeFault};
 use crate::integer::IntegerType;
 use crate::names::{Declared, Names, find_name, insert};
 use crate::predeclared::PREDECLARED;
+use crate::scopes::Scopes;
 use crate::table::{Node, Shape};
 use pickle_syntax::tree::{Declaration, Pickle};
 use std::alloc::Global;
@@ -31,8 +34,8 @@ impl<'n> Builder<'n> {
         Builder {
             alloc,
             names: Names::new(alloc),
-            nodes: Vec::new(alloc),
-            seen: Vec::new(alloc),
+            nodes: Nodes::new(alloc),
+            seen: Scopes::new(alloc),
         }
     }
 
@@ -40,10 +43,10 @@ impl<'n> Builder<'n> {
     fn add(&mut self, word: &[u8], found: Found) -> Result<(), FaultKind>
         requires ready { IsReady self.old }
         requires new { find_type word.now (known_types self.old) ≡ None }
-        requires inside { found.node < length self.old.nodes.items }
-        requires deep { found.depth ≡ Types.depth (type_of self.old.nodes.items found.node) }
+        requires inside { found.node < length self.old.nodes }
+        requires deep { found.depth ≡ Types.depth (type_of self.old.nodes found.node) }
         ensures ready { OnOk result (IsReady self.new) }
-        ensures known { OnOk result (known_types self.new ≡ known_types self.old ++ (word.now, type_of self.old.nodes.items found.node) ∷ []) }
+        ensures known { OnOk result (known_types self.new ≡ known_types self.old ++ (word.now, type_of self.old.nodes found.node) ∷ []) }
         ensures err { IfErr result (λ e. e ≡ FaultKind.Memory) }
     {
         let declared = Declared {
@@ -76,7 +79,8 @@ impl<'n> Builder<'n> {
         ensures known { OnOk result (known_types self.new ≡ known_types self.old ++ (word.now, IntegerOf ty) ∷ []) }
         ensures err { IfErr result (λ e. e ≡ FaultKind.Memory) }
     {
-        let found = self.push(None, Shape::Integer(ty), 1)?;
+        let names = FieldNames::new(self.alloc);
+        let found = self.push(None, Shape::Integer(ty), names, 1)?;
         self.add(word, found)
     }
 
@@ -145,7 +149,7 @@ pub struct TypeId {
 /// The types of a pickle and the predeclared types, found by their names.
 #[derive(Drop)]
 pub struct Table {
-    pub nodes: Vec<Node>,
+    pub(crate) nodes: Vec<Node>,
     /// The nodes of the declared types that are no other names of earlier ones, in rising order.
     pub(crate) roots: Vec<usize>,
     names: Names,
@@ -173,7 +177,7 @@ impl Table {
             seen: _,
         } = builder;
         Ok(Table {
-            nodes,
+            nodes: nodes.into_nodes(),
             roots,
             names,
             declared: pickle.declarations.len(),
@@ -221,6 +225,6 @@ impl Table {
     pub fn is_empty(&self) -> bool
         ensures { IsTrue result ↔ (count_of self.now ≡ 0) }
     {
-        self.declared == 0
+        self.len() == 0
     }
 }

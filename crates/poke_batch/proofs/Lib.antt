@@ -7,4 +7,6 @@ pub mod StringTexts
 pub mod MemberTexts
 pub mod Refusing
 pub mod Sayings
+pub mod Mappings
+mod LineRows
 mod ValueTextRows

@@ -1,5 +1,5 @@
 -- Laws of refusals.
-use Rattle.std.proofs.Common.{◌≡◌, ◌≢◌, ◌≤◌, ◌∙◌, refl, sym, ap, subst, Bool, true, false, ℕ, List, Result, Ok, Err, length}
+use Rattle.std.proofs.Common.{◌≡◌, ◌≢◌, ◌≤◌, ◌∙◌, refl, sym, ap, subst, Bool, true, false, ℕ, List, Ok, length}
 use Rattle.std.proofs.lemmas.Bool.{false≢true}
 use Rattle.pickle_syntax.specs.Tokens.{Token}
 use Rattle.pickle_syntax.specs.Bytes.{Fails}

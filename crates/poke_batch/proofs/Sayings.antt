@@ -1,5 +1,5 @@
 -- Laws of what a run says.
-use Rattle.std.proofs.Common.{◌≡◌, ◌%◌, ◌<◌, ◌∙◌, length, sym, subst, arith, ℕ, List, Option, Result, Ok, Err, inl, inr}
+use Rattle.std.proofs.Common.{◌≡◌, ◌∙◌, length, sym, subst, ℕ, List, Option, Result, Ok, Err, inl, inr}
 use Rattle.std.specs.Prelude.{OnOk, OnErr, codes}
 use Rattle.std.specs.Io.KnownBytes.{Appends, Keeps}
 use Rattle.std.proofs.KnownBytes.{Keeps-refl}
@@ -8,12 +8,10 @@ use Rattle.poke_batch.specs.declared.status.Status.TheVariants.{Done, Outside}
 use Rattle.poke_batch.specs.declared.write.WriteFault.{WriteFault}
 use Rattle.poke_batch.specs.Lines.{fault_line}
 use Rattle.poke_batch.specs.Written.{AppendsPart}
-use Rattle.poke_batch.specs.First.Declared.{Member, Declares}
-use Rattle.poke_batch.specs.First.Outcome.{Outcome, Completes, RunsOut}
 use Rattle.pickle_syntax.specs.Tree.{DeclarationTree}
 use Rattle.pickle_types.specs.Names.{Names}
 use Rattle.poke_batch.specs.Accepted.{IsAccepted}
-use Rattle.poke_batch.specs.Runs.{ChecksAs, accepted, types_text, IsAsked, IsWithin}
+use Rattle.poke_batch.specs.Runs.{ChecksAs, accepted, types_text}
 use Rattle.poke_batch.specs.Told.{Saying, Text, Line, IsTold, IsSaid, Says, AppendsUpTo}
 
 -- a run that told a line
@@ -37,14 +35,3 @@ said_says IsRight saying status out out' err err' right said = record { saying =
 -- the text of a count is the text of the declarations counted
 pub counted : {pickle : List ℕ} {declarations : List DeclarationTree} {types : Names} {count answer : ℕ} → IsAccepted pickle declarations types → count ≡ length declarations → answer ≡ count → ChecksAs pickle (Text (types_text answer))
 counted {pickle} a e e' = subst (λ n. ChecksAs pickle (Text (types_text n))) (sym (e' ∙ e)) (accepted a)
-
-pub asked : {pickle name declared : List ℕ} {members : List Member} {start : ℕ} → name ≡ declared → Declares pickle declared members → start % 8 ≡ 0 → IsAsked pickle name members start
-asked {pickle} {name} {declared} {members} {start} e d whole = record { declared = subst (λ n. Declares pickle n members) (sym e) d; bytes = whole }
-
--- a call that began with no step taken completed within the limit
-pub within : {o : Outcome} {result : Result (List ℕ) ℕ} {limit limit1 k j k' j' : ℕ} → Completes o result limit1 k j k' j' → k ≡ 0 → limit1 ≡ limit → IsWithin o result limit
-within c none same = record { outcome = c.outcome; steps = omega (arith, c.steps, c.within, none, same) }
-
--- one that ran out takes more steps than the limit
-pub beyond : {o : Outcome} {limit limit1 k j k' j' : ℕ} → RunsOut o limit1 k j k' j' → k ≡ 0 → limit1 ≡ limit → limit < o.steps
-beyond r none same = omega (arith, r.more, none, same)

@@ -8,5 +8,6 @@ pub mod Written
 pub mod Taken
 pub mod Lines
 pub mod Told
+pub mod FaultLines
 pub mod Runs
 pub mod Accepted

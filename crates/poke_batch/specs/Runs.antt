@@ -1,21 +1,26 @@
 -- What a run has to say of a pickle.
-use Rattle.std.specs.Prelude.{◌≡◌, ◌%◌, ◌<◌, ◌≤◌, ℕ, List, [], ◌∷◌, ◌++◌, Option, Some, None, Result, Ok, Err, length, codes, decimal}
+use Rattle.std.specs.Prelude.{◌≡◌, ◌≢◌, ◌*◌, ◌<◌, ℕ, List, Option, Some, None, Result, Ok, Err, length, codes}
 use Rattle.pickle_syntax.specs.Tree.{DeclarationTree}
 use Rattle.pickle_types.specs.Types.{PokeType}
 use Rattle.pickle_types.specs.Names.{Names, find_type}
 use Rattle.pickle_types.specs.Bounds.{cost, room, IsBound}
-use Rattle.poke_batch.specs.BoundText.{bound_line, bound_text}
-use Rattle.poke_batch.specs.declared.accept.Refusal.{Refusal}
-use Rattle.poke_batch.specs.Accepted.{IsAccepted, Refuses, refusal_saying}
+use Rattle.pickle_map.specs.Answer.{Answer}
+use Rattle.pickle_map.specs.Clauses.{FaultAt}
+use Rattle.pickle_map.specs.Fits.{Fits}
+use Rattle.pickle_map.specs.Values.{Value, no_values}
+use Rattle.pickle_map.specs.declared.faults.MapFaultKind.{MapFaultKind}
+use Rattle.pickle_map.specs.declared.faults.MapFaultKind.TheVariants as fault
 use Rattle.bit_space.specs.declared.order.Order.{Order}
 use Rattle.bit_space.specs.Bits.{bits_of}
 use Rattle.bit_space.specs.SpaceView.{SpaceView, HasRisen}
+use Rattle.poke_batch.specs.declared.accept.Refusal.{Refusal}
 use Rattle.poke_batch.specs.declared.status.Status.TheVariants.{Fault, Refused, Outside}
+use Rattle.poke_batch.specs.Accepted.{IsAccepted, Refuses, refusal_saying}
+use Rattle.poke_batch.specs.BoundText.{bound_line, bound_text}
+use Rattle.poke_batch.specs.FaultLines.{fault_kind}
 use Rattle.poke_batch.specs.Lines.{refused_line, fault_line, fault_at_line}
 use Rattle.poke_batch.specs.Told.{Saying, Text, Line}
-use Rattle.poke_batch.specs.First.Declared.{Member, Declares}
-use Rattle.poke_batch.specs.First.Outcome.{Outcome, struct_outcome}
-use Rattle.poke_batch.specs.First.Text.{value_text}
+use Rattle.poke_batch.specs.ValueText.{printed}
 
 -- how many types are declared
 abbrev pub types_text : ℕ → List ℕ
@@ -34,37 +39,35 @@ pub data BoundsAs (pickle name : List ℕ) (bits : ℕ) : Saying → Type 0 wher
       → BoundsAs pickle name bits (Line Refused (refused_line (codes "NoSuchType")))
   refused_bounds : {refusal : Refusal} → Refuses pickle refusal → BoundsAs pickle name bits (refusal_saying refusal)
 
--- the result and steps of an outcome, within a limit
-pub record IsWithin (o : Outcome) (result : Result (List ℕ) ℕ) (limit : ℕ) : Type 0 where
-  pub outcome : o.result ≡ result
-  pub steps : o.steps ≤ limit
+-- what is asked of a pickle: the type of a name
+pub record IsAsked (pickle name : List ℕ) (type : PokeType) : Type 0 where
+  pub declarations : List DeclarationTree
+  pub types : Names
+  pub accepted : IsAccepted pickle declarations types
+  pub found : find_type name types ≡ Some type
 
--- what is asked of a pickle: the struct of a name, from a bit on
-pub record IsAsked (pickle name : List ℕ) (members : List Member) (start : ℕ) : Type 0 where
-  pub declared : Declares pickle name members
-  pub bytes : start % 8 ≡ 0
+-- the answer of a type from the bit `start` of a file's bytes on, under a limit of steps, in some steps and with some values made
+pub record HasAnswer (bytes : List ℕ) (type : PokeType) (order : Order) (start limit : ℕ) (answer : Result Value FaultAt) : Type 0 where
+  pub steps : ℕ
+  pub made : ℕ
+  pub means : Answer (bits_of bytes) type order start limit answer steps made
 
 -- what a mapping over a space, from its view before to its view after, has to say
 pub data MapsAs (pickle name : List ℕ) (order : Order) (start limit : ℕ) (before after : SpaceView) : Saying → Type 0 where
-  -- the value that the struct means on the file's bits, where they are known
-  value : {members : List Member} {numbers : List ℕ} → IsAsked pickle name members start → length numbers ≡ length members
-      → ((bytes : List ℕ) → before.bytes ≡ Some bytes → IsWithin (struct_outcome order (bits_of bytes) members start) (Ok numbers) limit)
-      → MapsAs pickle name order start limit before after (Text (value_text name members numbers))
-  -- the file ends in a field
-  ends : {members : List Member} {at : ℕ} → IsAsked pickle name members start
-      → ((bytes : List ℕ) → before.bytes ≡ Some bytes → IsWithin (struct_outcome order (bits_of bytes) members start) (Err at) limit)
-      → MapsAs pickle name order start limit before after (Line Fault (fault_at_line (codes "End") at))
-  -- more steps than the limit
-  runs_out : {members : List Member} → IsAsked pickle name members start
-      → ((bytes : List ℕ) → before.bytes ≡ Some bytes → limit < (struct_outcome order (bits_of bytes) members start).steps)
-      → MapsAs pickle name order start limit before after (Line Fault (fault_at_line (codes "Limit") start))
-  device : {members : List Member} → IsAsked pickle name members start → HasRisen before.failures after.failures
+  -- the value that the type means on the file's bits, where they are known; over any space one that fits the type
+  value : {type : PokeType} {mapped : Value} → IsAsked pickle name type
+      → ((bytes : List ℕ) → before.bytes ≡ Some bytes → HasAnswer bytes type order start limit (Ok mapped))
+      → Fits (8 * before.len) type no_values start mapped
+      → MapsAs pickle name order start limit before after (Text (printed mapped))
+  -- the fault that the type means there; over any space Limit only where the type can take more steps than the limit
+  stops : {type : PokeType} {kind : MapFaultKind} {at : ℕ} → IsAsked pickle name type → kind ≢ fault.Device → kind ≢ fault.Memory
+      → ((bytes : List ℕ) → before.bytes ≡ Some bytes → HasAnswer bytes type order start limit (Err (kind, at)))
+      → (kind ≡ fault.Limit → (at ≡ start) × (limit < cost type (8 * before.len)))
+      → MapsAs pickle name order start limit before after (Line Fault (fault_at_line (fault_kind kind) at))
+  device : {type : PokeType} → IsAsked pickle name type → HasRisen before.failures after.failures
       → MapsAs pickle name order start limit before after (Line Outside (fault_line (codes "Device")))
   -- the pickle has no type of that name
   unknown : {declarations : List DeclarationTree} {types : Names} → IsAccepted pickle declarations types → find_type name types ≡ None
       → MapsAs pickle name order start limit before after (Line Refused (refused_line (codes "NoSuchType")))
-  -- a type that is not mapped yet
-  not_yet : {declarations : List DeclarationTree} {types : Names} → IsAccepted pickle declarations types
-      → MapsAs pickle name order start limit before after (Line Refused (refused_line (codes "NotYet")))
   refused_map : {refusal : Refusal} → Refuses pickle refusal → MapsAs pickle name order start limit before after (refusal_saying refusal)
   no_memory : MapsAs pickle name order start limit before after (Line Outside (fault_line (codes "Memory")))

@@ -1,12 +1,18 @@
 //! The lines that tell the faults of a mapping.
 
+ghost use Rattle.std.specs.Prelude.{◌≡◌, ℕ, List, Option};
+ghost use Rattle.poke_batch.specs.FaultLines.{fault_kind, fault_saying};
+ghost use Rattle.poke_batch.specs.Told.{IsSaid};
+
 use crate::status::Status;
 use crate::tell::{fail, fault_at};
 use pickle_map::{MapFault, MapFaultKind};
 use std::io::Write;
 
 /// Tells a fault of a mapping, at a bit of the file, or what failed outside it.
-pub fn tell_fault<E: Write>(err: &mut E, fault: MapFault) -> Status {
+pub fn tell_fault<E: Write>(err: &mut E, fault: MapFault) -> Status
+    ensures { (out : Option (List ℕ)) → IsSaid (fault_saying fault.kind fault.at) result out out (E.contents err.old) (E.contents err.new) }
+{
     match fault.kind {
         MapFaultKind::Device => fail(err, b"Device"),
         MapFaultKind::Memory => fail(err, b"Memory"),
@@ -15,7 +21,9 @@ pub fn tell_fault<E: Write>(err: &mut E, fault: MapFault) -> Status {
 }
 
 /// The name of a fault of a mapping.
-fn kind_name(kind: MapFaultKind) -> &'static [u8] {
+fn kind_name(kind: MapFaultKind) -> &'static [u8]
+    ensures { result.now ≡ fault_kind kind }
+{
     match kind {
         MapFaultKind::End => b"End",
         MapFaultKind::Constraint => b"Constraint",

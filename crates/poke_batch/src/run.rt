@@ -1,15 +1,15 @@
 //! The runs: from a pickle's bytes to a text or a line.
 
-ghost use Rattle.std.specs.Prelude.{◌≡◌, ℕ, ◌%◌, List, OnOk, OnErr};
-ghost use Rattle.pickle_syntax.specs.Tree.{DeclarationTree};
-ghost use Rattle.pickle_types.specs.Names.{Names};
-ghost use Rattle.poke_batch.specs.Accepted.{IsAccepted};
-ghost use Rattle.poke_batch.specs.First.Declared.{Declares};
-ghost use Rattle.poke_batch.specs.First.View.{name_of, members_of};
-ghost use Rattle.poke_batch.specs.Told.{Says};
-ghost use Rattle.poke_batch.specs.Runs.{ChecksAs, BoundsAs, MapsAs, types_text};
-ghost use Rattle.poke_batch.specs.Written.{AppendsPart};
+ghost use Rattle.std.specs.Prelude.{◌≡◌, ℕ, ◌≤◌, List, Some, IsSome, OnOk, OnErr};
 ghost use Rattle.std.specs.Io.KnownBytes.{Appends};
+ghost use Rattle.bit_space.specs.SpaceView.{Keeps};
+ghost use Rattle.pickle_types.specs.TypeTable.{nodes_of, type_named, IsSound, IsInTable};
+ghost use Rattle.pickle_map.specs.Shown.{kept};
+ghost use Rattle.pickle_map.specs.Values.{Value, value_at};
+ghost use Rattle.poke_batch.specs.Told.{Says};
+ghost use Rattle.poke_batch.specs.Runs.{ChecksAs, BoundsAs, IsAsked, MapsAs, types_text};
+ghost use Rattle.poke_batch.specs.ValueText.{printed};
+ghost use Rattle.poke_batch.specs.Written.{AppendsPart};
 
 use crate::accept::{accept, tell_refusal};
 use crate::ask::Ask;
@@ -81,7 +81,8 @@ pub fn run_bound<O: Write, E: Write>(
 /// write fails, the bytes written are the text of the value or fault that t means at that start on the file's bits.
 ///
 /// The first half is what [`pickle_map::map`] ensures by its clauses `steps` and `made`, with C the recursion `cost`; the
-/// second is this function's own clause `says`, by `MapsAs`.
+/// second is this function's own clause `says`, by `MapsAs`. What isn't accepted is refused, and so is a name that no
+/// type has.
 pub fn run_map<S: Space, O: Write, E: Write>(
     alloc: Global,
     pickle: &[u8],
@@ -90,8 +91,9 @@ pub fn run_map<S: Space, O: Write, E: Write>(
     out: &mut O,
     err: &mut E,
 ) -> Status
-    ensures { Says (MapsAs pickle.now ask.now.name.now ask.now.order ask.now.start ask.now.limit (S.view space.old) (S.view space.new)) result
+    ensures says { Says (MapsAs pickle.now ask.now.name.now ask.now.order ask.now.start ask.now.limit (S.view space.old) (S.view space.new)) result
         (O.contents out.old) (O.contents out.new) (E.contents err.old) (E.contents err.new) }
+    ensures keeps { Keeps (S.view space.old) (S.view space.new) }
 {
     let table = match accept(alloc, pickle) {
         Ok(table) => table,
@@ -112,7 +114,14 @@ fn map_found<S: Space, O: Write, E: Write>(
     space: &mut S,
     out: &mut O,
     err: &mut E,
-) -> Status {
+) -> Status
+    requires sound { IsSound table.now }
+    requires known { IsInTable table.now id }
+    ensures says { (pickle : List ℕ) → IsAsked pickle ask.now.name.now (type_named table.now id)
+        → Says (MapsAs pickle ask.now.name.now ask.now.order ask.now.start ask.now.limit (S.view space.old) (S.view space.new)) result
+        (O.contents out.old) (O.contents out.new) (E.contents err.old) (E.contents err.new) }
+    ensures keeps { Keeps (S.view space.old) (S.view space.new) }
+{
     let mut meter = Meter::new(ask.limit);
     let mut store = Store::new(alloc);
     match map(
@@ -124,12 +133,13 @@ fn map_found<S: Space, O: Write, E: Write>(
 }
 
 // Writes the value that a store holds.
-fn put_root<W: Write>(
-    store: &Store,
-    table: &Table,
-    mode: Mode,
-    w: &mut W,
-) -> Result<(), WriteFault> {
+fn put_root<W: Write>(store: &Store, table: &Table, mode: Mode, w: &mut W) -> Result<(), WriteFault>
+    requires held { IsSome (value_at (kept (nodes_of table.now) store.now) 0 0) }
+    ensures ok { (value : Value) → value_at (kept (nodes_of table.now) store.now) 0 0 ≡ Some value
+        → OnOk result (Appends (W.contents w.old) (W.contents w.new) (printed value)) }
+    ensures err { (value : Value) → value_at (kept (nodes_of table.now) store.now) 0 0 ≡ Some value
+        → OnErr result (AppendsPart (W.contents w.old) (W.contents w.new) (printed value)) }
+{
     match store.root(table) {
         Some(value) => print(value, mode, w),
         None => unreachable!(),

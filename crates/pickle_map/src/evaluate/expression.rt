@@ -26,7 +26,7 @@ use bit_space::{LimitPassed, Meter};
 use pickle_syntax::token::Attribute;
 use pickle_syntax::tree::Infix;
 use pickle_types::integer::IntegerType;
-use pickle_types::table::{Node, Resolved};
+use pickle_types::view::{Node, Resolved};
 
 /// Evaluates an expression on the open values of the store. Each node of it takes a step, before its operands.
 #[cycle(evaluate)]

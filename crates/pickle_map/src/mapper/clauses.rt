@@ -20,7 +20,7 @@ use crate::faults::MapFaultKind;
 use crate::mapper::stop::Stop;
 use crate::store::Store;
 use bit_space::Meter;
-use pickle_types::table::{Extent as Bound, Node, Resolved};
+use pickle_types::view::{Extent as Bound, Node, Resolved};
 
 /// Checks a constraint on the last value of the innermost level; one that is 0 is a Constraint fault. All its faults are
 /// told at `place`, the bit where that value starts.

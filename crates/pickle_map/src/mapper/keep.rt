@@ -9,10 +9,10 @@ ghost use Rattle.pickle_map.specs.Slots.{levels};
 ghost use Rattle.pickle_map.specs.Shown.{kept, title_at, names_at, name_at};
 
 use crate::evaluate::ranges::with_sign;
-use crate::memory::Memory;
 use crate::store::Store;
+use bit_space::Memory;
 use pickle_types::integer::IntegerType;
-use pickle_types::table::Node;
+use pickle_types::view::Node;
 
 /// Keeps an integer that was read as these binary digits, as a member of the innermost open value.
 pub fn keep_integer(

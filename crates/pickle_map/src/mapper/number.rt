@@ -24,7 +24,7 @@ use crate::mapper::stop::Stop;
 use crate::store::Store;
 use bit_space::{Meter, Order, Space};
 use pickle_types::integer::IntegerType;
-use pickle_types::table::{Node, Part, Shape};
+use pickle_types::view::{Node, Part, Shape};
 
 /// Maps the type at a place of the table, which is read as one number, from the bit `start` on, and gives the bit behind it.
 pub(crate) fn map_number<S: Space>(

@@ -6,7 +6,7 @@ ghost use Rattle.pickle_map.specs.declared.mapper.stop.Stop.TheVariants.{Device,
 
 use crate::extent::Extent;
 use crate::faults::MapFaultKind;
-use bit_space::{DeviceFault, LimitPassed};
+use bit_space::{DeviceFault, LimitPassed, Memory};
 
 /// Why a mapping under way stops: a fault of the type's meaning, at a bit position, or one of the run.
 #[derive(Clone, Copy, Debug, PartialEq, Eq)]
@@ -33,10 +33,10 @@ impl From<DeviceFault> for Stop {
     }
 }
 
-impl From<crate::memory::Memory> for Stop {
+impl From<Memory> for Stop {
     ghost from_gives = { λ _ stop. stop ≡ Memory };
 
-    fn from(_refused: crate::memory::Memory) -> Stop {
+    fn from(_refused: Memory) -> Stop {
         Stop::Memory
     }
 }

@@ -17,7 +17,7 @@ use crate::mapper::read::read_digits;
 use crate::mapper::stop::Stop;
 use crate::store::Store;
 use bit_space::{Meter, Order, Space};
-use pickle_types::table::Node;
+use pickle_types::view::Node;
 
 /// Maps a string from the bit `start` on, and gives the bit behind its final 0.
 pub(crate) fn map_text<S: Space>(

@@ -3,9 +3,9 @@ ghost use Rattle.pickle_map.specs.Tree.{Tree, End, parts_of, text_value, Integer
 ghost use Rattle.pickle_map.specs.Levels.{Levels, pushed, outer_of, top_of, extended, text_level, FitsIn};
 ghost use Rattle.pickle_map.specs.Slots.{levels, IsNumber, number_value, number_in, IsContentNumber, IsComposite, composite_label};
 
-use crate::memory::Memory;
 use crate::store::Store;
 use crate::store::slots::{Family, Link, Node, Shape};
+use bit_space::Memory;
 use std::alloc::AllocError;
 
 // Moves the links above a mark, for which there is room.
@@ -102,7 +102,7 @@ impl Store {
     }
 
     /// Places an integer of `width` bits from the bit `start` on.
-    pub fn push_integer(
+    pub(crate) fn push_integer(
         &mut self,
         width: u8,
         signed: bool,
@@ -125,7 +125,7 @@ impl Store {
     }
 
     /// Places an offset of a magnitude of `width` bits, in units of `unit` bits, from the bit `start` on.
-    pub fn push_offset(
+    pub(crate) fn push_offset(
         &mut self,
         width: u8,
         signed: bool,
@@ -153,7 +153,7 @@ impl Store {
     }
 
     /// Places a field that is not there.
-    pub fn push_absent(&mut self) -> Result<(), Memory>
+    pub(crate) fn push_absent(&mut self) -> Result<(), Memory>
         ensures ok { OnOk result (levels self.new ≡ pushed (levels self.old) None) }
         ensures err { OnErr result (self.new ≡ self.old) }
         ensures room { self.new.room ≡ self.old.room }
@@ -180,7 +180,7 @@ impl Store {
     }
 
     /// Closes the innermost open value as an array of `size` bits from the bit `start` on, whose elements are its parts.
-    pub fn close_array(&mut self, start: u64, size: u64) -> Result<(), Memory>
+    pub(crate) fn close_array(&mut self, start: u64, size: u64) -> Result<(), Memory>
         ensures ok { OnOk result (levels self.new ≡ pushed (outer_of (levels self.old)) (Some (Tree ArrayLabel start size (parts_of (top_of (levels self.old)))))) }
         ensures err { OnErr result (self.new ≡ self.old) }
         ensures room { self.new.room ≡ self.old.room }
@@ -192,7 +192,7 @@ impl Store {
 
     /// Closes the innermost open value as a struct of the type at the index `of`, of `size` bits from the bit `start` on. Its parts are its
     /// fields, absent ones too.
-    pub fn close_struct(&mut self, of: u32, start: u64, size: u64) -> Result<(), Memory>
+    pub(crate) fn close_struct(&mut self, of: u32, start: u64, size: u64) -> Result<(), Memory>
         ensures ok { OnOk result (levels self.new ≡ pushed (outer_of (levels self.old)) (Some (Tree (StructLabel of) start size (parts_of (top_of (levels self.old)))))) }
         ensures err { OnErr result (self.new ≡ self.old) }
         ensures room { self.new.room ≡ self.old.room }
@@ -204,7 +204,13 @@ impl Store {
 
     /// Closes the innermost open value as a union of the type at the index `of`, of `size` bits from the bit `start` on. Its part is the
     /// alternative taken, which is the one at the index `taken`.
-    pub fn close_union(&mut self, of: u32, taken: u16, start: u64, size: u64) -> Result<(), Memory>
+    pub(crate) fn close_union(
+        &mut self,
+        of: u32,
+        taken: u16,
+        start: u64,
+        size: u64,
+    ) -> Result<(), Memory>
         ensures ok { OnOk result (levels self.new ≡ pushed (outer_of (levels self.old)) (Some (Tree (UnionLabel of taken) start size (parts_of (top_of (levels self.old)))))) }
         ensures err { OnErr result (self.new ≡ self.old) }
         ensures room { self.new.room ≡ self.old.room }

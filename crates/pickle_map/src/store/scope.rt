@@ -61,7 +61,7 @@ impl Store {
     }
 
     /// How many parts an open value has so far, absent ones too. Open values are counted from the innermost, and the last is the whole.
-    pub fn count(&self, level: usize) -> usize
+    pub(crate) fn count(&self, level: usize) -> usize
         ensures { result ≡ length (level_at (levels self.now) level) }
     {
         self.level_links(level).len()
@@ -69,7 +69,7 @@ impl Store {
 
     /// The part at a place of an open value, unless it is absent or there is none. Open values are counted from the innermost, and the last is
     /// the whole.
-    pub fn part(&self, level: usize, i: usize) -> Option<StoredValue<'_>>
+    pub(crate) fn part(&self, level: usize, i: usize) -> Option<StoredValue<'_>>
         ensures { option_map value_of result ≡ part_in (levels self.now) level i }
     {
         match self.part_at(level, i) {
@@ -83,7 +83,7 @@ impl Store {
         ensures { option_map value_shown result ≡ shown_at (kept table.now.nodes.items self.now) 0 0 }
     {
         match self.part(0, 0) {
-            Some(stored) => Some(ValueRef::new(stored, &table.nodes)),
+            Some(stored) => Some(ValueRef::new(stored, table.nodes())),
             None => None,
         }
     }

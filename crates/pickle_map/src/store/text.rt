@@ -3,9 +3,9 @@ ghost use Rattle.pickle_map.specs.Tree.{text_value};
 ghost use Rattle.pickle_map.specs.Levels.{Levels, pushed, text_level, FitsIn};
 ghost use Rattle.pickle_map.specs.Slots.{levels, innermost, with_text, with_byte, IsShort, IsWriting, IsText, TakesByte, GoesOn};
 
-use crate::memory::Memory;
 use crate::store::Store;
 use crate::store::slots::{Link, Node, Shape};
+use bit_space::Memory;
 
 // Appends bytes, for which there is room.
 fn append(to: &mut Vec<u8>, bytes: &[u8])
@@ -70,7 +70,7 @@ impl Store {
     }
 
     /// Opens a text, which has no bytes yet. As many as 64 values may be open.
-    pub fn open_text(&mut self)
+    pub(crate) fn open_text(&mut self)
         requires { length (levels self.old) ≤ 64 }
         ensures writes { (start : ℕ) → IsWriting self.new [] start (levels self.old) }
         ensures levels { levels self.new ≡ [] ∷ levels self.old }
@@ -81,7 +81,7 @@ impl Store {
     }
 
     /// Places a byte more of the text under way, which begins at the bit `start`.
-    pub fn push_byte(&mut self, byte: u8, start: u64) -> Result<(), Memory>
+    pub(crate) fn push_byte(&mut self, byte: u8, start: u64) -> Result<(), Memory>
         requires { TakesByte self.old start }
         ensures writes { OnOk result ((bytes : List ℕ) (outer : Levels) → IsWriting self.old bytes start outer → IsShort (length bytes + 1) → IsWriting self.new (bytes ++ byte ∷ []) start outer) }
         ensures levels { OnOk result ((bytes : List ℕ) (outer : Levels) → IsWriting self.old bytes start outer → IsShort (length bytes + 1) → levels self.new ≡ text_level (bytes ++ byte ∷ []) start outer) }
@@ -114,7 +114,7 @@ impl Store {
     }
 
     /// Closes the text under way, which begins at the bit `start`.
-    pub fn close_text(&mut self, start: u64) -> Result<(), Memory>
+    pub(crate) fn close_text(&mut self, start: u64) -> Result<(), Memory>
         requires { IsText self.old start }
         ensures ok { OnOk result ((bytes : List ℕ) (outer : Levels) → IsWriting self.old bytes start outer → levels self.new ≡ pushed outer (Some (text_value bytes start))) }
         ensures err { OnErr result (self.new ≡ self.old) }

@@ -8,14 +8,15 @@ ghost use Rattle.pickle_types.specs.Expressions.{is_held, number_meant, characte
 ghost use Rattle.pickle_types.specs.Built.{Gives, names_of, views_of, sort_of, meant_of, IsInside, IsSoundMeant, AreNamed, AreBelow};
 ghost use Rattle.pickle_types.specs.declared.table.Node.{Node};
 
+use crate::check::nodes::Nodes;
 use crate::check::operators::{Scalar, before, between, choice};
 use crate::check::references::{target_type, unit_bits};
 use crate::check::sorts::{Meant, Sort, element_of, field_of, operand_of};
 use crate::fault::FaultKind;
 use crate::integer::IntegerType;
 use crate::names::Names;
-use crate::scopes::{Seen, resolve};
-use crate::table::{Node, Resolved};
+use crate::scopes::Scopes;
+use crate::table::Resolved;
 use pickle_syntax::token::{Attribute, Number};
 use pickle_syntax::tree::{Expression, Infix, Prefix, Suffix, Target, Unit};
 use std::alloc::Global;
@@ -74,12 +75,12 @@ fn text(alloc: Global, bytes: &[u8]) -> Result<Meant, FaultKind>
 }
 
 /// A name is the open level of the field that is meant, counted from the innermost, and its place there.
-fn name(seen: &[Seen], levels: u8, word: &[u8]) -> Result<Meant, FaultKind>
+fn name(seen: &Scopes, levels: u8, word: &[u8]) -> Result<Meant, FaultKind>
     requires below { (n : ℕ) × AreBelow n levels seen.now }
     ensures gives { (nodes : List Node) → Gives (meant_of nodes) result (resolved (views_of nodes seen.now) levels word.now) }
     ensures sound { (nodes : List Node) → AreBelow (length nodes) levels seen.now → IfOk result (IsSoundMeant nodes) }
 {
-    match resolve(seen, word) {
+    match seen.resolve(word) {
         Some(s) => Ok(Meant {
             term: Resolved::Name(usize::from(levels - 1 - s.level), s.place),
             sort: Sort::Node(s.node),
@@ -101,7 +102,7 @@ fn bracket(alloc: Global, x: Meant) -> Result<Meant, FaultKind>
     }
 }
 
-fn prefix(alloc: Global, nodes: &[Node], op: Prefix, x: Meant) -> Result<Meant, FaultKind>
+fn prefix(alloc: Global, nodes: &Nodes, op: Prefix, x: Meant) -> Result<Meant, FaultKind>
     requires table { IsTable nodes.now }
     requires sound { IsSoundMeant nodes.now x }
     ensures gives { Gives (meant_of nodes.now) result (prefixed op (meant_of nodes.now x)) }
@@ -116,7 +117,7 @@ fn prefix(alloc: Global, nodes: &[Node], op: Prefix, x: Meant) -> Result<Meant, 
     }
 }
 
-fn infix(alloc: Global, nodes: &[Node], op: Infix, x: Meant, y: Meant) -> Result<Meant, FaultKind>
+fn infix(alloc: Global, nodes: &Nodes, op: Infix, x: Meant, y: Meant) -> Result<Meant, FaultKind>
     requires table { IsTable nodes.now }
     requires left { IsSoundMeant nodes.now x }
     requires right { IsSoundMeant nodes.now y }
@@ -133,7 +134,7 @@ fn infix(alloc: Global, nodes: &[Node], op: Infix, x: Meant, y: Meant) -> Result
 }
 
 /// A choice between x and y by z, which is an integer.
-fn select(alloc: Global, nodes: &[Node], z: Meant, x: Meant, y: Meant) -> Result<Meant, FaultKind>
+fn select(alloc: Global, nodes: &Nodes, z: Meant, x: Meant, y: Meant) -> Result<Meant, FaultKind>
     requires table { IsTable nodes.now }
     requires condition { IsSoundMeant nodes.now z }
     requires left { IsSoundMeant nodes.now x }
@@ -156,7 +157,7 @@ fn select(alloc: Global, nodes: &[Node], z: Meant, x: Meant, y: Meant) -> Result
 }
 
 /// That it is an integer, and of which type.
-pub fn integer(nodes: &[Node], sort: Sort) -> Result<IntegerType, FaultKind>
+pub fn integer(nodes: &Nodes, sort: Sort) -> Result<IntegerType, FaultKind>
     requires table { IsTable nodes.now }
     requires inside { IsInside nodes.now sort }
     ensures is { result ≡ integer_or_wrong (sort_of nodes.now sort) }
@@ -171,7 +172,7 @@ pub fn integer(nodes: &[Node], sort: Sort) -> Result<IntegerType, FaultKind>
 /// The element of an array x at y, of the type of a node.
 fn index(
     alloc: Global,
-    nodes: &[Node],
+    nodes: &Nodes,
     x: Meant,
     element: usize,
     y: Meant,
@@ -190,7 +191,7 @@ fn index(
     })
 }
 
-fn select_field(alloc: Global, nodes: &[Node], x: Meant, word: &[u8]) -> Result<Meant, FaultKind>
+fn select_field(alloc: Global, nodes: &Nodes, x: Meant, word: &[u8]) -> Result<Meant, FaultKind>
     requires table { IsTable nodes.now }
     requires sound { IsSoundMeant nodes.now x }
     ensures gives { Gives (meant_of nodes.now) result (selection word.now (meant_of nodes.now x)) }
@@ -204,7 +205,7 @@ fn select_field(alloc: Global, nodes: &[Node], x: Meant, word: &[u8]) -> Result<
 }
 
 /// The number of an array's elements.
-fn length(alloc: Global, nodes: &[Node], x: Meant) -> Result<Meant, FaultKind>
+fn length(alloc: Global, nodes: &Nodes, x: Meant) -> Result<Meant, FaultKind>
     requires table { IsTable nodes.now }
     requires sound { IsSoundMeant nodes.now x }
     ensures gives { Gives (meant_of nodes.now) result (length_of (meant_of nodes.now x)) }
@@ -243,7 +244,7 @@ fn size(alloc: Global, path: bool, x: Meant) -> Result<Meant, FaultKind>
 }
 
 /// An offset of an integer's magnitude.
-fn in_unit(alloc: Global, nodes: &[Node], x: Meant, unit: Unit) -> Result<Meant, FaultKind>
+fn in_unit(alloc: Global, nodes: &Nodes, x: Meant, unit: Unit) -> Result<Meant, FaultKind>
     requires table { IsTable nodes.now }
     requires sound { IsSoundMeant nodes.now x }
     ensures gives { Gives (meant_of nodes.now) result (in_unit unit (meant_of nodes.now x)) }
@@ -261,7 +262,7 @@ fn in_unit(alloc: Global, nodes: &[Node], x: Meant, unit: Unit) -> Result<Meant,
 fn convert(
     alloc: Global,
     names: &Names,
-    nodes: &[Node],
+    nodes: &Nodes,
     x: Meant,
     target: &Target,
 ) -> Result<Meant, FaultKind>
@@ -296,7 +297,7 @@ fn convert(
 fn suffix(
     alloc: Global,
     names: &Names,
-    nodes: &[Node],
+    nodes: &Nodes,
     path: bool,
     x: Meant,
     suffix: &Suffix,
@@ -334,8 +335,8 @@ fn is_path(e: &Expression) -> bool
 pub fn typed(
     alloc: Global,
     names: &Names,
-    nodes: &[Node],
-    seen: &[Seen],
+    nodes: &Nodes,
+    seen: &Scopes,
     levels: u8,
     e: &Expression,
 ) -> Result<Meant, FaultKind>

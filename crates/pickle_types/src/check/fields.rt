@@ -7,11 +7,12 @@ ghost use Rattle.pickle_types.specs.Table.{name_of, optional_term, open_fields, 
 ghost use Rattle.pickle_types.specs.Meaning.{has_name, fresh, may_stand, if_here, struct_place, place_in, parts_of, total_width};
 ghost use Rattle.pickle_types.specs.Built.{Gives, bytes_now, names_in, part_of};
 
+use crate::check::field_list::FieldList;
+use crate::check::nodes::Nodes;
 use crate::check::places::Place;
 use crate::check::sorts::width_of;
 use crate::fault::FaultKind;
-use crate::scopes::is_named;
-use crate::table::{Field, Node, Part};
+use crate::table::{Field, Part};
 use pickle_syntax::tree;
 use pickle_syntax::tree::{ByteOrder, Expression, Form};
 use std::alloc::Global;
@@ -85,26 +86,15 @@ pub fn stand(place: Place, bits: bool, field: &tree::Field) -> Result<(), FaultK
     }
 }
 
-fn has_name(fields: &[Field], word: &[u8]) -> bool
-    ensures { result ≡ has_name word.now (names_in fields.now) }
-{
-    for f in fields {
-        if is_named(f.name.as_deref(), word) {
-            return true;
-        }
-    }
-    false
-}
-
 /// That no earlier field has this name.
 #[tactic(auto, unfolding(crate::specs::Meaning::fresh))]
-pub fn fresh(name: Option<&[u8]>, fields: &[Field]) -> Result<(), FaultKind>
+pub fn fresh(name: Option<&[u8]>, fields: &FieldList) -> Result<(), FaultKind>
     ensures { Gives (λ u. u) result (fresh (bytes_now name.entry) (names_in fields.now)) }
 {
     match name {
         None => Ok(()),
         Some(word) => {
-            if has_name(fields, word) {
+            if fields.has_name(word) {
                 return Err(FaultKind::DuplicateField);
             }
             Ok(())
@@ -139,7 +129,7 @@ pub fn copied(alloc: Global, name: Option<&[u8]>) -> Result<Option<Vec<u8>>, Fau
 }
 
 /// How many bits the fields of an integral struct have together.
-pub fn total_width(nodes: &[Node], fields: &[Field]) -> u128
+pub fn total_width(nodes: &Nodes, fields: &[Field]) -> u128
     requires table { IsTable nodes.now }
     requires below { FieldsBelow (length nodes.now) fields.now }
     ensures { result ≡ total_width (open_fields (type_of nodes.now) fields.now) }

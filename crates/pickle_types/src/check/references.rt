@@ -7,12 +7,12 @@ ghost use Rattle.pickle_types.specs.Expressions.{in_range, operand_referred, int
 ghost use Rattle.pickle_types.specs.Sound.{IsSoundScalar, IsSoundOperand};
 ghost use Rattle.pickle_types.specs.Built.{Gives, names_of, AreNamed};
 
+use crate::check::nodes::Nodes;
 use crate::check::operators::{Operand, Scalar};
 use crate::check::sorts::node_operand;
 use crate::fault::FaultKind;
 use crate::integer::IntegerType;
 use crate::names::{Names, find_name};
-use crate::table::Node;
 use pickle_syntax::tree::{Reference, Target, Unit};
 
 /// An integer type of a width from 1 to 64 bits.
@@ -33,7 +33,7 @@ pub fn in_range(signed: bool, width: u64) -> Result<IntegerType, FaultKind>
 /// What an operator sees of the type that a reference names.
 fn operand_referred(
     names: &Names,
-    nodes: &[Node],
+    nodes: &Nodes,
     reference: &Reference,
 ) -> Result<Operand, FaultKind>
     requires table { IsTable nodes.now }
@@ -54,7 +54,7 @@ fn operand_referred(
 /// The integer type that a reference names.
 pub fn integer_referred(
     names: &Names,
-    nodes: &[Node],
+    nodes: &Nodes,
     reference: &Reference,
 ) -> Result<IntegerType, FaultKind>
     requires table { IsTable nodes.now }
@@ -90,7 +90,7 @@ pub fn unit_bits(unit: Unit) -> Result<u32, FaultKind>
 /// The magnitude's type and the unit of an offset type.
 pub fn offset_parts(
     names: &Names,
-    nodes: &[Node],
+    nodes: &Nodes,
     reference: &Reference,
     unit: Unit,
 ) -> Result<(IntegerType, u32), FaultKind>
@@ -108,7 +108,7 @@ pub fn offset_parts(
 /// The offset type of a magnitude and a unit.
 fn offset_referred(
     names: &Names,
-    nodes: &[Node],
+    nodes: &Nodes,
     reference: &Reference,
     unit: Unit,
 ) -> Result<Scalar, FaultKind>
@@ -122,7 +122,7 @@ fn offset_referred(
 }
 
 /// The type that `as` converts to.
-pub fn target_type(names: &Names, nodes: &[Node], target: &Target) -> Result<Scalar, FaultKind>
+pub fn target_type(names: &Names, nodes: &Nodes, target: &Target) -> Result<Scalar, FaultKind>
     requires table { IsTable nodes.now }
     requires names { AreNamed nodes.now names.now }
     ensures gives { Gives (λ s. s) result (target_type (names_of nodes.now names.now) (target_tree target.now)) }

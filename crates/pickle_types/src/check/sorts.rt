@@ -1,17 +1,19 @@
 //! What an expression is: a text literal, or of a type.
 
-ghost use Rattle.std.specs.Prelude.{◌≡◌, ℕ, ◌<◌, length, IfOk, IfSome, option_map};
+ghost use Rattle.std.specs.Prelude.{◌≡◌, ℕ, ◌<◌, List, length, slice_get, Some, IfOk, IfSome, option_map};
 ghost use Rattle.pickle_types.specs.Types.{PokeType};
 ghost use Rattle.pickle_types.specs.Table.{open_shape, open_fields, open_parts, type_of, FieldsBelow, PartsBelow, NamesBelow, IsTable};
 ghost use Rattle.pickle_types.specs.Expressions.{or_wrong, type_operand, operand_of, element_in, sort_element, find_field, find_part, field_in, sort_field};
 ghost use Rattle.pickle_types.specs.Meaning.{bit_width, has_some};
 ghost use Rattle.pickle_types.specs.Sound.{IsSoundOperand};
-ghost use Rattle.pickle_types.specs.Built.{Gives, sort_of, IsInside, IsFoundField};
+ghost use Rattle.pickle_types.specs.Built.{Gives, names_in, sort_of, IsInside, IsFoundField};
+ghost use Rattle.pickle_types.specs.declared.table.Node.{Node};
+ghost use Rattle.pickle_types.specs.FieldNames.{place_named, part_names, shape_names};
 
+use crate::check::nodes::Nodes;
 use crate::check::operators::{Operand, Scalar};
 use crate::fault::FaultKind;
-use crate::scopes::is_named;
-use crate::table::{Field, Node, Part, Resolved, Shape};
+use crate::table::{Field, Part, Resolved, Shape};
 
 /// What an expression is.
 #[derive(Clone, Copy)]
@@ -31,13 +33,14 @@ pub struct Meant {
 }
 
 /// The shape of a node.
-pub fn shape_at(nodes: &[Node], i: usize) -> &Shape
+pub fn shape_at<'a>(nodes: &'a Nodes<'_>, i: usize) -> &'a Shape
     requires table { IsTable nodes.now }
     requires inside { i < length nodes.now }
+    ensures is { (node : Node) × (slice_get nodes.now i ≡ Some node) × (node.shape ≡ result.now) }
     ensures opens { type_of nodes.now i ≡ open_shape (type_of nodes.now) result.now }
     ensures below { NamesBelow i result.now }
 {
-    &nodes[i].shape
+    &nodes.node(i).shape
 }
 
 fn shape_operand(shape: &Shape) -> Operand
@@ -53,7 +56,7 @@ fn shape_operand(shape: &Shape) -> Operand
 }
 
 /// What an operator sees of the type of a node.
-pub fn node_operand(nodes: &[Node], i: usize) -> Operand
+pub fn node_operand(nodes: &Nodes, i: usize) -> Operand
     requires table { IsTable nodes.now }
     requires inside { i < length nodes.now }
     ensures is { result ≡ type_operand (type_of nodes.now i) }
@@ -63,7 +66,7 @@ pub fn node_operand(nodes: &[Node], i: usize) -> Operand
 }
 
 /// What an operator sees of it.
-pub fn operand_of(nodes: &[Node], sort: Sort) -> Operand
+pub fn operand_of(nodes: &Nodes, sort: Sort) -> Operand
     requires table { IsTable nodes.now }
     requires inside { IsInside nodes.now sort }
     ensures is { result ≡ operand_of (sort_of nodes.now sort) }
@@ -87,7 +90,7 @@ fn shape_element(shape: &Shape) -> Option<usize>
 }
 
 /// The node of an array's element.
-pub fn element_of(nodes: &[Node], sort: Sort) -> Option<usize>
+pub fn element_of(nodes: &Nodes, sort: Sort) -> Option<usize>
     requires table { IsTable nodes.now }
     requires inside { IsInside nodes.now sort }
     ensures is { option_map (type_of nodes.now) result ≡ sort_element (sort_of nodes.now sort) }
@@ -100,28 +103,22 @@ pub fn element_of(nodes: &[Node], sort: Sort) -> Option<usize>
     }
 }
 
-fn find_field(fields: &[Field], word: &[u8]) -> Option<(usize, usize)>
-    ensures found { (at : ℕ → PokeType) → IsFoundField at result (find_field 0 word.now (open_fields at fields.now)) }
+fn field_at(fields: &[Field], place: Option<usize>) -> Option<(usize, usize)>
+    ensures found { (at : ℕ → PokeType) (word : List ℕ) → place ≡ place_named word (names_in fields.now) → IsFoundField at result (find_field 0 word (open_fields at fields.now)) }
     ensures below { (n : ℕ) → FieldsBelow n fields.now → IfSome result (λ x. x.1 < n) }
 {
-    for (i, f) in fields.iter().enumerate() {
-        if is_named(f.name.as_deref(), word) {
-            return Some((i, f.node));
-        }
-    }
-    None
+    let place = place?;
+    let field = fields.get(place)?;
+    Some((place, field.node))
 }
 
-fn find_part(parts: &[Part], word: &[u8]) -> Option<(usize, usize)>
-    ensures found { (at : ℕ → PokeType) → IsFoundField at result (find_part 0 word.now (open_parts at parts.now)) }
+fn part_at(parts: &[Part], place: Option<usize>) -> Option<(usize, usize)>
+    ensures found { (at : ℕ → PokeType) (word : List ℕ) → place ≡ place_named word (part_names parts.now) → IsFoundField at result (find_part 0 word (open_parts at parts.now)) }
     ensures below { (n : ℕ) → PartsBelow n parts.now → IfSome result (λ x. x.1 < n) }
 {
-    for (i, p) in parts.iter().enumerate() {
-        if is_named(p.name.as_deref(), word) {
-            return Some((i, p.node));
-        }
-    }
-    None
+    let place = place?;
+    let part = parts.get(place)?;
+    Some((place, part.node))
 }
 
 fn or_unknown(found: Option<(usize, usize)>) -> Result<(usize, usize), FaultKind>
@@ -133,20 +130,20 @@ fn or_unknown(found: Option<(usize, usize)>) -> Result<(usize, usize), FaultKind
     }
 }
 
-fn shape_field(shape: &Shape, word: &[u8]) -> Result<(usize, usize), FaultKind>
-    ensures gives { (at : ℕ → PokeType) → Gives (λ x. (x.0, at x.1)) result (field_in word.now (open_shape at shape.now)) }
+fn shape_field(shape: &Shape, place: Option<usize>) -> Result<(usize, usize), FaultKind>
+    ensures gives { (at : ℕ → PokeType) (word : List ℕ) → place ≡ place_named word (shape_names shape.now) → Gives (λ x. (x.0, at x.1)) result (field_in word (open_shape at shape.now)) }
     ensures below { (n : ℕ) → NamesBelow n shape.now → IfOk result (λ x. x.1 < n) }
 {
     match shape {
-        Shape::Struct { fields, .. } => or_unknown(find_field(fields, word)),
-        Shape::Integral { fields, .. } => or_unknown(find_part(fields, word)),
-        Shape::Union { alternatives, .. } => or_unknown(find_part(alternatives, word)),
+        Shape::Struct { fields, .. } => or_unknown(field_at(fields, place)),
+        Shape::Integral { fields, .. } => or_unknown(part_at(fields, place)),
+        Shape::Union { alternatives, .. } => or_unknown(part_at(alternatives, place)),
         _ => Err(FaultKind::Mismatch),
     }
 }
 
 /// The place and the node of a field of that name.
-pub fn field_of(nodes: &[Node], sort: Sort, word: &[u8]) -> Result<(usize, usize), FaultKind>
+pub fn field_of(nodes: &Nodes, sort: Sort, word: &[u8]) -> Result<(usize, usize), FaultKind>
     requires table { IsTable nodes.now }
     requires inside { IsInside nodes.now sort }
     ensures gives { Gives (λ x. (x.0, type_of nodes.now x.1)) result (sort_field word.now (sort_of nodes.now sort)) }
@@ -155,7 +152,7 @@ pub fn field_of(nodes: &[Node], sort: Sort, word: &[u8]) -> Result<(usize, usize
     match sort {
         Sort::Text => Err(FaultKind::Mismatch),
         Sort::Scalar(_) => Err(FaultKind::Mismatch),
-        Sort::Node(i) => shape_field(shape_at(nodes, i), word),
+        Sort::Node(i) => shape_field(shape_at(nodes, i), nodes.place_of(i, word)),
     }
 }
 
@@ -171,7 +168,7 @@ fn shape_width(shape: &Shape) -> Option<u8>
 }
 
 /// The width of an integer, an offset or an integral struct.
-pub fn width_of(nodes: &[Node], i: usize) -> Option<u8>
+pub fn width_of(nodes: &Nodes, i: usize) -> Option<u8>
     requires table { IsTable nodes.now }
     requires inside { i < length nodes.now }
     ensures { result ≡ bit_width (type_of nodes.now i) }
@@ -180,7 +177,7 @@ pub fn width_of(nodes: &[Node], i: usize) -> Option<u8>
 }
 
 /// Whether it is an integer, an offset or an integral struct.
-pub fn has_width(nodes: &[Node], i: usize) -> bool
+pub fn has_width(nodes: &Nodes, i: usize) -> bool
     requires table { IsTable nodes.now }
     requires inside { i < length nodes.now }
     ensures { result ≡ has_some (bit_width (type_of nodes.now i)) }

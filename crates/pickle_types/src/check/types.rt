@@ -5,22 +5,26 @@ ghost use Rattle.pickle_syntax.specs.Tree.{reference_tree, optional_tree, form_t
 ghost use Rattle.pickle_types.specs.Types;
 ghost use Rattle.pickle_types.specs.Sound.{IsSoundClause, IsSoundBound};
 ghost use Rattle.pickle_types.specs.Table.{optional_term, bound_of, type_of, open_shape, IsTable, NamesBelow, IsSoundField, IsSoundShape};
-ghost use Rattle.pickle_types.specs.Meaning.{integer_expression, offset_expression, bound_expression, integer_type, called, plain, offset_type, field_meaning, struct_place, meaning, fields_meaning};
+ghost use Rattle.pickle_types.specs.Meaning.{fresh, integer_expression, offset_expression, bound_expression, integer_type, called, plain, offset_type, field_meaning, struct_place, meaning, fields_meaning};
 ghost use Rattle.pickle_types.specs.Built.{Gives, bytes_now, views_of, AreNamed, AreBelow, names_in};
+ghost use Rattle.pickle_types.specs.FieldNames.{shape_names, ArePlaced};
 ghost use Rattle.pickle_types.specs.Building.{known_types, visible_in, after_itself, Builds, FieldGives, FieldBuilds, FieldsBuild};
 
 use crate::check::expressions::{integer, typed};
+use crate::check::field_list::FieldList;
+use crate::check::field_names::FieldNames;
 use crate::check::fields::{
     condition_in, constraint_in, copied, form_in, fresh, label_in, name_in, order_in, parts_from,
     place_in, stand, struct_place, total_width,
 };
+use crate::check::nodes::Nodes;
 use crate::check::operators::Scalar;
 use crate::check::places::Place;
 use crate::check::references::{in_range, integer_referred, offset_parts};
 use crate::check::sorts::{has_width, operand_of};
 use crate::fault::FaultKind;
 use crate::names::{Names, find_name};
-use crate::scopes::Seen;
+use crate::scopes::{Scopes, Seen};
 use crate::table::{Extent, Field, MOST_ALTERNATIVES, MOST_NODES, Node, Resolved, Shape};
 use pickle_syntax::tree;
 use pickle_syntax::tree::{Expression, Form, Reference, Unit};
@@ -45,8 +49,8 @@ pub struct Title<'n> {
 pub struct Builder<'n> {
     pub alloc: Global,
     pub names: Names,
-    pub nodes: Vec<Node>,
-    pub seen: Vec<Seen<'n>>,
+    pub nodes: Nodes<'n>,
+    pub seen: Scopes<'n>,
 }
 
 impl<'n> Builder<'n> {
@@ -57,9 +61,9 @@ impl<'n> Builder<'n> {
         levels: u8,
         e: &Option<Expression>,
     ) -> Result<Option<Resolved>, FaultKind>
-        requires table { IsTable self.now.nodes.items }
-        requires names { AreNamed self.now.nodes.items self.now.names }
-        requires seen { AreBelow (length self.now.nodes.items) levels self.now.seen.items }
+        requires table { IsTable self.now.nodes }
+        requires names { AreNamed self.now.nodes self.now.names }
+        requires seen { AreBelow (length self.now.nodes) levels self.now.seen }
         ensures gives { Gives optional_term result (integer_expression (known_types self.now) (visible_in self.now) levels (optional_tree e.now)) }
         ensures sound { IfOk result (λ c. IsSoundClause (optional_term c)) }
     {
@@ -78,9 +82,9 @@ impl<'n> Builder<'n> {
         levels: u8,
         e: &Option<Expression>,
     ) -> Result<Option<Resolved>, FaultKind>
-        requires table { IsTable self.now.nodes.items }
-        requires names { AreNamed self.now.nodes.items self.now.names }
-        requires seen { AreBelow (length self.now.nodes.items) levels self.now.seen.items }
+        requires table { IsTable self.now.nodes }
+        requires names { AreNamed self.now.nodes self.now.names }
+        requires seen { AreBelow (length self.now.nodes) levels self.now.seen }
         ensures gives { Gives optional_term result (offset_expression (known_types self.now) (visible_in self.now) levels (optional_tree e.now)) }
         ensures sound { IfOk result (λ c. IsSoundClause (optional_term c)) }
     {
@@ -97,9 +101,9 @@ impl<'n> Builder<'n> {
     /// The bound of an array, which is an integer or an offset.
     #[tactic(auto, unfolding(crate::specs::Meaning::bound_expression))]
     fn bound_expression(&self, levels: u8, e: &Option<Expression>) -> Result<Extent, FaultKind>
-        requires table { IsTable self.now.nodes.items }
-        requires names { AreNamed self.now.nodes.items self.now.names }
-        requires seen { AreBelow (length self.now.nodes.items) levels self.now.seen.items }
+        requires table { IsTable self.now.nodes }
+        requires names { AreNamed self.now.nodes self.now.names }
+        requires seen { AreBelow (length self.now.nodes) levels self.now.seen }
         ensures gives { Gives bound_of result (bound_expression (known_types self.now) (visible_in self.now) levels (optional_tree e.now)) }
         ensures sound { IfOk result (λ b. IsSoundBound (bound_of b)) }
     {
@@ -121,16 +125,16 @@ impl<'n> Builder<'n> {
         itself: Seen<'n>,
         e: &Option<Expression>,
     ) -> Result<Option<Resolved>, FaultKind>
-        requires table { IsTable self.old.nodes.items }
-        requires names { AreNamed self.old.nodes.items self.old.names }
+        requires table { IsTable self.old.nodes }
+        requires names { AreNamed self.old.nodes self.old.names }
         requires level { itself.level < 64 }
-        requires inside { itself.node < length self.old.nodes.items }
-        requires seen { AreBelow (length self.old.nodes.items) (itself.level + 1) self.old.seen.items }
-        ensures gives { Gives optional_term result (integer_expression (known_types self.old) (views_of self.old.nodes.items (self.old.seen.items ++ itself.entry ∷ [])) (itself.entry.level + 1) (optional_tree e.now)) }
+        requires inside { itself.node < length self.old.nodes }
+        requires seen { AreBelow (length self.old.nodes) (itself.level + 1) self.old.seen }
+        ensures gives { Gives optional_term result (integer_expression (known_types self.old) (views_of self.old.nodes (self.old.seen ++ itself.entry ∷ [])) (itself.entry.level + 1) (optional_tree e.now)) }
         ensures sound { IfOk result (λ c. IsSoundClause (optional_term c)) }
         ensures names { self.new.names ≡ self.old.names }
-        ensures nodes { self.new.nodes.items ≡ self.old.nodes.items }
-        ensures seen { OnOk result (self.new.seen.items ≡ after_itself place self.old.seen.items itself.entry) }
+        ensures nodes { self.new.nodes ≡ self.old.nodes }
+        ensures seen { OnOk result (self.new.seen ≡ after_itself place self.old.seen itself.entry) }
     {
         let mark = self.seen.len();
         self.seen.push(itself)?;
@@ -147,16 +151,17 @@ impl<'n> Builder<'n> {
         place: Place,
         levels: u8,
         found: Found,
-        before: &[Field],
+        before: &FieldList,
         written: &'n tree::Field,
     ) -> Result<Field, FaultKind>
-        requires table { IsTable self.old.nodes.items }
-        requires names { AreNamed self.old.nodes.items self.old.names }
-        requires seen { AreBelow (length self.old.nodes.items) (levels + 1) self.old.seen.items }
+        requires table { IsTable self.old.nodes }
+        requires names { AreNamed self.old.nodes self.old.names }
+        requires seen { AreBelow (length self.old.nodes) (levels + 1) self.old.seen }
         requires few { levels < 64 }
-        requires inside { found.node < length self.old.nodes.items }
-        ensures gives { FieldGives self.old self.new place levels (length before.now) (field_tree written.now).parts result (field_meaning (known_types self.old) place (visible_in self.old) levels (names_in before.now) (field_tree written.now).parts (Ok (type_of self.old.nodes.items found.node))) }
+        requires inside { found.node < length self.old.nodes }
+        ensures gives { FieldGives self.old self.new place levels (length before.now) (field_tree written.now).parts result (field_meaning (known_types self.old) place (visible_in self.old) levels (names_in before.now) (field_tree written.now).parts (Ok (type_of self.old.nodes found.node))) }
         ensures sound { IfOk result IsSoundField }
+        ensures fresh { IfOk result (λ _. fresh (field_tree written.now).parts.name (names_in before.now) ≡ Ok tt) }
         ensures node { IfOk result (λ field. field.node ≡ found.node) }
     {
         let bits = has_width(&self.nodes, found.node);
@@ -183,15 +188,22 @@ impl<'n> Builder<'n> {
         })
     }
 
-    /// A new node, with the depth of its type. `Memory` is answered also where the table is full.
-    pub fn push(&mut self, slot: Option<u16>, shape: Shape, depth: u8) -> Result<Found, FaultKind>
-        requires table { IsTable self.old.nodes.items }
-        requires names { AreNamed self.old.nodes.items self.old.names }
-        requires below { NamesBelow (length self.old.nodes.items) shape }
+    /// A new node, with the names of its fields and the depth of its type. `Memory` is answered also where the table is full.
+    pub fn push(
+        &mut self,
+        slot: Option<u16>,
+        shape: Shape,
+        names: FieldNames<'n>,
+        depth: u8,
+    ) -> Result<Found, FaultKind>
+        requires named { ArePlaced (shape_names shape) names }
+        requires table { IsTable self.old.nodes }
+        requires names { AreNamed self.old.nodes self.old.names }
+        requires below { NamesBelow (length self.old.nodes) shape }
         requires sound { IsSoundShape shape }
-        requires depth { depth ≡ Types.depth (open_shape (type_of self.old.nodes.items) shape) }
+        requires depth { depth ≡ Types.depth (open_shape (type_of self.old.nodes) shape) }
         requires low { depth ≤ 64 }
-        ensures builds { Builds self.old self.new result (Ok (open_shape (type_of self.old.nodes.items) shape)) }
+        ensures builds { Builds self.old self.new result (Ok (open_shape (type_of self.old.nodes) shape)) }
         ensures depth { IfOk result (λ found. found.depth ≡ depth) }
         ensures memory { IfErr result (λ e. e ≡ FaultKind.Memory) }
     {
@@ -199,14 +211,14 @@ impl<'n> Builder<'n> {
         if node >= MOST_NODES {
             return Err(FaultKind::Memory);
         }
-        self.nodes.push(Node { shape, slot })?;
+        self.nodes.push(Node { shape, slot }, names)?;
         Ok(Found { node, depth })
     }
 
     /// The type of a name, no deeper than there is room for.
     fn called_at(&self, room: u8, word: &[u8]) -> Result<Found, FaultKind>
-        requires table { IsTable self.now.nodes.items }
-        requires names { AreNamed self.now.nodes.items self.now.names }
+        requires table { IsTable self.now.nodes }
+        requires names { AreNamed self.now.nodes self.now.names }
         ensures builds { Builds self.now self.now result (called room word.now (known_types self.now)) }
         ensures low { IfOk result (λ found. found.depth ≤ room) }
     {
@@ -230,13 +242,13 @@ impl<'n> Builder<'n> {
         signed: bool,
         width: u64,
     ) -> Result<Found, FaultKind>
-        requires table { IsTable self.old.nodes.items }
-        requires names { AreNamed self.old.nodes.items self.old.names }
+        requires table { IsTable self.old.nodes }
+        requires names { AreNamed self.old.nodes self.old.names }
         ensures builds { Builds self.old self.new result (integer_type signed width) }
         ensures low { IfOk result (λ found. found.depth ≤ 1) }
     {
         let t = in_range(signed, width)?;
-        self.push(slot, Shape::Integer(t), 1)
+        self.push(slot, Shape::Integer(t), FieldNames::new(self.alloc), 1)
     }
 
     fn plain_at(
@@ -245,8 +257,8 @@ impl<'n> Builder<'n> {
         room: u8,
         reference: &Reference,
     ) -> Result<Found, FaultKind>
-        requires table { IsTable self.old.nodes.items }
-        requires names { AreNamed self.old.nodes.items self.old.names }
+        requires table { IsTable self.old.nodes }
+        requires names { AreNamed self.old.nodes self.old.names }
         requires some { 0 < room }
         ensures builds { Builds self.old self.new result (plain room (known_types self.old) (reference_tree reference.now)) }
         ensures low { IfOk result (λ found. found.depth ≤ room) }
@@ -264,13 +276,13 @@ impl<'n> Builder<'n> {
         reference: &Reference,
         unit: Unit,
     ) -> Result<Found, FaultKind>
-        requires table { IsTable self.old.nodes.items }
-        requires names { AreNamed self.old.nodes.items self.old.names }
+        requires table { IsTable self.old.nodes }
+        requires names { AreNamed self.old.nodes self.old.names }
         ensures builds { Builds self.old self.new result (offset_type (known_types self.old) (reference_tree reference.now) unit) }
         ensures low { IfOk result (λ found. found.depth ≤ 1) }
     {
         let (t, bits) = offset_parts(&self.names, &self.nodes, reference, unit)?;
-        self.push(slot, Shape::Offset(t, bits), 1)
+        self.push(slot, Shape::Offset(t, bits), FieldNames::new(self.alloc), 1)
     }
 
     /// The node of the type that a form means, no deeper than there is room for.
@@ -282,9 +294,9 @@ impl<'n> Builder<'n> {
         room: u8,
         form: &'n Form,
     ) -> Result<Found, FaultKind>
-        requires table { IsTable self.old.nodes.items }
-        requires names { AreNamed self.old.nodes.items self.old.names }
-        requires seen { AreBelow (length self.old.nodes.items) levels self.old.seen.items }
+        requires table { IsTable self.old.nodes }
+        requires names { AreNamed self.old.nodes self.old.names }
+        requires seen { AreBelow (length self.old.nodes) levels self.old.seen }
         requires few { levels + room ≤ 64 }
         ensures builds { Builds self.old self.new result (meaning (known_types self.old) (visible_in self.old) levels (bytes_now title.entry.name) room (form_tree form.now)) }
         ensures low { IfOk result (λ found. found.depth ≤ room) }
@@ -294,7 +306,7 @@ impl<'n> Builder<'n> {
         }
         match form {
             Form::Reference(reference) => self.plain_at(title.slot, room, reference),
-            Form::String => self.push(title.slot, Shape::String, 1),
+            Form::String => self.push(title.slot, Shape::String, FieldNames::new(self.alloc), 1),
             Form::Offset(reference, unit) => self.offset_at(title.slot, reference, *unit),
             Form::Array(element, bound) => self.array_at(levels, title, room, element, bound),
             Form::Struct(pinned, fields) => self.struct_at(levels, title, room, *pinned, fields),
@@ -314,9 +326,9 @@ impl<'n> Builder<'n> {
         element: &'n Form,
         bound: &Option<Expression>,
     ) -> Result<Found, FaultKind>
-        requires table { IsTable self.old.nodes.items }
-        requires names { AreNamed self.old.nodes.items self.old.names }
-        requires seen { AreBelow (length self.old.nodes.items) levels self.old.seen.items }
+        requires table { IsTable self.old.nodes }
+        requires names { AreNamed self.old.nodes self.old.names }
+        requires seen { AreBelow (length self.old.nodes) levels self.old.seen }
         requires some { 0 < room }
         requires few { levels + room ≤ 64 }
         ensures builds { Builds self.old self.new result (meaning (known_types self.old) (visible_in self.old) levels (bytes_now title.entry.name) room (ArrayForm (form_tree element.now) (optional_tree bound.now))) }
@@ -332,7 +344,12 @@ impl<'n> Builder<'n> {
             element,
         )?;
         let bound = self.bound_expression(levels, bound)?;
-        self.push(title.slot, Shape::Array(found.node, bound), found.depth + 1)
+        self.push(
+            title.slot,
+            Shape::Array(found.node, bound),
+            FieldNames::new(self.alloc),
+            found.depth + 1,
+        )
     }
 
     #[cycle(types)]
@@ -344,15 +361,16 @@ impl<'n> Builder<'n> {
         pinned: bool,
         written: &'n [tree::Field],
     ) -> Result<Found, FaultKind>
-        requires table { IsTable self.old.nodes.items }
-        requires names { AreNamed self.old.nodes.items self.old.names }
-        requires seen { AreBelow (length self.old.nodes.items) levels self.old.seen.items }
+        requires table { IsTable self.old.nodes }
+        requires names { AreNamed self.old.nodes self.old.names }
+        requires seen { AreBelow (length self.old.nodes) levels self.old.seen }
         requires some { 0 < room }
         requires few { levels + room ≤ 64 }
         ensures builds { Builds self.old self.new result (meaning (known_types self.old) (visible_in self.old) levels (bytes_now title.entry.name) room (StructForm pinned (fields_tree written.now))) }
         ensures low { IfOk result (λ found. found.depth ≤ room) }
     {
         let (fields, depth) = self.fields_at(struct_place(pinned), levels, room - 1, written)?;
+        let (fields, names) = fields.into_parts();
         let name = copied(self.alloc, title.name)?;
         self.push(
             title.slot,
@@ -361,6 +379,7 @@ impl<'n> Builder<'n> {
                 pinned,
                 fields,
             },
+            names,
             depth + 1,
         )
     }
@@ -374,9 +393,9 @@ impl<'n> Builder<'n> {
         reference: &Reference,
         written: &'n [tree::Field],
     ) -> Result<Found, FaultKind>
-        requires table { IsTable self.old.nodes.items }
-        requires names { AreNamed self.old.nodes.items self.old.names }
-        requires seen { AreBelow (length self.old.nodes.items) levels self.old.seen.items }
+        requires table { IsTable self.old.nodes }
+        requires names { AreNamed self.old.nodes self.old.names }
+        requires seen { AreBelow (length self.old.nodes) levels self.old.seen }
         requires some { 0 < room }
         requires few { levels + room ≤ 64 }
         ensures builds { Builds self.old self.new result (meaning (known_types self.old) (visible_in self.old) levels (bytes_now title.entry.name) room (IntegralForm (reference_tree reference.now) (fields_tree written.now))) }
@@ -384,6 +403,7 @@ impl<'n> Builder<'n> {
     {
         let number = integer_referred(&self.names, &self.nodes, reference)?;
         let (fields, depth) = self.fields_at(Place::Integral, levels, room - 1, written)?;
+        let (fields, names) = fields.into_parts();
         if total_width(&self.nodes, &fields) != u128::from(number.width) {
             return Err(FaultKind::IntegralWidths);
         }
@@ -396,6 +416,7 @@ impl<'n> Builder<'n> {
                 number,
                 fields,
             },
+            names,
             depth + 1,
         )
     }
@@ -408,9 +429,9 @@ impl<'n> Builder<'n> {
         room: u8,
         written: &'n [tree::Field],
     ) -> Result<Found, FaultKind>
-        requires table { IsTable self.old.nodes.items }
-        requires names { AreNamed self.old.nodes.items self.old.names }
-        requires seen { AreBelow (length self.old.nodes.items) levels self.old.seen.items }
+        requires table { IsTable self.old.nodes }
+        requires names { AreNamed self.old.nodes self.old.names }
+        requires seen { AreBelow (length self.old.nodes) levels self.old.seen }
         requires some { 0 < room }
         requires few { levels + room ≤ 64 }
         ensures builds { Builds self.old self.new result (meaning (known_types self.old) (visible_in self.old) levels (bytes_now title.entry.name) room (UnionForm (fields_tree written.now))) }
@@ -420,12 +441,18 @@ impl<'n> Builder<'n> {
             return Err(FaultKind::NotHere);
         }
         let (fields, depth) = self.fields_at(Place::Union, levels, room - 1, written)?;
+        let (fields, names) = fields.into_parts();
         let alternatives = parts_from(self.alloc, fields)?;
         if alternatives.len() > MOST_ALTERNATIVES {
             return Err(FaultKind::Memory);
         }
         let name = copied(self.alloc, title.name)?;
-        self.push(title.slot, Shape::Union { name, alternatives }, depth + 1)
+        self.push(
+            title.slot,
+            Shape::Union { name, alternatives },
+            names,
+            depth + 1,
+        )
     }
 
     /// One field, after others; what comes after it sees it, but not in a union.
@@ -435,15 +462,16 @@ impl<'n> Builder<'n> {
         place: Place,
         levels: u8,
         room: u8,
-        before: &[Field],
+        before: &FieldList,
         written: &'n tree::Field,
     ) -> Result<(Field, u8), FaultKind>
-        requires table { IsTable self.old.nodes.items }
-        requires names { AreNamed self.old.nodes.items self.old.names }
-        requires seen { AreBelow (length self.old.nodes.items) (levels + 1) self.old.seen.items }
+        requires table { IsTable self.old.nodes }
+        requires names { AreNamed self.old.nodes self.old.names }
+        requires seen { AreBelow (length self.old.nodes) (levels + 1) self.old.seen }
         requires few { levels + 1 + room ≤ 64 }
         ensures builds { FieldBuilds self.old self.new place levels (length before.now) (field_tree written.now).parts result (field_meaning (known_types self.old) place (visible_in self.old) levels (names_in before.now) (field_tree written.now).parts (meaning (known_types self.old) (visible_in self.old) (levels + 1) None room (field_tree written.now).form)) }
         ensures sound { IfOk result (λ x. IsSoundField x.0) }
+        ensures fresh { IfOk result (λ _. fresh (field_tree written.now).parts.name (names_in before.now) ≡ Ok tt) }
         ensures low { IfOk result (λ x. x.1 ≤ room) }
     {
         let found = self.type_at(
@@ -468,21 +496,21 @@ impl<'n> Builder<'n> {
         levels: u8,
         room: u8,
         written: &'n [tree::Field],
-    ) -> Result<(Vec<Field>, u8), FaultKind>
-        requires table { IsTable self.old.nodes.items }
-        requires names { AreNamed self.old.nodes.items self.old.names }
-        requires seen { AreBelow (length self.old.nodes.items) levels self.old.seen.items }
+    ) -> Result<(FieldList<'n>, u8), FaultKind>
+        requires table { IsTable self.old.nodes }
+        requires names { AreNamed self.old.nodes self.old.names }
+        requires seen { AreBelow (length self.old.nodes) levels self.old.seen }
         requires few { levels + 1 + room ≤ 64 }
         ensures builds { FieldsBuild self.old self.new result (fields_meaning (known_types self.old) place (visible_in self.old) levels room [] (fields_tree written.now)) }
-        ensures sound { IfOk result (λ x. All IsSoundField x.0.items) }
+        ensures sound { IfOk result (λ x. All IsSoundField x.0) }
         ensures low { IfOk result (λ x. x.1 ≤ room) }
     {
         let mark = self.seen.len();
-        let mut fields = Vec::new(self.alloc);
+        let mut fields = FieldList::with_capacity(self.alloc, written.len())?;
         let mut deepest: u8 = 0;
         for f in written {
             let (field, depth) = self.field_at(place, levels, room, &fields, f)?;
-            fields.push(field)?;
+            fields.push(name_in(f), field)?;
             deepest = deepest.max(depth);
         }
         self.seen.truncate(mark);

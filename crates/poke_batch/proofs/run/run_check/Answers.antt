@@ -1,6 +1,5 @@
-use Rattle.std.proofs.Common.{sym, ap, subst}
 use Rattle.poke_batch.specs.Accepted.{refusal_saying}
-use Rattle.poke_batch.specs.Runs.{accepted, refused, types_text}
+use Rattle.poke_batch.specs.Runs.{refused, types_text}
 use Rattle.poke_batch.proofs.Sayings.{said_says, text_says, counted}
 use Rattle.poke_batch.proofs.run.run_check.Goals as goal
 

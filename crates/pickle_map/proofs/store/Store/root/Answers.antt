@@ -7,7 +7,7 @@ use Rattle.pickle_map.proofs.store.Store.root.Goals as goal
 
 pub returns-in-Some : goal.returns-in-Some
 returns-in-Some c =
-    let nodes : c.deref.result.now ≡ c.args.table.now.nodes.items = search rules in
+    let nodes = c.nodes.ensures in
     let is : value_shown c.new.result ≡ shown c.args.table.now.nodes.items (value_of c.in-Some.stored) = c.new.ensures ∙ ap (λ ns. shown ns (value_of c.in-Some.stored)) nodes in
     ap Some is
     ∙ ap (option_map (shown c.args.table.now.nodes.items)) c.in-Some.ensures

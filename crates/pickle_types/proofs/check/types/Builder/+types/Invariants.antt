@@ -31,10 +31,10 @@ decreases-field_at l = 4 * l.room + 2
 abbrev pub invariant-fields_at-loop-f : goal.invariant-fields_at-loop-f
 invariant-fields_at-loop-f l = record {
   low : l.deepest ≤ l.room;
-  kept : take l.mark l.self.seen.items ≡ l.initial.self.seen.items;
-  below : AreBelow (length l.self.nodes.items) (l.levels + 1) l.self.seen.items;
-  sound : All IsSoundField l.fields.items;
-  so_far : FieldsSoFar l.initial.self l.self l.fields.items l.deepest
+  kept : take l.mark l.self.seen ≡ l.initial.self.seen;
+  below : AreBelow (length l.self.nodes) (l.levels + 1) l.self.seen;
+  sound : All IsSoundField l.fields;
+  so_far : FieldsSoFar l.initial.self l.self l.fields l.deepest
       (fields_meaning (known_types l.initial.self) l.place (visible_in l.initial.self) l.levels l.room [] (fields_tree l.written))
-      (fields_meaning (known_types l.initial.self) l.place (visible_in l.self) l.levels l.room (names_in l.fields.items) (fields_tree (drop l.f-index l.written)));
+      (fields_meaning (known_types l.initial.self) l.place (visible_in l.self) l.levels l.room (names_in l.fields) (fields_tree (drop l.f-index l.written)));
 }

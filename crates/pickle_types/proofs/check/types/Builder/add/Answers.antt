@@ -5,7 +5,7 @@ use Rattle.pickle_types.proofs.Declarations.{added}
 use Rattle.pickle_types.proofs.check.types.Builder.add.Goals as goal
 
 pub insert-requires : goal.insert-requires
-insert-requires c = record { new = absent c.args.self.now.nodes.items c.args.word.now c.args.self.now.names.map.entries c.requires.new }
+insert-requires c = record { new = absent c.args.self.now.nodes c.args.word.now c.args.self.now.names.map.entries c.requires.new }
 
 pub returns-clause-ready : goal.returns-clause-ready
 returns-clause-ready c =

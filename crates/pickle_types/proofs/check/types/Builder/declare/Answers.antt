@@ -11,14 +11,14 @@ use Rattle.pickle_types.proofs.check.types.Builder.declare.Goals as goal
 pub returns-then-is_some : goal.returns-then-is_some
 returns-then-is_some c =
     let b = c.args.self.now in
-    let twice = declared_twice b.nodes.items c.find_name.result _ (c.find_name.ensures.found b.nodes.items) (sym c.if-is_some.ensures) in
+    let twice = declared_twice b.nodes c.find_name.result _ (c.find_name.ensures.found b.nodes) (sym c.if-is_some.ensures) in
     record { adds = duplicate (known_types b) (declaration_tree c.args.declaration.now) (subst (λ (w : List ℕ). unless_declared (find_type w (known_types b)) ≡ Err DuplicateType) c.deref.ensures.value twice) }
 
 pub returns-in_err-found : goal.returns-in_err-found
 returns-in_err-found c =
     let b = c.args.self.now in
     let p = err_from_is_err_and c.from_residual.result c.from_residual.ensures.1 in
-    let once = declared_once b.nodes.items c.find_name.result _ (c.find_name.ensures.found b.nodes.items) (sym c.if-is_some.ensures) in
+    let once = declared_once b.nodes c.find_name.result _ (c.find_name.ensures.found b.nodes) (sym c.if-is_some.ensures) in
     let n = new_type (known_types b) (declaration_tree c.args.declaration.now) (subst (λ (w : List ℕ). find_type w (known_types b) ≡ None) c.deref.ensures.value once) in
     let h = rw (c.requires.ready.none, c.as_slice.ensures.value) at c.in_err-found.ensures.builds in
     record { adds = rw (p.1, p.2, n) h }
@@ -26,7 +26,7 @@ returns-in_err-found c =
 pub returns : goal.returns
 returns c =
     let b = c.args.self.now in
-    let once = declared_once b.nodes.items c.find_name.result _ (c.find_name.ensures.found b.nodes.items) (sym c.if-is_some.ensures) in
+    let once = declared_once b.nodes c.find_name.result _ (c.find_name.ensures.found b.nodes) (sym c.if-is_some.ensures) in
     let n = new_type (known_types b) (declaration_tree c.args.declaration.now) (subst (λ (w : List ℕ). find_type w (known_types b) ≡ None) c.deref.ensures.value once) in
     let e = c.in_ok-found.ensures.builds in
     let given = rw (c.requires.ready.none, c.as_slice.ensures.value) at e.1 in

@@ -1,0 +1,62 @@
+-- The names of a type's fields, and their places.
+use Rattle.std.proofs.Common.{◌≡◌, ℕ, suc, List, [], ◌∷◌, ◌++◌, ◌||◌, length, Option, Some, None, Ok, Bool, true, false, cond, refl, sym, ap, ◌∙◌}
+use denote.Bor.{Bor}
+use Rattle.std.specs.Prelude.{if◌then◌else◌, option_map, is_some}
+use Rattle.std.specs.Map.{lookup}
+use Rattle.std.specs.Str.{bytes_eq}
+use Rattle.std.specs.Cmp.Lexicographic.{bytes_decides}
+use Rattle.std.proofs.lemmas.Bool.{or_parts}
+use Rattle.pickle_types.specs.declared.check.field_names.FieldNames.{FieldNames}
+use Rattle.pickle_types.specs.Scopes.{is_named}
+use Rattle.pickle_types.specs.Meaning.{has_name, fresh}
+use Rattle.pickle_types.specs.FieldNames.{place_named, kept_in, ArePlaced}
+
+-- a place that is kept for a name
+pub place_kept : (new old : List (Bor (List ℕ) × ℕ)) (name : Bor (List ℕ)) (place : ℕ) →
+    ((q : Bor (List ℕ)) → lookup (λ k. bytes_eq q.now k.now) new ≡ cond (bytes_eq name.now q.now) (Some place) (lookup (λ k. bytes_eq q.now k.now) old)) →
+    (word : List ℕ) → lookup (λ (k : Bor (List ℕ)). bytes_eq word k.now) new ≡ (if bytes_eq name.now word then Some place else lookup (λ (k : Bor (List ℕ)). bytes_eq word k.now) old)
+place_kept new old name place h word = h (record { ref_ptr = (0, 0); now = word })
+
+module _ (word : List ℕ) where
+  some_here : (b c : Bool) (o : Option ℕ) → is_some o ≡ c → is_some (if b then Some 0 else option_map suc o) ≡ (b || c)
+  some_here true c o e = refl
+  some_here false c None e = e
+  some_here false c (Some i) e = e
+
+  -- a name has a place where it is one of the names
+  pub placed_is : (names : List (Option (List ℕ))) → is_some (place_named word names) ≡ has_name word names
+  placed_is [] = refl
+  placed_is (n ∷ names) = some_here (is_named n word) _ (place_named word names) (placed_is names)
+
+  place_other : (names : List (Option (List ℕ))) (n : Option (List ℕ)) → is_named n word ≡ false → place_named word (names ++ n ∷ []) ≡ place_named word names
+  place_other [] n e = rw e refl
+  place_other (m ∷ names) n e = ap (λ o. if is_named m word then Some 0 else option_map suc o) (place_other names n e)
+
+  place_new : (names : List (Option (List ℕ))) (n : Option (List ℕ)) → is_named n word ≡ true → has_name word names ≡ false → place_named word (names ++ n ∷ []) ≡ Some (length names)
+  place_new [] n e h = rw e refl
+  place_new (m ∷ names) n e h =
+      let p = or_parts (is_named m word) (has_name word names) h in
+      let rest = place_new names n e p.1 in
+      rw (p.0, rest) refl
+
+-- a fresh name is none of the names
+fresh_apart : (name : List ℕ) (names : List (Option (List ℕ))) → fresh (Some name) names ≡ Ok tt → (word : List ℕ) → bytes_eq name word ≡ true → has_name word names ≡ false
+unfolding fresh
+fresh_apart name names e word same = rw (← (bytes_decides name word).0 same) (by (has_name name names) refl)
+  where
+    by : (b : Bool) → has_name name names ≡ b → has_name name names ≡ false
+    by true found = cc (rw found at e)
+    by false found = found
+
+apart : (n : Option (List ℕ)) (names : List (Option (List ℕ))) → fresh n names ≡ Ok tt → (word : List ℕ) → is_named n word ≡ true → has_name word names ≡ false
+apart None names e word same = cc
+apart (Some name) names e word same = fresh_apart name names e word same
+
+-- one more field, whose name no other has
+pub placed_more : (names : List (Option (List ℕ))) (n : Option (List ℕ)) (old new : FieldNames) → ArePlaced names old → fresh n names ≡ Ok tt →
+    ((word : List ℕ) → kept_in new word ≡ (if is_named n word then Some (length names) else kept_in old word)) → ArePlaced (names ++ n ∷ []) new
+placed_more names n old new h new_name put = record { kept = λ word. put word ∙ by word (is_named n word) refl }
+  where
+    by : (word : List ℕ) (b : Bool) → is_named n word ≡ b → (if b then Some (length names) else kept_in old word) ≡ place_named word (names ++ n ∷ [])
+    by word true e = sym (place_new word names n e (apart n names new_name word e))
+    by word false e = h.kept word ∙ sym (place_other word names n e)

@@ -1,0 +1,45 @@
+-- The names of a type's fields, and their places.
+use Rattle.std.specs.Prelude.{◌≡◌, ℕ, suc, ◌≤◌, List, [], ◌∷◌, length, Option, Some, None, option_map, slice_get, nat_eq, if◌then◌else◌}
+use Rattle.std.specs.Map.{lookup}
+use Rattle.std.specs.Str.{bytes_eq}
+use Rattle.pickle_types.specs.declared.table.Part.{Part}
+use Rattle.pickle_types.specs.declared.table.Shape.{Shape}
+use Rattle.pickle_types.specs.declared.table.Shape.TheVariants as shape
+use Rattle.pickle_types.specs.declared.table.Node.{Node}
+use Rattle.pickle_types.specs.declared.check.field_names.FieldNames.{FieldNames}
+use Rattle.pickle_types.specs.Table.{name_of}
+use Rattle.pickle_types.specs.Scopes.{is_named}
+use Rattle.pickle_types.specs.Built.{names_in}
+
+-- the place of the first field of a name
+abbrev pub place_named : List ℕ → List (Option (List ℕ)) → Option ℕ
+place_named word [] = None
+place_named word (n ∷ ns) = if is_named n word then Some 0 else option_map suc (place_named word ns)
+
+-- the place that is kept for a name
+abbrev pub kept_in : FieldNames → List ℕ → Option ℕ
+kept_in names word = lookup (λ k. bytes_eq word k.now) names.places.entries
+
+-- the place of each name is kept
+pub record ArePlaced (names : List (Option (List ℕ))) (places : FieldNames) : Type 0 where
+  pub kept : (word : List ℕ) → kept_in places word ≡ place_named word names
+
+abbrev pub part_names : List Part → List (Option (List ℕ))
+part_names [] = []
+part_names (p ∷ ps) = name_of p.name ∷ part_names ps
+
+-- the names of the fields or alternatives of a shape
+abbrev pub shape_names : Shape → List (Option (List ℕ))
+shape_names (shape.Integer type) = []
+shape_names (shape.Offset type unit) = []
+shape_names shape.String = []
+shape_names (shape.Array element bound) = []
+shape_names (shape.Struct name pinned fields) = names_in fields.items
+shape_names (shape.Integral name number fields) = part_names fields.items
+shape_names (shape.Union name alternatives) = part_names alternatives.items
+
+-- the places of the names of each node's fields are kept, where it has some
+pub record AreIndexed (nodes : List Node) (names : List (ℕ × FieldNames)) : Type 0 where
+  pub some : (i : ℕ) (node : Node) (places : FieldNames) → slice_get nodes i ≡ Some node → lookup (nat_eq i) names ≡ Some places → ArePlaced (shape_names node.shape) places
+  pub none : (i : ℕ) (node : Node) (word : List ℕ) → slice_get nodes i ≡ Some node → lookup (nat_eq i) names ≡ None → place_named word (shape_names node.shape) ≡ None
+  pub past : (i : ℕ) → length nodes ≤ i → lookup (nat_eq i) names ≡ None

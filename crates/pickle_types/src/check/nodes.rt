@@ -1,0 +1,94 @@
+//! The nodes of a table that is being built.
+
+ghost use Rattle.std.specs.Prelude.{◌≡◌, ◌<◌, ◌++◌, ◌∷◌, [], List, length, Some, slice_get, IfErr, OnOk, OnErr};
+ghost use Rattle.std.specs.Coded.{codes};
+ghost use Rattle.pickle_types.specs.FieldNames.{place_named, shape_names, ArePlaced, AreIndexed};
+ghost use Rattle.pickle_types.specs.declared.table.Node.{Node};
+ghost use Rattle.pickle_types.specs.contracts.table.Resolved as resolved;
+
+use crate::check::field_names::FieldNames;
+use crate::fault::FaultKind;
+use crate::table::Node;
+use indexmap::IndexMap;
+use std::alloc::Global;
+use std::marker::Model;
+
+/// Nodes, each found by its index, and their fields by their names.
+#[derive(Drop)]
+pub struct Nodes<'n> {
+    nodes: Vec<Node>,
+    /// The names of a node's fields, where it has some.
+    names: IndexMap<usize, FieldNames<'n>>,
+}
+
+impl<'n> Model for Nodes<'n> {
+    ghost Value = { List Node };
+
+    ghost coded = { Prim.hlevel (codes, resolved.the_row.coded) };
+
+    ghost view = { λ t. t.nodes.items };
+
+    ghost invariant = { λ t. AreIndexed t.nodes.items t.names.entries };
+}
+
+impl<'n> Nodes<'n> {
+    pub fn new(alloc: Global) -> Nodes<'n>
+        ensures { result ≡ [] }
+    {
+        Nodes {
+            nodes: Vec::new(alloc),
+            names: IndexMap::new(alloc),
+        }
+    }
+
+    pub fn len(&self) -> usize
+        ensures { result ≡ length self.now }
+    {
+        self.nodes.len()
+    }
+
+    pub fn node(&self, i: usize) -> &Node
+        requires inside { i < length self.now }
+        ensures { slice_get self.now i ≡ Some result.now }
+    {
+        &self.nodes[i]
+    }
+
+    /// The place of a node's field of that name.
+    pub fn place_of(&self, i: usize, word: &[u8]) -> Option<usize>
+        ensures { (node : Node) → slice_get self.now i ≡ Some node → result ≡ place_named word.now (shape_names node.shape) }
+    {
+        match self.names.get(&i) {
+            Some(names) => names.find(word),
+            None => None,
+        }
+    }
+
+    /// One more node, with the names of its fields.
+    pub fn push(&mut self, node: Node, names: FieldNames<'n>) -> Result<(), FaultKind>
+        requires { ArePlaced (shape_names node.shape) names }
+        ensures ok { OnOk result (self.new ≡ self.old ++ node ∷ []) }
+        ensures err { OnErr result (self.new ≡ self.old) }
+        ensures kind { IfErr result (λ e. e ≡ FaultKind.Memory) }
+    {
+        let place = self.nodes.len();
+        self.nodes.push(node)?;
+        if names.is_empty() {
+            return Ok(());
+        }
+        match self.names.insert(place, names) {
+            Ok(_) => Ok(()),
+            Err(_) => {
+                self.nodes.truncate(place);
+                Err(FaultKind::Memory)
+            }
+        }
+    }
+
+    pub fn into_nodes(self) -> Vec<Node>
+        ensures { result.items ≡ self.entry }
+    {
+        let Nodes { nodes, names: _ } = self;
+        nodes
+    }
+}

@@ -1,0 +1,17 @@
+//! The types of a table, as nodes that it lends: each has its shape, and the types, names, orders and expressions of its
+//! parts, with names resolved to an open level and a place in it.
+
+ghost use Rattle.std.specs.Prelude.{◌≡◌};
+ghost use Rattle.pickle_types.specs.TypeTable.{nodes_of};
+
+pub use crate::table::{Extent, Field, Node, Part, Resolved, Shape};
+use crate::type_table::Table;
+
+impl Table {
+    /// The nodes of the table. Each names only nodes before it, and a `TypeId` tells one by its place.
+    pub fn nodes(&self) -> &[Node]
+        ensures { result.now ≡ nodes_of self.now }
+    {
+        &self.nodes
+    }
+}

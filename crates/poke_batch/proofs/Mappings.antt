@@ -1,0 +1,110 @@
+-- Laws of what a mapping says.
+use Rattle.std.proofs.Common.{◌≡◌, ◌≢◌, ◌+◌, ◌-◌, ◌*◌, ◌<◌, ◌∙◌, ℕ, List, Some, Result, Ok, Err, refl, sym, ap, subst, arith}
+use Rattle.std.proofs.lemmas.Option.{same_Some}
+use Rattle.bit_space.specs.declared.order.Order.{Order}
+use Rattle.bit_space.specs.Bits.{bits_of}
+use Rattle.bit_space.specs.SpaceView.{SpaceView, HasRisen}
+use Rattle.pickle_syntax.specs.Tree.{DeclarationTree}
+use Rattle.pickle_types.specs.declared.table.Node.{Node}
+use Rattle.pickle_types.specs.Bounds.{cost}
+use Rattle.pickle_types.specs.Names.{Names, find_type}
+use Rattle.pickle_types.specs.Types.{PokeType}
+use Rattle.pickle_map.specs.Answer.{Answer}
+use Rattle.pickle_map.specs.Clauses.{FaultAt}
+use Rattle.pickle_map.specs.Fits.{Fits}
+use Rattle.pickle_map.specs.Mapped.{FaultMeans, EndsRun, Gives}
+use Rattle.pickle_map.specs.Shown.{kept}
+use Rattle.pickle_map.specs.Slots.{Held}
+use Rattle.pickle_map.specs.Values.{Value, no_values, value_at}
+use Rattle.pickle_map.specs.declared.faults.MapFaultKind.{MapFaultKind}
+use Rattle.pickle_map.specs.declared.faults.MapFaultKind.TheVariants as fault
+use Rattle.poke_batch.specs.Accepted.{IsAccepted}
+use Rattle.poke_batch.specs.FaultLines.{fault_kind, fault_saying}
+use Rattle.poke_batch.specs.declared.status.Status.TheVariants.{Fault}
+use Rattle.poke_batch.specs.Lines.{fault_at_line}
+use Rattle.poke_batch.specs.Runs.{HasAnswer, IsAsked, MapsAs, value, stops, device, no_memory}
+use Rattle.poke_batch.specs.Told.{Text, Line}
+use Rattle.poke_batch.specs.ValueText.{printed}
+
+pub asked : {pickle name : List ℕ} {declarations : List DeclarationTree} {types : Names} {type : PokeType} → IsAccepted pickle declarations types → find_type name types ≡ Some type → IsAsked pickle name type
+asked a f = record { declarations = _; types = _; accepted = a; found = f }
+
+-- an answer under the steps that a meter has left, which took none before
+pub has_answer : (bytes : List ℕ) (type : PokeType) (order : Order) (start limit most used : ℕ) (answer : Result Value FaultAt) (k j : ℕ)
+    → most ≡ limit → used ≡ 0 → Answer (bits_of bytes) type order start (most - used) answer k j → HasAnswer bytes type order start limit answer
+has_answer bytes type order start limit most used answer k j same none means = record {
+  steps = k;
+  made = j;
+  means = subst (λ left. Answer (bits_of bytes) type order start left answer k j) (omega (arith, same, none)) means;
+}
+
+-- a fault that a type means, told of a meter that took no step before
+stopped : (pickle name : List ℕ) (order : Order) (start limit : ℕ) (before after : SpaceView) (type : PokeType) (at most used taken k j : ℕ) (kind : MapFaultKind)
+    → most ≡ limit → used ≡ 0 → IsAsked pickle name type
+    → ((bytes : List ℕ) → before.bytes ≡ Some bytes → Answer (bits_of bytes) type order start (most - used) (Err (kind, at)) k j)
+    → (kind ≡ fault.Limit → (taken ≡ most) × (most < used + cost type (8 * before.len))) → (EndsRun kind → at ≡ start)
+    → kind ≢ fault.Device → kind ≢ fault.Memory
+    → MapsAs pickle name order start limit before after (Line Fault (fault_at_line (fault_kind kind) at))
+stopped pickle name order start limit before after type at most used taken k j kind same none a means over place not_device not_memory =
+    stops a not_device not_memory
+    (λ bytes known. has_answer bytes type order start limit most used (Err (kind, at)) k j same none (means bytes known))
+    (λ e. (place (subst EndsRun (sym e) tt), omega (arith, (over e).1, same, none)))
+
+-- a fault that is no failure outside the mapping is told with its place
+pub told_at_place : (kind : MapFaultKind) (at : ℕ) → kind ≢ fault.Device → kind ≢ fault.Memory → fault_saying kind at ≡ Line Fault (fault_at_line (fault_kind kind) at)
+told_at_place fault.End at not_device not_memory = refl
+told_at_place fault.Constraint at not_device not_memory = refl
+told_at_place fault.Bounds at not_device not_memory = refl
+told_at_place fault.NoBits at not_device not_memory = refl
+told_at_place fault.Zero at not_device not_memory = refl
+told_at_place fault.Overflow at not_device not_memory = refl
+told_at_place fault.Absent at not_device not_memory = refl
+told_at_place fault.Index at not_device not_memory = refl
+told_at_place fault.Limit at not_device not_memory = refl
+told_at_place fault.Device at not_device not_memory = absurd (not_device refl)
+told_at_place fault.Memory at not_device not_memory = absurd (not_memory refl)
+
+-- what a mapping says of its fault
+pub fault_says : (pickle name : List ℕ) (order : Order) (start limit : ℕ) (before after : SpaceView) (type : PokeType) (at most used taken k j : ℕ) (kind : MapFaultKind)
+    → most ≡ limit → used ≡ 0 → IsAsked pickle name type
+    → ((bytes : List ℕ) → before.bytes ≡ Some bytes → FaultMeans (bits_of bytes) type order start (most - used) kind at k j)
+    → (kind ≡ fault.Limit → (taken ≡ most) × (most < used + cost type (8 * before.len))) → (EndsRun kind → at ≡ start)
+    → (kind ≡ fault.Device → HasRisen before.failures after.failures)
+    → MapsAs pickle name order start limit before after (fault_saying kind at)
+fault_says pickle name order start limit before after type at most used taken k j fault.End same none a means over place risen =
+    stopped pickle name order start limit before after type at most used taken k j fault.End same none a means over place (λ e. cc) (λ e. cc)
+fault_says pickle name order start limit before after type at most used taken k j fault.Constraint same none a means over place risen =
+    stopped pickle name order start limit before after type at most used taken k j fault.Constraint same none a means over place (λ e. cc) (λ e. cc)
+fault_says pickle name order start limit before after type at most used taken k j fault.Bounds same none a means over place risen =
+    stopped pickle name order start limit before after type at most used taken k j fault.Bounds same none a means over place (λ e. cc) (λ e. cc)
+fault_says pickle name order start limit before after type at most used taken k j fault.NoBits same none a means over place risen =
+    stopped pickle name order start limit before after type at most used taken k j fault.NoBits same none a means over place (λ e. cc) (λ e. cc)
+fault_says pickle name order start limit before after type at most used taken k j fault.Zero same none a means over place risen =
+    stopped pickle name order start limit before after type at most used taken k j fault.Zero same none a means over place (λ e. cc) (λ e. cc)
+fault_says pickle name order start limit before after type at most used taken k j fault.Overflow same none a means over place risen =
+    stopped pickle name order start limit before after type at most used taken k j fault.Overflow same none a means over place (λ e. cc) (λ e. cc)
+fault_says pickle name order start limit before after type at most used taken k j fault.Absent same none a means over place risen =
+    stopped pickle name order start limit before after type at most used taken k j fault.Absent same none a means over place (λ e. cc) (λ e. cc)
+fault_says pickle name order start limit before after type at most used taken k j fault.Index same none a means over place risen =
+    stopped pickle name order start limit before after type at most used taken k j fault.Index same none a means over place (λ e. cc) (λ e. cc)
+fault_says pickle name order start limit before after type at most used taken k j fault.Limit same none a means over place risen =
+    stopped pickle name order start limit before after type at most used taken k j fault.Limit same none a means over place (λ e. cc) (λ e. cc)
+fault_says pickle name order start limit before after type at most used taken k j fault.Device same none a means over place risen = device a (risen refl)
+fault_says pickle name order start limit before after type at most used taken k j fault.Memory same none a means over place risen = no_memory
+
+-- the value that a store gives, as the value that is shown at its root
+pub root_given : {nodes : List Node} {store : Held} {P : Value → Type 0} (g : Gives nodes store P) → value_at (kept nodes store) 0 0 ≡ Some g.value
+root_given g = ap (λ levels. value_at levels 0 0) g.keeps
+
+-- what a mapping says of its value
+pub value_right : (pickle name : List ℕ) (order : Order) (start limit : ℕ) (before after : SpaceView) (type : PokeType) (most used k j : ℕ) (nodes : List Node) (store : Held)
+    → most ≡ limit → used ≡ 0 → IsAsked pickle name type
+    → ((bytes : List ℕ) → before.bytes ≡ Some bytes → Gives nodes store (λ v. Answer (bits_of bytes) type order start (most - used) (Ok v) k j))
+    → (g : Gives nodes store (λ v. Fits (8 * before.len) type no_values start v))
+    → MapsAs pickle name order start limit before after (Text (printed g.value))
+value_right pickle name order start limit before after type most used k j nodes store same none a means g =
+    value a (λ bytes known.
+    let m = means bytes known in
+    let e = same_Some m.value g.value (sym (root_given m) ∙ root_given g) in
+    has_answer bytes type order start limit most used (Ok g.value) k j same none
+    (subst (λ v. Answer (bits_of bytes) type order start (most - used) (Ok v) k j) e m.holds)) g.holds
