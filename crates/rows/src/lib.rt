@@ -6,6 +6,8 @@ mod bounds;
 #[cfg(test)]
 mod declarations;
 #[cfg(test)]
+mod depths;
+#[cfg(test)]
 mod devices;
 #[cfg(test)]
 mod dumps;
