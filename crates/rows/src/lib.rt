@@ -6,6 +6,8 @@ mod bounds;
 #[cfg(test)]
 mod declarations;
 #[cfg(test)]
+mod depths;
+#[cfg(test)]
 mod devices;
 #[cfg(test)]
 mod dumps;
@@ -20,6 +22,8 @@ mod offset_words;
 #[cfg(test)]
 mod pickles;
 #[cfg(test)]
+mod reads;
+#[cfg(test)]
 mod stores;
 #[cfg(test)]
 mod streams;
@@ -29,3 +33,5 @@ mod tables;
 mod values;
 #[cfg(test)]
 mod words;
+#[cfg(test)]
+mod writers;
