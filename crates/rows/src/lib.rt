@@ -10,6 +10,8 @@ mod devices;
 #[cfg(test)]
 mod dumps;
 #[cfg(test)]
+mod files;
+#[cfg(test)]
 mod maps;
 #[cfg(test)]
 mod memory;
