@@ -13,6 +13,7 @@ mod devices;
 mod dumps;
 #[cfg(test)]
 mod mappings;
+mod files;
 #[cfg(test)]
 mod maps;
 #[cfg(test)]
