@@ -12,8 +12,9 @@ mod devices;
 #[cfg(test)]
 mod dumps;
 #[cfg(test)]
-mod mappings;
 mod files;
+#[cfg(test)]
+mod mappings;
 #[cfg(test)]
 mod maps;
 #[cfg(test)]
