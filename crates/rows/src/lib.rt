@@ -6,9 +6,13 @@ mod bounds;
 #[cfg(test)]
 mod declarations;
 #[cfg(test)]
+mod depths;
+#[cfg(test)]
 mod devices;
 #[cfg(test)]
 mod dumps;
+#[cfg(test)]
+mod files;
 #[cfg(test)]
 mod mappings;
 #[cfg(test)]
@@ -20,6 +24,8 @@ mod offset_words;
 #[cfg(test)]
 mod pickles;
 #[cfg(test)]
+mod reads;
+#[cfg(test)]
 mod stores;
 #[cfg(test)]
 mod streams;
@@ -29,3 +35,5 @@ mod tables;
 mod values;
 #[cfg(test)]
 mod words;
+#[cfg(test)]
+mod writers;
