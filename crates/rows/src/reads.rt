@@ -14,12 +14,16 @@ const ELEMENTS: &str = r#"type E = struct { byte v : v != 0; }; type A = struct 
 /// Of the bytes only the number counts: each reading gives the number of the reading.
 const SHIFTING: &str = r#"type T = struct { byte n : n == 1; };
   T 0 big 00 | 6 2 | T {n=1UB}
+
 type T = struct { byte n; byte m : m == n @ 0#B; };
   T 0 big 00 | 10 2 | fault Constraint at 0#b
+
 type T = struct { byte n; byte[n] d; byte k if n == 1; byte[n] e : n == 1; };
   T 0 big 00000000 | 21 7 | T {n=1UB,d=[2UB],k=3UB,e=[4UB]}
+
 type T = union { byte a : a == 2; byte b : b == 2; };
   T 0 big 00 | 11 3 | T {b=2UB}
+
 type E = struct { byte v : v != 0; }; type A = struct { E[] es; byte z; };
   A 0 big 000000 | 26 7 | fault End at 24#b"#;
 
