@@ -2,8 +2,10 @@
 
 use crate::devices::{Failing, Shifting};
 use crate::mappings::{LIMIT, expect, map_row, table_of};
-use crate::tables::read_rows;
+use crate::tables::{Row, read_rows};
+use bit_space::{Order, Paged};
 use pickle_map::Store;
+use std::alloc::{AllocError, Global};
 use std::test::Fail;
 
 /// Four reads: three of elements, of which the last is given up, and one behind them.
@@ -75,5 +77,61 @@ fn judges_the_bytes_that_it_keeps(rt: HostRuntime) -> Result<(), Fail> {
         let mapped = map_row(alloc, &table, row, LIMIT, &mut space, &mut store)?;
         expect(&rt, row, &mapped);
     }
+    Ok(())
+}
+
+/// Bytes of which the last two are hexadecimal 12 and 34.
+fn bytes_of(alloc: Global, length: usize) -> Result<Vec<u8>, AllocError> {
+    let mut bytes = vec![in alloc; 1u8; length.saturating_sub(2)]?;
+    bytes.extend_from_slice(b"\x12\x34")?;
+    Ok(bytes)
+}
+
+// Two pages are read once each: where the third read would fail it isn't made, and the second is.
+#[test]
+fn reads_each_page_once(rt: HostRuntime) -> Result<(), Fail> {
+    let alloc = rt.alloc();
+    let row = Row {
+        pickle: "type T = byte[];",
+        name: "T",
+        start: 0,
+        order: Order::Big,
+        bytes: bytes_of(alloc, 8192)?,
+        steps: 16_385,
+        made: 8193,
+        said: "",
+    };
+    let table = table_of(alloc, row.pickle)?;
+    for (failing, fails) in [(1, true), (2, true), (3, false)] {
+        let mut space = Paged::new(alloc, Failing::new(&row.bytes, failing)?)?;
+        let mut store = Store::new(alloc);
+        let mapped = map_row(alloc, &table, &row, LIMIT, &mut space, &mut store)?;
+        assert_eq!(rt; mapped.said.as_str() == "fault Device at 0#b", fails);
+        assert_eq!(rt;
+            mapped.steps == row.steps && mapped.made == row.made,
+            !fails
+        );
+    }
+    Ok(())
+}
+
+#[test]
+fn reads_a_number_across_pages(rt: HostRuntime) -> Result<(), Fail> {
+    let alloc = rt.alloc();
+    let row = Row {
+        pickle: "",
+        name: "ushort",
+        start: 32_760,
+        order: Order::Big,
+        bytes: bytes_of(alloc, 4097)?,
+        steps: 1,
+        made: 1,
+        said: "4660UH",
+    };
+    let table = table_of(alloc, row.pickle)?;
+    let mut space = Paged::new(alloc, Failing::new(&row.bytes, 0)?)?;
+    let mut store = Store::new(alloc);
+    let mapped = map_row(alloc, &table, &row, LIMIT, &mut space, &mut store)?;
+    expect(&rt, &row, &mapped);
     Ok(())
 }

@@ -64,6 +64,12 @@ type T = byte[0xffffffffffffffffU#4294967295];
 type T = byte[0#B];
   T 0 big | 3 1 | []
 
+type T = byte[0b];
+  T 0 big 01 | 2 1 | []
+
+type T = byte[10 - 4 - 3];
+  T 0 big 01020304 | 12 4 | [1UB,2UB,3UB]
+
 type T = byte[12#b];
   T 0 big 0000 | 7 2 | fault Bounds at 0#b
 

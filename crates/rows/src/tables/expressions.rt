@@ -23,6 +23,9 @@ type T = struct { byte a : a << 7; };
 type T = struct { byte a : a >> 8; };
   T 0 big 02 | 6 1 | fault Index at 0#b
 
+type T = struct { byte a : (0b << 8) == 0; };
+  T 0 big 00 | 8 1 | fault Index at 0#b
+
 type T = struct { byte a : -5 >> 1 == -3; };
   T 0 big 00 | 10 2 | T {a=0UB}
 
