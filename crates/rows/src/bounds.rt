@@ -3,34 +3,45 @@
 use poke_batch::bound::put_bounds;
 use poke_batch::run::run_bound;
 use poke_batch::status::Status;
+use std::alloc::Global;
+use std::process::Abort;
 use std::test::Fail;
 
-/// Pickles at the margin; below each, names, bits, and their steps and slots.
+/// An empty line parts blocks of a pickle and, below it, names, bits, and their steps and slots.
 const BOUNDS: &str = r#"type P = struct { uint<8> a; uint<16> b; };
   P 24 | 5 5
   ulong 0 | 1 1
+
 type S = string; type T = S[]; type N = struct {}; type Z = N[3];
   S 24 | 5 5
   S 25 | 5 5
   T 24 | 25 25
   N 24 | 1 1
   Z 16 | 36 35
+
 type T1 = byte[]; type T2 = T1[]; type T3 = T2[];
   T1 24 | 9 9
   T2 24 | 251 251
   T3 24 | 6301 6301
+
 type T = struct { string s : s == "h\x69"; };
   T 24 | 12 7
+
 type T = union { string a : 0 != 0; string b; };
   T 8008 | 2012 1005
+
 type R = struct { byte far @ 1#B; byte n @ 0#B; }; type T = R[2];
   T 32 | 52 31
+
 type O = pinned struct { byte a; ushort b if 0; nibble c; }; type T = O[3#B];
   T 24 | 39 33
+
 type Q = struct { byte a; ushort b if 0; nibble c; }; type T = Q[];
   T 24 | 28 25
+
 type G = struct uint<16> { uint<4> hi : hi != 0; uint<12> lo; }; type T = G[];
   T 33 | 28 19
+
 type O = offset<ushort,B>; type T = O[];
   T 24 | 5 5"#;
 
@@ -133,29 +144,39 @@ fn bounds_types_of_pickles(rt: HostRuntime) -> Result<(), Fail> {
     Ok(())
 }
 
+fn expect_bounds(rt: &impl Abort, alloc: Global, pickle: &str, line: &str) -> Result<(), Fail> {
+    let (asked, told) = line.trim().split_once(" | ").ok_or("no bar")?;
+    let (name, bits) = asked.split_once(' ').ok_or("no bits")?;
+    let (steps, slots) = told.split_once(' ').ok_or("no slots")?;
+    let text = format!(in alloc; "steps {steps}\nslots {slots}\n")?;
+    let bits = bits.parse::<u64>()?;
+    let mut out = Vec::new(alloc);
+    let mut err = Vec::new(alloc);
+    run_bound(
+        alloc,
+        pickle.as_bytes(),
+        name.as_bytes(),
+        bits,
+        &mut out,
+        &mut err,
+    );
+    assert_eq!(rt; out.as_slice(), text.as_bytes(), "{pickle} {line}");
+    assert!(rt; err.is_empty());
+    Ok(())
+}
+
+fn expect_block(rt: &impl Abort, alloc: Global, block: &str) -> Result<(), Fail> {
+    let (pickle, lines) = block.split_once('\n').ok_or("no bounds")?;
+    for line in lines.lines() {
+        expect_bounds(rt, alloc, pickle, line)?;
+    }
+    Ok(())
+}
+
 #[test]
 fn bounds_by_least_widths(rt: HostRuntime) -> Result<(), Fail> {
-    let mut pickle = "";
-    for line in BOUNDS.lines() {
-        if line.starts_with(' ') {
-            let (asked, told) = line.trim().split_once(" | ").ok_or("no bar")?;
-            let (name, bits) = asked.split_once(' ').ok_or("no bits")?;
-            let (steps, slots) = told.split_once(' ').ok_or("no slots")?;
-            let text = format!(in rt.alloc(); "steps {steps}\nslots {slots}\n")?;
-            let mut out = Vec::new(rt.alloc());
-            let mut err = Vec::new(rt.alloc());
-            run_bound(
-                rt.alloc(),
-                pickle.as_bytes(),
-                name.as_bytes(),
-                bits.parse::<u64>()?,
-                &mut out,
-                &mut err,
-            );
-            assert_eq!(rt; out.as_slice(), text.as_bytes(), "{pickle} {line}");
-        } else {
-            pickle = line;
-        }
+    for block in BOUNDS.split("\n\n") {
+        expect_block(&rt, rt.alloc(), block)?;
     }
     Ok(())
 }

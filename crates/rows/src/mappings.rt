@@ -208,7 +208,7 @@ fn stops_at_each_limit_below_its_steps(rt: HostRuntime) -> Result<(), Fail> {
 fn expect_failures(rt: &impl Abort, alloc: Global, row: &Row<'_>) -> Result<(), Fail> {
     let mut all = Failing::new(&row.bytes, 0)?;
     run_row(alloc, row, &mut all);
-    for failing in 1..=all.reads {
+    for failing in 1..all.reads.saturating_add(1) {
         let mut space = Failing::new(&row.bytes, failing)?;
         let ran = run_row(alloc, row, &mut space);
         assert!(rt; ran.out.is_empty(), "{row:?}");

@@ -1,7 +1,7 @@
 //! The answer, or, where an allocation is refused meanwhile, want of memory and nothing else. Only the calls under test
 //! allocate here.
 
-ghost use Rattle.std.specs.Prelude.{◌≡◌, ◌×◌, IfSome, OnErr};
+ghost use Rattle.std.specs.Prelude.{◌≡◌, IfSome, OnErr};
 ghost use Rattle.pickle_map.specs.Slots.{empty};
 ghost use Rattle.pickle_types.specs.TypeTable.{IsSound, IsInTable};
 

@@ -16,8 +16,10 @@ use std::test::Fail;
 const VALUE_FAULT_VALUE: &str =
     r#"type E = struct { byte v : v != 0; }; type A = struct { E[] es; byte z; };
   A 0 big 050600 | 26 8 | A {es=[E {v=5UB},E {v=6UB}],z=0UB}
+
 type T = union { byte a : a == 1; uint<16> b; };
   T 0 big 02 | 8 1 | fault End at 0#b
+
 type T = struct { byte n; struct { byte[n] d; byte; } body; };
   T 0 big 010506 | 12 6 | T {n=1UB,body=struct {d=[5UB],6UB}}"#;
 

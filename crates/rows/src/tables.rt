@@ -1,8 +1,8 @@
 //! Worked rows of mappings, as tables of text.
 //!
-//! A line that begins at the margin is a pickle, for the rows below it. A row is indented, and bars part it: a type's name,
-//! the bit at which it is mapped, the order of the run, and the file's bytes as hexadecimal digits; then the steps that the
-//! mapping takes, and the values that it makes, with the bytes of strings; then what is written: a value's text or a fault.
+//! An empty line parts blocks, of which each has a pickle in its first line, and then rows. Bars part a row: a type's name, the
+//! bit at which it is mapped, the order of the run, and the file's bytes as hexadecimal digits; then the steps that the mapping
+//! takes, and the values that it makes, with the bytes of strings; then what is written: a value's text or a fault.
 
 pub mod arrays;
 pub mod expressions;
@@ -56,13 +56,16 @@ pub fn all_rows(alloc: Global) -> Result<Vec<Row<'static>>, Fail> {
 }
 
 fn add_rows<'a>(alloc: Global, table: &'a str, rows: &mut Vec<Row<'a>>) -> Result<(), Fail> {
-    let mut pickle = "";
-    for line in table.lines() {
-        if line.starts_with(' ') {
-            rows.push(read_row(alloc, pickle, line)?)?;
-        } else {
-            pickle = line;
-        }
+    for block in table.split("\n\n") {
+        add_block(alloc, block, rows)?;
+    }
+    Ok(())
+}
+
+fn add_block<'a>(alloc: Global, block: &'a str, rows: &mut Vec<Row<'a>>) -> Result<(), Fail> {
+    let (pickle, lines) = block.split_once('\n').ok_or("no row")?;
+    for line in lines.lines() {
+        rows.push(read_row(alloc, pickle, line)?)?;
     }
     Ok(())
 }
