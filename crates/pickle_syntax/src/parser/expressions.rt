@@ -55,6 +55,18 @@ fn prefixed(alloc: Global, room: u8, op: Prefix, tokens: &[Kind]) -> Result<(Fou
     Ok((Found { expression, depth }, rest))
 }
 
+/// A literal or a name, which has one level.
+fn leaf(expression: Expression) -> Found
+    requires { Limits.depth (expression_tree expression) ≡ 1 }
+    ensures expression { expression_tree result.expression ≡ expression_tree expression }
+    ensures depth { result.depth ≡ 1 }
+{
+    Found {
+        expression,
+        depth: 1,
+    }
+}
+
 /// What begins an expression: a literal, a name, a bracket, or a prefix with its operand.
 #[cycle(expressions)]
 #[tactic(auto, unfolding(crate::specs::ReadExpressions::operand_at))]
@@ -68,43 +80,19 @@ fn operand(alloc: Global, room: u8, tokens: &[Kind]) -> Result<(Found, &[Kind]),
         [first, rest @ ..] => match first {
             Kind::Number(number) => {
                 let expression = Expression::Number(*number);
-                Ok((
-                    Found {
-                        expression,
-                        depth: 1,
-                    },
-                    rest,
-                ))
+                Ok((leaf(expression), rest))
             }
             Kind::Character(byte) => {
                 let expression = Expression::Character(*byte);
-                Ok((
-                    Found {
-                        expression,
-                        depth: 1,
-                    },
-                    rest,
-                ))
+                Ok((leaf(expression), rest))
             }
             Kind::Text(bytes) => {
                 let expression = Expression::Text(Vec::from_slice(alloc, bytes)?);
-                Ok((
-                    Found {
-                        expression,
-                        depth: 1,
-                    },
-                    rest,
-                ))
+                Ok((leaf(expression), rest))
             }
             Kind::Name(name) => {
                 let expression = Expression::Name(Vec::from_slice(alloc, name)?);
-                Ok((
-                    Found {
-                        expression,
-                        depth: 1,
-                    },
-                    rest,
-                ))
+                Ok((leaf(expression), rest))
             }
             Kind::Sign(sign) => match start_of(*sign) {
                 Start::Bracket => bracketed(alloc, room, rest),
