@@ -82,8 +82,20 @@ pub fn read_number<S: Space>(
     Ok(in_order(cut, width, order))
 }
 
+// The numeral of the bits of a window, of at most eight bytes.
+fn join(window: &[u8]) -> u64
+    requires { length window.now ≤ 8 }
+    ensures { result ≡ numeral (bits_of window.now) }
+{
+    let mut all: u64 = 0;
+    for byte in window {
+        all = all * 256 + u64::from(*byte);
+    }
+    all
+}
+
 // The numeral of the bits of a window, of at most nine bytes.
-fn join(window: &[u8]) -> u128
+fn join_wide(window: &[u8]) -> u128
     requires { length window.now ≤ 9 }
     ensures { result ≡ numeral (bits_of window.now) }
 {
@@ -97,14 +109,18 @@ fn join(window: &[u8]) -> u128
 // The numeral of `width` bits of a window, from bit `lead` on.
 fn cut_out(window: &[u8], lead: usize, width: usize) -> u64
     requires window { length window.now ≤ 9 }
+    requires some { 0 < width }
     requires width { width ≤ 64 }
     requires inside { lead + width ≤ 8 * length window.now }
     ensures { result ≡ numeral (slice_range (bits_of window.now) lead (lead + width)) }
 {
     let behind = (8 * window.len() - lead - width) as u32;
-    let front = join(window) >> behind;
     let mask = (1u128 << (width as u32)) - 1;
-    (front & mask) as u64
+    if window.len() < WINDOW {
+        (join(window) >> behind) & (mask as u64)
+    } else {
+        ((join_wide(window) >> behind) & mask) as u64
+    }
 }
 
 // The number in an order of the bits whose numeral is `cut`.
