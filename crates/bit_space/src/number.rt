@@ -1,8 +1,8 @@
 //! Numbers of 1 to 64 bits at any bit of a space.
 
-ghost use Rattle.std.specs.Prelude.{◌≡◌, ℕ, ◌+◌, ◌-◌, ◌*◌, ◌^◌, ◌<◌, ◌≤◌, length, slice_range, IfOk, IfErr, OnOk};
+ghost use Rattle.std.specs.Prelude.{◌≡◌, ℕ, ◌+◌, ◌-◌, ◌*◌, ◌^◌, ◌<◌, ◌≤◌, length, slice_range, IfOk, IfErr, OnOk, OnErr, ◌/◌, ◌%◌};
 ghost use Rattle.bit_space.specs.Bits.{binary, bits_of, number, numeral};
-ghost use Rattle.bit_space.specs.SpaceView.{known_bits, Keeps};
+ghost use Rattle.bit_space.specs.SpaceView.{known_bits, Keeps, HasRisen};
 ghost use Rattle.bit_space.specs.Reading.{MayRead, IsRefused, UnlessDevice};
 ghost use Rattle.bit_space.specs.declared.number.BitFault.TheVariants.{Device, Limit};
 
@@ -50,6 +50,7 @@ const WINDOW: usize = 9;
 /// refused with `End` exactly where the bits are not all inside the space. Else it reads their
 /// bytes by one call of `read_at`, and is refused with `Device` only where the space's count of
 /// failures rose.
+#[inline]
 pub fn read_number<S: Space>(
     space: &mut S,
     pos: u64,
@@ -73,16 +74,66 @@ pub fn read_number<S: Space>(
     if pos > bits || u64::from(width) > bits - pos {
         return Err(BitFault::End);
     }
-    let lead = (pos % 8) as usize;
-    let count = (lead + width as usize + 7) / 8;
+    if pos % 8 == 0 && width == 8 {
+        return Ok(read_window(space, pos, width, order, &mut [0u8; 1])?);
+    }
+    Ok(read_bits(space, pos, width, order)?)
+}
+
+// Reads the number of bits that are inside the space. Whole bytes have windows of a size that is known beforehand.
+#[inline(never)]
+fn read_bits<S: Space>(
+    space: &mut S,
+    pos: u64,
+    width: u8,
+    order: Order,
+) -> Result<u64, DeviceFault>
+    requires some { 0 < width }
+    requires most { width ≤ 64 }
+    requires inside { pos + width ≤ 8 * (S.view space.old).len }
+    ensures keeps { Keeps (S.view space.old) (S.view space.new) }
+    ensures ok { IfOk result (λ n. MayRead (known_bits (S.view space.old)) order pos width n) }
+    ensures failed { OnErr result (HasRisen (S.view space.old).failures (S.view space.new).failures) }
+{
+    let lead = pos % 8;
+    if lead == 0 && width == 16 {
+        return read_window(space, pos, width, order, &mut [0u8; 2]);
+    }
+    if lead == 0 && width == 32 {
+        return read_window(space, pos, width, order, &mut [0u8; 4]);
+    }
+    if lead == 0 && width == 64 {
+        return read_window(space, pos, width, order, &mut [0u8; 8]);
+    }
+    let count = (lead as usize + width as usize + 7) / 8;
     let mut bytes = [0u8; WINDOW];
-    let window = &mut bytes[..count];
+    read_window(space, pos, width, order, &mut bytes[..count])
+}
+
+// Reads the number of bits that lie in a window's bytes, which are read by one call.
+#[inline(always)]
+fn read_window<S: Space>(
+    space: &mut S,
+    pos: u64,
+    width: u8,
+    order: Order,
+    window: &mut [u8],
+) -> Result<u64, DeviceFault>
+    requires some { 0 < width }
+    requires most { width ≤ 64 }
+    requires window { (length window.old ≤ 9) × (pos % 8 + width ≤ 8 * length window.old) }
+    requires inside { pos / 8 + length window.old ≤ (S.view space.old).len }
+    ensures keeps { Keeps (S.view space.old) (S.view space.new) }
+    ensures ok { IfOk result (λ n. MayRead (known_bits (S.view space.old)) order pos width n) }
+    ensures failed { OnErr result (HasRisen (S.view space.old).failures (S.view space.new).failures) }
+{
     space.read_at(pos / 8, window)?;
-    let cut = cut_out(window, lead, width as usize);
+    let cut = cut_out(window, (pos % 8) as usize, width as usize);
     Ok(in_order(cut, width, order))
 }
 
 // The numeral of the bits of a window, of at most eight bytes.
+#[inline]
 fn join(window: &[u8]) -> u64
     requires { length window.now ≤ 8 }
     ensures { result ≡ numeral (bits_of window.now) }
@@ -107,6 +158,7 @@ fn join_wide(window: &[u8]) -> u128
 }
 
 // The numeral of `width` bits of a window, from bit `lead` on.
+#[inline]
 fn cut_out(window: &[u8], lead: usize, width: usize) -> u64
     requires window { length window.now ≤ 9 }
     requires some { 0 < width }
@@ -114,13 +166,25 @@ fn cut_out(window: &[u8], lead: usize, width: usize) -> u64
     requires inside { lead + width ≤ 8 * length window.now }
     ensures { result ≡ numeral (slice_range (bits_of window.now) lead (lead + width)) }
 {
+    if window.len() == WINDOW {
+        return cut_out_wide(window, lead, width);
+    }
     let behind = (8 * window.len() - lead - width) as u32;
     let mask = (1u128 << (width as u32)) - 1;
-    if window.len() < WINDOW {
-        (join(window) >> behind) & (mask as u64)
-    } else {
-        ((join_wide(window) >> behind) & mask) as u64
-    }
+    (join(window) >> behind) & (mask as u64)
+}
+
+// As `cut_out`, with a window of nine bytes, which are rarely needed.
+#[inline(never)]
+fn cut_out_wide(window: &[u8], lead: usize, width: usize) -> u64
+    requires window { length window.now ≤ 9 }
+    requires width { width ≤ 64 }
+    requires inside { lead + width ≤ 8 * length window.now }
+    ensures { result ≡ numeral (slice_range (bits_of window.now) lead (lead + width)) }
+{
+    let behind = (8 * window.len() - lead - width) as u32;
+    let mask = (1u128 << (width as u32)) - 1;
+    ((join_wide(window) >> behind) & mask) as u64
 }
 
 // The number in an order of the bits whose numeral is `cut`.

@@ -66,6 +66,7 @@ impl<S: Space + Drop> Paged<S> {
 
 impl<S: Space> Paged<S> {
     // Reads bytes of one page.
+    #[inline]
     fn read_part(&mut self, at: u64, into: &mut [u8]) -> Result<(), DeviceFault>
         requires inside { at + length into.old ≤ (S.view self.old).len }
         requires one_page { at % 4096 + length into.old ≤ 4096 }
@@ -109,6 +110,26 @@ impl<S: Space> Paged<S> {
             None => self.inner.read_at(at, into),
         }
     }
+
+    // Reads bytes of several pages, one page after the other.
+    #[inline(never)]
+    fn read_across(&mut self, at: u64, into: &mut [u8]) -> Result<(), DeviceFault>
+        requires { at + length into.old ≤ (S.view self.old).len }
+        ensures keeps { Keeps (S.view self.old) (S.view self.new) }
+        ensures bytes { OnOk result ((bytes : List ℕ) → (S.view self.old).bytes ≡ Some bytes → into.new ≡ slice_range bytes at (at + length into.old)) }
+        ensures failed { OnErr result (HasRisen (S.view self.old).failures (S.view self.new).failures) }
+    {
+        let page = PAGE as usize;
+        let mut done = 0;
+        while done < into.len() {
+            let place = at + done as u64;
+            let rest = page - (place % PAGE) as usize;
+            let count = rest.min(into.len() - done);
+            self.read_part(place, &mut into[done..done + count])?;
+            done += count;
+        }
+        Ok(())
+    }
 }
 
 // Fills `into` with the bytes of a page from `offset` on.
@@ -146,21 +167,13 @@ impl<S: Space> Space for Paged<S> {
         self.inner.len()
     }
 
+    #[inline]
     fn read_at(&mut self, at: u64, into: &mut [u8]) -> Result<(), DeviceFault> {
         let offset = (at % PAGE) as usize;
-        let page = PAGE as usize;
-        if into.len() <= page - offset {
+        if into.len() <= PAGE as usize - offset {
             return self.read_part(at, into);
         }
-        let mut done = 0;
-        while done < into.len() {
-            let place = at + done as u64;
-            let rest = page - (place % PAGE) as usize;
-            let count = rest.min(into.len() - done);
-            self.read_part(place, &mut into[done..done + count])?;
-            done += count;
-        }
-        Ok(())
+        self.read_across(at, into)
     }
 }
 

@@ -61,6 +61,37 @@ pub(crate) fn map_number<S: Space>(
     Ok(start + u64::from(number.width))
 }
 
+/// Maps an integer from the bit `start` on, and gives the bit behind it.
+#[inline(always)]
+pub(crate) fn map_integer<S: Space>(
+    nodes: &[Node],
+    number: IntegerType,
+    order: Order,
+    start: u64,
+    space: &mut S,
+    meter: &mut Meter,
+    store: &mut Store,
+) -> Result<u64, Stop>
+    requires width { IsWidth number }
+    requires inside { start ≤ 8 * (S.view space.old).len }
+    ensures limit { meter.new.limit ≡ meter.old.limit }
+    ensures len { (S.view space.new).len ≡ (S.view space.old).len }
+    ensures bytes { (S.view space.new).bytes ≡ (S.view space.old).bytes }
+    ensures failures { (S.view space.old).failures ≤ (S.view space.new).failures }
+    ensures room { store.new.room ≡ store.old.room }
+    ensures made { meter.new.made + meter.old.steps ≤ meter.old.made + meter.new.steps }
+    ensures ends { IfOk result (λ end. (start ≤ end) × (end ≤ 8 * (S.view space.old).len)) }
+    ensures ok { IfOk result (λ end. Mapped nodes.now (S.view space.old) meter.old meter.new store.old store.new (read_plan (8 * (S.view space.old).len) (IntegerOf number) number order (kept nodes.now store.old) start) end) }
+    ensures same { OnErr result (kept nodes.now store.new ≡ kept nodes.now store.old) }
+    ensures depth { length (levels store.new) ≡ length (levels store.old) }
+    ensures err { IfErr result (λ stop. Runs (S.view space.old) meter.old meter.new store.old (read_plan (8 * (S.view space.old).len) (IntegerOf number) number order (kept nodes.now store.old) start) (stop_finish stop)) }
+    ensures device { IfErr result (λ stop. stop ≡ Stop.Device → HasRisen (S.view space.old).failures (S.view space.new).failures) }
+{
+    let digits = read_digits(space, start, number.width, order, meter)?;
+    place_integer(nodes, number, digits, start, meter, store)?;
+    Ok(start + u64::from(number.width))
+}
+
 /// Keeps a number as the type at a place of the table, after its own first step.
 #[cycle(placing)]
 fn place_number(

@@ -10,6 +10,7 @@ use crate::mapper::stop::Stop;
 use bit_space::{BitFault, Meter, Order, Space, read_number};
 
 /// The binary digits of `width` bits from the bit `start` on, as a number without a sign.
+#[inline(always)]
 pub fn read_digits<S: Space>(
     space: &mut S,
     start: u64,

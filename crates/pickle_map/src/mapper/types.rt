@@ -22,7 +22,7 @@ use crate::extent::Extent;
 use crate::faults::MapFaultKind;
 use crate::mapper::clauses::{check, find_extent, find_start, is_there};
 use crate::mapper::keep::{close_array, close_struct, close_union, keep_absent};
-use crate::mapper::number::map_number;
+use crate::mapper::number::{map_integer, map_number};
 use crate::mapper::stop::Stop;
 use crate::mapper::text::map_text;
 use crate::store::Store;
@@ -63,9 +63,46 @@ pub(crate) fn map_type<S: Space>(
     map_inside(nodes, at, order, start as u64, space, meter, store)
 }
 
-/// Maps the type at a place of the table, whose start is inside the file.
+/// Maps the type at a place of the table, whose start is inside the file. Most values are integers: those are
+/// mapped without one more call.
 #[cycle(mapping)]
+#[inline(always)]
 fn map_inside<S: Space>(
+    nodes: &[Node],
+    at: usize,
+    order: Order,
+    start: u64,
+    space: &mut S,
+    meter: &mut Meter,
+    store: &mut Store,
+) -> Result<u64, Stop>
+    requires table { IsTable nodes.now }
+    requires at { at < length nodes.now }
+    requires open { length (levels store.old) + depth (type_of nodes.now at) ≤ 65 }
+    requires inside { start ≤ 8 * (S.view space.old).len }
+    ensures limit { meter.new.limit ≡ meter.old.limit }
+    ensures len { (S.view space.new).len ≡ (S.view space.old).len }
+    ensures bytes { (S.view space.new).bytes ≡ (S.view space.old).bytes }
+    ensures failures { (S.view space.old).failures ≤ (S.view space.new).failures }
+    ensures room { store.new.room ≡ store.old.room }
+    ensures made { meter.new.made + meter.old.steps ≤ meter.old.made + meter.new.steps }
+    ensures ends { IfOk result (λ end. (start ≤ end) × (end ≤ 8 * (S.view space.old).len)) }
+    ensures ok { IfOk result (λ end. Mapped nodes.now (S.view space.old) meter.old meter.new store.old store.new (plan (8 * (S.view space.old).len) (type_of nodes.now at) order (kept nodes.now store.old) start) end) }
+    ensures same { OnErr result (kept nodes.now store.new ≡ kept nodes.now store.old) }
+    ensures depth { length (levels store.new) ≡ length (levels store.old) }
+    ensures err { IfErr result (λ stop. Runs (S.view space.old) meter.old meter.new store.old (plan (8 * (S.view space.old).len) (type_of nodes.now at) order (kept nodes.now store.old) start) (stop_finish stop)) }
+    ensures device { IfErr result (λ stop. stop ≡ Stop.Device → HasRisen (S.view space.old).failures (S.view space.new).failures) }
+{
+    match &nodes[at].shape {
+        Shape::Integer(number) => map_integer(nodes, *number, order, start, space, meter, store),
+        _ => map_shape(nodes, at, order, start, space, meter, store),
+    }
+}
+
+/// Maps the type at a place of the table by its shape.
+#[cycle(mapping)]
+#[inline(never)]
+fn map_shape<S: Space>(
     nodes: &[Node],
     at: usize,
     order: Order,
@@ -268,15 +305,7 @@ fn map_elements<S: Space>(
     let mut count = 0;
     while extent.is_due(bits, start, count, place) {
         meter.tick()?;
-        match map_type(
-            nodes,
-            element,
-            order,
-            u128::from(place),
-            space,
-            meter,
-            store,
-        ) {
+        match map_inside(nodes, element, order, place, space, meter, store) {
             Ok(end) => {
                 if end == place {
                     return Err(Stop::Fault(MapFaultKind::NoBits, u128::from(place)));

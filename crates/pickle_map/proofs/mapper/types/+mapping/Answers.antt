@@ -26,59 +26,70 @@ pub map_type-returns-then-from-start-clause-err : goal.map_type-returns-then-fro
 map_type-returns-then-from-start-clause-err g t c =
     plan_past _ _ _ _ _ (omega arith)
 
-pub map_inside-map_number-requires-clause-number : goal.map_inside-map_number-requires-clause-number
-map_inside-map_number-requires-clause-number g t c = ap number_type (opened_as c.args.nodes.now c.requires.table c.args.at c.requires.at c.index-nodes-at.result _ c.in-Integer.is)
-
-pub map_inside-map_number-requires-clause-width : goal.map_inside-map_number-requires-clause-width
-map_inside-map_number-requires-clause-width g t c = (below_as c.args.nodes.now c.requires.table c.args.at c.requires.at c.index-nodes-at.result _ c.in-Integer.is)
+pub map_inside-map_integer-requires : goal.map_inside-map_integer-requires
+map_inside-map_integer-requires g t c =
+    let width = below_as c.args.nodes.now c.requires.table c.args.at c.requires.at c.index-nodes-at.result _ c.in-Integer.is in
+    search rules
 
 pub map_inside-returns-in-Integer-clause-ok : goal.map_inside-returns-in-Integer-clause-ok
-map_inside-returns-in-Integer-clause-ok g t c = rw (number_is _ _ _ _ _ _ (ap number_type (opened_as c.args.nodes.now c.requires.table c.args.at c.requires.at c.index-nodes-at.result _ c.in-Integer.is)) c.requires.inside) c.map_number.ensures.ok
+map_inside-returns-in-Integer-clause-ok g t c = rw (opened_as c.args.nodes.now c.requires.table c.args.at c.requires.at c.index-nodes-at.result _ c.in-Integer.is, number_is _ _ _ _ _ _ refl c.requires.inside) c.map_integer.ensures.ok
 
 pub map_inside-returns-in-Integer-clause-err : goal.map_inside-returns-in-Integer-clause-err
-map_inside-returns-in-Integer-clause-err g t c = rw (number_is _ _ _ _ _ _ (ap number_type (opened_as c.args.nodes.now c.requires.table c.args.at c.requires.at c.index-nodes-at.result _ c.in-Integer.is)) c.requires.inside) c.map_number.ensures.err
+map_inside-returns-in-Integer-clause-err g t c = rw (opened_as c.args.nodes.now c.requires.table c.args.at c.requires.at c.index-nodes-at.result _ c.in-Integer.is, number_is _ _ _ _ _ _ refl c.requires.inside) c.map_integer.ensures.err
 
-pub map_inside-map_number-requires-in-Offset-clause-number : goal.map_inside-map_number-requires-in-Offset-clause-number
-map_inside-map_number-requires-in-Offset-clause-number g t c = ap number_type (opened_as c.args.nodes.now c.requires.table c.args.at c.requires.at c.index-nodes-at.result _ c.in-Offset.is)
+pub map_shape-map_number-requires-clause-number : goal.map_shape-map_number-requires-clause-number
+map_shape-map_number-requires-clause-number g t c = ap number_type (opened_as c.args.nodes.now c.requires.table c.args.at c.requires.at c.index-nodes-at.result _ c.in-Integer.is)
 
-pub map_inside-map_number-requires-in-Offset-clause-width : goal.map_inside-map_number-requires-in-Offset-clause-width
-map_inside-map_number-requires-in-Offset-clause-width g t c = (below_as c.args.nodes.now c.requires.table c.args.at c.requires.at c.index-nodes-at.result _ c.in-Offset.is).0
+pub map_shape-map_number-requires-clause-width : goal.map_shape-map_number-requires-clause-width
+map_shape-map_number-requires-clause-width g t c = (below_as c.args.nodes.now c.requires.table c.args.at c.requires.at c.index-nodes-at.result _ c.in-Integer.is)
 
-pub map_inside-returns-in-Offset-clause-ok : goal.map_inside-returns-in-Offset-clause-ok
-map_inside-returns-in-Offset-clause-ok g t c = rw (number_is _ _ _ _ _ _ (ap number_type (opened_as c.args.nodes.now c.requires.table c.args.at c.requires.at c.index-nodes-at.result _ c.in-Offset.is)) c.requires.inside) c.map_number-in-Offset.ensures.ok
+pub map_shape-returns-in-Integer-clause-ok : goal.map_shape-returns-in-Integer-clause-ok
+map_shape-returns-in-Integer-clause-ok g t c = rw (number_is _ _ _ _ _ _ (ap number_type (opened_as c.args.nodes.now c.requires.table c.args.at c.requires.at c.index-nodes-at.result _ c.in-Integer.is)) c.requires.inside) c.map_number.ensures.ok
 
-pub map_inside-returns-in-Offset-clause-err : goal.map_inside-returns-in-Offset-clause-err
-map_inside-returns-in-Offset-clause-err g t c = rw (number_is _ _ _ _ _ _ (ap number_type (opened_as c.args.nodes.now c.requires.table c.args.at c.requires.at c.index-nodes-at.result _ c.in-Offset.is)) c.requires.inside) c.map_number-in-Offset.ensures.err
+pub map_shape-returns-in-Integer-clause-err : goal.map_shape-returns-in-Integer-clause-err
+map_shape-returns-in-Integer-clause-err g t c = rw (number_is _ _ _ _ _ _ (ap number_type (opened_as c.args.nodes.now c.requires.table c.args.at c.requires.at c.index-nodes-at.result _ c.in-Integer.is)) c.requires.inside) c.map_number.ensures.err
 
-pub map_inside-map_number-requires-in-Integral-clause-number : goal.map_inside-map_number-requires-in-Integral-clause-number
-map_inside-map_number-requires-in-Integral-clause-number g t c = ap number_type (opened_as c.args.nodes.now c.requires.table c.args.at c.requires.at c.index-nodes-at.result _ c.in-Integral.is)
+pub map_shape-map_number-requires-in-Offset-clause-number : goal.map_shape-map_number-requires-in-Offset-clause-number
+map_shape-map_number-requires-in-Offset-clause-number g t c = ap number_type (opened_as c.args.nodes.now c.requires.table c.args.at c.requires.at c.index-nodes-at.result _ c.in-Offset.is)
 
-pub map_inside-map_number-requires-in-Integral-clause-width : goal.map_inside-map_number-requires-in-Integral-clause-width
-map_inside-map_number-requires-in-Integral-clause-width g t c = (below_as c.args.nodes.now c.requires.table c.args.at c.requires.at c.index-nodes-at.result _ c.in-Integral.is).0
+pub map_shape-map_number-requires-in-Offset-clause-width : goal.map_shape-map_number-requires-in-Offset-clause-width
+map_shape-map_number-requires-in-Offset-clause-width g t c = (below_as c.args.nodes.now c.requires.table c.args.at c.requires.at c.index-nodes-at.result _ c.in-Offset.is).0
 
-pub map_inside-returns-in-Integral-clause-ok : goal.map_inside-returns-in-Integral-clause-ok
-map_inside-returns-in-Integral-clause-ok g t c = rw (number_is _ _ _ _ _ _ (ap number_type (opened_as c.args.nodes.now c.requires.table c.args.at c.requires.at c.index-nodes-at.result _ c.in-Integral.is)) c.requires.inside) c.map_number-in-Integral.ensures.ok
+pub map_shape-returns-in-Offset-clause-ok : goal.map_shape-returns-in-Offset-clause-ok
+map_shape-returns-in-Offset-clause-ok g t c = rw (number_is _ _ _ _ _ _ (ap number_type (opened_as c.args.nodes.now c.requires.table c.args.at c.requires.at c.index-nodes-at.result _ c.in-Offset.is)) c.requires.inside) c.map_number-in-Offset.ensures.ok
 
-pub map_inside-returns-in-Integral-clause-err : goal.map_inside-returns-in-Integral-clause-err
-map_inside-returns-in-Integral-clause-err g t c = rw (number_is _ _ _ _ _ _ (ap number_type (opened_as c.args.nodes.now c.requires.table c.args.at c.requires.at c.index-nodes-at.result _ c.in-Integral.is)) c.requires.inside) c.map_number-in-Integral.ensures.err
+pub map_shape-returns-in-Offset-clause-err : goal.map_shape-returns-in-Offset-clause-err
+map_shape-returns-in-Offset-clause-err g t c = rw (number_is _ _ _ _ _ _ (ap number_type (opened_as c.args.nodes.now c.requires.table c.args.at c.requires.at c.index-nodes-at.result _ c.in-Offset.is)) c.requires.inside) c.map_number-in-Offset.ensures.err
 
-pub map_inside-map_text-requires-clause-open : goal.map_inside-map_text-requires-clause-open
+pub map_shape-map_number-requires-in-Integral-clause-number : goal.map_shape-map_number-requires-in-Integral-clause-number
+map_shape-map_number-requires-in-Integral-clause-number g t c = ap number_type (opened_as c.args.nodes.now c.requires.table c.args.at c.requires.at c.index-nodes-at.result _ c.in-Integral.is)
+
+pub map_shape-map_number-requires-in-Integral-clause-width : goal.map_shape-map_number-requires-in-Integral-clause-width
+map_shape-map_number-requires-in-Integral-clause-width g t c = (below_as c.args.nodes.now c.requires.table c.args.at c.requires.at c.index-nodes-at.result _ c.in-Integral.is).0
+
+pub map_shape-returns-in-Integral-clause-ok : goal.map_shape-returns-in-Integral-clause-ok
+map_shape-returns-in-Integral-clause-ok g t c = rw (number_is _ _ _ _ _ _ (ap number_type (opened_as c.args.nodes.now c.requires.table c.args.at c.requires.at c.index-nodes-at.result _ c.in-Integral.is)) c.requires.inside) c.map_number-in-Integral.ensures.ok
+
+pub map_shape-returns-in-Integral-clause-err : goal.map_shape-returns-in-Integral-clause-err
+map_shape-returns-in-Integral-clause-err g t c = rw (number_is _ _ _ _ _ _ (ap number_type (opened_as c.args.nodes.now c.requires.table c.args.at c.requires.at c.index-nodes-at.result _ c.in-Integral.is)) c.requires.inside) c.map_number-in-Integral.ensures.err
+
+pub map_shape-map_text-requires-clause-open : goal.map_shape-map_text-requires-clause-open
 unfolding depth
-map_inside-map_text-requires-clause-open g t c =
+map_shape-map_text-requires-clause-open g t c =
     let deep = rw (opened_as c.args.nodes.now c.requires.table c.args.at c.requires.at c.index-nodes-at.result _ c.in-String.is) at c.requires.open in
     omega (arith, deep)
 
-pub map_inside-map_array-requires : goal.map_inside-map_array-requires
+pub map_shape-map_array-requires : goal.map_shape-map_array-requires
 unfolding depth
-map_inside-map_array-requires g t c =
+map_shape-map_array-requires g t c =
     let below = below_as c.args.nodes.now c.requires.table c.args.at c.requires.at c.index-nodes-at.result _ c.in-Array.is in
     let sound = sound_as c.args.nodes.now c.requires.table c.args.at c.requires.at c.index-nodes-at.result _ c.in-Array.is in
     let deep = rw (opened_as c.args.nodes.now c.requires.table c.args.at c.requires.at c.index-nodes-at.result _ c.in-Array.is) at c.requires.open in
     search rules
 
-pub map_inside-map_struct-requires : goal.map_inside-map_struct-requires
+pub map_shape-map_struct-requires : goal.map_shape-map_struct-requires
 unfolding depth
-map_inside-map_struct-requires g t c =
+map_shape-map_struct-requires g t c =
     let below = below_as c.args.nodes.now c.requires.table c.args.at c.requires.at c.index-nodes-at.result _ c.in-Struct.is in
     let names = names_as c.args.nodes.now c.requires.table c.args.at c.requires.at c.index-nodes-at.result _ c.in-Struct.is in
     let sound = sound_as c.args.nodes.now c.requires.table c.args.at c.requires.at c.index-nodes-at.result _ c.in-Struct.is in
@@ -87,9 +98,9 @@ map_inside-map_struct-requires g t c =
     let bounded = fields_bounded c.args.at c.in-Struct.fields.items below in
     rw c.deref.ensures.value (search rules)
 
-pub map_inside-map_union-requires : goal.map_inside-map_union-requires
+pub map_shape-map_union-requires : goal.map_shape-map_union-requires
 unfolding depth
-map_inside-map_union-requires g t c =
+map_shape-map_union-requires g t c =
     let below = below_as c.args.nodes.now c.requires.table c.args.at c.requires.at c.index-nodes-at.result _ c.in-Union.is in
     let names = names_as c.args.nodes.now c.requires.table c.args.at c.requires.at c.index-nodes-at.result _ c.in-Union.is in
     let sound = sound_as c.args.nodes.now c.requires.table c.args.at c.requires.at c.index-nodes-at.result _ c.in-Union.is in
@@ -99,29 +110,29 @@ map_inside-map_union-requires g t c =
     let few = sound.1 in
     rw c.deref-in-Union.ensures.value (search rules)
 
-pub map_inside-returns-in-String-clause-ok : goal.map_inside-returns-in-String-clause-ok
-map_inside-returns-in-String-clause-ok g t c = rw (opened_as c.args.nodes.now c.requires.table c.args.at c.requires.at c.index-nodes-at.result _ c.in-String.is, text_is _ _ _ _ c.requires.inside) c.map_text.ensures.ok
+pub map_shape-returns-in-String-clause-ok : goal.map_shape-returns-in-String-clause-ok
+map_shape-returns-in-String-clause-ok g t c = rw (opened_as c.args.nodes.now c.requires.table c.args.at c.requires.at c.index-nodes-at.result _ c.in-String.is, text_is _ _ _ _ c.requires.inside) c.map_text.ensures.ok
 
-pub map_inside-returns-in-Array-clause-ok : goal.map_inside-returns-in-Array-clause-ok
-map_inside-returns-in-Array-clause-ok g t c = rw (opened_as c.args.nodes.now c.requires.table c.args.at c.requires.at c.index-nodes-at.result _ c.in-Array.is) c.map_array.ensures.ok
+pub map_shape-returns-in-Array-clause-ok : goal.map_shape-returns-in-Array-clause-ok
+map_shape-returns-in-Array-clause-ok g t c = rw (opened_as c.args.nodes.now c.requires.table c.args.at c.requires.at c.index-nodes-at.result _ c.in-Array.is) c.map_array.ensures.ok
 
-pub map_inside-returns-in-Struct-clause-ok : goal.map_inside-returns-in-Struct-clause-ok
-map_inside-returns-in-Struct-clause-ok g t c = rw (struct_opened c.args.nodes.now c.requires.table c.args.at c.requires.at c.index-nodes-at.result _ _ _ _ c.in-Struct.is c.deref.ensures.value) c.map_struct.ensures.ok
+pub map_shape-returns-in-Struct-clause-ok : goal.map_shape-returns-in-Struct-clause-ok
+map_shape-returns-in-Struct-clause-ok g t c = rw (struct_opened c.args.nodes.now c.requires.table c.args.at c.requires.at c.index-nodes-at.result _ _ _ _ c.in-Struct.is c.deref.ensures.value) c.map_struct.ensures.ok
 
-pub map_inside-returns-in-Union-clause-ok : goal.map_inside-returns-in-Union-clause-ok
-map_inside-returns-in-Union-clause-ok g t c = rw (union_opened c.args.nodes.now c.requires.table c.args.at c.requires.at c.index-nodes-at.result _ _ _ c.in-Union.is c.deref-in-Union.ensures.value) c.map_union.ensures.ok
+pub map_shape-returns-in-Union-clause-ok : goal.map_shape-returns-in-Union-clause-ok
+map_shape-returns-in-Union-clause-ok g t c = rw (union_opened c.args.nodes.now c.requires.table c.args.at c.requires.at c.index-nodes-at.result _ _ _ c.in-Union.is c.deref-in-Union.ensures.value) c.map_union.ensures.ok
 
-pub map_inside-returns-in-String-clause-err : goal.map_inside-returns-in-String-clause-err
-map_inside-returns-in-String-clause-err g t c = rw (opened_as c.args.nodes.now c.requires.table c.args.at c.requires.at c.index-nodes-at.result _ c.in-String.is, text_is _ _ _ _ c.requires.inside) c.map_text.ensures.err
+pub map_shape-returns-in-String-clause-err : goal.map_shape-returns-in-String-clause-err
+map_shape-returns-in-String-clause-err g t c = rw (opened_as c.args.nodes.now c.requires.table c.args.at c.requires.at c.index-nodes-at.result _ c.in-String.is, text_is _ _ _ _ c.requires.inside) c.map_text.ensures.err
 
-pub map_inside-returns-in-Array-clause-err : goal.map_inside-returns-in-Array-clause-err
-map_inside-returns-in-Array-clause-err g t c = rw (opened_as c.args.nodes.now c.requires.table c.args.at c.requires.at c.index-nodes-at.result _ c.in-Array.is) c.map_array.ensures.err
+pub map_shape-returns-in-Array-clause-err : goal.map_shape-returns-in-Array-clause-err
+map_shape-returns-in-Array-clause-err g t c = rw (opened_as c.args.nodes.now c.requires.table c.args.at c.requires.at c.index-nodes-at.result _ c.in-Array.is) c.map_array.ensures.err
 
-pub map_inside-returns-in-Struct-clause-err : goal.map_inside-returns-in-Struct-clause-err
-map_inside-returns-in-Struct-clause-err g t c = rw (struct_opened c.args.nodes.now c.requires.table c.args.at c.requires.at c.index-nodes-at.result _ _ _ _ c.in-Struct.is c.deref.ensures.value) c.map_struct.ensures.err
+pub map_shape-returns-in-Struct-clause-err : goal.map_shape-returns-in-Struct-clause-err
+map_shape-returns-in-Struct-clause-err g t c = rw (struct_opened c.args.nodes.now c.requires.table c.args.at c.requires.at c.index-nodes-at.result _ _ _ _ c.in-Struct.is c.deref.ensures.value) c.map_struct.ensures.err
 
-pub map_inside-returns-in-Union-clause-err : goal.map_inside-returns-in-Union-clause-err
-map_inside-returns-in-Union-clause-err g t c = rw (union_opened c.args.nodes.now c.requires.table c.args.at c.requires.at c.index-nodes-at.result _ _ _ c.in-Union.is c.deref-in-Union.ensures.value) c.map_union.ensures.err
+pub map_shape-returns-in-Union-clause-err : goal.map_shape-returns-in-Union-clause-err
+map_shape-returns-in-Union-clause-err g t c = rw (union_opened c.args.nodes.now c.requires.table c.args.at c.requires.at c.index-nodes-at.result _ _ _ c.in-Union.is c.deref-in-Union.ensures.value) c.map_union.ensures.err
 
 pub map_checked-returns-in_err-end-clause-err : goal.map_checked-returns-in_err-end-clause-err
 map_checked-returns-in_err-end-clause-err g t c =
@@ -476,9 +487,9 @@ map_elements-returns-then-end-place-clause-err g t c =
     let e = c.in_ok-tick.ensures in
     let due = sym c.is_due.ensures ∙ c.loop-order-test.true in
     let due = rw c.len-bits.ensures at due in
-    let h = rw (i.len, c.from.ensures) at c.in-Ok.ensures.ok.follows in
+    let h = rw i.len at c.in-Ok.ensures.ok.follows in
     let h = in_world (g.S.Space.view c.args.space.now) (g.S.Space.view c.loop-order.space) c.args.store.now c.loop-order.store i.bytes i.room h in
-    rw c.from-then-end-place.ensures (follow_on i.so_far.2 (elements_no_bits _ _ _ _ _ _ _ (max 1 (least_width (type_of c.args.nodes.now c.args.element))) _ i.so_far.1 i.inside due (e.limit ∙ i.limit) e.ok e.made _ (c.in-Ok.ensures.ok.ends ∙ c.if-end-place.true) h))
+    rw c.from.ensures (follow_on i.so_far.2 (elements_no_bits _ _ _ _ _ _ _ (max 1 (least_width (type_of c.args.nodes.now c.args.element))) _ i.so_far.1 i.inside due (e.limit ∙ i.limit) e.ok e.made _ (c.in-Ok.ensures.ok.ends ∙ c.if-end-place.true) h))
 
 pub map_elements-loop-order-preserved : goal.map_elements-loop-order-preserved
 map_elements-loop-order-preserved g t c =
@@ -486,7 +497,7 @@ map_elements-loop-order-preserved g t c =
     let e = c.in_ok-tick.ensures in
     let due = sym c.is_due.ensures ∙ c.loop-order-test.true in
     let due = rw c.len-bits.ensures at due in
-    let h = rw (i.len, c.from.ensures) at c.in-Ok.ensures.ok.follows in
+    let h = rw i.len at c.in-Ok.ensures.ok.follows in
     let h = in_world (g.S.Space.view c.args.space.now) (g.S.Space.view c.loop-order.space) c.args.store.now c.loop-order.store i.bytes i.room h in
     let m = c.in-Ok.ensures.ok in
     let wide = followed_wide _ _ _ _ _ h in
@@ -514,7 +525,7 @@ map_elements-returns-then-ends-clause-ok g t c =
     let e = c.in_ok-tick.ensures in
     let due = sym c.is_due.ensures ∙ c.loop-order-test.true in
     let due = rw c.len-bits.ensures at due in
-    let h = rw (i.len, c.from.ensures) at c.in-Err.ensures.err in
+    let h = rw i.len at c.in-Err.ensures.err in
     let h = in_world (g.S.Space.view c.args.space.now) (g.S.Space.view c.loop-order.space) c.args.store.now c.loop-order.store i.bytes i.room h in
     let ends = sym c.ends.ensures ∙ c.if-ends.true in
     rw c.in-Err.ensures.same (follow_on i.so_far.2 (elements_over _ _ _ _ _ _ _ (max 1 (least_width (type_of c.args.nodes.now c.args.element))) _ i.so_far.1 i.inside due (e.limit ∙ i.limit) e.ok e.made _ ends h))
@@ -525,7 +536,7 @@ map_elements-returns-in-Err-clause-err g t c =
     let e = c.in_ok-tick.ensures in
     let due = sym c.is_due.ensures ∙ c.loop-order-test.true in
     let due = rw c.len-bits.ensures at due in
-    let h = rw (i.len, c.from.ensures) at c.in-Err.ensures.err in
+    let h = rw i.len at c.in-Err.ensures.err in
     let h = in_world (g.S.Space.view c.args.space.now) (g.S.Space.view c.loop-order.space) c.args.store.now c.loop-order.store i.bytes i.room h in
     let ends = sym c.ends.ensures ∙ c.if-ends.false in
     follow_on i.so_far.2 (elements_stop _ _ _ _ _ _ _ (max 1 (least_width (type_of c.args.nodes.now c.args.element))) _ i.so_far.1 i.inside due (e.limit ∙ i.limit) e.ok e.made _ ends h)

@@ -17,6 +17,9 @@ decreases-map_type g l = 8 * l.at + 6
 abbrev pub decreases-map_inside : goal.decreases-map_inside
 decreases-map_inside g l = 8 * l.at + 5
 
+abbrev pub decreases-map_shape : goal.decreases-map_shape
+decreases-map_shape g l = 8 * l.at + 4
+
 abbrev pub decreases-map_checked : goal.decreases-map_checked
 decreases-map_checked g l = 8 * l.node + 7
 

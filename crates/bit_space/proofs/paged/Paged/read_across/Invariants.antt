@@ -1,7 +1,7 @@
 use Rattle.std.proofs.Common.{◌-◌, ◌≤◌, length}
 use Rattle.bit_space.specs.SpaceView.{Keeps}
 use Rattle.bit_space.proofs.Pages.{Filled}
-use Rattle.bit_space.proofs.paged.PagedSpace.read_at.Given as goal
+use Rattle.bit_space.proofs.paged.Paged.read_across.Given as goal
 
 abbrev pub invariant-loop-done : goal.invariant-loop-done
 invariant-loop-done g l =
