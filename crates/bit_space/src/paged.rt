@@ -66,7 +66,7 @@ impl<S: Space + Drop> Paged<S> {
 
 impl<S: Space> Paged<S> {
     // Reads bytes of one page.
-    #[inline]
+    #[inline(always)]
     fn read_part(&mut self, at: u64, into: &mut [u8]) -> Result<(), DeviceFault>
         requires inside { at + length into.old ≤ (S.view self.old).len }
         requires one_page { at % 4096 + length into.old ≤ 4096 }
@@ -167,7 +167,7 @@ impl<S: Space> Space for Paged<S> {
         self.inner.len()
     }
 
-    #[inline]
+    #[inline(always)]
     fn read_at(&mut self, at: u64, into: &mut [u8]) -> Result<(), DeviceFault> {
         let offset = (at % PAGE) as usize;
         if into.len() <= PAGE as usize - offset {

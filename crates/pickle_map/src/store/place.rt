@@ -1,4 +1,4 @@
-ghost use Rattle.std.specs.Prelude.{◌≡◌, ℕ, ◌+◌, ◌-◌, ◌<◌, ◌≤◌, ◌++◌, ◌∷◌, [], Some, None, ℤ, take, drop, length, max, IsOk, OnOk, OnErr, vec_len, vec_capacity, List};
+ghost use Rattle.std.specs.Prelude.{◌≡◌, ℕ, ◌+◌, ◌-◌, ◌<◌, ◌≤◌, ◌++◌, ◌∷◌, [], Some, None, ℤ, take, drop, length, max, min, IsOk, OnOk, OnErr, vec_len, vec_capacity, List};
 ghost use Rattle.pickle_map.specs.Tree.{Tree, End, parts_of, text_value, IntegerLabel, OffsetLabel, ArrayLabel, StructLabel, UnionLabel};
 ghost use Rattle.pickle_map.specs.Levels.{Levels, pushed, outer_of, top_of, extended, text_level, FitsIn};
 ghost use Rattle.pickle_map.specs.Slots.{levels, IsNumber, number_value, number_in, IsContentNumber, IsComposite, composite_label};
@@ -8,16 +8,23 @@ use crate::store::slots::{Family, Link, Node, Shape};
 use bit_space::Memory;
 use std::alloc::AllocError;
 
-// Moves the links above a mark, for which there is room.
+// Moves the links above a mark, for which there is room, and leaves room for one there. The vectors change places where
+// all links move to an empty one: an array of numbers has as many as the file has bytes.
 fn move_above(from: &mut Vec<Link>, mark: usize, to: &mut Vec<Link>)
     requires mark { mark ≤ vec_len from.old }
     requires room { vec_len to.old + (vec_len from.old - mark) ≤ vec_capacity to.old }
+    requires above { mark < vec_capacity from.old }
     ensures from { from.new.items ≡ take mark from.old.items }
     ensures to { to.new.items ≡ to.old.items ++ drop mark from.old.items }
     ensures len { vec_len from.new ≡ mark }
-    ensures from_capacity { vec_capacity from.new ≡ vec_capacity from.old }
-    ensures to_capacity { vec_capacity to.old ≤ vec_capacity to.new }
+    ensures above { mark < vec_capacity from.new }
+    ensures from_capacity { min (vec_capacity from.old) (vec_capacity to.old) ≤ vec_capacity from.new }
+    ensures to_capacity { min (vec_capacity from.old) (vec_capacity to.old) ≤ vec_capacity to.new }
 {
+    if mark == 0 && to.is_empty() && !from.is_empty() {
+        std::mem::swap(from, to);
+        return;
+    }
     let _moved = to.extend_from_slice(&from[mark..]);
     from.truncate(mark);
 }
