@@ -1,7 +1,9 @@
 //! Prints mapped values.
+mod digits;
 mod line;
 mod number;
 mod string;
+mod suffix;
 
 ghost use Rattle.std.specs.Prelude.{◌≡◌, ◌++◌, OnOk, OnErr, codes};
 ghost use Rattle.std.specs.Option.{option_map};
