@@ -84,7 +84,7 @@ impl Line {
 
     /// Adds an integer and its suffix, as [`Line::put`] adds a text.
     #[tactic(auto, using(crate::proofs::Gathered::gathers_then))]
-    #[inline]
+    #[inline(always)]
     pub fn put_number<W: Write>(
         &mut self,
         w: &mut W,

@@ -15,6 +15,7 @@ use std::io::Write;
 
 /// Writes an offset of so many units, of a number of bits each.
 #[tactic(auto, using(crate::proofs::Gathered::gathered), unfolding(crate::specs::ValueText::offset_text))]
+#[inline(never)]
 pub fn put_offset<W: Write>(
     w: &mut W,
     line: &mut Line,
@@ -44,6 +45,7 @@ fn put_unit<W: Write>(w: &mut W, line: &mut Line, unit: u32) -> Result<(), Write
 
 /// Writes an integer of a type.
 #[tactic(auto, unfolding(crate::specs::ValueText::integer_text))]
+#[inline(always)]
 pub fn put_integer<W: Write>(
     w: &mut W,
     line: &mut Line,
@@ -60,6 +62,7 @@ pub fn put_integer<W: Write>(
 }
 
 #[tactic(auto, using(crate::proofs::Gathered::gathered))]
+#[inline(never)]
 fn put_cast<W: Write>(
     w: &mut W,
     line: &mut Line,
