@@ -39,6 +39,7 @@ pub mod Evaluations
 pub mod Sizes
 pub mod Arms
 pub mod Settling
+pub mod Comparisons
 pub mod Shapes
 pub mod Clauses
 pub mod Placing

@@ -95,3 +95,6 @@ unfolding brought modulo
 unsigned_scaled number unit (pos a) (pos b) low s h k e = rw (s, e) refl
 unsigned_scaled number unit (pos a) (negsuc b) low s h k e = absurd k
 unsigned_scaled number unit (negsuc a) y low s h k e = absurd h
+
+pub small_fits : (s : Bool) (x : ℤ) → IsSmall s x → SFits w128 x
+small_fits s x h = fits_signed_from_abs w128 x (let a = small_abs s x h in let c : 2 ^ 64 < 2 ^ 127 = lit< tt in omega (arith, a, c))

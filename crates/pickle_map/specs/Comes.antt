@@ -1,13 +1,14 @@
--- What a part of an evaluation comes to, in no steps.
-use Rattle.std.specs.Prelude.{◌≡◌, ◌+◌, List, Option, Result, Ok, Err}
+-- What an evaluation comes to, or a part of one in no steps.
+use Rattle.std.specs.Prelude.{◌≡◌, ℕ, ◌+◌, Bool, true, false, List, Option, Result, Ok, Err}
 use Rattle.pickle_types.specs.declared.table.Node.{Node}
 use Rattle.pickle_map.specs.declared.evaluate.operand.Operand.{Operand as Computing}
 use Rattle.pickle_map.specs.declared.faults.MapFaultKind.{MapFaultKind}
 use Rattle.pickle_map.specs.Evaluation.{Operand, operand_label, Evaluation, evaluation, and_operand, unless_settled, settled, truth_of, between, literal_length, chosen, gives, as_common, element, leads_to}
 use Rattle.pickle_syntax.specs.declared.tree.Infix.{Infix}
+use Rattle.pickle_syntax.specs.declared.tree.Infix.TheVariants.{Equal, NotEqual, Less, LessEqual, Greater, GreaterEqual}
 use Rattle.pickle_types.specs.declared.integer.IntegerType.{IntegerType}
 use Rattle.pickle_types.specs.Types.{Term}
-use Rattle.pickle_map.specs.Values.{Levels}
+use Rattle.pickle_map.specs.Values.{Label, Levels}
 use Rattle.pickle_map.specs.Operands.{operand_of}
 
 abbrev pub Comes : List Node → Result Computing MapFaultKind → Result Operand MapFaultKind → Type 0
@@ -29,3 +30,17 @@ choice_part common c x y levels =
 
 abbrev pub index_part : (e i : Term) → Levels → Evaluation
 index_part e i levels = and_operand (evaluation e levels) (λ p. and_operand (evaluation i levels) (λ n. leads_to (element p (operand_label n))))
+
+-- an evaluation that comes to a value of this label, in so many steps
+abbrev pub ComesTo : Evaluation → Label → ℕ → Type 0
+ComesTo a label steps = (x : Operand) × (a.outcome ≡ Ok x) × (operand_label x ≡ label) × (a.steps ≡ steps)
+
+-- the operators that compare
+abbrev pub is_comparison : Infix → Bool
+is_comparison Equal = true
+is_comparison NotEqual = true
+is_comparison Less = true
+is_comparison LessEqual = true
+is_comparison Greater = true
+is_comparison GreaterEqual = true
+is_comparison op = false

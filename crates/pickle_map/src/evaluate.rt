@@ -1,5 +1,6 @@
 //! The value of an expression.
 
+pub mod comparison;
 pub mod content;
 pub mod expression;
 pub mod integers;

@@ -33,6 +33,14 @@ gathers_next a b c l m n x y h g = record {
   whole = append_assoc h.taken g.taken n ∙ ap (λ s. h.taken ++ s) g.whole ∙ after_first h.taken l m x y h.whole;
 }
 
+-- a text that fits after a line made room for it
+pub gathers_then : (a b : Option (List ℕ)) (l m n x : List ℕ) → Gathers a b l m [] → n ≡ m ++ x → Gathers a b l n x
+gathers_then a b l m n x h e = record {
+  taken = h.taken;
+  appends = h.appends;
+  whole = ap (λ s. h.taken ++ s) e ∙ sym (append_assoc h.taken m x) ∙ ap (λ s. s ++ x) (h.whole ∙ append-nil l);
+}
+
 -- a part of the first of two texts
 pub cut_first : (a b : Option (List ℕ)) (l x y : List ℕ) → AppendsPart a b (l ++ x) → AppendsPart a b (l ++ (x ++ y))
 cut_first a b l x y h = subst (AppendsPart a b) (append_assoc l x y) (part_first a b (l ++ x) y h)

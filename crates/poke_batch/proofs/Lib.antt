@@ -6,6 +6,7 @@ pub mod Bytes
 pub mod DumpRows
 pub mod StringTexts
 pub mod MemberTexts
+pub mod DigitCounts
 pub mod Refusing
 pub mod Sayings
 pub mod Mappings

@@ -2,7 +2,7 @@
 use Rattle.std.proofs.Common.{◌≡◌, ℕ, zero, suc, add-one, ◌+◌, ◌<◌, ◌≤◌, List, [], ◌++◌, Option, Some, None, Bool, false, codes, refl, sym, ◌∙◌, ap, subst, arith}
 use Rattle.poke_batch.specs.Gathered.{Gathers}
 use Rattle.pickle_map.specs.declared.value.Kind.TheVariants as kind
-use Rattle.pickle_map.specs.Values.{Value, Mapped, Label, IntegerLabel, OffsetLabel, TextLabel, ArrayLabel, StructLabel, UnionLabel, Members, NoMembers, MemberThen, AbsentThen, label_of, members_of, member_count, member_at}
+use Rattle.pickle_map.specs.Values.{Value, Mapped, Label, IntegerLabel, OffsetLabel, TextLabel, ArrayLabel, StructLabel, UnionLabel, Members, NoMembers, MemberThen, AbsentThen, label_of, member_count, member_at}
 use Rattle.pickle_map.specs.Labels.{kind_of, number_of, unit_of, bytes_of, member_name}
 use Rattle.poke_batch.specs.ValueText.{value_text, members_text, integer_text, offset_text, string_text}
 use Rattle.poke_batch.specs.PartText.{type_of, array_text, titled_text, member_text}
@@ -55,19 +55,19 @@ pub text_end : (label : Label) (all : Members) (i : ℕ) (first : Bool) → memb
 text_end label all i first h = ap (members_text label i first) (from_end all i h)
 
 -- what is left of the members' text before a member that is there, before one that isn't, and at the end
-pub told_present : (a b : Option (List ℕ)) (l m : List ℕ) (v u : Value) (first : Bool) (i : ℕ) (text : List ℕ) → i < member_count (members_of v) → Some u ≡ member_at (members_of v) i
-    → Told a b l m (members_text (label_of v) i first (members_from i (members_of v))) text
-    → Told a b l m (member_text first (member_name (label_of v) i) u ++ members_text (label_of v) (i + 1) false (members_from (i + 1) (members_of v))) text
-told_present a b l m v u first i text lt is h = subst (λ t. Told a b l m t text) (text_present (label_of v) (members_of v) i first u lt is) h
+pub told_present : (a b : Option (List ℕ)) (l m : List ℕ) (label : Label) (all : Members) (u : Value) (first : Bool) (i : ℕ) (text : List ℕ) → i < member_count all → Some u ≡ member_at all i
+    → Told a b l m (members_text label i first (members_from i all)) text
+    → Told a b l m (member_text first (member_name label i) u ++ members_text label (i + 1) false (members_from (i + 1) all)) text
+told_present a b l m label all u first i text lt is h = subst (λ t. Told a b l m t text) (text_present label all i first u lt is) h
 
-pub told_absent : (a b : Option (List ℕ)) (l m : List ℕ) (v : Value) (first : Bool) (i : ℕ) (text : List ℕ) → i < member_count (members_of v) → None ≡ member_at (members_of v) i
-    → Told a b l m (members_text (label_of v) i first (members_from i (members_of v))) text
-    → Told a b l m (members_text (label_of v) (i + 1) first (members_from (i + 1) (members_of v))) text
-told_absent a b l m v first i text lt is h = subst (λ t. Told a b l m t text) (text_absent (label_of v) (members_of v) i first lt is) h
+pub told_absent : (a b : Option (List ℕ)) (l m : List ℕ) (label : Label) (all : Members) (first : Bool) (i : ℕ) (text : List ℕ) → i < member_count all → None ≡ member_at all i
+    → Told a b l m (members_text label i first (members_from i all)) text
+    → Told a b l m (members_text label (i + 1) first (members_from (i + 1) all)) text
+told_absent a b l m label all first i text lt is h = subst (λ t. Told a b l m t text) (text_absent label all i first lt is) h
 
-pub told_end : (a b : Option (List ℕ)) (l m : List ℕ) (v : Value) (first : Bool) (i : ℕ) (text : List ℕ) → member_count (members_of v) ≤ i
-    → Told a b l m (members_text (label_of v) i first (members_from i (members_of v))) text → Gathers a b l m text
-told_end a b l m v first i text le h = told_all a b l m _ text h (text_end (label_of v) (members_of v) i first le)
+pub told_end : (a b : Option (List ℕ)) (l m : List ℕ) (label : Label) (all : Members) (first : Bool) (i : ℕ) (text : List ℕ) → member_count all ≤ i
+    → Told a b l m (members_text label i first (members_from i all)) text → Gathers a b l m text
+told_end a b l m label all first i text le h = told_all a b l m _ text h (text_end label all i first le)
 
 -- the text of a value, by its kind
 pub text_of_integer : (v : Value) → kind.Integer ≡ kind_of (label_of v) → value_text v ≡ integer_text (type_of (label_of v)) (number_of (label_of v))

@@ -1,6 +1,7 @@
 pub mod OffsetWord
 pub mod DumpText
 pub mod ValueText
+pub mod Suffixes
 pub mod PartText
 pub mod Words
 pub mod BoundText

@@ -1,7 +1,7 @@
 -- The text of a value in the parts that are written one after the other.
 use Rattle.std.specs.Prelude.{ℕ, Bool, true, List, ◌++◌, codes}
 use Rattle.pickle_types.specs.declared.integer.IntegerType.{IntegerType}
-use Rattle.pickle_map.specs.Values.{Naming, Label, Value, label_of, members_of}
+use Rattle.pickle_map.specs.Values.{Naming, Label, ArrayLabel, Value, label_of, members_of}
 use Rattle.pickle_map.specs.Labels.{name_of, width_of, signed_of}
 use Rattle.poke_batch.specs.ValueText.{value_text, members_text, title_text, name_text, comma}
 
@@ -17,8 +17,12 @@ all_members_text value = members_text (label_of value) 0 true (members_of value)
 abbrev pub member_text : (first : Bool) → Naming → Value → List ℕ
 member_text first name value = comma first ++ (name_text name ++ value_text value)
 
+-- the elements of an array, which have no names
+abbrev pub elements_text : Value → List ℕ
+elements_text value = members_text ArrayLabel 0 true (members_of value)
+
 abbrev pub array_text : Value → List ℕ
-array_text value = codes "[" ++ (all_members_text value ++ codes "]")
+array_text value = codes "[" ++ (elements_text value ++ codes "]")
 
 -- a struct or a union
 abbrev pub titled_text : (sort : List ℕ) → Value → List ℕ

@@ -1,7 +1,9 @@
 //! Prints mapped values.
+mod digits;
 mod line;
 mod number;
 mod string;
+mod suffix;
 
 ghost use Rattle.std.specs.Prelude.{◌≡◌, ◌++◌, OnOk, OnErr, codes};
 ghost use Rattle.std.specs.Option.{option_map};
@@ -11,7 +13,7 @@ ghost use Rattle.pickle_map.specs.Refs.{value_shown};
 ghost use Rattle.poke_batch.specs.Written.{AppendsPart};
 ghost use Rattle.poke_batch.specs.Gathered.{Gathers};
 ghost use Rattle.poke_batch.specs.ValueText.{printed, value_text, title_text, name_text, comma};
-ghost use Rattle.poke_batch.specs.PartText.{type_of, array_text, titled_text, all_members_text, member_text};
+ghost use Rattle.poke_batch.specs.PartText.{type_of, array_text, elements_text, titled_text, all_members_text, member_text};
 
 use crate::mode::Mode;
 use crate::write::WriteFault;
@@ -53,7 +55,9 @@ fn put_printed<W: Write>(w: &mut W, line: &mut Line, value: ValueRef<'_>) -> Res
     Ok(())
 }
 
+// Inlined, so that a member costs no call of its own where it is an integer.
 #[tactic(auto, using(crate::proofs::MemberTexts::by_kind))]
+#[inline(always)]
 #[cycle(print)]
 fn put_value<W: Write>(w: &mut W, line: &mut Line, value: ValueRef<'_>) -> Result<(), WriteFault>
     ensures ok { OnOk result (Gathers (W.contents w.old) (W.contents w.new) line.old line.new (value_text (value_shown value.entry))) }
@@ -80,19 +84,37 @@ fn type_of(value: ValueRef<'_>) -> IntegerType
 }
 
 #[tactic(auto, using(crate::proofs::Gathered::gathered))]
+#[inline(never)]
 #[cycle(print)]
 fn put_array<W: Write>(w: &mut W, line: &mut Line, value: ValueRef<'_>) -> Result<(), WriteFault>
     ensures ok { OnOk result (Gathers (W.contents w.old) (W.contents w.new) line.old line.new (array_text (value_shown value.entry))) }
     ensures err { OnErr result (AppendsPart (W.contents w.old) (W.contents w.new) (line.old ++ array_text (value_shown value.entry))) }
 {
     line.put(w, b"[")?;
-    put_members(w, line, value)?;
+    put_elements(w, line, value)?;
     line.put(w, b"]")?;
+    Ok(())
+}
+
+// Writes the elements of an array, which have no names.
+#[cycle(print)]
+fn put_elements<W: Write>(w: &mut W, line: &mut Line, value: ValueRef<'_>) -> Result<(), WriteFault>
+    ensures ok { OnOk result (Gathers (W.contents w.old) (W.contents w.new) line.old line.new (elements_text (value_shown value.entry))) }
+    ensures err { OnErr result (AppendsPart (W.contents w.old) (W.contents w.new) (line.old ++ elements_text (value_shown value.entry))) }
+{
+    let mut first = true;
+    for place in 0..value.len() {
+        if let Some(element) = value.child(place) {
+            put_member(w, line, first, None, element)?;
+            first = false;
+        }
+    }
     Ok(())
 }
 
 // Writes a struct or a union, with the word for its sort where it is nameless.
 #[tactic(auto, using(crate::proofs::Gathered::gathered))]
+#[inline(never)]
 #[cycle(print)]
 fn put_titled<W: Write>(
     w: &mut W,
@@ -141,6 +163,7 @@ fn put_members<W: Write>(w: &mut W, line: &mut Line, value: ValueRef<'_>) -> Res
 }
 
 #[tactic(auto, using(crate::proofs::Gathered::gathered))]
+#[inline(always)]
 #[cycle(print)]
 fn put_member<W: Write>(
     w: &mut W,

@@ -56,6 +56,9 @@ pub fn converted(number: IntegerType, z: i128) -> i128
     ensures is { result ≡ converted number z }
     ensures small { IsSmall number.signed result }
 {
+    if 0 <= z && z < i128::from(1u64 << (u32::from(number.width) - 1)) {
+        return z;
+    }
     with_sign(number, modulo(number.width, z))
 }
 

@@ -5,11 +5,12 @@ ghost use Rattle.pickle_types.specs.Table.{term_of, optional_term, bound_of};
 ghost use Rattle.pickle_types.specs.Sound.{IsSoundTerm, IsSoundClause, IsSoundBound};
 ghost use Rattle.pickle_map.specs.Values.{Label};
 ghost use Rattle.pickle_map.specs.Evaluation.{evaluation, truth_of};
-ghost use Rattle.pickle_map.specs.Clauses.{constraint, condition, field_start, extent_of, clause_steps, label_steps, bound_steps, satisfied, kind_at, behind_start, count_of, size_of};
+ghost use Rattle.pickle_map.specs.Clauses.{constraint, condition, field_start, extent_of, clause_steps, label_steps, bound_steps, satisfied, kind_at, told_at, behind_start, count_of, size_of};
 ghost use Rattle.pickle_map.specs.Contents.{IsHeld, IsSoundContent};
 ghost use Rattle.pickle_map.specs.Settles.{Ends, Settles, Sees, natural};
 ghost use Rattle.pickle_map.specs.Shown.{kept};
 
+use crate::evaluate::comparison::comparison;
 use crate::evaluate::content::{Content, seen, truth_of};
 use crate::evaluate::expression::evaluate;
 use crate::evaluate::integers::Scalar;
@@ -39,7 +40,7 @@ pub fn check(
 {
     match clause {
         None => Ok(()),
-        Some(e) => satisfied(told(table, e, store, place, meter)?, place),
+        Some(e) => satisfied(truth_told(table, e, store, place, meter)?, place),
     }
 }
 
@@ -59,7 +60,7 @@ pub fn is_there(
 {
     match clause {
         None => Ok(true),
-        Some(e) => told_truth(told(table, e, store, start, meter)?, start),
+        Some(e) => truth_told(table, e, store, start, meter),
     }
 }
 
@@ -135,18 +136,62 @@ fn told<'a>(
     }
 }
 
-/// A constraint's value: anything but 0 satisfies it.
-fn satisfied(x: Content<'_>, place: u128) -> Result<(), Stop>
-    ensures { (y : Label) → IsHeld x.entry y → Ends result (satisfied place (truth_of y)) }
+/// The truth of an expression; its fault is told at a place.
+/// Comparisons of integers that are there are met at a glance.
+fn truth_told(
+    table: &[Node],
+    e: &Resolved,
+    store: &Store,
+    place: u128,
+    meter: &mut Meter,
+) -> Result<bool, Stop>
+    requires { IsSoundTerm (term_of e.now) }
+    ensures limit { meter.new.limit ≡ meter.old.limit }
+    ensures made { meter.new.made ≡ meter.old.made }
+    ensures steps { meter.old.steps ≤ meter.new.steps }
+    ensures is { Settles meter.old.limit meter.old.steps meter.new.steps result (told_at place (λ x. kind_at place (truth_of x)) (evaluation (term_of e.now) (kept table.now store.now)).outcome) (evaluation (term_of e.now) (kept table.now store.now)).steps }
 {
-    match truth_of(x) {
-        Ok(true) => Ok(()),
-        Ok(false) => Err(Stop::Fault(MapFaultKind::Constraint, place)),
-        Err(kind) => Err(Stop::Fault(kind, place)),
+    match comparison(e, store) {
+        Some(holds) => {
+            meter.tick()?;
+            meter.tick()?;
+            meter.tick()?;
+            Ok(holds)
+        }
+        None => evaluated_truth(table, e, store, place, meter),
     }
 }
 
-/// A condition's truth.
+/// The truth of an expression's value; its fault is told at a place.
+#[inline(never)]
+fn evaluated_truth(
+    table: &[Node],
+    e: &Resolved,
+    store: &Store,
+    place: u128,
+    meter: &mut Meter,
+) -> Result<bool, Stop>
+    requires { IsSoundTerm (term_of e.now) }
+    ensures limit { meter.new.limit ≡ meter.old.limit }
+    ensures made { meter.new.made ≡ meter.old.made }
+    ensures steps { meter.old.steps ≤ meter.new.steps }
+    ensures is { Settles meter.old.limit meter.old.steps meter.new.steps result (told_at place (λ x. kind_at place (truth_of x)) (evaluation (term_of e.now) (kept table.now store.now)).outcome) (evaluation (term_of e.now) (kept table.now store.now)).steps }
+{
+    told_truth(told(table, e, store, place, meter)?, place)
+}
+
+/// Whether a constraint is satisfied.
+fn satisfied(holds: bool, place: u128) -> Result<(), Stop>
+    ensures { Ends result (satisfied place (Ok holds)) }
+{
+    if holds {
+        Ok(())
+    } else {
+        Err(Stop::Fault(MapFaultKind::Constraint, place))
+    }
+}
+
+/// The truth of a value: anything but 0 is true.
 fn told_truth(x: Content<'_>, place: u128) -> Result<bool, Stop>
     ensures { (y : Label) → IsHeld x.entry y → Ends result (kind_at place (truth_of y)) }
 {

@@ -1,27 +1,34 @@
 //! Gathers small texts, so that the writer is called once for many.
-ghost use Rattle.std.specs.Prelude.{◌≡◌, ◌++◌, [], OnOk, OnErr};
+ghost use Rattle.std.specs.Prelude.{◌≡◌, ◌+◌, ◌≤◌, ◌++◌, [], length, OnOk, OnErr};
+ghost use Rattle.std.specs.Fmt.{signed_decimal};
 ghost use Rattle.std.specs.Io.KnownBytes.{Appends};
 ghost use Rattle.poke_batch.specs.Written.{AppendsPart};
 ghost use Rattle.poke_batch.specs.Gathered.{Gathers};
+ghost use Rattle.poke_batch.specs.Suffixes.{suffix_text};
 
+use crate::print::digits::{LINE_ROOM, LONGEST_NUMBER, push_number, push_suffix};
+use crate::print::suffix::Suffix;
 use crate::write::{WriteFault, put};
-use arrayvec::ArrayVec;
+use itoa::Buffer;
 use std::io::Write;
 use std::marker::Model;
 
-/// Text, of 512 bytes at most, that is yet to be written.
+/// Text that is yet to be written.
 #[derive(Drop)]
 pub struct Line {
-    bytes: ArrayVec<u8, 512>,
+    bytes: [u8; LINE_ROOM],
+    len: usize,
 }
 
 impl Model for Line {
-    ghost use Rattle.std.specs.Prelude.{ℕ, List};
+    ghost use Rattle.std.specs.Prelude.{ℕ, List, take, ◌≤◌};
 
     // The bytes that it holds.
     ghost Value = { List ℕ };
 
-    ghost view = { λ line. line.bytes.items };
+    ghost view = { λ line. take line.len line.bytes };
+
+    ghost invariant = { λ line. line.len ≤ 512 };
 }
 
 impl Line {
@@ -30,7 +37,8 @@ impl Line {
         ensures { result ≡ [] }
     {
         Line {
-            bytes: ArrayVec::new(),
+            bytes: [0; LINE_ROOM],
+            len: 0,
         }
     }
 
@@ -42,10 +50,22 @@ impl Line {
         ensures ok { OnOk result (Gathers (W.contents w.old) (W.contents w.new) self.old self.new text.now) }
         ensures err { OnErr result (AppendsPart (W.contents w.old) (W.contents w.new) (self.old ++ text.now)) }
     {
-        match self.bytes.try_extend_from_slice(text) {
-            Ok(()) => Ok(()),
-            Err(_) => self.put_past(w, text),
+        if text.len() <= LINE_ROOM - self.len {
+            self.push_text(text);
+            Ok(())
+        } else {
+            self.put_past(w, text)
         }
+    }
+
+    #[inline]
+    fn push_text(&mut self, text: &[u8])
+        requires { length self.old + length text.now ≤ LINE_ROOM }
+        ensures { self.new ≡ self.old ++ text.now }
+    {
+        let end = self.len + text.len();
+        self.bytes[self.len..end].copy_from_slice(text);
+        self.len = end;
     }
 
     // Writes what the line holds, and the text.
@@ -53,12 +73,85 @@ impl Line {
     #[inline(never)]
     fn put_past<W: Write>(&mut self, w: &mut W, text: &[u8]) -> Result<(), WriteFault>
         ensures ok { OnOk result (Gathers (W.contents w.old) (W.contents w.new) self.old self.new text.now) }
+        ensures empty { OnOk result (self.new ≡ []) }
         ensures err { OnErr result (AppendsPart (W.contents w.old) (W.contents w.new) (self.old ++ text.now)) }
     {
-        put(w, &self.bytes)?;
-        self.bytes.clear();
+        put(w, &self.bytes[..self.len])?;
+        self.len = 0;
         put(w, text)?;
         Ok(())
+    }
+
+    /// Adds an integer and its suffix, as [`Line::put`] adds a text.
+    #[tactic(auto, using(crate::proofs::Gathered::gathers_then))]
+    #[inline(always)]
+    pub fn put_number<W: Write>(
+        &mut self,
+        w: &mut W,
+        number: i128,
+        suffix: Suffix,
+    ) -> Result<(), WriteFault>
+        ensures ok { OnOk result (Gathers (W.contents w.old) (W.contents w.new) self.old self.new (signed_decimal number ++ suffix_text suffix)) }
+        ensures err { OnErr result (AppendsPart (W.contents w.old) (W.contents w.new) (self.old ++ (signed_decimal number ++ suffix_text suffix))) }
+    {
+        match u64::try_from(number.unsigned_abs()) {
+            Ok(magnitude) => {
+                self.make_room(w)?;
+                self.len = push_number(&mut self.bytes, self.len, number, magnitude, suffix);
+                Ok(())
+            }
+            Err(_) => self.put_wide(w, number, suffix),
+        }
+    }
+
+    // Adds a number past 64 bits and its suffix.
+    #[tactic(auto, using(crate::proofs::Gathered::gathered))]
+    #[inline(never)]
+    fn put_wide<W: Write>(
+        &mut self,
+        w: &mut W,
+        number: i128,
+        suffix: Suffix,
+    ) -> Result<(), WriteFault>
+        ensures ok { OnOk result (Gathers (W.contents w.old) (W.contents w.new) self.old self.new (signed_decimal number ++ suffix_text suffix)) }
+        ensures err { OnErr result (AppendsPart (W.contents w.old) (W.contents w.new) (self.old ++ (signed_decimal number ++ suffix_text suffix))) }
+    {
+        self.put_signed(w, number)?;
+        self.put_suffix(w, suffix)?;
+        Ok(())
+    }
+
+    /// Adds an integer.
+    pub fn put_signed<W: Write>(&mut self, w: &mut W, number: i128) -> Result<(), WriteFault>
+        ensures ok { OnOk result (Gathers (W.contents w.old) (W.contents w.new) self.old self.new (signed_decimal number)) }
+        ensures err { OnErr result (AppendsPart (W.contents w.old) (W.contents w.new) (self.old ++ signed_decimal number)) }
+    {
+        let mut digits = Buffer::new();
+        self.put(w, digits.format(number).as_bytes())
+    }
+
+    #[tactic(auto, using(crate::proofs::Gathered::gathers_then))]
+    fn put_suffix<W: Write>(&mut self, w: &mut W, suffix: Suffix) -> Result<(), WriteFault>
+        ensures ok { OnOk result (Gathers (W.contents w.old) (W.contents w.new) self.old self.new (suffix_text suffix)) }
+        ensures err { OnErr result (AppendsPart (W.contents w.old) (W.contents w.new) (self.old ++ suffix_text suffix)) }
+    {
+        self.make_room(w)?;
+        self.len = push_suffix(&mut self.bytes, self.len, suffix);
+        Ok(())
+    }
+
+    // Writes what the line holds where a number might not fit.
+    #[inline]
+    fn make_room<W: Write>(&mut self, w: &mut W) -> Result<(), WriteFault>
+        ensures ok { OnOk result (Gathers (W.contents w.old) (W.contents w.new) self.old self.new []) }
+        ensures room { OnOk result (length self.new + LONGEST_NUMBER ≤ LINE_ROOM) }
+        ensures err { OnErr result (AppendsPart (W.contents w.old) (W.contents w.new) self.old) }
+    {
+        if self.len <= LINE_ROOM - LONGEST_NUMBER {
+            Ok(())
+        } else {
+            self.put_past(w, b"")
+        }
     }
 
     /// Writes what the line holds, the last that is done with it.
@@ -66,6 +159,6 @@ impl Line {
         ensures ok { OnOk result (Appends (W.contents w.old) (W.contents w.new) self) }
         ensures err { OnErr result (AppendsPart (W.contents w.old) (W.contents w.new) self) }
     {
-        put(w, &self.bytes)
+        put(w, &self.bytes[..self.len])
     }
 }

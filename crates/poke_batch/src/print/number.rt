@@ -7,6 +7,7 @@ ghost use Rattle.poke_batch.specs.Gathered.{Gathers};
 ghost use Rattle.poke_batch.specs.ValueText.{integer_text, offset_text, cast_text, type_word, unit_text, suffix_of, with_sign_letter, width_letter};
 
 use super::line::Line;
+use super::suffix::suffix_of;
 use crate::write::WriteFault;
 use itoa::Buffer;
 use pickle_types::integer::IntegerType;
@@ -14,6 +15,7 @@ use std::io::Write;
 
 /// Writes an offset of so many units, of a number of bits each.
 #[tactic(auto, using(crate::proofs::Gathered::gathered), unfolding(crate::specs::ValueText::offset_text))]
+#[inline(never)]
 pub fn put_offset<W: Write>(
     w: &mut W,
     line: &mut Line,
@@ -43,6 +45,7 @@ fn put_unit<W: Write>(w: &mut W, line: &mut Line, unit: u32) -> Result<(), Write
 
 /// Writes an integer of a type.
 #[tactic(auto, unfolding(crate::specs::ValueText::integer_text))]
+#[inline(always)]
 pub fn put_integer<W: Write>(
     w: &mut W,
     line: &mut Line,
@@ -53,27 +56,13 @@ pub fn put_integer<W: Write>(
     ensures err { OnErr result (AppendsPart (W.contents w.old) (W.contents w.new) (line.old ++ integer_text ty number)) }
 {
     match suffix_of(ty) {
-        Some(suffix) => put_suffixed(w, line, number, suffix),
+        Some(suffix) => line.put_number(w, number, suffix),
         None => put_cast(w, line, ty, number),
     }
 }
 
 #[tactic(auto, using(crate::proofs::Gathered::gathered))]
-fn put_suffixed<W: Write>(
-    w: &mut W,
-    line: &mut Line,
-    number: i128,
-    suffix: &[u8],
-) -> Result<(), WriteFault>
-    ensures ok { OnOk result (Gathers (W.contents w.old) (W.contents w.new) line.old line.new (signed_decimal number ++ suffix.now)) }
-    ensures err { OnErr result (AppendsPart (W.contents w.old) (W.contents w.new) (line.old ++ (signed_decimal number ++ suffix.now))) }
-{
-    put_signed(w, line, number)?;
-    line.put(w, suffix)?;
-    Ok(())
-}
-
-#[tactic(auto, using(crate::proofs::Gathered::gathered))]
+#[inline(never)]
 fn put_cast<W: Write>(
     w: &mut W,
     line: &mut Line,
@@ -86,16 +75,8 @@ fn put_cast<W: Write>(
     line.put(w, type_word(ty.signed))?;
     put_digits(w, line, u32::from(ty.width))?;
     line.put(w, b">) ")?;
-    put_signed(w, line, number)?;
+    line.put_signed(w, number)?;
     Ok(())
-}
-
-fn put_signed<W: Write>(w: &mut W, line: &mut Line, number: i128) -> Result<(), WriteFault>
-    ensures ok { OnOk result (Gathers (W.contents w.old) (W.contents w.new) line.old line.new (signed_decimal number)) }
-    ensures err { OnErr result (AppendsPart (W.contents w.old) (W.contents w.new) (line.old ++ signed_decimal number)) }
-{
-    let mut digits = Buffer::new();
-    line.put(w, digits.format(number).as_bytes())
 }
 
 fn put_digits<W: Write>(w: &mut W, line: &mut Line, number: u32) -> Result<(), WriteFault>
@@ -110,41 +91,4 @@ fn type_word(signed: bool) -> &'static [u8]
     ensures { result.now ≡ type_word signed }
 {
     if signed { b"(int<" } else { b"(uint<" }
-}
-
-// What tells the type behind the digits, where a suffix does.
-fn suffix_of(ty: IntegerType) -> Option<&'static [u8]>
-    ensures { option_map (λ suffix. suffix.now) result ≡ suffix_of ty }
-{
-    if ty.signed {
-        signed_suffix(ty.width)
-    } else {
-        unsigned_suffix(ty.width)
-    }
-}
-
-fn signed_suffix(width: u8) -> Option<&'static [u8]>
-    ensures { option_map (λ suffix. suffix.now) result ≡ with_sign_letter true (width_letter width) }
-{
-    match width {
-        4 => Some(b"N"),
-        8 => Some(b"B"),
-        16 => Some(b"H"),
-        32 => Some(b""),
-        64 => Some(b"L"),
-        _ => None,
-    }
-}
-
-fn unsigned_suffix(width: u8) -> Option<&'static [u8]>
-    ensures { option_map (λ suffix. suffix.now) result ≡ with_sign_letter false (width_letter width) }
-{
-    match width {
-        4 => Some(b"UN"),
-        8 => Some(b"UB"),
-        16 => Some(b"UH"),
-        32 => Some(b"U"),
-        64 => Some(b"UL"),
-        _ => None,
-    }
 }

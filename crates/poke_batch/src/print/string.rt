@@ -12,6 +12,7 @@ use std::io::Write;
 
 /// Writes a string in double quotes.
 #[tactic(auto, using(crate::proofs::Gathered::gathered), unfolding(crate::specs::ValueText::string_text))]
+#[inline(never)]
 pub fn put_string<W: Write>(w: &mut W, line: &mut Line, bytes: &[u8]) -> Result<(), WriteFault>
     ensures ok { OnOk result (Gathers (W.contents w.old) (W.contents w.new) line.old line.new (string_text bytes.now)) }
     ensures err { OnErr result (AppendsPart (W.contents w.old) (W.contents w.new) (line.old ++ string_text bytes.now)) }

@@ -1,0 +1,114 @@
+//! Lays out integers in bytes.
+ghost use Rattle.std.specs.Prelude.{◌≡◌, ◌+◌, ◌≤◌, [], ◌∷◌, ◌++◌, length, take, decimal, unsigned_abs};
+ghost use Rattle.std.specs.Fmt.{signed_decimal};
+ghost use Rattle.poke_batch.specs.Suffixes.{sign_letter, letter_text, suffix_text};
+
+use crate::print::suffix::Suffix;
+
+/// The room of a line.
+pub const LINE_ROOM: usize = 512;
+
+/// A minus, 20 digits and a suffix of two letters.
+pub const LONGEST_NUMBER: usize = 23;
+
+/// Bytes that are laid out from the front. How many there are is passed on by value, as a register is faster than a field.
+pub type Bytes = [u8; LINE_ROOM];
+
+/// Lays out a number of a magnitude with its suffix, and tells where it ends.
+#[inline(always)]
+pub fn push_number(
+    bytes: &mut Bytes,
+    at: usize,
+    number: i128,
+    magnitude: u64,
+    suffix: Suffix,
+) -> usize
+    requires room { at + LONGEST_NUMBER ≤ LINE_ROOM }
+    requires magnitude { magnitude ≡ unsigned_abs number }
+    ensures text { take result bytes.new ≡ take at bytes.old ++ (signed_decimal number ++ suffix_text suffix) }
+    ensures len { result ≤ LINE_ROOM }
+{
+    let at = push_signed(bytes, at, number, magnitude);
+    push_suffix(bytes, at, suffix)
+}
+
+#[inline(always)]
+fn push_signed(bytes: &mut Bytes, at: usize, number: i128, magnitude: u64) -> usize
+    requires room { at + 21 ≤ LINE_ROOM }
+    requires magnitude { magnitude ≡ unsigned_abs number }
+    ensures text { take result bytes.new ≡ take at bytes.old ++ signed_decimal number }
+    ensures len { result ≤ at + 21 }
+{
+    if number < 0 {
+        let at = push(bytes, at, b'-');
+        push_digits(bytes, at, magnitude)
+    } else {
+        push_digits(bytes, at, magnitude)
+    }
+}
+
+#[inline(always)]
+fn push_digits(bytes: &mut Bytes, at: usize, number: u64) -> usize
+    requires { at + 20 ≤ LINE_ROOM }
+    ensures text { take result bytes.new ≡ take at bytes.old ++ decimal number }
+    ensures len { result ≤ at + 20 }
+{
+    let end = at + digit_count(number);
+    itoa::write_digits(number, bytes, end);
+    end
+}
+
+#[tactic(auto, using(crate::proofs::DigitCounts::longest))]
+#[inline(always)]
+fn digit_count(number: u64) -> usize
+    ensures count { result ≡ length (decimal number) }
+    ensures most { result ≤ 20 }
+{
+    if number < 10 {
+        1
+    } else {
+        number.ilog10() as usize + 1
+    }
+}
+
+/// Lays out a suffix, and tells where it ends.
+#[inline(always)]
+pub fn push_suffix(bytes: &mut Bytes, at: usize, suffix: Suffix) -> usize
+    requires { at + 2 ≤ LINE_ROOM }
+    ensures text { take result bytes.new ≡ take at bytes.old ++ suffix_text suffix }
+    ensures len { result ≤ LINE_ROOM }
+{
+    let at = push_sign_letter(bytes, at, suffix.signed);
+    push_letter(bytes, at, suffix.letter)
+}
+
+#[inline(always)]
+fn push_sign_letter(bytes: &mut Bytes, at: usize, signed: bool) -> usize
+    requires { at + 1 ≤ LINE_ROOM }
+    ensures text { take result bytes.new ≡ take at bytes.old ++ sign_letter signed }
+    ensures len { result ≤ at + 1 }
+{
+    if signed { at } else { push(bytes, at, b'U') }
+}
+
+#[inline(always)]
+fn push_letter(bytes: &mut Bytes, at: usize, letter: Option<u8>) -> usize
+    requires { at + 1 ≤ LINE_ROOM }
+    ensures text { take result bytes.new ≡ take at bytes.old ++ letter_text letter }
+    ensures len { result ≤ at + 1 }
+{
+    match letter {
+        Some(letter) => push(bytes, at, letter),
+        None => at,
+    }
+}
+
+#[inline(always)]
+fn push(bytes: &mut Bytes, at: usize, byte: u8) -> usize
+    requires { at + 1 ≤ LINE_ROOM }
+    ensures text { take result bytes.new ≡ take at bytes.old ++ byte ∷ [] }
+    ensures len { result ≡ at + 1 }
+{
+    bytes[at] = byte;
+    at + 1
+}
