@@ -5,7 +5,7 @@ ghost use Rattle.pickle_types.specs.Table.{term_of, optional_term, bound_of};
 ghost use Rattle.pickle_types.specs.Sound.{IsSoundTerm, IsSoundClause, IsSoundBound};
 ghost use Rattle.pickle_map.specs.Values.{Label};
 ghost use Rattle.pickle_map.specs.Evaluation.{evaluation, truth_of};
-ghost use Rattle.pickle_map.specs.Clauses.{constraint, condition, field_start, extent_of, clause_steps, label_steps, bound_steps, satisfied, kind_at, told_at, behind_start, count_of, size_of};
+ghost use Rattle.pickle_map.specs.Clauses.{told_at, constraint, condition, field_start, extent_of, clause_steps, label_steps, bound_steps, satisfied, kind_at, told_at, behind_start, count_of, size_of};
 ghost use Rattle.pickle_map.specs.Contents.{IsHeld, IsSoundContent};
 ghost use Rattle.pickle_map.specs.Settles.{Ends, Settles, Sees, natural};
 ghost use Rattle.pickle_map.specs.Shown.{kept};
@@ -67,6 +67,7 @@ pub fn is_there(
 /// The bit where a field of a struct starts: at `start`, the struct's first bit, in a pinned struct; so many bits behind
 /// `start` as its label says; or at `behind`, where the last field before it that is there ended. A negative label is a
 /// Bounds fault. A label's faults are told at `start`.
+#[inline(always)]
 pub fn find_start(
     table: &[Node],
     pinned: bool,
@@ -88,8 +89,28 @@ pub fn find_start(
     }
     match label {
         None => Ok(behind),
-        Some(e) => behind_start(told(table, e, store, start, meter)?, start),
+        Some(e) => label_start(table, e, store, start, meter),
     }
+}
+
+/// The bit where a field with a label starts.
+// Not inlined: most fields have none.
+#[inline(never)]
+fn label_start(
+    table: &[Node],
+    label: &Resolved,
+    store: &Store,
+    start: u128,
+    meter: &mut Meter,
+) -> Result<u128, Stop>
+    requires sound { IsSoundTerm (term_of label.now) }
+    requires start { start < 2 ^ 127 }
+    ensures limit { meter.new.limit ≡ meter.old.limit }
+    ensures made { meter.new.made ≡ meter.old.made }
+    ensures steps { meter.old.steps ≤ meter.new.steps }
+    ensures is { Settles meter.old.limit meter.old.steps meter.new.steps result (told_at start (behind_start start) (evaluation (term_of label.now) (kept table.now store.now)).outcome) (evaluation (term_of label.now) (kept table.now store.now)).steps }
+{
+    behind_start(told(table, label, store, start, meter)?, start)
 }
 
 /// How far an array goes, by its bound. A negative one is a Bounds fault. A bound's faults are told at `start`, the

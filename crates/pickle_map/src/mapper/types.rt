@@ -32,6 +32,7 @@ use pickle_types::view::{Extent as Bound, Field, Node, Part, Resolved, Shape};
 
 /// Maps the type at a place of the table from the bit `start` on, and gives the bit behind it.
 #[cycle(mapping)]
+#[inline(always)]
 pub(crate) fn map_type<S: Space>(
     nodes: &[Node],
     at: usize,
