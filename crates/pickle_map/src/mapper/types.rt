@@ -161,6 +161,7 @@ fn map_shape<S: Space>(
 
 /// Maps a type into the innermost level, and checks the constraint that stands beside it.
 #[cycle(mapping)]
+#[inline(always)]
 fn map_checked<S: Space>(
     nodes: &[Node],
     node: usize,
