@@ -11,8 +11,8 @@ ghost use Rattle.pickle_map.specs.Settles.{Ends, Settles, Sees, natural};
 ghost use Rattle.pickle_map.specs.Shown.{kept};
 
 use crate::evaluate::comparison::comparison;
-use crate::evaluate::content::{Content, seen, truth_of};
-use crate::evaluate::expression::evaluate;
+use crate::evaluate::content::{Content, truth_of};
+use crate::evaluate::expression::look;
 use crate::evaluate::integers::Scalar;
 use crate::evaluate::offsets::bits_in;
 use crate::evaluate::operand::Unvalued;
@@ -115,6 +115,7 @@ pub fn find_extent(
 }
 
 /// What operators see of an expression's value; its fault is told at a place.
+#[inline(never)]
 fn told<'a>(
     table: &[Node],
     e: &'a Resolved,
@@ -129,8 +130,8 @@ fn told<'a>(
     ensures is { Sees meter.old.limit meter.old.steps meter.new.steps place result (evaluation (term_of e.now) (kept table.now store.now)) }
     ensures sound { IfOk result IsSoundContent }
 {
-    match evaluate(table, e, store, meter) {
-        Ok(x) => Ok(seen(x)),
+    match look(table, e, store, meter) {
+        Ok(x) => Ok(x),
         Err(Unvalued::Fault(kind)) => Err(Stop::Fault(kind, place)),
         Err(Unvalued::Limit) => Err(Stop::Limit),
     }
