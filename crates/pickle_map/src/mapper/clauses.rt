@@ -88,7 +88,7 @@ pub fn find_start(
     }
     match label {
         None => Ok(behind),
-        Some(e) => behind_start(told(table, e, store, start, meter)?, start),
+        Some(e) => labelled_start(table, e, store, start, meter),
     }
 }
 
@@ -109,13 +109,67 @@ pub fn find_extent(
 {
     match bound {
         Bound::Unbounded => Ok(Extent::Open),
-        Bound::Count(e) => count_of(told(table, e, store, start, meter)?, start),
-        Bound::Size(e) => size_of(told(table, e, store, start, meter)?, start),
+        Bound::Count(e) => evaluated_count(table, e, store, start, meter),
+        Bound::Size(e) => evaluated_size(table, e, store, start, meter),
     }
 }
 
-/// What operators see of an expression's value; its fault is told at a place.
+/// The bit that a label leads to; its fault is told at `start`.
 #[inline(never)]
+fn labelled_start(
+    table: &[Node],
+    e: &Resolved,
+    store: &Store,
+    start: u128,
+    meter: &mut Meter,
+) -> Result<u128, Stop>
+    requires sound { IsSoundTerm (term_of e.now) }
+    requires start { start < 2 ^ 127 }
+    ensures limit { meter.new.limit ≡ meter.old.limit }
+    ensures made { meter.new.made ≡ meter.old.made }
+    ensures steps { meter.old.steps ≤ meter.new.steps }
+    ensures is { Settles meter.old.limit meter.old.steps meter.new.steps result (told_at start (behind_start start) (evaluation (term_of e.now) (kept table.now store.now)).outcome) (evaluation (term_of e.now) (kept table.now store.now)).steps }
+{
+    behind_start(told(table, e, store, start, meter)?, start)
+}
+
+/// The number of elements that a bound comes to; its fault is told at `start`.
+#[inline(never)]
+fn evaluated_count(
+    table: &[Node],
+    e: &Resolved,
+    store: &Store,
+    start: u128,
+    meter: &mut Meter,
+) -> Result<Extent, Stop>
+    requires sound { IsSoundTerm (term_of e.now) }
+    ensures limit { meter.new.limit ≡ meter.old.limit }
+    ensures made { meter.new.made ≡ meter.old.made }
+    ensures steps { meter.old.steps ≤ meter.new.steps }
+    ensures is { Settles meter.old.limit meter.old.steps meter.new.steps result (told_at start (count_of start) (evaluation (term_of e.now) (kept table.now store.now)).outcome) (evaluation (term_of e.now) (kept table.now store.now)).steps }
+{
+    count_of(told(table, e, store, start, meter)?, start)
+}
+
+/// The number of bits that a bound comes to; its fault is told at `start`.
+#[inline(never)]
+fn evaluated_size(
+    table: &[Node],
+    e: &Resolved,
+    store: &Store,
+    start: u128,
+    meter: &mut Meter,
+) -> Result<Extent, Stop>
+    requires sound { IsSoundTerm (term_of e.now) }
+    ensures limit { meter.new.limit ≡ meter.old.limit }
+    ensures made { meter.new.made ≡ meter.old.made }
+    ensures steps { meter.old.steps ≤ meter.new.steps }
+    ensures is { Settles meter.old.limit meter.old.steps meter.new.steps result (told_at start (size_of start) (evaluation (term_of e.now) (kept table.now store.now)).outcome) (evaluation (term_of e.now) (kept table.now store.now)).steps }
+{
+    size_of(told(table, e, store, start, meter)?, start)
+}
+
+/// What operators see of an expression's value; its fault is told at a place.
 fn told<'a>(
     table: &[Node],
     e: &'a Resolved,
