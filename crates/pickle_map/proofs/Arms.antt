@@ -10,10 +10,11 @@ use Rattle.pickle_map.specs.declared.faults.MapFaultKind.{MapFaultKind}
 use Rattle.pickle_map.specs.declared.faults.MapFaultKind.TheVariants as fault
 use Rattle.pickle_map.specs.Arithmetic.{Computed, truth}
 use Rattle.pickle_map.specs.declared.evaluate.content.Content.{Content}
+use Rattle.pickle_map.specs.declared.evaluate.content.Content.TheVariants as content
 use Rattle.pickle_map.specs.Contents.{IsHeld}
 use Rattle.pickle_map.specs.Comes.{Seen}
 use Rattle.pickle_map.specs.Values.{Value, Label}
-use Rattle.pickle_map.specs.Evaluation.{Operand, AtPath, operand_label, Evaluation, gives, with_steps, leads_to, present, unless_settled, chosen, and_operand}
+use Rattle.pickle_map.specs.Evaluation.{Operand, AtPath, Plain, operand_label, Evaluation, gives, with_steps, leads_to, present, unless_settled, chosen, and_operand}
 use Rattle.pickle_map.specs.Scalars.{scalar_label}
 use Rattle.pickle_map.specs.Operands.{operand_of, Evaluated}
 use Rattle.pickle_map.proofs.Evaluations.{first_stops, goes_on, stepped, computes, faults, comes_to, comes_not}
@@ -125,3 +126,11 @@ module _ (nodes : List Node) (limit : ℕ) where
   seen_arm_faults b m z c kind a g em h k =
       stepped nodes limit b m z (Err (Fault kind)) (and_operand a (λ y. gives (g (operand_label y)))) em
       (seen_goes_on m z z c (Err (Fault kind)) a (λ y. gives (g (operand_label y))) h (λ x held. faults nodes limit z z kind (g (operand_label x)) refl (k (operand_label x) held)))
+
+  -- a computed number is seen as itself
+  pub computed_seen : (before mid after : ℕ) (s : Scalar) (a : Evaluation) → mid ≡ before + 1 → Evaluated nodes limit mid after (Ok (computing.Scalar s)) a → Seen limit before after (Ok (content.Scalar s)) (with_steps 1 a)
+  computed_seen b m z s a em h = (Plain (scalar_label s), h.0, refl, omega (arith, em, h.1))
+
+  pub stops_seen : (before mid after : ℕ) (u : Unvalued) (a : Evaluation) → mid ≡ before + 1 → Evaluated nodes limit mid after (Err u) a → Seen limit before after (Err u) (with_steps 1 a)
+  stops_seen b m z (Fault kind) a em h = (h.0, omega (arith, em, h.1))
+  stops_seen b m z Limit a em h = (h.0, omega (arith, em, h.1))

@@ -2,6 +2,8 @@
 use Rattle.std.specs.Prelude.{◌≡◌, ℕ, ◌+◌, ◌<◌, Bool, true, false, List, Option, Result, Ok, Err}
 use Rattle.pickle_types.specs.declared.table.Node.{Node}
 use Rattle.pickle_map.specs.declared.evaluate.operand.Operand.{Operand as Computing}
+use Rattle.pickle_map.specs.declared.evaluate.integers.Scalar.{Scalar}
+use Rattle.pickle_map.specs.declared.evaluate.operand.Operand.TheVariants as computing
 use Rattle.pickle_map.specs.declared.evaluate.operand.Unvalued.{Unvalued}
 use Rattle.pickle_map.specs.declared.evaluate.operand.Unvalued.TheVariants.{Fault, Limit}
 use Rattle.pickle_map.specs.declared.evaluate.content.Content.{Content}
@@ -38,6 +40,11 @@ index_part e i levels = and_operand (evaluation e levels) (λ p. and_operand (ev
 -- an evaluation that comes to a value of this label, in so many steps
 abbrev pub ComesTo : Evaluation → Label → ℕ → Type 0
 ComesTo a label steps = (x : Operand) × (a.outcome ≡ Ok x) × (operand_label x ≡ label) × (a.steps ≡ steps)
+
+-- a computed number as an operand, or why there is none
+abbrev pub computed_operand : Result Scalar Unvalued → Result Computing Unvalued
+computed_operand (Ok s) = Ok (computing.Scalar s)
+computed_operand (Err u) = Err u
 
 -- what operators see of an evaluation's value, once it came to an end
 abbrev pub Seen : (limit before after : ℕ) → Result Content Unvalued → Evaluation → Type 0

@@ -1,4 +1,6 @@
 //! The value of an expression on the open levels.
+//!
+//! What is rare stands in functions of its own, which aren't inlined: each call pays for the locals of all that is.
 
 ghost use Rattle.std.specs.Prelude.{◌≡◌, ℕ, ◌+◌, ◌<◌, ◌≤◌, ◌^◌, Some, None, Ok, Err, IfOk, OnOk, OnErr, IfErr, List, Result, Bool};
 ghost use Rattle.pickle_types.specs.Table.{term_of};
@@ -8,7 +10,7 @@ ghost use Rattle.pickle_map.specs.Values.{Label};
 ghost use Rattle.pickle_map.specs.Operands.{operand_of};
 ghost use Rattle.pickle_map.specs.Evaluation.{evaluation, operand_label, leads_to, present, selected, settled, attribute_of, as_common, literal_length, between, element, Evaluation, and_operand, gives};
 ghost use Rattle.pickle_map.specs.Operands.{Evaluated, IsOperand};
-ghost use Rattle.pickle_map.specs.Comes.{Comes, Seen, IsApplied, infix_part, choice_part, index_part};
+ghost use Rattle.pickle_map.specs.Comes.{Comes, Seen, computed_operand, IsApplied, infix_part, choice_part, index_part};
 ghost use Rattle.pickle_map.specs.Contents.{IsSoundContent, IsHeld};
 ghost use Rattle.pickle_map.specs.Shown.{kept};
 ghost use Rattle.pickle_map.specs.Scalars.{computed_of, IsScalar};
@@ -57,7 +59,7 @@ pub fn evaluate<'a>(
             None => Err(Unvalued::Fault(MapFaultKind::Absent)),
         },
         Resolved::Bracket(e) => evaluate(table, e, store, meter),
-        Resolved::Infix(op, a, b) => infix(table, *op, a, b, store, meter),
+        Resolved::Infix(op, a, b) => { Ok(Operand::Scalar(infix(table, *op, a, b, store, meter)?)) }
         Resolved::Choice(common, c, x, y) => choice(table, common, c, x, y, store, meter),
         Resolved::Index(e, i) => index(table, e, i, store, meter),
         _ => applied(table, e, store, meter),
@@ -106,6 +108,7 @@ fn applied<'a>(
             let x = look(table, e, store, meter)?;
             Ok(Operand::Scalar(in_unit(*unit, x)?))
         }
+        // No other expression comes here.
         _ => Err(Unvalued::Fault(MapFaultKind::Absent)),
     }
 }
@@ -126,37 +129,41 @@ pub fn look<'a>(
     ensures is { Seen meter.old.limit meter.old.steps meter.new.steps result (evaluation (term_of e.now) (kept table.now store.now)) }
     ensures sound { IfOk result IsSoundContent }
 {
-    match leaf(e, store) {
-        Some(n) => {
+    if let Some(n) = leaf(e, store) {
+        meter.tick()?;
+        return Ok(Content::Scalar(Scalar::Integer(n.number, n.of)));
+    }
+    match e {
+        Resolved::Infix(op, a, b) => {
             meter.tick()?;
-            Ok(Content::Scalar(Scalar::Integer(n.number, n.of)))
+            Ok(Content::Scalar(infix(table, *op, a, b, store, meter)?))
         }
-        None => Ok(seen(evaluate(table, e, store, meter)?)),
+        _ => Ok(seen(evaluate(table, e, store, meter)?)),
     }
 }
 
 /// An operator between two operands; the right one is evaluated only where the left one doesn't settle the truth.
 #[cycle(evaluate)]
 #[inline(never)]
-fn infix<'a>(
+fn infix(
     table: &[Node],
     op: Infix,
-    a: &'a Resolved,
-    b: &'a Resolved,
-    store: &'a Store,
+    a: &Resolved,
+    b: &Resolved,
+    store: &Store,
     meter: &mut Meter,
-) -> Result<Operand<'a>, Unvalued>
+) -> Result<Scalar, Unvalued>
     requires left { IsSoundTerm (term_of a.now) }
     requires right { IsSoundTerm (term_of b.now) }
     ensures limit { meter.new.limit ≡ meter.old.limit }
     ensures made { meter.new.made ≡ meter.old.made }
     ensures steps { meter.old.steps ≤ meter.new.steps }
-    ensures is { Evaluated table.now meter.old.limit meter.old.steps meter.new.steps result (infix_part op (term_of a.now) (term_of b.now) (kept table.now store.now)) }
-    ensures operand { IfOk result IsOperand }
+    ensures is { Evaluated table.now meter.old.limit meter.old.steps meter.new.steps (computed_operand result) (infix_part op (term_of a.now) (term_of b.now) (kept table.now store.now)) }
+    ensures scalar { IfOk result IsScalar }
 {
     let left = look(table, a, store, meter)?;
     if let Some(holds) = settled(op, truth_of(left)) {
-        return Ok(Operand::Scalar(truth(holds)));
+        return Ok(truth(holds));
     }
     let right = look(table, b, store, meter)?;
     let literal = literal_length(a) + literal_length(b);
@@ -230,25 +237,25 @@ fn index<'a>(
 }
 
 /// An operator on two operands; a comparison of two texts takes a step for each byte of the literal.
-fn between<'a>(
+fn between(
     op: Infix,
     literal: u64,
-    x: Content<'a>,
-    y: Content<'a>,
+    x: Content<'_>,
+    y: Content<'_>,
     meter: &mut Meter,
-) -> Result<Operand<'a>, Unvalued>
+) -> Result<Scalar, Unvalued>
     requires left { IsSoundContent x }
     requires right { IsSoundContent y }
     ensures limit { meter.new.limit ≡ meter.old.limit }
     ensures made { meter.new.made ≡ meter.old.made }
     ensures steps { meter.old.steps ≤ meter.new.steps }
-    ensures is { (nodes : List TableNode) (a b : Label) → IsHeld x.entry a → IsHeld y.entry b → Evaluated nodes meter.old.limit meter.old.steps meter.new.steps result (between op literal a b) }
-    ensures operand { IfOk result IsOperand }
+    ensures is { (nodes : List TableNode) (a b : Label) → IsHeld x.entry a → IsHeld y.entry b → Evaluated nodes meter.old.limit meter.old.steps meter.new.steps (computed_operand result) (between op literal a b) }
+    ensures scalar { IfOk result IsScalar }
 {
     if let (Content::Text(_), Content::Text(_)) = (x, y) {
         take_steps(literal, meter)?;
     }
-    Ok(Operand::Scalar(combined(op, x, y)?))
+    Ok(combined(op, x, y)?)
 }
 
 /// Takes so many steps, or as many as are left.

@@ -15,12 +15,12 @@ use Rattle.pickle_map.specs.Arithmetic.{prefixed, to_integer, to_offset, in_unit
 use Rattle.pickle_map.specs.Values.{Levels, value_at}
 use Rattle.pickle_map.specs.Operands.{operand_of, Evaluated}
 use Rattle.pickle_map.specs.Evaluation.{evaluation, operand_label, truth_of, leads_to, present, selected, settled, unless_settled, attribute_of, as_common, literal_length, between, element, and_operand, gives, chosen}
-use Rattle.pickle_map.specs.Comes.{infix_part, choice_part, index_part}
+use Rattle.pickle_map.specs.Comes.{computed_operand, infix_part, choice_part, index_part}
 use Rattle.pickle_map.specs.Shown.{kept, shown}
 use Rattle.pickle_map.proofs.ShownPaths.{part_shown}
 use Rattle.pickle_map.proofs.Signed.{small_fits}
 use Rattle.pickle_map.proofs.Evaluations.{first_stops, goes_on}
-use Rattle.pickle_map.proofs.Arms.{seen_stops, seen_goes_on, seen_at, seen_arm_stops, seen_arm_computes, seen_arm_faults, at_limit, is_led, is_not_led, leads, leads_not, arm_stops, arm_computes, arm_faults, arm_leads, arm_leads_not, arm_is, settles, settles_not, not_chosen, left_chosen, right_chosen}
+use Rattle.pickle_map.proofs.Arms.{computed_seen, stops_seen, seen_stops, seen_goes_on, seen_at, seen_arm_stops, seen_arm_computes, seen_arm_faults, at_limit, is_led, is_not_led, leads, leads_not, arm_stops, arm_computes, arm_faults, arm_leads, arm_leads_not, arm_is, settles, settles_not, not_chosen, left_chosen, right_chosen}
 use Rattle.pickle_map.proofs.evaluate.expression.+evaluate.Goals as goal
 
 takes_step : (e : Resolved) (levels : Levels) → 1 ≤ (evaluation (term_of e) levels).steps
@@ -202,11 +202,18 @@ evaluate-returns-in-Bracket-clause-is t c =
     rw (c.in-Bracket.is, ← c.deref-in-Bracket.ensures)
     (arm_is c.args.table.now c.args.meter.now.limit c.tick.new.self.limit c.args.meter.now.steps c.tick.new.self.steps c.evaluate.new.meter.steps c.evaluate.result (evaluation (term_of c.deref-in-Bracket.result.now) (kept c.args.table.now c.args.store.now)) c.in_ok-tick.ensures.limit c.in_ok-tick.ensures.ok c.evaluate.ensures.is)
 
-pub evaluate-returns-in-Infix-clause-is : goal.evaluate-returns-in-Infix-clause-is
+pub evaluate-returns-in_err-infix-in-Infix-clause-is : goal.evaluate-returns-in_err-infix-in-Infix-clause-is
 unfolding evaluation
-evaluate-returns-in-Infix-clause-is t c =
+evaluate-returns-in_err-infix-in-Infix-clause-is t c =
+    let p = err_from_is_err_and c.from_residual-in_err-infix-in-Infix.result c.from_residual-in_err-infix-in-Infix.ensures.1 in
+    rw (p.1, p.2, c.in-Infix.is, ← c.deref-in-Infix.ensures, ← c.deref-in-Infix-2.ensures)
+    (arm_is c.args.table.now c.args.meter.now.limit c.tick.new.self.limit c.args.meter.now.steps c.tick.new.self.steps c.infix.new.meter.steps (Err c.in_err-infix-in-Infix.field-0.0) (infix_part c.in-Infix.op (term_of c.deref-in-Infix.result.now) (term_of c.deref-in-Infix-2.result.now) (kept c.args.table.now c.args.store.now)) c.in_ok-tick.ensures.limit c.in_ok-tick.ensures.ok c.in_err-infix-in-Infix.ensures.is)
+
+pub evaluate-returns-in_ok-infix-in-Infix-clause-is : goal.evaluate-returns-in_ok-infix-in-Infix-clause-is
+unfolding evaluation
+evaluate-returns-in_ok-infix-in-Infix-clause-is t c =
     rw (c.in-Infix.is, ← c.deref-in-Infix.ensures, ← c.deref-in-Infix-2.ensures)
-    (arm_is c.args.table.now c.args.meter.now.limit c.tick.new.self.limit c.args.meter.now.steps c.tick.new.self.steps c.infix.new.meter.steps c.infix.result (infix_part c.in-Infix.op (term_of c.deref-in-Infix.result.now) (term_of c.deref-in-Infix-2.result.now) (kept c.args.table.now c.args.store.now)) c.in_ok-tick.ensures.limit c.in_ok-tick.ensures.ok c.infix.ensures.is)
+    (arm_is c.args.table.now c.args.meter.now.limit c.tick.new.self.limit c.args.meter.now.steps c.tick.new.self.steps c.infix.new.meter.steps (Ok (computing.Scalar c.in_ok-infix-in-Infix.field-0)) (infix_part c.in-Infix.op (term_of c.deref-in-Infix.result.now) (term_of c.deref-in-Infix-2.result.now) (kept c.args.table.now c.args.store.now)) c.in_ok-tick.ensures.limit c.in_ok-tick.ensures.ok c.in_ok-infix-in-Infix.ensures.is)
 
 pub evaluate-returns-in-Choice-clause-is : goal.evaluate-returns-in-Choice-clause-is
 unfolding evaluation
@@ -288,23 +295,43 @@ pub infix-returns-clause-is : goal.infix-returns-clause-is
 infix-returns-clause-is t c =
     let n : c.literal_length.result + c.literal_length-2.result ≡ (literal_length (term_of c.args.a.now) + literal_length (term_of c.args.b.now)) = rw (c.literal_length.ensures.is, c.literal_length-2.ensures.is) refl in
     let l : c.look-2.new.meter.limit ≡ c.args.meter.now.limit = c.look-2.ensures.limit ∙ c.look.ensures.limit in
-    seen_goes_on c.args.table.now c.args.meter.now.limit c.args.meter.now.steps c.look.new.meter.steps c.between.new.meter.steps c.in_ok-left.left c.between.result (evaluation (term_of c.args.a.now) (kept c.args.table.now c.args.store.now)) (λ x. unless_settled (settled c.args.op (truth_of (operand_label x))) (and_operand (evaluation (term_of c.args.b.now) (kept c.args.table.now c.args.store.now)) (λ y. between c.args.op (literal_length (term_of c.args.a.now) + literal_length (term_of c.args.b.now)) (operand_label x) (operand_label y)))) c.in_ok-left.ensures.is
-    (λ x held. settles_not c.args.table.now c.args.meter.now.limit c.look.new.meter.steps c.between.new.meter.steps c.between.result (settled c.args.op (truth_of (operand_label x))) (and_operand (evaluation (term_of c.args.b.now) (kept c.args.table.now c.args.store.now)) (λ y. between c.args.op (literal_length (term_of c.args.a.now) + literal_length (term_of c.args.b.now)) (operand_label x) (operand_label y))) (ap (settled c.args.op) (sym (c.truth_of.ensures (operand_label x) held)) ∙ sym c.settled.ensures ∙ c.in_default.is)
-    (seen_goes_on c.args.table.now c.args.meter.now.limit c.look.new.meter.steps c.look-2.new.meter.steps c.between.new.meter.steps c.in_ok-right.right c.between.result (evaluation (term_of c.args.b.now) (kept c.args.table.now c.args.store.now)) (λ y. between c.args.op (literal_length (term_of c.args.a.now) + literal_length (term_of c.args.b.now)) (operand_label x) (operand_label y)) (seen_at c.args.table.now c.args.meter.now.limit c.look.new.meter.limit c.look.new.meter.steps c.look-2.new.meter.steps (Ok c.in_ok-right.right) (evaluation (term_of c.args.b.now) (kept c.args.table.now c.args.store.now)) c.look.ensures.limit c.in_ok-right.ensures.is)
-    (λ y is_y. subst (λ (k : ℕ). Evaluated c.args.table.now c.args.meter.now.limit c.look-2.new.meter.steps c.between.new.meter.steps c.between.result (between c.args.op k (operand_label x) (operand_label y))) n
-    (at_limit c.args.table.now c.look-2.new.meter.limit c.args.meter.now.limit c.look-2.new.meter.steps c.between.new.meter.steps c.between.result (between c.args.op (c.literal_length.result + c.literal_length-2.result) (operand_label x) (operand_label y)) l
+    seen_goes_on c.args.table.now c.args.meter.now.limit c.args.meter.now.steps c.look.new.meter.steps c.between.new.meter.steps c.in_ok-left.left (computed_operand c.between.result) (evaluation (term_of c.args.a.now) (kept c.args.table.now c.args.store.now)) (λ x. unless_settled (settled c.args.op (truth_of (operand_label x))) (and_operand (evaluation (term_of c.args.b.now) (kept c.args.table.now c.args.store.now)) (λ y. between c.args.op (literal_length (term_of c.args.a.now) + literal_length (term_of c.args.b.now)) (operand_label x) (operand_label y)))) c.in_ok-left.ensures.is
+    (λ x held. settles_not c.args.table.now c.args.meter.now.limit c.look.new.meter.steps c.between.new.meter.steps (computed_operand c.between.result) (settled c.args.op (truth_of (operand_label x))) (and_operand (evaluation (term_of c.args.b.now) (kept c.args.table.now c.args.store.now)) (λ y. between c.args.op (literal_length (term_of c.args.a.now) + literal_length (term_of c.args.b.now)) (operand_label x) (operand_label y))) (ap (settled c.args.op) (sym (c.truth_of.ensures (operand_label x) held)) ∙ sym c.settled.ensures ∙ c.in_default.is)
+    (seen_goes_on c.args.table.now c.args.meter.now.limit c.look.new.meter.steps c.look-2.new.meter.steps c.between.new.meter.steps c.in_ok-right.right (computed_operand c.between.result) (evaluation (term_of c.args.b.now) (kept c.args.table.now c.args.store.now)) (λ y. between c.args.op (literal_length (term_of c.args.a.now) + literal_length (term_of c.args.b.now)) (operand_label x) (operand_label y)) (seen_at c.args.table.now c.args.meter.now.limit c.look.new.meter.limit c.look.new.meter.steps c.look-2.new.meter.steps (Ok c.in_ok-right.right) (evaluation (term_of c.args.b.now) (kept c.args.table.now c.args.store.now)) c.look.ensures.limit c.in_ok-right.ensures.is)
+    (λ y is_y. subst (λ (k : ℕ). Evaluated c.args.table.now c.args.meter.now.limit c.look-2.new.meter.steps c.between.new.meter.steps (computed_operand c.between.result) (between c.args.op k (operand_label x) (operand_label y))) n
+    (at_limit c.args.table.now c.look-2.new.meter.limit c.args.meter.now.limit c.look-2.new.meter.steps c.between.new.meter.steps (computed_operand c.between.result) (between c.args.op (c.literal_length.result + c.literal_length-2.result) (operand_label x) (operand_label y)) l
     (c.between.ensures.is c.args.table.now (operand_label x) (operand_label y) held is_y)))))
 
-pub look-returns-in_err-tick-in-Some-clause-is : goal.look-returns-in_err-tick-in-Some-clause-is
-look-returns-in_err-tick-in-Some-clause-is t c =
+pub look-returns-in_err-tick-clause-is : goal.look-returns-in_err-tick-clause-is
+look-returns-in_err-tick-clause-is t c =
     let p = err_from_is_err_and c.from_residual.result c.from_residual.ensures.1 in
-    let same = c.in_err-tick-in-Some.ensures.err in
-    let last = same ∙ c.in_err-tick-in-Some.ensures.refused.0 refl in
+    let same = c.in_err-tick.ensures.err in
+    let last = same ∙ c.in_err-tick.ensures.refused.0 refl in
     let one = c.in-Some.ensures.is c.args.table.now in
     rw (p.1, p.2, one.3) (last, omega (arith, same, last))
 
-pub look-returns-in_ok-tick-in-Some-clause-is : goal.look-returns-in_ok-tick-in-Some-clause-is
-look-returns-in_ok-tick-in-Some-clause-is t c =
+pub look-returns-in-Some-clause-is : goal.look-returns-in-Some-clause-is
+look-returns-in-Some-clause-is t c =
     let one = c.in-Some.ensures.is c.args.table.now in
     let n = to_z-of_z w128 c.in-Some.n.number (small_fits c.in-Some.n.of.signed c.in-Some.n.number c.in-Some.ensures.width.1) in
-    rw (n, one.3) (one.0, one.1, one.2, c.in_ok-tick-in-Some.ensures.ok)
+    rw (n, one.3) (one.0, one.1, one.2, c.in_ok-tick.ensures.ok)
+
+pub look-returns-in_err-tick-in-Infix-clause-is : goal.look-returns-in_err-tick-in-Infix-clause-is
+look-returns-in_err-tick-in-Infix-clause-is t c =
+    let p = err_from_is_err_and c.from_residual-in_err-tick-in-Infix.result c.from_residual-in_err-tick-in-Infix.ensures.1 in
+    rw (p.1, p.2) (no_step c.args.table.now c.args.meter.now.limit c.args.meter.now.steps c.tick-in-Infix.new.self.steps c.args.e.now (kept c.args.table.now c.args.store.now) c.in_err-tick-in-Infix.ensures.err (c.in_err-tick-in-Infix.ensures.err ∙ c.in_err-tick-in-Infix.ensures.refused.0 refl))
+
+pub look-returns-in_err-infix-in-Infix-clause-is : goal.look-returns-in_err-infix-in-Infix-clause-is
+unfolding evaluation
+look-returns-in_err-infix-in-Infix-clause-is t c =
+    let p = err_from_is_err_and c.from_residual-in_err-infix-in-Infix.result c.from_residual-in_err-infix-in-Infix.ensures.1 in
+    rw (p.1, p.2, c.in-Infix.is, ← c.deref.ensures, ← c.deref-in-Infix.ensures)
+    (stops_seen c.args.table.now c.args.meter.now.limit c.args.meter.now.steps c.tick-in-Infix.new.self.steps c.infix.new.meter.steps c.in_err-infix-in-Infix.field-0.0 (infix_part c.in-Infix.op (term_of c.deref.result.now) (term_of c.deref-in-Infix.result.now) (kept c.args.table.now c.args.store.now)) c.in_ok-tick-in-Infix.ensures.ok
+    (at_limit c.args.table.now c.tick-in-Infix.new.self.limit c.args.meter.now.limit c.tick-in-Infix.new.self.steps c.infix.new.meter.steps (Err c.in_err-infix-in-Infix.field-0.0) (infix_part c.in-Infix.op (term_of c.deref.result.now) (term_of c.deref-in-Infix.result.now) (kept c.args.table.now c.args.store.now)) c.in_ok-tick-in-Infix.ensures.limit c.in_err-infix-in-Infix.ensures.is))
+
+pub look-returns-in_ok-infix-in-Infix-clause-is : goal.look-returns-in_ok-infix-in-Infix-clause-is
+unfolding evaluation
+look-returns-in_ok-infix-in-Infix-clause-is t c =
+    rw (c.in-Infix.is, ← c.deref.ensures, ← c.deref-in-Infix.ensures)
+    (computed_seen c.args.table.now c.args.meter.now.limit c.args.meter.now.steps c.tick-in-Infix.new.self.steps c.infix.new.meter.steps c.in_ok-infix-in-Infix.field-0 (infix_part c.in-Infix.op (term_of c.deref.result.now) (term_of c.deref-in-Infix.result.now) (kept c.args.table.now c.args.store.now)) c.in_ok-tick-in-Infix.ensures.ok
+    (at_limit c.args.table.now c.tick-in-Infix.new.self.limit c.args.meter.now.limit c.tick-in-Infix.new.self.steps c.infix.new.meter.steps (Ok (computing.Scalar c.in_ok-infix-in-Infix.field-0)) (infix_part c.in-Infix.op (term_of c.deref.result.now) (term_of c.deref-in-Infix.result.now) (kept c.args.table.now c.args.store.now)) c.in_ok-tick-in-Infix.ensures.limit c.in_ok-infix-in-Infix.ensures.is))
