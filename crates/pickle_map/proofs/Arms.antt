@@ -5,12 +5,16 @@ use Rattle.pickle_map.specs.declared.evaluate.integers.Scalar.{Scalar}
 use Rattle.pickle_map.specs.declared.evaluate.operand.Operand.{Operand as Computing}
 use Rattle.pickle_map.specs.declared.evaluate.operand.Operand.TheVariants as computing
 use Rattle.pickle_map.specs.declared.evaluate.operand.Unvalued.{Unvalued}
-use Rattle.pickle_map.specs.declared.evaluate.operand.Unvalued.TheVariants.{Fault}
+use Rattle.pickle_map.specs.declared.evaluate.operand.Unvalued.TheVariants.{Fault, Limit}
 use Rattle.pickle_map.specs.declared.faults.MapFaultKind.{MapFaultKind}
 use Rattle.pickle_map.specs.declared.faults.MapFaultKind.TheVariants as fault
 use Rattle.pickle_map.specs.Arithmetic.{Computed, truth}
-use Rattle.pickle_map.specs.Values.{Value}
-use Rattle.pickle_map.specs.Evaluation.{Operand, AtPath, Evaluation, gives, with_steps, leads_to, present, unless_settled, chosen, and_operand}
+use Rattle.pickle_map.specs.declared.evaluate.content.Content.{Content}
+use Rattle.pickle_map.specs.declared.evaluate.content.Content.TheVariants as content
+use Rattle.pickle_map.specs.Contents.{IsHeld}
+use Rattle.pickle_map.specs.Comes.{Seen}
+use Rattle.pickle_map.specs.Values.{Value, Label}
+use Rattle.pickle_map.specs.Evaluation.{Operand, AtPath, Plain, operand_label, Evaluation, gives, with_steps, leads_to, present, unless_settled, chosen, and_operand}
 use Rattle.pickle_map.specs.Scalars.{scalar_label}
 use Rattle.pickle_map.specs.Operands.{operand_of, Evaluated}
 use Rattle.pickle_map.proofs.Evaluations.{first_stops, goes_on, stepped, computes, faults, comes_to, comes_not}
@@ -89,3 +93,44 @@ module _ (nodes : List Node) (limit : ℕ) where
   pub right_chosen : (before after : ℕ) (r : Result Computing Unvalued) (t : Result Bool MapFaultKind) (x y : Evaluation) (f : Operand → Evaluation) → t ≡ Ok false →
       Evaluated nodes limit before after r (and_operand y f) → Evaluated nodes limit before after r (and_operand (chosen t x y) f)
   right_chosen before after r t x y f e h = rw e h
+
+  -- the same, of what operators see of an operand
+  pub seen_stops : (before after : ℕ) (u : Unvalued) (a : Evaluation) (f : Operand → Evaluation) → Seen limit before after (Err u) a → Evaluated nodes limit before after (Err u) (and_operand a f)
+  seen_stops before after (Fault kind) a f h = first_stops nodes limit before after (Fault kind) a f h
+  seen_stops before after Limit a f h = first_stops nodes limit before after Limit a f h
+
+  pub seen_goes_on : (before between after : ℕ) (c : Content) (r : Result Computing Unvalued) (a : Evaluation) (f : Operand → Evaluation) → Seen limit before between (Ok c) a →
+      ((x : Operand) → IsHeld c (operand_label x) → Evaluated nodes limit between after r (f x)) → Evaluated nodes limit before after r (and_operand a f)
+  unfolding and_operand
+  seen_goes_on before between after c (Ok y) a f h g = let k = g h.0 h.2 in rw h.1 (k.0, omega (arith, h.3, k.1))
+  seen_goes_on before between after c (Err (Fault kind)) a f h g = let k = g h.0 h.2 in rw h.1 (k.0, omega (arith, h.3, k.1))
+  seen_goes_on before between after c (Err Limit) a f h g = let k = g h.0 h.2 in rw h.1 (k.0, omega (arith, h.3, k.1))
+
+  pub seen_at : (l before after : ℕ) (r : Result Content Unvalued) (a : Evaluation) → l ≡ limit → Seen l before after r a → Seen limit before after r a
+  seen_at l before after r a e h = subst (λ (k : ℕ). Seen k before after r a) e h
+
+  pub seen_arm_stops : (before mid after : ℕ) (u : Unvalued) (a : Evaluation) (f : Operand → Evaluation) → mid ≡ before + 1 →
+      Seen limit mid after (Err u) a → Evaluated nodes limit before after (Err u) (with_steps 1 (and_operand a f))
+  seen_arm_stops b m z u a f em h = stepped nodes limit b m z (Err u) (and_operand a f) em (seen_stops m z u a f h)
+
+  pub seen_arm_computes : (before mid after : ℕ) (c : Content) (s : Scalar) (a : Evaluation) (g : Label → Computed) → mid ≡ before + 1 →
+      Seen limit mid after (Ok c) a → ((x : Label) → IsHeld c x → ◌≡◌ {A = Computed} (Ok (scalar_label s)) (g x)) →
+      Evaluated nodes limit before after (Ok (computing.Scalar s)) (with_steps 1 (and_operand a (λ y. gives (g (operand_label y)))))
+  seen_arm_computes b m z c s a g em h k =
+      stepped nodes limit b m z (Ok (computing.Scalar s)) (and_operand a (λ y. gives (g (operand_label y)))) em
+      (seen_goes_on m z z c (Ok (computing.Scalar s)) a (λ y. gives (g (operand_label y))) h (λ x held. computes nodes limit z z s (g (operand_label x)) refl (k (operand_label x) held)))
+
+  pub seen_arm_faults : (before mid after : ℕ) (c : Content) (kind : MapFaultKind) (a : Evaluation) (g : Label → Computed) → mid ≡ before + 1 →
+      Seen limit mid after (Ok c) a → ((x : Label) → IsHeld c x → ◌≡◌ {A = Computed} (Err kind) (g x)) →
+      Evaluated nodes limit before after (Err (Fault kind)) (with_steps 1 (and_operand a (λ y. gives (g (operand_label y)))))
+  seen_arm_faults b m z c kind a g em h k =
+      stepped nodes limit b m z (Err (Fault kind)) (and_operand a (λ y. gives (g (operand_label y)))) em
+      (seen_goes_on m z z c (Err (Fault kind)) a (λ y. gives (g (operand_label y))) h (λ x held. faults nodes limit z z kind (g (operand_label x)) refl (k (operand_label x) held)))
+
+  -- a computed number is seen as itself
+  pub computed_seen : (before mid after : ℕ) (s : Scalar) (a : Evaluation) → mid ≡ before + 1 → Evaluated nodes limit mid after (Ok (computing.Scalar s)) a → Seen limit before after (Ok (content.Scalar s)) (with_steps 1 a)
+  computed_seen b m z s a em h = (Plain (scalar_label s), h.0, refl, omega (arith, em, h.1))
+
+  pub stops_seen : (before mid after : ℕ) (u : Unvalued) (a : Evaluation) → mid ≡ before + 1 → Evaluated nodes limit mid after (Err u) a → Seen limit before after (Err u) (with_steps 1 a)
+  stops_seen b m z (Fault kind) a em h = (h.0, omega (arith, em, h.1))
+  stops_seen b m z Limit a em h = (h.0, omega (arith, em, h.1))

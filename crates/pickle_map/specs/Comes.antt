@@ -1,13 +1,19 @@
 -- What an evaluation comes to, or a part of one in no steps.
-use Rattle.std.specs.Prelude.{◌≡◌, ℕ, ◌+◌, Bool, true, false, List, Option, Result, Ok, Err}
+use Rattle.std.specs.Prelude.{◌≡◌, ℕ, ◌+◌, ◌<◌, Bool, true, false, List, Option, Result, Ok, Err}
 use Rattle.pickle_types.specs.declared.table.Node.{Node}
 use Rattle.pickle_map.specs.declared.evaluate.operand.Operand.{Operand as Computing}
+use Rattle.pickle_map.specs.declared.evaluate.integers.Scalar.{Scalar}
+use Rattle.pickle_map.specs.declared.evaluate.operand.Operand.TheVariants as computing
+use Rattle.pickle_map.specs.declared.evaluate.operand.Unvalued.{Unvalued}
+use Rattle.pickle_map.specs.declared.evaluate.operand.Unvalued.TheVariants.{Fault, Limit}
+use Rattle.pickle_map.specs.declared.evaluate.content.Content.{Content}
+use Rattle.pickle_map.specs.Contents.{IsHeld}
 use Rattle.pickle_map.specs.declared.faults.MapFaultKind.{MapFaultKind}
 use Rattle.pickle_map.specs.Evaluation.{Operand, operand_label, Evaluation, evaluation, and_operand, unless_settled, settled, truth_of, between, literal_length, chosen, gives, as_common, element, leads_to}
 use Rattle.pickle_syntax.specs.declared.tree.Infix.{Infix}
 use Rattle.pickle_syntax.specs.declared.tree.Infix.TheVariants.{Equal, NotEqual, Less, LessEqual, Greater, GreaterEqual}
 use Rattle.pickle_types.specs.declared.integer.IntegerType.{IntegerType}
-use Rattle.pickle_types.specs.Types.{Term}
+use Rattle.pickle_types.specs.Types.{Term, Before, Select, AttributeOf, ToInteger, ToOffset, InUnit}
 use Rattle.pickle_map.specs.Values.{Label, Levels}
 use Rattle.pickle_map.specs.Operands.{operand_of}
 
@@ -35,6 +41,17 @@ index_part e i levels = and_operand (evaluation e levels) (λ p. and_operand (ev
 abbrev pub ComesTo : Evaluation → Label → ℕ → Type 0
 ComesTo a label steps = (x : Operand) × (a.outcome ≡ Ok x) × (operand_label x ≡ label) × (a.steps ≡ steps)
 
+-- a computed number as an operand, or why there is none
+abbrev pub computed_operand : Result Scalar Unvalued → Result Computing Unvalued
+computed_operand (Ok s) = Ok (computing.Scalar s)
+computed_operand (Err u) = Err u
+
+-- what operators see of an evaluation's value, once it came to an end
+abbrev pub Seen : (limit before after : ℕ) → Result Content Unvalued → Evaluation → Type 0
+Seen limit before after (Ok content) a = (x : Operand) × (a.outcome ≡ Ok x) × IsHeld content (operand_label x) × (after ≡ before + a.steps)
+Seen limit before after (Err (Fault kind)) a = (a.outcome ≡ Err kind) × (after ≡ before + a.steps)
+Seen limit before after (Err Limit) a = (after ≡ limit) × (limit < before + a.steps)
+
 -- the operators that compare
 abbrev pub is_comparison : Infix → Bool
 is_comparison Equal = true
@@ -44,3 +61,13 @@ is_comparison LessEqual = true
 is_comparison Greater = true
 is_comparison GreaterEqual = true
 is_comparison op = false
+
+-- a prefix or a suffix of one operand
+abbrev pub IsApplied : Term → Type 0
+IsApplied (Before op e) = Unit {0}
+IsApplied (Select e place) = Unit {0}
+IsApplied (AttributeOf attribute e) = Unit {0}
+IsApplied (ToInteger type e) = Unit {0}
+IsApplied (ToOffset type unit e) = Unit {0}
+IsApplied (InUnit unit e) = Unit {0}
+IsApplied e = ⊥

@@ -21,9 +21,9 @@ use pickle_types::view::Resolved;
 
 /// An integer and its type.
 #[derive(Clone, Copy)]
-struct Typed {
-    number: i128,
-    of: IntegerType,
+pub struct Typed {
+    pub number: i128,
+    pub of: IntegerType,
 }
 
 /// The truth of a comparison between two integers, each a literal or a name, which takes 3 steps; nothing for all else, and
@@ -60,7 +60,7 @@ fn is_comparison(op: Infix) -> bool
 }
 
 /// The integer that a literal or a name stands for.
-fn leaf(e: &Resolved, store: &Store) -> Option<Typed>
+pub fn leaf(e: &Resolved, store: &Store) -> Option<Typed>
     requires { IsSoundTerm (term_of e.now) }
     ensures is { (nodes : List TableNode) → IfSome result (λ n. ComesTo (evaluation (term_of e.now) (kept nodes store.now)) (IntegerLabel n.number n.of) 1) }
     ensures width { IfSome result (λ n. IsWidth n.of × IsSmall n.of.signed n.number) }

@@ -1,4 +1,6 @@
 //! The value of an expression on the open levels.
+//!
+//! What is rare stands in functions of its own, which aren't inlined: each call pays for the locals of all that is.
 
 ghost use Rattle.std.specs.Prelude.{◌≡◌, ℕ, ◌+◌, ◌<◌, ◌≤◌, ◌^◌, Some, None, Ok, Err, IfOk, OnOk, OnErr, IfErr, List, Result, Bool};
 ghost use Rattle.pickle_types.specs.Table.{term_of};
@@ -8,11 +10,12 @@ ghost use Rattle.pickle_map.specs.Values.{Label};
 ghost use Rattle.pickle_map.specs.Operands.{operand_of};
 ghost use Rattle.pickle_map.specs.Evaluation.{evaluation, operand_label, leads_to, present, selected, settled, attribute_of, as_common, literal_length, between, element, Evaluation, and_operand, gives};
 ghost use Rattle.pickle_map.specs.Operands.{Evaluated, IsOperand};
-ghost use Rattle.pickle_map.specs.Comes.{Comes, infix_part, choice_part, index_part};
+ghost use Rattle.pickle_map.specs.Comes.{Comes, Seen, computed_operand, IsApplied, infix_part, choice_part, index_part};
 ghost use Rattle.pickle_map.specs.Contents.{IsSoundContent, IsHeld};
 ghost use Rattle.pickle_map.specs.Shown.{kept};
 ghost use Rattle.pickle_map.specs.Scalars.{computed_of, IsScalar};
 
+use crate::evaluate::comparison::leaf;
 use crate::evaluate::content::{
     Content, combined, in_unit, prefixed, seen, to_integer, to_offset, truth_of,
 };
@@ -30,6 +33,7 @@ use pickle_types::view::{Node, Resolved};
 
 /// Evaluates an expression on the open values of the store. Each node of it takes a step, before its operands.
 #[cycle(evaluate)]
+#[inline(never)]
 pub fn evaluate<'a>(
     table: &[Node],
     e: &'a Resolved,
@@ -55,13 +59,35 @@ pub fn evaluate<'a>(
             None => Err(Unvalued::Fault(MapFaultKind::Absent)),
         },
         Resolved::Bracket(e) => evaluate(table, e, store, meter),
-        Resolved::Prefix(op, e) => {
-            let x = evaluate(table, e, store, meter)?;
-            Ok(Operand::Scalar(prefixed(*op, seen(x))?))
-        }
-        Resolved::Infix(op, a, b) => infix(table, *op, a, b, store, meter),
+        Resolved::Infix(op, a, b) => { Ok(Operand::Scalar(infix(table, *op, a, b, store, meter)?)) }
         Resolved::Choice(common, c, x, y) => choice(table, common, c, x, y, store, meter),
         Resolved::Index(e, i) => index(table, e, i, store, meter),
+        _ => applied(table, e, store, meter),
+    }
+}
+
+/// What a prefix or a suffix makes of its operand, after its own step.
+#[cycle(evaluate)]
+#[inline(never)]
+fn applied<'a>(
+    table: &[Node],
+    e: &'a Resolved,
+    store: &'a Store,
+    meter: &mut Meter,
+) -> Result<Operand<'a>, Unvalued>
+    requires sound { IsSoundTerm (term_of e.now) }
+    requires applies { IsApplied (term_of e.now) }
+    ensures limit { meter.new.limit ≡ meter.old.limit }
+    ensures made { meter.new.made ≡ meter.old.made }
+    ensures steps { meter.old.steps ≤ meter.new.steps }
+    ensures is { (before : ℕ) → meter.old.steps ≡ before + 1 → Evaluated table.now meter.old.limit before meter.new.steps result (evaluation (term_of e.now) (kept table.now store.now)) }
+    ensures operand { IfOk result IsOperand }
+{
+    match e {
+        Resolved::Prefix(op, e) => {
+            let x = look(table, e, store, meter)?;
+            Ok(Operand::Scalar(prefixed(*op, x)?))
+        }
         Resolved::Select(e, place) => {
             let x = evaluate(table, e, store, meter)?;
             Ok(selected(x, *place)?)
@@ -71,50 +97,82 @@ pub fn evaluate<'a>(
             Ok(Operand::Scalar(attribute_of(*attribute, x)?))
         }
         Resolved::ToInteger(number, e) => {
-            let x = evaluate(table, e, store, meter)?;
-            Ok(Operand::Scalar(to_integer(*number, seen(x))?))
+            let x = look(table, e, store, meter)?;
+            Ok(Operand::Scalar(to_integer(*number, x)?))
         }
         Resolved::ToOffset(number, unit, e) => {
-            let x = evaluate(table, e, store, meter)?;
-            Ok(Operand::Scalar(to_offset(*number, *unit, seen(x))?))
+            let x = look(table, e, store, meter)?;
+            Ok(Operand::Scalar(to_offset(*number, *unit, x)?))
         }
         Resolved::InUnit(unit, e) => {
-            let x = evaluate(table, e, store, meter)?;
-            Ok(Operand::Scalar(in_unit(*unit, seen(x))?))
+            let x = look(table, e, store, meter)?;
+            Ok(Operand::Scalar(in_unit(*unit, x)?))
         }
+        // No other expression comes here.
+        _ => Err(Unvalued::Fault(MapFaultKind::Absent)),
+    }
+}
+
+/// What operators see of an operand. An integer that is named or written down is seen at a glance.
+#[cycle(evaluate)]
+#[inline(never)]
+pub fn look<'a>(
+    table: &[Node],
+    e: &'a Resolved,
+    store: &'a Store,
+    meter: &mut Meter,
+) -> Result<Content<'a>, Unvalued>
+    requires { IsSoundTerm (term_of e.now) }
+    ensures limit { meter.new.limit ≡ meter.old.limit }
+    ensures made { meter.new.made ≡ meter.old.made }
+    ensures steps { meter.old.steps ≤ meter.new.steps }
+    ensures is { Seen meter.old.limit meter.old.steps meter.new.steps result (evaluation (term_of e.now) (kept table.now store.now)) }
+    ensures sound { IfOk result IsSoundContent }
+{
+    if let Some(n) = leaf(e, store) {
+        meter.tick()?;
+        return Ok(Content::Scalar(Scalar::Integer(n.number, n.of)));
+    }
+    match e {
+        Resolved::Infix(op, a, b) => {
+            meter.tick()?;
+            Ok(Content::Scalar(infix(table, *op, a, b, store, meter)?))
+        }
+        _ => Ok(seen(evaluate(table, e, store, meter)?)),
     }
 }
 
 /// An operator between two operands; the right one is evaluated only where the left one doesn't settle the truth.
 #[cycle(evaluate)]
-fn infix<'a>(
+#[inline(never)]
+fn infix(
     table: &[Node],
     op: Infix,
-    a: &'a Resolved,
-    b: &'a Resolved,
-    store: &'a Store,
+    a: &Resolved,
+    b: &Resolved,
+    store: &Store,
     meter: &mut Meter,
-) -> Result<Operand<'a>, Unvalued>
+) -> Result<Scalar, Unvalued>
     requires left { IsSoundTerm (term_of a.now) }
     requires right { IsSoundTerm (term_of b.now) }
     ensures limit { meter.new.limit ≡ meter.old.limit }
     ensures made { meter.new.made ≡ meter.old.made }
     ensures steps { meter.old.steps ≤ meter.new.steps }
-    ensures is { Evaluated table.now meter.old.limit meter.old.steps meter.new.steps result (infix_part op (term_of a.now) (term_of b.now) (kept table.now store.now)) }
-    ensures operand { IfOk result IsOperand }
+    ensures is { Evaluated table.now meter.old.limit meter.old.steps meter.new.steps (computed_operand result) (infix_part op (term_of a.now) (term_of b.now) (kept table.now store.now)) }
+    ensures scalar { IfOk result IsScalar }
 {
-    let x = evaluate(table, a, store, meter)?;
-    let left = seen(x);
+    let left = look(table, a, store, meter)?;
     if let Some(holds) = settled(op, truth_of(left)) {
-        return Ok(Operand::Scalar(truth(holds)));
+        return Ok(truth(holds));
     }
-    let y = evaluate(table, b, store, meter)?;
+    let right = look(table, b, store, meter)?;
     let literal = literal_length(a) + literal_length(b);
-    between(op, literal, left, seen(y), meter)
+    between(op, literal, left, right, meter)
 }
 
 /// A choice, of which only the side that is chosen is evaluated.
 #[cycle(evaluate)]
+#[inline(never)]
 fn choice<'a>(
     table: &[Node],
     common: &Option<IntegerType>,
@@ -134,8 +192,8 @@ fn choice<'a>(
     ensures is { Evaluated table.now meter.old.limit meter.old.steps meter.new.steps result (choice_part common.now (term_of c.now) (term_of x.now) (term_of y.now) (kept table.now store.now)) }
     ensures operand { IfOk result IsOperand }
 {
-    let t = evaluate(table, c, store, meter)?;
-    if truth_of(seen(t))? {
+    let t = look(table, c, store, meter)?;
+    if truth_of(t)? {
         chosen(common, evaluate(table, x, store, meter))
     } else {
         chosen(common, evaluate(table, y, store, meter))
@@ -157,6 +215,7 @@ fn chosen<'a>(
 
 /// An element of an array.
 #[cycle(evaluate)]
+#[inline(never)]
 fn index<'a>(
     table: &[Node],
     e: &'a Resolved,
@@ -173,30 +232,30 @@ fn index<'a>(
     ensures operand { IfOk result IsOperand }
 {
     let p = evaluate(table, e, store, meter)?;
-    let n = evaluate(table, i, store, meter)?;
-    Ok(element(p, seen(n))?)
+    let n = look(table, i, store, meter)?;
+    Ok(element(p, n)?)
 }
 
 /// An operator on two operands; a comparison of two texts takes a step for each byte of the literal.
-fn between<'a>(
+fn between(
     op: Infix,
     literal: u64,
-    x: Content<'a>,
-    y: Content<'a>,
+    x: Content<'_>,
+    y: Content<'_>,
     meter: &mut Meter,
-) -> Result<Operand<'a>, Unvalued>
+) -> Result<Scalar, Unvalued>
     requires left { IsSoundContent x }
     requires right { IsSoundContent y }
     ensures limit { meter.new.limit ≡ meter.old.limit }
     ensures made { meter.new.made ≡ meter.old.made }
     ensures steps { meter.old.steps ≤ meter.new.steps }
-    ensures is { (nodes : List TableNode) (a b : Label) → IsHeld x.entry a → IsHeld y.entry b → Evaluated nodes meter.old.limit meter.old.steps meter.new.steps result (between op literal a b) }
-    ensures operand { IfOk result IsOperand }
+    ensures is { (nodes : List TableNode) (a b : Label) → IsHeld x.entry a → IsHeld y.entry b → Evaluated nodes meter.old.limit meter.old.steps meter.new.steps (computed_operand result) (between op literal a b) }
+    ensures scalar { IfOk result IsScalar }
 {
     if let (Content::Text(_), Content::Text(_)) = (x, y) {
         take_steps(literal, meter)?;
     }
-    Ok(Operand::Scalar(combined(op, x, y)?))
+    Ok(combined(op, x, y)?)
 }
 
 /// Takes so many steps, or as many as are left.

@@ -5,14 +5,14 @@ ghost use Rattle.pickle_types.specs.Table.{term_of, optional_term, bound_of};
 ghost use Rattle.pickle_types.specs.Sound.{IsSoundTerm, IsSoundClause, IsSoundBound};
 ghost use Rattle.pickle_map.specs.Values.{Label};
 ghost use Rattle.pickle_map.specs.Evaluation.{evaluation, truth_of};
-ghost use Rattle.pickle_map.specs.Clauses.{told_at, constraint, condition, field_start, extent_of, clause_steps, label_steps, bound_steps, satisfied, kind_at, told_at, behind_start, count_of, size_of};
+ghost use Rattle.pickle_map.specs.Clauses.{constraint, condition, field_start, extent_of, clause_steps, label_steps, bound_steps, satisfied, kind_at, told_at, behind_start, count_of, size_of};
 ghost use Rattle.pickle_map.specs.Contents.{IsHeld, IsSoundContent};
 ghost use Rattle.pickle_map.specs.Settles.{Ends, Settles, Sees, natural};
 ghost use Rattle.pickle_map.specs.Shown.{kept};
 
 use crate::evaluate::comparison::comparison;
-use crate::evaluate::content::{Content, seen, truth_of};
-use crate::evaluate::expression::evaluate;
+use crate::evaluate::content::{Content, truth_of};
+use crate::evaluate::expression::look;
 use crate::evaluate::integers::Scalar;
 use crate::evaluate::offsets::bits_in;
 use crate::evaluate::operand::Unvalued;
@@ -89,28 +89,8 @@ pub fn find_start(
     }
     match label {
         None => Ok(behind),
-        Some(e) => label_start(table, e, store, start, meter),
+        Some(e) => labelled_start(table, e, store, start, meter),
     }
-}
-
-/// The bit where a field with a label starts.
-// Not inlined: most fields have none.
-#[inline(never)]
-fn label_start(
-    table: &[Node],
-    label: &Resolved,
-    store: &Store,
-    start: u128,
-    meter: &mut Meter,
-) -> Result<u128, Stop>
-    requires sound { IsSoundTerm (term_of label.now) }
-    requires start { start < 2 ^ 127 }
-    ensures limit { meter.new.limit ≡ meter.old.limit }
-    ensures made { meter.new.made ≡ meter.old.made }
-    ensures steps { meter.old.steps ≤ meter.new.steps }
-    ensures is { Settles meter.old.limit meter.old.steps meter.new.steps result (told_at start (behind_start start) (evaluation (term_of label.now) (kept table.now store.now)).outcome) (evaluation (term_of label.now) (kept table.now store.now)).steps }
-{
-    behind_start(told(table, label, store, start, meter)?, start)
 }
 
 /// How far an array goes, by its bound. A negative one is a Bounds fault. A bound's faults are told at `start`, the
@@ -130,9 +110,64 @@ pub fn find_extent(
 {
     match bound {
         Bound::Unbounded => Ok(Extent::Open),
-        Bound::Count(e) => count_of(told(table, e, store, start, meter)?, start),
-        Bound::Size(e) => size_of(told(table, e, store, start, meter)?, start),
+        Bound::Count(e) => evaluated_count(table, e, store, start, meter),
+        Bound::Size(e) => evaluated_size(table, e, store, start, meter),
     }
+}
+
+/// The bit that a label leads to; its fault is told at `start`.
+#[inline(never)]
+fn labelled_start(
+    table: &[Node],
+    e: &Resolved,
+    store: &Store,
+    start: u128,
+    meter: &mut Meter,
+) -> Result<u128, Stop>
+    requires sound { IsSoundTerm (term_of e.now) }
+    requires start { start < 2 ^ 127 }
+    ensures limit { meter.new.limit ≡ meter.old.limit }
+    ensures made { meter.new.made ≡ meter.old.made }
+    ensures steps { meter.old.steps ≤ meter.new.steps }
+    ensures is { Settles meter.old.limit meter.old.steps meter.new.steps result (told_at start (behind_start start) (evaluation (term_of e.now) (kept table.now store.now)).outcome) (evaluation (term_of e.now) (kept table.now store.now)).steps }
+{
+    behind_start(told(table, e, store, start, meter)?, start)
+}
+
+/// The number of elements that a bound comes to; its fault is told at `start`.
+#[inline(never)]
+fn evaluated_count(
+    table: &[Node],
+    e: &Resolved,
+    store: &Store,
+    start: u128,
+    meter: &mut Meter,
+) -> Result<Extent, Stop>
+    requires sound { IsSoundTerm (term_of e.now) }
+    ensures limit { meter.new.limit ≡ meter.old.limit }
+    ensures made { meter.new.made ≡ meter.old.made }
+    ensures steps { meter.old.steps ≤ meter.new.steps }
+    ensures is { Settles meter.old.limit meter.old.steps meter.new.steps result (told_at start (count_of start) (evaluation (term_of e.now) (kept table.now store.now)).outcome) (evaluation (term_of e.now) (kept table.now store.now)).steps }
+{
+    count_of(told(table, e, store, start, meter)?, start)
+}
+
+/// The number of bits that a bound comes to; its fault is told at `start`.
+#[inline(never)]
+fn evaluated_size(
+    table: &[Node],
+    e: &Resolved,
+    store: &Store,
+    start: u128,
+    meter: &mut Meter,
+) -> Result<Extent, Stop>
+    requires sound { IsSoundTerm (term_of e.now) }
+    ensures limit { meter.new.limit ≡ meter.old.limit }
+    ensures made { meter.new.made ≡ meter.old.made }
+    ensures steps { meter.old.steps ≤ meter.new.steps }
+    ensures is { Settles meter.old.limit meter.old.steps meter.new.steps result (told_at start (size_of start) (evaluation (term_of e.now) (kept table.now store.now)).outcome) (evaluation (term_of e.now) (kept table.now store.now)).steps }
+{
+    size_of(told(table, e, store, start, meter)?, start)
 }
 
 /// What operators see of an expression's value; its fault is told at a place.
@@ -150,8 +185,8 @@ fn told<'a>(
     ensures is { Sees meter.old.limit meter.old.steps meter.new.steps place result (evaluation (term_of e.now) (kept table.now store.now)) }
     ensures sound { IfOk result IsSoundContent }
 {
-    match evaluate(table, e, store, meter) {
-        Ok(x) => Ok(seen(x)),
+    match look(table, e, store, meter) {
+        Ok(x) => Ok(x),
         Err(Unvalued::Fault(kind)) => Err(Stop::Fault(kind, place)),
         Err(Unvalued::Limit) => Err(Stop::Limit),
     }

@@ -1,4 +1,4 @@
-use Rattle.std.proofs.Common.{◌≡◌, ◌+◌, refl, arith}
+use Rattle.std.proofs.Common.{refl, arith}
 use Rattle.pickle_map.specs.Clauses.{field_start}
 use Rattle.pickle_map.proofs.mapper.clauses.find_start.Goals as goal
 
@@ -8,7 +8,7 @@ returns-in-None-clause-is c = rw (c.if-pinned.false, c.in-None.is) (refl, omega 
 
 pub returns-in-Some-clause-is : goal.returns-in-Some-clause-is
 unfolding field_start
-returns-in-Some-clause-is c = rw (c.if-pinned.false, c.in-Some.is) c.label_start.ensures.is
+returns-in-Some-clause-is c = rw (c.if-pinned.false, c.in-Some.is) c.labelled_start.ensures.is
 
 pub returns-then-pinned-clause-is : goal.returns-then-pinned-clause-is
 unfolding field_start
