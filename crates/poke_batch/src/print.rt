@@ -104,9 +104,10 @@ fn put_elements<W: Write>(w: &mut W, line: &mut Line, value: ValueRef<'_>) -> Re
     ensures ok { OnOk result (Gathers (W.contents w.old) (W.contents w.new) line.old line.new (elements_text (value_shown value.entry))) }
     ensures err { OnErr result (AppendsPart (W.contents w.old) (W.contents w.new) (line.old ++ elements_text (value_shown value.entry))) }
 {
+    let elements = value.members();
     let mut first = true;
-    for place in 0..value.len() {
-        if let Some(element) = value.child(place) {
+    for place in 0..elements.len() {
+        if let Some(element) = elements.get(place) {
             put_member(w, line, first, None, element)?;
             first = false;
         }
@@ -155,9 +156,10 @@ fn put_members<W: Write>(w: &mut W, line: &mut Line, value: ValueRef<'_>) -> Res
     ensures ok { OnOk result (Gathers (W.contents w.old) (W.contents w.new) line.old line.new (all_members_text (value_shown value.entry))) }
     ensures err { OnErr result (AppendsPart (W.contents w.old) (W.contents w.new) (line.old ++ all_members_text (value_shown value.entry))) }
 {
+    let members = value.members();
     let mut first = true;
-    for place in 0..value.len() {
-        if let Some(member) = value.child(place) {
+    for place in 0..members.len() {
+        if let Some(member) = members.get(place) {
             put_member(w, line, first, value.field_name(place), member)?;
             first = false;
         }
