@@ -25,6 +25,7 @@ mod Costs
 mod Makes
 pub mod Walks
 pub mod Found
+pub mod Linked
 pub mod ShownPaths
 pub mod ShownLabels
 pub mod Lookup

@@ -27,6 +27,8 @@ pub mod Shown
 pub mod Stops
 pub mod Framed
 pub mod Refs
+pub mod Linked
+pub mod Owners
 pub mod Settles
 pub mod Mappable
 pub mod Mapped

@@ -3,10 +3,12 @@ ghost use Rattle.std.specs.Option.{option_map};
 ghost use Rattle.pickle_map.specs.Kinds.{kind_of};
 ghost use Rattle.pickle_map.specs.Tree.{label, start, size, parts, part_at, number_of, signed_of, width_of, unit_of, bytes_of, type_of, taken_of};
 ghost use Rattle.pickle_map.specs.Slots.{value_at};
+ghost use Rattle.pickle_map.specs.Linked.{links_from};
 ghost use Rattle.pickle_map.specs.Scalars.{scalar_label, scalar_in, IsScalar};
 
 use crate::evaluate::integers::Scalar;
 use crate::store::Store;
+use crate::store::slots::Link;
 use crate::value::Kind;
 
 /// A value that a store holds, without the names of its type. It copies nothing.
@@ -103,6 +105,36 @@ impl<'a> StoredValue<'a> {
         ensures below { IfSome result (λ c. c.node < self.now.node) }
     {
         match self.store.child_at(self.node, i) {
+            Some(node) => Some(StoredValue {
+                store: self.store,
+                node,
+            }),
+            None => None,
+        }
+    }
+
+    /// The links to the parts, for a walk over them.
+    pub(crate) fn links(&self) -> &'a [Link]
+        ensures { result.now ≡ links_from self.now.store.now.slots self.now.node }
+    {
+        self.store.links_from(self.node)
+    }
+
+    /// How many parts there are, as [`StoredValue::len`] tells it, by links that were found before.
+    pub(crate) fn count_linked(&self, links: &[Link]) -> usize
+        requires { links.now ≡ links_from self.now.store.now.slots self.now.node }
+        ensures { result ≡ length (parts (value_of self.now)) }
+    {
+        self.store.count_linked(self.node, links)
+    }
+
+    /// The part at a place, as [`StoredValue::child`] tells it, by links that were found before.
+    pub(crate) fn linked(&self, links: &[Link], i: usize) -> Option<StoredValue<'a>>
+        requires { links.now ≡ links_from self.now.store.now.slots self.now.node }
+        ensures part { option_map value_of result ≡ part_at (value_of self.now) i }
+        ensures below { IfSome result (λ c. c.node < self.now.node) }
+    {
+        match self.store.linked(self.node, links, i) {
             Some(node) => Some(StoredValue {
                 store: self.store,
                 node,

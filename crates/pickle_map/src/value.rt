@@ -4,8 +4,11 @@ ghost use Rattle.pickle_map.specs.Values.{label_of, start_of, end_of, members_of
 ghost use Rattle.pickle_map.specs.Labels.{kind_of, number_of, signed_of, width_of, unit_of, bytes_of, name_of, member_name};
 ghost use Rattle.pickle_map.specs.Shown.{shown};
 
+mod members;
+
 use crate::names::{part_name, title};
 use crate::stored::StoredValue;
+pub use members::Members;
 use pickle_types::view::Node;
 
 /// What sort of value one is.
@@ -29,6 +32,7 @@ pub struct ValueRef<'a> {
 #[tactic(auto, using(crate::proofs::ShownLabels::shown_reads))]
 impl<'a> ValueRef<'a> {
     ghost use Rattle.pickle_map.specs.Refs.{value_of, value_shown, rank_of};
+    ghost use Rattle.pickle_map.specs.Owners.{owner_of};
 
     pub(crate) fn new(stored: StoredValue<'a>, nodes: &'a [Node]) -> ValueRef<'a>
         ensures { value_shown result ≡ shown nodes.now (value_of stored.entry) }
@@ -96,6 +100,13 @@ impl<'a> ValueRef<'a> {
         ensures { result ≡ member_count (members_of (value_shown self.now)) }
     {
         self.stored.len()
+    }
+
+    /// The members, for a walk over them: [`Members::get`] gives what [`ValueRef::child`] does.
+    pub fn members(&self) -> Members<'a>
+        ensures { owner_of result ≡ self.now }
+    {
+        Members::new(*self)
     }
 
     /// The element or field at a place, the alternative taken at place 0; nothing for an absent field and past the end.

@@ -7,6 +7,7 @@ pub mod DumpRows
 pub mod StringTexts
 pub mod MemberTexts
 pub mod DigitCounts
+pub mod ShortTexts
 pub mod Refusing
 pub mod Sayings
 pub mod Mappings

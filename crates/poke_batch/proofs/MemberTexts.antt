@@ -1,10 +1,11 @@
 -- Laws of the texts of values with members.
 use Rattle.std.proofs.Common.{◌≡◌, ℕ, zero, suc, add-one, ◌+◌, ◌<◌, ◌≤◌, List, [], ◌++◌, Option, Some, None, Bool, false, codes, refl, sym, ◌∙◌, ap, subst, arith}
+use Rattle.std.proofs.lemmas.List.{append_assoc}
 use Rattle.poke_batch.specs.Gathered.{Gathers}
 use Rattle.pickle_map.specs.declared.value.Kind.TheVariants as kind
 use Rattle.pickle_map.specs.Values.{Value, Mapped, Label, IntegerLabel, OffsetLabel, TextLabel, ArrayLabel, StructLabel, UnionLabel, Members, NoMembers, MemberThen, AbsentThen, label_of, member_count, member_at}
 use Rattle.pickle_map.specs.Labels.{kind_of, number_of, unit_of, bytes_of, member_name}
-use Rattle.poke_batch.specs.ValueText.{value_text, members_text, integer_text, offset_text, string_text}
+use Rattle.poke_batch.specs.ValueText.{value_text, members_text, name_text, comma, integer_text, offset_text, string_text}
 use Rattle.poke_batch.specs.PartText.{type_of, array_text, titled_text, member_text}
 use Rattle.poke_batch.proofs.Gathered.{Told, told_all}
 
@@ -43,6 +44,7 @@ pub text_present : (label : Label) (all : Members) (i : ℕ) (first : Bool) (val
     → members_text label i first (members_from i all) ≡ member_text first (member_name label i) value ++ members_text label (i + 1) false (members_from (i + 1) all)
 text_present label all i first value lt is =
     ap (members_text label i first) (from_at all i lt ∙ ap (λ o. with_member o (members_from (i + 1) all)) (sym is))
+    ∙ ap (λ s. s ++ members_text label (suc i) false (members_from (i + 1) all)) (sym (append_assoc (comma first) (name_text (member_name label i)) (value_text value)))
     ∙ ap (λ n. member_text first (member_name label i) value ++ members_text label n false (members_from (i + 1) all)) (sym (add-one i))
 
 pub text_absent : (label : Label) (all : Members) (i : ℕ) (first : Bool) → i < member_count all → None ≡ member_at all i

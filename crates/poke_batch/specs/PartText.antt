@@ -15,7 +15,7 @@ all_members_text value = members_text (label_of value) 0 true (members_of value)
 
 -- a member with what stands before it
 abbrev pub member_text : (first : Bool) → Naming → Value → List ℕ
-member_text first name value = comma first ++ (name_text name ++ value_text value)
+member_text first name value = (comma first ++ name_text name) ++ value_text value
 
 -- the elements of an array, which have no names
 abbrev pub elements_text : Value → List ℕ

@@ -1,4 +1,5 @@
 //! Prints mapped values.
+mod bytes;
 mod digits;
 mod line;
 mod number;
@@ -17,6 +18,7 @@ ghost use Rattle.poke_batch.specs.PartText.{type_of, array_text, elements_text, 
 
 use crate::mode::Mode;
 use crate::write::WriteFault;
+use bytes::SHORT;
 use line::Line;
 use number::{put_integer, put_offset};
 use pickle_map::{Kind, ValueRef};
@@ -102,9 +104,10 @@ fn put_elements<W: Write>(w: &mut W, line: &mut Line, value: ValueRef<'_>) -> Re
     ensures ok { OnOk result (Gathers (W.contents w.old) (W.contents w.new) line.old line.new (elements_text (value_shown value.entry))) }
     ensures err { OnErr result (AppendsPart (W.contents w.old) (W.contents w.new) (line.old ++ elements_text (value_shown value.entry))) }
 {
+    let elements = value.members();
     let mut first = true;
-    for place in 0..value.len() {
-        if let Some(element) = value.child(place) {
+    for place in 0..elements.len() {
+        if let Some(element) = elements.get(place) {
             put_member(w, line, first, None, element)?;
             first = false;
         }
@@ -132,6 +135,7 @@ fn put_titled<W: Write>(
     Ok(())
 }
 
+#[inline(always)]
 fn put_title<W: Write>(
     w: &mut W,
     line: &mut Line,
@@ -142,8 +146,8 @@ fn put_title<W: Write>(
     ensures err { OnErr result (AppendsPart (W.contents w.old) (W.contents w.new) (line.old ++ title_text sort.now (option_map (λ name. name.now) name.entry))) }
 {
     match name {
-        Some(name) => line.put(w, name),
-        None => line.put(w, sort),
+        Some(name) => line.put_word(w, name),
+        None => line.put_word(w, sort),
     }
 }
 
@@ -152,9 +156,10 @@ fn put_members<W: Write>(w: &mut W, line: &mut Line, value: ValueRef<'_>) -> Res
     ensures ok { OnOk result (Gathers (W.contents w.old) (W.contents w.new) line.old line.new (all_members_text (value_shown value.entry))) }
     ensures err { OnErr result (AppendsPart (W.contents w.old) (W.contents w.new) (line.old ++ all_members_text (value_shown value.entry))) }
 {
+    let members = value.members();
     let mut first = true;
-    for place in 0..value.len() {
-        if let Some(member) = value.child(place) {
+    for place in 0..members.len() {
+        if let Some(member) = members.get(place) {
             put_member(w, line, first, value.field_name(place), member)?;
             first = false;
         }
@@ -175,35 +180,52 @@ fn put_member<W: Write>(
     ensures ok { OnOk result (Gathers (W.contents w.old) (W.contents w.new) line.old line.new (member_text first (option_map (λ name. name.now) name.entry) (value_shown member.entry))) }
     ensures err { OnErr result (AppendsPart (W.contents w.old) (W.contents w.new) (line.old ++ member_text first (option_map (λ name. name.now) name.entry) (value_shown member.entry))) }
 {
-    put_comma(w, line, first)?;
-    put_name(w, line, name)?;
+    put_start(w, line, first, name)?;
     put_value(w, line, member)?;
     Ok(())
 }
 
+// Writes what stands before a member.
+#[inline(always)]
+fn put_start<W: Write>(
+    w: &mut W,
+    line: &mut Line,
+    first: bool,
+    name: Option<&[u8]>,
+) -> Result<(), WriteFault>
+    ensures ok { OnOk result (Gathers (W.contents w.old) (W.contents w.new) line.old line.new (comma first ++ name_text (option_map (λ name. name.now) name.entry))) }
+    ensures err { OnErr result (AppendsPart (W.contents w.old) (W.contents w.new) (line.old ++ (comma first ++ name_text (option_map (λ name. name.now) name.entry)))) }
+{
+    match name {
+        Some(name) => put_name(w, line, first, name),
+        None => put_comma(w, line, first),
+    }
+}
+
+#[tactic(auto, using(crate::proofs::Gathered::gathered))]
+#[inline(always)]
+fn put_name<W: Write>(
+    w: &mut W,
+    line: &mut Line,
+    first: bool,
+    name: &[u8],
+) -> Result<(), WriteFault>
+    ensures ok { OnOk result (Gathers (W.contents w.old) (W.contents w.new) line.old line.new (comma first ++ (name.now ++ codes "="))) }
+    ensures err { OnErr result (AppendsPart (W.contents w.old) (W.contents w.new) (line.old ++ (comma first ++ (name.now ++ codes "=")))) }
+{
+    if name.len() <= SHORT {
+        return line.put_short_name(w, first, name);
+    }
+    put_comma(w, line, first)?;
+    line.put(w, name)?;
+    line.put(w, b"=")?;
+    Ok(())
+}
+
+#[inline(always)]
 fn put_comma<W: Write>(w: &mut W, line: &mut Line, first: bool) -> Result<(), WriteFault>
     ensures ok { OnOk result (Gathers (W.contents w.old) (W.contents w.new) line.old line.new (comma first)) }
     ensures err { OnErr result (AppendsPart (W.contents w.old) (W.contents w.new) (line.old ++ comma first)) }
 {
     if first { Ok(()) } else { line.put(w, b",") }
-}
-
-fn put_name<W: Write>(w: &mut W, line: &mut Line, name: Option<&[u8]>) -> Result<(), WriteFault>
-    ensures ok { OnOk result (Gathers (W.contents w.old) (W.contents w.new) line.old line.new (name_text (option_map (λ name. name.now) name.entry))) }
-    ensures err { OnErr result (AppendsPart (W.contents w.old) (W.contents w.new) (line.old ++ name_text (option_map (λ name. name.now) name.entry))) }
-{
-    match name {
-        Some(name) => put_name_before(w, line, name),
-        None => Ok(()),
-    }
-}
-
-#[tactic(auto, using(crate::proofs::Gathered::gathered))]
-fn put_name_before<W: Write>(w: &mut W, line: &mut Line, name: &[u8]) -> Result<(), WriteFault>
-    ensures ok { OnOk result (Gathers (W.contents w.old) (W.contents w.new) line.old line.new (name.now ++ codes "=")) }
-    ensures err { OnErr result (AppendsPart (W.contents w.old) (W.contents w.new) (line.old ++ (name.now ++ codes "="))) }
-{
-    line.put(w, name)?;
-    line.put(w, b"=")?;
-    Ok(())
 }

@@ -5,6 +5,7 @@ ghost use Rattle.pickle_map.specs.Kinds.{kind_of};
 ghost use Rattle.pickle_map.specs.Tree.{label, start, size, parts, part_at, number_of, signed_of, width_of, unit_of, bytes_of, type_of, taken_of};
 ghost use Rattle.pickle_map.specs.Levels.{part_in};
 ghost use Rattle.pickle_map.specs.Slots.{levels, marks_at, level_end, value_at, number_in, first_link, family_at, family_links, first_byte, text_bytes, links_of, IsContent, IsFamily, IsTextRow, IsRead};
+ghost use Rattle.pickle_map.specs.Linked.{links_from};
 ghost use Rattle.pickle_map.specs.Scalars.{scalar_label, scalar_in, IsScalar};
 
 use crate::evaluate::integers::Scalar;
@@ -190,6 +191,39 @@ impl Store {
     {
         let node = self.node_at(at);
         self.links_at(&node).len()
+    }
+
+    // The links of the node at a place.
+    pub(crate) fn links_from(&self, at: usize) -> &[Link]
+        requires { at < length self.now.slots.nodes }
+        ensures { result.now ≡ links_from self.now.slots at }
+    {
+        let node = self.nodes[at];
+        self.links_at(&node)
+    }
+
+    // How many parts a value has whose links these are.
+    pub(crate) fn count_linked(&self, at: usize, links: &[Link]) -> usize
+        requires node { at < length self.now.slots.nodes }
+        requires links { links.now ≡ links_from self.now.slots at }
+        ensures { result ≡ length (parts (value_at self.now.slots at)) }
+    {
+        let _node = self.nodes[at];
+        links.len()
+    }
+
+    // The part at a place of a value whose links these are.
+    pub(crate) fn linked(&self, at: usize, links: &[Link], i: usize) -> Option<usize>
+        requires node { at < length self.now.slots.nodes }
+        requires links { links.now ≡ links_from self.now.slots at }
+        ensures part { option_map (value_at self.now.slots) result ≡ part_at (value_at self.now.slots at) i }
+        ensures below { IfSome result (λ j. j < at) }
+    {
+        let _node = self.nodes[at];
+        match links.get(i) {
+            Some(link) => link.target(),
+            None => None,
+        }
     }
 
     pub(crate) fn child_at(&self, at: usize, i: usize) -> Option<usize>

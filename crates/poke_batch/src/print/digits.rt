@@ -3,16 +3,11 @@ ghost use Rattle.std.specs.Prelude.{◌≡◌, ◌+◌, ◌≤◌, [], ◌∷◌
 ghost use Rattle.std.specs.Fmt.{signed_decimal};
 ghost use Rattle.poke_batch.specs.Suffixes.{sign_letter, letter_text, suffix_text};
 
+use crate::print::bytes::{Bytes, LINE_ROOM, push};
 use crate::print::suffix::Suffix;
-
-/// The room of a line.
-pub const LINE_ROOM: usize = 512;
 
 /// A minus, 20 digits and a suffix of two letters.
 pub const LONGEST_NUMBER: usize = 23;
-
-/// Bytes that are laid out from the front. How many there are is passed on by value, as a register is faster than a field.
-pub type Bytes = [u8; LINE_ROOM];
 
 /// Lays out a number of a magnitude with its suffix, and tells where it ends.
 #[inline(always)]
@@ -101,14 +96,4 @@ fn push_letter(bytes: &mut Bytes, at: usize, letter: Option<u8>) -> usize
         Some(letter) => push(bytes, at, letter),
         None => at,
     }
-}
-
-#[inline(always)]
-fn push(bytes: &mut Bytes, at: usize, byte: u8) -> usize
-    requires { at + 1 ≤ LINE_ROOM }
-    ensures text { take result bytes.new ≡ take at bytes.old ++ byte ∷ [] }
-    ensures len { result ≡ at + 1 }
-{
-    bytes[at] = byte;
-    at + 1
 }

@@ -1,12 +1,14 @@
 //! Gathers small texts, so that the writer is called once for many.
-ghost use Rattle.std.specs.Prelude.{◌≡◌, ◌+◌, ◌≤◌, ◌++◌, [], length, OnOk, OnErr};
+ghost use Rattle.std.specs.Prelude.{◌≡◌, ◌+◌, ◌≤◌, ◌++◌, [], length, codes, OnOk, OnErr};
 ghost use Rattle.std.specs.Fmt.{signed_decimal};
 ghost use Rattle.std.specs.Io.KnownBytes.{Appends};
 ghost use Rattle.poke_batch.specs.Written.{AppendsPart};
 ghost use Rattle.poke_batch.specs.Gathered.{Gathers};
 ghost use Rattle.poke_batch.specs.Suffixes.{suffix_text};
+ghost use Rattle.poke_batch.specs.ValueText.{comma};
 
-use crate::print::digits::{LINE_ROOM, LONGEST_NUMBER, push_number, push_suffix};
+use crate::print::bytes::{LINE_ROOM, SHORT, push_name, push_short};
+use crate::print::digits::{LONGEST_NUMBER, push_number, push_suffix};
 use crate::print::suffix::Suffix;
 use crate::write::{WriteFault, put};
 use itoa::Buffer;
@@ -79,6 +81,39 @@ impl Line {
         put(w, &self.bytes[..self.len])?;
         self.len = 0;
         put(w, text)?;
+        Ok(())
+    }
+
+    /// Adds a text that is mostly short, as [`Line::put`] adds any.
+    #[tactic(auto, using(crate::proofs::Gathered::gathers_then))]
+    #[inline(always)]
+    pub fn put_word<W: Write>(&mut self, w: &mut W, word: &[u8]) -> Result<(), WriteFault>
+        ensures ok { OnOk result (Gathers (W.contents w.old) (W.contents w.new) self.old self.new word.now) }
+        ensures err { OnErr result (AppendsPart (W.contents w.old) (W.contents w.new) (self.old ++ word.now)) }
+    {
+        if word.len() > SHORT {
+            return self.put(w, word);
+        }
+        self.make_room(w)?;
+        self.len = push_short(&mut self.bytes, self.len, word);
+        Ok(())
+    }
+
+    /// Adds what stands before a member of a short name, as [`Line::put`] adds a text.
+    #[tactic(auto, using(crate::proofs::Gathered::gathers_then))]
+    #[inline(always)]
+    pub fn put_short_name<W: Write>(
+        &mut self,
+        w: &mut W,
+        first: bool,
+        name: &[u8],
+    ) -> Result<(), WriteFault>
+        requires { length name.now ≤ SHORT }
+        ensures ok { OnOk result (Gathers (W.contents w.old) (W.contents w.new) self.old self.new (comma first ++ (name.now ++ codes "="))) }
+        ensures err { OnErr result (AppendsPart (W.contents w.old) (W.contents w.new) (self.old ++ (comma first ++ (name.now ++ codes "=")))) }
+    {
+        self.make_room(w)?;
+        self.len = push_name(&mut self.bytes, self.len, first, name);
         Ok(())
     }
 

@@ -1,6 +1,6 @@
-use Rattle.std.proofs.Common.{◌≡◌, codes, arith, None}
+use Rattle.std.proofs.Common.{◌≡◌, codes, arith, subst, Some, None}
 use Rattle.std.proofs.lemmas.Result.{err_from_is_err_and}
-use Rattle.pickle_map.specs.Values.{ArrayLabel, label_of, members_of, member_at}
+use Rattle.pickle_map.specs.Values.{ArrayLabel, label_of, members_of, member_at, member_count}
 use Rattle.pickle_map.specs.Labels.{name_of, member_name}
 use Rattle.pickle_map.specs.Refs.{value_shown}
 use Rattle.poke_batch.specs.ValueText.{title_text}
@@ -30,32 +30,35 @@ put_array-returns-in_err-put-2-clause-err g t c =
 
 pub put_members-returns-in_err-put_member-clause-err : goal.put_members-returns-in_err-put_member-clause-err
 put_members-returns-in_err-put_member-clause-err g t c =
+    let len : c.len-place-end.result ≡ member_count (members_of (value_shown c.args.value)) = subst (λ v. c.len-place-end.result ≡ member_count (members_of (value_shown v))) c.members-members.ensures c.len-place-end.ensures in
     let p = err_from_is_err_and c.from_residual.result c.from_residual.ensures.1 in
     let l = label_of (value_shown c.args.value) in
     let all = members_of (value_shown c.args.value) in
     let i = c.loop-place.place in
     let u = value_shown c.in-Some.member in
-    let h = told_present _ _ _ _ l all u c.loop-place.first i _ (omega (arith, c.len-place-end.ensures, c.loop-place-test.true)) c.in-Some.ensures.member c.loop-place.invariant in
+    let h = told_present _ _ _ _ l all u c.loop-place.first i _ (omega (arith, len, c.loop-place-test.true)) (subst (λ v. Some (value_shown c.in-Some.member) ≡ member_at (members_of (value_shown v)) i) c.members-members.ensures c.in-Some.ensures.member) c.loop-place.invariant in
     rw p.1 (told_cut _ _ _ _ _ (member_text c.loop-place.first (member_name l i) u) _ _ h (rw c.field_name.ensures at c.in_err-put_member.ensures.err))
 
 pub put_members-loop-place-preserved : goal.put_members-loop-place-preserved
 put_members-loop-place-preserved g t c =
+    let len : c.len-place-end.result ≡ member_count (members_of (value_shown c.args.value)) = subst (λ v. c.len-place-end.result ≡ member_count (members_of (value_shown v))) c.members-members.ensures c.len-place-end.ensures in
     let l = label_of (value_shown c.args.value) in
     let all = members_of (value_shown c.args.value) in
     let i = c.loop-place.place in
-    elim c.match-child.branch [
+    elim c.match-get.branch [
       | put_members-in-Some+in_ok-put_member w ↦
           (let u = value_shown w.in-Some.member in
-          let h = told_present _ _ _ _ l all u c.loop-place.first i _ (omega (arith, c.len-place-end.ensures, c.loop-place-test.true)) w.in-Some.ensures.member c.loop-place.invariant in
+          let h = told_present _ _ _ _ l all u c.loop-place.first i _ (omega (arith, len, c.loop-place-test.true)) (subst (λ v. Some (value_shown w.in-Some.member) ≡ member_at (members_of (value_shown v)) i) c.members-members.ensures w.in-Some.ensures.member) c.loop-place.invariant in
           rw (w.w-is, w.line-is, w.first-is) (told_more _ _ _ _ _ _ (member_text c.loop-place.first (member_name l i) u) _ _ h (rw w.field_name.ensures at w.in_ok-put_member.ensures.ok)))
       | put_members-in_default w ↦
-          (let n : None ≡ member_at all i = w.in_default.ensures.member in
-          rw (w.w-is, w.line-is, w.first-is) (told_absent _ _ _ _ l all c.loop-place.first i _ (omega (arith, c.len-place-end.ensures, c.loop-place-test.true)) n c.loop-place.invariant))
+          (let n : None ≡ member_at all i = subst (λ v. None ≡ member_at (members_of (value_shown v)) i) c.members-members.ensures w.in_default.ensures.member in
+          rw (w.w-is, w.line-is, w.first-is) (told_absent _ _ _ _ l all c.loop-place.first i _ (omega (arith, len, c.loop-place-test.true)) n c.loop-place.invariant))
     ]
 
 pub put_members-returns-clause-ok : goal.put_members-returns-clause-ok
 put_members-returns-clause-ok g t c =
-    told_end _ _ _ _ (label_of (value_shown c.args.value)) (members_of (value_shown c.args.value)) c.loop-place.first c.loop-place.place _ (omega (arith, c.len-place-end.ensures, c.loop-place-test.false)) c.loop-place.invariant
+    let len : c.len-place-end.result ≡ member_count (members_of (value_shown c.args.value)) = subst (λ v. c.len-place-end.result ≡ member_count (members_of (value_shown v))) c.members-members.ensures c.len-place-end.ensures in
+    told_end _ _ _ _ (label_of (value_shown c.args.value)) (members_of (value_shown c.args.value)) c.loop-place.first c.loop-place.place _ (omega (arith, len, c.loop-place-test.false)) c.loop-place.invariant
 
 pub put_titled-returns-in_err-put-clause-err : goal.put_titled-returns-in_err-put-clause-err
 put_titled-returns-in_err-put-clause-err g t c =
@@ -95,29 +98,32 @@ put_titled-returns-clause-ok g t c =
 
 pub put_elements-returns-in_err-put_member-clause-err : goal.put_elements-returns-in_err-put_member-clause-err
 put_elements-returns-in_err-put_member-clause-err g t c =
+    let len : c.len-place-end.result ≡ member_count (members_of (value_shown c.args.value)) = subst (λ v. c.len-place-end.result ≡ member_count (members_of (value_shown v))) c.members-elements.ensures c.len-place-end.ensures in
     let p = err_from_is_err_and c.from_residual.result c.from_residual.ensures.1 in
     let l = ArrayLabel in
     let all = members_of (value_shown c.args.value) in
     let i = c.loop-place.place in
     let u = value_shown c.in-Some.element in
-    let h = told_present _ _ _ _ l all u c.loop-place.first i _ (omega (arith, c.len-place-end.ensures, c.loop-place-test.true)) c.in-Some.ensures.member c.loop-place.invariant in
+    let h = told_present _ _ _ _ l all u c.loop-place.first i _ (omega (arith, len, c.loop-place-test.true)) (subst (λ v. Some (value_shown c.in-Some.element) ≡ member_at (members_of (value_shown v)) i) c.members-elements.ensures c.in-Some.ensures.member) c.loop-place.invariant in
     rw p.1 (told_cut _ _ _ _ _ (member_text c.loop-place.first (None) u) _ _ h c.in_err-put_member.ensures.err)
 
 pub put_elements-loop-place-preserved : goal.put_elements-loop-place-preserved
 put_elements-loop-place-preserved g t c =
+    let len : c.len-place-end.result ≡ member_count (members_of (value_shown c.args.value)) = subst (λ v. c.len-place-end.result ≡ member_count (members_of (value_shown v))) c.members-elements.ensures c.len-place-end.ensures in
     let l = ArrayLabel in
     let all = members_of (value_shown c.args.value) in
     let i = c.loop-place.place in
-    elim c.match-child.branch [
+    elim c.match-get.branch [
       | put_elements-in-Some+in_ok-put_member w ↦
           (let u = value_shown w.in-Some.element in
-          let h = told_present _ _ _ _ l all u c.loop-place.first i _ (omega (arith, c.len-place-end.ensures, c.loop-place-test.true)) w.in-Some.ensures.member c.loop-place.invariant in
+          let h = told_present _ _ _ _ l all u c.loop-place.first i _ (omega (arith, len, c.loop-place-test.true)) (subst (λ v. Some (value_shown w.in-Some.element) ≡ member_at (members_of (value_shown v)) i) c.members-elements.ensures w.in-Some.ensures.member) c.loop-place.invariant in
           rw (w.w-is, w.line-is, w.first-is) (told_more _ _ _ _ _ _ (member_text c.loop-place.first (None) u) _ _ h w.in_ok-put_member.ensures.ok))
       | put_elements-in_default w ↦
-          (let n : None ≡ member_at all i = w.in_default.ensures.member in
-          rw (w.w-is, w.line-is, w.first-is) (told_absent _ _ _ _ l all c.loop-place.first i _ (omega (arith, c.len-place-end.ensures, c.loop-place-test.true)) n c.loop-place.invariant))
+          (let n : None ≡ member_at all i = subst (λ v. None ≡ member_at (members_of (value_shown v)) i) c.members-elements.ensures w.in_default.ensures.member in
+          rw (w.w-is, w.line-is, w.first-is) (told_absent _ _ _ _ l all c.loop-place.first i _ (omega (arith, len, c.loop-place-test.true)) n c.loop-place.invariant))
     ]
 
 pub put_elements-returns-clause-ok : goal.put_elements-returns-clause-ok
 put_elements-returns-clause-ok g t c =
-    told_end _ _ _ _ (ArrayLabel) (members_of (value_shown c.args.value)) c.loop-place.first c.loop-place.place _ (omega (arith, c.len-place-end.ensures, c.loop-place-test.false)) c.loop-place.invariant
+    let len : c.len-place-end.result ≡ member_count (members_of (value_shown c.args.value)) = subst (λ v. c.len-place-end.result ≡ member_count (members_of (value_shown v))) c.members-elements.ensures c.len-place-end.ensures in
+    told_end _ _ _ _ (ArrayLabel) (members_of (value_shown c.args.value)) c.loop-place.first c.loop-place.place _ (omega (arith, len, c.loop-place-test.false)) c.loop-place.invariant

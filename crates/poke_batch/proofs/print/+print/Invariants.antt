@@ -31,4 +31,4 @@ invariant-put_members-loop-place g l =
 
 abbrev pub invariant-put_elements-loop-place : goal.invariant-put_elements-loop-place
 invariant-put_elements-loop-place g l =
-    Told (g.W.Write.contents l.initial.w) (g.W.Write.contents l.w) l.initial.line l.line (members_text ArrayLabel l.place l.first (members_from l.place (members_of (value_shown l.value)))) (elements_text (value_shown l.value))
+    Told (g.W.Write.contents l.initial.w) (g.W.Write.contents l.w) l.initial.line l.line (members_text ArrayLabel l.place l.first (members_from l.place (members_of (value_shown l.fn.value)))) (elements_text (value_shown l.fn.value))

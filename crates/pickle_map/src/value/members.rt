@@ -1,0 +1,51 @@
+//! The members of a value, whose links are found once.
+
+ghost use Rattle.std.specs.Prelude.{◌≡◌, ◌<◌, IfSome};
+ghost use Rattle.std.specs.Option.{option_map};
+ghost use Rattle.pickle_map.specs.Linked.{links_from};
+ghost use Rattle.pickle_map.specs.Values.{members_of, member_count, member_at};
+
+use crate::store::slots::Link;
+use crate::value::ValueRef;
+
+/// The elements of an array, the declared fields of a struct, or the alternative that a union took.
+#[derive(Clone, Copy)]
+pub struct Members<'a> {
+    value: ValueRef<'a>,
+    links: &'a [Link],
+    ghost own: { links.now ≡ links_from value.stored.store.now.slots value.stored.node },
+}
+
+#[tactic(auto, using(crate::proofs::ShownLabels::shown_reads))]
+impl<'a> Members<'a> {
+    ghost use Rattle.pickle_map.specs.Refs.{value_of, value_shown, rank_of};
+    ghost use Rattle.pickle_map.specs.Owners.{owner_of};
+
+    pub(super) fn new(value: ValueRef<'a>) -> Members<'a>
+        ensures { owner_of result ≡ value.entry }
+    {
+        let links = value.stored.links();
+        Members { value, links }
+    }
+
+    /// How many there are, absent fields too.
+    pub fn len(&self) -> usize
+        ensures { result ≡ member_count (members_of (value_shown (owner_of self.now))) }
+    {
+        self.value.stored.count_linked(self.links)
+    }
+
+    /// The member at a place; nothing for an absent field and past the end.
+    pub fn get(&self, i: usize) -> Option<ValueRef<'a>>
+        ensures member { option_map value_shown result ≡ member_at (members_of (value_shown (owner_of self.now))) i }
+        ensures below { IfSome result (λ c. rank_of c < rank_of (owner_of self.now)) }
+    {
+        match self.value.stored.linked(self.links, i) {
+            Some(stored) => Some(ValueRef {
+                stored,
+                nodes: self.value.nodes,
+            }),
+            None => None,
+        }
+    }
+}
