@@ -77,7 +77,7 @@ expression_tree (expression.Prefix' op p e) = Before op (expression_tree e)
 expression_tree (expression.Infix' op p a q b) = Between op (expression_tree a) (expression_tree b)
 expression_tree (expression.Choice' p c q x r y) = Choice (expression_tree c) (expression_tree x) (expression_tree y)
 expression_tree (expression.Index' p e q i) = Index (expression_tree e) (expression_tree i)
-expression_tree (expression.After' p e s) = After (expression_tree e) (suffix_tree s)
+expression_tree (expression.After' p e s) = After (expression_tree e) (suffix_tree s.value)
 
 abbrev pub optional_tree : Option Expression → Option Tree
 optional_tree None = None

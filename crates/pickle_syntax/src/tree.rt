@@ -89,7 +89,8 @@ pub enum Expression {
     Infix(Infix, Box<Expression>, Box<Expression>),
     Choice(Box<Expression>, Box<Expression>, Box<Expression>),
     Index(Box<Expression>, Box<Expression>),
-    After(Box<Expression>, Suffix),
+    /// A suffix stands apart, since it is rare and larger than all else.
+    After(Box<Expression>, Box<Suffix>),
 }
 
 /// The order of bytes that a prefix sets.

@@ -119,7 +119,8 @@ fn with_suffix(alloc: Global, left: Found, suffix: Suffix) -> Result<Found, Stop
     ensures made { IfOk result (λ x. (expression_tree x.expression ≡ After (expression_tree left.expression) (suffix_tree suffix)) × (x.depth ≡ left.depth + 1)) }
     ensures fails { IfErr result (λ e. e ≡ Memory) }
 {
-    let expression = Expression::After(Box::new(alloc, left.expression)?, suffix);
+    let operand = Box::new(alloc, left.expression)?;
+    let expression = Expression::After(operand, Box::new(alloc, suffix)?);
     Ok(Found {
         expression,
         depth: left.depth + 1,

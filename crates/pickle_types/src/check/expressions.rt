@@ -323,9 +323,11 @@ fn is_path(e: &Expression) -> bool
 {
     match e {
         Expression::Name(_) => true,
-        Expression::Bracket(e)
-        | Expression::Index(e, _)
-        | Expression::After(e, Suffix::Select(_)) => is_path(e),
+        Expression::Bracket(e) | Expression::Index(e, _) => is_path(e),
+        Expression::After(e, suffix) => match &**suffix {
+            Suffix::Select(_) => is_path(e),
+            _ => false,
+        },
         _ => false,
     }
 }
