@@ -264,7 +264,7 @@ fn convert(
     names: &Names,
     nodes: &Nodes,
     x: Meant,
-    target: &Target,
+    target: &Target<'_>,
 ) -> Result<Meant, FaultKind>
     requires table { IsTable nodes.now }
     requires names { AreNamed nodes.now names.now }
@@ -300,7 +300,7 @@ fn suffix(
     nodes: &Nodes,
     path: bool,
     x: Meant,
-    suffix: &Suffix,
+    suffix: &Suffix<'_>,
 ) -> Result<Meant, FaultKind>
     requires table { IsTable nodes.now }
     requires names { AreNamed nodes.now names.now }
@@ -318,7 +318,7 @@ fn suffix(
 }
 
 /// Whether an expression is a path: a name, a field or an element of a path, or a path in brackets.
-fn is_path(e: &Expression) -> bool
+fn is_path(e: &Expression<'_>) -> bool
     ensures { result ≡ is_path (expression_tree e.now) }
 {
     match e {
@@ -340,7 +340,7 @@ pub fn typed(
     nodes: &Nodes,
     seen: &Scopes,
     levels: u8,
-    e: &Expression,
+    e: &Expression<'_>,
 ) -> Result<Meant, FaultKind>
     requires table { IsTable nodes.now }
     requires names { AreNamed nodes.now names.now }
