@@ -70,14 +70,14 @@ suffix_tree (suffix.Convert t) = Convert (target_tree t)
 abbrev pub expression_tree : Expression → Tree
 expression_tree (expression.Number n) = Literal n
 expression_tree (expression.Character b) = Character b
-expression_tree (expression.Text t) = Text t.items
+expression_tree (expression.Text t) = Text t.value.items
 expression_tree (expression.Name n) = Name n.now
 expression_tree (expression.Bracket' p e) = Bracket (expression_tree e)
 expression_tree (expression.Prefix' op p e) = Before op (expression_tree e)
-expression_tree (expression.Infix' op p a q b) = Between op (expression_tree a) (expression_tree b)
-expression_tree (expression.Choice' p c q x r y) = Choice (expression_tree c) (expression_tree x) (expression_tree y)
-expression_tree (expression.Index' p e q i) = Index (expression_tree e) (expression_tree i)
-expression_tree (expression.After' p e s) = After (expression_tree e) (suffix_tree s.value)
+expression_tree (expression.Infix' p op a b) = Between op (expression_tree a) (expression_tree b)
+expression_tree (expression.Choice' p c x y) = Choice (expression_tree c) (expression_tree x) (expression_tree y)
+expression_tree (expression.Index' p e i) = Index (expression_tree e) (expression_tree i)
+expression_tree (expression.After' p e s) = After (expression_tree e) (suffix_tree s)
 
 abbrev pub optional_tree : Option Expression → Option Tree
 optional_tree None = None

@@ -77,20 +77,54 @@ pub enum Suffix<'t> {
     Convert(Target<'t>),
 }
 
-/// An expression.
+/// An expression. What has several parts is kept behind one pointer, so that an expression is small.
+#[cycle(expressions)]
 #[derive(Drop)]
 pub enum Expression<'t> {
     Number(Number),
     Character(u8),
-    Text(Vec<u8>),
+    Text(Box<Vec<u8>>),
     Name(&'t [u8]),
     Bracket(Box<Expression<'t>>),
     Prefix(Prefix, Box<Expression<'t>>),
-    Infix(Infix, Box<Expression<'t>>, Box<Expression<'t>>),
-    Choice(Box<Expression<'t>>, Box<Expression<'t>>, Box<Expression<'t>>),
-    Index(Box<Expression<'t>>, Box<Expression<'t>>),
-    /// A suffix stands apart, since it is rare and larger than all else.
-    After(Box<Expression<'t>>, Box<Suffix<'t>>),
+    Infix(Box<Operation<'t>>),
+    Choice(Box<Selection<'t>>),
+    Index(Box<Element<'t>>),
+    After(Box<Suffixed<'t>>),
+}
+
+/// An operator between its operands.
+#[cycle(expressions)]
+#[derive(Drop)]
+pub struct Operation<'t> {
+    pub op: Infix,
+    pub left: Expression<'t>,
+    pub right: Expression<'t>,
+}
+
+/// `condition ? yes : no`
+#[cycle(expressions)]
+#[derive(Drop)]
+pub struct Selection<'t> {
+    pub condition: Expression<'t>,
+    pub yes: Expression<'t>,
+    pub no: Expression<'t>,
+}
+
+/// `operand[index]`
+#[cycle(expressions)]
+#[derive(Drop)]
+pub struct Element<'t> {
+    pub operand: Expression<'t>,
+    pub index: Expression<'t>,
+}
+
+/// An operand, and what follows it.
+#[cycle(expressions)]
+#[derive(Drop)]
+pub struct Suffixed<'t> {
+    pub operand: Expression<'t>,
+    pub suffix: Suffix<'t>,
 }
 
 /// The order of bytes that a prefix sets.

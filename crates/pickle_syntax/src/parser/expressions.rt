@@ -14,7 +14,7 @@ use crate::parser::fault::Stop;
 use crate::parser::operators::{Next, Start, goes_on, level, level_of, next_of, start_of};
 use crate::parser::reading::{expect, name_at, onward, target_at, unit_at};
 use crate::token::{Kind, Sign};
-use crate::tree::{Expression, Infix, Prefix, Suffix};
+use crate::tree::{Element, Expression, Infix, Operation, Prefix, Selection, Suffix, Suffixed};
 use std::alloc::Global;
 
 /// The least level of what an operator before its operand takes.
@@ -100,7 +100,8 @@ fn operand<'a, 't>(
                 Ok((leaf(expression), rest))
             }
             Kind::Text(bytes) => {
-                let expression = Expression::Text(Vec::from_slice(alloc, bytes.as_slice())?);
+                let text = Vec::from_slice(alloc, bytes.as_slice())?;
+                let expression = Expression::Text(Box::new(alloc, text)?);
                 Ok((leaf(expression), rest))
             }
             Kind::Name(name) => {
@@ -132,12 +133,13 @@ fn with_suffix<'t>(alloc: Global, left: Found<'t>, suffix: Suffix<'t>) -> Result
     ensures made { IfOk result (λ x. (expression_tree x.expression ≡ After (expression_tree left.entry.expression) (suffix_tree suffix.entry)) × (x.depth ≡ left.entry.depth + 1)) }
     ensures fails { IfErr result (λ e. e ≡ Memory) }
 {
-    let operand = Box::new(alloc, left.expression)?;
-    let expression = Expression::After(operand, Box::new(alloc, suffix)?);
-    Ok(Found {
-        expression,
-        depth: left.depth + 1,
-    })
+    let depth = left.depth + 1;
+    let suffixed = Suffixed {
+        operand: left.expression,
+        suffix,
+    };
+    let expression = Expression::After(Box::new(alloc, suffixed)?);
+    Ok(Found { expression, depth })
 }
 
 /// What follows an operator between two operands.
@@ -157,9 +159,12 @@ fn infix<'a, 't>(
 {
     let (right, rest) = expression(alloc, room, level(op) + 1, rest)?;
     let depth = left.depth.max(right.depth) + 1;
-    let left = Box::new(alloc, left.expression)?;
-    let right = Box::new(alloc, right.expression)?;
-    let expression = Expression::Infix(op, left, right);
+    let operation = Operation {
+        op,
+        left: left.expression,
+        right: right.expression,
+    };
+    let expression = Expression::Infix(Box::new(alloc, operation)?);
     Ok((Found { expression, depth }, rest))
 }
 
@@ -181,10 +186,12 @@ fn choice<'a, 't>(
     let rest = expect(rest, Sign::Colon)?;
     let (no, rest) = expression(alloc, room, 1, rest)?;
     let depth = left.depth.max(yes.depth.max(no.depth)) + 1;
-    let left = Box::new(alloc, left.expression)?;
-    let yes = Box::new(alloc, yes.expression)?;
-    let no = Box::new(alloc, no.expression)?;
-    let expression = Expression::Choice(left, yes, no);
+    let selection = Selection {
+        condition: left.expression,
+        yes: yes.expression,
+        no: no.expression,
+    };
+    let expression = Expression::Choice(Box::new(alloc, selection)?);
     Ok((Found { expression, depth }, rest))
 }
 
@@ -205,9 +212,11 @@ fn index<'a, 't>(
     let (index, rest) = expression(alloc, room, 1, rest)?;
     let rest = expect(rest, Sign::CloseBracket)?;
     let depth = left.depth.max(index.depth) + 1;
-    let left = Box::new(alloc, left.expression)?;
-    let index = Box::new(alloc, index.expression)?;
-    let expression = Expression::Index(left, index);
+    let element = Element {
+        operand: left.expression,
+        index: index.expression,
+    };
+    let expression = Expression::Index(Box::new(alloc, element)?);
     Ok((Found { expression, depth }, rest))
 }
 

@@ -159,9 +159,9 @@ pub fn level_of(expression: &Expression<'_>) -> u8
         Expression::Name(_) => 15,
         Expression::Bracket(_) => 15,
         Expression::Prefix(_, _) => 13,
-        Expression::Infix(op, _, _) => level(*op),
-        Expression::Choice(_, _, _) => 1,
-        Expression::Index(_, _) => 14,
-        Expression::After(_, suffix) => level_of_suffix(suffix),
+        Expression::Infix(operation) => level(operation.op),
+        Expression::Choice(_) => 1,
+        Expression::Index(_) => 14,
+        Expression::After(suffixed) => level_of_suffix(&suffixed.suffix),
     }
 }
