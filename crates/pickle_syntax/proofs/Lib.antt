@@ -1,3 +1,4 @@
+pub mod BaseSteps
 pub mod Chain
 pub mod DeclarationSteps
 pub mod ExpressionsAgain

@@ -22,11 +22,11 @@ pub data Token : Type 0 where
 -- the token that the lexer's kind stands for
 abbrev pub token_of : Kind → Token
 token_of (kind.Word w) = Reserved w
-token_of (kind.Name n) = Named n.items
+token_of (kind.Name n) = Named n.now
 token_of (kind.Opener o) = Opens o
 token_of (kind.Number n) = Numeral n
 token_of (kind.Character b) = Character b
-token_of (kind.Text t) = Text t.items
+token_of (kind.Text t) = Text t.value.items
 token_of (kind.Attribute a) = AttributeOf a
 token_of (kind.Sign s) = Mark s
 

@@ -1,6 +1,6 @@
 -- The syntax tree of a pickle, without where it lies in memory.
-use Rattle.std.specs.Prelude.{ℕ, Bool, List, [], ◌∷◌, map, Option, Some, None, Vec}
-use Rattle.std.specs.declared.alloc.Global.{Global}
+use Rattle.std.specs.Prelude.{ℕ, Bool, List, [], ◌∷◌, map, Option, Some, None}
+use denote.Bor.{Bor}
 use Rattle.pickle_syntax.specs.declared.token.Attribute.{Attribute}
 use Rattle.pickle_syntax.specs.declared.token.Number.{Number}
 use Rattle.pickle_syntax.specs.declared.tree.Prefix.{Prefix}
@@ -55,14 +55,14 @@ pub data Tree : Type 0 where
 abbrev pub reference_tree : Reference → TreeReference
 reference_tree (reference.Int n) = Int n
 reference_tree (reference.Uint n) = Uint n
-reference_tree (reference.Named n) = Called n.items
+reference_tree (reference.Named n) = Called n.now
 
 abbrev pub target_tree : Target → TreeTarget
 target_tree (target.Reference r) = ToReference (reference_tree r)
 target_tree (target.Offset r u) = ToOffset (reference_tree r) u
 
 abbrev pub suffix_tree : Suffix → TreeSuffix
-suffix_tree (suffix.Select n) = Select n.items
+suffix_tree (suffix.Select n) = Select n.now
 suffix_tree (suffix.Attribute a) = AttributeOf a
 suffix_tree (suffix.Unit u) = InUnit u
 suffix_tree (suffix.Convert t) = Convert (target_tree t)
@@ -70,22 +70,22 @@ suffix_tree (suffix.Convert t) = Convert (target_tree t)
 abbrev pub expression_tree : Expression → Tree
 expression_tree (expression.Number n) = Literal n
 expression_tree (expression.Character b) = Character b
-expression_tree (expression.Text t) = Text t.items
-expression_tree (expression.Name n) = Name n.items
+expression_tree (expression.Text t) = Text t.value.items
+expression_tree (expression.Name n) = Name n.now
 expression_tree (expression.Bracket' p e) = Bracket (expression_tree e)
 expression_tree (expression.Prefix' op p e) = Before op (expression_tree e)
-expression_tree (expression.Infix' op p a q b) = Between op (expression_tree a) (expression_tree b)
-expression_tree (expression.Choice' p c q x r y) = Choice (expression_tree c) (expression_tree x) (expression_tree y)
-expression_tree (expression.Index' p e q i) = Index (expression_tree e) (expression_tree i)
+expression_tree (expression.Infix' p op a b) = Between op (expression_tree a) (expression_tree b)
+expression_tree (expression.Choice' p c x y) = Choice (expression_tree c) (expression_tree x) (expression_tree y)
+expression_tree (expression.Index' p e i) = Index (expression_tree e) (expression_tree i)
 expression_tree (expression.After' p e s) = After (expression_tree e) (suffix_tree s)
 
 abbrev pub optional_tree : Option Expression → Option Tree
 optional_tree None = None
 optional_tree (Some e) = Some (expression_tree e)
 
-abbrev pub optional_bytes : Option (Vec ℕ Global) → Option (List ℕ)
+abbrev pub optional_bytes : Option (Bor (List ℕ)) → Option (List ℕ)
 optional_bytes None = None
-optional_bytes (Some n) = Some n.items
+optional_bytes (Some n) = Some n.now
 
 -- what stands beside the type of a field: its prefix, name, constraint, label and condition
 pub record FieldParts : Type 0 where
@@ -156,7 +156,7 @@ pub record DeclarationTree : Type 0 where
   pub form : FormTree
 
 abbrev pub declaration_tree : Declaration → DeclarationTree
-declaration_tree d = record { name = d.name.items; form = form_tree d.form }
+declaration_tree d = record { name = d.name.now; form = form_tree d.form }
 
 -- a pickle: its declarations in order
 abbrev pub pickle_tree : Pickle → List DeclarationTree

@@ -30,13 +30,13 @@ const MOST_BYTES: usize = 1_048_576;
 
 /// The tokens of a pickle in order, and for each its span: the places of its first byte and after its last.
 #[derive(Drop)]
-pub struct Tokens {
-    kinds: Vec<Kind>,
-    spans: Vec<(usize, usize)>,
+pub struct Tokens<'t> {
+    kinds: Vec<Kind<'t>>,
+    spans: Vec<(u32, u32)>,
     ghost paired: { length kinds.items ≡ length spans.items },
 }
 
-impl Tokens {
+impl<'t> Tokens<'t> {
     /// How many tokens there are.
     pub fn len(&self) -> usize
         ensures { result ≡ length self.now.kinds.items }
@@ -45,7 +45,7 @@ impl Tokens {
     }
 
     /// The tokens without their places.
-    pub fn kinds(&self) -> &[Kind]
+    pub fn kinds(&self) -> &[Kind<'t>]
         ensures { result.now ≡ self.now.kinds.items }
     {
         self.kinds.as_slice()
@@ -56,32 +56,33 @@ impl Tokens {
         ensures there { IsSome result ↔ (i < length self.now.kinds.items) }
         ensures value { IfSome result (λ s. s ≡ slice_index_or self.now.spans.items i s) }
     {
-        self.spans.get(i).copied()
+        let (first, last) = self.spans.get(i).copied()?;
+        Some((first as usize, last as usize))
     }
 }
 
 /// Keeps the token of a piece, and its span.
-fn keep(
-    kinds: &mut Vec<Kind>,
-    spans: &mut Vec<(usize, usize)>,
+fn keep<'t>(
+    kinds: &mut Vec<Kind<'t>>,
+    spans: &mut Vec<(u32, u32)>,
     at: usize,
-    kind: Option<Kind>,
+    kind: Option<Kind<'t>>,
     len: usize,
 ) -> Result<(), AllocError>
     requires { at + len < 2 ^ 32 }
-    ensures kinds { OnOk result (tokens_of kinds.new.items ≡ tokens_of kinds.old.items ++ token_list (option_map token_of kind)) }
-    ensures spans { OnOk result (spans.new.items ≡ spans.old.items ++ span_list (option_map token_of kind) at len) }
+    ensures kinds { OnOk result (tokens_of kinds.new.items ≡ tokens_of kinds.old.items ++ token_list (option_map token_of kind.entry)) }
+    ensures spans { OnOk result (spans.new.items ≡ spans.old.items ++ span_list (option_map token_of kind.entry) at len) }
     ensures paired { OnOk result (length kinds.old.items ≡ length spans.old.items → length kinds.new.items ≡ length spans.new.items) }
 {
     if let Some(kind) = kind {
         kinds.push(kind)?;
-        spans.push((at, at + len))?;
+        spans.push((at as u32, (at + len) as u32))?;
     }
     Ok(())
 }
 
 #[tactic(auto, using(crate::proofs::Lexed::lexed_steps))]
-fn tokens_from(alloc: Global, bytes: &[u8]) -> Result<Tokens, LexFault>
+fn tokens_from(alloc: Global, bytes: &[u8]) -> Result<Tokens<'_>, LexFault>
     requires { length bytes.now < 2 ^ 31 }
     ensures { Gives (λ t. (tokens_of t.kinds.items, t.spans.items)) result (lexed_from 0 0 bytes.now) }
 {
@@ -100,7 +101,7 @@ fn tokens_from(alloc: Global, bytes: &[u8]) -> Result<Tokens, LexFault>
 
 /// The tokens, or the first fault; more than 1,048,576 bytes are too long.
 #[tactic(auto, unfolding(crate::specs::Lexing::lexed))]
-fn cut(alloc: Global, bytes: &[u8]) -> Result<Tokens, LexFault>
+fn cut(alloc: Global, bytes: &[u8]) -> Result<Tokens<'_>, LexFault>
     ensures { Gives (λ t. (tokens_of t.kinds.items, t.spans.items)) result (lexed bytes.now) }
 {
     if MOST_BYTES < bytes.len() {
@@ -114,7 +115,7 @@ fn cut(alloc: Global, bytes: &[u8]) -> Result<Tokens, LexFault>
 
 /// The tokens of a pickle, or its first fault from the front. More than 1,048,576 bytes are `TooLong` at 1048576,
 /// whatever they are.
-pub fn lex(alloc: Global, bytes: &[u8]) -> Result<Tokens, LexFault>
+pub fn lex(alloc: Global, bytes: &[u8]) -> Result<Tokens<'_>, LexFault>
     ensures exact { Gives (λ t. (tokens_of t.kinds.items, t.spans.items)) result (lexed bytes.now) }
     ensures tokens { IfOk result (λ t. IsLexed bytes.now (tokens_of t.kinds.items, t.spans.items)) }
     ensures order { IfOk result (λ t. InOrder 0 t.spans.items) }

@@ -42,7 +42,7 @@ fn fault_of(stop: Stop, count: usize) -> ParseFault
 ///
 /// `Syntax`, `TooDeep` and `TooMany` come only where the tokens are no pickle. Which of them comes is not promised, beyond
 /// what the clauses say; `Syntax` names the first token at which no pickle can go on.
-pub fn parse(alloc: Global, tokens: &Tokens) -> Result<Pickle, ParseFault>
+pub fn parse<'t>(alloc: Global, tokens: &Tokens<'t>) -> Result<Pickle<'t>, ParseFault>
     ensures found { IfOk result (λ p. IsPickleOf (tokens_of tokens.now.kinds.items) (pickle_tree p)) }
     ensures refused { IfErr result (λ f. f ≢ Memory → IsPickle (tokens_of tokens.now.kinds.items) → ⊥) }
     ensures place { IfErr result (λ f. IsPlaceWithin (length tokens.now.kinds.items) f) }

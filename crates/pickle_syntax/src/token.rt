@@ -81,17 +81,17 @@ pub struct Number {
     pub signed: bool,
 }
 
-/// A token, without its place.
+/// A token, without its place. A name is a part of the pickle.
 #[derive(Drop)]
-pub enum Kind {
+pub enum Kind<'t> {
     Word(Word),
-    Name(Vec<u8>),
+    Name(&'t [u8]),
     Opener(Opener),
     Number(Number),
     /// The byte of a character such as `'a'`, of type `uint<8>`.
     Character(u8),
     /// The bytes of a text, its escapes resolved.
-    Text(Vec<u8>),
+    Text(Box<Vec<u8>>),
     Attribute(Attribute),
     Sign(Sign),
 }

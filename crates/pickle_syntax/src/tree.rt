@@ -49,47 +49,82 @@ pub enum Unit {
 
 /// An integer type as it is written, or a name.
 #[derive(Drop)]
-pub enum Reference {
+pub enum Reference<'t> {
     /// `int<N>`
     Int(Number),
     /// `uint<N>`
     Uint(Number),
-    Named(Vec<u8>),
+    Named(&'t [u8]),
 }
 
 /// The type that `as` converts to.
 #[derive(Drop)]
-pub enum Target {
-    Reference(Reference),
-    Offset(Reference, Unit),
+pub enum Target<'t> {
+    Reference(Reference<'t>),
+    Offset(Reference<'t>, Unit),
 }
 
 /// What follows an operand and has no operand of its own.
 #[derive(Drop)]
-pub enum Suffix {
+pub enum Suffix<'t> {
     /// `.NAME`
-    Select(Vec<u8>),
+    Select(&'t [u8]),
     /// `'length` or `'size`
     Attribute(Attribute),
     /// `# unit`
     Unit(Unit),
     /// `as TYPE`
-    Convert(Target),
+    Convert(Target<'t>),
 }
 
-/// An expression.
+/// An expression. What has several parts is kept behind one pointer, so that an expression is small.
+#[cycle(expressions)]
 #[derive(Drop)]
-pub enum Expression {
+pub enum Expression<'t> {
     Number(Number),
     Character(u8),
-    Text(Vec<u8>),
-    Name(Vec<u8>),
-    Bracket(Box<Expression>),
-    Prefix(Prefix, Box<Expression>),
-    Infix(Infix, Box<Expression>, Box<Expression>),
-    Choice(Box<Expression>, Box<Expression>, Box<Expression>),
-    Index(Box<Expression>, Box<Expression>),
-    After(Box<Expression>, Suffix),
+    Text(Box<Vec<u8>>),
+    Name(&'t [u8]),
+    Bracket(Box<Expression<'t>>),
+    Prefix(Prefix, Box<Expression<'t>>),
+    Infix(Box<Operation<'t>>),
+    Choice(Box<Selection<'t>>),
+    Index(Box<Element<'t>>),
+    After(Box<Suffixed<'t>>),
+}
+
+/// An operator between its operands.
+#[cycle(expressions)]
+#[derive(Drop)]
+pub struct Operation<'t> {
+    pub op: Infix,
+    pub left: Expression<'t>,
+    pub right: Expression<'t>,
+}
+
+/// `condition ? yes : no`
+#[cycle(expressions)]
+#[derive(Drop)]
+pub struct Selection<'t> {
+    pub condition: Expression<'t>,
+    pub yes: Expression<'t>,
+    pub no: Expression<'t>,
+}
+
+/// `operand[index]`
+#[cycle(expressions)]
+#[derive(Drop)]
+pub struct Element<'t> {
+    pub operand: Expression<'t>,
+    pub index: Expression<'t>,
+}
+
+/// An operand, and what follows it.
+#[cycle(expressions)]
+#[derive(Drop)]
+pub struct Suffixed<'t> {
+    pub operand: Expression<'t>,
+    pub suffix: Suffix<'t>,
 }
 
 /// The order of bytes that a prefix sets.
@@ -102,40 +137,40 @@ pub enum ByteOrder {
 /// A type as it is written.
 #[cycle(types)]
 #[derive(Drop)]
-pub enum Form {
-    Reference(Reference),
+pub enum Form<'t> {
+    Reference(Reference<'t>),
     String,
-    Offset(Reference, Unit),
+    Offset(Reference<'t>, Unit),
     /// A type with an array suffix, and the bound in it.
-    Array(Box<Form>, Option<Expression>),
+    Array(Box<Form<'t>>, Option<Expression<'t>>),
     /// Whether it is pinned, and its fields.
-    Struct(bool, Vec<Field>),
+    Struct(bool, Vec<Field<'t>>),
     /// A struct that is read as one integer of a type.
-    Integral(Reference, Vec<Field>),
-    Union(Vec<Field>),
+    Integral(Reference<'t>, Vec<Field<'t>>),
+    Union(Vec<Field<'t>>),
 }
 
 /// A field of a struct, or an alternative of a union, as it is written.
 #[cycle(types)]
 #[derive(Drop)]
-pub struct Field {
+pub struct Field<'t> {
     pub order: Option<ByteOrder>,
-    pub form: Form,
-    pub name: Option<Vec<u8>>,
-    pub constraint: Option<Expression>,
-    pub label: Option<Expression>,
-    pub condition: Option<Expression>,
+    pub form: Form<'t>,
+    pub name: Option<&'t [u8]>,
+    pub constraint: Option<Expression<'t>>,
+    pub label: Option<Expression<'t>>,
+    pub condition: Option<Expression<'t>>,
 }
 
 /// `type NAME = TYPE;`
 #[derive(Drop)]
-pub struct Declaration {
-    pub name: Vec<u8>,
-    pub form: Form,
+pub struct Declaration<'t> {
+    pub name: &'t [u8],
+    pub form: Form<'t>,
 }
 
 /// The declarations of a pickle, in order.
 #[derive(Drop)]
-pub struct Pickle {
-    pub declarations: Vec<Declaration>,
+pub struct Pickle<'t> {
+    pub declarations: Vec<Declaration<'t>>,
 }

@@ -88,25 +88,25 @@ impl<'n> Builder<'n> {
     fn declare(
         &mut self,
         slot: Option<u16>,
-        declaration: &'n Declaration,
+        declaration: &Declaration<'n>,
     ) -> Result<usize, FaultKind>
         requires ready { IsReady self.old }
         ensures adds { AddsType self.old self.new (declaration_tree declaration.now).name result (declared_type (known_types self.old) (declaration_tree declaration.now)) }
     {
-        if find_name(&self.names, &declaration.name).is_some() {
+        if find_name(&self.names, declaration.name).is_some() {
             return Err(FaultKind::DuplicateType);
         }
         let title = Title {
-            name: Some(declaration.name.as_slice()),
+            name: Some(declaration.name),
             slot,
         };
         let found = self.type_at(0, title, 64, &declaration.form)?;
-        self.add(&declaration.name, found)?;
+        self.add(declaration.name, found)?;
         Ok(found.node)
     }
 
     /// Adds the types of declarations, and gives the nodes of those that are no other names of earlier ones.
-    fn declare_all(&mut self, declarations: &'n [Declaration]) -> Result<Vec<usize>, TypeFault>
+    fn declare_all(&mut self, declarations: &[Declaration<'n>]) -> Result<Vec<usize>, TypeFault>
         requires ready { IsReady self.old }
         ensures ready { OnOk result (IsReady self.new) }
         ensures ok { OnOk result (declared (known_types self.old) (map declaration_tree declarations.now) ≡ Ok (known_types self.new)) }
@@ -159,7 +159,7 @@ pub struct Table {
 impl Table {
     /// The types that a pickle declares, where it is well typed and no type is deeper than 64.
     /// A table has at most 2^32 nodes and a union 2^16 alternatives; beyond either the answer is `Memory`.
-    pub fn build(alloc: Global, pickle: &Pickle) -> Result<Table, TypeFault>
+    pub fn build(alloc: Global, pickle: &Pickle<'_>) -> Result<Table, TypeFault>
         ensures sound { IfOk result IsSound }
         ensures ok { IfOk result (λ table. Declares predeclared (pickle_tree pickle.now) (types_of table)) }
         ensures len { IfOk result (λ table. count_of table ≡ length (pickle_tree pickle.now)) }

@@ -33,7 +33,7 @@ pub enum Refusal {
 }
 
 /// Reads the syntax of a pickle.
-pub fn read_syntax(alloc: Global, pickle: &[u8]) -> Result<Pickle, Refusal>
+pub fn read_syntax(alloc: Global, pickle: &[u8]) -> Result<Pickle<'_>, Refusal>
     ensures ok { IfOk result (λ p. HasSyntax pickle.now (pickle_tree p)) }
     ensures err { IfErr result (λ refusal. Refuses pickle.now refusal) }
 {
@@ -85,7 +85,7 @@ fn ill_typed(fault: TypeFault) -> Refusal
 }
 
 /// The place of the first byte of a token, or `count` behind the last token.
-fn place(tokens: &Tokens, token: usize, count: usize) -> usize
+fn place(tokens: &Tokens<'_>, token: usize, count: usize) -> usize
     ensures { result ≡ place_of tokens.now.spans.items token count }
 {
     match tokens.span(token) {

@@ -33,7 +33,7 @@ fn block_len(bytes: &[u8]) -> Option<usize>
     None
 }
 
-fn block_piece(at: usize, rest: &[u8]) -> Result<Piece, LexFault>
+fn block_piece(at: usize, rest: &[u8]) -> Result<Piece<'_>, LexFault>
     requires { length rest.now < 2 ^ 32 }
     ensures value { Gives seen result (block_piece at (block_len rest.now)) }
     ensures within { IfOk result (λ p. (1 ≤ p.len) × (p.len ≤ 2 + length rest.now)) }
@@ -52,7 +52,7 @@ fn block_piece(at: usize, rest: &[u8]) -> Result<Piece, LexFault>
 
 /// The comment that begins with a slash at `at` and goes on in `rest`, or the sign.
 #[tactic(auto, unfolding(crate::specs::Blanks::slash_piece))]
-pub fn slash_piece(at: usize, rest: &[u8]) -> Result<Piece, LexFault>
+pub fn slash_piece(at: usize, rest: &[u8]) -> Result<Piece<'_>, LexFault>
     requires { length rest.now < 2 ^ 32 }
     ensures value { Gives seen result (slash_piece at rest.now) }
     ensures within { IfOk result (λ p. (1 ≤ p.len) × (p.len ≤ 1 + length rest.now)) }

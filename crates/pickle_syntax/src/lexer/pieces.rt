@@ -17,14 +17,14 @@ use std::alloc::Global;
 
 /// A piece at the front: its token, none for a blank or a comment, and its length.
 #[derive(Drop)]
-pub struct Piece {
-    pub kind: Option<Kind>,
+pub struct Piece<'t> {
+    pub kind: Option<Kind<'t>>,
     pub len: usize,
 }
 
 /// The longest piece at the front, which stands at `at`; or the fault there.
 #[tactic(auto, unfolding(crate::specs::Lexing::piece_at))]
-pub fn piece_at(alloc: Global, at: usize, bytes: &[u8]) -> Result<Piece, LexFault>
+pub fn piece_at(alloc: Global, at: usize, bytes: &[u8]) -> Result<Piece<'_>, LexFault>
     requires { at + length bytes.now < 2 ^ 31 }
     ensures value { Gives seen result (piece_at at bytes.now) }
     ensures within { IfOk result (λ p. (1 ≤ p.len) × (p.len ≤ length bytes.now)) }
@@ -37,7 +37,7 @@ pub fn piece_at(alloc: Global, at: usize, bytes: &[u8]) -> Result<Piece, LexFaul
     };
     match starts(*b) {
         Start::Blank => Ok(Piece { kind: None, len: 1 }),
-        Start::Word => Ok(word_piece(alloc, bytes)?),
+        Start::Word => Ok(word_piece(bytes)),
         Start::Number => {
             let found = number_at(at, bytes)?;
             Ok(Piece {
@@ -48,7 +48,7 @@ pub fn piece_at(alloc: Global, at: usize, bytes: &[u8]) -> Result<Piece, LexFaul
         Start::Text => {
             let (text, end) = text_from(alloc, at, at + 1, rest)?;
             Ok(Piece {
-                kind: Some(Kind::Text(text)),
+                kind: Some(Kind::Text(Box::new(alloc, text)?)),
                 len: end - at,
             })
         }

@@ -65,7 +65,7 @@ fn single_sign(b: u8) -> Option<Sign>
 
 /// The longest sign that begins with the byte `b`, which stands at `at`, and goes on in `rest`.
 #[tactic(auto, unfolding(crate::specs::Signs::sign_piece))]
-pub fn sign_piece(at: usize, b: u8, rest: &[u8]) -> Result<Piece, LexFault>
+pub fn sign_piece(at: usize, b: u8, rest: &[u8]) -> Result<Piece<'_>, LexFault>
     ensures value { Gives seen result (sign_piece at b rest.now) }
     ensures within { IfOk result (λ p. (1 ≤ p.len) × (p.len ≤ 1 + length rest.now)) }
 {

@@ -146,7 +146,7 @@ fn character_at(bytes: &[u8]) -> Option<(u8, usize)>
 
 /// The character or the attribute that begins with an apostrophe at `at` and goes on in `rest`.
 #[tactic(auto, unfolding(crate::specs::Texts::apostrophe_piece))]
-pub fn apostrophe_piece(at: usize, rest: &[u8]) -> Result<Piece, LexFault>
+pub fn apostrophe_piece(at: usize, rest: &[u8]) -> Result<Piece<'_>, LexFault>
     requires { length rest.now < 2 ^ 32 }
     ensures value { Gives seen result (apostrophe_piece at rest.now) }
     ensures within { IfOk result (λ p. (1 ≤ p.len) × (p.len ≤ 1 + length rest.now)) }

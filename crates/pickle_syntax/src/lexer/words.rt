@@ -1,6 +1,6 @@
 //! Words, and the openers and attributes that are spelled out.
 
-ghost use Rattle.std.specs.Prelude.{◌≡◌, ◌<◌, ◌≤◌, length, slice_index, IfOk, IfSome, true};
+ghost use Rattle.std.specs.Prelude.{◌≡◌, ◌<◌, ◌≤◌, length, slice_index, IfSome, true};
 ghost use Rattle.pickle_syntax.specs.Tokens.{token_of};
 ghost use Rattle.pickle_syntax.specs.Bytes.{is_in};
 ghost use Rattle.pickle_syntax.specs.Words.{reserved_word, opener_at, attribute_at, word_token, word_piece, seen};
@@ -8,7 +8,6 @@ ghost use Rattle.pickle_syntax.specs.Words.{reserved_word, opener_at, attribute_
 use crate::lexer::bytes::{Class, begins_with, run_len, same};
 use crate::lexer::pieces::Piece;
 use crate::token::{Attribute, Kind, Opener, Word};
-use std::alloc::{AllocError, Global};
 
 #[tactic(auto, unfolding(crate::specs::Words::reserved_word))]
 fn reserved_word(word: &[u8]) -> Option<Word>
@@ -69,33 +68,32 @@ pub fn attribute_at(bytes: &[u8]) -> Option<(Attribute, usize)>
     }
 }
 
-fn word_token(alloc: Global, word: &[u8]) -> Result<Kind, AllocError>
-    ensures { IfOk result (λ k. token_of k ≡ word_token (reserved_word word.now) word.now) }
+fn word_token(word: &[u8]) -> Kind<'_>
+    ensures { token_of result ≡ word_token (reserved_word word.now) word.now }
 {
     match reserved_word(word) {
-        Some(reserved) => Ok(Kind::Word(reserved)),
-        None => Ok(Kind::Name(Vec::from_slice(alloc, word)?)),
+        Some(reserved) => Kind::Word(reserved),
+        None => Kind::Name(word),
     }
 }
 
 /// The word at the front, or the longer opener that begins with it.
 #[tactic(auto, unfolding(crate::specs::Words::word_piece))]
-pub fn word_piece(alloc: Global, bytes: &[u8]) -> Result<Piece, AllocError>
+pub fn word_piece(bytes: &[u8]) -> Piece<'_>
     requires some { 0 < length bytes.now }
     requires letter { is_in Class.Letter (slice_index bytes.now 0) ≡ true }
-    ensures value { IfOk result (λ p. seen p ≡ word_piece bytes.now) }
-    ensures within { IfOk result (λ p. (1 ≤ p.len) × (p.len ≤ length bytes.now)) }
+    ensures value { seen result ≡ word_piece bytes.now }
+    ensures within { (1 ≤ result.len) × (result.len ≤ length bytes.now) }
 {
     if let Some((opener, len)) = opener_at(bytes) {
-        return Ok(Piece {
+        return Piece {
             kind: Some(Kind::Opener(opener)),
             len,
-        });
+        };
     }
     let len = run_len(Class::Word, bytes);
-    let kind = word_token(alloc, &bytes[..len])?;
-    Ok(Piece {
-        kind: Some(kind),
+    Piece {
+        kind: Some(word_token(&bytes[..len])),
         len,
-    })
+    }
 }

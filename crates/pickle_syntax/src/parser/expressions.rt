@@ -12,9 +12,9 @@ ghost use Rattle.pickle_syntax.specs.ReadExpressions.{operand_by, operand_at, st
 
 use crate::parser::fault::Stop;
 use crate::parser::operators::{Next, Start, goes_on, level, level_of, next_of, start_of};
-use crate::parser::reading::{expect, name_at, target_at, unit_at};
+use crate::parser::reading::{expect, name_at, onward, target_at, unit_at};
 use crate::token::{Kind, Sign};
-use crate::tree::{Expression, Infix, Prefix, Suffix};
+use crate::tree::{Element, Expression, Infix, Operation, Prefix, Selection, Suffix, Suffixed};
 use std::alloc::Global;
 
 /// The least level of what an operator before its operand takes.
@@ -22,15 +22,19 @@ const PREFIX_LEVEL: u8 = 13;
 
 /// An expression, and its depth.
 #[derive(Drop)]
-pub struct Found {
-    pub expression: Expression,
+pub struct Found<'t> {
+    pub expression: Expression<'t>,
     pub depth: u8,
     ghost measured: { depth ≡ Limits.depth (expression_tree expression) },
 }
 
 /// What follows `(`.
 #[cycle(expressions)]
-fn bracketed(alloc: Global, room: u8, tokens: &[Kind]) -> Result<(Found, &[Kind]), Stop>
+fn bracketed<'a, 't>(
+    alloc: Global,
+    room: u8,
+    tokens: &'a [Kind<'t>],
+) -> Result<(Found<'t>, &'a [Kind<'t>]), Stop>
     requires { room < 255 }
     ensures read { Gives (λ x. (expression_tree x.0.expression, tokens_of x.1.now)) result (operand_by (expression_at room) (tokens_of tokens.now) start.Bracket) }
     ensures low { IfOk result (λ x. x.0.depth ≤ room + 1) }
@@ -44,7 +48,12 @@ fn bracketed(alloc: Global, room: u8, tokens: &[Kind]) -> Result<(Found, &[Kind]
 
 /// What follows an operator before its operand.
 #[cycle(expressions)]
-fn prefixed(alloc: Global, room: u8, op: Prefix, tokens: &[Kind]) -> Result<(Found, &[Kind]), Stop>
+fn prefixed<'a, 't>(
+    alloc: Global,
+    room: u8,
+    op: Prefix,
+    tokens: &'a [Kind<'t>],
+) -> Result<(Found<'t>, &'a [Kind<'t>]), Stop>
     requires { room < 255 }
     ensures read { Gives (λ x. (expression_tree x.0.expression, tokens_of x.1.now)) result (operand_by (expression_at room) (tokens_of tokens.now) (start.Prefix op)) }
     ensures low { IfOk result (λ x. x.0.depth ≤ room + 1) }
@@ -56,9 +65,9 @@ fn prefixed(alloc: Global, room: u8, op: Prefix, tokens: &[Kind]) -> Result<(Fou
 }
 
 /// A literal or a name, which has one level.
-fn leaf(expression: Expression) -> Found
+fn leaf<'t>(expression: Expression<'t>) -> Found<'t>
     requires { Limits.depth (expression_tree expression) ≡ 1 }
-    ensures expression { expression_tree result.expression ≡ expression_tree expression }
+    ensures expression { expression_tree result.expression ≡ expression_tree expression.entry }
     ensures depth { result.depth ≡ 1 }
 {
     Found {
@@ -70,7 +79,11 @@ fn leaf(expression: Expression) -> Found
 /// What begins an expression: a literal, a name, a bracket, or a prefix with its operand.
 #[cycle(expressions)]
 #[tactic(auto, unfolding(crate::specs::ReadExpressions::operand_at))]
-fn operand(alloc: Global, room: u8, tokens: &[Kind]) -> Result<(Found, &[Kind]), Stop>
+fn operand<'a, 't>(
+    alloc: Global,
+    room: u8,
+    tokens: &'a [Kind<'t>],
+) -> Result<(Found<'t>, &'a [Kind<'t>]), Stop>
     requires { room < 255 }
     ensures read { Gives (λ x. (expression_tree x.0.expression, tokens_of x.1.now)) result (operand_at (expression_at room) (tokens_of tokens.now)) }
     ensures low { IfOk result (λ x. x.0.depth ≤ room + 1) }
@@ -87,11 +100,12 @@ fn operand(alloc: Global, room: u8, tokens: &[Kind]) -> Result<(Found, &[Kind]),
                 Ok((leaf(expression), rest))
             }
             Kind::Text(bytes) => {
-                let expression = Expression::Text(Vec::from_slice(alloc, bytes)?);
+                let text = Vec::from_slice(alloc, bytes.as_slice())?;
+                let expression = Expression::Text(Box::new(alloc, text)?);
                 Ok((leaf(expression), rest))
             }
             Kind::Name(name) => {
-                let expression = Expression::Name(Vec::from_slice(alloc, name)?);
+                let expression = Expression::Name(name);
                 Ok((leaf(expression), rest))
             }
             Kind::Sign(sign) => match start_of(*sign) {
@@ -104,7 +118,7 @@ fn operand(alloc: Global, room: u8, tokens: &[Kind]) -> Result<(Found, &[Kind]),
     }
 }
 
-fn after_first(tokens: &[Kind]) -> &[Kind]
+fn after_first<'a, 't>(tokens: &'a [Kind<'t>]) -> &'a [Kind<'t>]
     ensures { tokens_of result.now ≡ drop 1 (tokens_of tokens.now) }
 {
     match tokens {
@@ -114,102 +128,111 @@ fn after_first(tokens: &[Kind]) -> &[Kind]
 }
 
 /// A suffix over what was read.
-fn with_suffix(alloc: Global, left: Found, suffix: Suffix) -> Result<Found, Stop>
+fn with_suffix<'t>(alloc: Global, left: Found<'t>, suffix: Suffix<'t>) -> Result<Found<'t>, Stop>
     requires { left.depth < 255 }
-    ensures made { IfOk result (λ x. (expression_tree x.expression ≡ After (expression_tree left.expression) (suffix_tree suffix)) × (x.depth ≡ left.depth + 1)) }
+    ensures made { IfOk result (λ x. (expression_tree x.expression ≡ After (expression_tree left.entry.expression) (suffix_tree suffix.entry)) × (x.depth ≡ left.entry.depth + 1)) }
     ensures fails { IfErr result (λ e. e ≡ Memory) }
 {
-    let expression = Expression::After(Box::new(alloc, left.expression)?, suffix);
-    Ok(Found {
-        expression,
-        depth: left.depth + 1,
-    })
+    let depth = left.depth + 1;
+    let suffixed = Suffixed {
+        operand: left.expression,
+        suffix,
+    };
+    let expression = Expression::After(Box::new(alloc, suffixed)?);
+    Ok(Found { expression, depth })
 }
 
 /// What follows an operator between two operands.
 #[cycle(expressions)]
 #[tactic(auto, unfolding(crate::specs::ReadExpressions::step_at))]
-fn infix<'a>(
+fn infix<'a, 't>(
     alloc: Global,
     room: u8,
-    left: Found,
+    left: Found<'t>,
     op: Infix,
-    rest: &'a [Kind],
-) -> Result<(Found, &'a [Kind]), Stop>
+    rest: &'a [Kind<'t>],
+) -> Result<(Found<'t>, &'a [Kind<'t>]), Stop>
     requires room { room < 255 }
     requires left { left.depth ≤ room }
-    ensures read { Gives (λ x. (expression_tree x.0.expression, tokens_of x.1.now)) result (step_at (expression_at room) (expression_tree left.expression) (tokens_of rest.now) (next.Infix op)) }
+    ensures read { Gives (λ x. (expression_tree x.0.expression, tokens_of x.1.now)) result (step_at (expression_at room) (expression_tree left.entry.expression) (tokens_of rest.now) (next.Infix op)) }
     ensures low { IfOk result (λ x. x.0.depth ≤ room + 1) }
 {
     let (right, rest) = expression(alloc, room, level(op) + 1, rest)?;
     let depth = left.depth.max(right.depth) + 1;
-    let left = Box::new(alloc, left.expression)?;
-    let right = Box::new(alloc, right.expression)?;
-    let expression = Expression::Infix(op, left, right);
+    let operation = Operation {
+        op,
+        left: left.expression,
+        right: right.expression,
+    };
+    let expression = Expression::Infix(Box::new(alloc, operation)?);
     Ok((Found { expression, depth }, rest))
 }
 
 /// What follows `?`.
 #[cycle(expressions)]
 #[tactic(auto, unfolding(crate::specs::ReadExpressions::step_at))]
-fn choice<'a>(
+fn choice<'a, 't>(
     alloc: Global,
     room: u8,
-    left: Found,
-    rest: &'a [Kind],
-) -> Result<(Found, &'a [Kind]), Stop>
+    left: Found<'t>,
+    rest: &'a [Kind<'t>],
+) -> Result<(Found<'t>, &'a [Kind<'t>]), Stop>
     requires room { room < 255 }
     requires left { left.depth ≤ room }
-    ensures read { Gives (λ x. (expression_tree x.0.expression, tokens_of x.1.now)) result (step_at (expression_at room) (expression_tree left.expression) (tokens_of rest.now) next.Choice) }
+    ensures read { Gives (λ x. (expression_tree x.0.expression, tokens_of x.1.now)) result (step_at (expression_at room) (expression_tree left.entry.expression) (tokens_of rest.now) next.Choice) }
     ensures low { IfOk result (λ x. x.0.depth ≤ room + 1) }
 {
     let (yes, rest) = expression(alloc, room, 1, rest)?;
     let rest = expect(rest, Sign::Colon)?;
     let (no, rest) = expression(alloc, room, 1, rest)?;
     let depth = left.depth.max(yes.depth.max(no.depth)) + 1;
-    let left = Box::new(alloc, left.expression)?;
-    let yes = Box::new(alloc, yes.expression)?;
-    let no = Box::new(alloc, no.expression)?;
-    let expression = Expression::Choice(left, yes, no);
+    let selection = Selection {
+        condition: left.expression,
+        yes: yes.expression,
+        no: no.expression,
+    };
+    let expression = Expression::Choice(Box::new(alloc, selection)?);
     Ok((Found { expression, depth }, rest))
 }
 
 /// What follows `[`.
 #[cycle(expressions)]
 #[tactic(auto, unfolding(crate::specs::ReadExpressions::step_at))]
-fn index<'a>(
+fn index<'a, 't>(
     alloc: Global,
     room: u8,
-    left: Found,
-    rest: &'a [Kind],
-) -> Result<(Found, &'a [Kind]), Stop>
+    left: Found<'t>,
+    rest: &'a [Kind<'t>],
+) -> Result<(Found<'t>, &'a [Kind<'t>]), Stop>
     requires room { room < 255 }
     requires left { left.depth ≤ room }
-    ensures read { Gives (λ x. (expression_tree x.0.expression, tokens_of x.1.now)) result (step_at (expression_at room) (expression_tree left.expression) (tokens_of rest.now) next.Index) }
+    ensures read { Gives (λ x. (expression_tree x.0.expression, tokens_of x.1.now)) result (step_at (expression_at room) (expression_tree left.entry.expression) (tokens_of rest.now) next.Index) }
     ensures low { IfOk result (λ x. x.0.depth ≤ room + 1) }
 {
     let (index, rest) = expression(alloc, room, 1, rest)?;
     let rest = expect(rest, Sign::CloseBracket)?;
     let depth = left.depth.max(index.depth) + 1;
-    let left = Box::new(alloc, left.expression)?;
-    let index = Box::new(alloc, index.expression)?;
-    let expression = Expression::Index(left, index);
+    let element = Element {
+        operand: left.expression,
+        index: index.expression,
+    };
+    let expression = Expression::Index(Box::new(alloc, element)?);
     Ok((Found { expression, depth }, rest))
 }
 
 /// The operator after an operand, with what follows it.
 #[cycle(expressions)]
 #[tactic(auto, unfolding(crate::specs::ReadExpressions::step_at))]
-fn step<'a>(
+fn step<'a, 't>(
     alloc: Global,
     room: u8,
-    left: Found,
+    left: Found<'t>,
     next: Next,
-    rest: &'a [Kind],
-) -> Result<(Found, &'a [Kind]), Stop>
+    rest: &'a [Kind<'t>],
+) -> Result<(Found<'t>, &'a [Kind<'t>]), Stop>
     requires room { room < 255 }
     requires left { left.depth ≤ room }
-    ensures read { Gives (λ x. (expression_tree x.0.expression, tokens_of x.1.now)) result (step_at (expression_at room) (expression_tree left.expression) (tokens_of rest.now) next) }
+    ensures read { Gives (λ x. (expression_tree x.0.expression, tokens_of x.1.now)) result (step_at (expression_at room) (expression_tree left.entry.expression) (tokens_of rest.now) next) }
     ensures low { IfOk result (λ x. x.0.depth ≤ room + 1) }
 {
     match next {
@@ -217,7 +240,7 @@ fn step<'a>(
         Next::Choice => choice(alloc, room, left, rest),
         Next::Index => index(alloc, room, left, rest),
         Next::Select => {
-            let (name, rest) = name_at(alloc, rest)?;
+            let (name, rest) = name_at(rest)?;
             let found = with_suffix(alloc, left, Suffix::Select(name))?;
             Ok((found, rest))
         }
@@ -231,7 +254,7 @@ fn step<'a>(
             Ok((found, rest))
         }
         Next::Convert => {
-            let (target, rest) = target_at(alloc, rest)?;
+            let (target, rest) = target_at(rest)?;
             let found = with_suffix(alloc, left, Suffix::Convert(target))?;
             Ok((found, rest))
         }
@@ -242,17 +265,17 @@ fn step<'a>(
 /// At most so many operators after an operand, each over those before it.
 #[cycle(expressions)]
 #[tactic(auto, using(crate::proofs::Chain::chain_steps))]
-fn chain<'a>(
+fn chain<'a, 't>(
     alloc: Global,
     room: u8,
     steps: u8,
     level: u8,
-    left: Found,
-    tokens: &'a [Kind],
-) -> Result<(Found, &'a [Kind]), Stop>
+    left: Found<'t>,
+    tokens: &'a [Kind<'t>],
+) -> Result<(Found<'t>, &'a [Kind<'t>]), Stop>
     requires room { room < 255 }
     requires left { left.depth ≤ room + 1 }
-    ensures read { Gives (λ x. (expression_tree x.0.expression, tokens_of x.1.now)) result (chain (expression_at room) room steps level (expression_tree left.expression) (tokens_of tokens.now)) }
+    ensures read { Gives (λ x. (expression_tree x.0.expression, tokens_of x.1.now)) result (chain (expression_at room) room steps level (expression_tree left.entry.expression) (tokens_of tokens.now)) }
     ensures low { IfOk result (λ x. x.0.depth ≤ room + 1) }
 {
     let mut left = left;
@@ -271,7 +294,7 @@ fn chain<'a>(
         }
         let (more, after) = step(alloc, room, left, next, after_first(rest))?;
         left = more;
-        rest = after;
+        rest = onward(after);
         steps -= 1;
     }
 }
@@ -279,12 +302,12 @@ fn chain<'a>(
 /// An expression of at least this level, no deeper than `room`.
 #[cycle(expressions)]
 #[tactic(auto, unfolding(crate::specs::ReadExpressions::expression_at))]
-pub fn expression(
+pub fn expression<'a, 't>(
     alloc: Global,
     room: u8,
     level: u8,
-    tokens: &[Kind],
-) -> Result<(Found, &[Kind]), Stop>
+    tokens: &'a [Kind<'t>],
+) -> Result<(Found<'t>, &'a [Kind<'t>]), Stop>
     ensures read { Gives (λ x. (expression_tree x.0.expression, tokens_of x.1.now)) result (expression_at room level (tokens_of tokens.now)) }
     ensures low { IfOk result (λ x. x.0.depth ≤ room) }
 {

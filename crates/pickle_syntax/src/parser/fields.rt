@@ -10,11 +10,11 @@ ghost use Rattle.pickle_syntax.specs.ReadForms.{present_at, part_at, condition_a
 
 use crate::parser::expressions::expression;
 use crate::parser::fault::Stop;
-use crate::parser::reading::{after_sign, after_word, expect};
+use crate::parser::reading::{after_sign, after_word, expect, onward};
 use crate::parser::types::form_at;
 use crate::token::{Kind, Sign, Word};
 use crate::tree::{ByteOrder, Expression, Field};
-use std::alloc::{AllocError, Global};
+use std::alloc::Global;
 
 /// How deep an expression may be.
 const EXPRESSION_DEPTH: u8 = 64;
@@ -24,23 +24,26 @@ const FIELDS: usize = 1024;
 
 /// A field, and the depth of its type.
 #[derive(Drop)]
-pub struct FoundField {
-    pub field: Field,
+pub struct FoundField<'t> {
+    pub field: Field<'t>,
     pub depth: u8,
     ghost measured: { depth ≡ Limits.form_depth (field_tree field).form },
 }
 
 /// Fields, and the depth of the deepest.
 #[derive(Drop)]
-pub struct FoundFields {
-    pub fields: Vec<Field>,
+pub struct FoundFields<'t> {
+    pub fields: Vec<Field<'t>>,
     pub depth: u8,
     ghost measured: { depth ≡ Limits.fields_depth (fields_tree fields.items) },
 }
 
 /// An expression that is there.
 #[tactic(auto, unfolding(crate::specs::ReadForms::present_at))]
-pub fn present_at(alloc: Global, tokens: &[Kind]) -> Result<(Option<Expression>, &[Kind]), Stop>
+pub fn present_at<'a, 't>(
+    alloc: Global,
+    tokens: &'a [Kind<'t>],
+) -> Result<(Option<Expression<'t>>, &'a [Kind<'t>]), Stop>
     ensures { Gives (λ x. (optional_tree x.0, tokens_of x.1.now)) result (present_at standard.expression_depth (tokens_of tokens.now)) }
 {
     let (found, rest) = expression(alloc, EXPRESSION_DEPTH, 1, tokens)?;
@@ -49,11 +52,11 @@ pub fn present_at(alloc: Global, tokens: &[Kind]) -> Result<(Option<Expression>,
 
 /// An expression behind this sign, or nothing.
 #[tactic(auto, unfolding(crate::specs::ReadForms::part_at))]
-fn part_at(
+fn part_at<'a, 't>(
     alloc: Global,
-    tokens: &[Kind],
+    tokens: &'a [Kind<'t>],
     sign: Sign,
-) -> Result<(Option<Expression>, &[Kind]), Stop>
+) -> Result<(Option<Expression<'t>>, &'a [Kind<'t>]), Stop>
     ensures { Gives (λ x. (optional_tree x.0, tokens_of x.1.now)) result (part_at standard.expression_depth sign (tokens_of tokens.now)) }
 {
     match after_sign(tokens, sign) {
@@ -64,7 +67,10 @@ fn part_at(
 
 /// An expression behind `if`, or nothing.
 #[tactic(auto, unfolding(crate::specs::ReadForms::condition_at))]
-fn condition_at(alloc: Global, tokens: &[Kind]) -> Result<(Option<Expression>, &[Kind]), Stop>
+fn condition_at<'a, 't>(
+    alloc: Global,
+    tokens: &'a [Kind<'t>],
+) -> Result<(Option<Expression<'t>>, &'a [Kind<'t>]), Stop>
     ensures { Gives (λ x. (optional_tree x.0, tokens_of x.1.now)) result (condition_at standard.expression_depth (tokens_of tokens.now)) }
 {
     match after_word(tokens, Word::If) {
@@ -74,7 +80,7 @@ fn condition_at(alloc: Global, tokens: &[Kind]) -> Result<(Option<Expression>, &
 }
 
 #[tactic(auto, unfolding(crate::specs::ReadForms::order_at))]
-fn order_at(tokens: &[Kind]) -> (Option<ByteOrder>, &[Kind])
+fn order_at<'a, 't>(tokens: &'a [Kind<'t>]) -> (Option<ByteOrder>, &'a [Kind<'t>])
     ensures { (result.0, tokens_of result.1.now) ≡ order_at (tokens_of tokens.now) }
 {
     match tokens {
@@ -85,27 +91,31 @@ fn order_at(tokens: &[Kind]) -> (Option<ByteOrder>, &[Kind])
 }
 
 #[tactic(auto, unfolding(crate::specs::ReadForms::optional_name_at))]
-fn optional_name_at(
-    alloc: Global,
-    tokens: &[Kind],
-) -> Result<(Option<Vec<u8>>, &[Kind]), AllocError>
-    ensures { IfOk result (λ x. (optional_bytes x.0, tokens_of x.1.now) ≡ optional_name_at (tokens_of tokens.now)) }
+fn optional_name_at<'a, 't>(tokens: &'a [Kind<'t>]) -> (Option<&'t [u8]>, &'a [Kind<'t>])
+    ensures { (optional_bytes result.0, tokens_of result.1.now) ≡ optional_name_at (tokens_of tokens.now) }
 {
-    match tokens {
-        [Kind::Name(name), rest @ ..] => Ok((Some(Vec::from_slice(alloc, name)?), rest)),
-        _ => Ok((None, tokens)),
+    let [first, rest @ ..] = tokens else {
+        return (None, tokens);
+    };
+    match first {
+        Kind::Name(name) => (Some(name), rest),
+        _ => (None, tokens),
     }
 }
 
 #[cycle(types)]
 #[tactic(auto, unfolding(crate::specs::ReadForms::field_at))]
-fn field_at(alloc: Global, room: u8, tokens: &[Kind]) -> Result<(FoundField, &[Kind]), Stop>
+fn field_at<'a, 't>(
+    alloc: Global,
+    room: u8,
+    tokens: &'a [Kind<'t>],
+) -> Result<(FoundField<'t>, &'a [Kind<'t>]), Stop>
     ensures read { Gives (λ x. (field_tree x.0.field, tokens_of x.1.now)) result (field_at standard (form_at standard room) (tokens_of tokens.now)) }
     ensures low { IfOk result (λ x. x.0.depth ≤ room) }
 {
     let (order, rest) = order_at(tokens);
     let (found, rest) = form_at(alloc, room, rest)?;
-    let (name, rest) = optional_name_at(alloc, rest)?;
+    let (name, rest) = optional_name_at(rest);
     let (constraint, rest) = part_at(alloc, rest, Sign::Colon)?;
     let (label, rest) = part_at(alloc, rest, Sign::At)?;
     let (condition, rest) = condition_at(alloc, rest)?;
@@ -130,7 +140,11 @@ fn field_at(alloc: Global, room: u8, tokens: &[Kind]) -> Result<(FoundField, &[K
 /// The fields up to the closing brace.
 #[cycle(types)]
 #[tactic(auto, using(crate::proofs::FieldSteps::field_steps))]
-pub fn fields_at(alloc: Global, room: u8, tokens: &[Kind]) -> Result<(FoundFields, &[Kind]), Stop>
+pub fn fields_at<'a, 't>(
+    alloc: Global,
+    room: u8,
+    tokens: &'a [Kind<'t>],
+) -> Result<(FoundFields<'t>, &'a [Kind<'t>]), Stop>
     ensures read { Gives (λ x. (fields_tree x.0.fields.items, tokens_of x.1.now)) result (fields_at standard (form_at standard room) standard.fields (tokens_of tokens.now)) }
     ensures low { IfOk result (λ x. x.0.depth ≤ room) }
 {
@@ -147,14 +161,18 @@ pub fn fields_at(alloc: Global, room: u8, tokens: &[Kind]) -> Result<(FoundField
         let (found, after) = field_at(alloc, room, rest)?;
         depth = depth.max(found.depth);
         fields.push(found.field)?;
-        rest = after;
+        rest = onward(after);
     }
 }
 
 /// The fields between two braces.
 #[cycle(types)]
 #[tactic(auto, unfolding(crate::specs::ReadForms::braced_at))]
-pub fn braced_at(alloc: Global, room: u8, tokens: &[Kind]) -> Result<(FoundFields, &[Kind]), Stop>
+pub fn braced_at<'a, 't>(
+    alloc: Global,
+    room: u8,
+    tokens: &'a [Kind<'t>],
+) -> Result<(FoundFields<'t>, &'a [Kind<'t>]), Stop>
     ensures read { Gives (λ x. (fields_tree x.0.fields.items, tokens_of x.1.now)) result (braced_at standard (form_at standard room) (tokens_of tokens.now)) }
     ensures low { IfOk result (λ x. x.0.depth ≤ room) }
 {

@@ -74,7 +74,7 @@ fn sign_next(sign: Sign) -> Next
 }
 
 /// The operator that the tokens begin with.
-pub fn next_of(tokens: &[Kind]) -> Next
+pub fn next_of(tokens: &[Kind<'_>]) -> Next
     ensures { result ≡ next_of (tokens_of tokens.now) }
 {
     match tokens {
@@ -139,7 +139,7 @@ pub fn goes_on(least: u8, next: Next, level: u8) -> bool
     least <= own_of(next) && left_of(next) <= level
 }
 
-fn level_of_suffix(suffix: &Suffix) -> u8
+fn level_of_suffix(suffix: &Suffix<'_>) -> u8
     ensures { result ≡ level_of_suffix (suffix_tree suffix.now) }
 {
     match suffix {
@@ -149,7 +149,7 @@ fn level_of_suffix(suffix: &Suffix) -> u8
 }
 
 /// The level of an expression.
-pub fn level_of(expression: &Expression) -> u8
+pub fn level_of(expression: &Expression<'_>) -> u8
     ensures { result ≡ level_of (expression_tree expression.now) }
 {
     match expression {
@@ -159,9 +159,9 @@ pub fn level_of(expression: &Expression) -> u8
         Expression::Name(_) => 15,
         Expression::Bracket(_) => 15,
         Expression::Prefix(_, _) => 13,
-        Expression::Infix(op, _, _) => level(*op),
-        Expression::Choice(_, _, _) => 1,
-        Expression::Index(_, _) => 14,
-        Expression::After(_, suffix) => level_of_suffix(suffix),
+        Expression::Infix(operation) => level(operation.op),
+        Expression::Choice(_) => 1,
+        Expression::Index(_) => 14,
+        Expression::After(suffixed) => level_of_suffix(&suffixed.suffix),
     }
 }

@@ -8,7 +8,7 @@ ghost use Rattle.pickle_syntax.specs.Reading.{Gives};
 ghost use Rattle.pickle_syntax.specs.ReadForms.{declaration_at, is_over, pickle_at};
 
 use crate::parser::fault::Stop;
-use crate::parser::reading::{expect, expect_word, name_at};
+use crate::parser::reading::{expect, expect_word, name_at, onward};
 use crate::parser::types::form_at;
 use crate::token::{Kind, Sign, Word};
 use crate::tree::{Declaration, Pickle};
@@ -21,11 +21,14 @@ const FORM_DEPTH: u8 = 64;
 const DECLARATIONS: usize = 4096;
 
 #[tactic(auto, unfolding(crate::specs::ReadForms::declaration_at))]
-fn declaration_at(alloc: Global, tokens: &[Kind]) -> Result<(Declaration, &[Kind]), Stop>
+fn declaration_at<'a, 't>(
+    alloc: Global,
+    tokens: &'a [Kind<'t>],
+) -> Result<(Declaration<'t>, &'a [Kind<'t>]), Stop>
     ensures { Gives (λ x. (declaration_tree x.0, tokens_of x.1.now)) result (declaration_at standard (tokens_of tokens.now)) }
 {
     let rest = expect_word(tokens, Word::Type)?;
-    let (name, rest) = name_at(alloc, rest)?;
+    let (name, rest) = name_at(rest)?;
     let rest = expect(rest, Sign::Assign)?;
     let (found, rest) = form_at(alloc, FORM_DEPTH, rest)?;
     let rest = expect(rest, Sign::Semicolon)?;
@@ -33,7 +36,7 @@ fn declaration_at(alloc: Global, tokens: &[Kind]) -> Result<(Declaration, &[Kind
     Ok((Declaration { name, form }, rest))
 }
 
-fn is_over(tokens: &[Kind]) -> bool
+fn is_over(tokens: &[Kind<'_>]) -> bool
     ensures { result ≡ is_over (tokens_of tokens.now) }
 {
     match tokens {
@@ -44,7 +47,7 @@ fn is_over(tokens: &[Kind]) -> bool
 
 /// The declarations up to the end of the tokens.
 #[tactic(auto, using(crate::proofs::DeclarationSteps::declaration_steps))]
-pub fn pickle_at(alloc: Global, tokens: &[Kind]) -> Result<Pickle, Stop>
+pub fn pickle_at<'t>(alloc: Global, tokens: &[Kind<'t>]) -> Result<Pickle<'t>, Stop>
     ensures { Gives pickle_tree result (pickle_at standard (tokens_of tokens.now)) }
 {
     let mut declarations = Vec::new(alloc);
@@ -58,6 +61,6 @@ pub fn pickle_at(alloc: Global, tokens: &[Kind]) -> Result<Pickle, Stop>
         }
         let (declaration, after) = declaration_at(alloc, rest)?;
         declarations.push(declaration)?;
-        rest = after;
+        rest = onward(after);
     }
 }

@@ -8,32 +8,45 @@ ghost use Rattle.pickle_syntax.specs.Reading.{Gives, IsRest, after_sign, after_w
 use crate::parser::fault::Stop;
 use crate::token::{Kind, Number, Opener, Sign, Word};
 use crate::tree::{Reference, Target, Unit};
-use std::alloc::Global;
+
+/// The same tokens. A loop goes on with what a call gives, not with a part of it.
+#[inline]
+pub fn onward<'a, 't>(tokens: &'a [Kind<'t>]) -> &'a [Kind<'t>]
+    ensures { result.now ≡ tokens.now }
+{
+    tokens
+}
 
 /// The tokens after this sign, where they begin with it.
 #[tactic(auto, unfolding(crate::specs::Reading::after_sign))]
-pub fn after_sign(tokens: &[Kind], sign: Sign) -> Option<&[Kind]>
+pub fn after_sign<'a, 't>(tokens: &'a [Kind<'t>], sign: Sign) -> Option<&'a [Kind<'t>]>
     ensures { IsRest result (after_sign sign (tokens_of tokens.now)) }
 {
-    match tokens {
-        [Kind::Sign(found), rest @ ..] if *found == sign => Some(rest),
+    let [first, rest @ ..] = tokens else {
+        return None;
+    };
+    match first {
+        Kind::Sign(found) if *found == sign => Some(rest),
         _ => None,
     }
 }
 
 /// The tokens after this word, where they begin with it.
 #[tactic(auto, unfolding(crate::specs::Reading::after_word))]
-pub fn after_word(tokens: &[Kind], word: Word) -> Option<&[Kind]>
+pub fn after_word<'a, 't>(tokens: &'a [Kind<'t>], word: Word) -> Option<&'a [Kind<'t>]>
     ensures { IsRest result (after_word word (tokens_of tokens.now)) }
 {
-    match tokens {
-        [Kind::Word(found), rest @ ..] if *found == word => Some(rest),
+    let [first, rest @ ..] = tokens else {
+        return None;
+    };
+    match first {
+        Kind::Word(found) if *found == word => Some(rest),
         _ => None,
     }
 }
 
 #[tactic(auto, unfolding(crate::specs::Reading::expect))]
-pub fn expect(tokens: &[Kind], sign: Sign) -> Result<&[Kind], Stop>
+pub fn expect<'a, 't>(tokens: &'a [Kind<'t>], sign: Sign) -> Result<&'a [Kind<'t>], Stop>
     ensures { Gives (λ x. tokens_of x.now) result (expect sign (tokens_of tokens.now)) }
 {
     match after_sign(tokens, sign) {
@@ -42,7 +55,7 @@ pub fn expect(tokens: &[Kind], sign: Sign) -> Result<&[Kind], Stop>
     }
 }
 
-pub fn expect_word(tokens: &[Kind], word: Word) -> Result<&[Kind], Stop>
+pub fn expect_word<'a, 't>(tokens: &'a [Kind<'t>], word: Word) -> Result<&'a [Kind<'t>], Stop>
     ensures { Gives (λ x. tokens_of x.now) result (needed (after_word word (tokens_of tokens.now))) }
 {
     match after_word(tokens, word) {
@@ -52,21 +65,27 @@ pub fn expect_word(tokens: &[Kind], word: Word) -> Result<&[Kind], Stop>
 }
 
 #[tactic(auto, unfolding(crate::specs::Reading::name_at))]
-pub fn name_at(alloc: Global, tokens: &[Kind]) -> Result<(Vec<u8>, &[Kind]), Stop>
-    ensures { Gives (λ x. (x.0.items, tokens_of x.1.now)) result (name_at (tokens_of tokens.now)) }
+pub fn name_at<'a, 't>(tokens: &'a [Kind<'t>]) -> Result<(&'t [u8], &'a [Kind<'t>]), Stop>
+    ensures { Gives (λ x. (x.0.now, tokens_of x.1.now)) result (name_at (tokens_of tokens.now)) }
 {
-    match tokens {
-        [Kind::Name(name), rest @ ..] => Ok((Vec::from_slice(alloc, name)?, rest)),
+    let [first, rest @ ..] = tokens else {
+        return Err(Stop::Syntax(0));
+    };
+    match first {
+        Kind::Name(name) => Ok((name, rest)),
         _ => Err(Stop::Syntax(tokens.len())),
     }
 }
 
 #[tactic(auto, unfolding(crate::specs::Reading::width_at))]
-fn width_at(tokens: &[Kind]) -> Result<(Number, &[Kind]), Stop>
+fn width_at<'a, 't>(tokens: &'a [Kind<'t>]) -> Result<(Number, &'a [Kind<'t>]), Stop>
     ensures { Gives (λ x. (x.0, tokens_of x.1.now)) result (width_at (tokens_of tokens.now)) }
 {
-    match tokens {
-        [Kind::Number(width), rest @ ..] => {
+    let [first, rest @ ..] = tokens else {
+        return Err(Stop::Syntax(0));
+    };
+    match first {
+        Kind::Number(width) => {
             let rest = expect(rest, Sign::Greater)?;
             Ok((*width, rest))
         }
@@ -76,18 +95,19 @@ fn width_at(tokens: &[Kind]) -> Result<(Number, &[Kind]), Stop>
 
 /// An integer type or a name.
 #[tactic(auto, unfolding(crate::specs::Reading::reference_at))]
-pub fn reference_at(alloc: Global, tokens: &[Kind]) -> Result<(Reference, &[Kind]), Stop>
+pub fn reference_at<'a, 't>(tokens: &'a [Kind<'t>]) -> Result<(Reference<'t>, &'a [Kind<'t>]), Stop>
     ensures { Gives (λ x. (reference_tree x.0, tokens_of x.1.now)) result (reference_at (tokens_of tokens.now)) }
 {
-    match tokens {
-        [Kind::Name(name), rest @ ..] => {
-            Ok((Reference::Named(Vec::from_slice(alloc, name)?), rest))
-        }
-        [Kind::Opener(Opener::Int), rest @ ..] => {
+    let [first, rest @ ..] = tokens else {
+        return Err(Stop::Syntax(0));
+    };
+    match first {
+        Kind::Name(name) => Ok((Reference::Named(name), rest)),
+        Kind::Opener(Opener::Int) => {
             let (width, rest) = width_at(rest)?;
             Ok((Reference::Int(width), rest))
         }
-        [Kind::Opener(Opener::Uint), rest @ ..] => {
+        Kind::Opener(Opener::Uint) => {
             let (width, rest) = width_at(rest)?;
             Ok((Reference::Uint(width), rest))
         }
@@ -107,25 +127,28 @@ fn unit_named(name: &[u8]) -> Option<Unit>
 
 /// The unit of an offset.
 #[tactic(auto, unfolding(crate::specs::Reading::unit_at))]
-pub fn unit_at(tokens: &[Kind]) -> Result<(Unit, &[Kind]), Stop>
+pub fn unit_at<'a, 't>(tokens: &'a [Kind<'t>]) -> Result<(Unit, &'a [Kind<'t>]), Stop>
     ensures { Gives (λ x. (x.0, tokens_of x.1.now)) result (unit_at (tokens_of tokens.now)) }
 {
-    match tokens {
-        [Kind::Name(name), rest @ ..] => match unit_named(name) {
+    let [first, rest @ ..] = tokens else {
+        return Err(Stop::Syntax(0));
+    };
+    match first {
+        Kind::Name(name) => match unit_named(name) {
             Some(unit) => Ok((unit, rest)),
             None => Err(Stop::Syntax(tokens.len())),
         },
-        [Kind::Number(bits), rest @ ..] => Ok((Unit::Bits(*bits), rest)),
+        Kind::Number(bits) => Ok((Unit::Bits(*bits), rest)),
         _ => Err(Stop::Syntax(tokens.len())),
     }
 }
 
 /// What follows `offset<`.
 #[tactic(auto, unfolding(crate::specs::Reading::offset_at))]
-fn offset_at(alloc: Global, tokens: &[Kind]) -> Result<(Target, &[Kind]), Stop>
+fn offset_at<'a, 't>(tokens: &'a [Kind<'t>]) -> Result<(Target<'t>, &'a [Kind<'t>]), Stop>
     ensures { Gives (λ x. (target_tree x.0, tokens_of x.1.now)) result (offset_at (tokens_of tokens.now)) }
 {
-    let (reference, rest) = reference_at(alloc, tokens)?;
+    let (reference, rest) = reference_at(tokens)?;
     let rest = expect(rest, Sign::Comma)?;
     let (unit, rest) = unit_at(rest)?;
     let rest = expect(rest, Sign::Greater)?;
@@ -134,13 +157,13 @@ fn offset_at(alloc: Global, tokens: &[Kind]) -> Result<(Target, &[Kind]), Stop>
 
 /// A type that `as` may convert to.
 #[tactic(auto, unfolding(crate::specs::Reading::target_at))]
-pub fn target_at(alloc: Global, tokens: &[Kind]) -> Result<(Target, &[Kind]), Stop>
+pub fn target_at<'a, 't>(tokens: &'a [Kind<'t>]) -> Result<(Target<'t>, &'a [Kind<'t>]), Stop>
     ensures { Gives (λ x. (target_tree x.0, tokens_of x.1.now)) result (target_at (tokens_of tokens.now)) }
 {
     match tokens {
-        [Kind::Opener(Opener::Offset), rest @ ..] => offset_at(alloc, rest),
+        [Kind::Opener(Opener::Offset), rest @ ..] => offset_at(rest),
         _ => {
-            let (reference, rest) = reference_at(alloc, tokens)?;
+            let (reference, rest) = reference_at(tokens)?;
             Ok((Target::Reference(reference), rest))
         }
     }

@@ -95,25 +95,26 @@ fn grouped(alloc: Global, expression: &Expression) -> Result<String, Fail> {
             let operand = grouped(alloc, operand)?;
             Ok(format!(in alloc; "({op:?} {operand})")?)
         }
-        Expression::Infix(op, left, right) => {
-            let left = grouped(alloc, left)?;
-            let right = grouped(alloc, right)?;
+        Expression::Infix(operation) => {
+            let op = operation.op;
+            let left = grouped(alloc, &operation.left)?;
+            let right = grouped(alloc, &operation.right)?;
             Ok(format!(in alloc; "({op:?} {left} {right})")?)
         }
-        Expression::Choice(condition, yes, no) => {
-            let condition = grouped(alloc, condition)?;
-            let yes = grouped(alloc, yes)?;
-            let no = grouped(alloc, no)?;
+        Expression::Choice(selection) => {
+            let condition = grouped(alloc, &selection.condition)?;
+            let yes = grouped(alloc, &selection.yes)?;
+            let no = grouped(alloc, &selection.no)?;
             Ok(format!(in alloc; "({condition} ? {yes} : {no})")?)
         }
-        Expression::Index(operand, index) => {
-            let operand = grouped(alloc, operand)?;
-            let index = grouped(alloc, index)?;
+        Expression::Index(element) => {
+            let operand = grouped(alloc, &element.operand)?;
+            let index = grouped(alloc, &element.index)?;
             Ok(format!(in alloc; "({operand} at {index})")?)
         }
-        Expression::After(operand, suffix) => {
-            let operand = grouped(alloc, operand)?;
-            suffixed(alloc, operand.as_str(), suffix)
+        Expression::After(after) => {
+            let operand = grouped(alloc, &after.operand)?;
+            suffixed(alloc, operand.as_str(), &after.suffix)
         }
     }
 }

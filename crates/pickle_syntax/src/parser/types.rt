@@ -17,15 +17,18 @@ use std::alloc::Global;
 
 /// A type, and its depth.
 #[derive(Drop)]
-pub struct FoundForm {
-    pub form: Form,
+pub struct FoundForm<'t> {
+    pub form: Form<'t>,
     pub depth: u8,
     ghost measured: { depth ≡ Limits.form_depth (form_tree form) },
 }
 
 /// What may stand in the brackets of an array, and the closing one.
 #[tactic(auto, unfolding(crate::specs::ReadForms::bound_at))]
-fn bound_at(alloc: Global, tokens: &[Kind]) -> Result<(Option<Expression>, &[Kind]), Stop>
+fn bound_at<'a, 't>(
+    alloc: Global,
+    tokens: &'a [Kind<'t>],
+) -> Result<(Option<Expression<'t>>, &'a [Kind<'t>]), Stop>
     ensures { Gives (λ x. (optional_tree x.0, tokens_of x.1.now)) result (bound_at standard.expression_depth (tokens_of tokens.now)) }
 {
     if let Some(rest) = after_sign(tokens, Sign::CloseBracket) {
@@ -36,8 +39,8 @@ fn bound_at(alloc: Global, tokens: &[Kind]) -> Result<(Option<Expression>, &[Kin
     Ok((bound, rest))
 }
 
-fn target_form(target: Target) -> Form
-    ensures { form_tree result ≡ target_form (target_tree target) }
+fn target_form<'t>(target: Target<'t>) -> Form<'t>
+    ensures { form_tree result ≡ target_form (target_tree target.entry) }
 {
     match target {
         Target::Reference(reference) => Form::Reference(reference),
@@ -48,7 +51,11 @@ fn target_form(target: Target) -> Form
 /// What follows `struct`.
 #[cycle(types)]
 #[tactic(auto, unfolding(crate::specs::ReadForms::struct_at))]
-fn struct_at(alloc: Global, room: u8, tokens: &[Kind]) -> Result<(FoundForm, &[Kind]), Stop>
+fn struct_at<'a, 't>(
+    alloc: Global,
+    room: u8,
+    tokens: &'a [Kind<'t>],
+) -> Result<(FoundForm<'t>, &'a [Kind<'t>]), Stop>
     requires { room < 255 }
     ensures read { Gives (λ x. (form_tree x.0.form, tokens_of x.1.now)) result (struct_at standard (form_at standard room) (tokens_of tokens.now)) }
     ensures low { IfOk result (λ x. x.0.depth ≤ room + 1) }
@@ -59,7 +66,7 @@ fn struct_at(alloc: Global, room: u8, tokens: &[Kind]) -> Result<(FoundForm, &[K
         let depth = found.depth + 1;
         return Ok((FoundForm { form, depth }, rest));
     }
-    let (reference, rest) = reference_at(alloc, tokens)?;
+    let (reference, rest) = reference_at(tokens)?;
     let (found, rest) = braced_at(alloc, room, rest)?;
     let form = Form::Integral(reference, found.fields);
     let depth = found.depth + 1;
@@ -69,7 +76,11 @@ fn struct_at(alloc: Global, room: u8, tokens: &[Kind]) -> Result<(FoundForm, &[K
 /// What follows `pinned`.
 #[cycle(types)]
 #[tactic(auto, unfolding(crate::specs::ReadForms::pinned_at))]
-fn pinned_at(alloc: Global, room: u8, tokens: &[Kind]) -> Result<(FoundForm, &[Kind]), Stop>
+fn pinned_at<'a, 't>(
+    alloc: Global,
+    room: u8,
+    tokens: &'a [Kind<'t>],
+) -> Result<(FoundForm<'t>, &'a [Kind<'t>]), Stop>
     requires { room < 255 }
     ensures read { Gives (λ x. (form_tree x.0.form, tokens_of x.1.now)) result (pinned_at standard (form_at standard room) (tokens_of tokens.now)) }
     ensures low { IfOk result (λ x. x.0.depth ≤ room + 1) }
@@ -84,46 +95,53 @@ fn pinned_at(alloc: Global, room: u8, tokens: &[Kind]) -> Result<(FoundForm, &[K
 /// A type without an array suffix.
 #[cycle(types)]
 #[tactic(auto, unfolding(crate::specs::ReadForms::base_at))]
-fn base_at(alloc: Global, room: u8, tokens: &[Kind]) -> Result<(FoundForm, &[Kind]), Stop>
+fn base_at<'a, 't>(
+    alloc: Global,
+    room: u8,
+    tokens: &'a [Kind<'t>],
+) -> Result<(FoundForm<'t>, &'a [Kind<'t>]), Stop>
     requires { room < 255 }
     ensures read { Gives (λ x. (form_tree x.0.form, tokens_of x.1.now)) result (base_at standard (form_at standard room) (tokens_of tokens.now)) }
     ensures low { IfOk result (λ x. x.0.depth ≤ room + 1) }
 {
     match tokens {
-        [Kind::Word(word), rest @ ..] => match word {
-            Word::String => {
-                let form = Form::String;
+        [] => Err(Stop::Syntax(0)),
+        [first, rest @ ..] => match first {
+            Kind::Word(word) => match word {
+                Word::String => {
+                    let form = Form::String;
+                    Ok((FoundForm { form, depth: 1 }, rest))
+                }
+                Word::Struct => struct_at(alloc, room, rest),
+                Word::Pinned => pinned_at(alloc, room, rest),
+                Word::Union => {
+                    let (found, rest) = braced_at(alloc, room, rest)?;
+                    let form = Form::Union(found.fields);
+                    let depth = found.depth + 1;
+                    Ok((FoundForm { form, depth }, rest))
+                }
+                _ => Err(Stop::Syntax(tokens.len())),
+            },
+            _ => {
+                let (target, rest) = target_at(tokens)?;
+                let form = target_form(target);
                 Ok((FoundForm { form, depth: 1 }, rest))
             }
-            Word::Struct => struct_at(alloc, room, rest),
-            Word::Pinned => pinned_at(alloc, room, rest),
-            Word::Union => {
-                let (found, rest) = braced_at(alloc, room, rest)?;
-                let form = Form::Union(found.fields);
-                let depth = found.depth + 1;
-                Ok((FoundForm { form, depth }, rest))
-            }
-            _ => Err(Stop::Syntax(tokens.len())),
         },
-        _ => {
-            let (target, rest) = target_at(alloc, tokens)?;
-            let form = target_form(target);
-            Ok((FoundForm { form, depth: 1 }, rest))
-        }
     }
 }
 
 /// The array suffix, if there is one, where the element may be so deep.
 #[tactic(auto, unfolding(crate::specs::ReadForms::suffix_at))]
-fn suffix_at(
+fn suffix_at<'a, 't>(
     alloc: Global,
     room: u8,
-    found: FoundForm,
-    tokens: &[Kind],
-) -> Result<(FoundForm, &[Kind]), Stop>
+    found: FoundForm<'t>,
+    tokens: &'a [Kind<'t>],
+) -> Result<(FoundForm<'t>, &'a [Kind<'t>]), Stop>
     requires room { room < 255 }
     requires low { found.depth ≤ room + 1 }
-    ensures read { Gives (λ x. (form_tree x.0.form, tokens_of x.1.now)) result (suffix_at standard room (form_tree found.form) (tokens_of tokens.now)) }
+    ensures read { Gives (λ x. (form_tree x.0.form, tokens_of x.1.now)) result (suffix_at standard room (form_tree found.entry.form) (tokens_of tokens.now)) }
     ensures low { IfOk result (λ x. x.0.depth ≤ room + 1) }
 {
     match after_sign(tokens, Sign::OpenBracket) {
@@ -143,7 +161,11 @@ fn suffix_at(
 /// A type, no deeper than `room`.
 #[cycle(types)]
 #[tactic(auto, unfolding(crate::specs::ReadForms::form_at))]
-pub fn form_at(alloc: Global, room: u8, tokens: &[Kind]) -> Result<(FoundForm, &[Kind]), Stop>
+pub fn form_at<'a, 't>(
+    alloc: Global,
+    room: u8,
+    tokens: &'a [Kind<'t>],
+) -> Result<(FoundForm<'t>, &'a [Kind<'t>]), Stop>
     ensures read { Gives (λ x. (form_tree x.0.form, tokens_of x.1.now)) result (form_at standard room (tokens_of tokens.now)) }
     ensures low { IfOk result (λ x. x.0.depth ≤ room) }
 {

@@ -264,7 +264,7 @@ fn convert(
     names: &Names,
     nodes: &Nodes,
     x: Meant,
-    target: &Target,
+    target: &Target<'_>,
 ) -> Result<Meant, FaultKind>
     requires table { IsTable nodes.now }
     requires names { AreNamed nodes.now names.now }
@@ -300,7 +300,7 @@ fn suffix(
     nodes: &Nodes,
     path: bool,
     x: Meant,
-    suffix: &Suffix,
+    suffix: &Suffix<'_>,
 ) -> Result<Meant, FaultKind>
     requires table { IsTable nodes.now }
     requires names { AreNamed nodes.now names.now }
@@ -318,14 +318,17 @@ fn suffix(
 }
 
 /// Whether an expression is a path: a name, a field or an element of a path, or a path in brackets.
-fn is_path(e: &Expression) -> bool
+fn is_path(e: &Expression<'_>) -> bool
     ensures { result ≡ is_path (expression_tree e.now) }
 {
     match e {
         Expression::Name(_) => true,
-        Expression::Bracket(e)
-        | Expression::Index(e, _)
-        | Expression::After(e, Suffix::Select(_)) => is_path(e),
+        Expression::Bracket(e) => is_path(e),
+        Expression::Index(element) => is_path(&element.operand),
+        Expression::After(suffixed) => match &suffixed.suffix {
+            Suffix::Select(_) => is_path(&suffixed.operand),
+            _ => false,
+        },
         _ => false,
     }
 }
@@ -338,7 +341,7 @@ pub fn typed(
     nodes: &Nodes,
     seen: &Scopes,
     levels: u8,
-    e: &Expression,
+    e: &Expression<'_>,
 ) -> Result<Meant, FaultKind>
     requires table { IsTable nodes.now }
     requires names { AreNamed nodes.now names.now }
@@ -349,7 +352,7 @@ pub fn typed(
     match e {
         Expression::Number(n) => number(*n),
         Expression::Character(byte) => Ok(character(*byte)),
-        Expression::Text(bytes) => text(alloc, bytes),
+        Expression::Text(bytes) => text(alloc, bytes.as_slice()),
         Expression::Name(word) => name(seen, levels, word),
         Expression::Bracket(e) => {
             let x = typed(alloc, names, nodes, seen, levels, e)?;
@@ -359,29 +362,30 @@ pub fn typed(
             let x = typed(alloc, names, nodes, seen, levels, e)?;
             prefix(alloc, nodes, *op, x)
         }
-        Expression::Infix(op, a, b) => {
-            let x = typed(alloc, names, nodes, seen, levels, a)?;
-            let y = typed(alloc, names, nodes, seen, levels, b)?;
-            infix(alloc, nodes, *op, x, y)
+        Expression::Infix(operation) => {
+            let x = typed(alloc, names, nodes, seen, levels, &operation.left)?;
+            let y = typed(alloc, names, nodes, seen, levels, &operation.right)?;
+            infix(alloc, nodes, operation.op, x, y)
         }
-        Expression::Choice(c, a, b) => {
-            let z = typed(alloc, names, nodes, seen, levels, c)?;
+        Expression::Choice(selection) => {
+            let z = typed(alloc, names, nodes, seen, levels, &selection.condition)?;
             integer(nodes, z.sort)?;
-            let x = typed(alloc, names, nodes, seen, levels, a)?;
-            let y = typed(alloc, names, nodes, seen, levels, b)?;
+            let x = typed(alloc, names, nodes, seen, levels, &selection.yes)?;
+            let y = typed(alloc, names, nodes, seen, levels, &selection.no)?;
             select(alloc, nodes, z, x, y)
         }
-        Expression::Index(e, i) => {
-            let x = typed(alloc, names, nodes, seen, levels, e)?;
+        Expression::Index(found) => {
+            let x = typed(alloc, names, nodes, seen, levels, &found.operand)?;
             let Some(element) = element_of(nodes, x.sort) else {
                 return Err(FaultKind::Mismatch);
             };
-            let y = typed(alloc, names, nodes, seen, levels, i)?;
+            let y = typed(alloc, names, nodes, seen, levels, &found.index)?;
             index(alloc, nodes, x, element, y)
         }
-        Expression::After(operand, after) => {
-            let x = typed(alloc, names, nodes, seen, levels, operand)?;
-            suffix(alloc, names, nodes, is_path(operand), x, after)
+        Expression::After(after) => {
+            let x = typed(alloc, names, nodes, seen, levels, &after.operand)?;
+            let path = is_path(&after.operand);
+            suffix(alloc, names, nodes, path, x, &after.suffix)
         }
     }
 }

@@ -18,47 +18,44 @@ use pickle_syntax::tree::{ByteOrder, Expression, Form};
 use std::alloc::Global;
 
 /// The type of a field as it is written.
-pub fn form_in(field: &tree::Field) -> &Form
+pub fn form_in<'a, 't>(field: &'a tree::Field<'t>) -> &'a Form<'t>
     ensures { form_tree result.now ≡ (field_tree field.now).form }
 {
     &field.form
 }
 
-pub fn name_in(field: &tree::Field) -> Option<&[u8]>
+pub fn name_in<'t>(field: &tree::Field<'t>) -> Option<&'t [u8]>
     ensures { bytes_now result ≡ (field_tree field.now).parts.name }
 {
-    match &field.name {
-        None => None,
-        Some(name) => Some(name.as_slice()),
-    }
+    field.name
 }
 
-pub fn order_in(field: &tree::Field) -> Option<ByteOrder>
+pub fn order_in(field: &tree::Field<'_>) -> Option<ByteOrder>
     ensures { result ≡ (field_tree field.now).parts.order }
 {
     field.order
 }
 
-pub fn label_in(field: &tree::Field) -> &Option<Expression>
+pub fn label_in<'a, 't>(field: &'a tree::Field<'t>) -> &'a Option<Expression<'t>>
     ensures { optional_tree result.now ≡ (field_tree field.now).parts.label }
 {
     &field.label
 }
 
-pub fn condition_in(field: &tree::Field) -> &Option<Expression>
+pub fn condition_in<'a, 't>(field: &'a tree::Field<'t>) -> &'a Option<Expression<'t>>
     ensures { optional_tree result.now ≡ (field_tree field.now).parts.condition }
 {
     &field.condition
 }
 
-pub fn constraint_in(field: &tree::Field) -> &Option<Expression>
+pub fn constraint_in<'a, 't>(field: &'a tree::Field<'t>) -> &'a Option<Expression<'t>>
     ensures { optional_tree result.now ≡ (field_tree field.now).parts.constraint }
 {
     &field.constraint
 }
 
 /// Whether a field may stand here, which has a width of bits or not.
-fn may_stand(place: Place, bits: bool, field: &tree::Field) -> bool
+fn may_stand(place: Place, bits: bool, field: &tree::Field<'_>) -> bool
     ensures { result ≡ may_stand place bits (field_tree field.now).parts }
 {
     let ordered = field.order.is_none() || bits;
@@ -76,7 +73,7 @@ fn may_stand(place: Place, bits: bool, field: &tree::Field) -> bool
     }
 }
 
-pub fn stand(place: Place, bits: bool, field: &tree::Field) -> Result<(), FaultKind>
+pub fn stand(place: Place, bits: bool, field: &tree::Field<'_>) -> Result<(), FaultKind>
     ensures { Gives (λ u. u) result (if_here (may_stand place bits (field_tree field.now).parts)) }
 {
     if may_stand(place, bits, field) {

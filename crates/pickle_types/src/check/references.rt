@@ -34,7 +34,7 @@ pub fn in_range(signed: bool, width: u64) -> Result<IntegerType, FaultKind>
 fn operand_referred(
     names: &Names,
     nodes: &Nodes,
-    reference: &Reference,
+    reference: &Reference<'_>,
 ) -> Result<Operand, FaultKind>
     requires table { IsTable nodes.now }
     requires names { AreNamed nodes.now names.now }
@@ -55,7 +55,7 @@ fn operand_referred(
 pub fn integer_referred(
     names: &Names,
     nodes: &Nodes,
-    reference: &Reference,
+    reference: &Reference<'_>,
 ) -> Result<IntegerType, FaultKind>
     requires table { IsTable nodes.now }
     requires names { AreNamed nodes.now names.now }
@@ -91,7 +91,7 @@ pub fn unit_bits(unit: Unit) -> Result<u32, FaultKind>
 pub fn offset_parts(
     names: &Names,
     nodes: &Nodes,
-    reference: &Reference,
+    reference: &Reference<'_>,
     unit: Unit,
 ) -> Result<(IntegerType, u32), FaultKind>
     requires table { IsTable nodes.now }
@@ -109,7 +109,7 @@ pub fn offset_parts(
 fn offset_referred(
     names: &Names,
     nodes: &Nodes,
-    reference: &Reference,
+    reference: &Reference<'_>,
     unit: Unit,
 ) -> Result<Scalar, FaultKind>
     requires table { IsTable nodes.now }
@@ -122,7 +122,7 @@ fn offset_referred(
 }
 
 /// The type that `as` converts to.
-pub fn target_type(names: &Names, nodes: &Nodes, target: &Target) -> Result<Scalar, FaultKind>
+pub fn target_type(names: &Names, nodes: &Nodes, target: &Target<'_>) -> Result<Scalar, FaultKind>
     requires table { IsTable nodes.now }
     requires names { AreNamed nodes.now names.now }
     ensures gives { Gives (λ s. s) result (target_type (names_of nodes.now names.now) (target_tree target.now)) }

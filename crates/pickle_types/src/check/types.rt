@@ -59,7 +59,7 @@ impl<'n> Builder<'n> {
     fn integer_expression(
         &self,
         levels: u8,
-        e: &Option<Expression>,
+        e: &Option<Expression<'_>>,
     ) -> Result<Option<Resolved>, FaultKind>
         requires table { IsTable self.now.nodes }
         requires names { AreNamed self.now.nodes self.now.names }
@@ -80,7 +80,7 @@ impl<'n> Builder<'n> {
     fn offset_expression(
         &self,
         levels: u8,
-        e: &Option<Expression>,
+        e: &Option<Expression<'_>>,
     ) -> Result<Option<Resolved>, FaultKind>
         requires table { IsTable self.now.nodes }
         requires names { AreNamed self.now.nodes self.now.names }
@@ -100,7 +100,7 @@ impl<'n> Builder<'n> {
 
     /// The bound of an array, which is an integer or an offset.
     #[tactic(auto, unfolding(crate::specs::Meaning::bound_expression))]
-    fn bound_expression(&self, levels: u8, e: &Option<Expression>) -> Result<Extent, FaultKind>
+    fn bound_expression(&self, levels: u8, e: &Option<Expression<'_>>) -> Result<Extent, FaultKind>
         requires table { IsTable self.now.nodes }
         requires names { AreNamed self.now.nodes self.now.names }
         requires seen { AreBelow (length self.now.nodes) levels self.now.seen }
@@ -123,7 +123,7 @@ impl<'n> Builder<'n> {
         &mut self,
         place: Place,
         itself: Seen<'n>,
-        e: &Option<Expression>,
+        e: &Option<Expression<'_>>,
     ) -> Result<Option<Resolved>, FaultKind>
         requires table { IsTable self.old.nodes }
         requires names { AreNamed self.old.nodes self.old.names }
@@ -152,7 +152,7 @@ impl<'n> Builder<'n> {
         levels: u8,
         found: Found,
         before: &FieldList,
-        written: &'n tree::Field,
+        written: &tree::Field<'n>,
     ) -> Result<Field, FaultKind>
         requires table { IsTable self.old.nodes }
         requires names { AreNamed self.old.nodes self.old.names }
@@ -255,7 +255,7 @@ impl<'n> Builder<'n> {
         &mut self,
         slot: Option<u16>,
         room: u8,
-        reference: &Reference,
+        reference: &Reference<'_>,
     ) -> Result<Found, FaultKind>
         requires table { IsTable self.old.nodes }
         requires names { AreNamed self.old.nodes self.old.names }
@@ -273,7 +273,7 @@ impl<'n> Builder<'n> {
     fn offset_at(
         &mut self,
         slot: Option<u16>,
-        reference: &Reference,
+        reference: &Reference<'_>,
         unit: Unit,
     ) -> Result<Found, FaultKind>
         requires table { IsTable self.old.nodes }
@@ -292,7 +292,7 @@ impl<'n> Builder<'n> {
         levels: u8,
         title: Title<'n>,
         room: u8,
-        form: &'n Form,
+        form: &Form<'n>,
     ) -> Result<Found, FaultKind>
         requires table { IsTable self.old.nodes }
         requires names { AreNamed self.old.nodes self.old.names }
@@ -323,8 +323,8 @@ impl<'n> Builder<'n> {
         levels: u8,
         title: Title<'n>,
         room: u8,
-        element: &'n Form,
-        bound: &Option<Expression>,
+        element: &Form<'n>,
+        bound: &Option<Expression<'_>>,
     ) -> Result<Found, FaultKind>
         requires table { IsTable self.old.nodes }
         requires names { AreNamed self.old.nodes self.old.names }
@@ -359,7 +359,7 @@ impl<'n> Builder<'n> {
         title: Title<'n>,
         room: u8,
         pinned: bool,
-        written: &'n [tree::Field],
+        written: &[tree::Field<'n>],
     ) -> Result<Found, FaultKind>
         requires table { IsTable self.old.nodes }
         requires names { AreNamed self.old.nodes self.old.names }
@@ -390,8 +390,8 @@ impl<'n> Builder<'n> {
         levels: u8,
         title: Title<'n>,
         room: u8,
-        reference: &Reference,
-        written: &'n [tree::Field],
+        reference: &Reference<'_>,
+        written: &[tree::Field<'n>],
     ) -> Result<Found, FaultKind>
         requires table { IsTable self.old.nodes }
         requires names { AreNamed self.old.nodes self.old.names }
@@ -427,7 +427,7 @@ impl<'n> Builder<'n> {
         levels: u8,
         title: Title<'n>,
         room: u8,
-        written: &'n [tree::Field],
+        written: &[tree::Field<'n>],
     ) -> Result<Found, FaultKind>
         requires table { IsTable self.old.nodes }
         requires names { AreNamed self.old.nodes self.old.names }
@@ -463,7 +463,7 @@ impl<'n> Builder<'n> {
         levels: u8,
         room: u8,
         before: &FieldList,
-        written: &'n tree::Field,
+        written: &tree::Field<'n>,
     ) -> Result<(Field, u8), FaultKind>
         requires table { IsTable self.old.nodes }
         requires names { AreNamed self.old.nodes self.old.names }
@@ -495,7 +495,7 @@ impl<'n> Builder<'n> {
         place: Place,
         levels: u8,
         room: u8,
-        written: &'n [tree::Field],
+        written: &[tree::Field<'n>],
     ) -> Result<(FieldList<'n>, u8), FaultKind>
         requires table { IsTable self.old.nodes }
         requires names { AreNamed self.old.nodes self.old.names }

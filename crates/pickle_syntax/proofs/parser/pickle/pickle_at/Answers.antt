@@ -13,6 +13,6 @@ declarations-preserved c =
     let num : 4096 - vec_len c.push.new.self ≡ 4096 - vec_len c.declarations.declarations - 1 = omega arith in
     let step = declarations_step standard (map declaration_tree c.declarations.declarations.items) (4096 - vec_len c.declarations.declarations) (tokens_of c.declarations.rest.now) (declaration_tree c.in_ok-declaration.declaration) (tokens_of c.in_ok-declaration.after.now) (omega arith) (sym c.is_over.ensures ∙ c.if-is_over.false) c.in_ok-declaration.ensures in
     record {
-      same = rw (c.in_ok-push.ensures.items, declarations_push c.declarations.declarations.items c.in_ok-declaration.declaration, num) (step ∙ c.declarations.invariant.same);
+      same = rw (c.in_ok-push.ensures.items, declarations_push c.declarations.declarations.items c.in_ok-declaration.declaration, num, c.onward-rest.ensures) (step ∙ c.declarations.invariant.same);
       few = omega arith;
     }
