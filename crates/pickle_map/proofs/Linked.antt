@@ -1,9 +1,9 @@
 -- What the links from a value lead to.
-use Rattle.std.proofs.Common.{◌≡◌, ℕ, ◌<◌, List, Option, Some, None, length, sym, ap, subst}
+use Rattle.std.proofs.Common.{◌≡◌, ℕ, ◌<◌, List, Option, Some, None, length, sym, subst}
 use Rattle.std.specs.Prelude.{slice_get, unwrap_or, IfSome}
 use Rattle.std.specs.Option.{option_map}
 use Rattle.pickle_map.specs.declared.store.slots.Node.{Node}
-use Rattle.pickle_map.specs.Slots.{Slots, links_of, value_at, IsSound, IsRead}
+use Rattle.pickle_map.specs.Slots.{Slots, value_at, IsSound}
 use Rattle.pickle_map.specs.Tree.{parts, part_at}
 use Rattle.pickle_map.specs.Linked.{node_links, links_from}
 use Rattle.pickle_map.proofs.Found.{read-node}
