@@ -1,16 +1,16 @@
 -- Calls that follow the plan of a clause, as it settles, and of a value with its constraint.
-use Rattle.std.proofs.Common.{◌≡◌, ℕ, ◌+◌, ◌<◌, ◌≤◌, Option, Some, Result, Ok, Err, sym, ap, subst, ◌∙◌, refl}
+use Rattle.std.proofs.Common.{◌≡◌, ℕ, ◌+◌, ◌<◌, ◌≤◌, Option, Some, Result, Ok, Err, subst, ◌∙◌}
 use Rattle.pickle_types.specs.Types.{Term}
 use Rattle.pickle_map.specs.declared.mapper.stop.Stop.{Stop}
 use Rattle.pickle_map.specs.declared.mapper.stop.Stop.TheVariants.{Fault, Limit, Device, Memory}
 use Rattle.pickle_map.specs.Values.{Value, Levels, pushed}
 use Rattle.pickle_map.specs.Clauses.{FaultAt, constraint, clause_steps}
 use Rattle.pickle_map.specs.Settles.{Settles}
-use Rattle.pickle_map.specs.Plan.{Plan, Ended, after, then_ok}
-use Rattle.pickle_map.specs.Follows.{World, Finish, Done, Follows}
+use Rattle.pickle_map.specs.Plan.{Plan, after, then_ok}
+use Rattle.pickle_map.specs.Follows.{World, Done, Follows}
 use Rattle.pickle_map.specs.Mapping.{constrained}
 use Rattle.pickle_map.specs.Stops.{stop_finish}
-use Rattle.pickle_map.proofs.Walks.{follow_done, follow_at, follow_after, follow_after_some, follow_then_ok, follow_stop}
+use Rattle.pickle_map.proofs.Walks.{follow_done, follow_after, follow_after_some, follow_then_ok, follow_stop}
 
 module _ {world : World} {limit limit' k j k' j' : ℕ} where
   -- a clause with its outcome

@@ -1,11 +1,10 @@
 -- What lists of values take, and their open values' levels.
-use Rattle.std.proofs.Common.{◌≡◌, ℕ, zero, suc, ◌+◌, ◌-◌, ◌<◌, ◌≤◌, List, [], ◌∷◌, ◌++◌, Option, Some, None, length, take, drop, map, refl, sym, ◌∙◌, ap, subst, arith, add_assoc, zero-add}
-use Rattle.std.proofs.lemmas.List.{append_assoc, append-nil, length-append, length-take, length-drop, length_push, take-append-le, drop-append-le, drop_at, take_at, take_all, drop_all, take-take, take-append-drop}
-use Rattle.pickle_map.specs.declared.store.slots.Node.{Node}
+use Rattle.std.proofs.Common.{◌≡◌, ◌+◌, ◌≤◌, List, [], ◌∷◌, ◌++◌, Option, Some, None, length, take, drop, refl, sym, ◌∙◌, ap, subst, arith, zero-add}
+use Rattle.std.proofs.lemmas.List.{append-nil, length-take, drop-append-le, drop_at, take_all, take-take, take-append-drop}
 use Rattle.pickle_map.specs.declared.store.slots.Marks.{Marks}
-use Rattle.pickle_map.specs.Tree.{Value, Tree, Label, parts_of, bytes_of}
-use Rattle.pickle_map.specs.Levels.{Levels, top_of, outer_of, extended, pushed, nodes_in_parts, links_in_parts, bytes_in_parts, level_nodes, level_links, level_bytes, total_nodes, total_links, total_pending, total_bytes}
-use Rattle.pickle_map.specs.Slots.{Slots, stack, IsSound, cut_to, marks_of, root_marks, IsWithin, level_of, IsLevel, innermost, AreLevels, levels_at, Adds}
+use Rattle.pickle_map.specs.Tree.{Value, parts_of}
+use Rattle.pickle_map.specs.Levels.{extended, nodes_in_parts, links_in_parts, bytes_in_parts, level_nodes, level_links, level_bytes}
+use Rattle.pickle_map.specs.Slots.{Slots, stack, IsSound, cut_to, marks_of, root_marks, IsWithin, level_of, IsLevel, AreLevels, levels_at, Adds}
 use Rattle.pickle_map.proofs.Grown.{length-stack, stack-cut}
 
 pub level_nodes-append : (xs ys : List (Option Value)) → level_nodes (xs ++ ys) ≡ level_nodes xs + level_nodes ys

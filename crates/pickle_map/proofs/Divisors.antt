@@ -1,5 +1,5 @@
 -- Euclid's algorithm.
-use Rattle.std.proofs.Common.{◌≡◌, ℕ, zero, suc, ◌+◌, ◌-◌, ◌<◌, ◌≤◌, ◌%◌, refl, ap, arith}
+use Rattle.std.proofs.Common.{◌≡◌, ℕ, zero, suc, ◌-◌, ◌<◌, ◌%◌, refl, arith}
 use Rattle.pickle_map.specs.Arithmetic.{divisor_within}
 
 pub divisor_done : (n a : ℕ) → 0 < n → divisor_within n a 0 ≡ a

@@ -1,12 +1,11 @@
 -- Indices that lead to no element.
-use Rattle.std.proofs.Common.{◌≡◌, ℕ, ◌<◌, ◌≤◌, length, ℤ, pos, negsuc, ◌<ℤ◌, ◌≤ℤ◌, true, false, Err, refl, ap, arith}
-use Rattle.std.specs.Prelude.{int_lt, int_le, nat_lt}
+use Rattle.std.proofs.Common.{◌≡◌, ℕ, ◌≤◌, length, ℤ, pos, negsuc, ◌<ℤ◌, ◌≤ℤ◌, Err, refl, arith}
 use Rattle.std.proofs.lemmas.Int.{ints}
 use Rattle.std.proofs.lemmas.Bool.{le-ltb}
 use Rattle.pickle_map.specs.declared.faults.MapFaultKind.TheVariants.{Index}
 use Rattle.pickle_map.specs.declared.value.Kind.TheVariants.{Array}
 use Rattle.pickle_map.specs.Kinds.{kind_of}
-use Rattle.pickle_map.specs.Tree.{Value, Tree, Label, IntegerLabel, OffsetLabel, TextLabel, ArrayLabel, StructLabel, UnionLabel, label, parts, options_of}
+use Rattle.pickle_map.specs.Tree.{Value, Tree, IntegerLabel, OffsetLabel, TextLabel, ArrayLabel, StructLabel, UnionLabel, label, parts, options_of}
 use Rattle.pickle_map.specs.Operands.{tree_element}
 
 pub element_before : (v : Value) (index : ℤ) → kind_of (label v) ≡ Array → index <ℤ pos 0 → tree_element v index ≡ Err Index

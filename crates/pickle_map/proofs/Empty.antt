@@ -1,7 +1,6 @@
 -- An empty store.
-use Rattle.std.proofs.Common.{◌≡◌, ℕ, ◌≤◌, List, [], ◌∷◌, length, reverse, refl, ap, subst, arith, sym}
+use Rattle.std.proofs.Common.{◌≡◌, List, [], reverse, refl, subst, arith, sym}
 use Rattle.pickle_map.specs.declared.store.slots.Marks.{Marks}
-use Rattle.pickle_map.specs.Levels.{level_nodes, level_links, level_bytes}
 use Rattle.pickle_map.specs.Slots.{Slots, no_slots, stack, trees, IsSound, IsLevel, root_marks, AreLevels}
 
 pub no_slots-sound : IsSound no_slots

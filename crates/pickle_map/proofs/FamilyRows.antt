@@ -1,14 +1,12 @@
 -- Rows of links and bytes, and what stays of them as a store grows.
-use Rattle.std.proofs.Common.{◌≡◌, ℕ, zero, suc, ◌+◌, ◌-◌, ◌*◌, ◌<◌, ◌≤◌, List, [], ◌∷◌, ◌++◌, Option, Some, None, length, take, drop, map, refl, sym, ◌∙◌, ap, subst, arith, get_or}
-use Rattle.std.specs.Prelude.{slice_get, slice_index, slice_index_or}
-use Rattle.std.proofs.lemmas.List.{append_assoc, append-nil, length-append, length-drop, length_push, take-append-le, drop-append-le, drop_at, take_at, take_all, get_or_append_left, take_rest}
-use Rattle.std.proofs.Math.Seq.{get_or-append_seam}
-use Rattle.pickle_map.specs.declared.store.slots.Node.{Node}
+use Rattle.std.proofs.Common.{◌≡◌, ℕ, zero, suc, ◌+◌, ◌-◌, ◌*◌, ◌<◌, ◌≤◌, List, [], ◌∷◌, ◌++◌, Option, Some, length, take, drop, refl, ◌∙◌, ap, arith}
+use Rattle.std.specs.Prelude.{slice_get, slice_index}
+use Rattle.std.proofs.lemmas.List.{length-append, length-drop, take-append-le, drop-append-le, drop_at, take_all, get_or_append_left}
 use Rattle.pickle_map.specs.declared.store.slots.Family.{Family}
 use Rattle.pickle_map.specs.declared.store.slots.Shape.{Shape}
 use Rattle.pickle_map.specs.declared.store.slots.Shape.TheVariants.{Integer, Offset, Text, Array, Struct, Union}
 use Rattle.pickle_map.specs.Tree.{TextLabel}
-use Rattle.pickle_map.specs.Slots.{Slots, part, family_at, first_link, family_links, first_byte, text_bytes, label_in, size_in, links_of, IsRow, IsFamily, IsTextRow, IsContent}
+use Rattle.pickle_map.specs.Slots.{Slots, part, family_at, first_link, family_links, first_byte, text_bytes, label_in, size_in, links_of, IsFamily, IsTextRow, IsContent}
 
 pub slice_get-append : {A : Type 0} (xs ys : List A) (i : ℕ) → i < length xs → slice_get (xs ++ ys) i ≡ slice_get xs i
 slice_get-append [] ys i h = absurd (omega arith)

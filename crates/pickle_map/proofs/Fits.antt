@@ -1,14 +1,13 @@
 -- What the open values take, and when there is room for more.
-use Rattle.std.proofs.Common.{◌≡◌, ℕ, ◌+◌, ◌-◌, ◌≤◌, List, [], ◌∷◌, ◌++◌, Option, Some, None, length, take, drop, refl, sym, ◌∙◌, ap, subst, arith}
-use Rattle.std.proofs.lemmas.List.{length-append, length-take, length-drop, append-nil}
+use Rattle.std.proofs.Common.{◌≡◌, ℕ, ◌+◌, ◌-◌, ◌≤◌, List, [], ◌∷◌, ◌++◌, Option, Some, length, refl, sym, ◌∙◌, ap, subst, arith}
+use Rattle.std.proofs.lemmas.List.{length-append, length-drop}
 use Rattle.pickle_map.specs.declared.store.slots.Marks.{Marks}
 use Rattle.pickle_map.specs.declared.store.slots.Shape.{Shape}
-use Rattle.pickle_map.specs.Tree.{Value, Tree, parts_of, bytes_of, text_value}
+use Rattle.pickle_map.specs.Tree.{Value, Tree, parts_of}
 use Rattle.pickle_map.specs.Levels.{Levels, top_of, outer_of, extended, pushed, text_level, level_nodes, level_links, level_bytes, total_nodes, total_links, total_pending, total_bytes, FitsIn}
-use Rattle.pickle_map.specs.Slots.{Slots, no_slots, stack, IsSound, cut_to, marks_of, root_marks, IsWithin, level_of, IsLevel, innermost, AreLevels, levels_at, Adds, IsComposite, composite_label, with_family, HasRoom}
+use Rattle.pickle_map.specs.Slots.{Slots, no_slots, stack, IsSound, cut_to, root_marks, level_of, IsLevel, innermost, AreLevels, levels_at, Adds, composite_label, HasRoom}
 use Rattle.pickle_map.proofs.Grown.{length-stack}
-use Rattle.pickle_map.proofs.Counted.{level_nodes-append, level_links-append, level_bytes-append, nodes_in_parts-of, links_in_parts-of, bytes_in_parts-of, marks-cut, levels-more, levels_at-more, levels-above, levels_at-above}
-use Rattle.pickle_map.proofs.Placed.{family-adds}
+use Rattle.pickle_map.proofs.Counted.{level_nodes-append, level_links-append, level_bytes-append, nodes_in_parts-of, links_in_parts-of, marks-cut, levels-more, levels_at-more, levels-above, levels_at-above}
 use Rattle.pickle_map.proofs.Empty.{no_slots-levels, no_slots-sound}
 
 -- the slots of the open values are all there are

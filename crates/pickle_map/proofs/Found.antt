@@ -1,13 +1,12 @@
 -- What is read of a sound store.
-use Rattle.std.proofs.Common.{◌≡◌, ℕ, zero, suc, ◌+◌, ◌-◌, ◌*◌, ◌<◌, ◌≤◌, List, [], ◌∷◌, ◌++◌, Option, Some, None, length, take, drop, map, refl, sym, ◌∙◌, ap, subst, arith, zero-add}
-use Rattle.std.specs.Prelude.{slice_get, slice_index, unwrap_or, IfSome, slice_index_or}
+use Rattle.std.proofs.Common.{◌≡◌, ℕ, zero, suc, ◌+◌, ◌<◌, ◌≤◌, List, [], ◌∷◌, Option, Some, None, length, map, refl, sym, ◌∙◌, ap, subst, arith, zero-add}
+use Rattle.std.specs.Prelude.{slice_get, unwrap_or, IfSome}
 use Rattle.std.specs.Option.{option_map}
-use Rattle.std.proofs.lemmas.List.{length-take, length-drop, length-map, take-map, drop-map}
-use Rattle.std.proofs.lemmas.Option.{slice_get-get_or, get_or_from_slice_get, slice_get_within, slice_get_past, slice_get-map}
+use Rattle.std.proofs.lemmas.List.{length-map}
+use Rattle.std.proofs.lemmas.Option.{slice_get-get_or, get_or_from_slice_get, slice_get_within, slice_get-map}
 use Rattle.pickle_map.specs.declared.store.slots.Node.{Node}
-use Rattle.pickle_map.specs.declared.store.slots.Shape.{Shape}
-use Rattle.pickle_map.specs.Tree.{Label, Value, Tree, ArrayLabel, End, Parts, parts_of, options_of, label, start, size, parts, part_at}
-use Rattle.pickle_map.specs.Slots.{Slots, part, opened, label_in, size_in, links_of, tree_of, trees_from, trees, value_at, stack, LinksBelow, IsContent, IsRead, IsNodeAt, AreNodesFrom, IsSound}
+use Rattle.pickle_map.specs.Tree.{Value, Tree, ArrayLabel, End, parts_of, options_of, label, start, size, parts}
+use Rattle.pickle_map.specs.Slots.{Slots, opened, links_of, tree_of, trees, value_at, LinksBelow, IsRead, IsNodeAt, AreNodesFrom, IsSound}
 use Rattle.pickle_map.proofs.Grown.{get-trees_from, length-trees}
 
 pub options-parts : (os : List (Option Value)) → options_of (parts_of os) ≡ os

@@ -1,7 +1,7 @@
 -- How the values of a store grow.
-use Rattle.std.proofs.Common.{◌≡◌, ℕ, zero, suc, ◌+◌, ◌<◌, ◌≤◌, List, [], ◌∷◌, ◌++◌, Option, Some, None, length, take, drop, map, refl, sym, ◌∙◌, ap, subst, arith, add-zero}
+use Rattle.std.proofs.Common.{◌≡◌, ℕ, zero, suc, ◌+◌, ◌≤◌, List, [], ◌∷◌, ◌++◌, Option, Some, None, length, take, drop, map, refl, sym, ◌∙◌, ap, subst, arith, add-zero}
 use Rattle.std.specs.Prelude.{slice_get}
-use Rattle.std.proofs.lemmas.List.{append_assoc, append-nil, length-append, length_push, take-append-le, map-append, take-map, drop-map, length-map, take-append-drop, length-take}
+use Rattle.std.proofs.lemmas.List.{append_assoc, append-nil, length_push, map-append, take-map, length-map, take-append-drop}
 use Rattle.pickle_map.specs.declared.store.slots.Node.{Node}
 use Rattle.pickle_map.specs.declared.store.slots.Marks.{Marks}
 use Rattle.pickle_map.specs.Tree.{Value, Tree, parts_of}

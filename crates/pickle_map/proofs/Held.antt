@@ -1,12 +1,12 @@
 -- What the calls of a store do to its open values.
-use Rattle.std.proofs.Common.{◌≡◌, ℕ, ◌+◌, ◌-◌, ◌<◌, ◌≤◌, List, [], ◌∷◌, ◌++◌, Option, Some, None, length, max, take, drop, refl, sym, ◌∙◌, ap, subst, arith}
+use Rattle.std.proofs.Common.{◌≡◌, ℕ, ◌+◌, ◌-◌, ◌≤◌, List, [], ◌∷◌, Some, None, length, max, refl, sym, ◌∙◌, ap, arith}
 use Rattle.pickle_map.specs.declared.store.slots.Marks.{Marks}
 use Rattle.pickle_map.specs.declared.store.slots.Shape.{Shape}
-use Rattle.pickle_map.specs.Tree.{Value, Tree, parts_of, text_value}
-use Rattle.pickle_map.specs.Levels.{Levels, no_values, top_of, outer_of, extended, pushed, text_level, level_nodes, level_links, level_bytes, FitsIn}
-use Rattle.pickle_map.specs.Slots.{Slots, Held, empty, levels, stack, cut_to, marks_of, level_of, innermost, AreLevels, levels_at, Adds, IsNumber, number_value, IsComposite, composite_label, with_leaf, with_family, with_absent, with_text, HasRoom, around}
-use Rattle.pickle_map.proofs.Counted.{levels-more, levels_at-more, levels-above, levels_at-above, levels-sound, Adds-none, Adds-level, cut-all}
-use Rattle.pickle_map.proofs.Placed.{number-adds, number-nodes, text-adds, family-adds, absent-adds}
+use Rattle.pickle_map.specs.Tree.{Tree, parts_of}
+use Rattle.pickle_map.specs.Levels.{no_values, top_of, outer_of, extended, pushed, FitsIn}
+use Rattle.pickle_map.specs.Slots.{Slots, Held, empty, levels, stack, cut_to, marks_of, level_of, innermost, AreLevels, levels_at, Adds, IsNumber, number_value, IsComposite, composite_label, with_leaf, with_family, with_absent, HasRoom, around}
+use Rattle.pickle_map.proofs.Counted.{levels-more, levels_at-more, levels-above, levels_at-above, levels-sound, Adds-none, Adds-level}
+use Rattle.pickle_map.proofs.Placed.{number-adds, number-nodes, family-adds, absent-adds}
 use Rattle.pickle_map.proofs.Fits.{room-more, room-whole, levels-replaced, levels_at-replaced, innermost-level}
 
 -- numbers

@@ -1,15 +1,15 @@
 -- What the calls of a store do to the levels that it keeps.
-use Rattle.std.proofs.Common.{◌≡◌, ℕ, zero, suc, ◌+◌, ◌-◌, ◌<◌, ◌≤◌, List, [], ◌∷◌, ◌++◌, map, length, Option, Some, None, Result, Ok, Err, refl, sym, ap, subst, ◌∙◌, arith}
+use Rattle.std.proofs.Common.{◌≡◌, ℕ, ◌+◌, List, [], ◌∷◌, Option, Some, Result, Ok, Err, ap, subst, ◌∙◌}
 use Rattle.std.specs.Prelude.{OnOk, OnErr, IsOk}
 use Rattle.std.proofs.lemmas.Bool.{false≢true}
 use Rattle.pickle_types.specs.declared.table.Node.{Node}
 use Rattle.pickle_map.specs.Tree as tree
 use Rattle.pickle_map.specs.Levels as stored
 use Rattle.pickle_map.specs.Slots.{Held, levels}
-use Rattle.pickle_map.specs.Values.{Label, Value, Mapped, Levels, pushed, opened, top_of, outer_of, gathered}
+use Rattle.pickle_map.specs.Values.{Mapped, Levels, pushed, opened, top_of, outer_of, gathered}
 use Rattle.pickle_map.specs.Means.{value_of}
 use Rattle.pickle_map.specs.Room.{Exceeds}
-use Rattle.pickle_map.specs.Shown.{shown_label, shown, shown_parts, shown_member, shown_level, shown_levels, kept}
+use Rattle.pickle_map.specs.Shown.{shown_label, shown, shown_parts, shown_member, shown_levels, kept}
 use Rattle.pickle_map.proofs.ShownLevels.{shown_pushed, shown_outer, shown_top, shown_gathered, exceeds}
 
 module _ (nodes : List Node) where

@@ -1,12 +1,11 @@
 -- The parts of the open values, among the pending children.
-use Rattle.std.proofs.Common.{◌≡◌, ℕ, zero, suc, ◌+◌, ◌-◌, ◌<◌, ◌≤◌, List, [], ◌∷◌, ◌++◌, Option, Some, None, length, take, drop, map, refl, sym, ◌∙◌, ap, subst, arith}
-use Rattle.std.specs.Prelude.{slice_get, unwrap_or, IfSome, slice_index_or, slice_range}
+use Rattle.std.proofs.Common.{◌≡◌, ℕ, zero, suc, ◌+◌, ◌-◌, ◌<◌, ◌≤◌, List, [], ◌∷◌, None, length, take, drop, map, refl, sym, ◌∙◌, ap, arith}
+use Rattle.std.specs.Prelude.{slice_get, unwrap_or, IfSome, slice_range}
 use Rattle.std.specs.Option.{option_map}
-use Rattle.std.proofs.lemmas.List.{length-take, length-drop, take-take, take_all, drop_all, take-map, drop-map, drop-take, length-map}
+use Rattle.std.proofs.lemmas.List.{length-take, take-take, take_all, take-map, drop-map, drop-take, length-map}
 use Rattle.pickle_map.specs.declared.store.slots.Marks.{Marks}
-use Rattle.pickle_map.specs.Tree.{Value}
-use Rattle.pickle_map.specs.Levels.{Levels, level_at, part_in}
-use Rattle.pickle_map.specs.Slots.{Slots, Held, levels, opened, trees, stack, value_at, LinksBelow, IsSound, cut_to, root_marks, level_of, AreLevels, levels_at, marks_at, level_end}
+use Rattle.pickle_map.specs.Levels.{level_at, part_in}
+use Rattle.pickle_map.specs.Slots.{Slots, Held, levels, opened, trees, stack, value_at, LinksBelow, cut_to, root_marks, AreLevels, levels_at, marks_at, level_end}
 use Rattle.pickle_map.proofs.Grown.{length-stack, stack-cut, LinksBelow-take, LinksBelow-drop}
 use Rattle.pickle_map.proofs.Counted.{levels-sound}
 use Rattle.pickle_map.proofs.Found.{links-read, links-below}

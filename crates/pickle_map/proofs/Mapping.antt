@@ -1,8 +1,7 @@
 -- Calls that follow the plans of structs, arrays and unions.
-use Rattle.std.proofs.Common.{◌≡◌, ℕ, zero, suc, inl, inr, ◌+◌, ◌-◌, ◌*◌, ◌/◌, ◌<◌, ◌≤◌, max, Bool, true, false, List, [], ◌∷◌, Option, Some, None, Result, Ok, Err, option_map, refl, sym, ap, subst, ◌∙◌, arith}
+use Rattle.std.proofs.Common.{◌≡◌, ℕ, zero, suc, ◌+◌, ◌*◌, ◌/◌, ◌<◌, ◌≤◌, max, Bool, true, false, List, [], ◌∷◌, Option, Some, None, Result, Ok, Err, option_map, refl, sym, subst, ◌∙◌, arith}
 use Rattle.std.proofs.Math.Nat.{suc-mul, add-mul, lt-div-mul-add}
 use Rattle.std.proofs.lemmas.Bool.{le-leb, eq-eqb, ne_eqb, false≢true}
-use Rattle.std.specs.Prelude.{nat_eq, if◌then◌else◌}
 use Rattle.bit_space.specs.declared.order.Order.{Order}
 use Rattle.bit_space.specs.Bits.{bits_of}
 use Rattle.bit_space.specs.SpaceView.{SpaceView}
@@ -19,10 +18,10 @@ use Rattle.pickle_map.specs.declared.faults.MapFaultKind.TheVariants.{End, Bound
 use Rattle.pickle_map.specs.declared.mapper.stop.Stop.{Stop}
 use Rattle.pickle_map.specs.declared.mapper.stop.Stop.TheVariants.{Fault, Limit, Device, Memory}
 use Rattle.pickle_map.specs.Values.{Naming, Value, end_of, Levels, pushed, opened, outer_of}
-use Rattle.pickle_map.specs.Clauses.{FaultAt, condition, field_start, clause_steps, label_steps, extent_of, bound_steps, is_due, is_met, ends_before, misses}
+use Rattle.pickle_map.specs.Clauses.{FaultAt, condition, field_start, clause_steps, label_steps, extent_of, bound_steps, is_due, is_met}
 use Rattle.pickle_map.specs.Settles.{Settles}
 use Rattle.pickle_map.specs.Means.{ordered, number_type, field_names, array_value, struct_value, Taken, union_value, Opened}
-use Rattle.pickle_map.specs.Plan.{Plan, Ended, Tick, Made, and_then, after, then_ok}
+use Rattle.pickle_map.specs.Plan.{Plan, Tick, and_then, after, then_ok}
 use Rattle.pickle_map.specs.Follows.{World, Finish, Done, NoSteps, Broken, NoRoom, Partly, Follows}
 use Rattle.pickle_map.specs.Mapping.{from_inside, read_plan, text_plan, plan, fields_plan, elements_plan, alternatives_plan, after_element, after_attempt, constrained, array_closes, struct_closes, union_closes}
 use Rattle.pickle_map.specs.Room.{Exceeds}

@@ -1,18 +1,18 @@
 -- What a placed value adds to a store.
-use Rattle.std.proofs.Common.{◌≡◌, ℕ, zero, suc, ◌+◌, ◌-◌, ◌*◌, ◌<◌, ◌≤◌, List, [], ◌∷◌, ◌++◌, Option, Some, None, length, take, drop, map, refl, sym, ◌∙◌, ap, subst, arith, add-zero, add-one, get_or}
-use Rattle.std.specs.Prelude.{slice_get, slice_index}
-use Rattle.std.proofs.lemmas.List.{append_assoc, append-nil, length-append, length-take, length-drop, length_push, take-append-le, drop-append-le, drop_at, take_at, take_all, drop_all, take-take, take-append-drop, map-append, drop-map, length-map}
+use Rattle.std.proofs.Common.{◌≡◌, ℕ, ◌+◌, ◌-◌, ◌≤◌, List, [], ◌∷◌, ◌++◌, Some, None, length, take, drop, map, refl, sym, ◌∙◌, ap, arith, add-one}
+use Rattle.std.specs.Prelude.{slice_index}
+use Rattle.std.proofs.lemmas.List.{append-nil, length-append, length-take, length-drop, length_push, take-append-le, take_at, take_all, map-append, drop-map}
 use Rattle.std.proofs.Math.Seq.{get_or-append_seam}
 use Rattle.pickle_map.specs.declared.store.slots.Node.{Node}
 use Rattle.pickle_map.specs.declared.store.slots.Family.{Family}
 use Rattle.pickle_map.specs.declared.store.slots.Marks.{Marks}
 use Rattle.pickle_map.specs.declared.store.slots.Shape.{Shape}
 use Rattle.pickle_map.specs.declared.store.slots.Shape.TheVariants.{Integer, Offset, Text, Array, Struct, Union}
-use Rattle.pickle_map.specs.Tree.{Value, Tree, Label, TextLabel, parts_of, bytes_of, text_value}
-use Rattle.pickle_map.specs.Levels.{level_nodes, level_links, level_bytes, nodes_in, links_in, bytes_in}
-use Rattle.pickle_map.specs.Slots.{Slots, opened, part, family_at, first_link, family_links, first_byte, text_bytes, label_in, size_in, links_of, tree_of, trees, trees_from, stack, LinksBelow, IsRow, IsFamily, IsTextRow, IsShort, IsContent, IsNodeAt, AreNodesFrom, IsSound, cut_to, marks_of, IsWithin, level_of, IsLevel, Adds, with_leaf, with_family, with_text, with_absent, IsComposite, composite_label, IsNumber, number_value}
-use Rattle.pickle_map.proofs.FamilyRows.{Grows, slice_get-push, part-all, first_link-grow, first_byte-grow}
-use Rattle.pickle_map.proofs.Grown.{NewNode, AreNodes-grow, trees_from-grow, nodes-new, pending-new, stack-new, stack-cut, length-stack, LinksBelow-weaker, LinksBelow-append, LinksBelow-drop}
+use Rattle.pickle_map.specs.Tree.{Value, Tree, parts_of, bytes_of, text_value}
+use Rattle.pickle_map.specs.Levels.{level_nodes, level_links, level_bytes}
+use Rattle.pickle_map.specs.Slots.{Slots, opened, family_at, first_link, family_links, first_byte, links_of, tree_of, trees, trees_from, stack, LinksBelow, IsFamily, IsShort, IsContent, IsSound, cut_to, marks_of, level_of, IsLevel, Adds, with_leaf, with_family, with_text, with_absent, IsComposite, composite_label, IsNumber, number_value}
+use Rattle.pickle_map.proofs.FamilyRows.{Grows, part-all, first_link-grow, first_byte-grow}
+use Rattle.pickle_map.proofs.Grown.{NewNode, AreNodes-grow, trees_from-grow, nodes-new, pending-new, stack-new, stack-cut, length-stack, LinksBelow-append, LinksBelow-drop}
 use Rattle.pickle_map.proofs.Counted.{nodes_in_parts-of, links_in_parts-of, bytes_in_parts-of, marks-cut}
 
 -- numbers

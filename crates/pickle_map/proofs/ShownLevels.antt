@@ -1,6 +1,5 @@
 -- What is done to a store's levels is done to the levels that they show.
-use Rattle.std.proofs.Common.{◌≡◌, ℕ, zero, suc, ◌+◌, ◌-◌, ◌<◌, ◌≤◌, List, [], ◌∷◌, ◌++◌, map, length, Option, Some, None, refl, sym, ap, ◌∙◌, arith}
-use Rattle.std.specs.Prelude.{slice_get, unwrap_or}
+use Rattle.std.proofs.Common.{◌≡◌, ℕ, ◌+◌, List, [], ◌∷◌, length, Option, Some, None, refl, ap, arith}
 use Rattle.std.proofs.Common.{inl, inr}
 use Rattle.std.proofs.lemmas.Bool.{cases_lt}
 use Rattle.std.proofs.lemmas.List.{map-append}
@@ -8,7 +7,7 @@ use Rattle.pickle_types.specs.declared.table.Node.{Node}
 use Rattle.pickle_map.specs.Tree as tree
 use Rattle.pickle_map.specs.Levels as stored
 use Rattle.pickle_map.specs.Values.{Value, Levels, pushed, opened, top_of, outer_of, gathered, member_count, level_at, value_at, text_level}
-use Rattle.pickle_map.specs.Room.{Slot, NodeSlot, LinkSlot, PendingSlot, ByteSlot, slots, level_slots, member_slots, value_slots, members_slots, own_slots, text_length, Exceeds}
+use Rattle.pickle_map.specs.Room.{NodeSlot, LinkSlot, PendingSlot, ByteSlot, slots, level_slots, value_slots, members_slots, text_length, Exceeds}
 use Rattle.pickle_map.specs.Shown.{shown_label, shown, shown_parts, shown_member, shown_level, shown_levels}
 
 module _ (nodes : List Node) where

@@ -1,5 +1,5 @@
 -- What the fault of a mapping says that followed its type's plan.
-use Rattle.std.proofs.Common.{◌≡◌, ℕ, ◌+◌, ◌-◌, ◌*◌, ◌<◌, ◌≤◌, length, List, Some, Ok, Err, refl, sym, ap, subst, ◌∙◌, arith}
+use Rattle.std.proofs.Common.{◌≡◌, ℕ, ◌+◌, ◌-◌, ◌*◌, ◌<◌, ◌≤◌, length, List, Some, Err, refl, sym, ap, subst, ◌∙◌, arith}
 use Rattle.bit_space.specs.declared.order.Order.{Order}
 use Rattle.bit_space.specs.Bits.{bits_of}
 use Rattle.bit_space.specs.SpaceView.{SpaceView, IsWhole}
@@ -19,7 +19,6 @@ use Rattle.pickle_map.specs.FaultKinds.{IsMeant}
 use Rattle.pickle_map.specs.Follows.{World, Follows}
 use Rattle.pickle_map.specs.Mapped.{told, FaultMeans, EndsRun}
 use Rattle.pickle_map.specs.Mapping.{plan}
-use Rattle.pickle_map.specs.Room.{slots}
 use Rattle.pickle_map.specs.Stops.{stop_finish}
 use Rattle.pickle_map.specs.Values.{no_values}
 use Rattle.pickle_map.proofs.FaultKinds.{followed_kind}

@@ -1,5 +1,5 @@
 -- Calls that follow the plan of a string.
-use Rattle.std.proofs.Common.{◌≡◌, ℕ, zero, suc, inl, inr, true, false, ◌+◌, ◌-◌, ◌*◌, ◌^◌, ◌<◌, ◌≤◌, List, [], ◌∷◌, ◌++◌, Option, Some, Result, Ok, Err, length, option_map, refl, sym, ap, subst, ◌∙◌, arith}
+use Rattle.std.proofs.Common.{◌≡◌, ℕ, zero, suc, inl, inr, true, false, ◌+◌, ◌-◌, ◌*◌, ◌^◌, ◌<◌, ◌≤◌, List, [], ◌∷◌, ◌++◌, Option, Some, Ok, length, option_map, refl, sym, ap, subst, ◌∙◌, arith}
 use Rattle.std.proofs.lemmas.Bool.{false≢true, cases_lt}
 use Rattle.bit_space.specs.declared.order.Order.TheVariants.{Big}
 use Rattle.bit_space.specs.Bits.{bits_of}
@@ -7,18 +7,16 @@ use Rattle.bit_space.specs.SpaceView.{SpaceView, HasRisen}
 use Rattle.bit_space.specs.Reading.{MayRead}
 use Rattle.pickle_types.specs.declared.table.Node.{Node}
 use Rattle.pickle_map.specs.declared.mapper.stop.Stop.{Stop}
-use Rattle.pickle_map.specs.Values.{Value, Levels, pushed, outer_of, text_value, text_level}
+use Rattle.pickle_map.specs.Values.{Levels, pushed, outer_of, text_value, text_level}
 use Rattle.pickle_map.specs.Levels as stored
 use Rattle.pickle_map.specs.Tree as tree
 use Rattle.pickle_map.specs.Slots.{Held, levels, IsWriting}
 use Rattle.pickle_map.specs.Framed.{ReadStops}
-use Rattle.pickle_map.specs.Plan.{Plan}
 use Rattle.pickle_map.specs.Follows.{World, Done, NoRoom, Partly, Follows}
 use Rattle.pickle_map.specs.Mapping.{text_plan, after_byte}
 use Rattle.pickle_map.specs.Room.{Exceeds}
 use Rattle.pickle_map.specs.Shown.{shown_levels, kept}
 use Rattle.pickle_map.specs.Stops.{stop_finish}
-use Rattle.pickle_map.proofs.Keeping.{keeps_outer}
 use Rattle.pickle_map.proofs.Placing.{read_stops, read_goes}
 use Rattle.pickle_map.proofs.ShownLevels.{shown_pushed, shown_outer, exceeds}
 use Rattle.pickle_map.proofs.Walks.{follow_done, follow_here, follow_made, follow_no_room}

@@ -10,7 +10,7 @@ use Rattle.pickle_map.specs.Values.{Value, Levels, pushed, outer_of}
 use Rattle.pickle_map.specs.Room.{Exceeds}
 use Rattle.pickle_map.specs.Clauses.{FaultAt}
 use Rattle.pickle_map.specs.Plan.{Plan, Ended, Tick, Made, Read, and_then, after, on_value, then_ok}
-use Rattle.pickle_map.specs.Follows.{World, Walk, arrived, stepped, kept, read, Finish, Done, NoSteps, Broken, NoRoom, Partly, NeedsStep, NeedsRoom, EndsAs, Follows}
+use Rattle.pickle_map.specs.Follows.{World, Walk, arrived, stepped, kept, read, Finish, Done, NoSteps, Broken, NoRoom, Partly, NeedsStep, NeedsRoom, Follows}
 use Rattle.pickle_map.specs.Mapping.{from_inside, makes, closes}
 use Rattle.pickle_map.specs.Stops.{stop_finish}
 

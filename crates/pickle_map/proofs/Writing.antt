@@ -1,12 +1,11 @@
 -- Texts, and a text under way.
-use Rattle.std.proofs.Common.{◌≡◌, ℕ, ◌+◌, ◌-◌, ◌*◌, ◌<◌, ◌≤◌, List, [], ◌∷◌, ◌++◌, Option, Some, None, Result, Ok, Err, OnOk, length, take, drop, refl, sym, ◌∙◌, ap, subst, arith, lit<}
-use Rattle.std.proofs.lemmas.List.{append_assoc, append-nil, length-append, length_push, take_at}
-use Rattle.pickle_map.specs.declared.store.slots.Marks.{Marks}
+use Rattle.std.proofs.Common.{◌≡◌, ℕ, ◌+◌, ◌-◌, ◌<◌, ◌≤◌, List, [], ◌∷◌, ◌++◌, Some, Result, Ok, Err, OnOk, length, take, refl, sym, ◌∙◌, ap, subst, arith, lit<}
+use Rattle.std.proofs.lemmas.List.{append_assoc, length-append, length_push, take_at}
 use Rattle.pickle_map.specs.declared.store.slots.Shape.TheVariants.{Text}
-use Rattle.pickle_map.specs.Tree.{Value, text_value}
-use Rattle.pickle_map.specs.Levels.{Levels, top_of, outer_of, extended, pushed, text_level, level_nodes, level_links, level_bytes, total_nodes, total_links, total_pending, total_bytes, FitsIn}
-use Rattle.pickle_map.specs.Slots.{Slots, Held, levels, marks_of, innermost, level_of, AreLevels, levels_at, Adds, IsShort, with_text, with_byte, written, HasRoom, IsWriting, TakesByte, GoesOn}
-use Rattle.pickle_map.proofs.Counted.{levels-more, levels_at-more, levels-above, levels_at-above, levels-sound, Adds-none}
+use Rattle.pickle_map.specs.Tree.{text_value}
+use Rattle.pickle_map.specs.Levels.{Levels, top_of, outer_of, extended, pushed, text_level, level_nodes, FitsIn}
+use Rattle.pickle_map.specs.Slots.{Slots, Held, levels, innermost, level_of, AreLevels, levels_at, Adds, IsShort, with_text, with_byte, written, HasRoom, IsWriting}
+use Rattle.pickle_map.proofs.Counted.{levels-more, levels_at-more, levels-sound}
 use Rattle.pickle_map.proofs.Placed.{text-adds}
 use Rattle.pickle_map.proofs.Fits.{room-more, room-byte, innermost-level, total_nodes-extended, total_links-extended, total_pending-extended, total_bytes-extended}
 

@@ -1,5 +1,5 @@
 -- What operators see of an operand.
-use Rattle.std.specs.Prelude.{◌≡◌, ℕ}
+use Rattle.std.specs.Prelude.{◌≡◌}
 use Rattle.pickle_map.specs.declared.evaluate.content.Content.{Content}
 use Rattle.pickle_map.specs.declared.evaluate.content.Content.TheVariants as content
 use Rattle.pickle_map.specs.Values.{Label, IntegerLabel, OffsetLabel, TextLabel, ArrayLabel, StructLabel, UnionLabel}

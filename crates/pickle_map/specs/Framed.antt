@@ -1,9 +1,7 @@
 -- What each call of a mapping leaves as it was, and what may only rise.
-use Rattle.std.specs.Prelude.{◌≡◌, ℕ, ◌+◌, ◌*◌, ◌<◌, ◌≤◌, List, Option, Some, None, Result, Ok, Err, slice_get, unwrap_or}
-use Rattle.bit_space.specs.declared.order.Order.{Order}
+use Rattle.std.specs.Prelude.{◌≡◌, ℕ, ◌+◌, ◌*◌, ◌<◌, ◌≤◌, List, Option, Some, None, Result, Ok, slice_get, unwrap_or}
 use Rattle.bit_space.specs.declared.meter.Meter.{Meter}
-use Rattle.bit_space.specs.SpaceView.{SpaceView, known_bits, Keeps, HasRisen}
-use Rattle.bit_space.specs.Reading.{MayRead}
+use Rattle.bit_space.specs.SpaceView.{SpaceView, known_bits, HasRisen}
 use Rattle.pickle_map.specs.declared.faults.MapFaultKind.TheVariants.{End}
 use Rattle.pickle_map.specs.declared.mapper.stop.Stop.{Stop}
 use Rattle.pickle_map.specs.declared.mapper.stop.Stop.TheVariants.{Fault, Limit, Device, Memory}

@@ -1,6 +1,6 @@
 -- The values that are being built, and the slots that they take.
 use Rattle.std.specs.Prelude.{ℕ, zero, suc, ◌+◌, ◌≤◌, List, [], ◌∷◌, ◌++◌, Option, Some, None, length, slice_get, unwrap_or}
-use Rattle.pickle_map.specs.Tree.{Value, Tree, Parts, End, Absent, Present, parts_of, bytes_of, text_value}
+use Rattle.pickle_map.specs.Tree.{Value, Tree, Parts, End, Absent, Present, bytes_of, text_value}
 
 -- the parts so far of each value that is open, the innermost first; the last level holds the whole
 abbrev pub Levels : Type 0

@@ -1,6 +1,5 @@
 -- What an expression's operands are, while they are computed.
-use Rattle.std.specs.Prelude.{◌≡◌, ℕ, ◌+◌, ◌<◌, ◌≤◌, length, List, Option, Some, None, Result, Ok, Err, ℤ, pos, negsuc, nat_eq, nat_lt, if◌then◌else◌}
-use Rattle.bit_space.specs.declared.meter.Meter.{Meter}
+use Rattle.std.specs.Prelude.{◌≡◌, ℕ, ◌+◌, ◌<◌, length, List, Option, Some, None, Result, Ok, Err, ℤ, pos, negsuc, nat_eq, nat_lt, if◌then◌else◌}
 use Rattle.pickle_types.specs.declared.table.Node.{Node}
 use Rattle.pickle_map.specs.declared.evaluate.operand.Operand.{Operand as Computing}
 use Rattle.pickle_map.specs.declared.evaluate.operand.Operand.TheVariants as computing
@@ -11,7 +10,7 @@ use Rattle.pickle_map.specs.declared.faults.MapFaultKind.{MapFaultKind}
 use Rattle.pickle_map.specs.declared.faults.MapFaultKind.TheVariants as fault
 use Rattle.pickle_map.specs.declared.stored.StoredValue.{StoredValue}
 use Rattle.pickle_map.specs.Refs.{value_of}
-use Rattle.pickle_map.specs.Values.{Label, TextLabel, Value}
+use Rattle.pickle_map.specs.Values.{TextLabel}
 use Rattle.pickle_map.specs.Evaluation.{Operand, AtPath, Plain, Evaluation}
 use Rattle.pickle_map.specs.Scalars.{scalar_label, IsScalar}
 use Rattle.pickle_map.specs.Shown.{shown}

@@ -1,5 +1,5 @@
 -- The values that the trees of a store show: a struct's and a union's names are those of its type.
-use Rattle.std.specs.Prelude.{ℕ, ◌+◌, map, List, [], ◌∷◌, Option, Some, None, slice_get, unwrap_or}
+use Rattle.std.specs.Prelude.{ℕ, ◌+◌, map, List, [], Option, Some, None, slice_get, unwrap_or}
 use Rattle.pickle_types.specs.declared.table.Field.{Field}
 use Rattle.pickle_types.specs.declared.table.Part.{Part}
 use Rattle.pickle_types.specs.declared.table.Shape.{Shape}

@@ -7,7 +7,7 @@ use Rattle.pickle_map.specs.declared.store.slots.Family.{Family}
 use Rattle.pickle_map.specs.declared.store.slots.Marks.{Marks}
 use Rattle.pickle_map.specs.declared.store.slots.Shape.{Shape}
 use Rattle.pickle_map.specs.declared.store.slots.Shape.TheVariants.{Integer, Offset, Text, Array, Struct, Union}
-use Rattle.pickle_map.specs.Tree.{Label, IntegerLabel, OffsetLabel, TextLabel, ArrayLabel, StructLabel, UnionLabel, Value, Tree, Parts, End, parts_of, text_value, label, start, size, parts, part_at}
+use Rattle.pickle_map.specs.Tree.{Label, IntegerLabel, OffsetLabel, TextLabel, ArrayLabel, StructLabel, UnionLabel, Value, Tree, End, parts_of, label, start, size, parts, part_at}
 use Rattle.pickle_map.specs.Levels.{Levels, level_nodes, level_links, level_bytes}
 
 -- the slots of a store, each a list of its own

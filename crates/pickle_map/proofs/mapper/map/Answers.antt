@@ -1,18 +1,12 @@
-use Rattle.std.proofs.Common.{rules, ◌≡◌, ℕ, ◌+◌, ◌-◌, ◌*◌, ◌<◌, ◌≤◌, List, Some, Ok, Err, length, option_map, refl, sym, ap, subst, ◌∙◌, arith}
+use Rattle.std.proofs.Common.{◌*◌, length, option_map, sym, ap, ◌∙◌, arith}
 use Rattle.bit_space.specs.Bits.{bits_of}
-use Rattle.bit_space.specs.SpaceView.{known_bits}
 use Rattle.bit_space.proofs.Digits.{length-bits_of}
 use Rattle.pickle_types.specs.Table.{type_of}
-use Rattle.pickle_types.specs.TypeTable.{nodes_of, type_named}
-use Rattle.pickle_map.specs.Follows.{Follows}
-use Rattle.pickle_map.specs.Framed.{world_of}
-use Rattle.pickle_map.specs.Mapping.{plan}
-use Rattle.pickle_map.specs.Shown.{kept}
-use Rattle.pickle_map.specs.Slots.{levels, empty}
+use Rattle.pickle_map.specs.Slots.{levels}
 use Rattle.pickle_map.specs.Values.{no_values}
 use Rattle.pickle_map.proofs.Followed.{walk_rises, followed_steps, followed_made, followed_fits, followed_size, followed_result}
 use Rattle.pickle_map.proofs.Held.{none-open}
-use Rattle.pickle_map.proofs.Stopped.{told_there, told_limit, told_memory, told_device, told_means, none_kept, in_bits}
+use Rattle.pickle_map.proofs.Stopped.{told_there, told_limit, told_memory, told_device, told_means, none_kept}
 use Rattle.pickle_map.proofs.mapper.map.Goals as goal
 
 pub map_type-requires-clause-open : goal.map_type-requires-clause-open

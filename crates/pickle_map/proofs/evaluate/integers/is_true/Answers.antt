@@ -1,4 +1,4 @@
-use Rattle.std.proofs.Common.{◌≡◌, ap}
+use Rattle.std.proofs.Common.{ap}
 use Rattle.std.specs.Prelude.{not}
 use Rattle.pickle_map.proofs.Signed.{zero_test}
 use Rattle.pickle_map.proofs.evaluate.integers.is_true.Goals as goal

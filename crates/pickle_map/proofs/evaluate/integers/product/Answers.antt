@@ -1,11 +1,10 @@
-use Rattle.std.proofs.Common.{rules, ◌≡◌, ◌∙◌, ◌%◌, ◌^◌, ap, refl, arith}
+use Rattle.std.proofs.Common.{rules, ◌∙◌, ◌%◌, ◌^◌, ap, refl}
 use Rattle.std.specs.Prelude.{Ok}
 use Rattle.std.proofs.lemmas.Int.{to_z-of_z}
 use mir.Syntax.{w128}
 use mir.Val.{SFits}
 use Rattle.pickle_map.specs.Values.{IntegerLabel}
-use Rattle.pickle_map.specs.Arithmetic.{on_common, brought, modulo, brought_integer}
-use Rattle.pickle_map.specs.Scalars.{computed_of}
+use Rattle.pickle_map.specs.Arithmetic.{brought_integer}
 use Rattle.pickle_map.proofs.Signed.{passed_product, product_fits, unsigned_product}
 use Rattle.pickle_map.proofs.evaluate.integers.product.Goals as goal
 

@@ -1,6 +1,5 @@
-use Rattle.std.proofs.Common.{rules, ◌≡◌, ◌∙◌, ap, refl, arith}
-use Rattle.std.specs.Prelude.{int_div}
-use Rattle.std.proofs.lemmas.Int.{ints, to_z-of_z, quot_is}
+use Rattle.std.proofs.Common.{◌∙◌, ap, refl}
+use Rattle.std.proofs.lemmas.Int.{quot_is}
 use mir.Syntax.{w128}
 use Rattle.pickle_map.specs.Arithmetic.{on_common, brought_integer}
 use Rattle.pickle_map.proofs.Signed.{zero_bits, some_bits, quotient_fits}

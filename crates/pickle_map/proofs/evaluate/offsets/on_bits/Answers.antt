@@ -1,4 +1,4 @@
-use Rattle.std.proofs.Common.{◌≡◌, ◌∙◌, to_z, of_z, ap}
+use Rattle.std.proofs.Common.{◌∙◌, to_z, of_z, ap}
 use Rattle.std.proofs.lemmas.Int.{to_z-of_z}
 use mir.Syntax.{w128}
 use Rattle.pickle_syntax.specs.declared.tree.Infix.TheVariants.{Divide}

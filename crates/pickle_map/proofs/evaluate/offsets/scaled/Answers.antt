@@ -1,4 +1,4 @@
-use Rattle.std.proofs.Common.{rules, ◌≡◌, ◌∙◌, ◌⊎◌, inl, inr, ◌%◌, ◌^◌, ◌*◌, ◌*ℤ◌, true, false, ap, refl, arith}
+use Rattle.std.proofs.Common.{rules, ◌≡◌, ◌∙◌, ◌⊎◌, inl, inr, ◌%◌, ◌^◌, true, false, ap, refl}
 use Rattle.std.specs.Prelude.{Ok}
 use Rattle.std.proofs.lemmas.Int.{to_z-of_z}
 use mir.Syntax.{w128}

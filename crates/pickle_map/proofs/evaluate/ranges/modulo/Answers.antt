@@ -1,4 +1,4 @@
-use Rattle.std.proofs.Common.{◌≡◌, ◌<◌, ◌-◌, ◌%◌, ◌^◌, ◌∙◌, ℤ, pos, ◌<ℤ◌, nat_abs, to_z, of_z, ap, sym, refl, arith}
+use Rattle.std.proofs.Common.{◌-◌, ◌%◌, ◌^◌, ◌∙◌, pos, ◌<ℤ◌, nat_abs, ap, sym, arith}
 use Rattle.std.proofs.lemmas.Int.{ints, to_z-of_z}
 use Rattle.std.proofs.lemmas.Nat.{one_shl}
 use mir.Syntax.{w128}

@@ -1,7 +1,6 @@
-use Rattle.std.proofs.Common.{rules, ◌≡◌, ◌+◌, ◌-◌, Some, None, ℤ, sym, ap, subst, ◌∙◌, arith}
-use Rattle.std.specs.Prelude.{OnOk, OnErr}
+use Rattle.std.proofs.Common.{◌-◌, arith}
 use Rattle.pickle_map.specs.Tree as tree
-use Rattle.pickle_map.proofs.Keeping.{ok_member, full_member, ok_closed, full_closed}
+use Rattle.pickle_map.proofs.Keeping.{ok_closed, full_closed}
 use Rattle.pickle_map.proofs.mapper.keep.close_array.Goals as goal
 
 pub returns-clause-ok : goal.returns-clause-ok

@@ -1,7 +1,5 @@
-use Rattle.std.proofs.Common.{rules, ◌≡◌, ◌+◌, ◌-◌, Some, None, ℤ, sym, ap, subst, ◌∙◌, arith}
-use Rattle.std.specs.Prelude.{OnOk, OnErr}
-use Rattle.pickle_map.specs.Tree as tree
-use Rattle.pickle_map.proofs.Keeping.{ok_member, full_member, ok_closed, full_closed}
+use Rattle.std.proofs.Common.{None}
+use Rattle.pickle_map.proofs.Keeping.{ok_member, full_member}
 use Rattle.pickle_map.proofs.mapper.keep.keep_absent.Goals as goal
 
 pub returns-clause-ok : goal.returns-clause-ok

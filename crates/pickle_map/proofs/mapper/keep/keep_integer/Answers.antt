@@ -1,4 +1,4 @@
-use Rattle.std.proofs.Common.{rules, ◌≡◌, ◌+◌, ◌-◌, Some, None, ℤ, sym, ap, subst, ◌∙◌, arith}
+use Rattle.std.proofs.Common.{rules, ◌≡◌, ◌+◌, Some, subst, ◌∙◌}
 use Rattle.std.specs.Prelude.{OnOk, OnErr}
 use Rattle.std.proofs.lemmas.Int.{to_z-of_z}
 use mir.Syntax.{w128}
@@ -7,7 +7,7 @@ use Rattle.pickle_map.specs.Values.{Mapped, NoMembers, IntegerLabel, pushed}
 use Rattle.pickle_map.specs.Room.{Exceeds}
 use Rattle.pickle_map.specs.Shown.{kept}
 use Rattle.pickle_map.specs.Tree as tree
-use Rattle.pickle_map.proofs.Keeping.{ok_member, full_member, ok_closed, full_closed}
+use Rattle.pickle_map.proofs.Keeping.{ok_member, full_member}
 use Rattle.pickle_map.proofs.mapper.keep.keep_integer.Goals as goal
 
 pub returns-clause-ok : goal.returns-clause-ok

@@ -1,21 +1,20 @@
-use Rattle.std.proofs.Common.{rules, ◌≡◌, ◌≢◌, ℕ, ◌+◌, ◌*◌, ◌^◌, ◌<◌, ◌≤◌, [], ◌∷◌, Some, None, Ok, Err, map, length, drop, refl, sym, ap, subst, ◌∙◌, arith}
+use Rattle.std.proofs.Common.{rules, ◌+◌, ◌^◌, ◌<◌, Some, None, length, refl, sym, ap, subst, ◌∙◌, arith}
 use Rattle.std.proofs.lemmas.List.{drop_more, drop_all}
 use Rattle.std.proofs.lemmas.Result.{err_from_is_err_and}
-use Rattle.pickle_types.specs.Table.{type_of, open_parts, optional_term}
-use Rattle.pickle_types.specs.Types.{depth, parts_depth}
-use Rattle.pickle_map.specs.Mapping.{number_plan, digits_plan, closes}
-use Rattle.pickle_map.specs.Means.{number_type, width_in, struct_value, part_names}
-use Rattle.pickle_map.specs.Room.{Exceeds}
-use Rattle.pickle_map.specs.Shown.{kept, title_at, names_at}
+use Rattle.pickle_types.specs.Table.{type_of}
+use Rattle.pickle_types.specs.Types.{parts_depth}
+use Rattle.pickle_map.specs.Mapping.{number_plan}
+use Rattle.pickle_map.specs.Means.{number_type, width_in}
+use Rattle.pickle_map.specs.Shown.{kept}
 use Rattle.pickle_map.specs.Slots.{levels}
-use Rattle.pickle_map.specs.Values.{pushed, outer_of}
-use Rattle.pickle_map.proofs.Shapes.{opened_as, below_as, sound_as, title_as, names_as, parts_within, parts_bounded, part_bounded, of_one, integral_opened, parts_named}
+use Rattle.pickle_map.specs.Values.{outer_of}
+use Rattle.pickle_map.proofs.Shapes.{opened_as, below_as, sound_as, names_as, parts_within, parts_bounded, part_bounded, of_one, integral_opened, parts_named}
 use Rattle.pickle_map.specs.Mappable.{IsPartOf}
 use Rattle.pickle_map.proofs.Held.{length-levels}
 use Rattle.pickle_map.proofs.Keeping.{keeps_opened, keeps_outer}
 use Rattle.pickle_map.proofs.Clauses.{checks_ok, checks_stop}
 use Rattle.pickle_map.proofs.Placing.{digits_end, digits_no_tick, digits_stop, digits_goes}
-use Rattle.pickle_map.proofs.Walks.{follow_done, follow_here, follow_on, follow_at, follow_tick, follow_stop, closes_no_room, closes_made, first_no_tick, in_room, outer_pushed}
+use Rattle.pickle_map.proofs.Walks.{follow_done, follow_here, follow_on, follow_tick, follow_stop, closes_no_room, closes_made, first_no_tick, in_room, outer_pushed}
 use Rattle.pickle_map.proofs.mapper.number.+placing.Goals as goal
 
 pub integral_body-returns-in_err-place_fields-clause-err : goal.integral_body-returns-in_err-place_fields-clause-err

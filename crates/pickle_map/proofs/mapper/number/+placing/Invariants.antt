@@ -1,6 +1,6 @@
-use Rattle.std.proofs.Common.{◌≡◌, ℕ, ◌+◌, ◌*◌, ◌≤◌, drop, length, List, Option}
+use Rattle.std.proofs.Common.{◌≡◌, ◌+◌, ◌*◌, ◌≤◌, drop, length}
 use Rattle.pickle_types.specs.Table.{type_of, open_parts}
-use Rattle.pickle_map.specs.Follows.{Follows, Partly}
+use Rattle.pickle_map.specs.Follows.{Partly}
 use Rattle.pickle_map.specs.Framed.{Works}
 use Rattle.pickle_map.specs.Values.{outer_of}
 use Rattle.pickle_map.specs.Mapping.{digits_plan}

@@ -1,6 +1,5 @@
-use Rattle.std.proofs.Common.{rules, ◌≡◌, ◌+◌, ◌*◌, ◌/◌, ◌<◌, ◌≤◌, [], Ok, Err, refl, sym, ap, subst, ◌∙◌, arith}
+use Rattle.std.proofs.Common.{refl, ap, ◌∙◌, arith}
 use Rattle.std.proofs.lemmas.Result.{err_from_is_err_and}
-use Rattle.pickle_map.specs.Shown.{kept}
 use Rattle.pickle_map.specs.Values.{outer_of}
 use Rattle.pickle_map.proofs.Keeping.{keeps_opened, keeps_outer}
 use Rattle.pickle_map.proofs.Walks.{follow_tick, follow_no_tick}

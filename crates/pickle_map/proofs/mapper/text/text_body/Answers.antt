@@ -1,9 +1,8 @@
-use Rattle.std.proofs.Common.{rules, ◌≡◌, ℕ, ◌+◌, ◌*◌, ◌/◌, ◌<◌, ◌≤◌, List, [], ◌∷◌, ◌++◌, length, Some, Ok, Err, refl, sym, ap, subst, ◌∙◌, arith}
+use Rattle.std.proofs.Common.{rules, ◌≡◌, ◌+◌, ◌*◌, [], ◌∷◌, ◌++◌, length, refl, sym, ap, ◌∙◌, arith}
 use Rattle.std.proofs.lemmas.Result.{err_from_is_err_and}
 use Rattle.pickle_map.specs.Levels as stored
-use Rattle.pickle_map.specs.Shown.{kept, shown_levels}
 use Rattle.pickle_map.specs.Slots.{levels}
-use Rattle.pickle_map.specs.Values.{outer_of, text_value}
+use Rattle.pickle_map.specs.Values.{text_value}
 use Rattle.pickle_map.proofs.Fitting.{longer}
 use Rattle.pickle_map.proofs.Walks.{follow_here, follow_on}
 use Rattle.pickle_map.proofs.Texts.{text_stops, text_not_closed, text_closed, text_no_room, text_goes, around_text, not_closed, not_longer, keeps_text, may_same}

@@ -1,25 +1,23 @@
 use Rattle.pickle_map.proofs.mapper.types.+mapping.Goals.{map_fields-then-branch+in_ok-place+in_ok-behind, map_fields-else-branch+in_ok-keep_absent}
-use Rattle.std.proofs.Common.{rules, ◌≡◌, ℕ, suc, ◌+◌, ◌-◌, ◌*◌, ◌/◌, ◌^◌, ◌<◌, ◌≤◌, max, List, [], ◌∷◌, map, length, drop, Option, Some, None, Ok, Err, refl, sym, ap, subst, ◌∙◌, arith}
+use Rattle.std.proofs.Common.{rules, ◌+◌, ◌*◌, ◌≤◌, max, [], ◌∷◌, length, Some, None, refl, sym, ap, ◌∙◌, arith}
 use Rattle.std.proofs.lemmas.List.{drop_more, drop_all}
 use Rattle.std.proofs.lemmas.Result.{err_from_is_err_and}
-use Rattle.bit_space.specs.Bits.{bits_of}
-use Rattle.pickle_types.specs.Types.{StructOf, UnionOf, ArrayOf, depth, fields_depth, parts_depth}
-use Rattle.pickle_types.specs.Bounds.{least_width, count_of}
-use Rattle.pickle_types.specs.Table.{type_of, open_fields, open_parts, optional_term, bound_of}
+use Rattle.pickle_types.specs.Types.{depth}
+use Rattle.pickle_types.specs.Bounds.{least_width}
+use Rattle.pickle_types.specs.Table.{type_of}
 use Rattle.pickle_map.specs.Mappable.{IsFieldOf, IsPartOf}
-use Rattle.pickle_map.specs.Mapping.{from_inside, plan, fields_plan, elements_plan, alternatives_plan}
-use Rattle.pickle_map.specs.Means.{number_type, width_in}
-use Rattle.pickle_map.specs.Plan.{Plan}
-use Rattle.pickle_map.specs.Shown.{kept, title_at, names_at, part_name}
+use Rattle.pickle_map.specs.Mapping.{plan}
+use Rattle.pickle_map.specs.Means.{number_type}
+use Rattle.pickle_map.specs.Shown.{kept}
 use Rattle.pickle_map.specs.Slots.{levels}
-use Rattle.pickle_map.specs.Values.{pushed, opened, outer_of}
+use Rattle.pickle_map.specs.Values.{pushed, outer_of}
 use Rattle.pickle_map.proofs.Clauses.{checks_ok, checks_stop, settles_ok, settles_stop}
 use Rattle.pickle_map.proofs.Followed.{followed_wide}
 use Rattle.pickle_map.proofs.Held.{length-levels}
 use Rattle.pickle_map.proofs.Keeping.{keeps_opened, keeps_outer, keeps_cleared}
 use Rattle.pickle_map.proofs.Mapping.{in_world, few_enough, inside_no_tick, inside_ticks, plan_past, number_is, text_is, struct_is, array_is, union_is, struct_no_room, struct_made, array_no_room, array_made, union_no_room, union_made, fields_end, fields_no_tick, condition_stops, absent_no_room, absent_goes, start_stops, field_stops, field_goes, elements_end, elements_beyond, elements_no_tick, elements_no_bits, elements_goes, elements_over, elements_stop, alternatives_end, alternatives_no_tick, alternatives_fit, alternatives_miss, alternatives_stop}
-use Rattle.pickle_map.proofs.Shapes.{opened_as, below_as, sound_as, title_as, names_as, fields_within, parts_within, fields_bounded, parts_bounded, field_bounded, part_bounded, of_one, name_of_one, struct_opened, union_opened, fields_named}
-use Rattle.pickle_map.proofs.Walks.{follow_here, follow_on, follow_at, follow_past, follow_inside, follow_stop, follow_then_ok, outer_pushed}
+use Rattle.pickle_map.proofs.Shapes.{opened_as, below_as, sound_as, names_as, fields_within, parts_within, fields_bounded, parts_bounded, field_bounded, part_bounded, of_one, name_of_one, struct_opened, union_opened, fields_named}
+use Rattle.pickle_map.proofs.Walks.{follow_here, follow_on, follow_at, follow_stop, follow_then_ok, outer_pushed}
 use Rattle.pickle_map.proofs.mapper.types.+mapping.Goals as goal
 
 pub map_type-returns-then-from-start-clause-err : goal.map_type-returns-then-from-start-clause-err

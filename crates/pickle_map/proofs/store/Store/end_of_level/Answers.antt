@@ -1,5 +1,5 @@
-use Rattle.std.proofs.Common.{rules, arith, ◌≡◌, ◌≤◌, ◌-◌, ◌+◌, suc, sym, subst, length}
-use Rattle.pickle_map.specs.Slots.{marks_at, level_end}
+use Rattle.std.proofs.Common.{arith, ◌≡◌, ◌≤◌, ◌-◌, suc, sym, subst, length}
+use Rattle.pickle_map.specs.Slots.{marks_at}
 use Rattle.pickle_map.specs.contracts.store.Store.{the_view}
 use Rattle.pickle_map.proofs.Lookup.{Falls, marks-fall}
 use Rattle.pickle_map.proofs.store.Store.end_of_level.Goals as goal

@@ -1,4 +1,4 @@
-use Rattle.std.proofs.Common.{rules, ◌≡◌, length, sym, ◌∙◌, ap}
+use Rattle.std.proofs.Common.{rules, ◌≡◌, length, sym}
 use Rattle.std.specs.Prelude.{slice_range}
 use Rattle.pickle_map.specs.Slots.{marks_at, level_end}
 use Rattle.pickle_map.specs.contracts.store.Store.{the_view}

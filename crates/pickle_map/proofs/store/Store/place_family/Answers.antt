@@ -2,7 +2,7 @@ use Rattle.std.proofs.Common.{refl, rules, ◌≡◌, ap, arith}
 use Rattle.pickle_map.specs.declared.store.slots.Marks.{Marks}
 use Rattle.pickle_map.specs.Slots.{Slots, innermost, with_family}
 use Rattle.pickle_map.specs.contracts.store.Store.{the_view}
-use Rattle.pickle_map.proofs.Held.{family-frames, family-levels, family-room, innermost-within, families-few}
+use Rattle.pickle_map.proofs.Held.{family-frames, family-levels, family-room, families-few}
 use Rattle.pickle_map.proofs.Held.{depth-same}
 use Rattle.pickle_map.proofs.store.Store.place_family.Goals as goal
 

@@ -1,5 +1,4 @@
 use Rattle.std.proofs.Common.{refl, rules, ◌≡◌, ◌++◌, ◌∷◌, [], None, arith}
-use Rattle.pickle_map.specs.Slots.{with_absent}
 use Rattle.pickle_map.specs.contracts.store.Store.{the_view}
 use Rattle.pickle_map.proofs.Held.{absent-frames, absent-levels, absent-room}
 use Rattle.pickle_map.proofs.Held.{depth-same}

@@ -1,4 +1,4 @@
-use Rattle.std.proofs.Common.{rules, ◌≡◌, ◌++◌, ◌∷◌, [], subst, sym, length}
+use Rattle.std.proofs.Common.{rules, ◌≡◌, subst, sym, length}
 use Rattle.pickle_map.specs.Levels.{FitsIn}
 use Rattle.pickle_map.specs.Slots.{innermost}
 use Rattle.pickle_map.proofs.Writing.{fresh-levels, fresh-clause, stale-clause, stale-room}

@@ -1,4 +1,4 @@
-use Rattle.std.proofs.Common.{rules, ◌≡◌, ◌∙◌, Some, ap, sym}
+use Rattle.std.proofs.Common.{◌≡◌, ◌∙◌, Some, ap, sym}
 use Rattle.std.specs.Option.{option_map}
 use Rattle.pickle_map.specs.Refs.{value_of, value_shown}
 use Rattle.pickle_map.specs.Shown.{shown}
