@@ -30,6 +30,7 @@ pub struct Found<'t> {
 
 /// What follows `(`.
 #[cycle(expressions)]
+#[inline(never)]
 fn bracketed<'a, 't>(
     alloc: Global,
     room: u8,
@@ -48,6 +49,7 @@ fn bracketed<'a, 't>(
 
 /// What follows an operator before its operand.
 #[cycle(expressions)]
+#[inline(never)]
 fn prefixed<'a, 't>(
     alloc: Global,
     room: u8,
@@ -128,6 +130,7 @@ fn after_first<'a, 't>(tokens: &'a [Kind<'t>]) -> &'a [Kind<'t>]
 }
 
 /// A suffix over what was read.
+#[inline(never)]
 fn with_suffix<'t>(alloc: Global, left: Found<'t>, suffix: Suffix<'t>) -> Result<Found<'t>, Stop>
     requires { left.depth < 255 }
     ensures made { IfOk result (λ x. (expression_tree x.expression ≡ After (expression_tree left.entry.expression) (suffix_tree suffix.entry)) × (x.depth ≡ left.entry.depth + 1)) }
@@ -171,6 +174,7 @@ fn infix<'a, 't>(
 /// What follows `?`.
 #[cycle(expressions)]
 #[tactic(auto, unfolding(crate::specs::ReadExpressions::step_at))]
+#[inline(never)]
 fn choice<'a, 't>(
     alloc: Global,
     room: u8,
@@ -198,6 +202,7 @@ fn choice<'a, 't>(
 /// What follows `[`.
 #[cycle(expressions)]
 #[tactic(auto, unfolding(crate::specs::ReadExpressions::step_at))]
+#[inline(never)]
 fn index<'a, 't>(
     alloc: Global,
     room: u8,
