@@ -30,7 +30,6 @@ pub struct Found<'t> {
 
 /// What follows `(`.
 #[cycle(expressions)]
-#[inline(never)]
 fn bracketed<'a, 't>(
     alloc: Global,
     room: u8,
@@ -49,7 +48,6 @@ fn bracketed<'a, 't>(
 
 /// What follows an operator before its operand.
 #[cycle(expressions)]
-#[inline(never)]
 fn prefixed<'a, 't>(
     alloc: Global,
     room: u8,
@@ -130,7 +128,6 @@ fn after_first<'a, 't>(tokens: &'a [Kind<'t>]) -> &'a [Kind<'t>]
 }
 
 /// A suffix over what was read.
-#[inline(never)]
 fn with_suffix<'t>(alloc: Global, left: Found<'t>, suffix: Suffix<'t>) -> Result<Found<'t>, Stop>
     requires { left.depth < 255 }
     ensures made { IfOk result (λ x. (expression_tree x.expression ≡ After (expression_tree left.entry.expression) (suffix_tree suffix.entry)) × (x.depth ≡ left.entry.depth + 1)) }
@@ -174,7 +171,6 @@ fn infix<'a, 't>(
 /// What follows `?`.
 #[cycle(expressions)]
 #[tactic(auto, unfolding(crate::specs::ReadExpressions::step_at))]
-#[inline(never)]
 fn choice<'a, 't>(
     alloc: Global,
     room: u8,
@@ -202,7 +198,6 @@ fn choice<'a, 't>(
 /// What follows `[`.
 #[cycle(expressions)]
 #[tactic(auto, unfolding(crate::specs::ReadExpressions::step_at))]
-#[inline(never)]
 fn index<'a, 't>(
     alloc: Global,
     room: u8,

@@ -127,7 +127,6 @@ fn unit_named(name: &[u8]) -> Option<Unit>
 
 /// The unit of an offset.
 #[tactic(auto, unfolding(crate::specs::Reading::unit_at))]
-#[inline(never)]
 pub fn unit_at<'a, 't>(tokens: &'a [Kind<'t>]) -> Result<(Unit, &'a [Kind<'t>]), Stop>
     ensures { Gives (λ x. (x.0, tokens_of x.1.now)) result (unit_at (tokens_of tokens.now)) }
 {
@@ -146,7 +145,6 @@ pub fn unit_at<'a, 't>(tokens: &'a [Kind<'t>]) -> Result<(Unit, &'a [Kind<'t>]),
 
 /// What follows `offset<`.
 #[tactic(auto, unfolding(crate::specs::Reading::offset_at))]
-#[inline(never)]
 fn offset_at<'a, 't>(tokens: &'a [Kind<'t>]) -> Result<(Target<'t>, &'a [Kind<'t>]), Stop>
     ensures { Gives (λ x. (target_tree x.0, tokens_of x.1.now)) result (offset_at (tokens_of tokens.now)) }
 {

@@ -64,7 +64,6 @@ fn character(byte: u8) -> Meant
     }
 }
 
-#[inline(never)]
 fn text(alloc: Global, bytes: &[u8]) -> Result<Meant, FaultKind>
     ensures gives { (nodes : List Node) → Gives (meant_of nodes) result (Ok (text_meant bytes.now)) }
     ensures sound { (nodes : List Node) → IfOk result (IsSoundMeant nodes) }
@@ -90,7 +89,6 @@ fn name(seen: &Scopes, levels: u8, word: &[u8]) -> Result<Meant, FaultKind>
     }
 }
 
-#[inline(never)]
 fn bracket(alloc: Global, x: Meant) -> Result<Meant, FaultKind>
     ensures gives { (nodes : List Node) → Gives (meant_of nodes) result (bracketed (meant_of nodes x)) }
     ensures sound { (nodes : List Node) → IsSoundMeant nodes x → IfOk result (IsSoundMeant nodes) }
@@ -104,7 +102,6 @@ fn bracket(alloc: Global, x: Meant) -> Result<Meant, FaultKind>
     }
 }
 
-#[inline(never)]
 fn prefix(alloc: Global, nodes: &Nodes, op: Prefix, x: Meant) -> Result<Meant, FaultKind>
     requires table { IsTable nodes.now }
     requires sound { IsSoundMeant nodes.now x }
@@ -137,7 +134,6 @@ fn infix(alloc: Global, nodes: &Nodes, op: Infix, x: Meant, y: Meant) -> Result<
 }
 
 /// A choice between x and y by z, which is an integer.
-#[inline(never)]
 fn select(alloc: Global, nodes: &Nodes, z: Meant, x: Meant, y: Meant) -> Result<Meant, FaultKind>
     requires table { IsTable nodes.now }
     requires condition { IsSoundMeant nodes.now z }
@@ -174,7 +170,6 @@ pub fn integer(nodes: &Nodes, sort: Sort) -> Result<IntegerType, FaultKind>
 }
 
 /// The element of an array x at y, of the type of a node.
-#[inline(never)]
 fn index(
     alloc: Global,
     nodes: &Nodes,
@@ -299,7 +294,6 @@ fn convert(
     })
 }
 
-#[inline(never)]
 fn suffix(
     alloc: Global,
     names: &Names,
