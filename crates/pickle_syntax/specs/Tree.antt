@@ -1,5 +1,6 @@
 -- The syntax tree of a pickle, without where it lies in memory.
-use Rattle.std.specs.Prelude.{ℕ, Bool, List, [], ◌∷◌, map, Option, Some, None}
+use Rattle.std.specs.Prelude.{ℕ, Bool, List, [], ◌∷◌, map, Option, Some, None, Box}
+use Rattle.std.specs.declared.alloc.Global.{Global}
 use denote.Bor.{Bor}
 use Rattle.pickle_syntax.specs.declared.token.Attribute.{Attribute}
 use Rattle.pickle_syntax.specs.declared.token.Number.{Number}
@@ -83,6 +84,10 @@ abbrev pub optional_tree : Option Expression → Option Tree
 optional_tree None = None
 optional_tree (Some e) = Some (expression_tree e)
 
+abbrev pub boxed_tree : Option (Box Expression Global) → Option Tree
+boxed_tree None = None
+boxed_tree (Some e) = Some (expression_tree e.value)
+
 abbrev pub optional_bytes : Option (Bor (List ℕ)) → Option (List ℕ)
 optional_bytes None = None
 optional_bytes (Some n) = Some n.now
@@ -123,10 +128,10 @@ fields_of (f ∷ fs) = FieldThen f.form f.parts (fields_of fs)
 abbrev pub form_step : Form-F FormTree FieldTree → FormTree
 form_step (Form-F.Reference r) = Plain (reference_tree r)
 form_step Form-F.String = StringForm
-form_step (Form-F.Offset r u) = OffsetForm (reference_tree r) u
-form_step (Form-F.Array e b) = ArrayForm e.value (optional_tree b)
+form_step (Form-F.Offset r u) = OffsetForm (reference_tree r.value) u
+form_step (Form-F.Array e b) = ArrayForm e.value (boxed_tree b)
 form_step (Form-F.Struct p fs) = StructForm p (fields_of fs.items)
-form_step (Form-F.Integral r fs) = IntegralForm (reference_tree r) (fields_of fs.items)
+form_step (Form-F.Integral r fs) = IntegralForm (reference_tree r.value) (fields_of fs.items)
 form_step (Form-F.Union fs) = UnionForm (fields_of fs.items)
 
 abbrev pub field_step : Field-F FormTree FieldTree → FieldTree
@@ -136,8 +141,8 @@ field_step f = record {
     order = f.order;
     name = optional_bytes f.name;
     constraint = optional_tree f.constraint;
-    label = optional_tree f.label;
-    condition = optional_tree f.condition;
+    label = boxed_tree f.label;
+    condition = boxed_tree f.condition;
   };
 }
 

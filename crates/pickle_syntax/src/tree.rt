@@ -140,17 +140,17 @@ pub enum ByteOrder {
 pub enum Form<'t> {
     Reference(Reference<'t>),
     String,
-    Offset(Reference<'t>, Unit),
+    Offset(Box<Reference<'t>>, Unit),
     /// A type with an array suffix, and the bound in it.
-    Array(Box<Form<'t>>, Option<Expression<'t>>),
+    Array(Box<Form<'t>>, Option<Box<Expression<'t>>>),
     /// Whether it is pinned, and its fields.
     Struct(bool, Vec<Field<'t>>),
     /// A struct that is read as one integer of a type.
-    Integral(Reference<'t>, Vec<Field<'t>>),
+    Integral(Box<Reference<'t>>, Vec<Field<'t>>),
     Union(Vec<Field<'t>>),
 }
 
-/// A field of a struct, or an alternative of a union, as it is written.
+/// A field of a struct, or an alternative of a union, as it is written. What is rare stands apart.
 #[cycle(types)]
 #[derive(Drop)]
 pub struct Field<'t> {
@@ -158,8 +158,8 @@ pub struct Field<'t> {
     pub form: Form<'t>,
     pub name: Option<&'t [u8]>,
     pub constraint: Option<Expression<'t>>,
-    pub label: Option<Expression<'t>>,
-    pub condition: Option<Expression<'t>>,
+    pub label: Option<Box<Expression<'t>>>,
+    pub condition: Option<Box<Expression<'t>>>,
 }
 
 /// `type NAME = TYPE;`

@@ -1,5 +1,5 @@
 -- Forms that have no parts, as trees.
-use Rattle.std.proofs.Common.{◌≡◌, rules, ap, sym, ◌∙◌}
+use Rattle.std.proofs.Common.{◌≡◌, rules, ap, sym, ◌∙◌, Box, Global}
 use Rattle.pickle_syntax.specs.declared.tree.Unit.{Unit as PokeUnit}
 use Rattle.pickle_syntax.specs.declared.tree.Reference.{Reference}
 use Rattle.pickle_syntax.specs.declared.tree.Form.{the_lemmas}
@@ -12,5 +12,5 @@ reference_form r = ap form_tree (sym (form.rolls-Reference r)) ∙ search (rules
 pub string_form : form_tree form.String ≡ StringForm
 string_form = ap form_tree (sym form.rolls-String) ∙ search (rules, the_lemmas)
 
-pub offset_form : (r : Reference) (u : PokeUnit) → form_tree (form.Offset r u) ≡ OffsetForm (reference_tree r) u
+pub offset_form : (r : Box Reference Global) (u : PokeUnit) → form_tree (form.Offset r u) ≡ OffsetForm (reference_tree r.value) u
 offset_form r u = ap form_tree (sym (form.rolls-Offset r u)) ∙ search (rules, the_lemmas)

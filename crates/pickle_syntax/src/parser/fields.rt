@@ -1,8 +1,9 @@
 //! Reads the fields of structs and unions.
 
-ghost use Rattle.std.specs.Prelude.{◌≡◌, ◌≤◌, ◌<◌, IfOk};
+ghost use Rattle.std.specs.Prelude.{◌≡◌, ◌≤◌, ◌<◌, IfOk, IfErr};
 ghost use Rattle.pickle_syntax.specs.Tokens.{tokens_of};
-ghost use Rattle.pickle_syntax.specs.Tree.{optional_tree, optional_bytes, field_tree, fields_tree};
+ghost use Rattle.pickle_syntax.specs.Tree.{boxed_tree, optional_tree, optional_bytes, field_tree, fields_tree};
+ghost use Rattle.pickle_syntax.specs.declared.parser.fault.Stop.TheVariants.{Memory};
 ghost use Rattle.pickle_syntax.specs.Limits;
 ghost use Rattle.pickle_syntax.specs.Limits.{standard};
 ghost use Rattle.pickle_syntax.specs.Reading.{Gives};
@@ -79,6 +80,20 @@ fn condition_at<'a, 't>(
     }
 }
 
+/// The same expression, in a box.
+pub fn boxed<'t>(
+    alloc: Global,
+    expression: Option<Expression<'t>>,
+) -> Result<Option<Box<Expression<'t>>>, Stop>
+    ensures made { IfOk result (λ x. boxed_tree x ≡ optional_tree expression.entry) }
+    ensures fails { IfErr result (λ e. e ≡ Memory) }
+{
+    match expression {
+        None => Ok(None),
+        Some(expression) => Ok(Some(Box::new(alloc, expression)?)),
+    }
+}
+
 #[tactic(auto, unfolding(crate::specs::ReadForms::order_at))]
 fn order_at<'a, 't>(tokens: &'a [Kind<'t>]) -> (Option<ByteOrder>, &'a [Kind<'t>])
     ensures { (result.0, tokens_of result.1.now) ≡ order_at (tokens_of tokens.now) }
@@ -120,6 +135,8 @@ fn field_at<'a, 't>(
     let (label, rest) = part_at(alloc, rest, Sign::At)?;
     let (condition, rest) = condition_at(alloc, rest)?;
     let rest = expect(rest, Sign::Semicolon)?;
+    let label = boxed(alloc, label)?;
+    let condition = boxed(alloc, condition)?;
     let field = Field {
         order,
         form: found.form,

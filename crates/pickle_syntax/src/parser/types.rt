@@ -1,15 +1,16 @@
 //! Reads types.
 
-ghost use Rattle.std.specs.Prelude.{◌≡◌, ◌+◌, ◌≤◌, ◌<◌, IfOk};
+ghost use Rattle.std.specs.Prelude.{◌≡◌, ◌+◌, ◌≤◌, ◌<◌, IfOk, IfErr};
 ghost use Rattle.pickle_syntax.specs.Tokens.{tokens_of};
 ghost use Rattle.pickle_syntax.specs.Tree.{optional_tree, target_tree, form_tree};
+ghost use Rattle.pickle_syntax.specs.declared.parser.fault.Stop.TheVariants.{Memory};
 ghost use Rattle.pickle_syntax.specs.Limits;
 ghost use Rattle.pickle_syntax.specs.Limits.{standard};
 ghost use Rattle.pickle_syntax.specs.Reading.{Gives};
 ghost use Rattle.pickle_syntax.specs.ReadForms.{bound_at, target_form, struct_at, pinned_at, base_at, suffix_at, form_at};
 
 use crate::parser::fault::Stop;
-use crate::parser::fields::{braced_at, fields_at, present_at};
+use crate::parser::fields::{boxed, braced_at, fields_at, present_at};
 use crate::parser::reading::{after_sign, expect, expect_word, reference_at, target_at};
 use crate::token::{Kind, Sign, Word};
 use crate::tree::{Expression, Form, Target};
@@ -39,12 +40,13 @@ fn bound_at<'a, 't>(
     Ok((bound, rest))
 }
 
-fn target_form<'t>(target: Target<'t>) -> Form<'t>
-    ensures { form_tree result ≡ target_form (target_tree target.entry) }
+fn target_form<'t>(alloc: Global, target: Target<'t>) -> Result<Form<'t>, Stop>
+    ensures made { IfOk result (λ form. form_tree form ≡ target_form (target_tree target.entry)) }
+    ensures fails { IfErr result (λ e. e ≡ Memory) }
 {
     match target {
-        Target::Reference(reference) => Form::Reference(reference),
-        Target::Offset(reference, unit) => Form::Offset(reference, unit),
+        Target::Reference(reference) => Ok(Form::Reference(reference)),
+        Target::Offset(reference, unit) => Ok(Form::Offset(Box::new(alloc, reference)?, unit)),
     }
 }
 
@@ -68,8 +70,8 @@ fn struct_at<'a, 't>(
     }
     let (reference, rest) = reference_at(tokens)?;
     let (found, rest) = braced_at(alloc, room, rest)?;
-    let form = Form::Integral(reference, found.fields);
     let depth = found.depth + 1;
+    let form = Form::Integral(Box::new(alloc, reference)?, found.fields);
     Ok((FoundForm { form, depth }, rest))
 }
 
@@ -124,7 +126,7 @@ fn base_at<'a, 't>(
             },
             _ => {
                 let (target, rest) = target_at(tokens)?;
-                let form = target_form(target);
+                let form = target_form(alloc, target)?;
                 Ok((FoundForm { form, depth: 1 }, rest))
             }
         },
@@ -151,6 +153,7 @@ fn suffix_at<'a, 't>(
                 return Err(Stop::TooDeep);
             }
             let (bound, rest) = bound_at(alloc, rest)?;
+            let bound = boxed(alloc, bound)?;
             let depth = found.depth + 1;
             let form = Form::Array(Box::new(alloc, found.form)?, bound);
             Ok((FoundForm { form, depth }, rest))

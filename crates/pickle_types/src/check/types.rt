@@ -1,7 +1,7 @@
 //! The types of forms, as nodes of a table.
 
 ghost use Rattle.std.specs.Prelude.{◌≡◌, ◌+◌, ◌<◌, ◌≤◌, ℕ, List, [], ◌∷◌, ◌++◌, length, true, false, Ok, None, IfOk, IfErr, OnOk, All};
-ghost use Rattle.pickle_syntax.specs.Tree.{reference_tree, optional_tree, form_tree, field_tree, fields_tree, ArrayForm, StructForm, IntegralForm, UnionForm, OffsetForm};
+ghost use Rattle.pickle_syntax.specs.Tree.{reference_tree, boxed_tree, optional_tree, form_tree, field_tree, fields_tree, ArrayForm, StructForm, IntegralForm, UnionForm, OffsetForm};
 ghost use Rattle.pickle_types.specs.Types;
 ghost use Rattle.pickle_types.specs.Sound.{IsSoundClause, IsSoundBound};
 ghost use Rattle.pickle_types.specs.Table.{optional_term, bound_of, type_of, open_shape, IsTable, NamesBelow, IsSoundField, IsSoundShape};
@@ -54,7 +54,7 @@ pub struct Builder<'n> {
 }
 
 impl<'n> Builder<'n> {
-    /// A constraint or condition, which is an integer.
+    /// A constraint, which is an integer.
     #[tactic(auto, unfolding(crate::specs::Meaning::integer_expression))]
     fn integer_expression(
         &self,
@@ -75,17 +75,38 @@ impl<'n> Builder<'n> {
         Ok(Some(x.term))
     }
 
+    /// A condition, which is an integer.
+    #[tactic(auto, unfolding(crate::specs::Meaning::integer_expression))]
+    fn condition(
+        &self,
+        levels: u8,
+        e: &Option<Box<Expression<'_>>>,
+    ) -> Result<Option<Resolved>, FaultKind>
+        requires table { IsTable self.now.nodes }
+        requires names { AreNamed self.now.nodes self.now.names }
+        requires seen { AreBelow (length self.now.nodes) levels self.now.seen }
+        ensures gives { Gives optional_term result (integer_expression (known_types self.now) (visible_in self.now) levels (boxed_tree e.now)) }
+        ensures sound { IfOk result (λ c. IsSoundClause (optional_term c)) }
+    {
+        let Some(e) = e else {
+            return Ok(None);
+        };
+        let x = typed(self.alloc, &self.names, &self.nodes, &self.seen, levels, e)?;
+        integer(&self.nodes, x.sort)?;
+        Ok(Some(x.term))
+    }
+
     /// A label, which is an offset.
     #[tactic(auto, unfolding(crate::specs::Meaning::offset_expression))]
     fn offset_expression(
         &self,
         levels: u8,
-        e: &Option<Expression<'_>>,
+        e: &Option<Box<Expression<'_>>>,
     ) -> Result<Option<Resolved>, FaultKind>
         requires table { IsTable self.now.nodes }
         requires names { AreNamed self.now.nodes self.now.names }
         requires seen { AreBelow (length self.now.nodes) levels self.now.seen }
-        ensures gives { Gives optional_term result (offset_expression (known_types self.now) (visible_in self.now) levels (optional_tree e.now)) }
+        ensures gives { Gives optional_term result (offset_expression (known_types self.now) (visible_in self.now) levels (boxed_tree e.now)) }
         ensures sound { IfOk result (λ c. IsSoundClause (optional_term c)) }
     {
         let Some(e) = e else {
@@ -100,11 +121,15 @@ impl<'n> Builder<'n> {
 
     /// The bound of an array, which is an integer or an offset.
     #[tactic(auto, unfolding(crate::specs::Meaning::bound_expression))]
-    fn bound_expression(&self, levels: u8, e: &Option<Expression<'_>>) -> Result<Extent, FaultKind>
+    fn bound_expression(
+        &self,
+        levels: u8,
+        e: &Option<Box<Expression<'_>>>,
+    ) -> Result<Extent, FaultKind>
         requires table { IsTable self.now.nodes }
         requires names { AreNamed self.now.nodes self.now.names }
         requires seen { AreBelow (length self.now.nodes) levels self.now.seen }
-        ensures gives { Gives bound_of result (bound_expression (known_types self.now) (visible_in self.now) levels (optional_tree e.now)) }
+        ensures gives { Gives bound_of result (bound_expression (known_types self.now) (visible_in self.now) levels (boxed_tree e.now)) }
         ensures sound { IfOk result (λ b. IsSoundBound (bound_of b)) }
     {
         let Some(e) = e else {
@@ -169,7 +194,7 @@ impl<'n> Builder<'n> {
         let word = name_in(written);
         fresh(word, before)?;
         let label = self.offset_expression(levels + 1, label_in(written))?;
-        let condition = self.integer_expression(levels + 1, condition_in(written))?;
+        let condition = self.condition(levels + 1, condition_in(written))?;
         let itself = Seen {
             name: word,
             level: levels,
@@ -324,14 +349,14 @@ impl<'n> Builder<'n> {
         title: Title<'n>,
         room: u8,
         element: &Form<'n>,
-        bound: &Option<Expression<'_>>,
+        bound: &Option<Box<Expression<'_>>>,
     ) -> Result<Found, FaultKind>
         requires table { IsTable self.old.nodes }
         requires names { AreNamed self.old.nodes self.old.names }
         requires seen { AreBelow (length self.old.nodes) levels self.old.seen }
         requires some { 0 < room }
         requires few { levels + room ≤ 64 }
-        ensures builds { Builds self.old self.new result (meaning (known_types self.old) (visible_in self.old) levels (bytes_now title.entry.name) room (ArrayForm (form_tree element.now) (optional_tree bound.now))) }
+        ensures builds { Builds self.old self.new result (meaning (known_types self.old) (visible_in self.old) levels (bytes_now title.entry.name) room (ArrayForm (form_tree element.now) (boxed_tree bound.now))) }
         ensures low { IfOk result (λ found. found.depth ≤ room) }
     {
         let found = self.type_at(

@@ -3,7 +3,7 @@ use Rattle.std.proofs.lemmas.Bool.{eqb-false}
 use Rattle.std.proofs.lemmas.List.{drop_all, take_all}
 use Rattle.std.proofs.lemmas.List.Elements.{All-append}
 use Rattle.std.proofs.lemmas.Result.{err_from_is_err_and}
-use Rattle.pickle_syntax.specs.Tree.{Plain, StringForm, OffsetForm, reference_tree, optional_tree, form_tree, fields_tree}
+use Rattle.pickle_syntax.specs.Tree.{Plain, StringForm, OffsetForm, reference_tree, boxed_tree, form_tree, fields_tree}
 use Rattle.pickle_types.specs.declared.check.types.Builder.{Builder}
 use Rattle.pickle_types.specs.Types.{depth}
 use Rattle.pickle_types.specs.Table.{type_of, IsSoundField}
@@ -42,22 +42,22 @@ type_at-returns-in-String-clause-builds t c =
 pub type_at-returns-in-Offset-clause-builds : goal.type_at-returns-in-Offset-clause-builds
 type_at-returns-in-Offset-clause-builds t c =
     let b = c.args.self.now in
-    let w : form_tree c.args.form.now ≡ OffsetForm (reference_tree c.in-Offset.reference) c.in-Offset.unit = ap form_tree c.in-Offset.is ∙ offset_form c.in-Offset.reference c.in-Offset.unit in
-    let m = meaning_offset (known_types b) (visible_in b) c.args.levels (bytes_now c.args.title.name) c.args.room (reference_tree c.in-Offset.reference) c.in-Offset.unit (omega arith) in
-    builds_as _ _ c.offset_at.result _ _ (rw (w, m) refl) c.offset_at.ensures.builds
+    let w : form_tree c.args.form.now ≡ OffsetForm (reference_tree c.in-Offset.reference.value) c.in-Offset.unit = ap form_tree c.in-Offset.is ∙ offset_form c.in-Offset.reference c.in-Offset.unit in
+    let m = meaning_offset (known_types b) (visible_in b) c.args.levels (bytes_now c.args.title.name) c.args.room (reference_tree c.in-Offset.reference.value) c.in-Offset.unit (omega arith) in
+    builds_as _ _ c.offset_at.result _ _ (rw (w, m, c.deref.ensures) refl) c.offset_at.ensures.builds
 
 pub array_at-returns-in_err-found-clause-builds : goal.array_at-returns-in_err-found-clause-builds
 array_at-returns-in_err-found-clause-builds t c =
     let p = err_from_is_err_and c.from_residual.result c.from_residual.ensures.1 in
     let b = c.args.self.now in
-    let m = meaning_array (known_types b) (visible_in b) c.args.levels (bytes_now c.args.title.name) c.args.room (form_tree c.args.element.now) (optional_tree c.args.bound.now) (omega arith) in
+    let m = meaning_array (known_types b) (visible_in b) c.args.levels (bytes_now c.args.title.name) c.args.room (form_tree c.args.element.now) (boxed_tree c.args.bound.now) (omega arith) in
     rw (p.1, p.2, m) (fails_bind _ _ _ c.in_err-found.ensures.builds)
 
 pub array_at-returns-in_err-bound-clause-builds : goal.array_at-returns-in_err-bound-clause-builds
 array_at-returns-in_err-bound-clause-builds t c =
     let p = err_from_is_err_and c.from_residual-in_err-bound.result c.from_residual-in_err-bound.ensures.1 in
     let b = c.args.self.now in
-    let m = meaning_array (known_types b) (visible_in b) c.args.levels (bytes_now c.args.title.name) c.args.room (form_tree c.args.element.now) (optional_tree c.args.bound.now) (omega arith) in
+    let m = meaning_array (known_types b) (visible_in b) c.args.levels (bytes_now c.args.title.name) c.args.room (form_tree c.args.element.now) (boxed_tree c.args.bound.now) (omega arith) in
     let e = c.in_ok-found.ensures.builds in
     let seen = visible_kept b c.type_at.new.self c.requires.table e.2.keeps e.2.seen c.args.levels c.requires.seen in
     let h = rw (e.2.keeps.known, seen) at c.in_err-bound.ensures.gives in
@@ -72,7 +72,7 @@ array_at-push-requires-clause-depth t c =
 pub array_at-returns-clause-builds : goal.array_at-returns-clause-builds
 array_at-returns-clause-builds t c =
     let b = c.args.self.now in
-    let m = meaning_array (known_types b) (visible_in b) c.args.levels (bytes_now c.args.title.name) c.args.room (form_tree c.args.element.now) (optional_tree c.args.bound.now) (omega arith) in
+    let m = meaning_array (known_types b) (visible_in b) c.args.levels (bytes_now c.args.title.name) c.args.room (form_tree c.args.element.now) (boxed_tree c.args.bound.now) (omega arith) in
     let e = c.in_ok-found.ensures.builds in
     let seen = visible_kept b c.type_at.new.self c.requires.table e.2.keeps e.2.seen c.args.levels c.requires.seen in
     let h = rw (e.2.keeps.known, seen) at c.in_ok-bound.ensures.gives in
