@@ -82,12 +82,7 @@ pub fn read_number<S: Space>(
 
 // Reads the number of bits that are inside the space. Whole bytes have windows of a size that is known beforehand.
 #[inline(never)]
-fn read_bits<S: Space>(
-    space: &mut S,
-    pos: u64,
-    width: u8,
-    order: Order,
-) -> Result<u64, DeviceFault>
+fn read_bits<S: Space>(space: &mut S, pos: u64, width: u8, order: Order) -> Result<u64, DeviceFault>
     requires some { 0 < width }
     requires most { width ≤ 64 }
     requires inside { pos + width ≤ 8 * (S.view space.old).len }
