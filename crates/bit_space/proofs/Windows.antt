@@ -2,7 +2,7 @@
 use Rattle.std.proofs.Common.{◌≡◌, ℕ, ◌+◌, ◌-◌, ◌*◌, ◌/◌, ◌%◌, ◌^◌, ◌<◌, ◌≤◌, List, [], length, take, drop, get_or, Option, Some, None, refl, subst, arith}
 use Rattle.std.specs.Prelude.{slice_range, option_map, bit_and}
 use Rattle.std.proofs.lemmas.Nat.{one_shl, and_mask}
-use Rattle.std.proofs.lemmas.List.{length-take-le, length-drop, take_more}
+use Rattle.std.proofs.lemmas.List.{length-take-le, length-drop, take_all, take_more}
 use Rattle.std.proofs.Math.Pow.{pow_mono}
 use Rattle.bit_space.specs.declared.order.Order.{Order}
 use Rattle.bit_space.specs.Bits.{binary, bits_of, numeral, numeral_onto, number}
@@ -61,6 +61,10 @@ joined_below xs n h =
 -- one more byte of a window
 pub joined_more : (xs : List ℕ) (i d : ℕ) → i < length xs → get_or xs i d < 256 → numeral (bits_of (take (i + 1) xs)) ≡ numeral (bits_of (take i xs)) * 256 + get_or xs i d
 joined_more xs i d h g = rw (take_more xs i d h) (numeral_byte (take i xs) (get_or xs i d) g)
+
+-- the last byte of a window
+pub joined_last : (xs : List ℕ) (n d : ℕ) → length xs ≡ n + 1 → get_or xs n d < 256 → numeral (bits_of xs) ≡ numeral (bits_of (take n xs)) * 256 + get_or xs n d
+joined_last xs n d h g = subst (λ ys. numeral (bits_of ys) ≡ numeral (bits_of (take n xs)) * 256 + get_or xs n d) (take_all (n + 1) xs (omega (arith, h))) (joined_more xs n d (omega (arith, h)) g)
 
 -- the numeral of nothing
 pub joined_none : 0 ≡ numeral (bits_of [])

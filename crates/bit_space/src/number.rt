@@ -140,16 +140,12 @@ fn join(window: &[u8]) -> u64
     all
 }
 
-// The numeral of the bits of a window, of at most nine bytes.
+// The numeral of the bits of a window of nine bytes.
 fn join_wide(window: &[u8]) -> u128
-    requires { length window.now ≤ 9 }
+    requires { length window.now ≡ 9 }
     ensures { result ≡ numeral (bits_of window.now) }
 {
-    let mut all: u128 = 0;
-    for byte in window {
-        all = all * 256 + u128::from(*byte);
-    }
-    all
+    u128::from(join(&window[..8])) * 256 + u128::from(window[8])
 }
 
 // The numeral of `width` bits of a window, from bit `lead` on.
@@ -172,7 +168,7 @@ fn cut_out(window: &[u8], lead: usize, width: usize) -> u64
 // As `cut_out`, with a window of nine bytes, which are rarely needed.
 #[inline(never)]
 fn cut_out_wide(window: &[u8], lead: usize, width: usize) -> u64
-    requires window { length window.now ≤ 9 }
+    requires window { length window.now ≡ 9 }
     requires width { width ≤ 64 }
     requires inside { lead + width ≤ 8 * length window.now }
     ensures { result ≡ numeral (slice_range (bits_of window.now) lead (lead + width)) }

@@ -4,7 +4,9 @@ use Rattle.std.proofs.lemmas.Bool.{le-leb, lt-leb}
 use Rattle.std.specs.Prelude.{nat_le, if◌then◌else◌}
 use Rattle.bit_space.specs.declared.order.Order.{Order}
 use Rattle.bit_space.specs.SpaceView.{SpaceView}
-use Rattle.bit_space.specs.Reading.{MayRead}
+use Rattle.bit_space.specs.declared.number.BitFault.{BitFault}
+use Rattle.bit_space.specs.declared.number.BitFault.TheVariants as refused
+use Rattle.bit_space.specs.Reading.{MayRead, IsRefused}
 use Rattle.pickle_types.specs.declared.table.Part.{Part}
 use Rattle.pickle_types.specs.Types.{PokeType}
 use Rattle.pickle_types.specs.Table.{optional_term, open_parts}
@@ -13,13 +15,19 @@ use Rattle.pickle_map.specs.declared.mapper.stop.Stop.{Stop}
 use Rattle.pickle_map.specs.declared.mapper.stop.Stop.TheVariants.{Fault, Limit, Device, Memory}
 use Rattle.pickle_map.specs.Values.{Value, Levels, pushed}
 use Rattle.pickle_map.specs.Clauses.{FaultAt}
-use Rattle.pickle_map.specs.Framed.{ReadStops}
+use Rattle.pickle_map.specs.Framed.{ReadStops, refusal_at}
 use Rattle.pickle_map.specs.Plan.{Plan, Ended, Tick, Read, then_ok}
 use Rattle.pickle_map.specs.Follows.{World, Finish, Done, NoSteps, Partly, Follows}
 use Rattle.pickle_map.specs.Mapping.{number_plan, digits_plan, constrained}
 use Rattle.pickle_map.specs.Means.{first_digits, number_type, width_in}
 use Rattle.pickle_map.specs.Stops.{stop_finish}
 use Rattle.pickle_map.proofs.Walks.{follow_done, follow_here, follow_tick, follow_no_tick, follow_read, follow_broken, follow_then_ok, follow_stop}
+
+-- a refused read, whose fault is told at `place`
+pub refusal_stops : (fault : BitFault) (place end : ℕ) (before after : SpaceView) (limit steps steps' : ℕ) → IsRefused fault end before after limit steps steps' → ReadStops (refusal_at fault place) place end before after limit steps steps'
+refusal_stops refused.End place end before after limit steps steps' h = (refl, refl, h.0, h.2)
+refusal_stops refused.Device place end before after limit steps steps' h = (h.0, h.2, h.3)
+refusal_stops refused.Limit place end before after limit steps steps' h = h
 
 -- a read, from its own step on, of bits that end in the file
 abbrev pub reading : {A : Type 0} → (m s place width : ℕ) → Order → (ℕ → Plan (Result A FaultAt)) → Plan (Result A FaultAt)

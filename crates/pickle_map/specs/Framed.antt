@@ -1,6 +1,8 @@
 -- What each call of a mapping leaves as it was, and what may only rise.
 use Rattle.std.specs.Prelude.{◌≡◌, ℕ, ◌+◌, ◌*◌, ◌<◌, ◌≤◌, List, Option, Some, None, Result, Ok, slice_get, unwrap_or}
 use Rattle.bit_space.specs.declared.meter.Meter.{Meter}
+use Rattle.bit_space.specs.declared.number.BitFault.{BitFault}
+use Rattle.bit_space.specs.declared.number.BitFault.TheVariants as refused
 use Rattle.bit_space.specs.SpaceView.{SpaceView, known_bits, HasRisen}
 use Rattle.pickle_map.specs.declared.faults.MapFaultKind.TheVariants.{End}
 use Rattle.pickle_map.specs.declared.mapper.stop.Stop.{Stop}
@@ -53,6 +55,12 @@ Places nodes meter meter' store store' p end = (known : Option (List ℕ)) → M
 
 abbrev pub PlacesIn : List Node → (meter meter' : Meter) → (store store' : Held) → Plan (Result Value FaultAt) → (end : ℕ) → Type 0
 PlacesIn nodes meter meter' store store' p end = (known : Option (List ℕ)) → Maps (record { known = known; room = store.room }) meter.limit p meter.steps meter.made meter'.steps meter'.made (outer_of (kept nodes store)) (kept nodes store') end
+
+-- why a refused read stops, with its fault at `place`
+abbrev pub refusal_at : BitFault → (place : ℕ) → Stop
+refusal_at refused.End place = Fault End place
+refusal_at refused.Device place = Device
+refusal_at refused.Limit place = Limit
 
 -- why a read of the bits from `start` up to `end` stopped
 abbrev pub ReadStops : Stop → (start end : ℕ) → (before after : SpaceView) → (limit steps steps' : ℕ) → Type 0

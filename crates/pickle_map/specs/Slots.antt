@@ -318,6 +318,10 @@ pub record IsWriting (h : Held) (bytes : List ℕ) (start : ℕ) (outer : Levels
   pub above : levels_at h.frames before ≡ [] ∷ outer
   pub short : IsShort (length bytes)
 
+-- the innermost open value has no node yet
+abbrev pub HasNoNode : Held → Type 0
+HasNoNode h = length h.slots.nodes ≡ (innermost h.frames).nodes
+
 -- a text is under way that begins there
 pub record IsText (h : Held) (start : ℕ) : Type 0 where
   pub bytes : List ℕ

@@ -2,6 +2,7 @@ ghost use Rattle.std.specs.Prelude.{◌≡◌, ◌≤◌, ◌-◌, ◌++◌, ◌
 ghost use Rattle.pickle_map.specs.Levels.{no_values};
 ghost use Rattle.pickle_map.specs.Slots.{empty, marks_of, innermost, levels};
 
+mod append;
 mod cut;
 mod place;
 mod read;

@@ -80,10 +80,6 @@ expression_tree (expression.Choice' p c x y) = Choice (expression_tree c) (expre
 expression_tree (expression.Index' p e i) = Index (expression_tree e) (expression_tree i)
 expression_tree (expression.After' p e s) = After (expression_tree e) (suffix_tree s)
 
-abbrev pub optional_tree : Option Expression → Option Tree
-optional_tree None = None
-optional_tree (Some e) = Some (expression_tree e)
-
 abbrev pub boxed_tree : Option (Box Expression Global) → Option Tree
 boxed_tree None = None
 boxed_tree (Some e) = Some (expression_tree e.value)
@@ -140,7 +136,7 @@ field_step f = record {
   parts = record {
     order = f.order;
     name = optional_bytes f.name;
-    constraint = optional_tree f.constraint;
+    constraint = boxed_tree f.constraint;
     label = boxed_tree f.label;
     condition = boxed_tree f.condition;
   };

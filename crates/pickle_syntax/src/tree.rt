@@ -157,7 +157,7 @@ pub struct Field<'t> {
     pub order: Option<ByteOrder>,
     pub form: Form<'t>,
     pub name: Option<&'t [u8]>,
-    pub constraint: Option<Expression<'t>>,
+    pub constraint: Option<Box<Expression<'t>>>,
     pub label: Option<Box<Expression<'t>>>,
     pub condition: Option<Box<Expression<'t>>>,
 }

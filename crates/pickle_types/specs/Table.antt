@@ -1,5 +1,5 @@
 -- The types that the nodes of a table mean.
-use Rattle.std.specs.Prelude.{◌≡◌, ℕ, zero, suc, ◌<◌, ◌≤◌, ◌^◌, length, false, List, [], ◌∷◌, ◌++◌, Option, Some, None, Vec, slice_get, All}
+use Rattle.std.specs.Prelude.{◌≡◌, ℕ, zero, suc, ◌<◌, ◌≤◌, ◌^◌, length, false, List, [], ◌∷◌, ◌++◌, Option, Some, None, Box, Vec, slice_get, All}
 use Rattle.std.specs.declared.alloc.Global.{Global}
 use Rattle.pickle_types.specs.declared.table.Resolved.{Resolved}
 use Rattle.pickle_types.specs.declared.table.Resolved.TheVariants as resolved
@@ -30,14 +30,14 @@ term_of (resolved.ToInteger' type p e) = ToInteger type (term_of e)
 term_of (resolved.ToOffset' type unit p e) = ToOffset type unit (term_of e)
 term_of (resolved.InUnit' unit p e) = InUnit unit (term_of e)
 
-abbrev pub optional_term : Option Resolved → Option Term
+abbrev pub optional_term : Option (Box Resolved Global) → Option Term
 optional_term None = None
-optional_term (Some e) = Some (term_of e)
+optional_term (Some e) = Some (term_of e.value)
 
 abbrev pub bound_of : Extent → Bound
 bound_of extent.Unbounded = Unbounded
-bound_of (extent.Count e) = ByCount (term_of e)
-bound_of (extent.Size e) = BySize (term_of e)
+bound_of (extent.Count e) = ByCount (term_of e.value)
+bound_of (extent.Size e) = BySize (term_of e.value)
 
 abbrev pub name_of : Option (Vec ℕ Global) → Option (List ℕ)
 name_of None = None

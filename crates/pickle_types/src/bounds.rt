@@ -134,7 +134,7 @@ fn weight(e: &Resolved) -> Option<u128>
     }
 }
 
-fn optional_weight(e: &Option<Resolved>) -> Option<u128>
+fn optional_weight(e: &Option<Box<Resolved>>) -> Option<u128>
     ensures { IsBound result (optional_weight (optional_term e.now)) }
 {
     match e {
@@ -154,7 +154,7 @@ fn bound_weight(extent: &Extent) -> Option<u128>
 }
 
 /// The least width of a field, which is 0 where a condition may leave it absent.
-fn least_present(least: Option<u64>, condition: &Option<Resolved>) -> Option<u64>
+fn least_present(least: Option<u64>, condition: &Option<Box<Resolved>>) -> Option<u64>
     ensures { (w : ℕ) → HoldsWidth least w → HoldsWidth result (where_present (optional_term condition.now) w) }
 {
     match condition {

@@ -1,6 +1,6 @@
 //! What an expression sees.
 
-ghost use Rattle.std.specs.Prelude.{◌≡◌, ◌-◌, ◌++◌, ◌∷◌, [], ℕ, List, length, take, if◌then◌else◌, None, IfSome, IfErr, OnOk, OnErr, MatchOption};
+ghost use Rattle.std.specs.Prelude.{◌≡◌, ◌-◌, ◌++◌, ◌∷◌, [], ℕ, List, length, take, if◌then◌else◌, None, IfOk, IfSome, IfErr, OnOk, OnErr, MatchOption};
 ghost use Rattle.pickle_types.specs.Scopes.{resolve, is_named};
 ghost use Rattle.pickle_types.specs.Innermost.{fields_of, kept_place, last_place, IsIndexed};
 ghost use Rattle.pickle_types.specs.Built.{views_of, IsResolved, AreBelow, IsInLevel, bytes_now};
@@ -50,31 +50,22 @@ fn place_of(places: &IndexMap<&[u8], Option<usize>>, word: &[u8]) -> Option<usiz
     places.get(word).copied().flatten()
 }
 
-/// The place of the field that a new one of a name hides.
-fn hidden_by(places: &IndexMap<&[u8], Option<usize>>, name: Option<&[u8]>) -> Option<usize>
-    ensures { IfSome name.entry (λ n. result ≡ kept_place places.now.entries n.now) }
-{
-    match name {
-        None => None,
-        Some(name) => place_of(places, name),
-    }
-}
-
-/// Keeps the place of a name, where there is a name. A name that is there needs no memory.
+/// Keeps the place of a name, where there is a name, and gives the one that it had. A name that is there needs no memory.
 fn keep_place<'n>(
     places: &mut IndexMap<&'n [u8], Option<usize>>,
     name: Option<&'n [u8]>,
     place: Option<usize>,
-) -> Result<(), FaultKind>
+) -> Result<Option<usize>, FaultKind>
     ensures kept { OnOk result ((word : List ℕ) → kept_place places.new.entries word ≡ (if is_named (bytes_now name.entry) word then place else kept_place places.old.entries word)) }
+    ensures had { IfOk result (λ had. IfSome name.entry (λ n. had ≡ kept_place places.old.entries n.now)) }
     ensures err { OnErr result (places.new.entries ≡ places.old.entries) }
     ensures absent { OnErr result (MatchOption name.entry ⊥ (λ n. kept_place places.old.entries n.now ≡ None)) }
     ensures kind { IfErr result (λ e. e ≡ FaultKind.Memory) }
 {
-    if let Some(name) = name {
-        places.insert(name, place)?;
+    match name {
+        None => Ok(None),
+        Some(name) => Ok(places.insert(name, place)?.flatten()),
     }
-    Ok(())
 }
 
 impl<'n> Scopes<'n> {
@@ -110,16 +101,11 @@ impl<'n> Scopes<'n> {
         ensures err { OnErr result (self.new ≡ self.old) }
         ensures kind { IfErr result (λ e. e ≡ FaultKind.Memory) }
     {
+        self.entries.reserve(1)?;
         let place = self.entries.len();
-        let hidden = hidden_by(&self.places, field.name);
-        self.entries.push(Entry { field, hidden })?;
-        match keep_place(&mut self.places, field.name, Some(place)) {
-            Ok(()) => Ok(()),
-            Err(kind) => {
-                self.entries.truncate(place);
-                Err(kind)
-            }
-        }
+        let hidden = keep_place(&mut self.places, field.name, Some(place))?;
+        self.entries.push_reserved(Entry { field, hidden });
+        Ok(())
     }
 
     /// Takes away the last field, so that what it hides is seen again.
@@ -131,10 +117,21 @@ impl<'n> Scopes<'n> {
         }
     }
 
+    /// Takes away all fields, in the time of the names that are kept; the room of the map may be much greater.
+    fn clear(&mut self)
+        ensures { self.new ≡ [] }
+    {
+        self.entries.clear();
+        self.places.truncate(0);
+    }
+
     /// Leaves the first fields, so many of them.
     pub fn truncate(&mut self, count: usize)
         ensures { self.new ≡ take count self.old }
     {
+        if count == 0 {
+            self.clear();
+        }
         while self.len() > count {
             self.pop();
         }

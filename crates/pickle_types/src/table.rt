@@ -39,8 +39,8 @@ pub enum Resolved {
 #[derive(Drop)]
 pub enum Extent {
     Unbounded,
-    Count(Resolved),
-    Size(Resolved),
+    Count(Box<Resolved>),
+    Size(Box<Resolved>),
 }
 
 /// A field of a struct.
@@ -49,9 +49,9 @@ pub struct Field {
     pub name: Option<Vec<u8>>,
     pub order: Option<ByteOrder>,
     pub node: usize,
-    pub constraint: Option<Resolved>,
-    pub label: Option<Resolved>,
-    pub condition: Option<Resolved>,
+    pub constraint: Option<Box<Resolved>>,
+    pub label: Option<Box<Resolved>>,
+    pub condition: Option<Box<Resolved>>,
 }
 
 /// An alternative of a union, or a field of an integral struct.
@@ -60,7 +60,7 @@ pub struct Part {
     pub name: Option<Vec<u8>>,
     pub order: Option<ByteOrder>,
     pub node: usize,
-    pub constraint: Option<Resolved>,
+    pub constraint: Option<Box<Resolved>>,
 }
 
 /// A type, with the nodes of the types that it is made of. A name is the one that a value is printed with.

@@ -27,7 +27,7 @@ use pickle_types::view::{Extent as Bound, Node, Resolved};
 /// told at `place`, the bit where that value starts.
 pub fn check(
     table: &[Node],
-    clause: &Option<Resolved>,
+    clause: &Option<Box<Resolved>>,
     store: &Store,
     place: u128,
     meter: &mut Meter,
@@ -47,7 +47,7 @@ pub fn check(
 /// Whether a field of a struct is there: its condition isn't 0. Faults are told at `start`, the struct's first bit.
 pub fn is_there(
     table: &[Node],
-    clause: &Option<Resolved>,
+    clause: &Option<Box<Resolved>>,
     store: &Store,
     start: u128,
     meter: &mut Meter,
@@ -71,7 +71,7 @@ pub fn is_there(
 pub fn find_start(
     table: &[Node],
     pinned: bool,
-    label: &Option<Resolved>,
+    label: &Option<Box<Resolved>>,
     store: &Store,
     start: u128,
     behind: u128,
@@ -192,8 +192,7 @@ fn told<'a>(
     }
 }
 
-/// The truth of an expression; its fault is told at a place.
-/// Comparisons of integers that are there are met at a glance.
+/// The truth of an expression; its fault is told at a place. Comparisons of integers that are there are met at a glance.
 fn truth_told(
     table: &[Node],
     e: &Resolved,

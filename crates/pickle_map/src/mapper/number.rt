@@ -142,6 +142,7 @@ fn no_number(start: u64) -> Stop
 }
 
 /// Keeps an integer.
+#[inline(always)]
 fn place_integer(
     nodes: &[Node],
     number: IntegerType,

@@ -3,13 +3,14 @@
 ghost use Rattle.std.specs.Prelude.{◌≡◌, ℕ, ◌+◌, ◌*◌, ◌<◌, ◌≤◌, OnOk, IfOk, IfErr};
 ghost use Rattle.bit_space.specs.SpaceView.{known_bits, Keeps};
 ghost use Rattle.bit_space.specs.Reading.{MayRead};
-ghost use Rattle.pickle_map.specs.Framed.{ReadStops};
+ghost use Rattle.pickle_map.specs.Framed.{ReadStops, refusal_at};
 
 use crate::faults::MapFaultKind;
 use crate::mapper::stop::Stop;
 use bit_space::{BitFault, Meter, Order, Space, read_number};
 
 /// The binary digits of `width` bits from the bit `start` on, as a number without a sign.
+#[tactic(auto, using(crate::proofs::Placing::refusal_stops))]
 #[inline(always)]
 pub fn read_digits<S: Space>(
     space: &mut S,
@@ -30,8 +31,18 @@ pub fn read_digits<S: Space>(
 {
     match read_number(space, start, width, order, meter) {
         Ok(digits) => Ok(digits),
-        Err(BitFault::End) => Err(Stop::Fault(MapFaultKind::End, u128::from(start))),
-        Err(BitFault::Device) => Err(Stop::Device),
-        Err(BitFault::Limit) => Err(Stop::Limit),
+        Err(fault) => Err(refusal_at(fault, start)),
+    }
+}
+
+/// Why a refused read stops, whose fault is told at the bit `place`.
+#[inline(always)]
+pub fn refusal_at(fault: BitFault, place: u64) -> Stop
+    ensures { result ≡ refusal_at fault place }
+{
+    match fault {
+        BitFault::End => Stop::Fault(MapFaultKind::End, u128::from(place)),
+        BitFault::Device => Stop::Device,
+        BitFault::Limit => Stop::Limit,
     }
 }

@@ -2,9 +2,9 @@
 
 ghost use Rattle.std.specs.Prelude.{◌≡◌, ◌+◌, ◌*◌, ◌/◌, ◌<◌, ◌≤◌, [], length, IfOk, IfErr, OnOk, OnErr};
 ghost use Rattle.bit_space.specs.SpaceView.{HasRisen, known_bits};
-ghost use Rattle.bit_space.specs.Reading.{MayRead};
+ghost use Rattle.bit_space.specs.Reading.{MayRead, IsRefused};
 ghost use Rattle.bit_space.specs.declared.order.Order.TheVariants.{Big};
-ghost use Rattle.pickle_map.specs.Framed.{Mapped, Closed, Runs, ReadStops};
+ghost use Rattle.pickle_map.specs.Framed.{Mapped, Closed, Runs};
 ghost use Rattle.pickle_map.specs.Values.{outer_of};
 ghost use Rattle.pickle_map.specs.Mapping.{text_plan};
 ghost use Rattle.pickle_map.specs.Plan.{Tick};
@@ -13,10 +13,10 @@ ghost use Rattle.pickle_map.specs.Levels as stored;
 ghost use Rattle.pickle_map.specs.Slots.{levels, IsWriting};
 ghost use Rattle.pickle_map.specs.Stops.{stop_finish};
 
-use crate::mapper::read::read_digits;
+use crate::mapper::read::refusal_at;
 use crate::mapper::stop::Stop;
 use crate::store::Store;
-use bit_space::{Meter, Order, Space};
+use bit_space::{BitFault, Meter, Order, Space, read_number};
 use pickle_types::view::Node;
 
 /// Maps a string from the bit `start` on, and gives the bit behind its final 0.
@@ -53,7 +53,8 @@ pub(crate) fn map_text<S: Space>(
     }
 }
 
-/// Reads the bytes of a string into its level, and closes it.
+/// Reads the bytes of a string into its level, and closes it. It stands apart, so that its loop has the registers.
+#[inline(never)]
 fn text_body<S: Space>(
     nodes: &[Node],
     start: u64,
@@ -81,20 +82,26 @@ fn text_body<S: Space>(
 {
     let mut place = start;
     loop {
-        let byte = read_byte(space, start, place, meter)?;
-        place += 8;
-        if byte == 0 {
-            store.close_text(start)?;
-            meter.note_made();
-            return Ok(place);
+        match read_byte(space, place, meter) {
+            Ok(byte) => {
+                let first = place == start;
+                place += 8;
+                if byte == 0 {
+                    store.close_text(start)?;
+                    meter.note_made();
+                    return Ok(place);
+                }
+                store.push_byte(byte, first, start)?;
+                meter.note_made();
+            }
+            Err(fault) => return Err(refusal_at(fault, start)),
         }
-        store.push_byte(byte, start)?;
-        meter.note_made();
     }
 }
 
-/// Reads a byte of a string, whose fault is told at the string's start.
-fn read_byte<S: Space>(space: &mut S, start: u64, place: u64, meter: &mut Meter) -> Result<u8, Stop>
+/// Reads a byte of a string.
+#[inline(always)]
+fn read_byte<S: Space>(space: &mut S, place: u64, meter: &mut Meter) -> Result<u8, BitFault>
     ensures len { (S.view space.new).len ≡ (S.view space.old).len }
     ensures bytes { (S.view space.new).bytes ≡ (S.view space.old).bytes }
     ensures failures { (S.view space.old).failures ≤ (S.view space.new).failures }
@@ -104,13 +111,7 @@ fn read_byte<S: Space>(space: &mut S, start: u64, place: u64, meter: &mut Meter)
     ensures rise { meter.old.steps ≤ meter.new.steps }
     ensures inside { OnOk result (place + 8 ≤ 8 * (S.view space.old).len) }
     ensures ok { IfOk result (λ n. MayRead (known_bits (S.view space.old)) Big place 8 n) }
-    ensures err { IfErr result (λ stop. ReadStops stop start (place + 8) (S.view space.old) (S.view space.new) meter.old.limit meter.old.steps meter.new.steps) }
+    ensures err { IfErr result (λ fault. IsRefused fault (place + 8) (S.view space.old) (S.view space.new) meter.old.limit meter.old.steps meter.new.steps) }
 {
-    match read_digits(space, place, 8, Order::Big, meter) {
-        Ok(byte) => Ok(byte as u8),
-        Err(Stop::Fault(kind, _)) => Err(Stop::Fault(kind, u128::from(start))),
-        Err(Stop::Limit) => Err(Stop::Limit),
-        Err(Stop::Device) => Err(Stop::Device),
-        Err(Stop::Memory) => Err(Stop::Memory),
-    }
+    Ok(read_number(space, place, 8, Order::Big, meter)? as u8)
 }

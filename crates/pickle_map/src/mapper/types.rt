@@ -165,7 +165,7 @@ fn map_shape<S: Space>(
 fn map_checked<S: Space>(
     nodes: &[Node],
     node: usize,
-    constraint: &Option<Resolved>,
+    constraint: &Option<Box<Resolved>>,
     order: Order,
     start: u128,
     space: &mut S,

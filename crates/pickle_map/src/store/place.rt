@@ -4,6 +4,7 @@ ghost use Rattle.pickle_map.specs.Levels.{Levels, pushed, outer_of, top_of, exte
 ghost use Rattle.pickle_map.specs.Slots.{levels, IsNumber, number_value, number_in, IsContentNumber, IsComposite, composite_label};
 
 use crate::store::Store;
+use crate::store::append::append;
 use crate::store::slots::{Family, Link, Node, Shape};
 use bit_space::Memory;
 use std::alloc::AllocError;
@@ -25,7 +26,7 @@ fn move_above(from: &mut Vec<Link>, mark: usize, to: &mut Vec<Link>)
         std::mem::swap(from, to);
         return;
     }
-    let _moved = to.extend_from_slice(&from[mark..]);
+    append(to, &from[mark..]);
     from.truncate(mark);
 }
 
@@ -80,6 +81,7 @@ impl Store {
     }
 
     // Places a value of the parts of the innermost open value, which it then holds in their place.
+    #[inline(always)]
     fn place_family(&mut self, shape: Shape, start: u64, size: u64) -> Result<(), Memory>
         requires composite { IsComposite shape }
         ensures ok { OnOk result (levels self.new ≡ (Some (Tree (composite_label shape) start size (parts_of (top_of (levels self.old)))) ∷ []) ∷ outer_of (levels self.old)) }
@@ -173,6 +175,7 @@ impl Store {
     }
 
     // Makes a value of the parts of the innermost open value, and closes it.
+    #[inline(always)]
     fn close(&mut self, shape: Shape, start: u64, size: u64) -> Result<(), Memory>
         requires composite { IsComposite shape }
         ensures ok { OnOk result (levels self.new ≡ pushed (outer_of (levels self.old)) (Some (Tree (composite_label shape) start size (parts_of (top_of (levels self.old)))))) }

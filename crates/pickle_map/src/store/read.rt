@@ -189,8 +189,7 @@ impl Store {
         requires { at < length self.now.slots.nodes }
         ensures { result ≡ length (parts (value_at self.now.slots at)) }
     {
-        let node = self.node_at(at);
-        self.links_at(&node).len()
+        self.count_linked(at, self.links_from(at))
     }
 
     // The links of the node at a place.
@@ -208,6 +207,7 @@ impl Store {
         requires links { links.now ≡ links_from self.now.slots at }
         ensures { result ≡ length (parts (value_at self.now.slots at)) }
     {
+        // Only the proof needs the node.
         let _node = self.nodes[at];
         links.len()
     }
@@ -219,6 +219,7 @@ impl Store {
         ensures part { option_map (value_at self.now.slots) result ≡ part_at (value_at self.now.slots at) i }
         ensures below { IfSome result (λ j. j < at) }
     {
+        // Only the proof needs the node.
         let _node = self.nodes[at];
         match links.get(i) {
             Some(link) => link.target(),
@@ -231,11 +232,7 @@ impl Store {
         ensures part { option_map (value_at self.now.slots) result ≡ part_at (value_at self.now.slots at) i }
         ensures below { IfSome result (λ j. j < at) }
     {
-        let node = self.node_at(at);
-        match self.links_at(&node).get(i) {
-            Some(link) => link.target(),
-            None => None,
-        }
+        self.linked(at, self.links_from(at), i)
     }
 
     // The number at a node, where it is an integer or an offset.

@@ -1,23 +1,16 @@
 ghost use Rattle.std.specs.Prelude.{◌≡◌, ℕ, ◌+◌, ◌≤◌, ◌++◌, ◌∷◌, [], Some, List, length, max, ◌-◌, IsTrue, ◌↔◌, IsOk, OnOk, OnErr, vec_len, vec_capacity};
 ghost use Rattle.pickle_map.specs.Tree.{text_value};
 ghost use Rattle.pickle_map.specs.Levels.{Levels, pushed, text_level, FitsIn};
-ghost use Rattle.pickle_map.specs.Slots.{levels, innermost, with_text, with_byte, IsShort, IsWriting, IsText, TakesByte, GoesOn};
+ghost use Rattle.pickle_map.specs.Slots.{levels, with_text, with_byte, IsShort, HasNoNode, IsWriting, IsText, TakesByte, GoesOn};
 
 use crate::store::Store;
+use crate::store::append::append;
 use crate::store::slots::{Link, Node, Shape};
 use bit_space::Memory;
 
-// Appends bytes, for which there is room.
-fn append(to: &mut Vec<u8>, bytes: &[u8])
-    requires { vec_len to.old + length bytes.now ≤ vec_capacity to.old }
-    ensures items { to.new.items ≡ to.old.items ++ bytes.now }
-    ensures capacity { vec_capacity to.old ≤ vec_capacity to.new }
-{
-    let _appended = to.extend_from_slice(bytes);
-}
-
 impl Store {
     // Places a text that begins at the bit `start`.
+    #[inline(never)]
     fn place_text(&mut self, start: u64, bytes: &[u8]) -> Result<(), Memory>
         requires short { IsShort (length bytes.now) }
         ensures slots { OnOk result (self.new ≡ record self.old { slots = with_text bytes.now start self.old.slots }) }
@@ -46,6 +39,7 @@ impl Store {
     }
 
     // Places a byte more of a text that has some.
+    #[inline(always)]
     fn append_byte(&mut self, byte: u8) -> Result<(), Memory>
         requires { GoesOn self.old }
         ensures slots { OnOk result (self.new ≡ record self.old { slots = with_byte byte self.old.slots }) }
@@ -53,18 +47,16 @@ impl Store {
         ensures depth { length (levels self.new) ≡ length (levels self.old) }
         ensures succeeds { length self.old.slots.bytes + 1 ≤ self.old.room → IsOk result }
     {
-        let last = self.texts.len() - 1;
         self.bytes.reserve(1)?;
         self.bytes.push_reserved(byte);
-        let end = self.bytes.len();
-        self.texts.truncate(last);
-        self.texts.push_reserved(end);
+        let last = self.texts.len() - 1;
+        self.texts[last] = self.bytes.len();
         Ok(())
     }
 
     // Whether the innermost open value has no node yet.
-    fn is_fresh(&self) -> bool
-        ensures { IsTrue result ↔ (length self.now.slots.nodes ≡ (innermost self.now.frames).nodes) }
+    fn has_no_node(&self) -> bool
+        ensures { IsTrue result ↔ HasNoNode self.now }
     {
         self.nodes.len() == self.innermost().nodes
     }
@@ -80,9 +72,11 @@ impl Store {
         self.open_level();
     }
 
-    /// Places a byte more of the text under way, which begins at the bit `start`.
-    pub(crate) fn push_byte(&mut self, byte: u8, start: u64) -> Result<(), Memory>
-        requires { TakesByte self.old start }
+    /// Places a byte more of the text under way, which begins at the bit `start`, and tells by `first` that it has none yet.
+    #[inline(always)]
+    pub(crate) fn push_byte(&mut self, byte: u8, first: bool, start: u64) -> Result<(), Memory>
+        requires takes { TakesByte self.old start }
+        requires first { IsTrue first ↔ HasNoNode self.old }
         ensures writes { OnOk result ((bytes : List ℕ) (outer : Levels) → IsWriting self.old bytes start outer → IsShort (length bytes + 1) → IsWriting self.new (bytes ++ byte ∷ []) start outer) }
         ensures levels { OnOk result ((bytes : List ℕ) (outer : Levels) → IsWriting self.old bytes start outer → IsShort (length bytes + 1) → levels self.new ≡ text_level (bytes ++ byte ∷ []) start outer) }
         ensures err { OnErr result (self.new ≡ self.old) }
@@ -90,7 +84,7 @@ impl Store {
         ensures depth { length (levels self.new) ≡ length (levels self.old) }
         ensures succeeds { (bytes : List ℕ) (outer : Levels) → IsWriting self.old bytes start outer → FitsIn self.old.room (text_level (bytes ++ byte ∷ []) start outer) → IsOk result }
     {
-        if self.is_fresh() {
+        if first {
             self.place_text(start, &[byte])
         } else {
             self.append_byte(byte)
@@ -106,7 +100,7 @@ impl Store {
         ensures depth { length (levels self.new) ≡ length (levels self.old) }
         ensures succeeds { (bytes : List ℕ) (outer : Levels) → IsWriting self.old bytes start outer → FitsIn self.old.room (pushed outer (Some (text_value bytes start))) → IsOk result }
     {
-        if self.is_fresh() {
+        if self.has_no_node() {
             self.place_text(start, &[])
         } else {
             Ok(())

@@ -1,9 +1,8 @@
 //! Reads the fields of structs and unions.
 
-ghost use Rattle.std.specs.Prelude.{◌≡◌, ◌≤◌, ◌<◌, IfOk, IfErr};
+ghost use Rattle.std.specs.Prelude.{◌≡◌, ◌≤◌, ◌<◌, IfOk};
 ghost use Rattle.pickle_syntax.specs.Tokens.{tokens_of};
-ghost use Rattle.pickle_syntax.specs.Tree.{boxed_tree, optional_tree, optional_bytes, field_tree, fields_tree};
-ghost use Rattle.pickle_syntax.specs.declared.parser.fault.Stop.TheVariants.{Memory};
+ghost use Rattle.pickle_syntax.specs.Tree.{boxed_tree, optional_bytes, field_tree, fields_tree};
 ghost use Rattle.pickle_syntax.specs.Limits;
 ghost use Rattle.pickle_syntax.specs.Limits.{standard};
 ghost use Rattle.pickle_syntax.specs.Reading.{Gives};
@@ -44,11 +43,11 @@ pub struct FoundFields<'t> {
 pub fn present_at<'a, 't>(
     alloc: Global,
     tokens: &'a [Kind<'t>],
-) -> Result<(Option<Expression<'t>>, &'a [Kind<'t>]), Stop>
-    ensures { Gives (λ x. (optional_tree x.0, tokens_of x.1.now)) result (present_at standard.expression_depth (tokens_of tokens.now)) }
+) -> Result<(Option<Box<Expression<'t>>>, &'a [Kind<'t>]), Stop>
+    ensures { Gives (λ x. (boxed_tree x.0, tokens_of x.1.now)) result (present_at standard.expression_depth (tokens_of tokens.now)) }
 {
     let (found, rest) = expression(alloc, EXPRESSION_DEPTH, 1, tokens)?;
-    Ok((Some(found.expression), rest))
+    Ok((Some(Box::new(alloc, found.expression)?), rest))
 }
 
 /// An expression behind this sign, or nothing.
@@ -57,8 +56,8 @@ fn part_at<'a, 't>(
     alloc: Global,
     tokens: &'a [Kind<'t>],
     sign: Sign,
-) -> Result<(Option<Expression<'t>>, &'a [Kind<'t>]), Stop>
-    ensures { Gives (λ x. (optional_tree x.0, tokens_of x.1.now)) result (part_at standard.expression_depth sign (tokens_of tokens.now)) }
+) -> Result<(Option<Box<Expression<'t>>>, &'a [Kind<'t>]), Stop>
+    ensures { Gives (λ x. (boxed_tree x.0, tokens_of x.1.now)) result (part_at standard.expression_depth sign (tokens_of tokens.now)) }
 {
     match after_sign(tokens, sign) {
         Some(rest) => present_at(alloc, rest),
@@ -71,26 +70,12 @@ fn part_at<'a, 't>(
 fn condition_at<'a, 't>(
     alloc: Global,
     tokens: &'a [Kind<'t>],
-) -> Result<(Option<Expression<'t>>, &'a [Kind<'t>]), Stop>
-    ensures { Gives (λ x. (optional_tree x.0, tokens_of x.1.now)) result (condition_at standard.expression_depth (tokens_of tokens.now)) }
+) -> Result<(Option<Box<Expression<'t>>>, &'a [Kind<'t>]), Stop>
+    ensures { Gives (λ x. (boxed_tree x.0, tokens_of x.1.now)) result (condition_at standard.expression_depth (tokens_of tokens.now)) }
 {
     match after_word(tokens, Word::If) {
         Some(rest) => present_at(alloc, rest),
         None => Ok((None, tokens)),
-    }
-}
-
-/// The same expression, in a box.
-pub fn boxed<'t>(
-    alloc: Global,
-    expression: Option<Expression<'t>>,
-) -> Result<Option<Box<Expression<'t>>>, Stop>
-    ensures made { IfOk result (λ x. boxed_tree x ≡ optional_tree expression.entry) }
-    ensures fails { IfErr result (λ e. e ≡ Memory) }
-{
-    match expression {
-        None => Ok(None),
-        Some(expression) => Ok(Some(Box::new(alloc, expression)?)),
     }
 }
 
@@ -135,8 +120,6 @@ fn field_at<'a, 't>(
     let (label, rest) = part_at(alloc, rest, Sign::At)?;
     let (condition, rest) = condition_at(alloc, rest)?;
     let rest = expect(rest, Sign::Semicolon)?;
-    let label = boxed(alloc, label)?;
-    let condition = boxed(alloc, condition)?;
     let field = Field {
         order,
         form: found.form,
@@ -170,6 +153,7 @@ pub fn fields_at<'a, 't>(
     let mut rest = tokens;
     'fields: loop {
         if let Some(after) = after_sign(rest, Sign::CloseBrace) {
+            fields.shrink_to_fit();
             return Ok((FoundFields { fields, depth }, after));
         }
         if fields.len() == FIELDS {

@@ -2,7 +2,7 @@
 
 ghost use Rattle.std.specs.Prelude.{◌≡◌, ◌+◌, ◌≤◌, ◌<◌, IfOk, IfErr};
 ghost use Rattle.pickle_syntax.specs.Tokens.{tokens_of};
-ghost use Rattle.pickle_syntax.specs.Tree.{optional_tree, target_tree, form_tree};
+ghost use Rattle.pickle_syntax.specs.Tree.{boxed_tree, target_tree, form_tree};
 ghost use Rattle.pickle_syntax.specs.declared.parser.fault.Stop.TheVariants.{Memory};
 ghost use Rattle.pickle_syntax.specs.Limits;
 ghost use Rattle.pickle_syntax.specs.Limits.{standard};
@@ -10,7 +10,7 @@ ghost use Rattle.pickle_syntax.specs.Reading.{Gives};
 ghost use Rattle.pickle_syntax.specs.ReadForms.{bound_at, target_form, struct_at, pinned_at, base_at, suffix_at, form_at};
 
 use crate::parser::fault::Stop;
-use crate::parser::fields::{boxed, braced_at, fields_at, present_at};
+use crate::parser::fields::{braced_at, fields_at, present_at};
 use crate::parser::reading::{after_sign, expect, expect_word, reference_at, target_at};
 use crate::token::{Kind, Sign, Word};
 use crate::tree::{Expression, Form, Target};
@@ -29,8 +29,8 @@ pub struct FoundForm<'t> {
 fn bound_at<'a, 't>(
     alloc: Global,
     tokens: &'a [Kind<'t>],
-) -> Result<(Option<Expression<'t>>, &'a [Kind<'t>]), Stop>
-    ensures { Gives (λ x. (optional_tree x.0, tokens_of x.1.now)) result (bound_at standard.expression_depth (tokens_of tokens.now)) }
+) -> Result<(Option<Box<Expression<'t>>>, &'a [Kind<'t>]), Stop>
+    ensures { Gives (λ x. (boxed_tree x.0, tokens_of x.1.now)) result (bound_at standard.expression_depth (tokens_of tokens.now)) }
 {
     if let Some(rest) = after_sign(tokens, Sign::CloseBracket) {
         return Ok((None, rest));
@@ -153,7 +153,6 @@ fn suffix_at<'a, 't>(
                 return Err(Stop::TooDeep);
             }
             let (bound, rest) = bound_at(alloc, rest)?;
-            let bound = boxed(alloc, bound)?;
             let depth = found.depth + 1;
             let form = Form::Array(Box::new(alloc, found.form)?, bound);
             Ok((FoundForm { form, depth }, rest))

@@ -1,6 +1,6 @@
 //! The names of a type's fields.
 
-ghost use Rattle.std.specs.Prelude.{◌≡◌, ℕ, List, [], Some, if◌then◌else◌, IfOk, IfErr, IsTrue, OnOk, OnErr};
+ghost use Rattle.std.specs.Prelude.{◌≡◌, ◌↔◌, ℕ, List, [], Some, if◌then◌else◌, IfOk, IfErr, IsTrue, OnOk, OnErr};
 ghost use Rattle.pickle_types.specs.Scopes.{is_named};
 ghost use Rattle.pickle_types.specs.Built.{bytes_now};
 ghost use Rattle.pickle_types.specs.FieldNames.{kept_in, ArePlaced};
@@ -35,7 +35,7 @@ impl<'n> FieldNames<'n> {
     }
 
     pub fn is_empty(&self) -> bool
-        ensures { IsTrue result → self.now.places.entries ≡ [] }
+        ensures { IsTrue result ↔ (self.now.places.entries ≡ []) }
     {
         self.places.is_empty()
     }

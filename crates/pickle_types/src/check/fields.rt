@@ -1,7 +1,7 @@
 //! Fields of structs and alternatives of unions.
 
 ghost use Rattle.std.specs.Prelude.{◌≡◌, ◌+◌, ◌*◌, ◌<◌, ◌≤◌, ℕ, List, length, map, Ok, IfOk, IfErr, OnErr};
-ghost use Rattle.pickle_syntax.specs.Tree.{optional_bytes, boxed_tree, optional_tree, field_tree, form_tree};
+ghost use Rattle.pickle_syntax.specs.Tree.{optional_bytes, boxed_tree, field_tree, form_tree};
 ghost use Rattle.pickle_types.specs.Types.{PokeType};
 ghost use Rattle.pickle_types.specs.Table.{name_of, optional_term, open_fields, open_parts, type_of, FieldsBelow, PartsBelow, IsTable};
 ghost use Rattle.pickle_types.specs.Meaning.{has_name, fresh, may_stand, if_here, struct_place, place_in, parts_of, total_width};
@@ -48,8 +48,8 @@ pub fn condition_in<'a, 't>(field: &'a tree::Field<'t>) -> &'a Option<Box<Expres
     &field.condition
 }
 
-pub fn constraint_in<'a, 't>(field: &'a tree::Field<'t>) -> &'a Option<Expression<'t>>
-    ensures { optional_tree result.now ≡ (field_tree field.now).parts.constraint }
+pub fn constraint_in<'a, 't>(field: &'a tree::Field<'t>) -> &'a Option<Box<Expression<'t>>>
+    ensures { boxed_tree result.now ≡ (field_tree field.now).parts.constraint }
 {
     &field.constraint
 }

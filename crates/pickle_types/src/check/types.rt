@@ -1,7 +1,7 @@
 //! The types of forms, as nodes of a table.
 
 ghost use Rattle.std.specs.Prelude.{◌≡◌, ◌+◌, ◌<◌, ◌≤◌, ℕ, List, [], ◌∷◌, ◌++◌, length, true, false, Ok, None, IfOk, IfErr, OnOk, All};
-ghost use Rattle.pickle_syntax.specs.Tree.{reference_tree, boxed_tree, optional_tree, form_tree, field_tree, fields_tree, ArrayForm, StructForm, IntegralForm, UnionForm, OffsetForm};
+ghost use Rattle.pickle_syntax.specs.Tree.{reference_tree, boxed_tree, form_tree, field_tree, fields_tree, ArrayForm, StructForm, IntegralForm, UnionForm, OffsetForm};
 ghost use Rattle.pickle_types.specs.Types;
 ghost use Rattle.pickle_types.specs.Sound.{IsSoundClause, IsSoundBound};
 ghost use Rattle.pickle_types.specs.Table.{optional_term, bound_of, type_of, open_shape, IsTable, NamesBelow, IsSoundField, IsSoundShape};
@@ -54,34 +54,13 @@ pub struct Builder<'n> {
 }
 
 impl<'n> Builder<'n> {
-    /// A constraint, which is an integer.
+    /// A constraint or a condition, which is an integer.
     #[tactic(auto, unfolding(crate::specs::Meaning::integer_expression))]
     fn integer_expression(
         &self,
         levels: u8,
-        e: &Option<Expression<'_>>,
-    ) -> Result<Option<Resolved>, FaultKind>
-        requires table { IsTable self.now.nodes }
-        requires names { AreNamed self.now.nodes self.now.names }
-        requires seen { AreBelow (length self.now.nodes) levels self.now.seen }
-        ensures gives { Gives optional_term result (integer_expression (known_types self.now) (visible_in self.now) levels (optional_tree e.now)) }
-        ensures sound { IfOk result (λ c. IsSoundClause (optional_term c)) }
-    {
-        let Some(e) = e else {
-            return Ok(None);
-        };
-        let x = typed(self.alloc, &self.names, &self.nodes, &self.seen, levels, e)?;
-        integer(&self.nodes, x.sort)?;
-        Ok(Some(x.term))
-    }
-
-    /// A condition, which is an integer.
-    #[tactic(auto, unfolding(crate::specs::Meaning::integer_expression))]
-    fn condition(
-        &self,
-        levels: u8,
         e: &Option<Box<Expression<'_>>>,
-    ) -> Result<Option<Resolved>, FaultKind>
+    ) -> Result<Option<Box<Resolved>>, FaultKind>
         requires table { IsTable self.now.nodes }
         requires names { AreNamed self.now.nodes self.now.names }
         requires seen { AreBelow (length self.now.nodes) levels self.now.seen }
@@ -93,7 +72,7 @@ impl<'n> Builder<'n> {
         };
         let x = typed(self.alloc, &self.names, &self.nodes, &self.seen, levels, e)?;
         integer(&self.nodes, x.sort)?;
-        Ok(Some(x.term))
+        Ok(Some(Box::new(self.alloc, x.term)?))
     }
 
     /// A label, which is an offset.
@@ -102,7 +81,7 @@ impl<'n> Builder<'n> {
         &self,
         levels: u8,
         e: &Option<Box<Expression<'_>>>,
-    ) -> Result<Option<Resolved>, FaultKind>
+    ) -> Result<Option<Box<Resolved>>, FaultKind>
         requires table { IsTable self.now.nodes }
         requires names { AreNamed self.now.nodes self.now.names }
         requires seen { AreBelow (length self.now.nodes) levels self.now.seen }
@@ -114,7 +93,7 @@ impl<'n> Builder<'n> {
         };
         let x = typed(self.alloc, &self.names, &self.nodes, &self.seen, levels, e)?;
         match operand_of(&self.nodes, x.sort).number() {
-            Some(Scalar::Offset(_, _)) => Ok(Some(x.term)),
+            Some(Scalar::Offset(_, _)) => Ok(Some(Box::new(self.alloc, x.term)?)),
             _ => Err(FaultKind::Mismatch),
         }
     }
@@ -137,8 +116,8 @@ impl<'n> Builder<'n> {
         };
         let x = typed(self.alloc, &self.names, &self.nodes, &self.seen, levels, e)?;
         match operand_of(&self.nodes, x.sort).number() {
-            Some(Scalar::Integer(_)) => Ok(Extent::Count(x.term)),
-            Some(Scalar::Offset(_, _)) => Ok(Extent::Size(x.term)),
+            Some(Scalar::Integer(_)) => Ok(Extent::Count(Box::new(self.alloc, x.term)?)),
+            Some(Scalar::Offset(_, _)) => Ok(Extent::Size(Box::new(self.alloc, x.term)?)),
             None => Err(FaultKind::Mismatch),
         }
     }
@@ -148,14 +127,14 @@ impl<'n> Builder<'n> {
         &mut self,
         place: Place,
         itself: Seen<'n>,
-        e: &Option<Expression<'_>>,
-    ) -> Result<Option<Resolved>, FaultKind>
+        e: &Option<Box<Expression<'_>>>,
+    ) -> Result<Option<Box<Resolved>>, FaultKind>
         requires table { IsTable self.old.nodes }
         requires names { AreNamed self.old.nodes self.old.names }
         requires level { itself.level < 64 }
         requires inside { itself.node < length self.old.nodes }
         requires seen { AreBelow (length self.old.nodes) (itself.level + 1) self.old.seen }
-        ensures gives { Gives optional_term result (integer_expression (known_types self.old) (views_of self.old.nodes (self.old.seen ++ itself.entry ∷ [])) (itself.entry.level + 1) (optional_tree e.now)) }
+        ensures gives { Gives optional_term result (integer_expression (known_types self.old) (views_of self.old.nodes (self.old.seen ++ itself.entry ∷ [])) (itself.entry.level + 1) (boxed_tree e.now)) }
         ensures sound { IfOk result (λ c. IsSoundClause (optional_term c)) }
         ensures names { self.new.names ≡ self.old.names }
         ensures nodes { self.new.nodes ≡ self.old.nodes }
@@ -194,7 +173,7 @@ impl<'n> Builder<'n> {
         let word = name_in(written);
         fresh(word, before)?;
         let label = self.offset_expression(levels + 1, label_in(written))?;
-        let condition = self.condition(levels + 1, condition_in(written))?;
+        let condition = self.integer_expression(levels + 1, condition_in(written))?;
         let itself = Seen {
             name: word,
             level: levels,

@@ -15,7 +15,8 @@ use itoa::Buffer;
 use std::io::Write;
 use std::marker::Model;
 
-/// Text that is yet to be written.
+/// Text that is yet to be written. What lays out numbers and names takes the array and the count and gives a count back, so that the
+/// count stays in a register.
 #[derive(Drop)]
 pub struct Line {
     bytes: [u8; LINE_ROOM],

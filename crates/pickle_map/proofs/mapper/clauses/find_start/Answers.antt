@@ -8,7 +8,7 @@ returns-in-None-clause-is c = rw (c.if-pinned.false, c.in-None.is) (refl, omega 
 
 pub returns-in-Some-clause-is : goal.returns-in-Some-clause-is
 unfolding field_start
-returns-in-Some-clause-is c = rw (c.if-pinned.false, c.in-Some.is) c.labelled_start.ensures.is
+returns-in-Some-clause-is c = rw (c.if-pinned.false, c.in-Some.is, ← c.deref.ensures) c.labelled_start.ensures.is
 
 pub returns-then-pinned-clause-is : goal.returns-then-pinned-clause-is
 unfolding field_start

@@ -5,6 +5,7 @@ use Rattle.pickle_map.specs.Slots.{levels}
 use Rattle.pickle_map.specs.Values.{text_value}
 use Rattle.pickle_map.proofs.Fitting.{longer}
 use Rattle.pickle_map.proofs.Walks.{follow_here, follow_on}
+use Rattle.pickle_map.proofs.Placing.{refusal_stops}
 use Rattle.pickle_map.proofs.Texts.{text_stops, text_not_closed, text_closed, text_no_room, text_goes, around_text, not_closed, not_longer, keeps_text, may_same}
 use Rattle.pickle_map.proofs.mapper.text.text_body.Goals as goal
 
@@ -22,51 +23,49 @@ loop-byte-init g c = record {
   so_far = ([], _, omega arith, omega arith, c.requires.writing, follow_here);
 }
 
-pub returns-in_err-byte-clause-err : goal.returns-in_err-byte-clause-err
-returns-in_err-byte-clause-err g c =
-    let p = err_from_is_err_and c.from_residual.result c.from_residual.ensures.1 in
+pub returns-in-Err-clause-err : goal.returns-in-Err-clause-err
+returns-in-Err-clause-err g c =
     let i = c.loop-byte.invariant in
-    let e = c.in_err-byte.ensures in
-    rw (p.1, p.2) (follow_on i.so_far.5 (text_stops _ _ _ _ _ _ i.so_far.2 i.inside _ _ _ i.limit (ap (λ l. 8 * l) (sym i.len)) e.err e.made))
+    let e = c.in-Err.ensures in
+    let stops = refusal_stops c.in-Err.fault c.args.start (c.loop-byte.place + 8) _ _ _ _ _ e.err in
+    rw c.refusal_at.ensures (follow_on i.so_far.5 (text_stops _ _ _ _ _ _ i.so_far.2 i.inside _ _ _ i.limit (ap (λ l. 8 * l) (sym i.len)) stops e.made))
 
-pub returns-in_err-byte-clause-outer : goal.returns-in_err-byte-clause-outer
-returns-in_err-byte-clause-outer g c =
-    let p = err_from_is_err_and c.from_residual.result c.from_residual.ensures.1 in
+pub returns-in-Err-clause-outer : goal.returns-in-Err-clause-outer
+returns-in-Err-clause-outer g c =
     let i = c.loop-byte.invariant in
     let first = around_text c.args.nodes.now c.args.store.now [] c.args.start (stored.outer_of (levels c.args.store.now)) c.requires.writing in
-    let same = around_text c.args.nodes.now c.loop-byte.store i.so_far.0 c.args.start (stored.outer_of (levels c.args.store.now)) i.so_far.4 ∙ sym first in
-    rw (p.1) same
+    around_text c.args.nodes.now c.loop-byte.store i.so_far.0 c.args.start (stored.outer_of (levels c.args.store.now)) i.so_far.4 ∙ sym first
 
-pub returns-in_err-close_text-clause-err : goal.returns-in_err-close_text-clause-err
-returns-in_err-close_text-clause-err g c =
-    let p = err_from_is_err_and c.from_residual-in_err-close_text.result c.from_residual-in_err-close_text.ensures.1 in
+pub returns-in_err-close_text-in-Ok-clause-err : goal.returns-in_err-close_text-in-Ok-clause-err
+returns-in_err-close_text-in-Ok-clause-err g c =
+    let p = err_from_is_err_and c.from_residual.result c.from_residual.ensures.1 in
     let i = c.loop-byte.invariant in
-    let r = c.in_ok-byte.ensures in
+    let r = c.in-Ok.ensures in
     let first = around_text c.args.nodes.now c.args.store.now [] c.args.start (stored.outer_of (levels c.args.store.now)) c.requires.writing in
     let fits = rw i.len at r.inside in
     let may = may_same _ _ _ _ i.bytes r.ok in
-    let full = not_closed c.args.nodes.now c.loop-byte.store i.so_far.0 c.args.start (stored.outer_of (levels c.args.store.now)) c.loop-byte.store.room (c.in_err-close_text.ensures.succeeds i.so_far.0 (stored.outer_of (levels c.args.store.now)) i.so_far.4) in
+    let full = not_closed c.args.nodes.now c.loop-byte.store i.so_far.0 c.args.start (stored.outer_of (levels c.args.store.now)) c.loop-byte.store.room (c.in_err-close_text-in-Ok.ensures.succeeds i.so_far.0 (stored.outer_of (levels c.args.store.now)) i.so_far.4) in
     let end : c.args.start + 8 * (length i.so_far.0 + 1) ≡ c.loop-byte.place + 8 = omega (arith, i.so_far.3) in
     let full = rw (← first, end) at full in
     rw (p.1, p.2) (follow_on i.so_far.5 (text_not_closed _ _ _ _ _ _ i.so_far.2 i.inside _ (r.limit ∙ i.limit) r.steps r.made fits may c.if-byte-eq0.true i.room full))
 
-pub returns-in_err-close_text-clause-outer : goal.returns-in_err-close_text-clause-outer
-returns-in_err-close_text-clause-outer g c =
-    let p = err_from_is_err_and c.from_residual-in_err-close_text.result c.from_residual-in_err-close_text.ensures.1 in
+pub returns-in_err-close_text-in-Ok-clause-outer : goal.returns-in_err-close_text-in-Ok-clause-outer
+returns-in_err-close_text-in-Ok-clause-outer g c =
+    let p = err_from_is_err_and c.from_residual.result c.from_residual.ensures.1 in
     let i = c.loop-byte.invariant in
     let first = around_text c.args.nodes.now c.args.store.now [] c.args.start (stored.outer_of (levels c.args.store.now)) c.requires.writing in
     let same = around_text c.args.nodes.now c.loop-byte.store i.so_far.0 c.args.start (stored.outer_of (levels c.args.store.now)) i.so_far.4 ∙ sym first in
-    rw (p.1, c.in_err-close_text.ensures.err) same
+    rw (p.1, c.in_err-close_text-in-Ok.ensures.err) same
 
 pub returns-then-byte-eq0-clause-ok : goal.returns-then-byte-eq0-clause-ok
 returns-then-byte-eq0-clause-ok g c =
     let n = c.note_made.ensures in
     let i = c.loop-byte.invariant in
-    let r = c.in_ok-byte.ensures in
+    let r = c.in-Ok.ensures in
     let first = around_text c.args.nodes.now c.args.store.now [] c.args.start (stored.outer_of (levels c.args.store.now)) c.requires.writing in
     let fits = rw i.len at r.inside in
     let may = may_same _ _ _ _ i.bytes r.ok in
-    let closed = c.in_ok-close_text.ensures.ok i.so_far.0 (stored.outer_of (levels c.args.store.now)) i.so_far.4 in
+    let closed = c.in_ok-close_text-in-Ok.ensures.ok i.so_far.0 (stored.outer_of (levels c.args.store.now)) i.so_far.4 in
     let keeps = keeps_text c.args.nodes.now c.close_text.new.self i.so_far.0 c.args.start (stored.outer_of (levels c.args.store.now)) closed in
     let end : c.args.start + 8 * (length i.so_far.0 + 1) ≡ c.loop-byte.place + 8 = omega (arith, i.so_far.3) in
     let keeps = rw (← first, end) at keeps in
@@ -77,37 +76,37 @@ returns-then-byte-eq0-clause-ok g c =
       follows = follow_on i.so_far.5 (text_closed _ _ _ _ _ _ i.so_far.2 i.inside _ (r.limit ∙ i.limit) r.steps r.made fits may c.if-byte-eq0.true n.steps n.made);
     }
 
-pub returns-in_err-push_byte-clause-err : goal.returns-in_err-push_byte-clause-err
-returns-in_err-push_byte-clause-err g c =
-    let p = err_from_is_err_and c.from_residual-in_err-push_byte.result c.from_residual-in_err-push_byte.ensures.1 in
+pub returns-in_err-push_byte-in-Ok-clause-err : goal.returns-in_err-push_byte-in-Ok-clause-err
+returns-in_err-push_byte-in-Ok-clause-err g c =
+    let p = err_from_is_err_and c.from_residual-in_err-push_byte-in-Ok.result c.from_residual-in_err-push_byte-in-Ok.ensures.1 in
     let i = c.loop-byte.invariant in
-    let r = c.in_ok-byte.ensures in
+    let r = c.in-Ok.ensures in
     let first = around_text c.args.nodes.now c.args.store.now [] c.args.start (stored.outer_of (levels c.args.store.now)) c.requires.writing in
     let fits = rw i.len at r.inside in
     let may = may_same _ _ _ _ i.bytes r.ok in
-    let full = not_longer c.args.nodes.now c.loop-byte.store (i.so_far.0 ++ c.in_ok-byte.byte ∷ []) c.args.start (stored.outer_of (levels c.args.store.now)) c.loop-byte.store.room (c.in_err-push_byte.ensures.succeeds i.so_far.0 (stored.outer_of (levels c.args.store.now)) i.so_far.4) in
+    let full = not_longer c.args.nodes.now c.loop-byte.store (i.so_far.0 ++ c.in-Ok.byte ∷ []) c.args.start (stored.outer_of (levels c.args.store.now)) c.loop-byte.store.room (c.in_err-push_byte-in-Ok.ensures.succeeds i.so_far.0 (stored.outer_of (levels c.args.store.now)) i.so_far.4) in
     let full = rw (← first) at full in
     rw (p.1, p.2) (follow_on i.so_far.5 (text_no_room _ _ _ _ _ _ i.so_far.2 i.inside _ (r.limit ∙ i.limit) r.steps r.made fits may c.if-byte-eq0.false i.room full))
 
-pub returns-in_err-push_byte-clause-outer : goal.returns-in_err-push_byte-clause-outer
-returns-in_err-push_byte-clause-outer g c =
-    let p = err_from_is_err_and c.from_residual-in_err-push_byte.result c.from_residual-in_err-push_byte.ensures.1 in
+pub returns-in_err-push_byte-in-Ok-clause-outer : goal.returns-in_err-push_byte-in-Ok-clause-outer
+returns-in_err-push_byte-in-Ok-clause-outer g c =
+    let p = err_from_is_err_and c.from_residual-in_err-push_byte-in-Ok.result c.from_residual-in_err-push_byte-in-Ok.ensures.1 in
     let i = c.loop-byte.invariant in
     let first = around_text c.args.nodes.now c.args.store.now [] c.args.start (stored.outer_of (levels c.args.store.now)) c.requires.writing in
     let same = around_text c.args.nodes.now c.loop-byte.store i.so_far.0 c.args.start (stored.outer_of (levels c.args.store.now)) i.so_far.4 ∙ sym first in
-    rw (p.1, c.in_err-push_byte.ensures.err) same
+    rw (p.1, c.in_err-push_byte-in-Ok.ensures.err) same
 
 pub loop-byte-preserved : goal.loop-byte-preserved
 loop-byte-preserved g c =
-    let n = c.note_made-in-loop-byte.ensures in
+    let n = c.note_made-in-Ok.ensures in
     let i = c.loop-byte.invariant in
-    let r = c.in_ok-byte.ensures in
+    let r = c.in-Ok.ensures in
     let first = around_text c.args.nodes.now c.args.store.now [] c.args.start (stored.outer_of (levels c.args.store.now)) c.requires.writing in
     let fits = rw i.len at r.inside in
     let may = may_same _ _ _ _ i.bytes r.ok in
     let next = text_goes _ _ _ _ _ _ i.so_far.2 i.inside _ (r.limit ∙ i.limit) r.steps r.made fits may c.if-byte-eq0.false n.steps n.made in
     let short = g.met.S.Space.short c.args.space.now in
-    let more = longer i.so_far.0 c.in_ok-byte.byte in
+    let more = longer i.so_far.0 c.in-Ok.byte in
     record {
       limit = search rules;
       len = search rules;
@@ -118,5 +117,5 @@ loop-byte-preserved g c =
       after = search rules;
       inside = search rules;
       depth = search rules;
-      so_far = (i.so_far.0 ++ c.in_ok-byte.byte ∷ [], next.0, next.1, omega (arith, i.so_far.3, more), c.in_ok-push_byte.ensures.writes i.so_far.0 (stored.outer_of (levels c.args.store.now)) i.so_far.4 (omega (arith, i.so_far.3, fits, short)), follow_on i.so_far.5 next.2);
+      so_far = (i.so_far.0 ++ c.in-Ok.byte ∷ [], next.0, next.1, omega (arith, i.so_far.3, more), c.in_ok-push_byte-in-Ok.ensures.writes i.so_far.0 (stored.outer_of (levels c.args.store.now)) i.so_far.4 (omega (arith, i.so_far.3, fits, short)), follow_on i.so_far.5 next.2);
     }

@@ -1,18 +1,17 @@
-use Rattle.std.proofs.Common.{refl, rules, ◌≡◌, subst, sym}
-use Rattle.pickle_map.specs.Slots.{Slots, Held, with_byte, GoesOn}
+use Rattle.std.proofs.Common.{refl, rules, ap, subst, sym}
+use Rattle.pickle_map.specs.Slots.{Slots, Held, GoesOn}
 use Rattle.pickle_map.specs.contracts.store.Store.{the_view}
-use Rattle.pickle_map.proofs.Writing.{byte-frames}
+use Rattle.pickle_map.proofs.Writing.{byte-frames, byte-placed}
 use Rattle.pickle_map.proofs.Held.{depth-same}
 use Rattle.pickle_map.proofs.store.Store.append_byte.Goals as goal
 
 pub invariant_of-self-2 : goal.invariant_of-self-2
 invariant_of-self-2 c =
-    let s = (the_view c.self.inside).slots in
-    let g : GoesOn (the_view c.self.inside) = subst (λ (h : Held). GoesOn h) (sym c.self.view_is) c.requires in
-    let t : Slots = record { nodes = s.nodes; families = s.families; links = s.links; pending = s.pending; texts = c.push_reserved-2.new.self.items; bytes = c.push_reserved.new.self.items } in
-    let e : t ≡ with_byte c.args.byte s = search rules in
+    let h = the_view c.self.inside in
+    let g : GoesOn h = subst (λ (h : Held). GoesOn h) (sym c.self.view_is) c.requires in
+    let e = byte-placed h c.args.byte c.len-last.result c.len.result c.push_reserved.new.self.items g (search rules) (search rules) (search rules) in
     record {
-      levels = rw e (byte-frames (the_view c.self.inside) c.args.byte g.bytes g.start g.outer g.writing g.some g.short);
+      levels = rw e (byte-frames h c.args.byte g.bytes g.start g.outer g.writing g.some g.short);
       nodes = search rules;
       families = search rules;
       links = search rules;
@@ -20,6 +19,13 @@ invariant_of-self-2 c =
       texts = search rules;
       bytes = search rules;
     }
+
+pub returns-clause-slots : goal.returns-clause-slots
+returns-clause-slots c =
+    let h = the_view c.self.inside in
+    let g : GoesOn h = subst (λ (h : Held). GoesOn h) (sym c.self.view_is) c.requires in
+    let e = byte-placed h c.args.byte c.len-last.result c.len.result c.push_reserved.new.self.items g (search rules) (search rules) (search rules) in
+    rw (← c.self.view_is) (ap (λ (x : Slots). record { slots = x; frames = h.frames; room = h.room }) e)
 
 pub returns-clause-depth : goal.returns-clause-depth
 returns-clause-depth c = rw (← c.self.view_is) (depth-same _ _ refl)

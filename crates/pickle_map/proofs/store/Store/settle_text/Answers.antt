@@ -1,20 +1,20 @@
 use Rattle.std.proofs.Common.{rules, ◌≡◌, subst, sym, length}
 use Rattle.pickle_map.specs.Levels.{FitsIn}
-use Rattle.pickle_map.specs.Slots.{innermost}
+use Rattle.pickle_map.specs.Slots.{HasNoNode}
 use Rattle.pickle_map.proofs.Writing.{settled-clause, close-fresh, close-stale, fits-closed}
 use Rattle.pickle_map.proofs.store.Store.settle_text.Goals as goal
 
-pub returns-then-is_fresh-clause-ok : goal.returns-then-is_fresh-clause-ok
-returns-then-is_fresh-clause-ok c =
-    let fresh : length c.args.self.now.slots.nodes ≡ (innermost c.args.self.now.frames).nodes = search rules in
+pub returns-then-has_no_node-clause-ok : goal.returns-then-has_no_node-clause-ok
+returns-then-has_no_node-clause-ok c =
+    let fresh : HasNoNode c.args.self.now = search rules in
     settled-clause c.place_text.result c.args.self.now c.place_text.new.self c.args.start fresh c.place_text.ensures.levels
 
-pub returns-then-is_fresh-clause-succeeds : goal.returns-then-is_fresh-clause-succeeds
-returns-then-is_fresh-clause-succeeds c = λ bytes outer w fits.
-    let fresh : length c.args.self.now.slots.nodes ≡ (innermost c.args.self.now.frames).nodes = search rules in
+pub returns-then-has_no_node-clause-succeeds : goal.returns-then-has_no_node-clause-succeeds
+returns-then-has_no_node-clause-succeeds c = λ bytes outer w fits.
+    let fresh : HasNoNode c.args.self.now = search rules in
     c.place_text.ensures.succeeds (subst (λ ls. FitsIn c.args.self.now.room ls) (sym (close-fresh c.args.self.now bytes c.args.start outer w fresh)) (fits-closed c.args.self.now.room bytes c.args.start outer fits))
 
-pub returns-else-is_fresh-clause-ok : goal.returns-else-is_fresh-clause-ok
-returns-else-is_fresh-clause-ok c = λ bytes outer w.
-    let stale : length c.args.self.now.slots.nodes ≡ (innermost c.args.self.now.frames).nodes → ⊥ = search rules in
+pub returns-else-has_no_node-clause-ok : goal.returns-else-has_no_node-clause-ok
+returns-else-has_no_node-clause-ok c = λ bytes outer w.
+    let stale : HasNoNode c.args.self.now → ⊥ = search rules in
     close-stale c.args.self.now bytes c.args.start outer w stale

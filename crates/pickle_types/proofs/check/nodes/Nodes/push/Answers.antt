@@ -6,7 +6,7 @@ use Rattle.pickle_types.proofs.check.nodes.Nodes.push.Goals as goal
 pub invariant_of-self-then-is_empty : goal.invariant_of-self-then-is_empty
 invariant_of-self-then-is_empty c =
     let old = c.self.inside.names.entries in
-    rw c.in_ok-push.ensures.items (indexed_plain c.self.inside.nodes.items c.args.node old old c.self.invariant (none_placed _ c.args.names c.requires (c.is_empty.ensures c.if-is_empty.true)))
+    rw c.in_ok-push.ensures.items (indexed_plain c.self.inside.nodes.items c.args.node old old c.self.invariant (none_placed _ c.args.names c.requires (c.is_empty.ensures.0 c.if-is_empty.true)))
 
 pub invariant_of-self-in-Ok : goal.invariant_of-self-in-Ok
 invariant_of-self-in-Ok c =
