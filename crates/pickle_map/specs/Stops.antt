@@ -1,5 +1,5 @@
 -- Why a mapping under way stops, as the end of a plan.
-use Rattle.std.specs.Prelude.{ℕ, Bool, false, Result, Err}
+use Rattle.std.specs.Prelude.{Bool, false, Result, Err}
 use Rattle.pickle_map.specs.declared.extent.Extent.{Extent}
 use Rattle.pickle_map.specs.declared.mapper.stop.Stop.{Stop}
 use Rattle.pickle_map.specs.declared.mapper.stop.Stop.TheVariants.{Fault, Limit, Device, Memory}

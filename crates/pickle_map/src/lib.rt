@@ -9,8 +9,6 @@ pub mod mapper;
 mod names;
 pub mod store;
 pub(crate) mod stored;
-#[cfg(test)]
-mod tests;
 pub mod value;
 
 pub use faults::{MapFault, MapFaultKind};

@@ -14,8 +14,6 @@ pub mod laws;
 mod numbers;
 mod pieces;
 mod signs;
-#[cfg(test)]
-mod tests;
 mod texts;
 mod words;
 

@@ -14,8 +14,6 @@ mod fields;
 mod operators;
 mod pickle;
 mod reading;
-#[cfg(test)]
-mod tests;
 mod types;
 
 use crate::lexer::Tokens;

@@ -10,7 +10,5 @@ pub mod names;
 pub mod predeclared;
 pub mod scopes;
 pub(crate) mod table;
-#[cfg(test)]
-mod tests;
 pub mod type_table;
 pub mod view;

@@ -14,6 +14,8 @@ mod dumps;
 #[cfg(test)]
 mod files;
 #[cfg(test)]
+mod grammar;
+#[cfg(test)]
 mod mappings;
 #[cfg(test)]
 mod maps;
@@ -31,6 +33,10 @@ mod stores;
 mod streams;
 #[cfg(test)]
 mod tables;
+#[cfg(test)]
+mod tokens;
+#[cfg(test)]
+mod types;
 #[cfg(test)]
 mod values;
 #[cfg(test)]

@@ -247,6 +247,11 @@ fn maps_in_the_room_of_its_bound(rt: HostRuntime) -> Result<(), Fail> {
         let mut space = space_of(alloc, row)?;
         let mapped = map_row(alloc, &table, row, LIMIT, &mut space, &mut store)?;
         expect(&rt, row, &mapped);
+        store.clear();
+        assert!(rt; store.root(&table).is_none());
+        let mut space = space_of(alloc, row)?;
+        let mapped = map_row(alloc, &table, row, LIMIT, &mut space, &mut store)?;
+        expect(&rt, row, &mapped);
     }
     Ok(())
 }

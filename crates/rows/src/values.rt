@@ -8,8 +8,8 @@ use std::test::Fail;
 
 /// A value of each kind, an absent field, and fields and structs without a name.
 const RECORD: &str =
-    r#"type U = union { byte a : a == 1; short b; }; type G = struct uint<8> { uint<4> hi; int<4> lo; }; type R = struct { byte x; int<12> y; nibble; offset<ushort,B> units; string name; byte gone if 0; byte[2] pair; U u; G g; struct {} none; }; type S = R;
-  S 8 big ff05f8010003616200070980012f | 40 18 | R {x=5UB,y=(int<12>) -128,1UN,units=3UH#B,name="ab",pair=[7UB,9UB],u=U {b=-32767H},g=G {hi=2UN,lo=-1N},none=struct {}}"#;
+    r#"type U = union { byte a : a == 1; byte c : c == 2; short b; }; type G = struct uint<8> { uint<4> hi; int<4> lo; }; type R = struct { byte x; int<12> y; nibble; offset<ushort,B> units; string name; byte gone if 0; byte[2] pair; U u; G g; struct {} none; }; type S = R;
+  S 8 big ff05f8010003616200070980012f | 45 19 | R {x=5UB,y=(int<12>) -128,1UN,units=3UH#B,name="ab",pair=[7UB,9UB],u=U {b=-32767H},g=G {hi=2UN,lo=-1N},none=struct {}}"#;
 
 /// Places from the root on, and what the value there gives: its kind, start and size; its number, sign, width and unit; its
 /// bytes; its length; and the name of its type.

@@ -1,4 +1,4 @@
-use Rattle.std.proofs.Common.{rules, ◌≡◌, subst, sym, length}
+use Rattle.std.proofs.Common.{rules, subst, sym}
 use Rattle.pickle_map.specs.Levels.{FitsIn}
 use Rattle.pickle_map.specs.Slots.{HasNoNode}
 use Rattle.pickle_map.proofs.Writing.{settled-clause, close-fresh, close-stale, fits-closed}

@@ -1,10 +1,10 @@
 //! Rows of the grammar.
 
-use crate::lexer::lex;
-use crate::parser::fault::ParseFault;
-use crate::parser::parse;
-use crate::token::Number;
-use crate::tree::{Expression, Form, Reference, Suffix, Target};
+use pickle_syntax::lexer::lex;
+use pickle_syntax::parser::fault::ParseFault;
+use pickle_syntax::parser::parse;
+use pickle_syntax::token::Number;
+use pickle_syntax::tree::{Expression, Form, Reference, Suffix, Target};
 use std::alloc::Global;
 use std::process::Abort;
 use std::test::Fail;

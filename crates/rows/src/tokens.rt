@@ -1,5 +1,7 @@
-use crate::lexer::lex;
-use crate::token::Kind;
+//! Rows of tokens.
+
+use pickle_syntax::lexer::lex;
+use pickle_syntax::token::Kind;
 use std::alloc::{AllocError, Global};
 use std::process::Abort;
 use std::test::Fail;

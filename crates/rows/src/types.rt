@@ -3,10 +3,10 @@
 ghost use Rattle.std.specs.Prelude.{IfOk};
 ghost use Rattle.pickle_types.specs.TypeTable.{IsSound};
 
-use crate::fault::FaultKind;
-use crate::type_table::Table;
 use pickle_syntax::lexer::lex;
 use pickle_syntax::parser::parse;
+use pickle_types::fault::FaultKind;
+use pickle_types::type_table::Table;
 use std::alloc::Global;
 use std::test::Fail;
 
