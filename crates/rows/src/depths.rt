@@ -1,17 +1,19 @@
 //! Pickles that are as deep or as long as may be, and those just beyond.
 
+use crate::types::chain;
 use poke_batch::bound::put_bounds;
 use poke_batch::run::{run_bound, run_check};
 use std::alloc::{AllocError, Global};
 use std::test::Fail;
 
 /// What stands once, around so many of what stands again and again.
-struct Nest<'a> {
-    front: &'a str,
-    open: &'a str,
-    middle: &'a str,
-    close: &'a str,
-    back: &'a str,
+#[derive(Clone, Copy)]
+pub struct Nest<'a> {
+    pub front: &'a str,
+    pub open: &'a str,
+    pub middle: &'a str,
+    pub close: &'a str,
+    pub back: &'a str,
 }
 
 const BRACKETS: Nest<'_> = Nest {
@@ -38,7 +40,8 @@ const STRUCTS: Nest<'_> = Nest {
     back: ";",
 };
 
-fn nested(alloc: Global, nest: &Nest<'_>, count: usize) -> Result<String, AllocError> {
+/// The front, so many times the opening, the middle, as many times the closing, and the back.
+pub fn nested(alloc: Global, nest: &Nest<'_>, count: usize) -> Result<String, AllocError> {
     let mut pickle = String::from_str(alloc, nest.front)?;
     for _ in 0..count {
         pickle.push_str(nest.open)?;
@@ -52,10 +55,10 @@ fn nested(alloc: Global, nest: &Nest<'_>, count: usize) -> Result<String, AllocE
 }
 
 // What is told of a pickle, on either writer.
-fn checked(alloc: Global, pickle: &str) -> Result<Vec<u8>, AllocError> {
+fn checked(alloc: Global, pickle: &[u8]) -> Result<Vec<u8>, AllocError> {
     let mut out = Vec::new(alloc);
     let mut err = Vec::new(alloc);
-    run_check(alloc, pickle.as_bytes(), &mut out, &mut err);
+    run_check(alloc, pickle, &mut out, &mut err);
     out.extend_from_slice(&err)?;
     Ok(out)
 }
@@ -66,29 +69,19 @@ fn nests_up_to_a_depth(rt: HostRuntime) -> Result<(), Fail> {
     for nest in [&BRACKETS, &SIGNS, &STRUCTS] {
         for (count, told) in [(63, "types 1\n"), (64, "refused TooDeep\n")] {
             let pickle = nested(alloc, nest, count)?;
-            let said = checked(alloc, pickle.as_str())?;
+            let said = checked(alloc, pickle.as_bytes())?;
             assert_eq!(rt; said.as_slice(), told.as_bytes(), "{pickle}");
         }
     }
     Ok(())
 }
 
-// So many types, each an array of the one before it.
-fn chain_of_arrays(alloc: Global, count: u32) -> Result<String, AllocError> {
-    let mut pickle = String::from_str(alloc, "type T1 = byte[];")?;
-    for i in 1..count {
-        let line = format!(in alloc; "type T{} = T{}[];", i.saturating_add(1), i)?;
-        pickle.push_str(line.as_str())?;
-    }
-    Ok(pickle)
-}
-
 #[test]
 fn opens_names_up_to_a_depth(rt: HostRuntime) -> Result<(), Fail> {
     let alloc = rt.alloc();
     for (count, told) in [(63, "types 63\n"), (64, "refused TooDeep in type 64\n")] {
-        let pickle = chain_of_arrays(alloc, count)?;
-        let said = checked(alloc, pickle.as_str())?;
+        let pickle = chain(alloc, b"byte[]", &[b"", b"[]"], count)?;
+        let said = checked(alloc, &pickle)?;
         assert_eq!(rt; said.as_slice(), told.as_bytes());
     }
     Ok(())
@@ -103,7 +96,7 @@ fn declares_up_to_a_count(rt: HostRuntime) -> Result<(), Fail> {
             let line = format!(in alloc; "type T{i} = byte;")?;
             pickle.push_str(line.as_str())?;
         }
-        let said = checked(alloc, pickle.as_str())?;
+        let said = checked(alloc, pickle.as_bytes())?;
         assert_eq!(rt; said.as_slice(), told.as_bytes());
     }
     Ok(())
@@ -113,19 +106,15 @@ fn declares_up_to_a_count(rt: HostRuntime) -> Result<(), Fail> {
 #[test]
 fn bounds_each_type_once(rt: HostRuntime) -> Result<(), Fail> {
     let alloc = rt.alloc();
-    let mut pickle = String::from_str(alloc, "type T1 = struct { byte a; byte b; };")?;
-    for i in 1u32..63 {
-        let line = format!(in alloc;
-            "type T{} = struct {{ T{} a; T{} b; }};",
-            i.saturating_add(1),
-            i,
-            i
-        )?;
-        pickle.push_str(line.as_str())?;
-    }
+    let pickle = chain(
+        alloc,
+        b"struct { byte a; byte b; }",
+        &[b"struct { ", b" a; ", b" b; }"],
+        63,
+    )?;
     let mut out = Vec::new(alloc);
     let mut err = Vec::new(alloc);
-    run_bound(alloc, pickle.as_bytes(), b"T63", 24, &mut out, &mut err);
+    run_bound(alloc, &pickle, b"T63", 24, &mut out, &mut err);
     let most = Some((1u128 << 65) - 3);
     let mut told = Vec::new(alloc);
     put_bounds(&mut told, most, most)?;

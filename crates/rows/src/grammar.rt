@@ -1,5 +1,6 @@
 //! Rows of the grammar.
 
+use crate::depths::{Nest, nested};
 use pickle_syntax::lexer::lex;
 use pickle_syntax::parser::fault::ParseFault;
 use pickle_syntax::parser::parse;
@@ -23,29 +24,6 @@ fn answer(alloc: Global, pickle: &str) -> Result<String, Fail> {
         }
         Err(fault) => Ok(format!(in alloc; "{fault}")?),
     }
-}
-
-/// `head`, so many times `open`, `middle`, as many times `close`, and `tail`.
-fn nested(
-    alloc: Global,
-    head: &str,
-    open: &str,
-    count: usize,
-    middle: &str,
-    close: &str,
-    tail: &str,
-) -> Result<String, Fail> {
-    let mut pickle = String::new(alloc);
-    pickle.push_str(head)?;
-    for _ in 0..count {
-        pickle.push_str(open)?;
-    }
-    pickle.push_str(middle)?;
-    for _ in 0..count {
-        pickle.push_str(close)?;
-    }
-    pickle.push_str(tail)?;
-    Ok(pickle)
 }
 
 fn name_of(alloc: Global, name: &[u8]) -> Result<String, Fail> {
@@ -378,8 +356,15 @@ fn what_is_deep_is_refused(rt: HostRuntime) -> Result<(), Fail> {
         (array, "(", 64, "", "", "", "Syntax at byte 78"),
         (array, "(", 65, "", "", "", "TooDeep"),
     ];
-    for (head, open, count, middle, close, tail, want) in rows {
-        let pickle = nested(rt.alloc(), head, open, count, middle, close, tail)?;
+    for (front, open, count, middle, close, back, want) in rows {
+        let nest = Nest {
+            front,
+            open,
+            middle,
+            close,
+            back,
+        };
+        let pickle = nested(rt.alloc(), &nest, count)?;
         assert_answer(&rt, rt.alloc(), pickle.as_str(), want)?;
     }
     Ok(())
@@ -397,8 +382,15 @@ fn what_is_long_is_refused(rt: HostRuntime) -> Result<(), Fail> {
         ("type A = union {", " byte;", 1025, "};", "TooMany"),
         ("type A = pinned struct {", " byte;", 1025, "};", "TooMany"),
     ];
-    for (head, part, count, tail, want) in rows {
-        let pickle = nested(rt.alloc(), head, part, count, "", "", tail)?;
+    for (front, open, count, back, want) in rows {
+        let nest = Nest {
+            front,
+            open,
+            middle: "",
+            close: "",
+            back,
+        };
+        let pickle = nested(rt.alloc(), &nest, count)?;
         assert_answer(&rt, rt.alloc(), pickle.as_str(), want)?;
     }
     Ok(())

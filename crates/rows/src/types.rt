@@ -257,7 +257,7 @@ fn names_and_counts(rt: HostRuntime) -> Result<(), Fail> {
 }
 
 /// The declarations of types T1 to a last one, each made of pieces, between which the name of the one before it stands.
-fn chain(alloc: Global, first: &[u8], pieces: &[&[u8]], last: u8) -> Result<Vec<u8>, Fail> {
+pub fn chain(alloc: Global, first: &[u8], pieces: &[&[u8]], last: u8) -> Result<Vec<u8>, Fail> {
     let mut text = Vec::new(alloc);
     text.extend_from_slice(b"type T1 = ")?;
     text.extend_from_slice(first)?;
