@@ -4,6 +4,7 @@ use Rattle.std.specs.Prelude.{slice_get, unwrap_or, All, Vec, Bool}
 use Rattle.std.specs.declared.alloc.Global.{Global}
 use Rattle.std.proofs.lemmas.Option.{slice_get-get_or}
 use Rattle.pickle_types.specs.declared.integer.IntegerType.{IntegerType}
+use Rattle.pickle_types.specs.declared.name.Name.{Name}
 use Rattle.pickle_types.specs.declared.table.Field.{Field}
 use Rattle.pickle_types.specs.declared.table.Part.{Part}
 use Rattle.pickle_types.specs.declared.table.Shape.{Shape}
@@ -39,21 +40,21 @@ module _ (nodes : List Node) (table : IsTable nodes) (at : ℕ) (inside : at < l
   abbrev Is : Shape → Type 0
   Is s = (get_or nodes at other).shape ≡ s
 
-  pub struct_opened : (name : Option (Vec ℕ Global)) (pinned : Bool) (fields : Vec Field Global) (now : List Field) → Is (shape.Struct name pinned fields) → now ≡ fields.items →
+  pub struct_opened : (name : Option Name) (pinned : Bool) (fields : Vec Field Global) (now : List Field) → Is (shape.Struct name pinned fields) → now ≡ fields.items →
       type_of nodes at ≡ StructOf (title_at nodes at) pinned (open_fields (type_of nodes) now)
   struct_opened name pinned fields now is e =
       opened_as nodes table at inside other _ is
       ∙ ap (λ n. StructOf n pinned (open_fields (type_of nodes) fields.items)) (sym (title_as nodes table at inside other _ is))
       ∙ ap (λ fs. StructOf (title_at nodes at) pinned (open_fields (type_of nodes) fs)) (sym e)
 
-  pub integral_opened : (name : Option (Vec ℕ Global)) (number : IntegerType) (fields : Vec Part Global) (now : List Part) → Is (shape.Integral name number fields) → now ≡ fields.items →
+  pub integral_opened : (name : Option Name) (number : IntegerType) (fields : Vec Part Global) (now : List Part) → Is (shape.Integral name number fields) → now ≡ fields.items →
       type_of nodes at ≡ IntegralOf (title_at nodes at) number (open_parts (type_of nodes) now)
   integral_opened name number fields now is e =
       opened_as nodes table at inside other _ is
       ∙ ap (λ n. IntegralOf n number (open_parts (type_of nodes) fields.items)) (sym (title_as nodes table at inside other _ is))
       ∙ ap (λ fs. IntegralOf (title_at nodes at) number (open_parts (type_of nodes) fs)) (sym e)
 
-  pub union_opened : (name : Option (Vec ℕ Global)) (alternatives : Vec Part Global) (now : List Part) → Is (shape.Union name alternatives) → now ≡ alternatives.items →
+  pub union_opened : (name : Option Name) (alternatives : Vec Part Global) (now : List Part) → Is (shape.Union name alternatives) → now ≡ alternatives.items →
       type_of nodes at ≡ UnionOf (title_at nodes at) (open_parts (type_of nodes) now)
   union_opened name alternatives now is e =
       opened_as nodes table at inside other _ is

@@ -5,7 +5,7 @@ ghost use Rattle.std.specs.Option.{option_map};
 ghost use Rattle.pickle_types.specs.Table.{name_of};
 ghost use Rattle.pickle_map.specs.Shown.{shape_title, shape_names, title_at, name_at, field_name, part_name};
 
-use pickle_types::view::{Field, Node, Part, Shape};
+use pickle_types::view::{Field, Name, Node, Part, Shape};
 
 /// The name that values of the type at an index are printed with.
 pub fn title(nodes: &[Node], of: u32) -> Option<&[u8]>
@@ -68,7 +68,7 @@ fn name_of_part(parts: &[Part], place: usize) -> Option<&[u8]>
     }
 }
 
-fn letters(name: &Option<Vec<u8>>) -> Option<&[u8]>
+fn letters(name: &Option<Name>) -> Option<&[u8]>
     ensures { option_map (λ name. name.now) result ≡ name_of name.now }
 {
     match name {

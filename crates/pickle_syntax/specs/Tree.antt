@@ -16,6 +16,8 @@ use Rattle.pickle_syntax.specs.declared.tree.Suffix.{Suffix}
 use Rattle.pickle_syntax.specs.declared.tree.Suffix.TheVariants as suffix
 use Rattle.pickle_syntax.specs.declared.tree.Expression.{Expression}
 use Rattle.pickle_syntax.specs.declared.tree.Expression.TheVariants as expression
+use Rattle.pickle_syntax.specs.declared.tree.Clauses.{Clauses}
+use Rattle.pickle_syntax.specs.declared.tree.Clauses.TheVariants as clauses
 use Rattle.pickle_syntax.specs.declared.tree.Form.{Form, fold-Form}
 use Rattle.pickle_syntax.specs.declared.tree.Form.TheOpen.{Form-F, Field-F}
 use Rattle.pickle_syntax.specs.declared.tree.Field.{Field, fold-Field}
@@ -84,6 +86,25 @@ abbrev pub boxed_tree : Option (Box Expression Global) → Option Tree
 boxed_tree None = None
 boxed_tree (Some e) = Some (expression_tree e.value)
 
+abbrev pub borrowed_tree : Option (Bor Expression) → Option Tree
+borrowed_tree None = None
+borrowed_tree (Some e) = Some (expression_tree e.now)
+
+abbrev pub constraint_in : Clauses → Option Tree
+constraint_in clauses.Nothing = None
+constraint_in (clauses.Constraint e) = Some (expression_tree e.value)
+constraint_in (clauses.Several s) = boxed_tree s.value.constraint
+
+abbrev pub label_in : Clauses → Option Tree
+label_in clauses.Nothing = None
+label_in (clauses.Constraint e) = None
+label_in (clauses.Several s) = boxed_tree s.value.label
+
+abbrev pub condition_in : Clauses → Option Tree
+condition_in clauses.Nothing = None
+condition_in (clauses.Constraint e) = None
+condition_in (clauses.Several s) = boxed_tree s.value.condition
+
 abbrev pub optional_bytes : Option (Bor (List ℕ)) → Option (List ℕ)
 optional_bytes None = None
 optional_bytes (Some n) = Some n.now
@@ -136,9 +157,9 @@ field_step f = record {
   parts = record {
     order = f.order;
     name = optional_bytes f.name;
-    constraint = boxed_tree f.constraint;
-    label = boxed_tree f.label;
-    condition = boxed_tree f.condition;
+    constraint = constraint_in f.clauses;
+    label = label_in f.clauses;
+    condition = condition_in f.clauses;
   };
 }
 

@@ -150,16 +150,30 @@ pub enum Form<'t> {
     Union(Vec<Field<'t>>),
 }
 
-/// A field of a struct, or an alternative of a union, as it is written. What is rare stands apart.
+/// What a field has behind its name. Most fields have nothing there, or a constraint alone.
+#[derive(Drop)]
+pub enum Clauses<'t> {
+    Nothing,
+    Constraint(Box<Expression<'t>>),
+    Several(Box<SeveralClauses<'t>>),
+}
+
+/// What a field has behind its name, where a label or a condition is among it.
+#[derive(Drop)]
+pub struct SeveralClauses<'t> {
+    pub constraint: Option<Box<Expression<'t>>>,
+    pub label: Option<Box<Expression<'t>>>,
+    pub condition: Option<Box<Expression<'t>>>,
+}
+
+/// A field of a struct, or an alternative of a union, as it is written.
 #[cycle(types)]
 #[derive(Drop)]
 pub struct Field<'t> {
     pub order: Option<ByteOrder>,
     pub form: Form<'t>,
     pub name: Option<&'t [u8]>,
-    pub constraint: Option<Box<Expression<'t>>>,
-    pub label: Option<Box<Expression<'t>>>,
-    pub condition: Option<Box<Expression<'t>>>,
+    pub clauses: Clauses<'t>,
 }
 
 /// `type NAME = TYPE;`

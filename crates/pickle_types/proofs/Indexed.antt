@@ -1,31 +1,21 @@
 -- The names of the fields of each node of a table.
-use Rattle.std.proofs.Common.{◌≡◌, ℕ, List, [], ◌∷◌, ◌++◌, length, Option, Some, None, cond, refl, sym, ap, ◌∙◌, arith, inl, inr}
-use denote.Bor.{Bor}
+use Rattle.std.proofs.Common.{◌≡◌, ℕ, List, [], ◌∷◌, ◌++◌, length, Some, None, cond, refl, sym, ◌∙◌, arith, inl, inr}
 use Rattle.std.specs.Prelude.{nat_eq}
 use Rattle.std.specs.Map.{lookup}
-use Rattle.std.specs.Str.{bytes_eq}
 use Rattle.std.proofs.lemmas.Bool.{cases_lt, eq-eqb, ne_eqb}
 use Rattle.std.proofs.lemmas.List.{length-append}
 use Rattle.pickle_types.specs.declared.table.Node.{Node}
 use Rattle.pickle_types.specs.declared.check.field_names.FieldNames.{FieldNames}
-use Rattle.pickle_types.specs.FieldNames.{place_named, shape_names, ArePlaced, AreIndexed}
+use Rattle.pickle_types.specs.FieldNames.{shape_names, ArePlaced, AreIndexed}
 use Rattle.pickle_types.proofs.Items.{get_front, is_last}
-
--- where no name is kept, there is none
-pub none_placed : (names : List (Option (List ℕ))) (places : FieldNames) → ArePlaced names places → places.places.entries ≡ [] → (word : List ℕ) → place_named word names ≡ None
-none_placed names places h empty word = sym (h.kept word) ∙ ap (lookup (λ (k : Bor (List ℕ)). bytes_eq word k.now)) empty
 
 -- one more node
 module _ (nodes : List Node) (node : Node) (old new : List (ℕ × FieldNames)) (h : AreIndexed nodes old) where
-  pub indexed_plain : ((word : List ℕ) → place_named word (shape_names node.shape) ≡ None) → AreIndexed (nodes ++ node ∷ []) old
-  indexed_plain plain = record {
+  pub indexed_plain : AreIndexed (nodes ++ node ∷ []) old
+  indexed_plain = record {
     some = λ i x places at kept. elim (cases_lt i (length nodes)) [
       | inl lt ↦ h.some i x places (sym (get_front nodes (node ∷ []) i lt) ∙ at) kept
       | inr le ↦ let clash : None ≡ Some places = sym (h.past i le) ∙ kept in cc
-    ];
-    none = λ i x word at none. elim (cases_lt i (length nodes)) [
-      | inl lt ↦ h.none i x word (sym (get_front nodes (node ∷ []) i lt) ∙ at) none
-      | inr le ↦ rw (is_last nodes node i x at le).item (plain word)
     ];
     past = λ i le. let longer = length-append nodes (node ∷ []) in h.past i (omega arith);
   }
@@ -36,10 +26,6 @@ module _ (nodes : List Node) (node : Node) (old new : List (ℕ × FieldNames)) 
     some = λ i x found at kept. elim (cases_lt i (length nodes)) [
       | inl lt ↦ h.some i x found (sym (get_front nodes (node ∷ []) i lt) ∙ at) (sym (other i (λ e. absurd (omega arith))) ∙ kept)
       | inr le ↦ last_some i x found (is_last nodes node i x at le).place (is_last nodes node i x at le).item kept
-    ];
-    none = λ i x word at none. elim (cases_lt i (length nodes)) [
-      | inl lt ↦ h.none i x word (sym (get_front nodes (node ∷ []) i lt) ∙ at) (sym (other i (λ e. absurd (omega arith))) ∙ none)
-      | inr le ↦ let clash : None ≡ Some places = sym none ∙ here i (is_last nodes node i x at le).place in cc
     ];
     past = λ i le. let longer = length-append nodes (node ∷ []) in other i (λ e. absurd (omega arith)) ∙ h.past i (omega arith);
   }

@@ -1,5 +1,5 @@
 -- The names of a type's fields, and their places.
-use Rattle.std.proofs.Common.{◌≡◌, ℕ, suc, List, [], ◌∷◌, ◌++◌, ◌||◌, length, Option, Some, None, Ok, Bool, true, false, cond, refl, sym, ap, ◌∙◌}
+use Rattle.std.proofs.Common.{◌≡◌, ℕ, suc, ◌+◌, List, [], ◌∷◌, ◌++◌, ◌||◌, length, Option, Some, None, Ok, Bool, true, false, cond, refl, sym, ap, ◌∙◌, arith}
 use denote.Bor.{Bor}
 use Rattle.std.specs.Prelude.{if◌then◌else◌, option_map, is_some}
 use Rattle.std.specs.Map.{lookup}
@@ -60,3 +60,22 @@ placed_more names n old new h new_name put = record { kept = λ word. put word �
     by : (word : List ℕ) (b : Bool) → is_named n word ≡ b → (if b then Some (length names) else kept_in old word) ≡ place_named word (names ++ n ∷ [])
     by word true e = sym (place_new word names n e (apart n names new_name word e))
     by word false e = h.kept word ∙ sym (place_other word names n e)
+
+-- a place among the names behind the first i
+abbrev pub behind : ℕ → Option ℕ → Option ℕ
+behind i None = None
+behind i (Some place) = Some (i + place)
+
+pub behind_none : (o : Option ℕ) → behind 0 o ≡ o
+behind_none None = refl
+behind_none (Some place) = ap (λ (n : ℕ). Some n) (omega arith)
+
+behind_suc : (i : ℕ) (o : Option ℕ) → behind i (option_map suc o) ≡ behind (i + 1) o
+behind_suc i None = refl
+behind_suc i (Some place) = let e : i + suc place ≡ i + 1 + place = omega arith in ap (λ (n : ℕ). Some n) e
+
+pub found_behind : (word : List ℕ) (i : ℕ) (n : Option (List ℕ)) (names : List (Option (List ℕ))) → is_named n word ≡ true → behind i (place_named word (n ∷ names)) ≡ Some i
+found_behind word i n names is = let e : i + 0 ≡ i = omega arith in rw (is, e) refl
+
+pub passed_behind : (word : List ℕ) (i : ℕ) (n : Option (List ℕ)) (names : List (Option (List ℕ))) → is_named n word ≡ false → behind i (place_named word (n ∷ names)) ≡ behind (i + 1) (place_named word names)
+passed_behind word i n names is = rw is (behind_suc i (place_named word names))

@@ -38,8 +38,7 @@ shape_names (shape.Struct name pinned fields) = names_in fields.items
 shape_names (shape.Integral name number fields) = part_names fields.items
 shape_names (shape.Union name alternatives) = part_names alternatives.items
 
--- the places of the names of each node's fields are kept, where it has some
+-- where the names of a node's fields are kept, their places are
 pub record AreIndexed (nodes : List Node) (names : List (ℕ × FieldNames)) : Type 0 where
   pub some : (i : ℕ) (node : Node) (places : FieldNames) → slice_get nodes i ≡ Some node → lookup (nat_eq i) names ≡ Some places → ArePlaced (shape_names node.shape) places
-  pub none : (i : ℕ) (node : Node) (word : List ℕ) → slice_get nodes i ≡ Some node → lookup (nat_eq i) names ≡ None → place_named word (shape_names node.shape) ≡ None
   pub past : (i : ℕ) → length nodes ≤ i → lookup (nat_eq i) names ≡ None

@@ -1,6 +1,8 @@
 -- The types that the nodes of a table mean.
-use Rattle.std.specs.Prelude.{◌≡◌, ℕ, zero, suc, ◌<◌, ◌≤◌, ◌^◌, length, false, List, [], ◌∷◌, ◌++◌, Option, Some, None, Box, Vec, slice_get, All}
+use Rattle.std.specs.Prelude.{◌≡◌, ℕ, zero, suc, ◌<◌, ◌≤◌, ◌^◌, length, false, List, [], ◌∷◌, ◌++◌, Option, Some, None, Box, slice_get, All}
 use Rattle.std.specs.declared.alloc.Global.{Global}
+use Rattle.pickle_types.specs.declared.name.Name.{Name as RustName}
+use Rattle.pickle_types.specs.declared.name.Name.TheVariants as letters
 use Rattle.pickle_types.specs.declared.table.Resolved.{Resolved}
 use Rattle.pickle_types.specs.declared.table.Resolved.TheVariants as resolved
 use Rattle.pickle_types.specs.declared.table.Extent.{Extent}
@@ -39,9 +41,13 @@ bound_of extent.Unbounded = Unbounded
 bound_of (extent.Count e) = ByCount (term_of e.value)
 bound_of (extent.Size e) = BySize (term_of e.value)
 
-abbrev pub name_of : Option (Vec ℕ Global) → Option (List ℕ)
+abbrev pub letters_of : RustName → List ℕ
+letters_of (letters.Short word) = word.items
+letters_of (letters.Long word) = word.items
+
+abbrev pub name_of : Option RustName → Option (List ℕ)
 name_of None = None
-name_of (Some n) = Some n.items
+name_of (Some n) = Some (letters_of n)
 
 -- these fields, and then others
 abbrev pub fields_onto : (ℕ → PokeType) → List Field → Fields → Fields

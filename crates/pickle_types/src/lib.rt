@@ -6,6 +6,7 @@ pub mod check;
 pub mod fault;
 pub mod integer;
 pub mod laws;
+pub(crate) mod name;
 pub mod names;
 pub mod predeclared;
 pub mod scopes;

@@ -1,6 +1,7 @@
 //! Types as a table of nodes, each of which names only nodes before it.
 
 use crate::integer::IntegerType;
+use crate::name::Name;
 use pickle_syntax::token::Attribute;
 use pickle_syntax::tree::{ByteOrder, Infix, Prefix};
 
@@ -46,7 +47,7 @@ pub enum Extent {
 /// A field of a struct.
 #[derive(Drop)]
 pub struct Field {
-    pub name: Option<Vec<u8>>,
+    pub name: Option<Name>,
     pub order: Option<ByteOrder>,
     pub node: usize,
     pub constraint: Option<Box<Resolved>>,
@@ -57,7 +58,7 @@ pub struct Field {
 /// An alternative of a union, or a field of an integral struct.
 #[derive(Drop)]
 pub struct Part {
-    pub name: Option<Vec<u8>>,
+    pub name: Option<Name>,
     pub order: Option<ByteOrder>,
     pub node: usize,
     pub constraint: Option<Box<Resolved>>,
@@ -72,18 +73,18 @@ pub enum Shape {
     String,
     Array(usize, Extent),
     Struct {
-        name: Option<Vec<u8>>,
+        name: Option<Name>,
         pinned: bool,
         fields: Vec<Field>,
     },
     /// A struct that is read as one integer.
     Integral {
-        name: Option<Vec<u8>>,
+        name: Option<Name>,
         number: IntegerType,
         fields: Vec<Part>,
     },
     Union {
-        name: Option<Vec<u8>>,
+        name: Option<Name>,
         alternatives: Vec<Part>,
     },
 }

@@ -14,7 +14,6 @@ ghost use Rattle.pickle_types.specs.Building.{known_types, IsReady, AddsType, na
 ghost use Rattle.pickle_types.specs.TypeTable.{type_named, types_of, count_of, IsSound, IsInTable, IsTypeFound, IsWellTyped};
 
 use crate::bounds::type_bounds;
-use crate::check::field_names::FieldNames;
 use crate::check::nodes::Nodes;
 use crate::check::types::{Builder, Found, Title};
 use crate::fault::{FaultKind, TypeFault};
@@ -79,8 +78,7 @@ impl<'n> Builder<'n> {
         ensures known { OnOk result (known_types self.new ≡ known_types self.old ++ (word.now, IntegerOf ty) ∷ []) }
         ensures err { IfErr result (λ e. e ≡ FaultKind.Memory) }
     {
-        let names = FieldNames::new(self.alloc);
-        let found = self.push(None, Shape::Integer(ty), names, 1)?;
+        let found = self.push(None, Shape::Integer(ty), None, 1)?;
         self.add(word, found)
     }
 

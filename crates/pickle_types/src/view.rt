@@ -4,6 +4,7 @@
 ghost use Rattle.std.specs.Prelude.{◌≡◌};
 ghost use Rattle.pickle_types.specs.TypeTable.{nodes_of};
 
+pub use crate::name::Name;
 pub use crate::table::{Extent, Field, Node, Part, Resolved, Shape};
 use crate::type_table::Table;
 

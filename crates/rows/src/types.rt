@@ -8,6 +8,7 @@ use pickle_syntax::parser::parse;
 use pickle_types::fault::FaultKind;
 use pickle_types::type_table::Table;
 use std::alloc::Global;
+use std::process::Abort;
 use std::test::Fail;
 
 /// The table of a pickle's types, or the fault and the declaration that has it.
@@ -252,6 +253,59 @@ fn names_and_counts(rt: HostRuntime) -> Result<(), Fail> {
             assert_eq!(rt; table.find(b"B"), table.find(b"byte"));
         }
         Err(_) => assert!(rt; false),
+    }
+    Ok(())
+}
+
+/// A type A of bits f0, f1 and so on, so many of them, and of what else stands in its braces; and what follows it.
+fn type_of_bits(
+    alloc: Global,
+    kind: &str,
+    count: u8,
+    more: &str,
+    rest: &str,
+) -> Result<Vec<u8>, Fail> {
+    let mut text = Vec::new(alloc);
+    for piece in ["type A = ", kind, " { "] {
+        text.extend_from_slice(piece.as_bytes())?;
+    }
+    for i in 0..count {
+        let field = format!(in alloc; "bit f{i}; ")?;
+        text.extend_from_slice(field.as_bytes())?;
+    }
+    for piece in [more, "}; ", rest] {
+        text.extend_from_slice(piece.as_bytes())?;
+    }
+    Ok(text)
+}
+
+/// Whether each field of a type is found by its name, no other is, and a second one of its name is refused.
+fn finds_fields(rt: &impl Abort, alloc: Global, kind: &str, count: u8) -> Result<(), Fail> {
+    for i in 0..count {
+        let select = format!(in alloc; "type B = struct {{ A a; byte b : a.f{i} == 0; }};")?;
+        let text = type_of_bits(alloc, kind, count, "", &select)?;
+        assert_eq!(rt; fault_of(alloc, &text)?, None);
+        let again = format!(in alloc; "bit f{i}; ")?;
+        let text = type_of_bits(alloc, kind, count, &again, "")?;
+        assert_eq!(rt;
+            fault_of(alloc, &text)?,
+            Some((FaultKind::DuplicateField, 1))
+        );
+    }
+    let select = format!(in alloc; "type B = struct {{ A a; byte b : a.f{count} == 0; }};")?;
+    let text = type_of_bits(alloc, kind, count, "", &select)?;
+    assert_eq!(rt; fault_of(alloc, &text)?, Some((FaultKind::UnknownName, 2)));
+    Ok(())
+}
+
+#[test]
+fn fields_of_few_and_of_many(rt: HostRuntime) -> Result<(), Fail> {
+    let alloc = rt.alloc();
+    for count in [1, 31, 32, 33, 64] {
+        let integral = format!(in alloc; "struct uint<{count}>")?;
+        for kind in ["struct", "pinned struct", integral.as_str(), "union"] {
+            finds_fields(&rt, alloc, kind, count)?;
+        }
     }
     Ok(())
 }

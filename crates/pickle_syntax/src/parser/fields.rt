@@ -1,8 +1,9 @@
 //! Reads the fields of structs and unions.
 
-ghost use Rattle.std.specs.Prelude.{◌≡◌, ◌≤◌, ◌<◌, IfOk};
+ghost use Rattle.std.specs.Prelude.{◌≡◌, ◌≤◌, ◌<◌, IfOk, IfErr};
 ghost use Rattle.pickle_syntax.specs.Tokens.{tokens_of};
-ghost use Rattle.pickle_syntax.specs.Tree.{boxed_tree, optional_bytes, field_tree, fields_tree};
+ghost use Rattle.pickle_syntax.specs.Tree.{boxed_tree, constraint_in, label_in, condition_in, optional_bytes, field_tree, fields_tree};
+ghost use Rattle.pickle_syntax.specs.declared.parser.fault.Stop.TheVariants.{Memory};
 ghost use Rattle.pickle_syntax.specs.Limits;
 ghost use Rattle.pickle_syntax.specs.Limits.{standard};
 ghost use Rattle.pickle_syntax.specs.Reading.{Gives};
@@ -13,7 +14,7 @@ use crate::parser::fault::Stop;
 use crate::parser::reading::{after_sign, after_word, expect, onward};
 use crate::parser::types::form_at;
 use crate::token::{Kind, Sign, Word};
-use crate::tree::{ByteOrder, Expression, Field};
+use crate::tree::{ByteOrder, Clauses, Expression, Field, SeveralClauses};
 use std::alloc::Global;
 
 /// How deep an expression may be.
@@ -103,6 +104,32 @@ fn optional_name_at<'a, 't>(tokens: &'a [Kind<'t>]) -> (Option<&'t [u8]>, &'a [K
     }
 }
 
+/// What stands behind a name, kept together.
+fn clauses_of<'t>(
+    alloc: Global,
+    constraint: Option<Box<Expression<'t>>>,
+    label: Option<Box<Expression<'t>>>,
+    condition: Option<Box<Expression<'t>>>,
+) -> Result<Clauses<'t>, Stop>
+    ensures constraint { IfOk result (λ clauses. constraint_in clauses ≡ boxed_tree constraint.entry) }
+    ensures label { IfOk result (λ clauses. label_in clauses ≡ boxed_tree label.entry) }
+    ensures condition { IfOk result (λ clauses. condition_in clauses ≡ boxed_tree condition.entry) }
+    ensures fails { IfErr result (λ e. e ≡ Memory) }
+{
+    if label.is_some() || condition.is_some() {
+        let several = SeveralClauses {
+            constraint,
+            label,
+            condition,
+        };
+        return Ok(Clauses::Several(Box::new(alloc, several)?));
+    }
+    match constraint {
+        Some(constraint) => Ok(Clauses::Constraint(constraint)),
+        None => Ok(Clauses::Nothing),
+    }
+}
+
 #[cycle(types)]
 #[tactic(auto, unfolding(crate::specs::ReadForms::field_at))]
 fn field_at<'a, 't>(
@@ -120,13 +147,12 @@ fn field_at<'a, 't>(
     let (label, rest) = part_at(alloc, rest, Sign::At)?;
     let (condition, rest) = condition_at(alloc, rest)?;
     let rest = expect(rest, Sign::Semicolon)?;
+    let clauses = clauses_of(alloc, constraint, label, condition)?;
     let field = Field {
         order,
         form: found.form,
         name,
-        constraint,
-        label,
-        condition,
+        clauses,
     };
     Ok((
         FoundField {

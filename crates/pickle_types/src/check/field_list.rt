@@ -1,6 +1,6 @@
 //! The fields of one type, found by their names.
 
-ghost use Rattle.std.specs.Prelude.{◌≡◌, ◌++◌, ◌∷◌, [], List, length, Ok, IfOk, IfErr, OnOk, OnErr};
+ghost use Rattle.std.specs.Prelude.{◌≡◌, ◌++◌, ◌∷◌, [], List, length, Ok, IfOk, IfErr, IfSome, OnOk, OnErr};
 ghost use Rattle.std.specs.Coded.{codes};
 ghost use Rattle.pickle_types.specs.Table.{name_of};
 ghost use Rattle.pickle_types.specs.Meaning.{has_name, fresh};
@@ -9,17 +9,21 @@ ghost use Rattle.pickle_types.specs.FieldNames.{ArePlaced};
 ghost use Rattle.pickle_types.specs.declared.table.Field.{Field};
 ghost use Rattle.pickle_types.specs.contracts.table.Resolved as resolved;
 
-use crate::check::field_names::FieldNames;
+use crate::check::field_names::{FieldNames, field_place};
 use crate::fault::FaultKind;
 use crate::table::Field;
 use std::alloc::Global;
 use std::marker::Model;
 
+/// The most fields of a list whose names are found one by one. It is faster up to there, and takes no memory.
+const FEW: usize = 32;
+
 /// Fields of a struct or alternatives of a union, no two of one name.
 #[derive(Drop)]
 pub struct FieldList<'n> {
     fields: Vec<Field>,
-    names: FieldNames<'n>,
+    /// The names of many fields.
+    names: Option<FieldNames<'n>>,
 }
 
 impl<'n> Model for FieldList<'n> {
@@ -29,7 +33,7 @@ impl<'n> Model for FieldList<'n> {
 
     ghost view = { λ l. l.fields.items };
 
-    ghost invariant = { λ l. ArePlaced (names_in l.fields.items) l.names };
+    ghost invariant = { λ l. IfSome l.names (ArePlaced (names_in l.fields.items)) };
 }
 
 impl<'n> FieldList<'n> {
@@ -38,10 +42,13 @@ impl<'n> FieldList<'n> {
         ensures ok { IfOk result (λ l. l ≡ []) }
         ensures kind { IfErr result (λ e. e ≡ FaultKind.Memory) }
     {
-        Ok(FieldList {
-            fields: Vec::with_capacity(alloc, count)?,
-            names: FieldNames::with_capacity(alloc, count)?,
-        })
+        let fields = Vec::with_capacity(alloc, count)?;
+        let names = if count > FEW {
+            Some(FieldNames::with_capacity(alloc, count)?)
+        } else {
+            None
+        };
+        Ok(FieldList { fields, names })
     }
 
     pub fn len(&self) -> usize
@@ -53,7 +60,10 @@ impl<'n> FieldList<'n> {
     pub fn has_name(&self, word: &[u8]) -> bool
         ensures { result ≡ has_name word.now (names_in self.now) }
     {
-        self.names.find(word).is_some()
+        let Some(names) = &self.names else {
+            return field_place(&self.fields, word).is_some();
+        };
+        names.find(word).is_some()
     }
 
     /// One more field. No other has its name.
@@ -66,7 +76,10 @@ impl<'n> FieldList<'n> {
     {
         let place = self.fields.len();
         self.fields.push(field)?;
-        match self.names.add(name, place) {
+        let Some(names) = &mut self.names else {
+            return Ok(());
+        };
+        match names.add(name, place) {
             Ok(()) => Ok(()),
             Err(kind) => {
                 self.fields.truncate(place);
@@ -75,9 +88,10 @@ impl<'n> FieldList<'n> {
         }
     }
 
-    pub fn into_parts(self) -> (Vec<Field>, FieldNames<'n>)
+    /// The fields, and the names of many.
+    pub fn into_parts(self) -> (Vec<Field>, Option<FieldNames<'n>>)
         ensures fields { result.0.items ≡ self.entry }
-        ensures names { ArePlaced (names_in self.entry) result.1 }
+        ensures names { IfSome result.1 (ArePlaced (names_in self.entry)) }
     {
         let FieldList { fields, names } = self;
         (fields, names)

@@ -1,11 +1,14 @@
 //! The names of a type's fields.
 
-ghost use Rattle.std.specs.Prelude.{◌≡◌, ◌↔◌, ℕ, List, [], Some, if◌then◌else◌, IfOk, IfErr, IsTrue, OnOk, OnErr};
+ghost use Rattle.std.specs.Prelude.{◌≡◌, ℕ, List, [], Some, if◌then◌else◌, IfOk, IfErr, OnOk, OnErr};
+ghost use Rattle.pickle_types.specs.Table.{name_of};
 ghost use Rattle.pickle_types.specs.Scopes.{is_named};
-ghost use Rattle.pickle_types.specs.Built.{bytes_now};
-ghost use Rattle.pickle_types.specs.FieldNames.{kept_in, ArePlaced};
+ghost use Rattle.pickle_types.specs.Built.{bytes_now, names_in};
+ghost use Rattle.pickle_types.specs.FieldNames.{kept_in, place_named, part_names, shape_names};
 
 use crate::fault::FaultKind;
+use crate::name::Name;
+use crate::table::{Field, Part, Shape};
 use indexmap::IndexMap;
 use std::alloc::Global;
 
@@ -16,14 +19,6 @@ pub struct FieldNames<'n> {
 }
 
 impl<'n> FieldNames<'n> {
-    pub fn new(alloc: Global) -> FieldNames<'n>
-        ensures { ArePlaced [] result }
-    {
-        FieldNames {
-            places: IndexMap::new(alloc),
-        }
-    }
-
     /// No names, and room for so many.
     pub fn with_capacity(alloc: Global, count: usize) -> Result<FieldNames<'n>, FaultKind>
         ensures ok { IfOk result (λ names. names.places.entries ≡ []) }
@@ -32,12 +27,6 @@ impl<'n> FieldNames<'n> {
         Ok(FieldNames {
             places: IndexMap::with_capacity(alloc, count)?,
         })
-    }
-
-    pub fn is_empty(&self) -> bool
-        ensures { IsTrue result ↔ (self.now.places.entries ≡ []) }
-    {
-        self.places.is_empty()
     }
 
     /// The place of the field of that name.
@@ -57,5 +46,49 @@ impl<'n> FieldNames<'n> {
             self.places.insert(name, place)?;
         }
         Ok(())
+    }
+}
+
+fn is_called(name: &Option<Name>, word: &[u8]) -> bool
+    ensures { result ≡ is_named (name_of name.now) word.now }
+{
+    match name {
+        Some(name) => name.as_slice() == word,
+        None => false,
+    }
+}
+
+/// The place of the first field of that name.
+pub fn field_place(fields: &[Field], word: &[u8]) -> Option<usize>
+    ensures { result ≡ place_named word.now (names_in fields.now) }
+{
+    for (i, field) in fields.iter().enumerate() {
+        if is_called(&field.name, word) {
+            return Some(i);
+        }
+    }
+    None
+}
+
+fn part_place(parts: &[Part], word: &[u8]) -> Option<usize>
+    ensures { result ≡ place_named word.now (part_names parts.now) }
+{
+    for (i, part) in parts.iter().enumerate() {
+        if is_called(&part.name, word) {
+            return Some(i);
+        }
+    }
+    None
+}
+
+/// The place of the first field or alternative of that name in a type.
+pub fn shape_place(shape: &Shape, word: &[u8]) -> Option<usize>
+    ensures { result ≡ place_named word.now (shape_names shape.now) }
+{
+    match shape {
+        Shape::Struct { fields, .. } => field_place(fields, word),
+        Shape::Integral { fields, .. } => part_place(fields, word),
+        Shape::Union { alternatives, .. } => part_place(alternatives, word),
+        Shape::Integer(_) | Shape::Offset(_, _) | Shape::String | Shape::Array(_, _) => None,
     }
 }

@@ -1,7 +1,7 @@
 //! Fields of structs and alternatives of unions.
 
 ghost use Rattle.std.specs.Prelude.{◌≡◌, ◌+◌, ◌*◌, ◌<◌, ◌≤◌, ℕ, List, length, map, Ok, IfOk, IfErr, OnErr};
-ghost use Rattle.pickle_syntax.specs.Tree.{optional_bytes, boxed_tree, field_tree, form_tree};
+ghost use Rattle.pickle_syntax.specs.Tree.{optional_bytes, boxed_tree, borrowed_tree, field_tree, form_tree};
 ghost use Rattle.pickle_types.specs.Types.{PokeType};
 ghost use Rattle.pickle_types.specs.Table.{name_of, optional_term, open_fields, open_parts, type_of, FieldsBelow, PartsBelow, IsTable};
 ghost use Rattle.pickle_types.specs.Meaning.{has_name, fresh, may_stand, if_here, struct_place, place_in, parts_of, total_width};
@@ -12,9 +12,10 @@ use crate::check::nodes::Nodes;
 use crate::check::places::Place;
 use crate::check::sorts::width_of;
 use crate::fault::FaultKind;
+use crate::name::Name;
 use crate::table::{Field, Part};
 use pickle_syntax::tree;
-use pickle_syntax::tree::{ByteOrder, Expression, Form};
+use pickle_syntax::tree::{ByteOrder, Clauses, Expression, Form};
 use std::alloc::Global;
 
 /// The type of a field as it is written.
@@ -36,22 +37,41 @@ pub fn order_in(field: &tree::Field<'_>) -> Option<ByteOrder>
     field.order
 }
 
-pub fn label_in<'a, 't>(field: &'a tree::Field<'t>) -> &'a Option<Box<Expression<'t>>>
-    ensures { boxed_tree result.now ≡ (field_tree field.now).parts.label }
+fn lent<'a, 't>(e: &'a Option<Box<Expression<'t>>>) -> Option<&'a Expression<'t>>
+    ensures { borrowed_tree result ≡ boxed_tree e.now }
 {
-    &field.label
+    match e {
+        Some(e) => Some(e),
+        None => None,
+    }
 }
 
-pub fn condition_in<'a, 't>(field: &'a tree::Field<'t>) -> &'a Option<Box<Expression<'t>>>
-    ensures { boxed_tree result.now ≡ (field_tree field.now).parts.condition }
+pub fn label_in<'a, 't>(field: &'a tree::Field<'t>) -> Option<&'a Expression<'t>>
+    ensures { borrowed_tree result ≡ (field_tree field.now).parts.label }
 {
-    &field.condition
+    match &field.clauses {
+        Clauses::Several(clauses) => lent(&clauses.label),
+        Clauses::Nothing | Clauses::Constraint(_) => None,
+    }
 }
 
-pub fn constraint_in<'a, 't>(field: &'a tree::Field<'t>) -> &'a Option<Box<Expression<'t>>>
-    ensures { boxed_tree result.now ≡ (field_tree field.now).parts.constraint }
+pub fn condition_in<'a, 't>(field: &'a tree::Field<'t>) -> Option<&'a Expression<'t>>
+    ensures { borrowed_tree result ≡ (field_tree field.now).parts.condition }
 {
-    &field.constraint
+    match &field.clauses {
+        Clauses::Several(clauses) => lent(&clauses.condition),
+        Clauses::Nothing | Clauses::Constraint(_) => None,
+    }
+}
+
+pub fn constraint_in<'a, 't>(field: &'a tree::Field<'t>) -> Option<&'a Expression<'t>>
+    ensures { borrowed_tree result ≡ (field_tree field.now).parts.constraint }
+{
+    match &field.clauses {
+        Clauses::Nothing => None,
+        Clauses::Constraint(constraint) => Some(constraint),
+        Clauses::Several(clauses) => lent(&clauses.constraint),
+    }
 }
 
 /// Whether a field may stand here, which has a width of bits or not.
@@ -61,15 +81,15 @@ fn may_stand(place: Place, bits: bool, field: &tree::Field<'_>) -> bool
     let ordered = field.order.is_none() || bits;
     match place {
         Place::Struct => ordered,
-        Place::Pinned => ordered && field.label.is_none(),
+        Place::Pinned => ordered && label_in(field).is_none(),
         Place::Integral => bits
             && field.order.is_none()
-            && field.label.is_none()
-            && field.condition.is_none(),
+            && label_in(field).is_none()
+            && condition_in(field).is_none(),
         Place::Union => ordered
             && field.name.is_some()
-            && field.label.is_none()
-            && field.condition.is_none(),
+            && label_in(field).is_none()
+            && condition_in(field).is_none(),
     }
 }
 
@@ -115,13 +135,13 @@ pub fn place_in(place: Place, before: usize) -> usize
     }
 }
 
-pub fn copied(alloc: Global, name: Option<&[u8]>) -> Result<Option<Vec<u8>>, FaultKind>
+pub fn copied(alloc: Global, name: Option<&[u8]>) -> Result<Option<Name>, FaultKind>
     ensures ok { IfOk result (λ x. name_of x ≡ bytes_now name.entry) }
     ensures err { IfErr result (λ e. e ≡ FaultKind.Memory) }
 {
     match name {
         None => Ok(None),
-        Some(name) => Ok(Some(Vec::from_slice(alloc, name)?)),
+        Some(name) => Ok(Some(Name::from_slice(alloc, name)?)),
     }
 }
 

@@ -1,12 +1,12 @@
 //! The nodes of a table that is being built.
 
-ghost use Rattle.std.specs.Prelude.{◌≡◌, ◌<◌, ◌++◌, ◌∷◌, [], List, length, Some, slice_get, IfErr, OnOk, OnErr};
+ghost use Rattle.std.specs.Prelude.{◌≡◌, ◌<◌, ◌++◌, ◌∷◌, [], List, length, Some, slice_get, IfErr, IfSome, OnOk, OnErr};
 ghost use Rattle.std.specs.Coded.{codes};
 ghost use Rattle.pickle_types.specs.FieldNames.{place_named, shape_names, ArePlaced, AreIndexed};
 ghost use Rattle.pickle_types.specs.declared.table.Node.{Node};
 ghost use Rattle.pickle_types.specs.contracts.table.Resolved as resolved;
 
-use crate::check::field_names::FieldNames;
+use crate::check::field_names::{FieldNames, shape_place};
 use crate::fault::FaultKind;
 use crate::table::Node;
 use indexmap::IndexMap;
@@ -17,7 +17,7 @@ use std::marker::Model;
 #[derive(Drop)]
 pub struct Nodes<'n> {
     nodes: Vec<Node>,
-    /// The names of a node's fields, where it has some.
+    /// The names of a node's fields, where it has many.
     names: IndexMap<usize, FieldNames<'n>>,
 }
 
@@ -60,22 +60,22 @@ impl<'n> Nodes<'n> {
     {
         match self.names.get(&i) {
             Some(names) => names.find(word),
-            None => None,
+            None => shape_place(&self.nodes.get(i)?.shape, word),
         }
     }
 
-    /// One more node, with the names of its fields.
-    pub fn push(&mut self, node: Node, names: FieldNames<'n>) -> Result<(), FaultKind>
-        requires { ArePlaced (shape_names node.shape) names }
+    /// One more node, with the names of its fields where they are many.
+    pub fn push(&mut self, node: Node, names: Option<FieldNames<'n>>) -> Result<(), FaultKind>
+        requires { IfSome names (ArePlaced (shape_names node.shape)) }
         ensures ok { OnOk result (self.new ≡ self.old ++ node ∷ []) }
         ensures err { OnErr result (self.new ≡ self.old) }
         ensures kind { IfErr result (λ e. e ≡ FaultKind.Memory) }
     {
         let place = self.nodes.len();
         self.nodes.push(node)?;
-        if names.is_empty() {
+        let Some(names) = names else {
             return Ok(());
-        }
+        };
         match self.names.insert(place, names) {
             Ok(_) => Ok(()),
             Err(_) => {

@@ -1,7 +1,7 @@
 //! What an expression is: a text literal, or of a type.
 
-ghost use Rattle.std.specs.Prelude.{◌≡◌, ℕ, ◌<◌, List, length, slice_get, Some, IfOk, IfSome, option_map};
-ghost use Rattle.pickle_types.specs.Types.{PokeType};
+ghost use Rattle.std.specs.Prelude.{◌≡◌, ℕ, ◌<◌, List, length, slice_get, Some, true, IfOk, IfSome, option_map};
+ghost use Rattle.pickle_types.specs.Types.{PokeType, IntegerOf};
 ghost use Rattle.pickle_types.specs.Table.{open_shape, open_fields, open_parts, type_of, FieldsBelow, PartsBelow, NamesBelow, IsTable};
 ghost use Rattle.pickle_types.specs.Expressions.{or_wrong, type_operand, operand_of, element_in, sort_element, find_field, find_part, field_in, sort_field};
 ghost use Rattle.pickle_types.specs.Meaning.{bit_width, has_some};
@@ -13,6 +13,8 @@ ghost use Rattle.pickle_types.specs.FieldNames.{place_named, part_names, shape_n
 use crate::check::nodes::Nodes;
 use crate::check::operators::{Operand, Scalar};
 use crate::fault::FaultKind;
+use crate::integer::IntegerType;
+use crate::predeclared::PREDECLARED;
 use crate::table::{Field, Part, Resolved, Shape};
 
 /// What an expression is.
@@ -41,6 +43,28 @@ pub fn shape_at<'a>(nodes: &'a Nodes<'_>, i: usize) -> &'a Shape
     ensures below { NamesBelow i result.now }
 {
     &nodes.node(i).shape
+}
+
+/// The node of a predeclared type of that width and sign, where there is one. Their nodes are the first.
+pub fn predeclared_node(nodes: &Nodes, ty: IntegerType) -> Option<usize>
+    requires { IsTable nodes.now }
+    ensures { IfSome result (λ i. (i < length nodes.now) × (type_of nodes.now i ≡ IntegerOf ty)) }
+{
+    for i in 0..nodes.len().min(PREDECLARED.len()) {
+        if is_integer(shape_at(nodes, i), ty) {
+            return Some(i);
+        }
+    }
+    None
+}
+
+fn is_integer(shape: &Shape, ty: IntegerType) -> bool
+    ensures { result ≡ true → (at : ℕ → PokeType) → open_shape at shape.now ≡ IntegerOf ty }
+{
+    match shape {
+        Shape::Integer(found) => *found == ty,
+        _ => false,
+    }
 }
 
 fn shape_operand(shape: &Shape) -> Operand

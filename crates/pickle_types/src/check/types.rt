@@ -1,7 +1,7 @@
 //! The types of forms, as nodes of a table.
 
-ghost use Rattle.std.specs.Prelude.{◌≡◌, ◌+◌, ◌<◌, ◌≤◌, ℕ, List, [], ◌∷◌, ◌++◌, length, true, false, Ok, None, IfOk, IfErr, OnOk, All};
-ghost use Rattle.pickle_syntax.specs.Tree.{reference_tree, boxed_tree, form_tree, field_tree, fields_tree, ArrayForm, StructForm, IntegralForm, UnionForm, OffsetForm};
+ghost use Rattle.std.specs.Prelude.{◌≡◌, ◌+◌, ◌<◌, ◌≤◌, ℕ, List, [], ◌∷◌, ◌++◌, length, true, false, Ok, None, IfOk, IfErr, IfSome, OnOk, All};
+ghost use Rattle.pickle_syntax.specs.Tree.{reference_tree, boxed_tree, borrowed_tree, form_tree, field_tree, fields_tree, ArrayForm, StructForm, IntegralForm, UnionForm, OffsetForm};
 ghost use Rattle.pickle_types.specs.Types;
 ghost use Rattle.pickle_types.specs.Sound.{IsSoundClause, IsSoundBound};
 ghost use Rattle.pickle_types.specs.Table.{optional_term, bound_of, type_of, open_shape, IsTable, NamesBelow, IsSoundField, IsSoundShape};
@@ -21,7 +21,7 @@ use crate::check::nodes::Nodes;
 use crate::check::operators::Scalar;
 use crate::check::places::Place;
 use crate::check::references::{in_range, integer_referred, offset_parts};
-use crate::check::sorts::{has_width, operand_of};
+use crate::check::sorts::{has_width, operand_of, predeclared_node};
 use crate::fault::FaultKind;
 use crate::names::{Names, find_name};
 use crate::scopes::{Scopes, Seen};
@@ -59,12 +59,12 @@ impl<'n> Builder<'n> {
     fn integer_expression(
         &self,
         levels: u8,
-        e: &Option<Box<Expression<'_>>>,
+        e: Option<&Expression<'_>>,
     ) -> Result<Option<Box<Resolved>>, FaultKind>
         requires table { IsTable self.now.nodes }
         requires names { AreNamed self.now.nodes self.now.names }
         requires seen { AreBelow (length self.now.nodes) levels self.now.seen }
-        ensures gives { Gives optional_term result (integer_expression (known_types self.now) (visible_in self.now) levels (boxed_tree e.now)) }
+        ensures gives { Gives optional_term result (integer_expression (known_types self.now) (visible_in self.now) levels (borrowed_tree e.entry)) }
         ensures sound { IfOk result (λ c. IsSoundClause (optional_term c)) }
     {
         let Some(e) = e else {
@@ -80,12 +80,12 @@ impl<'n> Builder<'n> {
     fn offset_expression(
         &self,
         levels: u8,
-        e: &Option<Box<Expression<'_>>>,
+        e: Option<&Expression<'_>>,
     ) -> Result<Option<Box<Resolved>>, FaultKind>
         requires table { IsTable self.now.nodes }
         requires names { AreNamed self.now.nodes self.now.names }
         requires seen { AreBelow (length self.now.nodes) levels self.now.seen }
-        ensures gives { Gives optional_term result (offset_expression (known_types self.now) (visible_in self.now) levels (boxed_tree e.now)) }
+        ensures gives { Gives optional_term result (offset_expression (known_types self.now) (visible_in self.now) levels (borrowed_tree e.entry)) }
         ensures sound { IfOk result (λ c. IsSoundClause (optional_term c)) }
     {
         let Some(e) = e else {
@@ -127,14 +127,14 @@ impl<'n> Builder<'n> {
         &mut self,
         place: Place,
         itself: Seen<'n>,
-        e: &Option<Box<Expression<'_>>>,
+        e: Option<&Expression<'_>>,
     ) -> Result<Option<Box<Resolved>>, FaultKind>
         requires table { IsTable self.old.nodes }
         requires names { AreNamed self.old.nodes self.old.names }
         requires level { itself.level < 64 }
         requires inside { itself.node < length self.old.nodes }
         requires seen { AreBelow (length self.old.nodes) (itself.level + 1) self.old.seen }
-        ensures gives { Gives optional_term result (integer_expression (known_types self.old) (views_of self.old.nodes (self.old.seen ++ itself.entry ∷ [])) (itself.entry.level + 1) (boxed_tree e.now)) }
+        ensures gives { Gives optional_term result (integer_expression (known_types self.old) (views_of self.old.nodes (self.old.seen ++ itself.entry ∷ [])) (itself.entry.level + 1) (borrowed_tree e.entry)) }
         ensures sound { IfOk result (λ c. IsSoundClause (optional_term c)) }
         ensures names { self.new.names ≡ self.old.names }
         ensures nodes { self.new.nodes ≡ self.old.nodes }
@@ -192,15 +192,15 @@ impl<'n> Builder<'n> {
         })
     }
 
-    /// A new node, with the names of its fields and the depth of its type. `Memory` is answered also where the table is full.
+    /// A new node, with the names of its fields where they are many, and the depth of its type. `Memory` is answered also where the table is full.
     pub fn push(
         &mut self,
         slot: Option<u16>,
         shape: Shape,
-        names: FieldNames<'n>,
+        names: Option<FieldNames<'n>>,
         depth: u8,
     ) -> Result<Found, FaultKind>
-        requires named { ArePlaced (shape_names shape) names }
+        requires named { IfSome names (ArePlaced (shape_names shape)) }
         requires table { IsTable self.old.nodes }
         requires names { AreNamed self.old.nodes self.old.names }
         requires below { NamesBelow (length self.old.nodes) shape }
@@ -252,7 +252,10 @@ impl<'n> Builder<'n> {
         ensures low { IfOk result (λ found. found.depth ≤ 1) }
     {
         let t = in_range(signed, width)?;
-        self.push(slot, Shape::Integer(t), FieldNames::new(self.alloc), 1)
+        if let Some(node) = predeclared_node(&self.nodes, t) {
+            return Ok(Found { node, depth: 1 });
+        }
+        self.push(slot, Shape::Integer(t), None, 1)
     }
 
     fn plain_at(
@@ -286,7 +289,7 @@ impl<'n> Builder<'n> {
         ensures low { IfOk result (λ found. found.depth ≤ 1) }
     {
         let (t, bits) = offset_parts(&self.names, &self.nodes, reference, unit)?;
-        self.push(slot, Shape::Offset(t, bits), FieldNames::new(self.alloc), 1)
+        self.push(slot, Shape::Offset(t, bits), None, 1)
     }
 
     /// The node of the type that a form means, no deeper than there is room for.
@@ -310,7 +313,7 @@ impl<'n> Builder<'n> {
         }
         match form {
             Form::Reference(reference) => self.plain_at(title.slot, room, reference),
-            Form::String => self.push(title.slot, Shape::String, FieldNames::new(self.alloc), 1),
+            Form::String => self.push(title.slot, Shape::String, None, 1),
             Form::Offset(reference, unit) => self.offset_at(title.slot, reference, *unit),
             Form::Array(element, bound) => self.array_at(levels, title, room, element, bound),
             Form::Struct(pinned, fields) => self.struct_at(levels, title, room, *pinned, fields),
@@ -351,7 +354,7 @@ impl<'n> Builder<'n> {
         self.push(
             title.slot,
             Shape::Array(found.node, bound),
-            FieldNames::new(self.alloc),
+            None,
             found.depth + 1,
         )
     }

@@ -1,7 +1,10 @@
 //! Structs that are read as one integer.
 
 pub const TABLE: &str =
-    r#"type G = struct uint<16> { uint<4> hi; uint<12> lo; }; type T = struct { little G g; };
+    r#"type TheTwoHalvesOfOneByte = struct uint<8> { uint<4> the_upper_four_bits; uint<4> the_lower_four_bits; };
+  TheTwoHalvesOfOneByte 0 big 12 | 5 3 | TheTwoHalvesOfOneByte {the_upper_four_bits=1UN,the_lower_four_bits=2UN}
+
+type G = struct uint<16> { uint<4> hi; uint<12> lo; }; type T = struct { little G g; };
   T 0 big 3412 | 7 4 | T {g=G {hi=1UN,lo=(uint<12>) 564}}
   T 0 big 34 | 3 0 | fault End at 0#b
   G 0 big 1234 | 5 3 | G {hi=1UN,lo=(uint<12>) 564}

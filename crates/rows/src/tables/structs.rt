@@ -1,6 +1,13 @@
 //! Structs: their constraints, conditions and labels, pinned and inline ones, and what their expressions see.
 
-pub const TABLE: &str = r#"type P = struct {};
+pub const TABLE: &str =
+    r#"type SixteenLetters16 = struct { byte sixteen_letters_; byte seventeen_letters; byte _; };
+  SixteenLetters16 0 big 010203 | 7 4 | SixteenLetters16 {sixteen_letters_=1UB,seventeen_letters=2UB,_=3UB}
+
+type SeventeenLetters1 = struct { byte a : a == 1; };
+  SeventeenLetters1 0 big 01 | 6 2 | SeventeenLetters1 {a=1UB}
+
+type P = struct {};
   P 0 big | 1 1 | P {}
   P 8 big | 0 0 | fault End at 8#b
 

@@ -1,6 +1,11 @@
 //! Unions: which alternative is taken, and what they let pass.
 
-pub const TABLE: &str = r#"type T = union { byte a : a == 1; uint<16> b; };
+pub const TABLE: &str =
+    r#"type OneOfTheseTwoAlternatives = union { byte the_first_alternative : the_first_alternative == 1; ushort the_second_alternative; };
+  OneOfTheseTwoAlternatives 0 big 01 | 6 2 | OneOfTheseTwoAlternatives {the_first_alternative=1UB}
+  OneOfTheseTwoAlternatives 0 big 0203 | 8 3 | OneOfTheseTwoAlternatives {the_second_alternative=515UH}
+
+type T = union { byte a : a == 1; uint<16> b; };
   T 0 big 01 | 6 2 | T {a=1UB}
   T 0 big 02 | 8 1 | fault End at 0#b
   T 0 big 0203 | 8 3 | T {b=515UH}
