@@ -1,11 +1,12 @@
 -- The names of a type's fields, and their places.
-use Rattle.std.proofs.Common.{◌≡◌, ℕ, suc, ◌+◌, List, [], ◌∷◌, ◌++◌, ◌||◌, length, Option, Some, None, Ok, Bool, true, false, cond, refl, sym, ap, ◌∙◌, arith}
+use Rattle.std.proofs.Common.{◌≡◌, ℕ, suc, ◌+◌, List, [], ◌∷◌, ◌++◌, ◌||◌, ◌<◌, length, drop, get_or, Option, Some, None, Ok, Bool, true, false, cond, refl, sym, ap, ◌∙◌, arith}
 use denote.Bor.{Bor}
 use Rattle.std.specs.Prelude.{if◌then◌else◌, option_map, is_some}
 use Rattle.std.specs.Map.{lookup}
 use Rattle.std.specs.Str.{bytes_eq}
 use Rattle.std.specs.Cmp.Lexicographic.{bytes_decides}
 use Rattle.std.proofs.lemmas.Bool.{or_parts}
+use Rattle.std.proofs.lemmas.List.{drop_more}
 use Rattle.pickle_types.specs.declared.check.field_names.FieldNames.{FieldNames}
 use Rattle.pickle_types.specs.Scopes.{is_named}
 use Rattle.pickle_types.specs.Meaning.{has_name, fresh}
@@ -74,8 +75,14 @@ behind_suc : (i : ℕ) (o : Option ℕ) → behind i (option_map suc o) ≡ behi
 behind_suc i None = refl
 behind_suc i (Some place) = let e : i + suc place ≡ i + 1 + place = omega arith in ap (λ (n : ℕ). Some n) e
 
-pub found_behind : (word : List ℕ) (i : ℕ) (n : Option (List ℕ)) (names : List (Option (List ℕ))) → is_named n word ≡ true → behind i (place_named word (n ∷ names)) ≡ Some i
-found_behind word i n names is = let e : i + 0 ≡ i = omega arith in rw (is, e) refl
+-- a search that goes on at an item, whose name is the first of those left
+module _ {A : Type 0} (name : A → Option (List ℕ)) (names : List A → List (Option (List ℕ))) (first : (x : A) (xs : List A) → names (x ∷ xs) ≡ name x ∷ names xs)
+    (word : List ℕ) (xs : List A) (i : ℕ) (x : A) (lt : i < length xs) (is : x ≡ get_or xs i x) where
+  left : names (drop i xs) ≡ name x ∷ names (drop (i + 1) xs)
+  left = ap names (drop_more xs i x lt ∙ ap (λ y. y ∷ drop (i + 1) xs) (sym is)) ∙ first x (drop (i + 1) xs)
 
-pub passed_behind : (word : List ℕ) (i : ℕ) (n : Option (List ℕ)) (names : List (Option (List ℕ))) → is_named n word ≡ false → behind i (place_named word (n ∷ names)) ≡ behind (i + 1) (place_named word names)
-passed_behind word i n names is = rw is (behind_suc i (place_named word names))
+  pub found_behind : is_named (name x) word ≡ true → behind i (place_named word (names (drop i xs))) ≡ Some i
+  found_behind here = let e : i + 0 ≡ i = omega arith in rw (left, here, e) refl
+
+  pub passed_behind : is_named (name x) word ≡ false → behind i (place_named word (names (drop i xs))) ≡ behind (i + 1) (place_named word (names (drop (i + 1) xs)))
+  passed_behind here = rw (left, here) (behind_suc i (place_named word (names (drop (i + 1) xs))))
