@@ -1,0 +1,1 @@
+map can.pk Capture can.pcap

@@ -1,0 +1,1 @@
+map dns.pk Message dns.bin

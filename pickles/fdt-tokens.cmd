@@ -1,0 +1,1 @@
+map fdt.pk Tokens fdt.dtb

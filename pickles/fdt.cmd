@@ -1,0 +1,1 @@
+map fdt.pk Tree fdt.dtb

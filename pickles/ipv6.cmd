@@ -1,0 +1,1 @@
+map ipv6.pk Capture ipv6.pcap

@@ -1,0 +1,1 @@
+map --endian little pcapng.pk Capture pcapng.pcapng

@@ -1,0 +1,1 @@
+map uimage.pk Image uimage.img
