@@ -1,0 +1,1 @@
+map ar.pk Archive ar.a

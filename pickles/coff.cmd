@@ -1,0 +1,1 @@
+map --endian little coff.pk Coff coff.obj

@@ -1,0 +1,1 @@
+map --endian little elf.pk Elf elf.elf

@@ -1,0 +1,1 @@
+map elf32.pk Whole elf32-big.o

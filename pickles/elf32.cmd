@@ -1,0 +1,1 @@
+map --endian little elf32.pk Whole elf32.o

@@ -1,0 +1,1 @@
+map elf64.pk Whole elf64-big.o

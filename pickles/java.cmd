@@ -1,0 +1,1 @@
+map java.pk Class java.class

@@ -1,0 +1,1 @@
+map --endian little macho.pk Whole macho.o

@@ -1,0 +1,1 @@
+map --endian little pe.pk Whole pe.exe

@@ -1,0 +1,1 @@
+map png.pk Png png.png

@@ -1,0 +1,1 @@
+map truetype.pk Font truetype.ttf

@@ -1,0 +1,1 @@
+map tzif.pk Tzif tzif.tzif

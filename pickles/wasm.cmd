@@ -1,0 +1,1 @@
+map wasm.pk Module wasm.wasm
