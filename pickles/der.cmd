@@ -1,0 +1,1 @@
+map der.pk Der der.der

@@ -1,0 +1,1 @@
+map gif.pk Gif gif.gif

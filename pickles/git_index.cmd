@@ -1,0 +1,1 @@
+map git_index.pk Index git_index.index

@@ -1,0 +1,1 @@
+map --endian little gzip.pk Gzip gzip.gz

@@ -1,0 +1,1 @@
+map jpeg.pk Jpeg jpeg.jpg

@@ -1,0 +1,1 @@
+map messagepack.pk Message messagepack.msgpack

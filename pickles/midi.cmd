@@ -1,0 +1,1 @@
+map midi.pk Midi midi.mid

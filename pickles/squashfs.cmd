@@ -1,0 +1,1 @@
+map --endian little squashfs.pk FileSystem squashfs.img

@@ -1,0 +1,1 @@
+map --endian little tiff.pk Tiff tiff.tif

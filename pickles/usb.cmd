@@ -1,0 +1,1 @@
+map --endian little usb.pk Descriptors usb.bin
