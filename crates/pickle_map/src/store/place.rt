@@ -30,15 +30,20 @@ fn move_above(from: &mut Vec<Link>, mark: usize, to: &mut Vec<Link>)
     from.truncate(mark);
 }
 
-// Gives an empty vector as much room as another has, so that they can change places. Nothing is lost where memory is refused.
-fn even_out(to: &mut Vec<Link>, from: &Vec<Link>)
+// Makes room for the links above a mark, in an empty vector as much as where they are, so that both can change places.
+fn reserve_moved(to: &mut Vec<Link>, from: &Vec<Link>, mark: usize) -> Result<(), AllocError>
+    requires { mark ≤ vec_len from.now }
     ensures items { to.new.items ≡ to.old.items }
     ensures len { vec_len to.new ≡ vec_len to.old }
+    ensures ok { OnOk result (vec_len to.new + (vec_len from.now - mark) ≤ vec_capacity to.new) }
     ensures capacity { vec_capacity to.old ≤ vec_capacity to.new }
+    ensures full { OnErr result (vec_capacity to.old < vec_len to.old + (vec_len from.now - mark)) }
 {
-    if to.is_empty() {
+    let count = from.len() - mark;
+    if mark == 0 && to.is_empty() && to.capacity() < count {
         let _refused = to.reserve(from.capacity());
     }
+    to.reserve(count)
 }
 
 // Makes room for one link above a mark, where those that stand there are to go.
@@ -108,10 +113,7 @@ impl Store {
         let end = self.links.len() + count;
         self.nodes.reserve(1)?;
         self.families.reserve(1)?;
-        if mark == 0 && self.links.capacity() < count {
-            even_out(&mut self.links, &self.pending);
-        }
-        self.links.reserve(count)?;
+        reserve_moved(&mut self.links, &self.pending, mark)?;
         reserve_above(&mut self.pending, mark)?;
         move_above(&mut self.pending, mark, &mut self.links);
         self.pending.push_reserved(Link::to(index));
