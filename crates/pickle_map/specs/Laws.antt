@@ -1,6 +1,7 @@
 -- The laws of the meaning of a mapping.
 use Rattle.std.specs.Prelude.{◌≡◌, ℕ, ◌+◌, ◌/◌, ◌≤◌, max, length, List, Result, Ok, Err}
 use Rattle.bit_space.specs.declared.order.Order.{Order}
+use Rattle.bit_space.specs.Bits.{bits_of}
 use Rattle.pickle_types.specs.Types.{PokeType}
 use Rattle.pickle_types.specs.Bounds.{least_width, cost, room}
 use Rattle.pickle_map.specs.declared.extent.Extent.{Extent}
@@ -81,3 +82,17 @@ ValuesFit = (m : ℕ) (ty : PokeType) (order : Order) (levels : Levels) (s : ℕ
 -- Whatever is read, what is kept at any time fills at most `room` slots of each kind above what was kept before.
 abbrev pub RoomIsEnough : Type 0
 RoomIsEnough = (m : ℕ) (ty : PokeType) (order : Order) (levels : Levels) (s : ℕ) (kind : Slot) → Always (λ kept. slots kind kept ≤ slots kind levels + room ty m) (λ r. Unit {0}) (plan m ty order levels s)
+
+-- what bounds an outcome: its steps the type's bound, the values made the steps, the parts of a value the values made
+pub record IsBounded (bits : List ℕ) (ty : PokeType) (r : Result Value FaultAt) (k j : ℕ) : Type 0 where
+  pub steps : k ≤ cost ty (length bits)
+  pub made : j ≤ k
+  pub parts : value_size r ≤ j
+
+-- each outcome that a type means is bounded
+abbrev pub OutcomesAreBounded : Type 0
+OutcomesAreBounded = (bits : List ℕ) (ty : PokeType) (order : Order) (levels : Levels) (s : ℕ) (r : Result Value FaultAt) (k j : ℕ) → Means bits ty order levels s r k j → IsBounded bits ty r k j
+
+-- each value that a type means on a file's bits fits the type there
+abbrev pub OutcomesFit : Type 0
+OutcomesFit = (bytes : List ℕ) (ty : PokeType) (order : Order) (levels : Levels) (s : ℕ) (r : Result Value FaultAt) (k j : ℕ) → Means (bits_of bytes) ty order levels s r k j → ValueFits (length (bits_of bytes)) ty levels s r

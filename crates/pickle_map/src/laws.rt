@@ -1,6 +1,6 @@
 //! The laws of the meaning of a mapping. These functions do nothing: the contract of each is a law.
 
-ghost use Rattle.pickle_map.specs.Laws.{HasOneOutcome, PlanIsMeant, HasOneAnswer, StepsAreBounded, MadeIsBounded, ValuesAreMade, ValuesStartThere, ValuesAreWide, TriesAreFew, ValuesFit, RoomIsEnough};
+ghost use Rattle.pickle_map.specs.Laws.{HasOneOutcome, PlanIsMeant, HasOneAnswer, StepsAreBounded, MadeIsBounded, ValuesAreMade, ValuesStartThere, ValuesAreWide, TriesAreFew, ValuesFit, RoomIsEnough, OutcomesAreBounded, OutcomesFit};
 
 /// Each type has exactly one outcome at each place of each file, in one number of steps and with
 /// one number of values made.
@@ -58,4 +58,15 @@ pub fn values_fit()
 /// above those that were filled before as the room of its type says.
 pub fn room_is_enough()
     ensures law { RoomIsEnough }
+{}
+
+/// What a type means on a file's bits takes at most as many steps as the type's bound, makes at most as many values as it
+/// takes steps, and, where it is a value, has at most as many nodes and bytes of texts as it makes.
+pub fn outcomes_are_bounded()
+    ensures law { OutcomesAreBounded }
+{}
+
+/// A value that a type means on a file's bits fits the type there.
+pub fn outcomes_fit()
+    ensures law { OutcomesFit }
 {}

@@ -24,5 +24,6 @@ pub mod TextLaws
 pub mod Letters
 pub mod NumberLaws
 pub mod Parsed
+pub mod Telling
 pub mod PieceLaws
 pub mod LexedLaws

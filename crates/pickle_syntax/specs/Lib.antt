@@ -2,6 +2,7 @@ pub mod Levels
 pub mod Limits
 pub mod Operators
 pub mod Pickles
+pub mod Told
 pub mod ReadExpressions
 pub mod ReadForms
 pub mod Reading

@@ -5,6 +5,9 @@ ghost use Rattle.pickle_syntax.specs.Tokens.{tokens_of};
 ghost use Rattle.pickle_syntax.specs.Tree.{Tree, DeclarationTree, pickle_tree};
 ghost use Rattle.pickle_syntax.specs.Show.{show, show_pickle};
 ghost use Rattle.pickle_syntax.specs.Levels.{IsWellBracketed, IsPickleWellBracketed};
+ghost use Rattle.pickle_syntax.specs.Limits.{standard};
+ghost use Rattle.pickle_syntax.specs.ReadForms.{pickle_at};
+ghost use Rattle.pickle_syntax.specs.Told.{TellsKind};
 ghost use Rattle.pickle_syntax.specs.Pickles.{IsPickle, IsPickleOf, semicolons, fault_of, IsPlaceWithin};
 ghost use Rattle.pickle_syntax.specs.declared.parser.fault.ParseFault.TheVariants.{Memory, TooDeep, TooMany};
 
@@ -38,11 +41,12 @@ fn fault_of(stop: Stop, count: usize) -> ParseFault
 /// place asks, and within the limits of 64 levels of an expression (brackets counted), 64 levels of types in one another,
 /// 1,024 fields of a struct or union and 4,096 declarations.
 ///
-/// `Syntax`, `TooDeep` and `TooMany` come only where the tokens are no pickle. Which of them comes is not promised, beyond
-/// what the clauses say; `Syntax` names the first token at which no pickle can go on.
+/// `Syntax`, `TooDeep` and `TooMany` come only where the tokens are no pickle, and each only where the reading of the tokens stops
+/// for that reason. Which token `Syntax` names is not promised: it is the first at which no pickle can go on.
 pub fn parse<'t>(alloc: Global, tokens: &Tokens<'t>) -> Result<Pickle<'t>, ParseFault>
     ensures found { IfOk result (λ p. IsPickleOf (tokens_of tokens.now.kinds.items) (pickle_tree p)) }
     ensures refused { IfErr result (λ f. f ≢ Memory → IsPickle (tokens_of tokens.now.kinds.items) → ⊥) }
+    ensures kind { IfErr result (TellsKind (pickle_at standard (tokens_of tokens.now.kinds.items))) }
     ensures place { IfErr result (λ f. IsPlaceWithin (length tokens.now.kinds.items) f) }
     ensures deep { IfErr result (λ f. f ≡ TooDeep → 64 < length tokens.now.kinds.items) }
     ensures many { IfErr result (λ f. f ≡ TooMany → 1024 ≤ semicolons (tokens_of tokens.now.kinds.items)) }

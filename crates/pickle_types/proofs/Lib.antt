@@ -11,6 +11,7 @@ pub mod Steps
 pub mod Buildings
 pub mod Forms
 pub mod Declarations
+pub mod WrongPlaces
 pub mod IllTyped
 pub mod Places
 pub mod Placed

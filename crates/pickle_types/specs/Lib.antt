@@ -9,6 +9,7 @@ pub mod Names
 pub mod Operators
 pub mod Expressions
 pub mod Meaning
+pub mod Wrong
 pub mod WellTyped
 pub mod Built
 pub mod Building

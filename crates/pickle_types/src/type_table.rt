@@ -1,6 +1,6 @@
 //! The types of a pickle, found by their names.
 
-ghost use Rattle.std.specs.Prelude.{◌≡◌, ◌≢◌, ◌+◌, ◌<◌, ◌≤◌, ℕ, List, [], ◌∷◌, ◌++◌, length, map, None, Ok, IfOk, IfErr, IfSome, OnOk, IsTrue, ◌↔◌};
+ghost use Rattle.std.specs.Prelude.{◌≡◌, ◌≢◌, ◌+◌, ◌^◌, ◌<◌, ◌≤◌, ℕ, List, [], ◌∷◌, ◌++◌, length, map, None, Some, Ok, IfOk, IfErr, IfSome, OnOk, IsTrue, ◌↔◌};
 ghost use Rattle.pickle_syntax.specs.Tree.{declaration_tree, pickle_tree};
 ghost use Rattle.pickle_types.specs.Types;
 ghost use Rattle.pickle_types.specs.Types.{IntegerOf};
@@ -10,6 +10,7 @@ ghost use Rattle.pickle_types.specs.Names.{predeclared, find_type};
 ghost use Rattle.pickle_types.specs.Meaning.{declared_type, declared};
 ghost use Rattle.pickle_types.specs.WellTyped.{Declares};
 ghost use Rattle.pickle_types.specs.Built.{Fails};
+ghost use Rattle.pickle_types.specs.Wrong.{first_wrong, TellsPlace};
 ghost use Rattle.pickle_types.specs.Building.{known_types, IsReady, AddsType, named_types, may_add};
 ghost use Rattle.pickle_types.specs.TypeTable.{type_named, types_of, count_of, IsSound, IsInTable, IsTypeFound, IsWellTyped};
 
@@ -109,6 +110,7 @@ impl<'n> Builder<'n> {
         ensures ready { OnOk result (IsReady self.new) }
         ensures ok { OnOk result (declared (known_types self.old) (map declaration_tree declarations.now) ≡ Ok (known_types self.new)) }
         ensures err { IfErr result (λ e. Fails e.kind (declared (known_types self.old) (map declaration_tree declarations.now))) }
+        ensures place { IfErr result (λ e. TellsPlace e.kind e.decl (first_wrong 1 (known_types self.old) (map declaration_tree declarations.now))) }
     {
         let mut roots = Vec::new(self.alloc);
         for (i, declaration) in declarations.iter().enumerate() {
@@ -129,11 +131,13 @@ impl<'n> Builder<'n> {
 
 /// A fault in the declaration at a place, counted from 0.
 fn fault_in(kind: FaultKind, place: usize) -> TypeFault
+    requires counted { place + 1 < 2 ^ 64 }
     ensures kind { result.kind ≡ kind }
+    ensures place { TellsPlace kind result.decl (Some (place + 1)) }
 {
     let decl = match kind {
         FaultKind::Memory => 0,
-        _ => place.saturating_add(1),
+        _ => place + 1,
     };
     TypeFault { kind, decl }
 }
@@ -164,6 +168,8 @@ impl Table {
         // Memory is answered only where a growth was refused or the table is full; any other kind only where the pickle isn't well typed.
         ensures wrong { IfErr result (λ e. e.kind ≢ FaultKind.Memory → ¬ IsWellTyped (pickle_tree pickle.now)) }
         ensures kind { IfErr result (λ e. Fails e.kind (declared predeclared (pickle_tree pickle.now))) }
+        // The first declaration that is wrong is told, counted from 1, and 0 with `Memory`.
+        ensures place { IfErr result (λ e. TellsPlace e.kind e.decl (first_wrong 1 predeclared (pickle_tree pickle.now))) }
     {
         let mut builder = Builder::new(alloc);
         builder.predeclare(&PREDECLARED)?;

@@ -10,7 +10,7 @@ use bit_space::Memory;
 use std::alloc::AllocError;
 
 // Moves the links above a mark, for which there is room, and leaves room for one there. The vectors change places where
-// all links move to an empty one: an array of numbers has as many as the file has bytes.
+// all links move to an empty one of the same capacity: an array of numbers has as many as the file has bytes.
 fn move_above(from: &mut Vec<Link>, mark: usize, to: &mut Vec<Link>)
     requires mark { mark ≤ vec_len from.old }
     requires room { vec_len to.old + (vec_len from.old - mark) ≤ vec_capacity to.old }
@@ -19,15 +19,31 @@ fn move_above(from: &mut Vec<Link>, mark: usize, to: &mut Vec<Link>)
     ensures to { to.new.items ≡ to.old.items ++ drop mark from.old.items }
     ensures len { vec_len from.new ≡ mark }
     ensures above { mark < vec_capacity from.new }
-    ensures from_capacity { min (vec_capacity from.old) (vec_capacity to.old) ≤ vec_capacity from.new }
-    ensures to_capacity { min (vec_capacity from.old) (vec_capacity to.old) ≤ vec_capacity to.new }
+    ensures from_capacity { vec_capacity from.old ≤ vec_capacity from.new }
+    ensures to_capacity { vec_capacity to.old ≤ vec_capacity to.new }
 {
-    if mark == 0 && to.is_empty() && !from.is_empty() {
+    if mark == 0 && to.is_empty() && !from.is_empty() && from.capacity() == to.capacity() {
         std::mem::swap(from, to);
         return;
     }
     append(to, &from[mark..]);
     from.truncate(mark);
+}
+
+// Makes room for the links above a mark, in an empty vector as much as where they are, so that both can change places.
+fn reserve_moved(to: &mut Vec<Link>, from: &Vec<Link>, mark: usize) -> Result<(), AllocError>
+    requires { mark ≤ vec_len from.now }
+    ensures items { to.new.items ≡ to.old.items }
+    ensures len { vec_len to.new ≡ vec_len to.old }
+    ensures ok { OnOk result (vec_len to.new + (vec_len from.now - mark) ≤ vec_capacity to.new) }
+    ensures capacity { vec_capacity to.old ≤ vec_capacity to.new }
+    ensures full { OnErr result (vec_capacity to.old < vec_len to.old + (vec_len from.now - mark)) }
+{
+    let count = from.len() - mark;
+    if mark == 0 && to.is_empty() && to.capacity() < count {
+        let _refused = to.reserve(from.capacity());
+    }
+    to.reserve(count)
 }
 
 // Makes room for one link above a mark, where those that stand there are to go.
@@ -97,7 +113,7 @@ impl Store {
         let end = self.links.len() + count;
         self.nodes.reserve(1)?;
         self.families.reserve(1)?;
-        self.links.reserve(count)?;
+        reserve_moved(&mut self.links, &self.pending, mark)?;
         reserve_above(&mut self.pending, mark)?;
         move_above(&mut self.pending, mark, &mut self.links);
         self.pending.push_reserved(Link::to(index));

@@ -19,12 +19,12 @@ returns-in_err-reserve-2-clause-succeeds c =
     let few = families-few (the_view c.self.inside) c.self.invariant.levels in
     absurd (omega (arith, r.0, few, c.in_err-reserve-2.ensures.full)))
 
-pub returns-in_err-reserve-3-clause-succeeds : goal.returns-in_err-reserve-3-clause-succeeds
-returns-in_err-reserve-3-clause-succeeds c =
+pub returns-in_err-reserve_moved-clause-succeeds : goal.returns-in_err-reserve_moved-clause-succeeds
+returns-in_err-reserve_moved-clause-succeeds c =
     rw (← c.self.view_is) (λ fits.
     let r = family-room (the_view c.self.inside) c.args.shape c.args.start c.args.size c.requires.composite c.self.invariant.levels fits in
     let m : c.innermost-mark.result ≡ innermost (the_view c.self.inside).frames = search rules in
-    absurd (omega (arith, r.1.0, ap (λ (k : Marks). k.pending) m, c.in_err-reserve-3.ensures.full)))
+    absurd (omega (arith, r.1.0, ap (λ (k : Marks). k.pending) m, c.in_err-reserve_moved.ensures.full)))
 
 pub returns-in_err-reserve_above-clause-succeeds : goal.returns-in_err-reserve_above-clause-succeeds
 returns-in_err-reserve_above-clause-succeeds c =

@@ -21,6 +21,13 @@ returns-in_err-roots-clause-kind c =
     let h = rw (k, c.deref.ensures.value) at c.in_err-roots.ensures.err in
     rw (p.1, p.2) h
 
+pub returns-in_err-roots-clause-place : goal.returns-in_err-roots-clause-place
+returns-in_err-roots-clause-place c =
+    let p = err_from_is_err_and c.from_residual-in_err-roots.result c.from_residual-in_err-roots.ensures.1 in
+    let k : known_types c.predeclare.new.self ≡ predeclared = rw c.new-builder.ensures.none at c.in_ok-predeclare.ensures.known in
+    let h = rw (k, c.deref.ensures.value) at c.in_err-roots.ensures.place in
+    rw (p.1, p.2) h
+
 pub returns-clause-ok : goal.returns-clause-ok
 returns-clause-ok c =
     let k : known_types c.predeclare.new.self ≡ predeclared = rw c.new-builder.ensures.none at c.in_ok-predeclare.ensures.known in

@@ -4,9 +4,11 @@ use Rattle.pickle_syntax.specs.declared.tree.Declaration.{Declaration}
 use Rattle.pickle_syntax.specs.Tree.{declaration_tree}
 use Rattle.pickle_types.specs.Names.{Names}
 use Rattle.pickle_types.specs.Meaning.{declared}
+use Rattle.pickle_types.specs.Wrong.{first_wrong}
 use Rattle.pickle_types.specs.Building.{known_types}
 use Rattle.pickle_types.proofs.Buildings.{drop_item}
 use Rattle.pickle_types.proofs.Declarations.{declared_next, declared_fails, declared_end, fails_along}
+use Rattle.pickle_types.proofs.WrongPlaces.{wrong_next, wrong_here, tells_along}
 use Rattle.pickle_types.proofs.check.types.Builder.declare_all.Goals as goal
 
 pub returns-in-Err-clause-err : goal.returns-in-Err-clause-err
@@ -15,6 +17,13 @@ returns-in-Err-clause-err c =
     let e = drop_item c.args.declarations.now c.loop-i.i c.index-declarations-i.result (omega arith) c.index-declarations-i.is in
     rw c.fault_in.ensures.kind (fails_along _ _ _ (c.loop-i.invariant.rest ∙ ap (λ (l : List Declaration). declared (known_types b) (map declaration_tree l)) e)
     (declared_fails (known_types b) (declaration_tree c.index-declarations-i.result) _ _ c.in-Err.ensures.adds))
+
+pub returns-in-Err-clause-place : goal.returns-in-Err-clause-place
+returns-in-Err-clause-place c =
+    let b = c.loop-i.self in
+    let e = drop_item c.args.declarations.now c.loop-i.i c.index-declarations-i.result (omega arith) c.index-declarations-i.is in
+    rw c.fault_in.ensures.kind (tells_along _ _ _ _ (c.loop-i.invariant.place ∙ ap (λ (l : List Declaration). first_wrong (c.loop-i.i + 1) (known_types b) (map declaration_tree l)) e)
+    (wrong_here _ (c.loop-i.i + 1) (known_types b) (declaration_tree c.index-declarations-i.result) _ _ c.in-Err.ensures.adds c.fault_in.ensures.place))
 
 pub loop-i-preserved : goal.loop-i-preserved
 loop-i-preserved c =
@@ -26,6 +35,8 @@ loop-i-preserved c =
       ready = h.3;
       rest = c.loop-i.invariant.rest ∙ ap (λ (l : List Declaration). declared (known_types b) (map declaration_tree l)) e
           ∙ declared_next (known_types b) (declaration_tree c.index-declarations-i.result) rest h.0 h.1 ∙ ap (λ (names : Names). declared names rest) (sym h.2);
+      place = c.loop-i.invariant.place ∙ ap (λ (l : List Declaration). first_wrong (c.loop-i.i + 1) (known_types b) (map declaration_tree l)) e
+          ∙ wrong_next (c.loop-i.i + 1) (known_types b) (declaration_tree c.index-declarations-i.result) rest h.0 h.1 ∙ ap (λ (names : Names). first_wrong (c.loop-i.i + 1 + 1) names rest) (sym h.2);
     }
 
 pub returns-clause-ok : goal.returns-clause-ok

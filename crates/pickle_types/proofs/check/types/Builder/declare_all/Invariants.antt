@@ -1,6 +1,7 @@
-use Rattle.std.proofs.Common.{◌≡◌, map, drop}
+use Rattle.std.proofs.Common.{◌≡◌, ◌+◌, map, drop}
 use Rattle.pickle_syntax.specs.Tree.{declaration_tree}
 use Rattle.pickle_types.specs.Meaning.{declared}
+use Rattle.pickle_types.specs.Wrong.{first_wrong}
 use Rattle.pickle_types.specs.Building.{known_types, IsReady}
 use Rattle.pickle_types.proofs.check.types.Builder.declare_all.Given as goal
 
@@ -8,4 +9,5 @@ abbrev pub invariant-loop-i : goal.invariant-loop-i
 invariant-loop-i l = record {
   ready : IsReady l.self;
   rest : declared (known_types l.initial.self) (map declaration_tree l.declarations) ≡ declared (known_types l.self) (map declaration_tree (drop l.i l.declarations));
+  place : first_wrong 1 (known_types l.initial.self) (map declaration_tree l.declarations) ≡ first_wrong (l.i + 1) (known_types l.self) (map declaration_tree (drop l.i l.declarations));
 }
