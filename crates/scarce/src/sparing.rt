@@ -104,14 +104,18 @@ fn reads_root(table: &Table, store: &Store) -> bool {
     place && number && parts && names && last && root.child(2).is_none()
 }
 
+fn starts_empty(alloc: Global, table: &Table) -> bool {
+    Store::new(alloc).root(table).is_none()
+}
+
 /// A store, and what its value is read by.
 pub fn reading_values(alloc: Global) -> Result<Ended, Ended> {
     let (table, id) = types_of(alloc, ELEMENTS.pickle)?;
     let mut space = space_of(alloc, ELEMENTS.bytes)?;
     let mut store = Store::with_room(alloc, 21).map_err(|_| Ended::Early)?;
-    let nothing = Store::new(alloc).root(&table).is_none();
     let mapped = is_mapped(&table, id, &mut space, &mut store, ELEMENTS);
     let read = reads_root(&table, &store);
+    let nothing = starts_empty(alloc, &table);
     store.clear();
     let cleared = store.root(&table).is_none();
     Ok(Ended::answer_if(nothing && mapped && read && cleared))
