@@ -20,8 +20,6 @@ mod mappings;
 #[cfg(test)]
 mod maps;
 #[cfg(test)]
-mod memory;
-#[cfg(test)]
 mod offset_words;
 #[cfg(test)]
 mod pickles;

@@ -1,0 +1,77 @@
+//! The calls by their names.
+
+use crate::ended::Ended;
+use crate::samples::{ELEMENTS, MIXED, UNIONS};
+use crate::sparing::{
+    asking_tables, mapping_in_room, mapping_letters_in_room, reading_values, telling_lengths,
+    telling_tokens, using_spaces,
+};
+use crate::wanting::{
+    building, lexing, mapping, paging, parsing, reading_pages, reading_pickle, reading_words,
+    running_bound, running_check, running_map, taking_room,
+};
+use std::fs::File;
+use std::rt::Files;
+
+/// The names of the calls.
+pub const CALLS: [&str; 22] = [
+    "lex",
+    "parse",
+    "build",
+    "with_room",
+    "map_mixed",
+    "map_elements",
+    "paged",
+    "pages",
+    "run_map",
+    "run_bound",
+    "run_check",
+    "read_pickle",
+    "read_words",
+    "room_21",
+    "room_105",
+    "room_17",
+    "room_1005",
+    "spaces",
+    "lengths",
+    "tokens",
+    "tables",
+    "values",
+];
+
+/// Runs the call of a name.
+pub fn run_call<R: Files<File = File> + AllocGlobal>(rt: &R, name: &[u8]) -> Ended {
+    match run_named(rt, name) {
+        Ok(ended) => ended,
+        Err(ended) => ended,
+    }
+}
+
+fn run_named<R: Files<File = File> + AllocGlobal>(rt: &R, name: &[u8]) -> Result<Ended, Ended> {
+    let alloc = rt.alloc();
+    match name {
+        b"lex" => Ok(lexing(alloc)),
+        b"parse" => Ok(parsing(alloc, MIXED)),
+        b"build" => Ok(building(alloc, MIXED)),
+        b"with_room" => Ok(taking_room(alloc)),
+        b"map_mixed" => mapping(alloc, MIXED),
+        b"map_elements" => mapping(alloc, ELEMENTS),
+        b"paged" => paging(alloc),
+        b"pages" => reading_pages(alloc),
+        b"run_map" => running_map(alloc, ELEMENTS),
+        b"run_bound" => Ok(running_bound(alloc)),
+        b"run_check" => Ok(running_check(alloc)),
+        b"read_pickle" => Ok(reading_pickle(alloc)),
+        b"read_words" => reading_words(alloc),
+        b"room_21" => mapping_in_room(alloc, ELEMENTS, 21),
+        b"room_105" => mapping_in_room(alloc, ELEMENTS, 105),
+        b"room_17" => mapping_in_room(alloc, UNIONS, 17),
+        b"room_1005" => mapping_letters_in_room(alloc),
+        b"spaces" => using_spaces(alloc),
+        b"lengths" => telling_lengths(rt),
+        b"tokens" => Ok(telling_tokens(alloc)),
+        b"tables" => asking_tables(alloc),
+        b"values" => reading_values(alloc),
+        _ => Err(Ended::Wrong),
+    }
+}

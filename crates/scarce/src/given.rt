@@ -1,0 +1,89 @@
+//! What the calls are given.
+
+ghost use Rattle.std.specs.Prelude.{◌≡◌, IfOk, OnErr};
+ghost use Rattle.pickle_map.specs.Slots.{empty};
+ghost use Rattle.pickle_types.specs.TypeTable.{IsSound, IsInTable};
+
+use crate::ended::Ended;
+use crate::samples::Sample;
+use arrayvec::ArrayVec;
+use bit_space::{MemSpace, Meter, Order};
+use pickle_map::{MapFault, Store, map};
+use pickle_types::type_table::{Table, TypeId};
+use poke_batch::accept::accept;
+use poke_batch::ask::Ask;
+use poke_batch::mode::Mode;
+use poke_batch::print::print;
+use std::alloc::Global;
+
+/// A writer that asks for no memory.
+pub type Written = ArrayVec<u8, 1200>;
+
+/// The types of a pickle, and its type T.
+pub fn types_of(alloc: Global, pickle: &[u8]) -> Result<(Table, TypeId), Ended>
+    ensures { IfOk result (λ types. IsSound types.0 × IsInTable types.0 types.1) }
+{
+    let table = accept(alloc, pickle)?;
+    match table.find(b"T") {
+        Some(id) => Ok((table, id)),
+        None => Err(Ended::Wrong),
+    }
+}
+
+/// A space of bytes in memory.
+pub fn space_of(alloc: Global, bytes: &[u8]) -> Result<MemSpace, Ended> {
+    let mut owned = Vec::new(alloc);
+    owned.extend_from_slice(bytes)?;
+    MemSpace::new(owned).map_err(|_| Ended::Wrong)
+}
+
+/// What is asked of a sample.
+pub fn ask_for_t() -> Ask<'static> {
+    Ask {
+        name: b"T",
+        start: 0,
+        order: Order::Big,
+        limit: 10_000,
+        mode: Mode::Flat,
+    }
+}
+
+/// Maps a type from the first bit on.
+pub fn map_type(
+    table: &Table,
+    id: TypeId,
+    space: &mut MemSpace,
+    store: &mut Store,
+) -> Result<(), MapFault>
+    requires sound { IsSound table.now }
+    requires known { IsInTable table.now id }
+    requires empty { store.old ≡ empty store.old.room }
+    ensures { OnErr result (store.new ≡ empty store.old.room) }
+{
+    let mut meter = Meter::new(10_000);
+    map(table, id, Order::Big, 0, space, &mut meter, store)
+}
+
+/// Whether a store's value has a text.
+pub fn has_text(table: &Table, store: &Store, text: &[u8]) -> bool {
+    let mut out = Written::new();
+    match store.root(table) {
+        Some(root) => print(root, Mode::Flat, &mut out).is_ok() && out.as_slice() == text,
+        None => false,
+    }
+}
+
+/// Whether a sample is mapped in a store, and its value has its text.
+pub fn is_mapped(
+    table: &Table,
+    id: TypeId,
+    space: &mut MemSpace,
+    store: &mut Store,
+    sample: Sample<'_>,
+) -> bool
+    requires sound { IsSound table.now }
+    requires known { IsInTable table.now id }
+    requires empty { store.old ≡ empty store.old.room }
+{
+    map_type(table, id, space, store).is_ok() && has_text(table, store, sample.text)
+}

@@ -1,0 +1,84 @@
+//! Runs one public call of the libraries after so many requests for memory, and tells how it ended.
+//!
+//! It is meant for `.ci/memory`, where one request of each run is refused. Standard input has the name of a call and the
+//! number of requests to make first, each given back at once, so that one build serves each place of the refused one.
+//! Without any input each call runs once, with memory.
+#![tactic(auto)]
+
+mod calls;
+mod ended;
+mod given;
+mod samples;
+mod sparing;
+mod wanting;
+
+use arrayvec::ArrayVec;
+use calls::{CALLS, run_call};
+use ended::Ended;
+use poke_batch::write::put;
+use std::alloc::Global;
+use std::io::Read;
+use std::process::ExitCode;
+
+fn main(rt: HostRuntime) -> ExitCode {
+    let mut input = [0; 64];
+    match rt.reader().read(&mut input) {
+        Ok(0) => tell_each(&rt),
+        Ok(count) => match read_words(input.get(..count).unwrap_or(b"")) {
+            Some((name, requests)) => tell(&rt, name, requests),
+            None => ExitCode::from(2),
+        },
+        Err(_) => ExitCode::from(2),
+    }
+}
+
+// A name, a blank and a number, with or without the end of the line.
+fn read_words(line: &[u8]) -> Option<(&[u8], u32)> {
+    let text = str::from_utf8(line).ok()?;
+    let (name, requests) = text.trim_end().split_once(' ')?;
+    Some((name.as_bytes(), requests.parse().ok()?))
+}
+
+fn tell_each(rt: &HostRuntime) -> ExitCode {
+    for name in CALLS {
+        let ended = run_call(rt, name.as_bytes());
+        let mut line: ArrayVec<u8, 80> = ArrayVec::new();
+        let told = put(&mut line, name.as_bytes())
+            .and_then(|()| put(&mut line, b" "))
+            .and_then(|()| put(&mut line, ended.word()))
+            .and_then(|()| put(&mut rt.stdout(), line.as_slice()));
+        if told.is_err() {
+            return ExitCode::from(3);
+        }
+    }
+    ExitCode::from(0)
+}
+
+fn tell(rt: &HostRuntime, name: &[u8], requests: u32) -> ExitCode {
+    match put(&mut rt.stdout(), run_after(rt, name, requests).word()) {
+        Ok(()) => ExitCode::from(0),
+        Err(_) => ExitCode::from(3),
+    }
+}
+
+// The request after the call tells whether the refused one is spent: where it comes just there, the call and what was
+// prepared for it made exactly the requests before it.
+fn run_after(rt: &HostRuntime, name: &[u8], requests: u32) -> Ended {
+    for _ in 0..requests {
+        if is_refused(rt.alloc()) {
+            return Ended::Early;
+        }
+    }
+    let ended = run_call(rt, name);
+    match (ended, is_refused(rt.alloc())) {
+        (ended, false) => ended,
+        (Ended::Answer, true) => Ended::Next,
+        (_, true) => Ended::Wrong,
+    }
+}
+
+// Makes one request for memory, and gives it back.
+fn is_refused(alloc: Global) -> bool {
+    let mut bytes = Vec::new(alloc);
+    bytes.push(0_u8).is_err()
+}

@@ -1,0 +1,36 @@
+//! Pickles, bytes and texts to try the calls with.
+
+/// A pickle, the bytes that its type T is mapped over, and the text of the value.
+#[derive(Clone, Copy)]
+pub struct Sample<'a> {
+    pub pickle: &'a [u8],
+    pub bytes: &'a [u8],
+    pub text: &'a [u8],
+}
+
+/// Two integers.
+pub const PAIR: &[u8] = b"type T = struct { uint<8> a; uint<16> b; };";
+
+/// Arrays, unions, integers and texts.
+pub const MIXED: Sample<'_> = Sample {
+    pickle: b"type U = union { byte a : a == 1; string s; }; type T = struct { U[3] us; byte z; };",
+    bytes: b"\x01ab\x00\x01\x05",
+    text: b"T {us=[U {a=1UB},U {s=\"ab\"},U {a=1UB}],z=5UB}\n",
+};
+
+/// An array whose last element is tried and given up.
+pub const ELEMENTS: Sample<'_> = Sample {
+    pickle: b"type E = struct { byte v : v != 0; }; type T = struct { E[] es; byte z; };",
+    bytes: b"\x05\x06\x00",
+    text: b"T {es=[E {v=5UB},E {v=6UB}],z=0UB}\n",
+};
+
+/// Elements whose first alternative is given up.
+pub const UNIONS: Sample<'_> = Sample {
+    pickle: b"type U = union { ushort a : a == 1; byte b; }; type T = U[];",
+    bytes: b"\x02\x03\x04",
+    text: b"[U {b=2UB},U {b=3UB}]\n",
+};
+
+/// A text that is kept by an alternative that is given up, and then by the next.
+pub const LONG_PICKLE: &[u8] = b"type T = union { string a : 0 != 0; string b; };";

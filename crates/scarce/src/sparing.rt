@@ -1,0 +1,122 @@
+//! The calls that ask for no memory: what they need is made before them.
+
+use crate::ended::Ended;
+use crate::given::{Written, is_mapped, space_of, types_of};
+use crate::samples::{ELEMENTS, LONG_PICKLE, Sample};
+use bit_space::{FileSpace, MemSpace, Meter, Order, Paged, Space, read_number};
+use pickle_map::{Kind, Store};
+use pickle_syntax::lexer::lex;
+use pickle_types::type_table::Table;
+use poke_batch::dump::dump;
+use poke_batch::offset_word::offset_word;
+use std::alloc::Global;
+use std::fs::File;
+use std::rt::Files;
+
+/// Maps in a store with room for the slots of the mapping, and once more after it is cleared.
+pub fn mapping_in_room(alloc: Global, sample: Sample<'_>, slots: usize) -> Result<Ended, Ended> {
+    let (table, id) = types_of(alloc, sample.pickle)?;
+    let mut space = space_of(alloc, sample.bytes)?;
+    let mut store = Store::with_room(alloc, slots).map_err(|_| Ended::Early)?;
+    let first = is_mapped(&table, id, &mut space, &mut store, sample);
+    store.clear();
+    let second = is_mapped(&table, id, &mut space, &mut store, sample);
+    Ok(Ended::answer_if(first && second))
+}
+
+/// A thousand letters are kept by an alternative that is given up, and then by the next, in the room of one.
+pub fn mapping_letters_in_room(alloc: Global) -> Result<Ended, Ended> {
+    let mut bytes = [b'a'; 1001];
+    bytes[1000] = 0;
+    let mut text = [b'a'; 1009];
+    text[..6].copy_from_slice(b"T {b=\"");
+    text[1006..].copy_from_slice(b"\"}\n");
+    let letters = Sample {
+        pickle: LONG_PICKLE,
+        bytes: &bytes,
+        text: &text,
+    };
+    mapping_in_room(alloc, letters, 1005)
+}
+
+/// Spaces in memory, their numbers and their dump, and a meter.
+pub fn using_spaces(alloc: Global) -> Result<Ended, Ended> {
+    let mut bytes = Vec::new(alloc);
+    bytes.extend_from_slice(b"Hello")?;
+    let mut space = MemSpace::new(bytes).map_err(|_| Ended::Wrong)?;
+    let mut meter = Meter::new(2);
+    let number = read_number(&mut space, 4, 12, Order::Big, &mut meter);
+    let ticks = meter.tick().is_ok() && meter.tick().is_err();
+    if meter.made() < meter.steps() {
+        meter.note_made();
+    }
+    let counts = meter.steps() == 2 && meter.made() == 1 && meter.limit() == 2;
+    let mut out = Written::new();
+    let dumped = dump(&mut space, 0, 128, true, &mut out).is_ok();
+    let right = number == Ok(0x865) && ticks && counts && dumped && space.len() == 5;
+    Ok(Ended::answer_if(right && out.as_slice() == HELLO))
+}
+
+const HELLO: &[u8] = b"76543210  0011 2233 4455 6677 8899 aabb ccdd eeff  0123456789ABCDEF
+00000000: 4865 6c6c 6f                             Hello
+";
+
+/// The lengths of a file and of pages.
+pub fn telling_lengths<R: Files<File = File> + AllocGlobal>(rt: &R) -> Result<Ended, Ended> {
+    let file = FileSpace::open(rt, "/dev/null").map_err(|_| Ended::Early)?;
+    let space = space_of(rt.alloc(), b"\x12\x34")?;
+    let paged = Paged::new(rt.alloc(), space).map_err(|_| Ended::Early)?;
+    Ok(Ended::answer_if(file.len() == 0 && paged.len() == 2))
+}
+
+/// The places of tokens, and a word of an offset.
+pub fn telling_tokens(alloc: Global) -> Ended {
+    let Ok(tokens) = lex(alloc, b"type A = byte;") else {
+        return Ended::Early;
+    };
+    let places = tokens.span(1) == Some((5, 6)) && tokens.span(5).is_none();
+    let offset = offset_word(b"8#B") == Some(64) && offset_word(b"1#0").is_none();
+    Ended::answer_if(tokens.len() == 5 && places && offset)
+}
+
+/// The names and bounds of a table, and the types that it lends.
+pub fn asking_tables(alloc: Global) -> Result<Ended, Ended> {
+    let (table, id) = types_of(alloc, ELEMENTS.pickle)?;
+    let bounds = table.step_bound(id, 24) == Some(33) && table.slot_bound(id, 24) == Some(21);
+    let names = table.find(b"E").is_some() && table.find(b"Q").is_none();
+    let found = names && table.find(b"ushort").is_some() && table.len() == 2;
+    Ok(Ended::answer_if(bounds && found && !table.nodes().is_empty()))
+}
+
+// Whether each reader gives what the root of the elements has.
+fn reads_root(table: &Table, store: &Store) -> bool {
+    let Some(root) = store.root(table) else {
+        return false;
+    };
+    let place = root.kind() == Kind::Struct && root.start() == 0 && root.size() == 24;
+    let number = root.number() == 0 && !root.signed() && root.width() == 0 && root.unit() == 0;
+    let parts = root.bytes().is_empty() && root.len() == 2 && root.members().len() == 2;
+    let names = root.type_name() == Some(b"T".as_slice())
+        && root.field_name(1) == Some(b"z".as_slice());
+    let last = root
+        .child(1)
+        .is_some_and(|z| z.number() == 0 && z.width() == 8);
+    place && number && parts && names && last && root.child(2).is_none()
+}
+
+fn starts_empty(alloc: Global, table: &Table) -> bool {
+    Store::new(alloc).root(table).is_none()
+}
+
+/// A store, and what its value is read by.
+pub fn reading_values(alloc: Global) -> Result<Ended, Ended> {
+    let (table, id) = types_of(alloc, ELEMENTS.pickle)?;
+    let mut space = space_of(alloc, ELEMENTS.bytes)?;
+    let mut store = Store::with_room(alloc, 21).map_err(|_| Ended::Early)?;
+    let mapped = is_mapped(&table, id, &mut space, &mut store, ELEMENTS);
+    let read = reads_root(&table, &store);
+    let nothing = starts_empty(alloc, &table);
+    store.clear();
+    let cleared = store.root(&table).is_none();
+    Ok(Ended::answer_if(nothing && mapped && read && cleared))
+}

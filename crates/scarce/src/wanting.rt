@@ -1,0 +1,174 @@
+//! The calls that ask for memory. Each gives its answer or tells of want of memory, and does nothing else.
+
+use crate::ended::Ended;
+use crate::given::{Written, ask_for_t, has_text, is_mapped, map_type, space_of, types_of};
+use crate::samples::{MIXED, PAIR, Sample};
+use bit_space::{Memory, Meter, Order, Paged, Space, read_number};
+use pickle_map::{MapFaultKind, Store};
+use pickle_syntax::lexer::fault::LexFaultKind;
+use pickle_syntax::lexer::lex;
+use pickle_syntax::parser::fault::ParseFault;
+use pickle_syntax::parser::parse;
+use pickle_types::fault::FaultKind;
+use pickle_types::type_table::Table;
+use poke_batch::mode::Mode;
+use poke_batch::pickle::{PickleFault, read_pickle};
+use poke_batch::run::{run_bound, run_check, run_map};
+use poke_batch::status::Status;
+use poke_batch::words::{Job, WordFault, read_words};
+use std::alloc::Global;
+
+/// Reads the 33 tokens of the mixed sample.
+pub fn lexing(alloc: Global) -> Ended {
+    match lex(alloc, MIXED.pickle) {
+        Ok(tokens) => {
+            let last = tokens.span(32).is_some_and(|span| span == (83, 84));
+            Ended::answer_if(tokens.len() == 33 && last)
+        }
+        Err(fault) => Ended::want_if(fault.kind == LexFaultKind::Memory && fault.at == 0),
+    }
+}
+
+/// Parses a sample of two declarations.
+pub fn parsing(alloc: Global, sample: Sample<'_>) -> Ended {
+    let tokens = match lex(alloc, sample.pickle) {
+        Ok(tokens) => tokens,
+        Err(_) => return Ended::Early,
+    };
+    match parse(alloc, &tokens) {
+        Ok(pickle) => Ended::answer_if(pickle.declarations.len() == 2),
+        Err(fault) => Ended::want_if(fault == ParseFault::Memory),
+    }
+}
+
+/// Builds the table of a sample of two declarations.
+pub fn building(alloc: Global, sample: Sample<'_>) -> Ended {
+    let Ok(tokens) = lex(alloc, sample.pickle) else {
+        return Ended::Early;
+    };
+    let Ok(pickle) = parse(alloc, &tokens) else {
+        return Ended::Early;
+    };
+    match Table::build(alloc, &pickle) {
+        Ok(table) => Ended::answer_if(table.len() == 2 && table.find(b"T").is_some()),
+        Err(fault) => Ended::want_if(fault.kind == FaultKind::Memory && fault.decl == 0),
+    }
+}
+
+/// Makes a store with room.
+pub fn taking_room(alloc: Global) -> Ended {
+    match Store::with_room(alloc, 105) {
+        Ok(_store) => Ended::Answer,
+        Err(Memory) => Ended::Want,
+    }
+}
+
+/// Maps in a store without room. After want of memory the same store, as it is, maps the same bytes.
+pub fn mapping(alloc: Global, sample: Sample<'_>) -> Result<Ended, Ended> {
+    let (table, id) = types_of(alloc, sample.pickle)?;
+    let mut space = space_of(alloc, sample.bytes)?;
+    let mut store = Store::new(alloc);
+    match map_type(&table, id, &mut space, &mut store) {
+        Ok(()) => Ok(Ended::answer_if(has_text(&table, &store, sample.text))),
+        Err(fault) => {
+            let told = fault.kind == MapFaultKind::Memory && fault.at == 0;
+            let emptied = store.root(&table).is_none();
+            let again = is_mapped(&table, id, &mut space, &mut store, sample);
+            Ok(Ended::want_if(told && emptied && again))
+        }
+    }
+}
+
+/// Puts pages over a space.
+pub fn paging(alloc: Global) -> Result<Ended, Ended> {
+    let space = space_of(alloc, b"\x12\x34")?;
+    match Paged::new(alloc, space) {
+        Ok(paged) => Ok(Ended::answer_if(paged.len() == 2)),
+        Err(Memory) => Ok(Ended::Want),
+    }
+}
+
+/// Reads across pages, each several times. A page that has no memory gives the same bytes, so this never wants any.
+pub fn reading_pages(alloc: Global) -> Result<Ended, Ended> {
+    let mut bytes = [0_u8; 12_300];
+    for (place, byte) in bytes.iter_mut().enumerate() {
+        *byte = (place % 251) as u8;
+    }
+    let mut plain = space_of(alloc, &bytes)?;
+    let mut paged = Paged::new(alloc, space_of(alloc, &bytes)?).map_err(|_| Ended::Early)?;
+    let mut meter = Meter::new(100);
+    let mut same = true;
+    for pos in [0, 32_740, 32_760, 65_500, 98_336, 4, 65_535, 32_741] {
+        let left = read_number(&mut plain, pos, 64, Order::Big, &mut meter);
+        let right = read_number(&mut paged, pos, 64, Order::Big, &mut meter);
+        same = same && left.is_ok() && left == right;
+    }
+    Ok(Ended::answer_if(same))
+}
+
+// A run's text and status, or the line of want of memory with its status.
+fn judge_run(status: Status, out: &Written, err: &Written, text: &[u8]) -> Ended {
+    let (out, err) = (out.as_slice(), err.as_slice());
+    match status {
+        Status::Done => Ended::answer_if(out == text && err.is_empty()),
+        Status::Outside => Ended::want_if(out.is_empty() && err == b"fault Memory\n".as_slice()),
+        _ => Ended::Wrong,
+    }
+}
+
+pub fn running_map(alloc: Global, sample: Sample<'_>) -> Result<Ended, Ended> {
+    let mut space = space_of(alloc, sample.bytes)?;
+    let (mut out, mut err) = (Written::new(), Written::new());
+    let status = run_map(
+        alloc,
+        sample.pickle,
+        &ask_for_t(),
+        &mut space,
+        &mut out,
+        &mut err,
+    );
+    Ok(judge_run(status, &out, &err, sample.text))
+}
+
+pub fn running_bound(alloc: Global) -> Ended {
+    let (mut out, mut err) = (Written::new(), Written::new());
+    let status = run_bound(alloc, PAIR, b"T", 24, &mut out, &mut err);
+    judge_run(status, &out, &err, b"steps 5\nslots 5\n")
+}
+
+pub fn running_check(alloc: Global) -> Ended {
+    let (mut out, mut err) = (Written::new(), Written::new());
+    let status = run_check(alloc, PAIR, &mut out, &mut err);
+    judge_run(status, &out, &err, b"types 1\n")
+}
+
+/// Reads a pickle that is longer than a read.
+pub fn reading_pickle(alloc: Global) -> Ended {
+    let blanks = [b' '; 40_000];
+    let mut reader = blanks.as_slice();
+    match read_pickle(alloc, &mut reader) {
+        Ok(pickle) => Ended::answer_if(pickle.as_slice() == blanks.as_slice()),
+        Err(fault) => Ended::want_if(fault == PickleFault::Memory),
+    }
+}
+
+/// Reads the words of a command.
+pub fn reading_words(alloc: Global) -> Result<Ended, Ended> {
+    let job = Job::Map {
+        at: 4,
+        order: Order::Big,
+        limit: 1_000_000_000,
+        mode: Mode::Flat,
+        pickle: String::from_str(alloc, "p")?,
+        name: String::from_str(alloc, "T")?,
+        file: String::from_str(alloc, "f")?,
+    };
+    let mut words = Vec::new(alloc);
+    for word in ["map", "--at", "4#b", "p", "T", "f"] {
+        words.push(String::from_str(alloc, word)?)?;
+    }
+    match read_words(alloc, words) {
+        Ok(read) => Ok(Ended::answer_if(read == job)),
+        Err(fault) => Ok(Ended::want_if(matches!(&fault, WordFault::Memory))),
+    }
+}
