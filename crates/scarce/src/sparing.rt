@@ -1,10 +1,10 @@
 //! The calls that ask for no memory: what they need is made before them.
 
 use crate::ended::Ended;
-use crate::given::{Written, is_mapped, space_of, types_of};
+use crate::given::{Written, is_mapped, map_type, space_of, types_of};
 use crate::samples::{ELEMENTS, LONG_PICKLE, Sample};
 use bit_space::{FileSpace, MemSpace, Meter, Order, Paged, Space, read_number};
-use pickle_map::{Kind, Store};
+use pickle_map::{Kind, MapFaultKind, Store};
 use pickle_syntax::lexer::lex;
 use pickle_types::type_table::Table;
 use poke_batch::dump::dump;
@@ -37,6 +37,22 @@ pub fn mapping_letters_in_room(alloc: Global) -> Result<Ended, Ended> {
         text: &text,
     };
     mapping_in_room(alloc, letters, 1005)
+}
+
+/// Maps again in a store that mapped the same without any room at first, and was cleared.
+pub fn mapping_again(alloc: Global, sample: Sample<'_>) -> Result<Ended, Ended> {
+    let (table, id) = types_of(alloc, sample.pickle)?;
+    let mut space = space_of(alloc, sample.bytes)?;
+    let mut store = Store::new(alloc);
+    if let Err(fault) = map_type(&table, id, &mut space, &mut store) {
+        return Err(if fault.kind == MapFaultKind::Memory {
+            Ended::Early
+        } else {
+            Ended::Wrong
+        });
+    }
+    store.clear();
+    Ok(Ended::answer_if(is_mapped(&table, id, &mut space, &mut store, sample)))
 }
 
 /// Spaces in memory, their numbers and their dump, and a meter.
