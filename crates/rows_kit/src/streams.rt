@@ -52,29 +52,43 @@ impl Read for Blanks {
 }
 
 /// Takes so many bytes, at most `step` at a time, and then gives an error or, where `dry`, takes no byte. It keeps the
-/// first 80 bytes.
+/// first 160 bytes.
 #[derive(Drop)]
 pub struct Halting {
-    kept: [u8; 80],
+    kept: [u8; 160],
     taken: usize,
     room: usize,
     step: usize,
     dry: bool,
+    once: bool,
 }
 
 impl Halting {
     pub fn new(room: usize, step: usize, dry: bool) -> Halting {
         Halting {
-            kept: [0; 80],
+            kept: [0; 160],
             taken: 0,
             room,
             step,
             dry,
+            once: false,
+        }
+    }
+
+    /// Gives one error behind so many bytes, and then takes all.
+    pub fn failing_once(room: usize, step: usize) -> Halting {
+        Halting {
+            kept: [0; 160],
+            taken: 0,
+            room,
+            step,
+            dry: false,
+            once: true,
         }
     }
 
     pub fn text(&self) -> &[u8] {
-        &self.kept[..self.taken.min(80)]
+        &self.kept[..self.taken.min(160)]
     }
 }
 
@@ -82,11 +96,14 @@ impl Write for Halting {
     fn write(&mut self, buf: &[u8]) -> io::Result<usize> {
         let left = self.room.saturating_sub(self.taken);
         if left == 0 && !self.dry {
+            if self.once {
+                self.room = usize::MAX;
+            }
             return Err(Error::from(ErrorKind::Other));
         }
         let count = buf.len().min(left).min(self.step);
         for byte in &buf[..count] {
-            if self.taken < 80 {
+            if self.taken < 160 {
                 self.kept[self.taken] = *byte;
             }
             self.taken = self.taken.saturating_add(1);
