@@ -1,6 +1,6 @@
 //! The words of command lines. A word `""` is empty.
 
-use poke_batch::words::{WordFault, read_words};
+use poke_batch::words::{Job, WordFault, read_words};
 use rows_kit::text::bytes_of;
 use std::alloc::Global;
 use std::test::Fail;
@@ -97,4 +97,17 @@ fn helps(rt: HostRuntime) -> Result<(), Fail> {
         }
     }
     Ok(())
+}
+
+#[test]
+fn reads_or_tells_want_of_memory(rt: HostRuntime) {
+    let Ok(words) = words_of(rt.alloc(), "bound p T 25") else {
+        return;
+    };
+    let right = match read_words(rt.alloc(), words) {
+        Ok(Job::Bound { bits, .. }) => bits == 25,
+        Ok(_) => false,
+        Err(fault) => fault == WordFault::Memory,
+    };
+    assert!(rt; right);
 }
