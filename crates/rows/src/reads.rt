@@ -85,7 +85,7 @@ fn reads_each_page_once(rt: HostRuntime) -> Result<(), Fail> {
     for row in &read_rows(alloc, PAGES)? {
         let table = table_of(alloc, row.pickle)?;
         let pages = row.bytes.len() as u64 / 4096;
-        for failing in [1, pages / 2, pages] {
+        for failing in [1, pages] {
             let mut space = Paged::new(alloc, Failing::new(&row.bytes, failing)?)?;
             let mut store = Store::new(alloc);
             let mut meter = Meter::new(LIMIT);

@@ -52,10 +52,10 @@ impl Read for Blanks {
 }
 
 /// Takes so many bytes, at most `step` at a time, and then gives an error or, where `dry`, takes no byte. It keeps the
-/// first 160 bytes.
+/// first 80 bytes.
 #[derive(Drop)]
 pub struct Halting {
-    kept: [u8; 160],
+    kept: [u8; 80],
     taken: usize,
     room: usize,
     step: usize,
@@ -66,7 +66,7 @@ pub struct Halting {
 impl Halting {
     pub fn new(room: usize, step: usize, dry: bool) -> Halting {
         Halting {
-            kept: [0; 160],
+            kept: [0; 80],
             taken: 0,
             room,
             step,
@@ -78,7 +78,7 @@ impl Halting {
     /// Gives one error behind so many bytes, and then takes all.
     pub fn failing_once(room: usize, step: usize) -> Halting {
         Halting {
-            kept: [0; 160],
+            kept: [0; 80],
             taken: 0,
             room,
             step,
@@ -88,7 +88,7 @@ impl Halting {
     }
 
     pub fn text(&self) -> &[u8] {
-        &self.kept[..self.taken.min(160)]
+        &self.kept[..self.taken.min(80)]
     }
 }
 
@@ -103,7 +103,7 @@ impl Write for Halting {
         }
         let count = buf.len().min(left).min(self.step);
         for byte in &buf[..count] {
-            if self.taken < 160 {
+            if self.taken < 80 {
                 self.kept[self.taken] = *byte;
             }
             self.taken = self.taken.saturating_add(1);

@@ -3,13 +3,42 @@
 use bit_space::MemSpace;
 use poke_batch::dump::{DumpFault, dump};
 use rows_kit::devices::Shifting;
-use rows_kit::streams::Halting;
 use rows_kit::text::{bytes_of, hex_of};
 use std::alloc::Global;
+use std::io;
+use std::io::Write;
 use std::process::Abort;
 use std::test::Fail;
 
 const RULER: &str = "76543210  0011 2233 4455 6677 8899 aabb ccdd eeff  0123456789ABCDEF\n";
+
+// A writer that takes so many bytes, at most `step` at a time, and then gives errors, or one error where `once`.
+#[derive(Drop)]
+struct Limited {
+    taken: Vec<u8>,
+    room: usize,
+    step: usize,
+    once: bool,
+}
+
+impl Write for Limited {
+    fn write(&mut self, buf: &[u8]) -> io::Result<usize> {
+        if self.room == 0 {
+            if self.once {
+                self.room = usize::MAX;
+            }
+            return Err(io::Error::from(io::ErrorKind::Other));
+        }
+        let count = buf.len().min(self.room).min(self.step);
+        self.taken.extend_from_slice(&buf[..count])?;
+        self.room -= count;
+        Ok(count)
+    }
+
+    fn flush(&mut self) -> io::Result<()> {
+        Ok(())
+    }
+}
 
 /// The first byte, the most bytes and the file's bytes as hexadecimal digits; and the lines.
 const DUMPS: &str =
@@ -82,32 +111,24 @@ fn tells_places_above_4_gib(rt: HostRuntime) -> Result<(), Fail> {
     Ok(())
 }
 
-/// Expects the front of a dump on a writer that takes only so many bytes.
-fn expect_cut(
-    rt: &impl Abort,
-    alloc: Global,
-    text: &str,
-    room: usize,
-    cut: Halting,
-) -> Result<(), Fail> {
-    let mut cut = cut;
-    let mut space = MemSpace::new(hex_of(alloc, "48656c6c6f")?)?;
-    let result = dump(&mut space, 0, 128, true, &mut cut);
-    let whole = room == text.len();
-    assert_eq!(rt; result, if whole { Ok(()) } else { Err(DumpFault::Write) });
-    assert!(rt; Some(cut.text()) == text.as_bytes().get(..room));
-    Ok(())
-}
-
 #[test]
 fn stops_where_the_writer_does(rt: HostRuntime) -> Result<(), Fail> {
     let alloc = rt.alloc();
     let line = "00000000: 4865 6c6c 6f                             Hello\n";
     let text = format!(in alloc; "{RULER}{line}")?;
-    for step in [1, 7, 4096] {
+    let mut space = MemSpace::new(hex_of(alloc, "48656c6c6f")?)?;
+    for (step, once) in [(1, false), (7, false), (4096, false), (4096, true)] {
         for room in 0..=text.len() {
-            expect_cut(&rt, alloc, &text, room, Halting::new(room, step, false))?;
-            expect_cut(&rt, alloc, &text, room, Halting::failing_once(room, step))?;
+            let mut writer = Limited {
+                taken: Vec::new(alloc),
+                room,
+                step,
+                once,
+            };
+            let result = dump(&mut space, 0, 128, true, &mut writer);
+            let whole = room == text.len();
+            assert_eq!(rt; result, if whole { Ok(()) } else { Err(DumpFault::Write) });
+            assert!(rt; Some(writer.taken.as_slice()) == text.as_bytes().get(..room));
         }
     }
     Ok(())
