@@ -98,7 +98,10 @@ type A = «0..64 struct { »struct {}«0..64 ; }»; ==> TooDeep
 type T1 = byte[];«1..63 type T^ = T~[];» ==> types 63
 type T1 = byte[];«1..64 type T^ = T~[];» ==> TooDeep in type 64
 «0..4096 type T~ = byte;» ==> types 4096
-«0..4097 type T~ = byte;» ==> TooMany"#;
+«0..4097 type T~ = byte;» ==> TooMany
+«0..30 type A = byte;»type B byte; ==> Syntax at byte 427
+type A = struct {«0..1000  byte;»}; type B = struct {«0..1000  byte;»} x; ==> Syntax at byte 12039
+«0..70 type T~ = byte;»type A = uint<65>; ==> Width in type 71"#;
 
 fn expect(rt: &impl Abort, alloc: Global, pickle: &[u8], told: &str) -> Result<(), Fail> {
     let mut out = Vec::new(alloc);

@@ -108,6 +108,19 @@ type A = struct byte {«0..1025  byte;»}; ==> TooMany
 type A = union {«0..1025  byte;»}; ==> TooMany
 type A = pinned struct {«0..1025  byte;»}; ==> TooMany"#;
 
+/// Faults behind many tokens.
+const FAR: &str = r#"«0..30 type A = byte;»type B byte; ==> Syntax at byte 427
+type A = struct {«0..100  byte;» byte a b; }; ==> Syntax at byte 625
+«0..100 type A = byte;»type ==> Syntax at byte 1404
+«0..1500 type A = byte;»type B = ; ==> Syntax at byte 21009
+type A = struct {«0..1000  byte;»}; type B = struct {«0..1000  byte;»} x; ==> Syntax at byte 12039
+type A = byte[1«0..40  + 1» 2]; ==> Syntax at byte 176
+type A = byte[(1)«0..62  + 1» )]; ==> Syntax at byte 266
+«0..30 type A = byte;»type B = byte[«0..63 (»1«0..63 )»]; ==> types 31
+«0..30 type A = byte;»type B = byte[«0..64 (»1«0..64 )»]; ==> TooDeep
+type A = struct {«0..1024  byte;»}; type B = struct {«0..1024  byte;»}; ==> types 2
+type A = struct {«0..1024  byte;»}; type B = struct {«0..1025  byte;»}; ==> TooMany"#;
+
 /// Bounds of arrays, with all of their nodes in brackets.
 const BOUNDS: &str = r#"10 - 4 - 3 ==> (Subtract (Subtract 10 4) 3)
 10 - (4 - 3) ==> (Subtract 10 [(Subtract 4 3)])
@@ -236,7 +249,7 @@ fn bound_of(alloc: Global, bound: &str) -> Result<String, Fail> {
 #[test]
 fn pickles_are_accepted_or_refused_at_a_token(rt: HostRuntime) -> Result<(), Fail> {
     let alloc = rt.alloc();
-    for table in [PICKLES, DEEP, LONG] {
+    for table in [PICKLES, DEEP, LONG, FAR] {
         for line in table.lines() {
             let (text, told) = line.split_once(" ==> ").ok_or("no arrow")?;
             let pickle = bytes_of(alloc, text)?;

@@ -84,6 +84,14 @@ type T1 = byte[];«1..64 type T^ = T~[];» ==> TooDeep in type 64
 type T1 = byte[];«1..200 type T^ = T~;» ==> types 200
 type T1 = struct { byte a; byte b; };«1..63 type T^ = struct { T~ a; T~ b; };» ==> types 63"#;
 
+/// Types behind many others, and of many fields.
+const MANY: &str = r#"«0..70 type T~ = byte;»type A = uint<65>; ==> Width in type 71
+«0..100 type T~ = struct { byte x; };»type A = struct { byte x : y; }; ==> UnknownName in type 101
+«0..100 type T~ = byte;»type T99 = bit; ==> DuplicateType in type 101
+«0..4095 type T~ = byte;»type A = B; ==> UnknownType in type 4096
+type U = union {«0..1024  byte a~;»}; ==> types 1
+type U = union {«0..1023  byte a~;» byte a7; }; ==> DuplicateField in type 1"#;
+
 /// Pickles, with the name of a type and a number of bits, and the most steps and slots.
 const BOUNDS: &str =
     r#"type E = struct { byte v : v != 0; }; type A = struct { E[] es; byte z; }; ==> A 24 Some(33) Some(21)
@@ -123,7 +131,7 @@ fn expect(rt: &impl Abort, alloc: Global, pickle: &[u8], told: &str) -> Result<(
 
 #[test]
 fn counts_types_or_tells_a_fault(rt: HostRuntime) -> Result<(), Fail> {
-    for table in [FAULTS, ACCEPTED, UNSEEN, LEFT_OUT, CHAINS] {
+    for table in [FAULTS, ACCEPTED, UNSEEN, LEFT_OUT, CHAINS, MANY] {
         for line in table.lines() {
             let (text, told) = line.split_once(" ==> ").ok_or("no arrow")?;
             let pickle = bytes_of(rt.alloc(), text)?;

@@ -29,4 +29,19 @@ type N = uint<16>;`0atype U = union { N n : n <= 256; struct { byte count; strin
   map M 0 big 1000000000 010002610062632200ff07 | Done | M {us=[U {n=256UH},U {list=struct {count=2UB,words=["a","bc\""]}}],last=-1B,o=7UB#B}
   map M 0 big 1000000000 01000261006263 | Fault | fault End at 40#b
   map M 0 big 1000000000 010002000007 | Fault | fault Constraint at 40#b
-  map M 0 big 1000000000 0100020000ff | Fault | fault End at 48#b"#;
+  map M 0 big 1000000000 0100020000ff | Fault | fault End at 48#b
+
+type U = union {«0..1023  byte a~ : a~ == 1;» byte last; };
+  check | Done | types 1
+  map U 0 big 1000000000 01 | Done | U {a0=1UB}
+  map U 0 big 5118 02 | Done | U {last=2UB}
+  map U 0 big 5117 02 | Fault | fault Limit at 0#b
+
+type T = struct { string s : s == "«0..2000 a»"; };
+  map T 0 big 1000000000 «0..2000 61»00 | Done | T {s="«0..2000 a»"}
+  map T 0 big 1000000000 «0..1999 61»6200 | Fault | fault Constraint at 0#b
+
+«0..1000 type T~ = struct { uint<8> first : first >= 0 && first <= 255; uint<16>[first] second; };»
+  check | Done | types 1000
+  map T999 0 big 1000000000 010002 | Done | T999 {first=1UB,second=[2UH]}
+  map T1000 0 big 1000000000 010002 | Refused | refused NoSuchType"#;
