@@ -36,6 +36,8 @@ mod tables;
 #[cfg(test)]
 mod tokens;
 #[cfg(test)]
+mod trees;
+#[cfg(test)]
 mod types;
 #[cfg(test)]
 mod values;

@@ -176,7 +176,7 @@ fn refuses_wrong_words(rt: HostRuntime) -> Result<(), Fail> {
         ["map", "--at", "-1#b", "p", "T", "f"].as_slice(),
         ["map", "--at", "1#b", "--at", "1#b", "p", "T", "f"].as_slice(),
         ["map", "--endian", "middle", "p", "T", "f"].as_slice(),
-        ["map", "--mode", "tree", "p", "T", "f"].as_slice(),
+        ["map", "--mode", "leaf", "p", "T", "f"].as_slice(),
         ["map", "--color", "p", "T", "f"].as_slice(),
         ["map", "p", "T"].as_slice(),
         ["map", "p", "T", "f", "g"].as_slice(),
