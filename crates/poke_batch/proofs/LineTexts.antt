@@ -1,6 +1,6 @@
 -- Laws of the lines of values.
-use Rattle.std.proofs.Common.{◌≡◌, ◌≢◌, ℕ, suc, add-one, ◌+◌, ◌<◌, ◌≤◌, List, [], ◌++◌, Option, Some, None, codes, refl, sym, ◌∙◌, ap, subst, if◌then◌else◌}
-use Rattle.std.proofs.lemmas.List.{append_assoc}
+use Rattle.std.proofs.Common.{◌≡◌, ◌≢◌, ℕ, suc, add-one, ◌+◌, ◌-◌, ◌*◌, ◌<◌, ◌≤◌, List, [], ◌++◌, Option, Some, None, codes, refl, sym, ◌∙◌, ap, subst, replicate, take, arith}
+use Rattle.std.proofs.lemmas.List.{append_assoc, replicate-append-replicate, take-replicate}
 use Rattle.pickle_map.specs.declared.value.Kind.{Kind}
 use Rattle.pickle_map.specs.declared.value.Kind.TheVariants as kind
 use Rattle.pickle_map.specs.Values.{Value, Mapped, Label, IntegerLabel, OffsetLabel, TextLabel, ArrayLabel, StructLabel, UnionLabel, Members, member_count, member_at}
@@ -74,7 +74,7 @@ pub ruleset by_prefix = (prefix_of_element, prefix_of_field)
 
 -- the lines of a value, from what stands before its head
 lines_rest : (level : ℕ) (prefix : List ℕ) (value : Value) → lines_text level prefix value ≡ (indent_text level ++ prefix) ++ rest_text level value
-lines_rest level prefix (Mapped label start end members) = simp append_assoc
+lines_rest level prefix (Mapped label start end all) = simp append_assoc
 
 pub tree_rest : (value : Value) → tree_text value ≡ rest_text 0 value
 tree_rest value = lines_rest 0 [] value
@@ -110,3 +110,14 @@ told_part_absent a b l m level label all i text lt is h = subst (λ t. Told a b 
 pub told_parts_end : (a b : Option (List ℕ)) (l m : List ℕ) (level : ℕ) (label : Label) (all : Members) (i : ℕ) (text : List ℕ) → member_count all ≤ i
     → Told a b l m (parts_text level label i (members_from i all)) text → Gathers a b l m text
 told_parts_end a b l m level label all i text le h = told_all a b l m _ text h (lines_end level label all i le)
+
+-- the blanks of more than 32 levels begin with those of 32
+pub told_blanks : (a b : Option (List ℕ)) (l m : List ℕ) (left : ℕ) (text : List ℕ) → 32 < left
+    → Told a b l m (replicate (2 * left) 32) text → Told a b l m (replicate 64 32 ++ replicate (2 * (left - 32)) 32) text
+told_blanks a b l m left text more h =
+    let e : 64 + 2 * (left - 32) ≡ 2 * left = omega (arith, more) in
+    subst (λ t. Told a b l m t text) (sym (replicate-append-replicate 64 (2 * (left - 32)) 32 ∙ ap (λ n. replicate n 32) e)) h
+
+-- the blanks of at most 32 levels
+pub few_blanks : (left : ℕ) → left ≤ 32 → take {A = ℕ} (2 * left) (replicate 64 32) ≡ replicate (2 * left) 32
+few_blanks left few = let fits : 2 * left ≤ 64 = omega (arith, few) in take-replicate (2 * left) 64 32 fits

@@ -1,5 +1,5 @@
 -- The lines of a value in the parts that are written one after the other.
-use Rattle.std.specs.Prelude.{ℕ, suc, List, [], ◌++◌, if◌then◌else◌, codes}
+use Rattle.std.specs.Prelude.{ℕ, ◌+◌, List, [], ◌++◌, if◌then◌else◌, codes}
 use Rattle.pickle_map.specs.Values.{Label, Value, label_of, members_of, member_count}
 use Rattle.pickle_map.specs.Labels.{kind_of}
 use Rattle.poke_batch.specs.TreeText.{indent_text, prefix_text, head_text, has_parts, parts_text}
@@ -14,7 +14,7 @@ head_of value = head_text (label_of value) (member_count (members_of value))
 
 -- the lines of all parts of a value
 abbrev pub all_parts_text : (level : ℕ) → Value → List ℕ
-all_parts_text level value = parts_text (suc level) (label_of value) 0 (members_of value)
+all_parts_text level value = parts_text (level + 1) (label_of value) 0 (members_of value)
 
 -- the lines below that of a value
 abbrev pub below_text : (level : ℕ) → Value → List ℕ

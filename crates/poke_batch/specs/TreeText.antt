@@ -1,5 +1,5 @@
 -- The text that a value is printed as over lines: a line for each value, and below it those of its parts.
-use Rattle.std.specs.Prelude.{ℕ, suc, ◌*◌, Bool, true, false, List, [], ◌++◌, replicate, if◌then◌else◌, codes, decimal}
+use Rattle.std.specs.Prelude.{ℕ, suc, ◌+◌, ◌*◌, Bool, true, false, List, [], ◌++◌, replicate, if◌then◌else◌, codes, decimal}
 use Rattle.pickle_map.specs.declared.value.Kind.{Kind}
 use Rattle.pickle_map.specs.declared.value.Kind.TheVariants.{Integer, Offset, Text, Array, Struct, Union}
 use Rattle.pickle_map.specs.Values.{Label, IntegerLabel, OffsetLabel, TextLabel, ArrayLabel, StructLabel, UnionLabel, Value, Mapped, Members, NoMembers, MemberThen, AbsentThen, member_count}
@@ -44,7 +44,7 @@ abbrev mutual
   pub lines_text : (level : ℕ) (prefix : List ℕ) → Value → List ℕ
   lines_text level prefix (Mapped label start end members) =
       line_text level prefix (head_text label (member_count members))
-      ++ (if has_parts (kind_of label) then parts_text (suc level) label 0 members else [])
+      ++ (if has_parts (kind_of label) then parts_text (level + 1) label 0 members else [])
 
   -- the lines of the present members from a place on
   pub parts_text : (level : ℕ) → Label → (place : ℕ) → Members → List ℕ

@@ -196,5 +196,6 @@ fn put_indent<W: Write>(w: &mut W, line: &mut Line, level: usize) -> Result<(), 
         line.put(w, &BLANKS)?;
         left -= LEVELS;
     }
-    line.put(w, &BLANKS[..2 * left])
+    line.put(w, &BLANKS[..2 * left])?;
+    Ok(())
 }

@@ -1,4 +1,4 @@
-use Rattle.std.proofs.Common.{suc, ◌+◌, ◌*◌}
+use Rattle.std.proofs.Common.{◌+◌, ◌*◌}
 use Rattle.pickle_map.specs.Values.{label_of, members_of}
 use Rattle.pickle_map.specs.Refs.{value_shown, rank_of}
 use Rattle.poke_batch.specs.TreeText.{parts_text}
@@ -21,4 +21,4 @@ decreases-put_rest g l = 4 * rank_of l.value + 3
 
 abbrev pub invariant-put_parts-loop-place : goal.invariant-put_parts-loop-place
 invariant-put_parts-loop-place g l =
-    Told (g.W.Write.contents l.initial.w) (g.W.Write.contents l.w) l.initial.line l.line (parts_text (suc l.level) (label_of (value_shown l.value)) l.place (members_from l.place (members_of (value_shown l.value)))) (all_parts_text l.level (value_shown l.value))
+    Told (g.W.Write.contents l.initial.w) (g.W.Write.contents l.w) l.initial.line l.line (parts_text (l.level + 1) (label_of (value_shown l.value)) l.place (members_from l.place (members_of (value_shown l.value)))) (all_parts_text l.level (value_shown l.value))
