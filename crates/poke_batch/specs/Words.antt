@@ -16,3 +16,10 @@ IsCheckOf name (Dump from size ruler file) = ⊥
 abbrev pub NamesMode : List ℕ → Mode → Type 0
 NamesMode word Tree = word ≡ codes "tree"
 NamesMode word Flat = word ≢ codes "tree"
+
+-- a mapping whose value is written in the mode that a word names
+abbrev pub WritesInMode : List ℕ → Job → Type 0
+WritesInMode word (Map at order limit mode pickle type file) = NamesMode word mode
+WritesInMode word (Bound pickle type bits) = ⊥
+WritesInMode word (Check pickle) = ⊥
+WritesInMode word (Dump from size ruler file) = ⊥

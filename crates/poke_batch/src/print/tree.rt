@@ -42,7 +42,7 @@ fn put_rest<W: Write>(
     level: usize,
     value: ValueRef<'_>,
 ) -> Result<(), WriteFault>
-    requires { level + rank_of value.entry < 2 ^ 64 }
+    requires { level + rank_of value < 2 ^ 64 }
     ensures ok { OnOk result (Gathers (W.contents w.old) (W.contents w.new) line.old line.new (rest_text level (value_shown value.entry))) }
     ensures err { OnErr result (AppendsPart (W.contents w.old) (W.contents w.new) (line.old ++ rest_text level (value_shown value.entry))) }
 {
@@ -76,7 +76,7 @@ fn put_below<W: Write>(
     level: usize,
     value: ValueRef<'_>,
 ) -> Result<(), WriteFault>
-    requires { level + rank_of value.entry < 2 ^ 64 }
+    requires { level + rank_of value < 2 ^ 64 }
     ensures ok { OnOk result (Gathers (W.contents w.old) (W.contents w.new) line.old line.new (below_text level (value_shown value.entry))) }
     ensures err { OnErr result (AppendsPart (W.contents w.old) (W.contents w.new) (line.old ++ below_text level (value_shown value.entry))) }
 {
@@ -105,7 +105,7 @@ fn put_parts<W: Write>(
     level: usize,
     value: ValueRef<'_>,
 ) -> Result<(), WriteFault>
-    requires { level + rank_of value.entry < 2 ^ 64 }
+    requires { level + rank_of value < 2 ^ 64 }
     ensures ok { OnOk result (Gathers (W.contents w.old) (W.contents w.new) line.old line.new (all_parts_text level (value_shown value.entry))) }
     ensures err { OnErr result (AppendsPart (W.contents w.old) (W.contents w.new) (line.old ++ all_parts_text level (value_shown value.entry))) }
 {
@@ -130,7 +130,7 @@ fn put_part<W: Write>(
     place: usize,
     part: ValueRef<'_>,
 ) -> Result<(), WriteFault>
-    requires { level + rank_of part.entry < 2 ^ 64 }
+    requires { level + rank_of part < 2 ^ 64 }
     ensures ok { OnOk result (Gathers (W.contents w.old) (W.contents w.new) line.old line.new (part_text level (label_of (value_shown value.entry)) place (value_shown part.entry))) }
     ensures err { OnErr result (AppendsPart (W.contents w.old) (W.contents w.new) (line.old ++ part_text level (label_of (value_shown value.entry)) place (value_shown part.entry))) }
 {

@@ -1,9 +1,9 @@
-use Rattle.std.proofs.Common.{◌≡◌, ◌+◌, codes, arith, subst, Some, None}
+use Rattle.std.proofs.Common.{◌≡◌, ◌+◌, codes, [], refl, arith, subst, Some, None}
 use Rattle.std.proofs.lemmas.Result.{err_from_is_err_and}
 use Rattle.pickle_map.specs.Values.{label_of, members_of, member_at, member_count}
 use Rattle.pickle_map.specs.Refs.{value_shown}
 use Rattle.poke_batch.specs.LineText.{head_of, below_text, part_text}
-use Rattle.poke_batch.proofs.Gathered.{gathers_next, cut_first, cut_next, told_more, told_cut}
+use Rattle.poke_batch.proofs.Gathered.{gathers_none, gathers_next, cut_first, cut_next, told_more, told_cut}
 use Rattle.poke_batch.proofs.LineTexts.{told_part_present, told_part_absent, told_parts_end}
 use Rattle.poke_batch.proofs.print.tree.+tree.Goals.{put_parts-in-Some+in_ok-put_part, put_parts-in_default}
 use Rattle.poke_batch.proofs.print.tree.+tree.Goals as goal
@@ -43,6 +43,9 @@ put_parts-returns-in_err-put_part-clause-err g t c =
     let u = value_shown c.in-Some.part in
     let h = told_part_present _ _ _ _ below l all u i _ (omega (arith, len, c.loop-place-test.true)) (subst (λ v. Some (value_shown c.in-Some.part) ≡ member_at (members_of (value_shown v)) i) c.members-parts.ensures c.in-Some.ensures.member) c.loop-place.invariant in
     rw p.1 (told_cut _ _ _ _ _ (part_text below l i u) _ _ h c.in_err-put_part.ensures.err)
+
+pub put_parts-loop-place-init : goal.put_parts-loop-place-init
+put_parts-loop-place-init g t c = record { told = []; gathers = gathers_none _ _; whole = refl }
 
 pub put_parts-loop-place-preserved : goal.put_parts-loop-place-preserved
 put_parts-loop-place-preserved g t c =
