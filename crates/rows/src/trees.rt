@@ -98,14 +98,14 @@ fn write_case<W: Write>(alloc: Global, case: &Case<'_>, w: &mut W) -> Result<Sta
 #[test]
 fn writes_trees(rt: HostRuntime) -> Result<(), Fail> {
     let alloc = rt.alloc();
-    let mut count = 0;
+    let mut count: usize = 0;
     for block in CASES.split("\n\n") {
         let case = read_case(alloc, block)?;
         let mut out = Vec::new(alloc);
         let status = write_case(alloc, &case, &mut out)?;
         assert_eq!(rt; out.as_slice(), case.text.as_bytes(), "{block}");
         assert_eq!(rt; status, Status::Done);
-        count += 1;
+        count = count.saturating_add(1);
     }
     assert_eq!(rt; count, 6);
     Ok(())
