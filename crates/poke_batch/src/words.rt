@@ -2,8 +2,10 @@
 mod commands;
 
 ghost use Rattle.std.specs.Prelude.{◌≡◌, ℕ, ◌*◌, ◌^◌, ◌≤◌, [], codes, MatchResult, IfOk, IfErr, OnErr};
+ghost use Rattle.std.specs.Option.{unwrap_or};
+ghost use Rattle.clap.specs.Matches.{found_of, first_value};
 ghost use Rattle.poke_batch.specs.OffsetWord.{IsOffsetWord};
-ghost use Rattle.poke_batch.specs.Words.{IsCheckOf};
+ghost use Rattle.poke_batch.specs.Words.{IsCheckOf, NamesMode, WritesInMode};
 ghost use Rattle.poke_batch.specs.declared.words.WordFault.TheVariants.{Memory};
 
 use crate::mode::Mode;
@@ -122,7 +124,9 @@ fn read_command(alloc: Global, matches: &ArgMatches<'_>) -> Result<Job, WordFaul
     }
 }
 
-fn read_map(alloc: Global, found: &ArgMatches<'_>) -> Result<Job, WordFault> {
+fn read_map(alloc: Global, found: &ArgMatches<'_>) -> Result<Job, WordFault>
+    ensures { IfOk result (WritesInMode (unwrap_or (first_value (found_of found.now) (codes "mode")) [])) }
+{
     let at = bits_of(found.get_str("at").unwrap_or(""))?;
     let order = match found.get_str("endian") {
         Some("little") => Order::Little,
@@ -132,11 +136,21 @@ fn read_map(alloc: Global, found: &ArgMatches<'_>) -> Result<Job, WordFault> {
         at,
         order,
         limit: found.get_one::<u64>("limit").unwrap_or(DEFAULT_LIMIT),
-        mode: Mode::Flat,
+        mode: mode_of(found.get_str("mode").unwrap_or("")),
         pickle: word_of(alloc, found, "PICKLE")?,
         name: word_of(alloc, found, "TYPE")?,
         file: word_of(alloc, found, "FILE")?,
     })
+}
+
+// The mode that a word names, and the default where it names none.
+fn mode_of(word: &str) -> Mode
+    ensures { NamesMode word.now result }
+{
+    match word {
+        "tree" => Mode::Tree,
+        _ => Mode::Flat,
+    }
 }
 
 fn read_bound(alloc: Global, found: &ArgMatches<'_>) -> Result<Job, WordFault> {

@@ -14,4 +14,6 @@ mod offset_words;
 #[cfg(test)]
 mod pickles;
 #[cfg(test)]
+mod trees;
+#[cfg(test)]
 mod words;

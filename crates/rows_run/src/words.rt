@@ -17,7 +17,8 @@ map --at 4#b p T f ==> Map { at: 4, order: Big, limit: 1000000000, mode: Flat, p
 map p T f ==> Map { at: 0, order: Big, limit: 1000000000, mode: Flat, pickle: "p", name: "T", file: "f" }
 map p --endian=little T --at=2#B f --limit 7 --mode flat ==> Map { at: 16, order: Little, limit: 7, mode: Flat, pickle: "p", name: "T", file: "f" }
 map --limit 18446744073709551615 -- p T f ==> Map { at: 0, order: Big, limit: 18446744073709551615, mode: Flat, pickle: "p", name: "T", file: "f" }
-map --limit +5 p T f ==> Map { at: 0, order: Big, limit: 5, mode: Flat, pickle: "p", name: "T", file: "f" }"#;
+map --limit +5 p T f ==> Map { at: 0, order: Big, limit: 5, mode: Flat, pickle: "p", name: "T", file: "f" }
+map --mode tree p T f ==> Map { at: 0, order: Big, limit: 1000000000, mode: Tree, pickle: "p", name: "T", file: "f" }"#;
 
 /// Words that are no job.
 const WRONG: &str = r#"map --at 8 p T f ==> refused offset
@@ -30,7 +31,7 @@ map --at 8 --limit x p T f ==> usage
 map --at -1#b p T f ==> usage
 map --at 1#b --at 1#b p T f ==> usage
 map --endian middle p T f ==> usage
-map --mode tree p T f ==> usage
+map --mode leaf p T f ==> usage
 map --color p T f ==> usage
 map p T ==> usage
 map p T f g ==> usage

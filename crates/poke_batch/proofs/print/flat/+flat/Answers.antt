@@ -7,8 +7,8 @@ use Rattle.poke_batch.specs.ValueText.{title_text}
 use Rattle.poke_batch.specs.PartText.{all_members_text, elements_text, member_text}
 use Rattle.poke_batch.proofs.Gathered.{gathers_next, cut_first, cut_next, told_more, told_cut}
 use Rattle.poke_batch.proofs.MemberTexts.{told_present, told_absent, told_end}
-use Rattle.poke_batch.proofs.print.+print.Goals.{put_members-in-Some+in_ok-put_member, put_members-in_default, put_elements-in-Some+in_ok-put_member, put_elements-in_default}
-use Rattle.poke_batch.proofs.print.+print.Goals as goal
+use Rattle.poke_batch.proofs.print.flat.+flat.Goals.{put_members-in-Some+in_ok-put_member, put_members-in_default, put_elements-in-Some+in_ok-put_member, put_elements-in_default}
+use Rattle.poke_batch.proofs.print.flat.+flat.Goals as goal
 
 pub put_array-returns-in_err-put-clause-err : goal.put_array-returns-in_err-put-clause-err
 put_array-returns-in_err-put-clause-err g t c =

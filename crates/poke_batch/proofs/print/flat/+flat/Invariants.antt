@@ -5,7 +5,7 @@ use Rattle.poke_batch.specs.ValueText.{members_text}
 use Rattle.poke_batch.specs.PartText.{all_members_text, elements_text}
 use Rattle.poke_batch.proofs.Gathered.{Told}
 use Rattle.poke_batch.proofs.MemberTexts.{members_from}
-use Rattle.poke_batch.proofs.print.+print.Given as goal
+use Rattle.poke_batch.proofs.print.flat.+flat.Given as goal
 
 abbrev pub decreases-put_array : goal.decreases-put_array
 decreases-put_array g l = 4 * rank_of l.value + 2
