@@ -55,7 +55,7 @@ pub enum WordFault {
     /// The words are wrong, as the text tells.
     #[error("{0}")]
     Usage(String),
-    /// The words ask for help, which is the text.
+    /// The words ask for help, or for the version, which is the text.
     #[error("{0}")]
     Help(String),
     /// A word that should be an offset has no form of one, is 2^64 bits or more, or isn't of whole bytes where it should be.
@@ -108,7 +108,9 @@ fn told(alloc: Global, error: &clap::Error) -> WordFault {
         return WordFault::Memory;
     }
     match format!(in alloc; "{error}") {
-        Ok(text) if kind == ErrorKind::DisplayHelp => WordFault::Help(text),
+        Ok(text) if kind == ErrorKind::DisplayHelp || kind == ErrorKind::DisplayVersion => {
+            WordFault::Help(text)
+        }
         Ok(text) => WordFault::Usage(text),
         Err(_) => WordFault::Memory,
     }

@@ -6,6 +6,9 @@ use std::alloc::{AllocError, Global};
 /// The program's name, by which it is installed.
 pub const PROGRAM: &str = "poke_batch";
 
+/// The program's version, and the line by which the toolchain that proves it names itself.
+pub const VERSION: &str = "0.1.0, proved with rattle-kit-13b logic dac8208d650f15bf";
+
 /// The steps that a mapping may take where no limit is given.
 pub const DEFAULT_LIMIT: u64 = 1_000_000_000;
 
@@ -81,6 +84,7 @@ Statuses:
 /// The program with its commands.
 pub fn program<'a>(alloc: Global) -> Result<Command<'a>, AllocError> {
     Command::new(alloc, PROGRAM)
+        .version(VERSION)
         .about("Maps the types of GNU poke pickles over files and prints the values")
         .after_help(PROGRAM_HELP)
         .subcommand_required(true)
