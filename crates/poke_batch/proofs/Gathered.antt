@@ -75,6 +75,10 @@ told_more a b c l m n x y text h g = record {
 pub told_cut : (a b c : Option (List ℕ)) (l m x y text : List ℕ) → Told a b l m (x ++ y) text → AppendsPart b c (m ++ x) → AppendsPart a c (l ++ text)
 told_cut a b c l m x y text h g = subst (λ t. AppendsPart a c (l ++ t)) h.whole (cut_next a b c l m h.told (x ++ y) h.gathers (cut_first b c m x y g))
 
+-- all of what is left
+pub told_last : (a b c : Option (List ℕ)) (l m n x text : List ℕ) → Told a b l m x text → Gathers b c m n x → Gathers a c l n text
+told_last a b c l m n x text h g = subst (Gathers a c l n) h.whole (gathers_next a b c l m n h.told x h.gathers g)
+
 -- a part of what is left
 pub told_part : (a b c : Option (List ℕ)) (l m x text : List ℕ) → Told a b l m x text → AppendsPart b c (m ++ x) → AppendsPart a c (l ++ text)
 told_part a b c l m x text h g = subst (λ t. AppendsPart a c (l ++ t)) h.whole (cut_next a b c l m h.told x h.gathers g)

@@ -6,6 +6,7 @@ pub mod Bytes
 pub mod DumpRows
 pub mod StringTexts
 pub mod MemberTexts
+pub mod LineTexts
 pub mod DigitCounts
 pub mod ShortTexts
 pub mod Refusing
@@ -13,3 +14,4 @@ pub mod Sayings
 pub mod Mappings
 mod LineRows
 mod ValueTextRows
+mod TreeTextRows

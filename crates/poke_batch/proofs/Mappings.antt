@@ -20,11 +20,12 @@ use Rattle.pickle_map.specs.declared.faults.MapFaultKind.{MapFaultKind}
 use Rattle.pickle_map.specs.declared.faults.MapFaultKind.TheVariants as fault
 use Rattle.poke_batch.specs.Accepted.{IsAccepted}
 use Rattle.poke_batch.specs.FaultLines.{fault_kind, fault_saying}
+use Rattle.poke_batch.specs.declared.ask.Ask.{Ask}
 use Rattle.poke_batch.specs.declared.status.Status.TheVariants.{Fault}
 use Rattle.poke_batch.specs.Lines.{fault_at_line}
 use Rattle.poke_batch.specs.Runs.{HasAnswer, IsAsked, MapsAs, value, stops, device, no_memory}
 use Rattle.poke_batch.specs.Told.{Text, Line}
-use Rattle.poke_batch.specs.ValueText.{printed}
+use Rattle.poke_batch.specs.Printed.{printed}
 
 pub asked : {pickle name : List ℕ} {declarations : List DeclarationTree} {types : Names} {type : PokeType} → IsAccepted pickle declarations types → find_type name types ≡ Some type → IsAsked pickle name type
 asked a f = record { declarations = _; types = _; accepted = a; found = f }
@@ -39,15 +40,15 @@ has_answer bytes type order start limit most used answer k j same none means = r
 }
 
 -- a fault that a type means, told of a meter that took no step before
-stopped : (pickle name : List ℕ) (order : Order) (start limit : ℕ) (before after : SpaceView) (type : PokeType) (at most used taken k j : ℕ) (kind : MapFaultKind)
-    → most ≡ limit → used ≡ 0 → IsAsked pickle name type
-    → ((bytes : List ℕ) → before.bytes ≡ Some bytes → Answer (bits_of bytes) type order start (most - used) (Err (kind, at)) k j)
-    → (kind ≡ fault.Limit → (taken ≡ most) × (most < used + cost type (8 * before.len))) → (EndsRun kind → at ≡ start)
+stopped : (pickle : List ℕ) (ask : Ask) (before after : SpaceView) (type : PokeType) (at most used taken k j : ℕ) (kind : MapFaultKind)
+    → most ≡ ask.limit → used ≡ 0 → IsAsked pickle ask.name.now type
+    → ((bytes : List ℕ) → before.bytes ≡ Some bytes → Answer (bits_of bytes) type ask.order ask.start (most - used) (Err (kind, at)) k j)
+    → (kind ≡ fault.Limit → (taken ≡ most) × (most < used + cost type (8 * before.len))) → (EndsRun kind → at ≡ ask.start)
     → kind ≢ fault.Device → kind ≢ fault.Memory
-    → MapsAs pickle name order start limit before after (Line Fault (fault_at_line (fault_kind kind) at))
-stopped pickle name order start limit before after type at most used taken k j kind same none a means over place not_device not_memory =
+    → MapsAs pickle ask before after (Line Fault (fault_at_line (fault_kind kind) at))
+stopped pickle ask before after type at most used taken k j kind same none a means over place not_device not_memory =
     stops a not_device not_memory
-    (λ bytes known. has_answer bytes type order start limit most used (Err (kind, at)) k j same none (means bytes known))
+    (λ bytes known. has_answer bytes type ask.order ask.start ask.limit most used (Err (kind, at)) k j same none (means bytes known))
     (λ e. (place (subst EndsRun (sym e) tt), omega (arith, (over e).1, same, none)))
 
 -- a fault that is no failure outside the mapping is told with its place
@@ -65,46 +66,46 @@ told_at_place fault.Device at not_device not_memory = absurd (not_device refl)
 told_at_place fault.Memory at not_device not_memory = absurd (not_memory refl)
 
 -- what a mapping says of its fault
-pub fault_says : (pickle name : List ℕ) (order : Order) (start limit : ℕ) (before after : SpaceView) (type : PokeType) (at most used taken k j : ℕ) (kind : MapFaultKind)
-    → most ≡ limit → used ≡ 0 → IsAsked pickle name type
-    → ((bytes : List ℕ) → before.bytes ≡ Some bytes → FaultMeans (bits_of bytes) type order start (most - used) kind at k j)
-    → (kind ≡ fault.Limit → (taken ≡ most) × (most < used + cost type (8 * before.len))) → (EndsRun kind → at ≡ start)
+pub fault_says : (pickle : List ℕ) (ask : Ask) (before after : SpaceView) (type : PokeType) (at most used taken k j : ℕ) (kind : MapFaultKind)
+    → most ≡ ask.limit → used ≡ 0 → IsAsked pickle ask.name.now type
+    → ((bytes : List ℕ) → before.bytes ≡ Some bytes → FaultMeans (bits_of bytes) type ask.order ask.start (most - used) kind at k j)
+    → (kind ≡ fault.Limit → (taken ≡ most) × (most < used + cost type (8 * before.len))) → (EndsRun kind → at ≡ ask.start)
     → (kind ≡ fault.Device → HasRisen before.failures after.failures)
-    → MapsAs pickle name order start limit before after (fault_saying kind at)
-fault_says pickle name order start limit before after type at most used taken k j fault.End same none a means over place risen =
-    stopped pickle name order start limit before after type at most used taken k j fault.End same none a means over place (λ e. cc) (λ e. cc)
-fault_says pickle name order start limit before after type at most used taken k j fault.Constraint same none a means over place risen =
-    stopped pickle name order start limit before after type at most used taken k j fault.Constraint same none a means over place (λ e. cc) (λ e. cc)
-fault_says pickle name order start limit before after type at most used taken k j fault.Bounds same none a means over place risen =
-    stopped pickle name order start limit before after type at most used taken k j fault.Bounds same none a means over place (λ e. cc) (λ e. cc)
-fault_says pickle name order start limit before after type at most used taken k j fault.NoBits same none a means over place risen =
-    stopped pickle name order start limit before after type at most used taken k j fault.NoBits same none a means over place (λ e. cc) (λ e. cc)
-fault_says pickle name order start limit before after type at most used taken k j fault.Zero same none a means over place risen =
-    stopped pickle name order start limit before after type at most used taken k j fault.Zero same none a means over place (λ e. cc) (λ e. cc)
-fault_says pickle name order start limit before after type at most used taken k j fault.Overflow same none a means over place risen =
-    stopped pickle name order start limit before after type at most used taken k j fault.Overflow same none a means over place (λ e. cc) (λ e. cc)
-fault_says pickle name order start limit before after type at most used taken k j fault.Absent same none a means over place risen =
-    stopped pickle name order start limit before after type at most used taken k j fault.Absent same none a means over place (λ e. cc) (λ e. cc)
-fault_says pickle name order start limit before after type at most used taken k j fault.Index same none a means over place risen =
-    stopped pickle name order start limit before after type at most used taken k j fault.Index same none a means over place (λ e. cc) (λ e. cc)
-fault_says pickle name order start limit before after type at most used taken k j fault.Limit same none a means over place risen =
-    stopped pickle name order start limit before after type at most used taken k j fault.Limit same none a means over place (λ e. cc) (λ e. cc)
-fault_says pickle name order start limit before after type at most used taken k j fault.Device same none a means over place risen = device a (risen refl)
-fault_says pickle name order start limit before after type at most used taken k j fault.Memory same none a means over place risen = no_memory
+    → MapsAs pickle ask before after (fault_saying kind at)
+fault_says pickle ask before after type at most used taken k j fault.End same none a means over place risen =
+    stopped pickle ask before after type at most used taken k j fault.End same none a means over place (λ e. cc) (λ e. cc)
+fault_says pickle ask before after type at most used taken k j fault.Constraint same none a means over place risen =
+    stopped pickle ask before after type at most used taken k j fault.Constraint same none a means over place (λ e. cc) (λ e. cc)
+fault_says pickle ask before after type at most used taken k j fault.Bounds same none a means over place risen =
+    stopped pickle ask before after type at most used taken k j fault.Bounds same none a means over place (λ e. cc) (λ e. cc)
+fault_says pickle ask before after type at most used taken k j fault.NoBits same none a means over place risen =
+    stopped pickle ask before after type at most used taken k j fault.NoBits same none a means over place (λ e. cc) (λ e. cc)
+fault_says pickle ask before after type at most used taken k j fault.Zero same none a means over place risen =
+    stopped pickle ask before after type at most used taken k j fault.Zero same none a means over place (λ e. cc) (λ e. cc)
+fault_says pickle ask before after type at most used taken k j fault.Overflow same none a means over place risen =
+    stopped pickle ask before after type at most used taken k j fault.Overflow same none a means over place (λ e. cc) (λ e. cc)
+fault_says pickle ask before after type at most used taken k j fault.Absent same none a means over place risen =
+    stopped pickle ask before after type at most used taken k j fault.Absent same none a means over place (λ e. cc) (λ e. cc)
+fault_says pickle ask before after type at most used taken k j fault.Index same none a means over place risen =
+    stopped pickle ask before after type at most used taken k j fault.Index same none a means over place (λ e. cc) (λ e. cc)
+fault_says pickle ask before after type at most used taken k j fault.Limit same none a means over place risen =
+    stopped pickle ask before after type at most used taken k j fault.Limit same none a means over place (λ e. cc) (λ e. cc)
+fault_says pickle ask before after type at most used taken k j fault.Device same none a means over place risen = device a (risen refl)
+fault_says pickle ask before after type at most used taken k j fault.Memory same none a means over place risen = no_memory
 
 -- the value that a store gives, as the value that is shown at its root
 pub root_given : {nodes : List Node} {store : Held} {P : Value → Type 0} (g : Gives nodes store P) → value_at (kept nodes store) 0 0 ≡ Some g.value
 root_given g = ap (λ levels. value_at levels 0 0) g.keeps
 
 -- what a mapping says of its value
-pub value_right : (pickle name : List ℕ) (order : Order) (start limit : ℕ) (before after : SpaceView) (type : PokeType) (most used k j : ℕ) (nodes : List Node) (store : Held)
-    → most ≡ limit → used ≡ 0 → IsAsked pickle name type
-    → ((bytes : List ℕ) → before.bytes ≡ Some bytes → Gives nodes store (λ v. Answer (bits_of bytes) type order start (most - used) (Ok v) k j))
-    → (g : Gives nodes store (λ v. Fits (8 * before.len) type no_values start v))
-    → MapsAs pickle name order start limit before after (Text (printed g.value))
-value_right pickle name order start limit before after type most used k j nodes store same none a means g =
+pub value_right : (pickle : List ℕ) (ask : Ask) (before after : SpaceView) (type : PokeType) (most used k j : ℕ) (nodes : List Node) (store : Held)
+    → most ≡ ask.limit → used ≡ 0 → IsAsked pickle ask.name.now type
+    → ((bytes : List ℕ) → before.bytes ≡ Some bytes → Gives nodes store (λ v. Answer (bits_of bytes) type ask.order ask.start (most - used) (Ok v) k j))
+    → (g : Gives nodes store (λ v. Fits (8 * before.len) type no_values ask.start v))
+    → MapsAs pickle ask before after (Text (printed ask.mode g.value))
+value_right pickle ask before after type most used k j nodes store same none a means g =
     value a (λ bytes known.
     let m = means bytes known in
     let e = same_Some m.value g.value (sym (root_given m) ∙ root_given g) in
-    has_answer bytes type order start limit most used (Ok g.value) k j same none
-    (subst (λ v. Answer (bits_of bytes) type order start (most - used) (Ok v) k j) e m.holds)) g.holds
+    has_answer bytes type ask.order ask.start ask.limit most used (Ok g.value) k j same none
+    (subst (λ v. Answer (bits_of bytes) type ask.order ask.start (most - used) (Ok v) k j) e m.holds)) g.holds

@@ -3,7 +3,9 @@ use Rattle.std.proofs.Common.{◌≡◌, ℕ, pos, negsuc, refl, true, false, co
 use Rattle.std.specs.Fmt.{digits}
 use Rattle.pickle_types.specs.declared.integer.IntegerType.{IntegerType}
 use Rattle.pickle_map.specs.Values.{Value, Mapped, Label, IntegerLabel, OffsetLabel, TextLabel, ArrayLabel, StructLabel, UnionLabel, NoMembers, MemberThen, AbsentThen}
-use Rattle.poke_batch.specs.ValueText.{printed, integer_text, offset_text, string_text}
+use Rattle.poke_batch.specs.declared.mode.Mode.TheVariants.{Flat}
+use Rattle.poke_batch.specs.Printed.{printed}
+use Rattle.poke_batch.specs.ValueText.{integer_text, offset_text, string_text}
 
 abbrev unsigned_type : ℕ → IntegerType
 unsigned_type width = record { width = width; signed = false }
@@ -102,30 +104,30 @@ no_string : string_text [] ≡ codes "\"\""
 unfolding string_text
 no_string = refl
 
-empty_array : printed (leaf ArrayLabel) ≡ codes "[]\n"
+empty_array : printed Flat (leaf ArrayLabel) ≡ codes "[]\n"
 empty_array = refl
 
-empty_struct : printed (leaf (StructLabel (Some (codes "P")) [])) ≡ codes "P {}\n"
+empty_struct : printed Flat (leaf (StructLabel (Some (codes "P")) [])) ≡ codes "P {}\n"
 empty_struct = refl
 
-pair : printed (Mapped (StructLabel (Some (codes "P")) (Some (codes "a") ∷ Some (codes "b") ∷ [])) 0 72
+pair : printed Flat (Mapped (StructLabel (Some (codes "P")) (Some (codes "a") ∷ Some (codes "b") ∷ [])) 0 72
     (MemberThen (byte 5) (MemberThen (Mapped ArrayLabel 8 72 (MemberThen (word 1) (MemberThen (word 2) NoMembers))) NoMembers)))
     ≡ codes "P {a=5UB,b=[1U,2U]}\n"
 unfolding integer_text digits
 pair = refl
 
 -- the first field and the third are absent
-absent : printed (Mapped (StructLabel (Some (codes "T")) (Some (codes "f") ∷ Some (codes "x") ∷ Some (codes "y") ∷ Some (codes "z") ∷ [])) 0 16
+absent : printed Flat (Mapped (StructLabel (Some (codes "T")) (Some (codes "f") ∷ Some (codes "x") ∷ Some (codes "y") ∷ Some (codes "z") ∷ [])) 0 16
     (AbsentThen (MemberThen (byte 0) (AbsentThen (MemberThen (byte 5) NoMembers)))))
     ≡ codes "T {x=0UB,z=5UB}\n"
 unfolding integer_text digits
 absent = refl
 
-none_present : printed (Mapped (StructLabel (Some (codes "P")) (Some (codes "f") ∷ [])) 0 0 (AbsentThen NoMembers)) ≡ codes "P {}\n"
+none_present : printed Flat (Mapped (StructLabel (Some (codes "P")) (Some (codes "f") ∷ [])) 0 0 (AbsentThen NoMembers)) ≡ codes "P {}\n"
 none_present = refl
 
 -- a nameless field in a nameless struct
-nameless : printed (Mapped (StructLabel (Some (codes "T")) (Some (codes "n") ∷ Some (codes "body") ∷ [])) 0 24
+nameless : printed Flat (Mapped (StructLabel (Some (codes "T")) (Some (codes "n") ∷ Some (codes "body") ∷ [])) 0 24
     (MemberThen (byte 1) (MemberThen (Mapped (StructLabel None (Some (codes "d") ∷ None ∷ [])) 8 24
     (MemberThen (Mapped ArrayLabel 8 16 (MemberThen (byte 5) NoMembers)) (MemberThen (byte 6) NoMembers))) NoMembers)))
     ≡ codes "T {n=1UB,body=struct {d=[5UB],6UB}}\n"
@@ -133,7 +135,7 @@ unfolding integer_text digits
 nameless = refl
 
 -- unions show their alternatives
-unions : printed (Mapped (StructLabel (Some (codes "T")) (Some (codes "us") ∷ Some (codes "v") ∷ [])) 0 24
+unions : printed Flat (Mapped (StructLabel (Some (codes "T")) (Some (codes "us") ∷ Some (codes "v") ∷ [])) 0 24
     (MemberThen (Mapped ArrayLabel 0 16
     (MemberThen (Mapped (UnionLabel (Some (codes "U")) 0 (Some (codes "a"))) 0 8 (MemberThen (byte 1) NoMembers))
     (MemberThen (Mapped (UnionLabel (Some (codes "U")) 1 (Some (codes "b"))) 8 16 (MemberThen (byte 2) NoMembers)) NoMembers)))
@@ -142,14 +144,14 @@ unions : printed (Mapped (StructLabel (Some (codes "T")) (Some (codes "us") ∷ 
 unfolding integer_text digits
 unions = refl
 
-string_and_offset : printed (Mapped (StructLabel (Some (codes "T")) (Some (codes "s") ∷ Some (codes "o") ∷ [])) 0 32
+string_and_offset : printed Flat (Mapped (StructLabel (Some (codes "T")) (Some (codes "s") ∷ Some (codes "o") ∷ [])) 0 32
     (MemberThen (leaf (TextLabel (codes "hi"))) (MemberThen (leaf (OffsetLabel (pos 3) (signed_type 32) 8)) NoMembers)))
     ≡ codes "T {s=\"hi\",o=3#B}\n"
 unfolding integer_text offset_text string_text digits
 string_and_offset = refl
 
 -- a size in bytes, so many bytes, and a negative offset in units of 4 bits
-sizes : printed (Mapped (StructLabel (Some (codes "T")) (Some (codes "len") ∷ Some (codes "data") ∷ Some (codes "o") ∷ [])) 0 40
+sizes : printed Flat (Mapped (StructLabel (Some (codes "T")) (Some (codes "len") ∷ Some (codes "data") ∷ Some (codes "o") ∷ [])) 0 40
     (MemberThen (leaf (OffsetLabel (pos 2) (unsigned_type 8) 8))
     (MemberThen (Mapped ArrayLabel 8 24 (MemberThen (byte 170) (MemberThen (byte 187) NoMembers)))
     (MemberThen (leaf (OffsetLabel (negsuc 1) (signed_type 16) 4)) NoMembers))))
@@ -158,7 +160,7 @@ unfolding integer_text offset_text digits
 sizes = refl
 
 -- an array of structs
-elements : printed (Mapped (StructLabel (Some (codes "A")) (Some (codes "es") ∷ Some (codes "z") ∷ [])) 0 24
+elements : printed Flat (Mapped (StructLabel (Some (codes "A")) (Some (codes "es") ∷ Some (codes "z") ∷ [])) 0 24
     (MemberThen (Mapped ArrayLabel 0 16
     (MemberThen (Mapped (StructLabel (Some (codes "E")) (Some (codes "v") ∷ [])) 0 8 (MemberThen (byte 5) NoMembers))
     (MemberThen (Mapped (StructLabel (Some (codes "E")) (Some (codes "v") ∷ [])) 8 16 (MemberThen (byte 6) NoMembers)) NoMembers)))

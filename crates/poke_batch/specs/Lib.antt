@@ -1,6 +1,9 @@
 pub mod OffsetWord
 pub mod DumpText
 pub mod ValueText
+pub mod TreeText
+pub mod LineText
+pub mod Printed
 pub mod Suffixes
 pub mod PartText
 pub mod Words

@@ -14,13 +14,14 @@ use Rattle.bit_space.specs.declared.order.Order.{Order}
 use Rattle.bit_space.specs.Bits.{bits_of}
 use Rattle.bit_space.specs.SpaceView.{SpaceView, HasRisen}
 use Rattle.poke_batch.specs.declared.accept.Refusal.{Refusal}
+use Rattle.poke_batch.specs.declared.ask.Ask.{Ask}
 use Rattle.poke_batch.specs.declared.status.Status.TheVariants.{Fault, Refused, Outside}
 use Rattle.poke_batch.specs.Accepted.{IsAccepted, Refuses, refusal_saying}
 use Rattle.poke_batch.specs.BoundText.{bound_line, bound_text}
 use Rattle.poke_batch.specs.FaultLines.{fault_kind}
 use Rattle.poke_batch.specs.Lines.{refused_line, fault_line, fault_at_line}
 use Rattle.poke_batch.specs.Told.{Saying, Text, Line}
-use Rattle.poke_batch.specs.ValueText.{printed}
+use Rattle.poke_batch.specs.Printed.{printed}
 
 -- how many types are declared
 abbrev pub types_text : ℕ → List ℕ
@@ -53,21 +54,21 @@ pub record HasAnswer (bytes : List ℕ) (type : PokeType) (order : Order) (start
   pub means : Answer (bits_of bytes) type order start limit answer steps made
 
 -- what a mapping over a space, from its view before to its view after, has to say
-pub data MapsAs (pickle name : List ℕ) (order : Order) (start limit : ℕ) (before after : SpaceView) : Saying → Type 0 where
+pub data MapsAs (pickle : List ℕ) (ask : Ask) (before after : SpaceView) : Saying → Type 0 where
   -- the value that the type means on the file's bits, where they are known; over any space one that fits the type
-  value : {type : PokeType} {mapped : Value} → IsAsked pickle name type
-      → ((bytes : List ℕ) → before.bytes ≡ Some bytes → HasAnswer bytes type order start limit (Ok mapped))
-      → Fits (8 * before.len) type no_values start mapped
-      → MapsAs pickle name order start limit before after (Text (printed mapped))
+  value : {type : PokeType} {mapped : Value} → IsAsked pickle ask.name.now type
+      → ((bytes : List ℕ) → before.bytes ≡ Some bytes → HasAnswer bytes type ask.order ask.start ask.limit (Ok mapped))
+      → Fits (8 * before.len) type no_values ask.start mapped
+      → MapsAs pickle ask before after (Text (printed ask.mode mapped))
   -- the fault that the type means there; over any space Limit only where the type can take more steps than the limit
-  stops : {type : PokeType} {kind : MapFaultKind} {at : ℕ} → IsAsked pickle name type → kind ≢ fault.Device → kind ≢ fault.Memory
-      → ((bytes : List ℕ) → before.bytes ≡ Some bytes → HasAnswer bytes type order start limit (Err (kind, at)))
-      → (kind ≡ fault.Limit → (at ≡ start) × (limit < cost type (8 * before.len)))
-      → MapsAs pickle name order start limit before after (Line Fault (fault_at_line (fault_kind kind) at))
-  device : {type : PokeType} → IsAsked pickle name type → HasRisen before.failures after.failures
-      → MapsAs pickle name order start limit before after (Line Outside (fault_line (codes "Device")))
+  stops : {type : PokeType} {kind : MapFaultKind} {at : ℕ} → IsAsked pickle ask.name.now type → kind ≢ fault.Device → kind ≢ fault.Memory
+      → ((bytes : List ℕ) → before.bytes ≡ Some bytes → HasAnswer bytes type ask.order ask.start ask.limit (Err (kind, at)))
+      → (kind ≡ fault.Limit → (at ≡ ask.start) × (ask.limit < cost type (8 * before.len)))
+      → MapsAs pickle ask before after (Line Fault (fault_at_line (fault_kind kind) at))
+  device : {type : PokeType} → IsAsked pickle ask.name.now type → HasRisen before.failures after.failures
+      → MapsAs pickle ask before after (Line Outside (fault_line (codes "Device")))
   -- the pickle has no type of that name
-  unknown : {declarations : List DeclarationTree} {types : Names} → IsAccepted pickle declarations types → find_type name types ≡ None
-      → MapsAs pickle name order start limit before after (Line Refused (refused_line (codes "NoSuchType")))
-  refused_map : {refusal : Refusal} → Refuses pickle refusal → MapsAs pickle name order start limit before after (refusal_saying refusal)
-  no_memory : MapsAs pickle name order start limit before after (Line Outside (fault_line (codes "Memory")))
+  unknown : {declarations : List DeclarationTree} {types : Names} → IsAccepted pickle declarations types → find_type ask.name.now types ≡ None
+      → MapsAs pickle ask before after (Line Refused (refused_line (codes "NoSuchType")))
+  refused_map : {refusal : Refusal} → Refuses pickle refusal → MapsAs pickle ask before after (refusal_saying refusal)
+  no_memory : MapsAs pickle ask before after (Line Outside (fault_line (codes "Memory")))

@@ -107,5 +107,5 @@ abbrev mutual
       (comma first ++ (name_text (member_name label place) ++ value_text value)) ++ members_text label (suc place) false rest
 
 -- the whole output
-abbrev pub printed : Value → List ℕ
-printed value = value_text value ++ codes "\n"
+abbrev pub flat_text : Value → List ℕ
+flat_text value = value_text value ++ codes "\n"

@@ -1,5 +1,7 @@
 -- What words ask for.
-use Rattle.std.specs.Prelude.{◌≡◌, ℕ, List, string_bytes}
+use Rattle.std.specs.Prelude.{◌≡◌, ◌≢◌, ℕ, List, string_bytes, codes}
+use Rattle.poke_batch.specs.declared.mode.Mode.{Mode}
+use Rattle.poke_batch.specs.declared.mode.Mode.TheVariants.{Flat, Tree}
 use Rattle.poke_batch.specs.declared.words.Job.{Job}
 use Rattle.poke_batch.specs.declared.words.Job.TheVariants.{Map, Bound, Check, Dump}
 
@@ -9,3 +11,15 @@ IsCheckOf name (Map at order limit mode pickle type file) = ⊥
 IsCheckOf name (Bound pickle type bits) = ⊥
 IsCheckOf name (Check pickle) = string_bytes pickle ≡ name
 IsCheckOf name (Dump from size ruler file) = ⊥
+
+-- `tree` names the one mode, all other words the other
+abbrev pub NamesMode : List ℕ → Mode → Type 0
+NamesMode word Tree = word ≡ codes "tree"
+NamesMode word Flat = word ≢ codes "tree"
+
+-- a mapping whose value is written in the mode that a word names
+abbrev pub WritesInMode : List ℕ → Job → Type 0
+WritesInMode word (Map at order limit mode pickle type file) = NamesMode word mode
+WritesInMode word (Bound pickle type bits) = ⊥
+WritesInMode word (Check pickle) = ⊥
+WritesInMode word (Dump from size ruler file) = ⊥

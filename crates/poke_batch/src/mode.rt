@@ -3,4 +3,6 @@
 pub enum Mode {
     /// On one line.
     Flat,
+    /// A line for each value, and below it those of its parts.
+    Tree,
 }

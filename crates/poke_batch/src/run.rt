@@ -8,7 +8,7 @@ ghost use Rattle.pickle_map.specs.Shown.{kept};
 ghost use Rattle.pickle_map.specs.Values.{Value, value_at};
 ghost use Rattle.poke_batch.specs.Told.{Says};
 ghost use Rattle.poke_batch.specs.Runs.{ChecksAs, BoundsAs, IsAsked, MapsAs, types_text};
-ghost use Rattle.poke_batch.specs.ValueText.{printed};
+ghost use Rattle.poke_batch.specs.Printed.{printed};
 ghost use Rattle.poke_batch.specs.Written.{AppendsPart};
 
 use crate::accept::{accept, tell_refusal};
@@ -91,7 +91,7 @@ pub fn run_map<S: Space, O: Write, E: Write>(
     out: &mut O,
     err: &mut E,
 ) -> Status
-    ensures says { Says (MapsAs pickle.now ask.now.name.now ask.now.order ask.now.start ask.now.limit (S.view space.old) (S.view space.new)) result
+    ensures says { Says (MapsAs pickle.now ask.now (S.view space.old) (S.view space.new)) result
         (O.contents out.old) (O.contents out.new) (E.contents err.old) (E.contents err.new) }
     ensures keeps { Keeps (S.view space.old) (S.view space.new) }
 {
@@ -118,7 +118,7 @@ fn map_found<S: Space, O: Write, E: Write>(
     requires sound { IsSound table.now }
     requires known { IsInTable table.now id }
     ensures says { (pickle : List ℕ) → IsAsked pickle ask.now.name.now (type_named table.now id)
-        → Says (MapsAs pickle ask.now.name.now ask.now.order ask.now.start ask.now.limit (S.view space.old) (S.view space.new)) result
+        → Says (MapsAs pickle ask.now (S.view space.old) (S.view space.new)) result
         (O.contents out.old) (O.contents out.new) (E.contents err.old) (E.contents err.new) }
     ensures keeps { Keeps (S.view space.old) (S.view space.new) }
 {
@@ -136,9 +136,9 @@ fn map_found<S: Space, O: Write, E: Write>(
 fn put_root<W: Write>(store: &Store, table: &Table, mode: Mode, w: &mut W) -> Result<(), WriteFault>
     requires held { IsSome (value_at (kept (nodes_of table.now) store.now) 0 0) }
     ensures ok { (value : Value) → value_at (kept (nodes_of table.now) store.now) 0 0 ≡ Some value
-        → OnOk result (Appends (W.contents w.old) (W.contents w.new) (printed value)) }
+        → OnOk result (Appends (W.contents w.old) (W.contents w.new) (printed mode value)) }
     ensures err { (value : Value) → value_at (kept (nodes_of table.now) store.now) 0 0 ≡ Some value
-        → OnErr result (AppendsPart (W.contents w.old) (W.contents w.new) (printed value)) }
+        → OnErr result (AppendsPart (W.contents w.old) (W.contents w.new) (printed mode value)) }
 {
     match store.root(table) {
         Some(value) => print(value, mode, w),

@@ -2,8 +2,10 @@
 mod commands;
 
 ghost use Rattle.std.specs.Prelude.{◌≡◌, ℕ, ◌*◌, ◌^◌, ◌≤◌, [], codes, MatchResult, IfOk, IfErr, OnErr};
+ghost use Rattle.std.specs.Option.{unwrap_or};
+ghost use Rattle.clap.specs.Matches.{found_of, first_value};
 ghost use Rattle.poke_batch.specs.OffsetWord.{IsOffsetWord};
-ghost use Rattle.poke_batch.specs.Words.{IsCheckOf};
+ghost use Rattle.poke_batch.specs.Words.{IsCheckOf, NamesMode, WritesInMode};
 ghost use Rattle.poke_batch.specs.declared.words.WordFault.TheVariants.{Memory};
 
 use crate::mode::Mode;
@@ -53,7 +55,7 @@ pub enum WordFault {
     /// The words are wrong, as the text tells.
     #[error("{0}")]
     Usage(String),
-    /// The words ask for help, which is the text.
+    /// The words ask for help, or for the version, which is the text.
     #[error("{0}")]
     Help(String),
     /// A word that should be an offset has no form of one, is 2^64 bits or more, or isn't of whole bytes where it should be.
@@ -106,7 +108,9 @@ fn told(alloc: Global, error: &clap::Error) -> WordFault {
         return WordFault::Memory;
     }
     match format!(in alloc; "{error}") {
-        Ok(text) if kind == ErrorKind::DisplayHelp => WordFault::Help(text),
+        Ok(text) if kind == ErrorKind::DisplayHelp || kind == ErrorKind::DisplayVersion => {
+            WordFault::Help(text)
+        }
         Ok(text) => WordFault::Usage(text),
         Err(_) => WordFault::Memory,
     }
@@ -122,7 +126,9 @@ fn read_command(alloc: Global, matches: &ArgMatches<'_>) -> Result<Job, WordFaul
     }
 }
 
-fn read_map(alloc: Global, found: &ArgMatches<'_>) -> Result<Job, WordFault> {
+fn read_map(alloc: Global, found: &ArgMatches<'_>) -> Result<Job, WordFault>
+    ensures { IfOk result (WritesInMode (unwrap_or (first_value (found_of found.now) (codes "mode")) [])) }
+{
     let at = bits_of(found.get_str("at").unwrap_or(""))?;
     let order = match found.get_str("endian") {
         Some("little") => Order::Little,
@@ -132,11 +138,21 @@ fn read_map(alloc: Global, found: &ArgMatches<'_>) -> Result<Job, WordFault> {
         at,
         order,
         limit: found.get_one::<u64>("limit").unwrap_or(DEFAULT_LIMIT),
-        mode: Mode::Flat,
+        mode: mode_of(found.get_str("mode").unwrap_or("")),
         pickle: word_of(alloc, found, "PICKLE")?,
         name: word_of(alloc, found, "TYPE")?,
         file: word_of(alloc, found, "FILE")?,
     })
+}
+
+// The mode that a word names, and the default where it names none.
+fn mode_of(word: &str) -> Mode
+    ensures { NamesMode word.now result }
+{
+    match word {
+        "tree" => Mode::Tree,
+        _ => Mode::Flat,
+    }
 }
 
 fn read_bound(alloc: Global, found: &ArgMatches<'_>) -> Result<Job, WordFault> {

@@ -5,8 +5,8 @@ ghost use Rattle.pickle_map.specs.Slots.{empty};
 ghost use Rattle.pickle_types.specs.TypeTable.{IsSound, IsInTable};
 
 use crate::devices::Failing;
-use crate::tables::{Row, all_rows};
-use bit_space::{MemSpace, Meter, Order, Paged, Space};
+use crate::tables::{Row, all_rows, large, read_rows};
+use bit_space::{MemSpace, Meter, Paged, Space};
 use pickle_map::{MapFault, Store, map};
 use pickle_types::type_table::{Table, TypeId};
 use poke_batch::accept::accept;
@@ -21,14 +21,6 @@ use std::test::Fail;
 
 /// More steps than any row takes.
 pub const LIMIT: u64 = 1_000_000_000;
-
-/// What a mapping comes to: the text of its value or its fault, its steps and the values that it made.
-#[derive(Debug, Drop)]
-pub struct Mapped {
-    pub said: String,
-    pub steps: u64,
-    pub made: u64,
-}
 
 /// The types of a pickle.
 pub fn table_of(alloc: Global, pickle: &str) -> Result<Table, Fail>
@@ -50,29 +42,23 @@ pub fn type_of(table: &Table, row: &Row<'_>) -> Result<TypeId, Fail>
     }
 }
 
-/// Maps the type of a row into an empty store, under a limit of steps.
+/// Maps the type of a row into an empty store: the text of its value or its fault.
 pub fn map_row<S: Space>(
     alloc: Global,
     table: &Table,
     row: &Row<'_>,
-    limit: u64,
     space: &mut S,
+    meter: &mut Meter,
     store: &mut Store,
-) -> Result<Mapped, Fail>
+) -> Result<String, Fail>
     requires sound { IsSound table.now }
     requires empty { store.old ≡ empty store.old.room }
 {
     let id = type_of(table, row)?;
-    let mut meter = Meter::new(limit);
-    let said = match map(table, id, row.order, row.start, space, &mut meter, store) {
-        Ok(()) => text(alloc, table, store)?,
-        Err(fault) => fault_text(alloc, fault)?,
-    };
-    Ok(Mapped {
-        said,
-        steps: meter.steps(),
-        made: meter.made(),
-    })
+    match map(table, id, row.order, row.start, space, meter, store) {
+        Ok(()) => text(alloc, table, store),
+        Err(fault) => Ok(fault_text(alloc, fault)?),
+    }
 }
 
 /// A fault, as it is told of a file.
@@ -93,22 +79,38 @@ pub fn space_of(alloc: Global, row: &Row<'_>) -> Result<MemSpace, Fail> {
     Ok(MemSpace::new(row.bytes.as_slice().to_vec(alloc)?)?)
 }
 
-/// Whether a mapping comes to what a row says.
-pub fn expect(rt: &impl Abort, row: &Row<'_>, mapped: &Mapped) {
-    assert_eq!(rt; mapped.said.as_str(), row.said, "{row:?}");
-    assert_eq!(rt; mapped.steps, row.steps, "{row:?}");
-    assert_eq!(rt; mapped.made, row.made, "{row:?}");
+/// Expects a row's text, steps and values.
+pub fn expect(rt: &impl Abort, row: &Row<'_>, said: &str, meter: &Meter) {
+    assert_eq!(rt; said, row.said.as_str(), "{}", row.line);
+    assert_eq!(rt; meter.steps(), row.steps, "{}", row.line);
+    assert_eq!(rt; meter.made(), row.made, "{}", row.line);
 }
 
-/// What a run wrote, and how it ended.
-#[derive(Debug, Drop)]
-struct Ran {
-    out: Vec<u8>,
-    err: Vec<u8>,
-    status: Status,
+/// Maps a row into an empty store, and expects what the row says.
+pub fn expect_mapped<S: Space>(
+    rt: &impl Abort,
+    alloc: Global,
+    table: &Table,
+    row: &Row<'_>,
+    space: &mut S,
+    store: &mut Store,
+) -> Result<(), Fail>
+    requires sound { IsSound table.now }
+    requires empty { store.old ≡ empty store.old.room }
+{
+    let mut meter = Meter::new(LIMIT);
+    let said = map_row(alloc, table, row, space, &mut meter, store)?;
+    expect(rt, row, said.as_str(), &meter);
+    Ok(())
 }
 
-fn run_row<S: Space>(alloc: Global, row: &Row<'_>, space: &mut S) -> Ran {
+fn run_row<S: Space>(
+    alloc: Global,
+    row: &Row<'_>,
+    space: &mut S,
+    out: &mut Vec<u8>,
+    err: &mut Vec<u8>,
+) -> Status {
     let ask = Ask {
         name: row.name.as_bytes(),
         start: row.start,
@@ -116,113 +118,61 @@ fn run_row<S: Space>(alloc: Global, row: &Row<'_>, space: &mut S) -> Ran {
         limit: LIMIT,
         mode: Mode::Flat,
     };
+    run_map(alloc, row.pickle.as_bytes(), &ask, space, out, err)
+}
+
+// A run of a row writes its value or its fault.
+fn expect_run(rt: &impl Abort, alloc: Global, row: &Row<'_>) -> Result<(), Fail> {
+    let mut line = Vec::from_slice(alloc, row.said.as_bytes())?;
+    line.push(b'\n')?;
     let mut out = Vec::new(alloc);
     let mut err = Vec::new(alloc);
-    let status = run_map(
-        alloc,
-        row.pickle.as_bytes(),
-        &ask,
-        space,
-        &mut out,
-        &mut err,
-    );
-    Ran { out, err, status }
-}
-
-#[test]
-fn writes_values_and_faults(rt: HostRuntime) -> Result<(), Fail> {
-    let alloc = rt.alloc();
-    for row in &all_rows(alloc)? {
-        let mut line = Vec::from_slice(alloc, row.said.as_bytes())?;
-        line.push(b'\n')?;
-        let ran = run_row(alloc, row, &mut space_of(alloc, row)?);
-        let (written, empty, status) = if row.said.starts_with("fault ") {
-            (&ran.err, &ran.out, Status::Fault)
-        } else {
-            (&ran.out, &ran.err, Status::Done)
-        };
-        assert_eq!(rt; written.as_slice(), line.as_slice(), "{row:?}");
-        assert!(rt; empty.is_empty(), "{row:?}");
-        assert_eq!(rt; ran.status, status, "{row:?}");
-    }
-    Ok(())
-}
-
-#[test]
-fn takes_its_steps(rt: HostRuntime) -> Result<(), Fail> {
-    let alloc = rt.alloc();
-    for row in &all_rows(alloc)? {
-        let table = table_of(alloc, row.pickle)?;
-        let mut store = Store::new(alloc);
-        let mut space = space_of(alloc, row)?;
-        let mapped = map_row(alloc, &table, row, LIMIT, &mut space, &mut store)?;
-        expect(&rt, row, &mapped);
-    }
-    Ok(())
-}
-
-#[test]
-fn maps_pages_as_well(rt: HostRuntime) -> Result<(), Fail> {
-    let alloc = rt.alloc();
-    for row in &all_rows(alloc)? {
-        let table = table_of(alloc, row.pickle)?;
-        let mut store = Store::new(alloc);
-        let mut space = Paged::new(alloc, space_of(alloc, row)?)?;
-        let mapped = map_row(alloc, &table, row, LIMIT, &mut space, &mut store)?;
-        expect(&rt, row, &mapped);
-    }
-    Ok(())
-}
-
-// Under a limit below its steps, a row takes just so many.
-fn expect_limits(rt: &impl Abort, alloc: Global, table: &Table, row: &Row<'_>) -> Result<(), Fail>
-    requires sound { IsSound table.now }
-{
-    let told = format!(in alloc; "fault Limit at {}#b", row.start)?;
-    for limit in 0..row.steps {
-        let mut store = Store::new(alloc);
-        let mut space = space_of(alloc, row)?;
-        let mapped = map_row(alloc, table, row, limit, &mut space, &mut store)?;
-        assert_eq!(rt; mapped.said, told, "{row:?}");
-        assert_eq!(rt; mapped.steps, limit, "{row:?}");
-        assert!(rt; mapped.made <= row.made, "{row:?}");
-        assert!(rt; store.root(table).is_none(), "{row:?}");
-    }
-    let mut store = Store::new(alloc);
-    let mut space = space_of(alloc, row)?;
-    let mapped = map_row(alloc, table, row, row.steps, &mut space, &mut store)?;
-    expect(rt, row, &mapped);
-    Ok(())
-}
-
-#[test]
-fn stops_at_each_limit_below_its_steps(rt: HostRuntime) -> Result<(), Fail> {
-    let alloc = rt.alloc();
-    for row in &all_rows(alloc)? {
-        expect_limits(&rt, alloc, &table_of(alloc, row.pickle)?, row)?;
-    }
+    let ended = run_row(alloc, row, &mut space_of(alloc, row)?, &mut out, &mut err);
+    let (written, empty, status) = if row.said.starts_with("fault ") {
+        (&err, &out, Status::Fault)
+    } else {
+        (&out, &err, Status::Done)
+    };
+    assert!(rt; written.as_slice() == line.as_slice(), "{}", row.line);
+    assert!(rt; empty.is_empty(), "{}", row.line);
+    assert_eq!(rt; ended, status, "{}", row.line);
     Ok(())
 }
 
 // Whatever read of a row fails, nothing is written but the device's fault.
 fn expect_failures(rt: &impl Abort, alloc: Global, row: &Row<'_>) -> Result<(), Fail> {
     let mut all = Failing::new(&row.bytes, 0)?;
-    run_row(alloc, row, &mut all);
+    run_row(
+        alloc,
+        row,
+        &mut all,
+        &mut Vec::new(alloc),
+        &mut Vec::new(alloc),
+    );
     for failing in 1..all.reads.saturating_add(1) {
         let mut space = Failing::new(&row.bytes, failing)?;
-        let ran = run_row(alloc, row, &mut space);
-        assert!(rt; ran.out.is_empty(), "{row:?}");
-        assert_eq!(rt; ran.err.as_slice(), b"fault Device\n".as_slice(), "{row:?}");
-        assert_eq!(rt; ran.status, Status::Outside, "{row:?}");
-        assert_eq!(rt; space.reads, failing, "{row:?}");
+        let mut out = Vec::new(alloc);
+        let mut err = Vec::new(alloc);
+        let ended = run_row(alloc, row, &mut space, &mut out, &mut err);
+        assert!(rt; out.is_empty(), "{}", row.line);
+        assert_eq!(rt;
+            err.as_slice(),
+            b"fault Device\n".as_slice(),
+            "{}",
+            row.line
+        );
+        assert_eq!(rt; ended, Status::Outside, "{}", row.line);
+        assert_eq!(rt; space.reads, failing, "{}", row.line);
     }
     Ok(())
 }
 
 #[test]
-fn stops_at_each_read_that_fails(rt: HostRuntime) -> Result<(), Fail> {
-    for row in &all_rows(rt.alloc())? {
-        expect_failures(&rt, rt.alloc(), row)?;
+fn writes_values_and_faults(rt: HostRuntime) -> Result<(), Fail> {
+    let alloc = rt.alloc();
+    for row in &all_rows(alloc)? {
+        expect_run(&rt, alloc, row)?;
+        expect_failures(&rt, alloc, row)?;
     }
     Ok(())
 }
@@ -237,21 +187,63 @@ fn slots_of(table: &Table, row: &Row<'_>) -> Result<usize, Fail>
     Ok(usize::try_from(slots)?)
 }
 
+// Maps a row from memory, from pages, and twice into a store that has the room of its bound.
+fn expect_values(rt: &impl Abort, alloc: Global, table: &Table, row: &Row<'_>) -> Result<(), Fail>
+    requires sound { IsSound table.now }
+{
+    let mut space = space_of(alloc, row)?;
+    let mut first = Store::new(alloc);
+    expect_mapped(rt, alloc, table, row, &mut space, &mut first)?;
+    let mut pages = Paged::new(alloc, space_of(alloc, row)?)?;
+    let mut second = Store::new(alloc);
+    expect_mapped(rt, alloc, table, row, &mut pages, &mut second)?;
+    let mut store = Store::with_room(alloc, slots_of(table, row)?)?;
+    expect_mapped(rt, alloc, table, row, &mut space, &mut store)?;
+    store.clear();
+    assert!(rt; store.root(table).is_none(), "{}", row.line);
+    expect_mapped(rt, alloc, table, row, &mut space, &mut store)
+}
+
+// Under a limit below its steps, a row takes just so many; under a limit of its steps it comes to its end.
+fn expect_limits(rt: &impl Abort, alloc: Global, table: &Table, row: &Row<'_>) -> Result<(), Fail>
+    requires sound { IsSound table.now }
+{
+    let told = format!(in alloc; "fault Limit at {}#b", row.start)?;
+    let mut space = space_of(alloc, row)?;
+    for limit in 0..row.steps {
+        let mut store = Store::new(alloc);
+        let mut meter = Meter::new(limit);
+        let said = map_row(alloc, table, row, &mut space, &mut meter, &mut store)?;
+        assert_eq!(rt; said.as_str(), told.as_str(), "{}", row.line);
+        assert_eq!(rt; meter.steps(), limit, "{}", row.line);
+        assert!(rt; meter.made() <= row.made, "{}", row.line);
+        assert!(rt; store.root(table).is_none(), "{}", row.line);
+    }
+    let mut store = Store::new(alloc);
+    let mut meter = Meter::new(row.steps);
+    let said = map_row(alloc, table, row, &mut space, &mut meter, &mut store)?;
+    expect(rt, row, said.as_str(), &meter);
+    Ok(())
+}
+
 #[test]
-fn maps_in_the_room_of_its_bound(rt: HostRuntime) -> Result<(), Fail> {
+fn maps_within_its_steps_and_its_room(rt: HostRuntime) -> Result<(), Fail> {
     let alloc = rt.alloc();
     for row in &all_rows(alloc)? {
         let table = table_of(alloc, row.pickle)?;
-        let slots = slots_of(&table, row)?;
-        let mut store = Store::with_room(alloc, slots)?;
-        let mut space = space_of(alloc, row)?;
-        let mapped = map_row(alloc, &table, row, LIMIT, &mut space, &mut store)?;
-        expect(&rt, row, &mapped);
-        store.clear();
-        assert!(rt; store.root(&table).is_none());
-        let mut space = space_of(alloc, row)?;
-        let mapped = map_row(alloc, &table, row, LIMIT, &mut space, &mut store)?;
-        expect(&rt, row, &mapped);
+        expect_values(&rt, alloc, &table, row)?;
+        expect_limits(&rt, alloc, &table, row)?;
+    }
+    Ok(())
+}
+
+#[test]
+fn maps_large_values(rt: HostRuntime) -> Result<(), Fail> {
+    let alloc = rt.alloc();
+    for row in &read_rows(alloc, large::TABLE)? {
+        let table = table_of(alloc, row.pickle)?;
+        expect_run(&rt, alloc, row)?;
+        expect_values(&rt, alloc, &table, row)?;
     }
     Ok(())
 }

@@ -1,11 +1,10 @@
 //! Reads that are counted, that fail, or that give other bytes each time.
 
 use crate::devices::{Failing, Shifting};
-use crate::mappings::{LIMIT, expect, map_row, table_of};
-use crate::tables::{Row, read_rows};
-use bit_space::{Order, Paged};
+use crate::mappings::{LIMIT, expect_mapped, map_row, table_of};
+use crate::tables::read_rows;
+use bit_space::{Meter, Paged};
 use pickle_map::Store;
-use std::alloc::{AllocError, Global};
 use std::test::Fail;
 
 /// Four reads: three of elements, of which the last is given up, and one behind them.
@@ -29,22 +28,17 @@ type T = union { byte a : a == 2; byte b : b == 2; };
 type E = struct { byte v : v != 0; }; type A = struct { E[] es; byte z; };
   A 0 big 000000 | 26 7 | fault End at 24#b"#;
 
-#[test]
-fn reads_each_number_once(rt: HostRuntime) -> Result<(), Fail> {
-    let alloc = rt.alloc();
-    for row in &read_rows(alloc, ELEMENTS)? {
-        let table = table_of(alloc, row.pickle)?;
-        let mut space = Failing::new(&row.bytes, 0)?;
-        let mut store = Store::new(alloc);
-        let mapped = map_row(alloc, &table, row, LIMIT, &mut space, &mut store)?;
-        expect(&rt, row, &mapped);
-        assert_eq!(rt; space.reads, 4);
-    }
-    Ok(())
-}
+/// Two pages, and fifty.
+const PAGES: &str = r#"type T = byte[];
+  T 0 big «0..8190 01»1234 | 16385 8193 | [«0..8190 1UB,»18UB,52UB]
+  T 0 big «0..204798 01»1234 | 409601 204801 | [«0..204798 1UB,»18UB,52UB]"#;
+
+/// A number whose bytes are in two pages.
+const ACROSS: &str = r#"
+  ushort 32760 big «0..4095 01»1234 | 1 1 | 4660UH"#;
 
 #[test]
-fn stops_in_the_step_of_a_failing_read(rt: HostRuntime) -> Result<(), Fail> {
+fn reads_each_number_once(rt: HostRuntime) -> Result<(), Fail> {
     let alloc = rt.alloc();
     for row in &read_rows(alloc, ELEMENTS)? {
         let table = table_of(alloc, row.pickle)?;
@@ -52,12 +46,17 @@ fn stops_in_the_step_of_a_failing_read(rt: HostRuntime) -> Result<(), Fail> {
         for (failing, steps) in [(1, 7), (2, 14), (3, 21), (4, 26)] {
             let mut space = Failing::new(&row.bytes, failing)?;
             let mut store = Store::new(alloc);
-            let mapped = map_row(alloc, &table, row, LIMIT, &mut space, &mut store)?;
-            assert_eq!(rt; mapped.said, told);
-            assert_eq!(rt; mapped.steps, steps);
-            assert!(rt; mapped.made <= row.made);
+            let mut meter = Meter::new(LIMIT);
+            let said = map_row(alloc, &table, row, &mut space, &mut meter, &mut store)?;
+            assert_eq!(rt; said.as_str(), told.as_str());
+            assert_eq!(rt; meter.steps(), steps);
+            assert!(rt; meter.made() <= row.made);
             assert!(rt; store.root(&table).is_none());
         }
+        let mut space = Failing::new(&row.bytes, 0)?;
+        let mut store = Store::new(alloc);
+        expect_mapped(&rt, alloc, &table, row, &mut space, &mut store)?;
+        assert_eq!(rt; space.reads, 4);
     }
     Ok(())
 }
@@ -74,43 +73,30 @@ fn judges_the_bytes_that_it_keeps(rt: HostRuntime) -> Result<(), Fail> {
             failures: 0,
         };
         let mut store = Store::new(alloc);
-        let mapped = map_row(alloc, &table, row, LIMIT, &mut space, &mut store)?;
-        expect(&rt, row, &mapped);
+        expect_mapped(&rt, alloc, &table, row, &mut space, &mut store)?;
     }
     Ok(())
 }
 
-/// Bytes of which the last two are hexadecimal 12 and 34.
-fn bytes_of(alloc: Global, length: usize) -> Result<Vec<u8>, AllocError> {
-    let mut bytes = vec![in alloc; 1u8; length.saturating_sub(2)]?;
-    bytes.extend_from_slice(b"\x12\x34")?;
-    Ok(bytes)
-}
-
-// Two pages are read once each: where the third read would fail it isn't made, and the second is.
+// A row of pages is read once each: where the read behind the last one would fail it isn't made, and each other is.
 #[test]
 fn reads_each_page_once(rt: HostRuntime) -> Result<(), Fail> {
     let alloc = rt.alloc();
-    let row = Row {
-        pickle: "type T = byte[];",
-        name: "T",
-        start: 0,
-        order: Order::Big,
-        bytes: bytes_of(alloc, 8192)?,
-        steps: 16_385,
-        made: 8193,
-        said: "",
-    };
-    let table = table_of(alloc, row.pickle)?;
-    for (failing, fails) in [(1, true), (2, true), (3, false)] {
-        let mut space = Paged::new(alloc, Failing::new(&row.bytes, failing)?)?;
+    for row in &read_rows(alloc, PAGES)? {
+        let table = table_of(alloc, row.pickle)?;
+        let pages = row.bytes.len() as u64 / 4096;
+        for failing in [1, pages] {
+            let mut space = Paged::new(alloc, Failing::new(&row.bytes, failing)?)?;
+            let mut store = Store::new(alloc);
+            let mut meter = Meter::new(LIMIT);
+            let said = map_row(alloc, &table, row, &mut space, &mut meter, &mut store)?;
+            assert_eq!(rt; said.as_str(), "fault Device at 0#b");
+            assert!(rt; meter.steps() < row.steps && meter.made() < row.made);
+        }
+        let beyond = pages.saturating_add(1);
+        let mut space = Paged::new(alloc, Failing::new(&row.bytes, beyond)?)?;
         let mut store = Store::new(alloc);
-        let mapped = map_row(alloc, &table, &row, LIMIT, &mut space, &mut store)?;
-        assert_eq!(rt; mapped.said.as_str() == "fault Device at 0#b", fails);
-        assert_eq!(rt;
-            mapped.steps == row.steps && mapped.made == row.made,
-            !fails
-        );
+        expect_mapped(&rt, alloc, &table, row, &mut space, &mut store)?;
     }
     Ok(())
 }
@@ -118,20 +104,11 @@ fn reads_each_page_once(rt: HostRuntime) -> Result<(), Fail> {
 #[test]
 fn reads_a_number_across_pages(rt: HostRuntime) -> Result<(), Fail> {
     let alloc = rt.alloc();
-    let row = Row {
-        pickle: "",
-        name: "ushort",
-        start: 32_760,
-        order: Order::Big,
-        bytes: bytes_of(alloc, 4097)?,
-        steps: 1,
-        made: 1,
-        said: "4660UH",
-    };
-    let table = table_of(alloc, row.pickle)?;
-    let mut space = Paged::new(alloc, Failing::new(&row.bytes, 0)?)?;
-    let mut store = Store::new(alloc);
-    let mapped = map_row(alloc, &table, &row, LIMIT, &mut space, &mut store)?;
-    expect(&rt, &row, &mapped);
+    for row in &read_rows(alloc, ACROSS)? {
+        let table = table_of(alloc, row.pickle)?;
+        let mut space = Paged::new(alloc, Failing::new(&row.bytes, 0)?)?;
+        let mut store = Store::new(alloc);
+        expect_mapped(&rt, alloc, &table, row, &mut space, &mut store)?;
+    }
     Ok(())
 }

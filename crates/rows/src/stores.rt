@@ -4,10 +4,10 @@ ghost use Rattle.std.specs.Prelude.{◌≡◌, OnOk};
 ghost use Rattle.pickle_map.specs.Slots.{empty};
 
 use crate::mappings::{
-    LIMIT, Mapped, expect, fault_text, map_row, space_of, table_of, text, type_of,
+    LIMIT, expect, expect_mapped, fault_text, space_of, table_of, text, type_of,
 };
 use crate::tables::{Row, read_rows};
-use bit_space::{Meter, Order};
+use bit_space::Meter;
 use pickle_map::{Store, map};
 use std::alloc::Global;
 use std::process::Abort;
@@ -22,6 +22,10 @@ type T = union { byte a : a == 1; uint<16> b; };
 
 type T = struct { byte n; struct { byte[n] d; byte; } body; };
   T 0 big 010506 | 12 6 | T {n=1UB,body=struct {d=[5UB],6UB}}"#;
+
+/// A string behind one that is given up.
+const SECOND_STRING: &str = r#"type T = union { string a : 0 != 0; string b; };
+  T 0 big «0..1000 61»00 | 2010 2003 | T {b="«0..1000 a»"}"#;
 
 // Maps a row, and clears the store after a value alone.
 fn map_and_empty(
@@ -48,15 +52,7 @@ fn map_and_empty(
         Err(fault) => fault_text(alloc, fault)?,
     };
     assert!(rt; store.root(&table).is_none());
-    expect(
-        rt,
-        row,
-        &Mapped {
-            said,
-            steps: meter.steps(),
-            made: meter.made(),
-        },
-    );
+    expect(rt, row, said.as_str(), &meter);
     Ok(())
 }
 
@@ -73,27 +69,15 @@ fn maps_after_a_value_and_after_a_fault(rt: HostRuntime) -> Result<(), Fail> {
     Ok(())
 }
 
-// An alternative that is given up gives its bytes back: its bound has room for one string alone.
+// An alternative that is given up gives its bytes back: the bound has room for one string alone.
 #[test]
 fn gives_back_what_an_alternative_took(rt: HostRuntime) -> Result<(), Fail> {
     let alloc = rt.alloc();
-    let mut bytes = vec![in alloc; b'a'; 1000]?;
-    let said = format!(in alloc; "T {{b=\"{}\"}}", str::from_utf8(&bytes)?)?;
-    bytes.push(0)?;
-    let row = Row {
-        pickle: "type T = union { string a : 0 != 0; string b; };",
-        name: "T",
-        start: 0,
-        order: Order::Big,
-        bytes,
-        steps: 2010,
-        made: 2003,
-        said: said.as_str(),
-    };
-    let table = table_of(alloc, row.pickle)?;
-    let mut store = Store::with_room(alloc, 1005)?;
-    let mut space = space_of(alloc, &row)?;
-    let mapped = map_row(alloc, &table, &row, LIMIT, &mut space, &mut store)?;
-    expect(&rt, &row, &mapped);
+    for row in &read_rows(alloc, SECOND_STRING)? {
+        let table = table_of(alloc, row.pickle)?;
+        let mut store = Store::with_room(alloc, 1005)?;
+        let mut space = space_of(alloc, row)?;
+        expect_mapped(&rt, alloc, &table, row, &mut space, &mut store)?;
+    }
     Ok(())
 }

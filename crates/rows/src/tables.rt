@@ -8,18 +8,21 @@ pub mod arrays;
 pub mod expressions;
 pub mod integers;
 pub mod integral_structs;
+pub mod large;
 pub mod offsets;
 pub mod strings;
 pub mod structs;
 pub mod unions;
 
 use bit_space::Order;
-use std::alloc::{AllocError, Global};
+use rows_kit::text::{bytes_of, hex_of};
+use std::alloc::Global;
 use std::test::Fail;
 
-/// A mapping, and what it comes to.
-#[derive(Debug, Drop)]
+/// A mapping, and what it comes to. The line tells which row it is.
+#[derive(Drop)]
 pub struct Row<'a> {
+    pub line: &'a str,
     pub pickle: &'a str,
     pub name: &'a str,
     pub start: u64,
@@ -27,7 +30,7 @@ pub struct Row<'a> {
     pub bytes: Vec<u8>,
     pub steps: u64,
     pub made: u64,
-    pub said: &'a str,
+    pub said: String,
 }
 
 /// The rows of a table.
@@ -37,7 +40,7 @@ pub fn read_rows<'a>(alloc: Global, table: &'a str) -> Result<Vec<Row<'a>>, Fail
     Ok(rows)
 }
 
-/// The rows of all tables.
+/// The rows of all tables, without the large ones.
 pub fn all_rows(alloc: Global) -> Result<Vec<Row<'static>>, Fail> {
     let mut rows = Vec::new(alloc);
     for table in [
@@ -57,15 +60,10 @@ pub fn all_rows(alloc: Global) -> Result<Vec<Row<'static>>, Fail> {
 
 fn add_rows<'a>(alloc: Global, table: &'a str, rows: &mut Vec<Row<'a>>) -> Result<(), Fail> {
     for block in table.split("\n\n") {
-        add_block(alloc, block, rows)?;
-    }
-    Ok(())
-}
-
-fn add_block<'a>(alloc: Global, block: &'a str, rows: &mut Vec<Row<'a>>) -> Result<(), Fail> {
-    let (pickle, lines) = block.split_once('\n').ok_or("no row")?;
-    for line in lines.lines() {
-        rows.push(read_row(alloc, pickle, line)?)?;
+        let (pickle, lines) = block.split_once('\n').ok_or("no row")?;
+        for line in lines.lines() {
+            rows.push(read_row(alloc, pickle, line)?)?;
+        }
     }
     Ok(())
 }
@@ -73,7 +71,7 @@ fn add_block<'a>(alloc: Global, block: &'a str, rows: &mut Vec<Row<'a>>) -> Resu
 fn read_row<'a>(alloc: Global, pickle: &'a str, line: &'a str) -> Result<Row<'a>, Fail> {
     let (asked, answer) = line.split_once(" | ").ok_or("no bar")?;
     let (counts, said) = answer.split_once(" | ").ok_or("one bar")?;
-    let mut words = asked.split_ascii_whitespace();
+    let mut words = asked.trim_start().splitn(4, ' ');
     let name = words.next().ok_or("no name")?;
     let start = words.next().ok_or("no start")?.parse::<u64>()?;
     let order = if words.next().ok_or("no order")? == "little" {
@@ -81,9 +79,10 @@ fn read_row<'a>(alloc: Global, pickle: &'a str, line: &'a str) -> Result<Row<'a>
     } else {
         Order::Big
     };
-    let bytes = read_bytes(alloc, words.next().unwrap_or(""))?;
+    let bytes = hex_of(alloc, words.next().unwrap_or(""))?;
     let (steps, made) = counts.split_once(' ').ok_or("one count")?;
     Ok(Row {
+        line,
         pickle,
         name,
         start,
@@ -91,23 +90,6 @@ fn read_row<'a>(alloc: Global, pickle: &'a str, line: &'a str) -> Result<Row<'a>
         bytes,
         steps: steps.parse::<u64>()?,
         made: made.parse::<u64>()?,
-        said,
+        said: String::from_utf8(bytes_of(alloc, said)?)?,
     })
-}
-
-// The bytes that pairs of hexadecimal digits write.
-fn read_bytes(alloc: Global, digits: &str) -> Result<Vec<u8>, AllocError> {
-    let mut bytes = Vec::new(alloc);
-    for pair in digits.as_bytes().chunks_exact(2) {
-        bytes.push(digit(pair[0]) << 4 | digit(pair[1]))?;
-    }
-    Ok(bytes)
-}
-
-fn digit(letter: u8) -> u8 {
-    match letter {
-        b'0'..=b'9' => letter - b'0',
-        b'a'..=b'f' => letter - b'a' + 10,
-        _ => 0,
-    }
 }

@@ -2,6 +2,7 @@
 ghost use Rattle.std.specs.Prelude.{◌≡◌, ◌+◌, ◌≤◌, [], ◌∷◌, ◌++◌, length, take, decimal, unsigned_abs};
 ghost use Rattle.std.specs.Fmt.{signed_decimal};
 ghost use Rattle.poke_batch.specs.Suffixes.{sign_letter, letter_text, suffix_text};
+ghost use Rattle.poke_batch.specs.TreeText.{in_brackets};
 
 use crate::print::bytes::{Bytes, LINE_ROOM, push};
 use crate::print::suffix::Suffix;
@@ -40,6 +41,18 @@ fn push_signed(bytes: &mut Bytes, at: usize, number: i128, magnitude: u64) -> us
     } else {
         push_digits(bytes, at, magnitude)
     }
+}
+
+/// Lays out a number in brackets, and tells where it ends.
+#[inline(always)]
+pub fn push_in_brackets(bytes: &mut Bytes, at: usize, number: u64) -> usize
+    requires { at + LONGEST_NUMBER ≤ LINE_ROOM }
+    ensures text { take result bytes.new ≡ take at bytes.old ++ in_brackets number }
+    ensures len { result ≤ LINE_ROOM }
+{
+    let at = push(bytes, at, b'[');
+    let at = push_digits(bytes, at, number);
+    push(bytes, at, b']')
 }
 
 #[inline(always)]

@@ -5,10 +5,11 @@ ghost use Rattle.std.specs.Io.KnownBytes.{Appends};
 ghost use Rattle.poke_batch.specs.Written.{AppendsPart};
 ghost use Rattle.poke_batch.specs.Gathered.{Gathers};
 ghost use Rattle.poke_batch.specs.Suffixes.{suffix_text};
+ghost use Rattle.poke_batch.specs.TreeText.{in_brackets};
 ghost use Rattle.poke_batch.specs.ValueText.{comma};
 
 use crate::print::bytes::{LINE_ROOM, SHORT, push_name, push_short};
-use crate::print::digits::{LONGEST_NUMBER, push_number, push_suffix};
+use crate::print::digits::{LONGEST_NUMBER, push_in_brackets, push_number, push_suffix};
 use crate::print::suffix::Suffix;
 use crate::write::{WriteFault, put};
 use itoa::Buffer;
@@ -173,6 +174,18 @@ impl Line {
     {
         self.make_room(w)?;
         self.len = push_suffix(&mut self.bytes, self.len, suffix);
+        Ok(())
+    }
+
+    /// Adds a number in brackets, as [`Line::put`] adds a text.
+    #[tactic(auto, using(crate::proofs::Gathered::gathers_then))]
+    #[inline(always)]
+    pub fn put_in_brackets<W: Write>(&mut self, w: &mut W, number: usize) -> Result<(), WriteFault>
+        ensures ok { OnOk result (Gathers (W.contents w.old) (W.contents w.new) self.old self.new (in_brackets number)) }
+        ensures err { OnErr result (AppendsPart (W.contents w.old) (W.contents w.new) (self.old ++ in_brackets number)) }
+    {
+        self.make_room(w)?;
+        self.len = push_in_brackets(&mut self.bytes, self.len, number as u64);
         Ok(())
     }
 

@@ -2,16 +2,30 @@
 ghost use Rattle.std.specs.Prelude.{◌≡◌, ◌++◌, true, false, OnOk, OnErr, decimal};
 ghost use Rattle.std.specs.Fmt.{signed_decimal};
 ghost use Rattle.std.specs.Option.{option_map};
+ghost use Rattle.pickle_map.specs.Values.{label_of};
+ghost use Rattle.pickle_map.specs.Refs.{value_shown};
 ghost use Rattle.poke_batch.specs.Written.{AppendsPart};
 ghost use Rattle.poke_batch.specs.Gathered.{Gathers};
+ghost use Rattle.poke_batch.specs.PartText.{type_of};
 ghost use Rattle.poke_batch.specs.ValueText.{integer_text, offset_text, cast_text, type_word, unit_text, suffix_of, with_sign_letter, width_letter};
 
 use super::line::Line;
 use super::suffix::suffix_of;
 use crate::write::WriteFault;
 use itoa::Buffer;
+use pickle_map::ValueRef;
 use pickle_types::integer::IntegerType;
 use std::io::Write;
+
+/// The type of an integer, or of an offset's magnitude.
+pub fn type_of(value: ValueRef<'_>) -> IntegerType
+    ensures { result ≡ type_of (label_of (value_shown value.entry)) }
+{
+    IntegerType {
+        width: value.width(),
+        signed: value.signed(),
+    }
+}
 
 /// Writes an offset of so many units, of a number of bits each.
 #[tactic(auto, using(crate::proofs::Gathered::gathered), unfolding(crate::specs::ValueText::offset_text))]

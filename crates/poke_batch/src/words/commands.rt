@@ -6,6 +6,9 @@ use std::alloc::{AllocError, Global};
 /// The program's name, by which it is installed.
 pub const PROGRAM: &str = "poke_batch";
 
+/// The program's version, and the line by which the toolchain that proves it names itself.
+pub const VERSION: &str = "0.1.0, proved with rattle-kit-13b logic dac8208d650f15bf";
+
 /// The steps that a mapping may take where no limit is given.
 pub const DEFAULT_LIMIT: u64 = 1_000_000_000;
 
@@ -16,7 +19,7 @@ Options of map:
   --at OFFSET      where the value begins [default: 0#b]
   --endian ORDER   byte order, big or little [default: big]
   --limit N        the most steps of the mapping, 0 to 18446744073709551615 [default: 1000000000]
-  --mode MODE      how the value is written, flat [default: flat]
+  --mode MODE      how the value is written, flat or tree [default: flat]
 
 Options of dump:
   --from OFFSET    the first byte, in whole bytes [default: 0#B]
@@ -81,6 +84,7 @@ Statuses:
 /// The program with its commands.
 pub fn program<'a>(alloc: Global) -> Result<Command<'a>, AllocError> {
     Command::new(alloc, PROGRAM)
+        .version(VERSION)
         .about("Maps the types of GNU poke pickles over files and prints the values")
         .after_help(PROGRAM_HELP)
         .subcommand_required(true)
@@ -92,6 +96,7 @@ pub fn program<'a>(alloc: Global) -> Result<Command<'a>, AllocError> {
 
 fn map<'a>(alloc: Global) -> Result<Command<'a>, AllocError> {
     let orders = ["big", "little"].as_slice();
+    let modes = ["flat", "tree"].as_slice();
     Command::new(alloc, "map")
         .about("Maps a type over a file and prints the value")
         .after_help(MAP_HELP)
@@ -105,9 +110,7 @@ fn map<'a>(alloc: Global) -> Result<Command<'a>, AllocError> {
             "1000000000",
         )
         .value_parser(clap::value_parser!(u64)))?
-        .arg(option(alloc, "mode", "MODE", "How the value is written", "flat").value_parser([
-            "flat",
-        ].as_slice()))?
+        .arg(option(alloc, "mode", "MODE", "How the value is written", "flat").value_parser(modes))?
         .arg(pickle(alloc))?
         .arg(name(alloc))?
         .arg(file(alloc))

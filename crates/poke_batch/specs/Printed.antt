@@ -1,0 +1,11 @@
+-- The whole output for a value, in each mode.
+use Rattle.std.specs.Prelude.{ℕ, List}
+use Rattle.pickle_map.specs.Values.{Value}
+use Rattle.poke_batch.specs.declared.mode.Mode.{Mode}
+use Rattle.poke_batch.specs.declared.mode.Mode.TheVariants.{Flat, Tree}
+use Rattle.poke_batch.specs.ValueText.{flat_text}
+use Rattle.poke_batch.specs.TreeText.{tree_text}
+
+abbrev pub printed : Mode → Value → List ℕ
+printed Flat value = flat_text value
+printed Tree value = tree_text value

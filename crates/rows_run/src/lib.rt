@@ -1,0 +1,19 @@
+//! Worked rows of the runs, of dumps and of words, as tables in tests. Their answers were worked out by hand.
+#![tactic(auto)]
+
+#[cfg(test)]
+mod answers;
+#[cfg(test)]
+mod bounds;
+#[cfg(test)]
+mod checks;
+#[cfg(test)]
+mod dumps;
+#[cfg(test)]
+mod offset_words;
+#[cfg(test)]
+mod pickles;
+#[cfg(test)]
+mod trees;
+#[cfg(test)]
+mod words;

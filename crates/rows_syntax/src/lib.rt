@@ -1,0 +1,7 @@
+//! Worked rows of tokens and of the grammar, as tables in tests. Their answers were worked out by hand.
+#![tactic(auto)]
+
+#[cfg(test)]
+mod grammar;
+#[cfg(test)]
+mod tokens;

@@ -1,0 +1,5 @@
+//! Worked rows of types, as tables in tests. Their answers were worked out by hand.
+#![tactic(auto)]
+
+#[cfg(test)]
+mod types;
