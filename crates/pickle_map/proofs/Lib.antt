@@ -3,6 +3,7 @@ pub mod Signed
 pub mod Digits
 pub mod Divisors
 mod Rows
+mod Refused
 mod Basics
 mod Equations
 mod Comes

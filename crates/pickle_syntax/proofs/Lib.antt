@@ -27,3 +27,4 @@ pub mod Parsed
 pub mod Telling
 pub mod PieceLaws
 pub mod LexedLaws
+mod Rows

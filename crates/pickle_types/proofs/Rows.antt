@@ -1,5 +1,5 @@
 -- What the definitions say of small pickles.
-use Rattle.std.proofs.Common.{◌≡◌, ℕ, ◌^◌, List, [], ◌∷◌, Option, Some, None, Result, Ok, Err, true, false, refl}
+use Rattle.std.proofs.Common.{◌≡◌, ℕ, ◌^◌, List, [], ◌∷◌, Option, Some, None, Result, Ok, Err, true, false, refl, sym, ap, ◌∙◌, ◌+◌, ◌<◌, length, arith}
 use Rattle.std.specs.Prelude.{codes}
 use Rattle.pickle_syntax.specs.declared.token.Number.{Number}
 use Rattle.pickle_syntax.specs.declared.token.Attribute.TheVariants.{Length}
@@ -10,10 +10,12 @@ use Rattle.pickle_syntax.specs.Tree.{Tree, TreeReference, Int, Uint, Called, Fie
 use Rattle.pickle_syntax.specs.Tree as tree
 use Rattle.pickle_types.specs.declared.fault.FaultKind.{FaultKind}
 use Rattle.pickle_types.specs.declared.fault.FaultKind.TheVariants.{UnknownType, DuplicateType, UnknownName, DuplicateField, Mismatch, Width, IntegralWidths, NotHere}
-use Rattle.pickle_types.specs.Types.{depth}
+use Rattle.pickle_types.specs.Types.{PokeType, depth}
 use Rattle.pickle_types.specs.Names.{Names, predeclared}
 use Rattle.pickle_types.specs.Expressions.{typed}
 use Rattle.pickle_types.specs.Meaning.{integer_expression, offset_expression, bound_expression, fresh, meaning, fields_meaning, declared_type, declared}
+use Rattle.pickle_types.specs.WellTyped.{Declares}
+use Rattle.pickle_types.proofs.Meanings.{declared_whole}
 
 -- whether the declarations are accepted
 abbrev faults_of : Result Names FaultKind → Option FaultKind
@@ -153,3 +155,22 @@ constrained : fault (type (codes "E") (StructForm false (one byte (record (calle
     ∷ type a (StructForm false (tree.FieldThen (ArrayForm (Plain (Called (codes "E"))) None) (called (codes "es")) (one byte (called (codes "z"))))) ∷ []) ≡ None
 unfolding declared declared_type meaning fields_meaning integer_expression offset_expression bound_expression fresh typed depth
 constrained = refl
+
+-- no types are declared where one is unknown, nor other types than those that are written
+abbrev count_in : Result Names FaultKind → ℕ
+count_in (Ok names) = length names + 1
+count_in (Err e) = 0
+
+apart : (m n : ℕ) → m < n → m ≡ n → ⊥
+apart m n less e = absurd (omega (arith, less, e))
+
+unknown : declared predeclared (type a (Plain (Called (codes "B"))) ∷ []) ≡ Err UnknownType
+unfolding declared declared_type meaning fields_meaning integer_expression offset_expression bound_expression fresh typed depth
+unknown = refl
+
+unknown_declares_nothing : (all : Names) → Declares predeclared (type a (Plain (Called (codes "B"))) ∷ []) all → ⊥
+unknown_declares_nothing all h = apart 0 (length all + 1) (omega arith) (ap count_in (sym unknown ∙ declared_whole _ _ all h))
+
+nothing_is_declared : (name : List ℕ) (t : PokeType) → Declares predeclared [] ((name, t) ∷ predeclared) → ⊥
+unfolding declared
+nothing_is_declared name t h = apart (length predeclared + 1) (length predeclared + 2) (omega arith) (ap count_in (declared_whole _ _ _ h))

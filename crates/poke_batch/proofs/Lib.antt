@@ -13,5 +13,6 @@ pub mod Refusing
 pub mod Sayings
 pub mod Mappings
 mod LineRows
+mod Refused
 mod ValueTextRows
 mod TreeTextRows
