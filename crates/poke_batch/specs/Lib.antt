@@ -14,5 +14,6 @@ pub mod Taken
 pub mod Lines
 pub mod Told
 pub mod FaultLines
+pub mod FileLine
 pub mod Runs
 pub mod Accepted

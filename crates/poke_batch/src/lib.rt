@@ -9,6 +9,7 @@ pub mod ask;
 pub mod bound;
 pub mod dump;
 pub mod fault;
+pub mod file_line;
 mod hex;
 mod lines;
 pub mod mode;

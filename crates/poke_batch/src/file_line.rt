@@ -1,0 +1,69 @@
+//! The line that tells of one file among many.
+
+ghost use Rattle.std.specs.Prelude.{◌≡◌, ◌<◌, ◌≤◌, ◌++◌, take, length, IfOk, OnErr, OnOk};
+ghost use Rattle.std.specs.Io.KnownBytes.{Appends};
+ghost use Rattle.poke_batch.specs.Written.{AppendsPart};
+ghost use Rattle.poke_batch.specs.FileLine.{name_byte, shown_name, status_text, file_line};
+
+use crate::hex::hex_digit;
+use crate::status::Status;
+use crate::write::{WriteFault, put};
+use std::io::Write;
+
+/// Writes the line of a file: its name, the number of a status, and what its run wrote, with a tab between them. Of the name, `\` and bytes
+/// outside 0x20 to 0x7e are escaped as in strings. What was written ends with a line feed.
+#[tactic(auto, using(crate::proofs::Parts::written))]
+pub fn put_file_line<W: Write>(
+    w: &mut W,
+    name: &[u8],
+    status: Status,
+    written: &[u8],
+) -> Result<(), WriteFault>
+    ensures ok { OnOk result (Appends (W.contents w.old) (W.contents w.new) (file_line name.now status written.now)) }
+    ensures err { OnErr result (AppendsPart (W.contents w.old) (W.contents w.new) (file_line name.now status written.now)) }
+{
+    put_name(w, name)?;
+    put(w, column(status))?;
+    put(w, written)?;
+    Ok(())
+}
+
+fn column(status: Status) -> &'static [u8]
+    ensures { result.now ≡ status_text status }
+{
+    match status {
+        Status::Done => b"\t0\t",
+        Status::Fault => b"\t1\t",
+        Status::Refused => b"\t2\t",
+        Status::Outside => b"\t3\t",
+    }
+}
+
+fn put_name<W: Write>(w: &mut W, name: &[u8]) -> Result<(), WriteFault>
+    ensures ok { OnOk result (Appends (W.contents w.old) (W.contents w.new) (shown_name name.now)) }
+    ensures err { OnErr result (AppendsPart (W.contents w.old) (W.contents w.new) (shown_name name.now)) }
+{
+    let mut done = 0;
+    while done < name.len() {
+        put_byte(w, name[done])?;
+        done += 1;
+    }
+    Ok(())
+}
+
+// The escape of a byte, or the byte where it stands for itself.
+fn put_byte<W: Write>(w: &mut W, byte: u8) -> Result<(), WriteFault>
+    ensures ok { OnOk result (Appends (W.contents w.old) (W.contents w.new) (name_byte byte)) }
+    ensures err { OnErr result (AppendsPart (W.contents w.old) (W.contents w.new) (name_byte byte)) }
+{
+    match byte {
+        b'\\' => put(w, b"\\\\"),
+        b'\n' => put(w, b"\\n"),
+        b'\t' => put(w, b"\\t"),
+        32..=126 => put(w, &[byte]),
+        _ => put(
+            w,
+            &[b'\\', b'x', hex_digit(byte >> 4), hex_digit(byte & 15)],
+        ),
+    }
+}
