@@ -1,7 +1,9 @@
 -- The line that tells of one file among many: its name, the status of its run, and what the run wrote.
-use Rattle.std.specs.Prelude.{ℕ, List, [], ◌∷◌, ◌++◌, ◌==◌, if◌then◌else◌, codes}
+use Rattle.std.specs.Prelude.{ℕ, List, [], ◌∷◌, ◌++◌, Option, Some, ◌==◌, if◌then◌else◌, codes}
 use Rattle.poke_batch.specs.declared.status.Status.{Status}
 use Rattle.poke_batch.specs.declared.status.Status.TheVariants.{Done, Fault, Refused, Outside}
+use Rattle.poke_batch.specs.Lines.{fault_line}
+use Rattle.poke_batch.specs.Told.{Saying, Says}
 use Rattle.poke_batch.specs.ValueText.{byte_text}
 
 -- a byte of a name, as in a string, but for `"` (34), which stands for itself
@@ -22,3 +24,18 @@ status_text Outside = codes "\t3\t"
 -- name, status and what was written, which ends with a line feed
 abbrev pub file_line : (name : List ℕ) → Status → (written : List ℕ) → List ℕ
 file_line name status written = shown_name name ++ (status_text status ++ written)
+
+-- what a run wrote of its text, where it is done, or its line; a text that no memory was left for is told so
+abbrev pub written_of : Status → (text line : List ℕ) → List ℕ
+written_of Done text line = text
+written_of Fault text line = line
+written_of Refused text line = line
+written_of Outside [] line = line
+written_of Outside (byte ∷ text) line = fault_line (codes "Memory")
+
+-- what a run says, whose writers took a text and a line, is the line of a file
+pub record TellsFile (IsRight : Saying → Type 0) (Takes : Option (List ℕ) → Option (List ℕ) → List ℕ → Type 0) (name : List ℕ) (status : Status) (old new : Option (List ℕ)) : Type 0 where
+  pub text : List ℕ
+  pub line : List ℕ
+  pub says : Says IsRight status (Some []) (Some text) (Some []) (Some line)
+  pub takes : Takes old new (file_line name status (written_of status text line))

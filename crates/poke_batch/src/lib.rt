@@ -8,6 +8,7 @@ pub mod accept;
 pub mod ask;
 pub mod bound;
 pub mod dump;
+pub mod each;
 pub mod fault;
 pub mod file_line;
 mod hex;

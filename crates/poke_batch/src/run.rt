@@ -100,17 +100,25 @@ pub fn run_map<S: Space, O: Write, E: Write>(
         Err(refusal) => return tell_refusal(err, refusal),
     };
     match table.find(ask.name) {
-        Some(id) => map_found(alloc, &table, id, ask, space, out, err),
+        Some(id) => map_stored(
+            &table,
+            id,
+            ask,
+            &mut Store::new(alloc),
+            space,
+            out,
+            err,
+        ),
         None => refuse(err, b"NoSuchType"),
     }
 }
 
-// Maps a type of a table, and writes its value or tells its fault.
-fn map_found<S: Space, O: Write, E: Write>(
-    alloc: Global,
+/// Maps a type of a table into a store, which is emptied first, and writes its value or tells its fault.
+pub fn map_stored<S: Space, O: Write, E: Write>(
     table: &Table,
     id: TypeId,
     ask: &Ask<'_>,
+    store: &mut Store,
     space: &mut S,
     out: &mut O,
     err: &mut E,
@@ -122,12 +130,12 @@ fn map_found<S: Space, O: Write, E: Write>(
         (O.contents out.old) (O.contents out.new) (E.contents err.old) (E.contents err.new) }
     ensures keeps { Keeps (S.view space.old) (S.view space.new) }
 {
+    store.clear();
     let mut meter = Meter::new(ask.limit);
-    let mut store = Store::new(alloc);
     match map(
-        table, id, ask.order, ask.start, space, &mut meter, &mut store,
+        table, id, ask.order, ask.start, space, &mut meter, store,
     ) {
-        Ok(()) => answer(put_root(&store, table, ask.mode, out), err),
+        Ok(()) => answer(put_root(store, table, ask.mode, out), err),
         Err(fault) => tell_fault(err, fault),
     }
 }

@@ -30,6 +30,16 @@ pub enum Job {
         name: String,
         file: String,
     },
+    /// Map a type over one file after the other, as `Map` does over one, with a line for each.
+    Each {
+        at: u64,
+        order: Order,
+        limit: u64,
+        mode: Mode,
+        pickle: String,
+        name: String,
+        files: FileNames,
+    },
     /// Tell the most steps and slots that mapping a type over so many bits takes.
     Bound {
         pickle: String,
@@ -47,6 +57,15 @@ pub enum Job {
         ruler: bool,
         file: String,
     },
+}
+
+/// Where the names of many files stand.
+#[derive(Debug, Drop, PartialEq, Eq)]
+pub enum FileNames {
+    /// In the words.
+    Words(Vec<String>),
+    /// In the file of this name, or in standard input for `-`, each ended by a byte 0.
+    EndedByZero(String),
 }
 
 /// Why words are no job.
@@ -119,6 +138,7 @@ fn told(alloc: Global, error: &clap::Error) -> WordFault {
 fn read_command(alloc: Global, matches: &ArgMatches<'_>) -> Result<Job, WordFault> {
     match matches.subcommand() {
         Some(("map", found)) => read_map(alloc, found),
+        Some(("each", found)) => read_each(alloc, found),
         Some(("bound", found)) => read_bound(alloc, found),
         Some(("dump", found)) => read_dump(alloc, found),
         Some((_, found)) => read_check(alloc, found),
@@ -126,23 +146,52 @@ fn read_command(alloc: Global, matches: &ArgMatches<'_>) -> Result<Job, WordFaul
     }
 }
 
+// The order of bytes that a word names, and the default where it names none.
+fn order_of(word: &str) -> Order {
+    match word {
+        "little" => Order::Little,
+        _ => Order::Big,
+    }
+}
+
 fn read_map(alloc: Global, found: &ArgMatches<'_>) -> Result<Job, WordFault>
     ensures { IfOk result (WritesInMode (unwrap_or (first_value (found_of found.now) (codes "mode")) [])) }
 {
     let at = bits_of(found.get_str("at").unwrap_or(""))?;
-    let order = match found.get_str("endian") {
-        Some("little") => Order::Little,
-        _ => Order::Big,
-    };
     Ok(Job::Map {
         at,
-        order,
+        order: order_of(found.get_str("endian").unwrap_or("")),
         limit: found.get_one::<u64>("limit").unwrap_or(DEFAULT_LIMIT),
         mode: mode_of(found.get_str("mode").unwrap_or("")),
         pickle: word_of(alloc, found, "PICKLE")?,
         name: word_of(alloc, found, "TYPE")?,
         file: word_of(alloc, found, "FILE")?,
     })
+}
+
+fn read_each(alloc: Global, found: &ArgMatches<'_>) -> Result<Job, WordFault>
+    ensures { IfOk result (WritesInMode (unwrap_or (first_value (found_of found.now) (codes "mode")) [])) }
+{
+    Ok(Job::Each {
+        at: bits_of(found.get_str("at").unwrap_or(""))?,
+        order: order_of(found.get_str("endian").unwrap_or("")),
+        limit: found.get_one::<u64>("limit").unwrap_or(DEFAULT_LIMIT),
+        mode: mode_of(found.get_str("mode").unwrap_or("")),
+        pickle: word_of(alloc, found, "PICKLE")?,
+        name: word_of(alloc, found, "TYPE")?,
+        files: names_in(alloc, found)?,
+    })
+}
+
+fn names_in(alloc: Global, found: &ArgMatches<'_>) -> Result<FileNames, AllocError> {
+    if let Some(path) = found.get_str("files0-from") {
+        return Ok(FileNames::EndedByZero(String::from_str(alloc, path)?));
+    }
+    let mut names = Vec::new(alloc);
+    for name in found.get_strs("FILE").unwrap_or(&[]) {
+        names.push(String::from_str(alloc, name)?)?;
+    }
+    Ok(FileNames::Words(names))
 }
 
 // The mode that a word names, and the default where it names none.

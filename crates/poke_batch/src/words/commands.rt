@@ -51,6 +51,21 @@ Statuses:
   2  refused: words, an offset, the pickle or the type's name
   3  memory, a file, standard input or an output failed";
 
+const EACH_HELP: &str = "\
+The options are those of map, for each file. Each file has a line: its name, a tab, the status of its mapping, a tab, and
+the value's text or the line of its fault. In a name, \\, a tab, a line feed and other bytes outside ' ' to '~' are escaped, as \\\\,
+\\t, \\n and \\x and two digits. A fault in one file stops nothing; the status is the greatest of all.
+
+Example:
+  printf '\\001\\002\\003' > three.bin
+  echo 'type P = struct { uint<8> a; uint<16> b; };' | poke_batch each - P three.bin
+
+Statuses:
+  0  each value was written
+  1  a mapping has a fault, which its line tells
+  2  refused: words, an offset, the pickle or the type's name
+  3  memory, a file, standard input or an output failed";
+
 const BOUND_HELP: &str = "\
 Example:
   echo 'type P = struct { uint<8> a; uint<16> b; };' | poke_batch bound - P 24
@@ -89,17 +104,47 @@ pub fn program<'a>(alloc: Global) -> Result<Command<'a>, AllocError> {
         .after_help(PROGRAM_HELP)
         .subcommand_required(true)
         .subcommand(map(alloc)?)?
+        .subcommand(each(alloc)?)?
         .subcommand(bound(alloc)?)?
         .subcommand(check(alloc)?)?
         .subcommand(dump(alloc)?)
 }
 
 fn map<'a>(alloc: Global) -> Result<Command<'a>, AllocError> {
-    let orders = ["big", "little"].as_slice();
     let modes = ["flat", "tree"].as_slice();
-    Command::new(alloc, "map")
+    let command = Command::new(alloc, "map")
         .about("Maps a type over a file and prints the value")
-        .after_help(MAP_HELP)
+        .after_help(MAP_HELP);
+    with_mapping(alloc, command, modes)?.arg(file(alloc))
+}
+
+fn each<'a>(alloc: Global) -> Result<Command<'a>, AllocError> {
+    let modes = ["flat"].as_slice();
+    let files = Arg::new(alloc, "FILE")
+        .num_args(0..)
+        .required_unless_present("files0-from")?
+        .conflicts_with("files0-from")?
+        .help("The files of the bytes");
+    let names = Arg::new(alloc, "files0-from")
+        .long("files0-from")
+        .value_name("PATH")
+        .help("Read the names of the files from PATH, or from standard input for -, each ended by a byte 0");
+    let command = Command::new(alloc, "each")
+        .about("Maps a type over one file after the other and prints a line for each")
+        .after_help(EACH_HELP);
+    with_mapping(alloc, command, modes)?
+        .arg(names)?
+        .arg(files)
+}
+
+// The options of a mapping, and the pickle and the type that are mapped.
+fn with_mapping<'a>(
+    alloc: Global,
+    command: Command<'a>,
+    modes: &'a [&'a str],
+) -> Result<Command<'a>, AllocError> {
+    let orders = ["big", "little"].as_slice();
+    command
         .arg(offset(alloc, "at", "Where the value begins in FILE", "0#b"))?
         .arg(option(alloc, "endian", "ORDER", "The byte order", "big").value_parser(orders))?
         .arg(option(
@@ -112,8 +157,7 @@ fn map<'a>(alloc: Global) -> Result<Command<'a>, AllocError> {
         .value_parser(clap::value_parser!(u64)))?
         .arg(option(alloc, "mode", "MODE", "How the value is written", "flat").value_parser(modes))?
         .arg(pickle(alloc))?
-        .arg(name(alloc))?
-        .arg(file(alloc))
+        .arg(name(alloc))
 }
 
 fn bound<'a>(alloc: Global) -> Result<Command<'a>, AllocError> {

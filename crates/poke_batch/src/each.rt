@@ -1,0 +1,85 @@
+//! A type of a pickle, mapped over one file after the other, with a line for each.
+
+ghost use Rattle.std.specs.Prelude.{◌≡◌, ℕ, List, [], IfOk, OnErr};
+ghost use Rattle.std.specs.Io.KnownBytes.{Appends};
+ghost use Rattle.bit_space.specs.SpaceView.{Keeps};
+ghost use Rattle.pickle_types.specs.TypeTable.{type_named, IsSound, IsInTable};
+ghost use Rattle.poke_batch.specs.FileLine.{TellsFile, written_of};
+ghost use Rattle.poke_batch.specs.Runs.{IsAsked, MapsAs};
+ghost use Rattle.poke_batch.specs.Written.{AppendsPart};
+ghost use Rattle.poke_batch.specs.declared.status.Status.{Status};
+
+use crate::ask::Ask;
+use crate::file_line::put_file_line;
+use crate::run::map_stored;
+use crate::status::Status;
+use crate::write::WriteFault;
+use bit_space::Space;
+use pickle_map::Store;
+use pickle_types::type_table::{Table, TypeId};
+use std::alloc::Global;
+use std::io::Write;
+
+/// What is kept from file to file, so that its room serves the next: the values, and what a run wrote.
+#[derive(Drop)]
+pub struct Kept {
+    store: Store,
+    text: Vec<u8>,
+    line: Vec<u8>,
+}
+
+impl Kept {
+    /// Nothing yet, and no room.
+    pub fn new(alloc: Global) -> Kept {
+        Kept {
+            store: Store::new(alloc),
+            text: Vec::new(alloc),
+            line: Vec::new(alloc),
+        }
+    }
+}
+
+/// Maps a type of a table over a file, and writes the file's line: its name, the status of its run, and what
+/// [`run_map`](crate::run::run_map) writes of it. Gives that status.
+pub fn run_file<S: Space, W: Write>(
+    table: &Table,
+    id: TypeId,
+    ask: &Ask<'_>,
+    kept: &mut Kept,
+    name: &[u8],
+    space: &mut S,
+    w: &mut W,
+) -> Result<Status, WriteFault>
+    requires sound { IsSound table.now }
+    requires known { IsInTable table.now id }
+    ensures ok { (pickle : List ℕ) → IsAsked pickle ask.now.name.now (type_named table.now id)
+        → IfOk result (λ status. TellsFile (MapsAs pickle ask.now (S.view space.old) (S.view space.new)) Appends name.now status (W.contents w.old) (W.contents w.new)) }
+    ensures err { (pickle : List ℕ) → IsAsked pickle ask.now.name.now (type_named table.now id)
+        → OnErr result ((status : Status) × TellsFile (MapsAs pickle ask.now (S.view space.old) (S.view space.new)) AppendsPart name.now status (W.contents w.old) (W.contents w.new)) }
+    ensures keeps { Keeps (S.view space.old) (S.view space.new) }
+{
+    kept.text.clear();
+    kept.line.clear();
+    let status = map_stored(
+        table,
+        id,
+        ask,
+        &mut kept.store,
+        space,
+        &mut kept.text,
+        &mut kept.line,
+    );
+    put_file_line(w, name, status, written(status, &kept.text, &kept.line))?;
+    Ok(status)
+}
+
+// What a run wrote that ended with a status: its text, or its line. A text for which no memory was left is told so.
+fn written<'a>(status: Status, text: &'a [u8], line: &'a [u8]) -> &'a [u8]
+    ensures { result.now ≡ written_of status text.now line.now }
+{
+    match status {
+        Status::Done => text,
+        Status::Outside if !text.is_empty() => b"fault Memory\n",
+        _ => line,
+    }
+}
