@@ -1,4 +1,5 @@
 //! Each job, over its files and a writer for its answer.
+use crate::each::run_each;
 use crate::files::{FileFault, open_space, read_pickle_of};
 use poke_batch::ask::Ask;
 use poke_batch::dump::{DumpFault, dump};
@@ -64,6 +65,25 @@ fn run_job<R: Files<File = File> + Input + AllocGlobal, O: Write, E: Write>(
             let pickle = read_pickle_of(rt, pickle.as_str())?;
             let mut space = open_space(rt, file.as_str())?;
             Ok(run_map(rt.alloc(), &pickle, &ask, &mut space, out, err))
+        }
+        Job::Each {
+            at,
+            order,
+            limit,
+            mode,
+            pickle,
+            name,
+            files,
+        } => {
+            let ask = Ask {
+                name: name.as_bytes(),
+                start: at,
+                order,
+                limit,
+                mode,
+            };
+            let pickle = read_pickle_of(rt, pickle.as_str())?;
+            Ok(run_each(rt, &pickle, &ask, &files, out, err))
         }
         Job::Bound { pickle, name, bits } => {
             let pickle = read_pickle_of(rt, pickle.as_str())?;

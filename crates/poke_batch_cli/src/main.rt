@@ -1,6 +1,7 @@
 //! The program `poke_batch`: its words, its files and its standard streams. What it writes comes from the library of that name.
 #![tactic(auto)]
 
+mod each;
 mod files;
 mod jobs;
 

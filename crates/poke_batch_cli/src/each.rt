@@ -1,0 +1,187 @@
+//! A type mapped over many files, whose names stand in the words or in a list.
+ghost use Rattle.pickle_types.specs.TypeTable.{IsSound, IsInTable};
+
+use crate::files::{FileFault, open_space};
+use arrayvec::ArrayVec;
+use pickle_types::type_table::{Table, TypeId};
+use poke_batch::accept::{accept, tell_refusal};
+use poke_batch::ask::Ask;
+use poke_batch::each::{Kept, run_file};
+use poke_batch::file_line::put_file_line;
+use poke_batch::status::Status;
+use poke_batch::tell::{fail, refuse};
+use poke_batch::words::FileNames;
+use poke_batch::write::WriteFault;
+use std::fs::File;
+use std::io::{BufRead, BufReader, ErrorKind, Input, Read, Write};
+use std::rt::Files;
+
+/// Why a list of files came to no end.
+#[derive(Clone, Copy, Debug, Drop, PartialEq, Eq)]
+enum ListFault {
+    /// The list was not opened, or not read.
+    Read,
+    /// There was no memory for a name.
+    Memory,
+    /// A line was not written.
+    Write,
+}
+
+impl ListFault {
+    fn kind(self) -> &'static [u8] {
+        match self {
+            ListFault::Read => b"Read",
+            ListFault::Memory => b"Memory",
+            ListFault::Write => b"Write",
+        }
+    }
+}
+
+impl From<WriteFault> for ListFault {
+    fn from(_fault: WriteFault) -> ListFault {
+        ListFault::Write
+    }
+}
+
+/// Maps a type over one file after the other, and writes a line for each. The status is the greatest of all.
+pub fn run_each<R: Files<File = File> + Input + AllocGlobal, O: Write, E: Write>(
+    rt: &R,
+    pickle: &[u8],
+    ask: &Ask<'_>,
+    files: &FileNames,
+    out: &mut O,
+    err: &mut E,
+) -> Status {
+    let table = match accept(rt.alloc(), pickle) {
+        Ok(table) => table,
+        Err(refusal) => return tell_refusal(err, refusal),
+    };
+    let Some(id) = table.find(ask.name) else {
+        return refuse(err, b"NoSuchType");
+    };
+    match run_files(rt, &table, id, ask, files, out) {
+        Ok(status) => status,
+        Err(fault) => fail(err, fault.kind()),
+    }
+}
+
+fn run_files<R: Files<File = File> + Input + AllocGlobal, O: Write>(
+    rt: &R,
+    table: &Table,
+    id: TypeId,
+    ask: &Ask<'_>,
+    files: &FileNames,
+    out: &mut O,
+) -> Result<Status, ListFault>
+    requires sound { IsSound table.now }
+    requires known { IsInTable table.now id }
+{
+    match files {
+        FileNames::Words(names) => run_words(rt, table, id, ask, names.as_slice(), out),
+        FileNames::EndedByZero(path) if path.as_str() == "-" => {
+            run_list(rt, table, id, ask, rt.reader(), out)
+        }
+        FileNames::EndedByZero(path) => match File::open(rt, path.as_str()) {
+            Ok(file) => run_list(rt, table, id, ask, file, out),
+            Err(_) => Err(ListFault::Read),
+        },
+    }
+}
+
+// Maps a type over the files that words name.
+fn run_words<R: Files<File = File> + Input + AllocGlobal, O: Write>(
+    rt: &R,
+    table: &Table,
+    id: TypeId,
+    ask: &Ask<'_>,
+    names: &[String],
+    out: &mut O,
+) -> Result<Status, ListFault>
+    requires sound { IsSound table.now }
+    requires known { IsInTable table.now id }
+{
+    let mut kept = Kept::new(rt.alloc());
+    let mut greatest = Status::Done;
+    for name in names {
+        let status = run_name(rt, table, id, ask, &mut kept, name.as_bytes(), out)?;
+        greatest = greater(greatest, status);
+    }
+    Ok(greatest)
+}
+
+// Maps a type over the files that a list names, each name ended by a byte 0; the last may lack it.
+fn run_list<R: Files<File = File> + Input + AllocGlobal, L: Read + Drop, O: Write>(
+    rt: &R,
+    table: &Table,
+    id: TypeId,
+    ask: &Ask<'_>,
+    list: L,
+    out: &mut O,
+) -> Result<Status, ListFault>
+    requires sound { IsSound table.now }
+    requires known { IsInTable table.now id }
+{
+    let Ok(mut list) = BufReader::new(rt.alloc(), list) else {
+        return Err(ListFault::Memory);
+    };
+    let mut kept = Kept::new(rt.alloc());
+    let mut name = Vec::new(rt.alloc());
+    let mut greatest = Status::Done;
+    // (a loop whose end the list decides: no list has as many names)
+    for _ in 0..u64::MAX {
+        if !read_name(&mut list, &mut name)? {
+            break;
+        }
+        let status = run_name(rt, table, id, ask, &mut kept, &name, out)?;
+        greatest = greater(greatest, status);
+    }
+    Ok(greatest)
+}
+
+// Reads the next name of a list, without the byte 0 that ends it. There is none at the list's end.
+fn read_name<L: BufRead>(list: &mut L, name: &mut Vec<u8>) -> Result<bool, ListFault> {
+    name.clear();
+    match list.read_until(0, name) {
+        Ok(0) => Ok(false),
+        Ok(_) => {
+            if name.as_slice().last() == Some(&0) {
+                name.pop();
+            }
+            Ok(true)
+        }
+        Err(error) if error.kind() == ErrorKind::OutOfMemory => Err(ListFault::Memory),
+        Err(_) => Err(ListFault::Read),
+    }
+}
+
+// Maps a type over a file, and writes its line. A file that can't be opened has a line too.
+fn run_name<R: Files<File = File> + AllocGlobal, O: Write>(
+    rt: &R,
+    table: &Table,
+    id: TypeId,
+    ask: &Ask<'_>,
+    kept: &mut Kept,
+    name: &[u8],
+    out: &mut O,
+) -> Result<Status, WriteFault>
+    requires sound { IsSound table.now }
+    requires known { IsInTable table.now id }
+{
+    let opened = match str::from_utf8(name) {
+        Ok(path) => open_space(rt, path),
+        Err(_) => Err(FileFault::Open),
+    };
+    match opened {
+        Ok(mut space) => run_file(table, id, ask, kept, name, &mut space, out),
+        Err(fault) => {
+            let mut line: ArrayVec<u8, 128> = ArrayVec::new();
+            let status = fail(&mut line, fault.kind());
+            put_file_line(out, name, status, line.as_slice())?;
+            Ok(status)
+        }
+    }
+}
+
+fn greater(a: Status, b: Status) -> Status {
+    if (a as u8) < (b as u8) { b } else { a }
+}
