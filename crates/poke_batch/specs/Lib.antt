@@ -15,4 +15,5 @@ pub mod Lines
 pub mod Told
 pub mod FaultLines
 pub mod Runs
+pub mod RunsUnder
 pub mod Accepted

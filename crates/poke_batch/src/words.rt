@@ -10,6 +10,7 @@ ghost use Rattle.poke_batch.specs.declared.words.WordFault.TheVariants.{Memory};
 
 use crate::mode::Mode;
 use crate::offset_word::offset_word;
+use crate::terms::Terms;
 use bit_space::Order;
 use clap::ArgMatches;
 use clap::error::ErrorKind;
@@ -26,6 +27,17 @@ pub enum Job {
         order: Order,
         limit: u64,
         mode: Mode,
+        pickle: String,
+        name: String,
+        file: String,
+    },
+    /// Map a type over a file, from a bit on, and take the value where it meets the terms. At least one is asked for.
+    MapUnder {
+        at: u64,
+        order: Order,
+        limit: u64,
+        mode: Mode,
+        terms: Terms,
         pickle: String,
         name: String,
         file: String,
@@ -134,15 +146,41 @@ fn read_map(alloc: Global, found: &ArgMatches<'_>) -> Result<Job, WordFault>
         Some("little") => Order::Little,
         _ => Order::Big,
     };
-    Ok(Job::Map {
+    let limit = found.get_one::<u64>("limit").unwrap_or(DEFAULT_LIMIT);
+    let mode = mode_of(found.get_str("mode").unwrap_or(""));
+    let terms = terms_of(found);
+    let pickle = word_of(alloc, found, "PICKLE")?;
+    let name = word_of(alloc, found, "TYPE")?;
+    let file = word_of(alloc, found, "FILE")?;
+    if terms == Terms::none() {
+        return Ok(Job::Map {
+            at,
+            order,
+            limit,
+            mode,
+            pickle,
+            name,
+            file,
+        });
+    }
+    Ok(Job::MapUnder {
         at,
         order,
-        limit: found.get_one::<u64>("limit").unwrap_or(DEFAULT_LIMIT),
-        mode: mode_of(found.get_str("mode").unwrap_or("")),
-        pickle: word_of(alloc, found, "PICKLE")?,
-        name: word_of(alloc, found, "TYPE")?,
-        file: word_of(alloc, found, "FILE")?,
+        limit,
+        mode,
+        terms,
+        pickle,
+        name,
+        file,
     })
+}
+
+// The terms that options ask for.
+fn terms_of(found: &ArgMatches<'_>) -> Terms {
+    Terms {
+        whole: found.get_flag("whole"),
+        most_output: found.get_one::<u64>("max-output"),
+    }
 }
 
 // The mode that a word names, and the default where it names none.
