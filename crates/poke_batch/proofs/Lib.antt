@@ -13,6 +13,7 @@ pub mod ShortTexts
 pub mod Refusing
 pub mod Sayings
 pub mod Mappings
+pub mod UnderTerms
 mod LineRows
 mod Refused
 mod ValueTextRows

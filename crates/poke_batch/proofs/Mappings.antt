@@ -1,5 +1,5 @@
 -- Laws of what a mapping says.
-use Rattle.std.proofs.Common.{◌≡◌, ◌≢◌, ◌+◌, ◌-◌, ◌*◌, ◌<◌, ◌∙◌, ℕ, List, Some, Result, Ok, Err, refl, sym, ap, subst, arith}
+use Rattle.std.proofs.Common.{◌≡◌, ◌≢◌, ◌+◌, ◌-◌, ◌*◌, ◌<◌, ◌∙◌, ℕ, List, Option, Some, Result, Ok, Err, refl, sym, ap, subst, arith}
 use Rattle.std.proofs.lemmas.Option.{same_Some}
 use Rattle.bit_space.specs.declared.order.Order.{Order}
 use Rattle.bit_space.specs.Bits.{bits_of}
@@ -11,11 +11,10 @@ use Rattle.pickle_types.specs.Names.{Names, find_type}
 use Rattle.pickle_types.specs.Types.{PokeType}
 use Rattle.pickle_map.specs.Answer.{Answer}
 use Rattle.pickle_map.specs.Clauses.{FaultAt}
-use Rattle.pickle_map.specs.Fits.{Fits}
 use Rattle.pickle_map.specs.Mapped.{FaultMeans, EndsRun, Gives}
 use Rattle.pickle_map.specs.Shown.{kept}
 use Rattle.pickle_map.specs.Slots.{Held}
-use Rattle.pickle_map.specs.Values.{Value, no_values, value_at}
+use Rattle.pickle_map.specs.Values.{Value, value_at}
 use Rattle.pickle_map.specs.declared.faults.MapFaultKind.{MapFaultKind}
 use Rattle.pickle_map.specs.declared.faults.MapFaultKind.TheVariants as fault
 use Rattle.poke_batch.specs.Accepted.{IsAccepted}
@@ -23,9 +22,8 @@ use Rattle.poke_batch.specs.FaultLines.{fault_kind, fault_saying}
 use Rattle.poke_batch.specs.declared.ask.Ask.{Ask}
 use Rattle.poke_batch.specs.declared.status.Status.TheVariants.{Fault}
 use Rattle.poke_batch.specs.Lines.{fault_at_line}
-use Rattle.poke_batch.specs.Runs.{HasAnswer, IsAsked, MapsAs, value, stops, device, no_memory}
-use Rattle.poke_batch.specs.Told.{Text, Line}
-use Rattle.poke_batch.specs.Printed.{printed}
+use Rattle.poke_batch.specs.Runs.{HasAnswer, IsAsked, MapsAs, stops, device, no_memory}
+use Rattle.poke_batch.specs.Told.{Line}
 
 pub asked : {pickle name : List ℕ} {declarations : List DeclarationTree} {types : Names} {type : PokeType} → IsAccepted pickle declarations types → find_type name types ≡ Some type → IsAsked pickle name type
 asked a f = record { declarations = _; types = _; accepted = a; found = f }
@@ -97,15 +95,14 @@ fault_says pickle ask before after type at most used taken k j fault.Memory same
 pub root_given : {nodes : List Node} {store : Held} {P : Value → Type 0} (g : Gives nodes store P) → value_at (kept nodes store) 0 0 ≡ Some g.value
 root_given g = ap (λ levels. value_at levels 0 0) g.keeps
 
--- what a mapping says of its value
-pub value_right : (pickle : List ℕ) (ask : Ask) (before after : SpaceView) (type : PokeType) (most used k j : ℕ) (nodes : List Node) (store : Held)
-    → most ≡ ask.limit → used ≡ 0 → IsAsked pickle ask.name.now type
-    → ((bytes : List ℕ) → before.bytes ≡ Some bytes → Gives nodes store (λ v. Answer (bits_of bytes) type ask.order ask.start (most - used) (Ok v) k j))
-    → (g : Gives nodes store (λ v. Fits (8 * before.len) type no_values ask.start v))
-    → MapsAs pickle ask before after (Text (printed ask.mode g.value))
-value_right pickle ask before after type most used k j nodes store same none a means g =
-    value a (λ bytes known.
-    let m = means bytes known in
-    let e = same_Some m.value g.value (sym (root_given m) ∙ root_given g) in
-    has_answer bytes type ask.order ask.start ask.limit most used (Ok g.value) k j same none
-    (subst (λ v. Answer (bits_of bytes) type ask.order ask.start (most - used) (Ok v) k j) e m.holds)) g.holds
+-- the answer that a mapping has by its value
+pub value_answers : (type : PokeType) (order : Order) (start limit most used k j : ℕ) (known : Option (List ℕ)) (nodes : List Node) (store : Held) (v : Value)
+    → most ≡ limit → used ≡ 0
+    → ((bytes : List ℕ) → known ≡ Some bytes → Gives nodes store (λ v. Answer (bits_of bytes) type order start (most - used) (Ok v) k j))
+    → value_at (kept nodes store) 0 0 ≡ Some v
+    → (bytes : List ℕ) → known ≡ Some bytes → HasAnswer bytes type order start limit (Ok v)
+value_answers type order start limit most used k j known nodes store v same none means root bytes is =
+    let m = means bytes is in
+    let e = same_Some m.value v (sym (root_given m) ∙ root) in
+    has_answer bytes type order start limit most used (Ok v) k j same none
+    (subst (λ v. Answer (bits_of bytes) type order start (most - used) (Ok v) k j) e m.holds)

@@ -16,4 +16,5 @@ pub mod Told
 pub mod FaultLines
 pub mod FileLine
 pub mod Runs
+pub mod RunsUnder
 pub mod Accepted

@@ -5,7 +5,8 @@ ghost use Rattle.std.specs.Io.KnownBytes.{Appends};
 ghost use Rattle.bit_space.specs.SpaceView.{Keeps};
 ghost use Rattle.pickle_types.specs.TypeTable.{type_named, IsSound, IsInTable};
 ghost use Rattle.poke_batch.specs.FileLine.{TellsFile, written_of};
-ghost use Rattle.poke_batch.specs.Runs.{IsAsked, MapsAs};
+ghost use Rattle.poke_batch.specs.Runs.{IsAsked};
+ghost use Rattle.poke_batch.specs.RunsUnder.{MapsUnder};
 ghost use Rattle.poke_batch.specs.Written.{AppendsPart};
 ghost use Rattle.poke_batch.specs.declared.status.Status.{Status};
 
@@ -13,6 +14,7 @@ use crate::ask::Ask;
 use crate::file_line::put_file_line;
 use crate::run::map_stored;
 use crate::status::Status;
+use crate::terms::Terms;
 use crate::write::WriteFault;
 use bit_space::Space;
 use pickle_map::Store;
@@ -23,6 +25,7 @@ use std::io::Write;
 /// What is kept from file to file, so that its room serves the next: the values, and what a run wrote.
 #[derive(Drop)]
 pub struct Kept {
+    alloc: Global,
     store: Store,
     text: Vec<u8>,
     line: Vec<u8>,
@@ -32,6 +35,7 @@ impl Kept {
     /// Nothing yet, and no room.
     pub fn new(alloc: Global) -> Kept {
         Kept {
+            alloc,
             store: Store::new(alloc),
             text: Vec::new(alloc),
             line: Vec::new(alloc),
@@ -40,11 +44,12 @@ impl Kept {
 }
 
 /// Maps a type of a table over a file, and writes the file's line: its name, the status of its run, and what
-/// [`run_map`](crate::run::run_map) writes of it. Gives that status.
+/// [`run_map_under`](crate::run::run_map_under) writes of it. Gives that status.
 pub fn run_file<S: Space, W: Write>(
     table: &Table,
     id: TypeId,
     ask: &Ask<'_>,
+    terms: &Terms,
     kept: &mut Kept,
     name: &[u8],
     space: &mut S,
@@ -53,17 +58,19 @@ pub fn run_file<S: Space, W: Write>(
     requires sound { IsSound table.now }
     requires known { IsInTable table.now id }
     ensures ok { (pickle : List ℕ) → IsAsked pickle ask.now.name.now (type_named table.now id)
-        → IfOk result (λ status. TellsFile (MapsAs pickle ask.now (S.view space.old) (S.view space.new)) Appends name.now status (W.contents w.old) (W.contents w.new)) }
+        → IfOk result (λ status. TellsFile (MapsUnder pickle ask.now terms.now (S.view space.old) (S.view space.new)) Appends name.now status (W.contents w.old) (W.contents w.new)) }
     ensures err { (pickle : List ℕ) → IsAsked pickle ask.now.name.now (type_named table.now id)
-        → OnErr result ((status : Status) × TellsFile (MapsAs pickle ask.now (S.view space.old) (S.view space.new)) AppendsPart name.now status (W.contents w.old) (W.contents w.new)) }
+        → OnErr result ((status : Status) × TellsFile (MapsUnder pickle ask.now terms.now (S.view space.old) (S.view space.new)) AppendsPart name.now status (W.contents w.old) (W.contents w.new)) }
     ensures keeps { Keeps (S.view space.old) (S.view space.new) }
 {
     kept.text.clear();
     kept.line.clear();
     let status = map_stored(
+        kept.alloc,
         table,
         id,
         ask,
+        terms,
         &mut kept.store,
         space,
         &mut kept.text,

@@ -7,6 +7,7 @@
 pub mod accept;
 pub mod ask;
 pub mod bound;
+pub mod draft;
 pub mod dump;
 pub mod each;
 pub mod fault;
@@ -20,5 +21,7 @@ pub mod print;
 pub mod run;
 pub mod status;
 pub mod tell;
+mod tell_value;
+pub mod terms;
 pub mod words;
 pub mod write;

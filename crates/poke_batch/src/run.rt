@@ -1,24 +1,24 @@
 //! The runs: from a pickle's bytes to a text or a line.
 
-ghost use Rattle.std.specs.Prelude.{◌≡◌, ℕ, ◌≤◌, List, Some, IsSome, OnOk, OnErr};
+ghost use Rattle.std.specs.Prelude.{◌≡◌, ℕ, ◌*◌, ◌≤◌, List, Some, IsSome, OnOk, OnErr};
 ghost use Rattle.std.specs.Io.KnownBytes.{Appends};
 ghost use Rattle.bit_space.specs.SpaceView.{Keeps};
 ghost use Rattle.pickle_types.specs.TypeTable.{nodes_of, type_named, IsSound, IsInTable};
 ghost use Rattle.pickle_map.specs.Shown.{kept};
-ghost use Rattle.pickle_map.specs.Values.{Value, value_at};
+ghost use Rattle.pickle_map.specs.Values.{Value, value_at, start_of, end_of};
 ghost use Rattle.poke_batch.specs.Told.{Says};
 ghost use Rattle.poke_batch.specs.Runs.{ChecksAs, BoundsAs, IsAsked, MapsAs, types_text};
-ghost use Rattle.poke_batch.specs.Printed.{printed};
+ghost use Rattle.poke_batch.specs.RunsUnder.{MapsUnder, SaysIt, value_saying};
 ghost use Rattle.poke_batch.specs.Written.{AppendsPart};
 
 use crate::accept::{accept, tell_refusal};
 use crate::ask::Ask;
 use crate::bound::{put_bounds, put_line};
 use crate::fault::tell_fault;
-use crate::mode::Mode;
-use crate::print::print;
 use crate::status::Status;
 use crate::tell::{answer, refuse};
+use crate::tell_value::tell_value;
+use crate::terms::Terms;
 use crate::write::WriteFault;
 use bit_space::{Meter, Space};
 use pickle_map::{Store, map};
@@ -95,15 +95,38 @@ pub fn run_map<S: Space, O: Write, E: Write>(
         (O.contents out.old) (O.contents out.new) (E.contents err.old) (E.contents err.new) }
     ensures keeps { Keeps (S.view space.old) (S.view space.new) }
 {
+    run_map_under(alloc, pickle, ask, &Terms::none(), space, out, err)
+}
+
+/// What [`run_map`] does, for a value that meets the terms. Of one that doesn't, nothing is written: the line tells the first
+/// term that it doesn't meet.
+///
+/// A value that ends before the file's last bit, where it has to end there, is told as `Left` at the first bit behind it; one
+/// whose text has more bytes than the most is told as `Output` at the mapping's start. A mapping that has a fault tells that.
+pub fn run_map_under<S: Space, O: Write, E: Write>(
+    alloc: Global,
+    pickle: &[u8],
+    ask: &Ask<'_>,
+    terms: &Terms,
+    space: &mut S,
+    out: &mut O,
+    err: &mut E,
+) -> Status
+    ensures says { Says (MapsUnder pickle.now ask.now terms.now (S.view space.old) (S.view space.new)) result
+        (O.contents out.old) (O.contents out.new) (E.contents err.old) (E.contents err.new) }
+    ensures keeps { Keeps (S.view space.old) (S.view space.new) }
+{
     let table = match accept(alloc, pickle) {
         Ok(table) => table,
         Err(refusal) => return tell_refusal(err, refusal),
     };
     match table.find(ask.name) {
         Some(id) => map_stored(
+            alloc,
             &table,
             id,
             ask,
+            terms,
             &mut Store::new(alloc),
             space,
             out,
@@ -115,9 +138,11 @@ pub fn run_map<S: Space, O: Write, E: Write>(
 
 /// Maps a type of a table into a store, which is emptied first, and writes its value or tells its fault.
 pub fn map_stored<S: Space, O: Write, E: Write>(
+    alloc: Global,
     table: &Table,
     id: TypeId,
     ask: &Ask<'_>,
+    terms: &Terms,
     store: &mut Store,
     space: &mut S,
     out: &mut O,
@@ -126,30 +151,39 @@ pub fn map_stored<S: Space, O: Write, E: Write>(
     requires sound { IsSound table.now }
     requires known { IsInTable table.now id }
     ensures says { (pickle : List ℕ) → IsAsked pickle ask.now.name.now (type_named table.now id)
-        → Says (MapsAs pickle ask.now (S.view space.old) (S.view space.new)) result
+        → Says (MapsUnder pickle ask.now terms.now (S.view space.old) (S.view space.new)) result
         (O.contents out.old) (O.contents out.new) (E.contents err.old) (E.contents err.new) }
     ensures keeps { Keeps (S.view space.old) (S.view space.new) }
 {
     store.clear();
+    let bytes = space.len();
     let mut meter = Meter::new(ask.limit);
-    match map(
-        table, id, ask.order, ask.start, space, &mut meter, store,
-    ) {
-        Ok(()) => answer(put_root(store, table, ask.mode, out), err),
+    match map(table, id, ask.order, ask.start, space, &mut meter, store) {
+        Ok(()) => tell_root(alloc, store, table, ask, terms, bytes, out, err),
         Err(fault) => tell_fault(err, fault),
     }
 }
 
-// Writes the value that a store holds.
-fn put_root<W: Write>(store: &Store, table: &Table, mode: Mode, w: &mut W) -> Result<(), WriteFault>
+// Says what the value that a store holds has to say, mapped from a file of so many bytes.
+fn tell_root<O: Write, E: Write>(
+    alloc: Global,
+    store: &Store,
+    table: &Table,
+    ask: &Ask<'_>,
+    terms: &Terms,
+    bytes: u64,
+    out: &mut O,
+    err: &mut E,
+) -> Status
     requires held { IsSome (value_at (kept (nodes_of table.now) store.now) 0 0) }
-    ensures ok { (value : Value) → value_at (kept (nodes_of table.now) store.now) 0 0 ≡ Some value
-        → OnOk result (Appends (W.contents w.old) (W.contents w.new) (printed mode value)) }
-    ensures err { (value : Value) → value_at (kept (nodes_of table.now) store.now) 0 0 ≡ Some value
-        → OnErr result (AppendsPart (W.contents w.old) (W.contents w.new) (printed mode value)) }
+    requires forward { (value : Value) → value_at (kept (nodes_of table.now) store.now) 0 0 ≡ Some value
+        → start_of value ≤ end_of value }
+    ensures { (value : Value) → value_at (kept (nodes_of table.now) store.now) 0 0 ≡ Some value
+        → Says (SaysIt (value_saying ask.now terms.now (8 * bytes) value)) result
+        (O.contents out.old) (O.contents out.new) (E.contents err.old) (E.contents err.new) }
 {
     match store.root(table) {
-        Some(value) => print(value, mode, w),
+        Some(value) => tell_value(alloc, value, ask, terms, 8 * u128::from(bytes), out, err),
         None => unreachable!(),
     }
 }

@@ -10,6 +10,7 @@ ghost use Rattle.poke_batch.specs.declared.words.WordFault.TheVariants.{Memory};
 
 use crate::mode::Mode;
 use crate::offset_word::offset_word;
+use crate::terms::Terms;
 use bit_space::Order;
 use clap::ArgMatches;
 use clap::error::ErrorKind;
@@ -30,12 +31,24 @@ pub enum Job {
         name: String,
         file: String,
     },
-    /// Map a type over one file after the other, as `Map` does over one, with a line for each.
+    /// Map a type over a file, from a bit on, and take the value where it meets the terms. At least one is asked for.
+    MapUnder {
+        at: u64,
+        order: Order,
+        limit: u64,
+        mode: Mode,
+        terms: Terms,
+        pickle: String,
+        name: String,
+        file: String,
+    },
+    /// Map a type over one file after the other, with a line for each.
     Each {
         at: u64,
         order: Order,
         limit: u64,
         mode: Mode,
+        terms: Terms,
         pickle: String,
         name: String,
         files: FileNames,
@@ -158,14 +171,33 @@ fn read_map(alloc: Global, found: &ArgMatches<'_>) -> Result<Job, WordFault>
     ensures { IfOk result (WritesInMode (unwrap_or (first_value (found_of found.now) (codes "mode")) [])) }
 {
     let at = bits_of(found.get_str("at").unwrap_or(""))?;
-    Ok(Job::Map {
+    let order = order_of(found.get_str("endian").unwrap_or(""));
+    let limit = found.get_one::<u64>("limit").unwrap_or(DEFAULT_LIMIT);
+    let mode = mode_of(found.get_str("mode").unwrap_or(""));
+    let terms = terms_of(found);
+    let pickle = word_of(alloc, found, "PICKLE")?;
+    let name = word_of(alloc, found, "TYPE")?;
+    let file = word_of(alloc, found, "FILE")?;
+    if terms == Terms::none() {
+        return Ok(Job::Map {
+            at,
+            order,
+            limit,
+            mode,
+            pickle,
+            name,
+            file,
+        });
+    }
+    Ok(Job::MapUnder {
         at,
-        order: order_of(found.get_str("endian").unwrap_or("")),
-        limit: found.get_one::<u64>("limit").unwrap_or(DEFAULT_LIMIT),
-        mode: mode_of(found.get_str("mode").unwrap_or("")),
-        pickle: word_of(alloc, found, "PICKLE")?,
-        name: word_of(alloc, found, "TYPE")?,
-        file: word_of(alloc, found, "FILE")?,
+        order,
+        limit,
+        mode,
+        terms,
+        pickle,
+        name,
+        file,
     })
 }
 
@@ -177,6 +209,7 @@ fn read_each(alloc: Global, found: &ArgMatches<'_>) -> Result<Job, WordFault>
         order: order_of(found.get_str("endian").unwrap_or("")),
         limit: found.get_one::<u64>("limit").unwrap_or(DEFAULT_LIMIT),
         mode: mode_of(found.get_str("mode").unwrap_or("")),
+        terms: terms_of(found),
         pickle: word_of(alloc, found, "PICKLE")?,
         name: word_of(alloc, found, "TYPE")?,
         files: names_in(alloc, found)?,
@@ -192,6 +225,14 @@ fn names_in(alloc: Global, found: &ArgMatches<'_>) -> Result<FileNames, AllocErr
         names.push(String::from_str(alloc, name)?)?;
     }
     Ok(FileNames::Words(names))
+}
+
+// The terms that options ask for.
+fn terms_of(found: &ArgMatches<'_>) -> Terms {
+    Terms {
+        whole: found.get_flag("whole"),
+        most_output: found.get_one::<u64>("max-output"),
+    }
 }
 
 // The mode that a word names, and the default where it names none.

@@ -10,6 +10,7 @@ use poke_batch::each::{Kept, run_file};
 use poke_batch::file_line::put_file_line;
 use poke_batch::status::Status;
 use poke_batch::tell::{fail, refuse};
+use poke_batch::terms::Terms;
 use poke_batch::words::FileNames;
 use poke_batch::write::WriteFault;
 use std::fs::File;
@@ -48,6 +49,7 @@ pub fn run_each<R: Files<File = File> + Input + AllocGlobal, O: Write, E: Write>
     rt: &R,
     pickle: &[u8],
     ask: &Ask<'_>,
+    terms: &Terms,
     files: &FileNames,
     out: &mut O,
     err: &mut E,
@@ -59,7 +61,7 @@ pub fn run_each<R: Files<File = File> + Input + AllocGlobal, O: Write, E: Write>
     let Some(id) = table.find(ask.name) else {
         return refuse(err, b"NoSuchType");
     };
-    match run_files(rt, &table, id, ask, files, out) {
+    match run_files(rt, &table, id, ask, terms, files, out) {
         Ok(status) => status,
         Err(fault) => fail(err, fault.kind()),
     }
@@ -70,6 +72,7 @@ fn run_files<R: Files<File = File> + Input + AllocGlobal, O: Write>(
     table: &Table,
     id: TypeId,
     ask: &Ask<'_>,
+    terms: &Terms,
     files: &FileNames,
     out: &mut O,
 ) -> Result<Status, ListFault>
@@ -77,12 +80,12 @@ fn run_files<R: Files<File = File> + Input + AllocGlobal, O: Write>(
     requires known { IsInTable table.now id }
 {
     match files {
-        FileNames::Words(names) => run_words(rt, table, id, ask, names.as_slice(), out),
+        FileNames::Words(names) => run_words(rt, table, id, ask, terms, names.as_slice(), out),
         FileNames::EndedByZero(path) if path.as_str() == "-" => {
-            run_list(rt, table, id, ask, rt.reader(), out)
+            run_list(rt, table, id, ask, terms, rt.reader(), out)
         }
         FileNames::EndedByZero(path) => match File::open(rt, path.as_str()) {
-            Ok(file) => run_list(rt, table, id, ask, file, out),
+            Ok(file) => run_list(rt, table, id, ask, terms, file, out),
             Err(_) => Err(ListFault::Read),
         },
     }
@@ -94,6 +97,7 @@ fn run_words<R: Files<File = File> + Input + AllocGlobal, O: Write>(
     table: &Table,
     id: TypeId,
     ask: &Ask<'_>,
+    terms: &Terms,
     names: &[String],
     out: &mut O,
 ) -> Result<Status, ListFault>
@@ -103,7 +107,7 @@ fn run_words<R: Files<File = File> + Input + AllocGlobal, O: Write>(
     let mut kept = Kept::new(rt.alloc());
     let mut greatest = Status::Done;
     for name in names {
-        let status = run_name(rt, table, id, ask, &mut kept, name.as_bytes(), out)?;
+        let status = run_name(rt, table, id, ask, terms, &mut kept, name.as_bytes(), out)?;
         greatest = greater(greatest, status);
     }
     Ok(greatest)
@@ -115,6 +119,7 @@ fn run_list<R: Files<File = File> + Input + AllocGlobal, L: Read + Drop, O: Writ
     table: &Table,
     id: TypeId,
     ask: &Ask<'_>,
+    terms: &Terms,
     list: L,
     out: &mut O,
 ) -> Result<Status, ListFault>
@@ -132,7 +137,7 @@ fn run_list<R: Files<File = File> + Input + AllocGlobal, L: Read + Drop, O: Writ
         if !read_name(&mut list, &mut name)? {
             break;
         }
-        let status = run_name(rt, table, id, ask, &mut kept, &name, out)?;
+        let status = run_name(rt, table, id, ask, terms, &mut kept, &name, out)?;
         greatest = greater(greatest, status);
     }
     Ok(greatest)
@@ -160,6 +165,7 @@ fn run_name<R: Files<File = File> + AllocGlobal, O: Write>(
     table: &Table,
     id: TypeId,
     ask: &Ask<'_>,
+    terms: &Terms,
     kept: &mut Kept,
     name: &[u8],
     out: &mut O,
@@ -172,7 +178,7 @@ fn run_name<R: Files<File = File> + AllocGlobal, O: Write>(
         Err(_) => Err(FileFault::Open),
     };
     match opened {
-        Ok(mut space) => run_file(table, id, ask, kept, name, &mut space, out),
+        Ok(mut space) => run_file(table, id, ask, terms, kept, name, &mut space, out),
         Err(fault) => {
             let mut line: ArrayVec<u8, 128> = ArrayVec::new();
             let status = fail(&mut line, fault.kind());

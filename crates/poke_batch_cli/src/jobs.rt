@@ -3,9 +3,10 @@ use crate::each::run_each;
 use crate::files::{FileFault, open_space, read_pickle_of};
 use poke_batch::ask::Ask;
 use poke_batch::dump::{DumpFault, dump};
-use poke_batch::run::{run_bound, run_check, run_map};
+use poke_batch::run::{run_bound, run_check, run_map_under};
 use poke_batch::status::Status;
 use poke_batch::tell::fail;
+use poke_batch::terms::Terms;
 use poke_batch::words::Job;
 use std::fs::File;
 use std::io::{BufWriter, Input, Write};
@@ -62,15 +63,33 @@ fn run_job<R: Files<File = File> + Input + AllocGlobal, O: Write, E: Write>(
                 limit,
                 mode,
             };
-            let pickle = read_pickle_of(rt, pickle.as_str())?;
-            let mut space = open_space(rt, file.as_str())?;
-            Ok(run_map(rt.alloc(), &pickle, &ask, &mut space, out, err))
+            map_file(rt, &pickle, &file, &ask, &Terms::none(), out, err)
+        }
+        Job::MapUnder {
+            at,
+            order,
+            limit,
+            mode,
+            terms,
+            pickle,
+            name,
+            file,
+        } => {
+            let ask = Ask {
+                name: name.as_bytes(),
+                start: at,
+                order,
+                limit,
+                mode,
+            };
+            map_file(rt, &pickle, &file, &ask, &terms, out, err)
         }
         Job::Each {
             at,
             order,
             limit,
             mode,
+            terms,
             pickle,
             name,
             files,
@@ -83,7 +102,7 @@ fn run_job<R: Files<File = File> + Input + AllocGlobal, O: Write, E: Write>(
                 mode,
             };
             let pickle = read_pickle_of(rt, pickle.as_str())?;
-            Ok(run_each(rt, &pickle, &ask, &files, out, err))
+            Ok(run_each(rt, &pickle, &ask, &terms, &files, out, err))
         }
         Job::Bound { pickle, name, bits } => {
             let pickle = read_pickle_of(rt, pickle.as_str())?;
@@ -107,4 +126,19 @@ fn run_job<R: Files<File = File> + Input + AllocGlobal, O: Write, E: Write>(
             }
         }
     }
+}
+
+// Maps a type of a pickle over a file, each at its path.
+fn map_file<R: Files<File = File> + Input + AllocGlobal, O: Write, E: Write>(
+    rt: &R,
+    pickle: &str,
+    file: &str,
+    ask: &Ask<'_>,
+    terms: &Terms,
+    out: &mut O,
+    err: &mut E,
+) -> Result<Status, FileFault> {
+    let pickle = read_pickle_of(rt, pickle)?;
+    let mut space = open_space(rt, file)?;
+    Ok(run_map_under(rt.alloc(), &pickle, ask, terms, &mut space, out, err))
 }

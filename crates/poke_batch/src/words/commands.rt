@@ -20,6 +20,8 @@ Options of map:
   --endian ORDER   byte order, big or little [default: big]
   --limit N        the most steps of the mapping, 0 to 18446744073709551615 [default: 1000000000]
   --mode MODE      how the value is written, flat or tree [default: flat]
+  --whole          take only a value that ends where FILE does [default: any end]
+  --max-output N   the most bytes of the text, 0 to 18446744073709551615 [default: any length]
 
 Options of dump:
   --from OFFSET    the first byte, in whole bytes [default: 0#B]
@@ -34,7 +36,7 @@ Example:
 
 Statuses:
   0  done
-  1  the mapping has a fault
+  1  the mapping has a fault, or its value isn't taken
   2  refused: words, an offset, the pickle or the type's name
   3  memory, a file, standard input or an output failed";
 
@@ -47,7 +49,7 @@ Example:
 
 Statuses:
   0  the value was written
-  1  the mapping has a fault, which is told with its place
+  1  the mapping has a fault, or its value isn't taken, which is told with its place
   2  refused: words, an offset, the pickle or the type's name
   3  memory, a file, standard input or an output failed";
 
@@ -128,13 +130,13 @@ fn each<'a>(alloc: Global) -> Result<Command<'a>, AllocError> {
     let names = Arg::new(alloc, "files0-from")
         .long("files0-from")
         .value_name("PATH")
-        .help("Read the names of the files from PATH, or from standard input for -, each ended by a byte 0");
+        .help(
+            "Read the names of the files from PATH, or from standard input for -, each ended by a byte 0",
+        );
     let command = Command::new(alloc, "each")
         .about("Maps a type over one file after the other and prints a line for each")
         .after_help(EACH_HELP);
-    with_mapping(alloc, command, modes)?
-        .arg(names)?
-        .arg(files)
+    with_mapping(alloc, command, modes)?.arg(names)?.arg(files)
 }
 
 // The options of a mapping, and the pickle and the type that are mapped.
@@ -156,8 +158,25 @@ fn with_mapping<'a>(
         )
         .value_parser(clap::value_parser!(u64)))?
         .arg(option(alloc, "mode", "MODE", "How the value is written", "flat").value_parser(modes))?
+        .arg(whole(alloc))?
+        .arg(max_output(alloc))?
         .arg(pickle(alloc))?
         .arg(name(alloc))
+}
+
+fn whole<'a>(alloc: Global) -> Arg<'a> {
+    Arg::new(alloc, "whole")
+        .long("whole")
+        .action(ArgAction::SetTrue)
+        .help("Take only a value that ends where FILE does [default: any end]")
+}
+
+fn max_output<'a>(alloc: Global) -> Arg<'a> {
+    Arg::new(alloc, "max-output")
+        .long("max-output")
+        .value_name("N")
+        .help("The most bytes of the text, 0 to 18446744073709551615 [default: any length]")
+        .value_parser(clap::value_parser!(u64))
 }
 
 fn bound<'a>(alloc: Global) -> Result<Command<'a>, AllocError> {

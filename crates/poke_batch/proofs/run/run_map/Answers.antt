@@ -1,17 +1,6 @@
-use Rattle.std.specs.Prelude.{codes}
-use Rattle.poke_batch.specs.Accepted.{refusal_saying}
-use Rattle.poke_batch.specs.declared.status.Status.TheVariants.{Refused}
-use Rattle.poke_batch.specs.Lines.{refused_line}
-use Rattle.poke_batch.specs.Runs.{unknown, refused_map}
-use Rattle.poke_batch.proofs.Mappings.{asked}
-use Rattle.poke_batch.proofs.Sayings.{line_says, said_says}
+use Rattle.poke_batch.proofs.UnderTerms.{says_more, without_terms}
 use Rattle.poke_batch.proofs.run.run_map.Goals as goal
 
-pub returns-in-Err-clause-says : goal.returns-in-Err-clause-says
-returns-in-Err-clause-says g c = said_says _ (refusal_saying c.in-Err.refusal) _ _ _ _ _ (refused_map c.in-Err.ensures.err) (c.tell_refusal.ensures _)
-
-pub returns-in-Some-clause-says : goal.returns-in-Some-clause-says
-returns-in-Some-clause-says g c = c.map_stored.ensures.says c.args.pickle.now (asked c.in-Ok.ensures.ok.1 c.in-Some.ensures.found)
-
 pub returns-clause-says : goal.returns-clause-says
-returns-clause-says g c = line_says _ Refused (refused_line (codes "NoSuchType")) _ _ _ _ (unknown c.in-Ok.ensures.ok.1 c.in-None.ensures.found) c.refuse.ensures
+returns-clause-says g c =
+    says_more (without_terms c.args.pickle.now c.args.ask.now _ _) (rw c.none.ensures at c.run_map_under.ensures.says)

@@ -1,0 +1,140 @@
+-- Laws of what a mapping says under terms.
+use Rattle.std.proofs.Common.{◌≡◌, ◌∙◌, ◌+◌, ◌*◌, ◌<◌, ◌≤◌, max, length, ℕ, Bool, true, false, List, Option, Some, None, Ok, refl, sym, ap, subst, inl, inr, arith}
+use Rattle.std.specs.Prelude.{nat_le, if◌then◌else◌, codes}
+use Rattle.std.proofs.lemmas.Bool.{le-leb, lt-leb}
+use Rattle.pickle_types.specs.Types.{PokeType, IntegerOf, OffsetOf, StringOf, ArrayOf, StructOf, IntegralOf, UnionOf, Fields, NoFields, FieldThen, Parts, NoParts, PartThen}
+use Rattle.pickle_map.specs.Fits.{ElementsFit, no_more_fit, one_more_fits, Fits, FitsNumber, FieldsFit, AlternativeFits}
+use Rattle.pickle_map.specs.Means.{Taken}
+use Rattle.pickle_map.specs.Values.{Value, Levels, start_of, end_of, pushed, opened}
+use Rattle.bit_space.specs.SpaceView.{SpaceView}
+use Rattle.pickle_map.specs.declared.faults.MapFaultKind.{MapFaultKind}
+use Rattle.pickle_map.specs.declared.faults.MapFaultKind.TheVariants as fault
+use Rattle.poke_batch.specs.declared.accept.Refusal.{Refusal}
+use Rattle.poke_batch.specs.declared.accept.Refusal.TheVariants as refusal
+use Rattle.poke_batch.specs.declared.ask.Ask.{Ask}
+use Rattle.poke_batch.specs.declared.status.Status.{Status}
+use Rattle.poke_batch.specs.declared.status.Status.TheVariants.{Fault}
+use Rattle.poke_batch.specs.declared.terms.Terms.{Terms}
+use Rattle.poke_batch.specs.Lines.{fault_at_line}
+use Rattle.poke_batch.specs.Accepted.{Refuses, refusal_saying}
+use Rattle.poke_batch.specs.FaultLines.{fault_saying}
+use Rattle.poke_batch.specs.Runs.{MapsAs, value, refused_map, no_memory}
+use Rattle.poke_batch.specs.RunsUnder.{MapsUnder, mapped_under, ended_under, SaysIt, said_so, no_memory_for_it, is_left, text_saying, kept_saying, value_saying}
+use Rattle.poke_batch.specs.Told.{Saying, Text, Line, Says}
+
+-- a value that fits starts where it was to start
+pub fits_start : (m : ℕ) (ty : PokeType) (levels : Levels) (s : ℕ) (v : Value) → Fits m ty levels s v → start_of v ≡ s
+unfolding Fits FitsNumber
+fits_start m (IntegerOf type) levels s v h = ap start_of h.0.2
+fits_start m (OffsetOf type unit) levels s v h = ap start_of h.0.2
+fits_start m StringOf levels s v h = ap start_of h.2
+fits_start m (ArrayOf element bound) levels s v h = ap start_of h.8
+fits_start m (StructOf name pinned _) levels s v h = ap start_of h.4
+fits_start m (IntegralOf name type fields) levels s v h = ap start_of h.0.2
+fits_start m (UnionOf name alternatives) levels s v h = ap start_of h.2
+
+elements_forward : {Fit : Levels → ℕ → Value → Type 0} {inside : Levels} {end n : ℕ} {levels : Levels} {place i : ℕ} → ElementsFit Fit inside end n levels place i → place ≤ end
+elements_forward no_more_fit = omega arith
+elements_forward (one_more_fits v fit lt more) = let h = elements_forward more in omega arith
+
+fields_forward : (m : ℕ) (pinned : Bool) (s : ℕ) (fields : Fields) (levels : Levels) (behind top : ℕ) (inside : Levels) (end : ℕ) → FieldsFit m pinned s fields levels behind top inside end → top ≤ end
+unfolding Fits
+fields_forward m pinned s NoFields levels behind top inside end h = let e = h.1 in omega arith
+fields_forward m pinned s (FieldThen name set ty c label when rest) levels behind top inside end (inl h) = fields_forward m pinned s rest (pushed levels None) behind top inside end h.1
+fields_forward m pinned s (FieldThen name set ty c label when rest) levels behind top inside end (inr h) =
+    let v = h.4 in
+    let more = fields_forward m pinned s rest (pushed levels (Some h.4)) (end_of h.4) (max top (end_of h.4)) inside end h.7 in
+    omega arith
+
+-- a value that fits doesn't end before its start
+mutual
+  unfolding Fits FitsNumber
+
+  pub fits_forward : (m : ℕ) (ty : PokeType) (levels : Levels) (s : ℕ) (v : Value) → Fits m ty levels s v → s ≤ end_of v
+  fits_forward m (IntegerOf type) levels s v h = let e = ap end_of h.0.2 in omega arith
+  fits_forward m (OffsetOf type unit) levels s v h = let e = ap end_of h.0.2 in omega arith
+  fits_forward m StringOf levels s v h = let e = ap end_of h.2 in omega arith
+  fits_forward m (ArrayOf element bound) levels s v h = let e = ap end_of h.8 in let up = elements_forward h.5 in omega arith
+  fits_forward m (StructOf name pinned fields) levels s v h =
+      let e = ap end_of h.4 in let up = fields_forward m pinned s fields (opened levels) s s h.0 h.1 h.2 in omega arith
+  fits_forward m (IntegralOf name type fields) levels s v h = let e = ap end_of h.0.2 in omega arith
+  fits_forward m (UnionOf name alternatives) levels s v h =
+      let e = ap end_of h.2 in let up = alternative_forward m alternatives 0 (opened levels) s h.0 h.1 in omega arith
+
+  alternative_forward : (m : ℕ) (parts : Parts) (index : ℕ) (levels : Levels) (s : ℕ) (t : Taken) → AlternativeFits m parts index levels s t → s ≤ end_of t.value
+  alternative_forward m NoParts index levels s t h = absurd h
+  alternative_forward m (PartThen name set ty c rest) index levels s t (inl h) = fits_forward m ty levels s t.value h.2
+  alternative_forward m (PartThen name set ty c rest) index levels s t (inr h) = alternative_forward m rest (index + 1) levels s t h
+
+pub starts_before_end : (m : ℕ) (ty : PokeType) (levels : Levels) (s : ℕ) (v : Value) → Fits m ty levels s v → start_of v ≤ end_of v
+starts_before_end m ty levels s v h =
+    let start = fits_start m ty levels s v h in
+    let up = fits_forward m ty levels s v h in
+    omega (arith, start, up)
+
+-- what is right is right in a wider sense
+pub says_more : {P Q : Saying → Type 0} {status : Status} {out out' err err' : Option (List ℕ)}
+    → ((saying : Saying) → P saying → Q saying) → Says P status out out' err err' → Says Q status out out' err err'
+says_more more says = record { saying = says.saying; right = more says.saying says.right; said = says.said }
+
+-- a text that any length will do for
+pub free_saying : (most : Option ℕ) (start : ℕ) (text : List ℕ) → most ≡ None → SaysIt (text_saying most start text) (Text text)
+free_saying most start text free = subst (λ o. SaysIt (text_saying o start text) (Text text)) (sym free) said_so
+
+-- one that has no more bytes than the most
+pub short_saying : (most start : ℕ) (given text : List ℕ) → given ≡ text → length given ≤ most → SaysIt (text_saying (Some most) start text) (Text given)
+short_saying most start given text same few =
+    subst (λ t. SaysIt (text_saying (Some most) start t) (Text given)) same
+    (subst (λ b. SaysIt (if b then Text given else Line Fault (fault_at_line (codes "Output") start)) (Text given)) (sym (le-leb (length given) most few)) said_so)
+
+-- and one that has more
+pub long_saying : (most start : ℕ) (text : List ℕ) → most < length text → SaysIt (text_saying (Some most) start text) (Line Fault (fault_at_line (codes "Output") start))
+long_saying most start text more =
+    subst (λ b. SaysIt (if b then Text text else Line Fault (fault_at_line (codes "Output") start)) (Line Fault (fault_at_line (codes "Output") start))) (sym (lt-leb (length text) most more)) said_so
+
+-- a value that ends before its file
+pub left_saying : (ask : Ask) (terms : Terms) (bits : ℕ) (mapped : Value) (end : ℕ) → end ≡ end_of mapped → is_left terms.whole end bits ≡ true
+    → SaysIt (value_saying ask terms bits mapped) (Line Fault (fault_at_line (codes "Left") end))
+left_saying ask terms bits mapped end same left =
+    let t : is_left terms.whole (end_of mapped) bits ≡ true = subst (λ e. is_left terms.whole e bits ≡ true) same left in
+    subst (λ e. SaysIt (value_saying ask terms bits mapped) (Line Fault (fault_at_line (codes "Left") e))) (sym same)
+    (subst (λ b. SaysIt (if b then Line Fault (fault_at_line (codes "Left") (end_of mapped)) else kept_saying ask terms mapped) (Line Fault (fault_at_line (codes "Left") (end_of mapped)))) (sym t) said_so)
+
+-- what is said of a value is what a mapping under terms says
+pub said_under : (pickle : List ℕ) (ask : Ask) (terms : Terms) (before after : SpaceView) (mapped : Value)
+    → MapsUnder pickle ask terms before after (value_saying ask terms (8 * before.len) mapped)
+    → (saying : Saying) → SaysIt (value_saying ask terms (8 * before.len) mapped) saying
+    → MapsUnder pickle ask terms before after saying
+said_under pickle ask terms before after mapped right saying said_so = right
+said_under pickle ask terms before after mapped right saying no_memory_for_it = ended_under no_memory
+
+-- without terms a mapping says what it does under none
+pub without_terms : (pickle : List ℕ) (ask : Ask) (before after : SpaceView) (saying : Saying)
+    → MapsUnder pickle ask (record { whole = false; most_output = None }) before after saying → MapsAs pickle ask before after saying
+without_terms pickle ask before after saying (mapped_under asked answer fits) = value asked answer fits
+without_terms pickle ask before after saying (ended_under ends) = ends
+
+-- a fault of a mapping is told as without terms
+pub fault_under : (pickle : List ℕ) (ask : Ask) (terms : Terms) (before after : SpaceView) (kind : MapFaultKind) (at : ℕ)
+    → MapsAs pickle ask before after (fault_saying kind at) → MapsUnder pickle ask terms before after (fault_saying kind at)
+fault_under pickle ask terms before after fault.End at right = ended_under right
+fault_under pickle ask terms before after fault.Constraint at right = ended_under right
+fault_under pickle ask terms before after fault.Bounds at right = ended_under right
+fault_under pickle ask terms before after fault.NoBits at right = ended_under right
+fault_under pickle ask terms before after fault.Zero at right = ended_under right
+fault_under pickle ask terms before after fault.Overflow at right = ended_under right
+fault_under pickle ask terms before after fault.Absent at right = ended_under right
+fault_under pickle ask terms before after fault.Index at right = ended_under right
+fault_under pickle ask terms before after fault.Limit at right = ended_under right
+fault_under pickle ask terms before after fault.Device at right = ended_under right
+fault_under pickle ask terms before after fault.Memory at right = ended_under right
+
+-- a refusal is told as without terms
+pub refused_under : {pickle : List ℕ} {ask : Ask} {terms : Terms} {before after : SpaceView} (why : Refusal)
+    → Refuses pickle why → MapsUnder pickle ask terms before after (refusal_saying why)
+refused_under (refusal.Tokens kind at) refuses = ended_under (refused_map refuses)
+refused_under (refusal.Syntax at) refuses = ended_under (refused_map refuses)
+refused_under refusal.TooDeep refuses = ended_under (refused_map refuses)
+refused_under refusal.TooMany refuses = ended_under (refused_map refuses)
+refused_under (refusal.Types kind declaration) refuses = ended_under (refused_map refuses)
+refused_under refusal.Memory refuses = ended_under (refused_map refuses)

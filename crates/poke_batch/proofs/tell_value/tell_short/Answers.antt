@@ -1,0 +1,26 @@
+use Rattle.std.proofs.Common.{◌≤◌, ◌∙◌, codes, length, subst, sym}
+use Rattle.pickle_map.specs.Refs.{value_shown}
+use Rattle.poke_batch.specs.declared.status.Status.TheVariants.{Fault, Outside}
+use Rattle.poke_batch.specs.Lines.{fault_line, fault_at_line}
+use Rattle.poke_batch.specs.Printed.{printed}
+use Rattle.poke_batch.specs.RunsUnder.{no_memory_for_it}
+use Rattle.poke_batch.proofs.Sayings.{line_says, text_says}
+use Rattle.poke_batch.proofs.UnderTerms.{short_saying, long_saying}
+use Rattle.poke_batch.proofs.tell_value.tell_short.Goals as goal
+
+pub returns-in-Ok : goal.returns-in-Ok
+returns-in-Ok g c =
+    let text = printed c.args.ask.now.mode (value_shown c.args.value) in
+    let few = subst (λ l. length l ≤ c.args.most) (sym c.deref.ensures.value) c.in-Ok.ensures.fits in
+    text_says _ c.deref.result.now _ _ _ _ _ c.put.result
+    (short_saying c.args.most c.args.ask.now.start c.deref.result.now text (c.deref.ensures.value ∙ c.in-Ok.ensures.text) few)
+    c.put.ensures.ok c.put.ensures.err c.answer.ensures.done c.answer.ensures.failed
+
+pub returns-in-Err-TooLong : goal.returns-in-Err-TooLong
+returns-in-Err-TooLong g c =
+    let text = printed c.args.ask.now.mode (value_shown c.args.value) in
+    line_says _ Fault (fault_at_line (codes "Output") c.args.ask.now.start) _ _ _ _
+    (long_saying c.args.most c.args.ask.now.start text (c.in-Err-TooLong.ensures.err c.in-Err-TooLong.field-0-is)) (rw c.from.ensures at c.fault_at.ensures)
+
+pub returns-in-Err-Memory : goal.returns-in-Err-Memory
+returns-in-Err-Memory g c = line_says _ Outside (fault_line (codes "Memory")) _ _ _ _ no_memory_for_it c.fail.ensures

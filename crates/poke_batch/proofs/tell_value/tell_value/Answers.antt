@@ -1,0 +1,22 @@
+use Rattle.std.proofs.Common.{◌≡◌, ◌+◌, ◌∙◌, codes, arith, sym, true}
+use Rattle.pickle_map.specs.Refs.{value_shown}
+use Rattle.pickle_map.specs.Values.{end_of}
+use Rattle.poke_batch.specs.declared.status.Status.TheVariants.{Fault}
+use Rattle.poke_batch.specs.Lines.{fault_at_line}
+use Rattle.poke_batch.specs.RunsUnder.{is_left}
+use Rattle.poke_batch.proofs.Sayings.{line_says}
+use Rattle.poke_batch.proofs.UnderTerms.{left_saying}
+use Rattle.poke_batch.proofs.tell_value.tell_value.Goals as goal
+
+pub returns-then-is_left : goal.returns-then-is_left
+returns-then-is_left g c =
+    let start = c.start.ensures in
+    let size = c.size.ensures in
+    let from = c.from.ensures in
+    let over = c.from-2.ensures in
+    let forward = c.requires in
+    let end = c.from.result + c.from-2.result in
+    let same : end ≡ end_of (value_shown c.args.value) = omega (arith, start, size, from, over, forward) in
+    line_says _ Fault (fault_at_line (codes "Left") end) _ _ _ _
+    (left_saying c.args.ask.now c.args.terms.now c.args.bits (value_shown c.args.value) end same (sym c.is_left.ensures ∙ c.if-is_left.true))
+    c.fault_at.ensures

@@ -1,0 +1,81 @@
+//! Texts that are gathered before they are written, so that their length is known before the first byte.
+
+ghost use Rattle.std.specs.Prelude.{◌≡◌, ◌<◌, ◌≤◌, Some, length, IsOk, IfOk, IfErr, OnOk, OnErr};
+ghost use Rattle.std.specs.Io.KnownBytes.{Appends};
+ghost use Rattle.pickle_map.specs.Refs.{value_shown};
+ghost use Rattle.poke_batch.specs.Printed.{printed};
+ghost use Rattle.poke_batch.specs.Written.{AppendsPart};
+
+use crate::mode::Mode;
+use crate::print::print;
+use crate::write::WriteFault;
+use pickle_map::ValueRef;
+use std::alloc::Global;
+use std::io;
+use std::io::Write;
+
+/// Why a text isn't gathered.
+#[derive(Clone, Copy, Debug, Drop, PartialEq, Eq)]
+pub enum DraftFault {
+    /// It is longer than it may be.
+    TooLong,
+    /// There was no memory.
+    Memory,
+}
+
+// The bytes of a text from its front, which grow up to a length and no further.
+#[derive(Drop)]
+struct Draft {
+    bytes: Vec<u8>,
+    most: u64,
+}
+
+impl Write for Draft {
+    ghost contents = { λ draft. Some draft.bytes.items };
+
+    fn write(&mut self, buf: &[u8]) -> io::Result<usize> {
+        let left = self.most.saturating_sub(self.bytes.len() as u64);
+        let count = left.min(buf.len() as u64) as usize;
+        self.bytes.extend_from_slice(&buf[..count])?;
+        Ok(count)
+    }
+
+    fn flush(&mut self) -> io::Result<()> {
+        Ok(())
+    }
+}
+
+/// The text that a value has in a mode, where it has `most` bytes at most. No more bytes than that are laid out.
+pub fn gather(
+    alloc: Global,
+    value: ValueRef<'_>,
+    mode: Mode,
+    most: u64,
+) -> Result<Vec<u8>, DraftFault>
+    ensures text { IfOk result (λ text. text.items ≡ printed mode (value_shown value.entry)) }
+    ensures fits { IfOk result (λ text. length text.items ≤ most) }
+    ensures err { IfErr result (λ fault. fault ≡ DraftFault.TooLong → most < length (printed mode (value_shown value.entry))) }
+{
+    let mut draft = Draft {
+        bytes: Vec::new(alloc),
+        most,
+    };
+    let printed = print(value, mode, &mut draft);
+    judge(printed, draft.bytes, most)
+}
+
+// Judges a text that was laid out, or what there is of it.
+fn judge(printed: Result<(), WriteFault>, bytes: Vec<u8>, most: u64) -> Result<Vec<u8>, DraftFault>
+    ensures same { IfOk result (λ text. text ≡ bytes) }
+    ensures done { IfOk result (λ text. IsOk printed) }
+    ensures fits { IfOk result (λ text. length text.items ≤ most) }
+    ensures all { IfErr result (λ fault. fault ≡ DraftFault.TooLong → OnOk printed (most < length bytes.items)) }
+    ensures part { IfErr result (λ fault. fault ≡ DraftFault.TooLong → OnErr printed (most ≤ length bytes.items)) }
+{
+    let len = bytes.len() as u64;
+    match printed {
+        Ok(()) if len <= most => Ok(bytes),
+        Err(WriteFault) if len < most => Err(DraftFault::Memory),
+        _ => Err(DraftFault::TooLong),
+    }
+}

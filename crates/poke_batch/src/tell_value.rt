@@ -1,0 +1,86 @@
+//! What is said of a value that was mapped, under terms.
+
+ghost use Rattle.std.specs.Prelude.{◌≡◌, ◌≤◌, codes, length, nat_le, if◌then◌else◌};
+ghost use Rattle.pickle_map.specs.Refs.{value_shown};
+ghost use Rattle.pickle_map.specs.Values.{start_of, end_of};
+ghost use Rattle.poke_batch.specs.Lines.{fault_at_line};
+ghost use Rattle.poke_batch.specs.Printed.{printed};
+ghost use Rattle.poke_batch.specs.RunsUnder.{SaysIt, is_left, text_saying, value_saying};
+ghost use Rattle.poke_batch.specs.Told.{Says};
+
+use crate::ask::Ask;
+use crate::draft::{DraftFault, gather};
+use crate::print::print;
+use crate::status::Status;
+use crate::tell::{answer, fail, fault_at};
+use crate::terms::Terms;
+use crate::write::put;
+use pickle_map::ValueRef;
+use std::alloc::Global;
+use std::io::Write;
+
+/// Writes the text of a value, mapped from a file of so many bits, or tells the first term that it doesn't meet.
+pub fn tell_value<O: Write, E: Write>(
+    alloc: Global,
+    value: ValueRef<'_>,
+    ask: &Ask<'_>,
+    terms: &Terms,
+    bits: u128,
+    out: &mut O,
+    err: &mut E,
+) -> Status
+    requires { start_of (value_shown value) ≤ end_of (value_shown value) }
+    ensures { Says (SaysIt (value_saying ask.now terms.now bits (value_shown value.entry))) result
+        (O.contents out.old) (O.contents out.new) (E.contents err.old) (E.contents err.new) }
+{
+    let end = u128::from(value.start()) + u128::from(value.size());
+    if is_left(terms.whole, end, bits) {
+        fault_at(err, b"Left", end)
+    } else {
+        tell_text(alloc, value, ask, terms.most_output, out, err)
+    }
+}
+
+// Whether a value has to end with the bits of its file, and ends before them.
+fn is_left(whole: bool, end: u128, bits: u128) -> bool
+    ensures { result ≡ is_left whole end bits }
+{
+    whole && end < bits
+}
+
+// Writes the text of a value where it has no more bytes than the most.
+fn tell_text<O: Write, E: Write>(
+    alloc: Global,
+    value: ValueRef<'_>,
+    ask: &Ask<'_>,
+    most: Option<u64>,
+    out: &mut O,
+    err: &mut E,
+) -> Status
+    ensures { Says (SaysIt (text_saying most ask.now.start (printed ask.now.mode (value_shown value.entry)))) result
+        (O.contents out.old) (O.contents out.new) (E.contents err.old) (E.contents err.new) }
+{
+    match most {
+        None => answer(print(value, ask.mode, out), err),
+        Some(most) => tell_short(alloc, value, ask, most, out, err),
+    }
+}
+
+// The same where there is a most: the text is gathered first.
+fn tell_short<O: Write, E: Write>(
+    alloc: Global,
+    value: ValueRef<'_>,
+    ask: &Ask<'_>,
+    most: u64,
+    out: &mut O,
+    err: &mut E,
+) -> Status
+    ensures { Says (SaysIt (text_saying (Some most) ask.now.start (printed ask.now.mode (value_shown value.entry)))) result
+        (O.contents out.old) (O.contents out.new) (E.contents err.old) (E.contents err.new) }
+{
+    match gather(alloc, value, ask.mode, most) {
+        Ok(text) => answer(put(out, &text), err),
+        Err(DraftFault::TooLong) => fault_at(err, b"Output", u128::from(ask.start)),
+        Err(DraftFault::Memory) => fail(err, b"Memory"),
+    }
+}
