@@ -15,3 +15,5 @@ pub mod Mappings
 mod LineRows
 mod ValueTextRows
 mod TreeTextRows
+mod JsonTextRows
+mod LinesTextRows

@@ -3,6 +3,9 @@ pub mod DumpText
 pub mod ValueText
 pub mod TreeText
 pub mod LineText
+pub mod JsonText
+pub mod PathText
+pub mod LinesText
 pub mod Printed
 pub mod Suffixes
 pub mod PartText
