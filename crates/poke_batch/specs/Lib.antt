@@ -4,6 +4,8 @@ pub mod ValueText
 pub mod TreeText
 pub mod LineText
 pub mod JsonText
+pub mod JsonParts
+pub mod Escaped
 pub mod PathText
 pub mod LinesText
 pub mod Printed
@@ -19,3 +21,5 @@ pub mod Told
 pub mod FaultLines
 pub mod Runs
 pub mod Accepted
+pub mod Json
+pub mod Laws

@@ -10,6 +10,7 @@ pub mod bound;
 pub mod dump;
 pub mod fault;
 mod hex;
+pub mod laws;
 mod lines;
 pub mod mode;
 pub mod offset_word;

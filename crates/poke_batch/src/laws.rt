@@ -1,0 +1,8 @@
+//! The laws of the texts of values. These functions do nothing: the contract of each is a law.
+
+ghost use Rattle.poke_batch.specs.Laws.{PrintsJson};
+
+/// What is printed in JSON, of a value whose numbers and numbers of members are below 2^64, is a text of the grammar of RFC 8259.
+pub fn prints_json()
+    ensures law { PrintsJson }
+{}
