@@ -8,6 +8,12 @@ pub mod DumpRows
 pub mod StringTexts
 pub mod MemberTexts
 pub mod LineTexts
+pub mod JsonTexts
+pub mod JsonWords
+pub mod JsonValues
+pub mod Paths
+pub mod LeafTexts
+pub mod LeafLines
 pub mod DigitCounts
 pub mod ShortTexts
 pub mod Refusing
@@ -18,3 +24,5 @@ mod LineRows
 mod Refused
 mod ValueTextRows
 mod TreeTextRows
+mod JsonTextRows
+mod LinesTextRows

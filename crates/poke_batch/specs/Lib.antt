@@ -3,6 +3,13 @@ pub mod DumpText
 pub mod ValueText
 pub mod TreeText
 pub mod LineText
+pub mod JsonText
+pub mod JsonParts
+pub mod Escaped
+pub mod PathText
+pub mod LinesText
+pub mod Steps
+pub mod LeafText
 pub mod Printed
 pub mod Suffixes
 pub mod PartText
@@ -18,3 +25,5 @@ pub mod FileLine
 pub mod Runs
 pub mod RunsUnder
 pub mod Accepted
+pub mod Json
+pub mod Laws

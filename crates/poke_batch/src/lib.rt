@@ -13,6 +13,7 @@ pub mod each;
 pub mod fault;
 pub mod file_line;
 mod hex;
+pub mod laws;
 mod lines;
 pub mod mode;
 pub mod offset_word;

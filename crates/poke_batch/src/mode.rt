@@ -5,4 +5,8 @@ pub enum Mode {
     Flat,
     /// A line for each value, and below it those of its parts.
     Tree,
+    /// In JSON, on one line.
+    Json,
+    /// A line for each part that has no parts: its path, start, size and text.
+    Lines,
 }

@@ -1,10 +1,14 @@
 //! Prints mapped values.
 mod bytes;
 mod digits;
+mod escape;
 mod flat;
+mod json;
 mod line;
+mod lines;
 mod name;
 mod number;
+mod steps;
 mod string;
 mod suffix;
 mod tree;
@@ -19,7 +23,9 @@ ghost use Rattle.poke_batch.specs.Printed.{printed};
 use crate::mode::Mode;
 use crate::write::WriteFault;
 use flat::put_flat;
+use json::put_json;
 use line::Line;
+use lines::put_lines;
 use pickle_map::ValueRef;
 use std::io::Write;
 use tree::put_tree;
@@ -48,5 +54,7 @@ fn put_printed<W: Write>(
     match mode {
         Mode::Flat => put_flat(w, line, value),
         Mode::Tree => put_tree(w, line, value),
+        Mode::Json => put_json(w, line, value),
+        Mode::Lines => put_lines(w, line, value),
     }
 }

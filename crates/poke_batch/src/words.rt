@@ -241,6 +241,8 @@ fn mode_of(word: &str) -> Mode
 {
     match word {
         "tree" => Mode::Tree,
+        "json" => Mode::Json,
+        "lines" => Mode::Lines,
         _ => Mode::Flat,
     }
 }

@@ -19,7 +19,7 @@ Options of map:
   --at OFFSET      where the value begins [default: 0#b]
   --endian ORDER   byte order, big or little [default: big]
   --limit N        the most steps of the mapping, 0 to 18446744073709551615 [default: 1000000000]
-  --mode MODE      how the value is written, flat or tree [default: flat]
+  --mode MODE      how the value is written: flat, tree, json or lines [default: flat]
   --whole          take only a value that ends where FILE does [default: any end]
   --max-output N   the most bytes of the text, 0 to 18446744073709551615 [default: any length]
 
@@ -113,7 +113,7 @@ pub fn program<'a>(alloc: Global) -> Result<Command<'a>, AllocError> {
 }
 
 fn map<'a>(alloc: Global) -> Result<Command<'a>, AllocError> {
-    let modes = ["flat", "tree"].as_slice();
+    let modes = ["flat", "tree", "json", "lines"].as_slice();
     let command = Command::new(alloc, "map")
         .about("Maps a type over a file and prints the value")
         .after_help(MAP_HELP);
@@ -121,7 +121,7 @@ fn map<'a>(alloc: Global) -> Result<Command<'a>, AllocError> {
 }
 
 fn each<'a>(alloc: Global) -> Result<Command<'a>, AllocError> {
-    let modes = ["flat"].as_slice();
+    let modes = ["flat", "json"].as_slice();
     let files = Arg::new(alloc, "FILE")
         .num_args(0..)
         .required_unless_present("files0-from")?
