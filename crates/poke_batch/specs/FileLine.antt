@@ -4,11 +4,14 @@ use Rattle.poke_batch.specs.declared.status.Status.{Status}
 use Rattle.poke_batch.specs.declared.status.Status.TheVariants.{Done, Fault, Refused, Outside}
 use Rattle.poke_batch.specs.Lines.{fault_line}
 use Rattle.poke_batch.specs.Told.{Saying, Says}
-use Rattle.poke_batch.specs.ValueText.{byte_text}
+use Rattle.poke_batch.specs.ValueText.{is_plain, escape_text}
 
 -- a byte of a name, as in a string, but for `"` (34), which stands for itself
 abbrev pub name_byte : ℕ → List ℕ
-name_byte byte = if byte == 34 then 34 ∷ [] else byte_text byte
+name_byte byte =
+    if byte == 34 then 34 ∷ []
+    else if is_plain byte then byte ∷ []
+    else escape_text byte
 
 abbrev pub shown_name : List ℕ → List ℕ
 shown_name [] = []
