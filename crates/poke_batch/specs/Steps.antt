@@ -17,3 +17,7 @@ text_of (Nameless place) = field_step None place
 abbrev pub steps_of : Steps → List ℕ
 steps_of Start = []
 steps_of (Then' p above step) = steps_of above ++ text_of step
+
+-- one more step
+abbrev pub steps_with : Steps → Step → List ℕ
+steps_with above step = steps_of above ++ text_of step

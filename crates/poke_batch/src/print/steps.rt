@@ -6,7 +6,7 @@ ghost use Rattle.pickle_map.specs.Refs.{value_shown};
 ghost use Rattle.poke_batch.specs.Written.{AppendsPart};
 ghost use Rattle.poke_batch.specs.Gathered.{Gathers};
 ghost use Rattle.poke_batch.specs.PathText.{field_step, step_text, path_text};
-ghost use Rattle.poke_batch.specs.Steps.{text_of, steps_of};
+ghost use Rattle.poke_batch.specs.Steps.{text_of, steps_of, steps_with};
 
 use super::line::Line;
 use crate::write::WriteFault;
@@ -71,8 +71,8 @@ fn put_further<W: Write>(
     above: &Steps<'_>,
     step: Step<'_>,
 ) -> Result<(), WriteFault>
-    ensures ok { OnOk result (Gathers (W.contents w.old) (W.contents w.new) line.old line.new (path_text (steps_of above.now ++ text_of step.entry))) }
-    ensures err { OnErr result (AppendsPart (W.contents w.old) (W.contents w.new) (line.old ++ path_text (steps_of above.now ++ text_of step.entry))) }
+    ensures ok { OnOk result (Gathers (W.contents w.old) (W.contents w.new) line.old line.new (path_text (steps_with above.now step.entry))) }
+    ensures err { OnErr result (AppendsPart (W.contents w.old) (W.contents w.new) (line.old ++ path_text (steps_with above.now step.entry))) }
 {
     put_last(w, line, above, step)
 }
@@ -87,8 +87,8 @@ fn put_last<W: Write>(
     above: &Steps<'_>,
     step: Step<'_>,
 ) -> Result<(), WriteFault>
-    ensures ok { OnOk result (Gathers (W.contents w.old) (W.contents w.new) line.old line.new (steps_of above.now ++ text_of step.entry)) }
-    ensures err { OnErr result (AppendsPart (W.contents w.old) (W.contents w.new) (line.old ++ (steps_of above.now ++ text_of step.entry))) }
+    ensures ok { OnOk result (Gathers (W.contents w.old) (W.contents w.new) line.old line.new (steps_with above.now step.entry)) }
+    ensures err { OnErr result (AppendsPart (W.contents w.old) (W.contents w.new) (line.old ++ steps_with above.now step.entry)) }
 {
     put_steps(w, line, above)?;
     put_step(w, line, step)?;
