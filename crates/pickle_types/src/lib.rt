@@ -8,6 +8,7 @@ pub mod integer;
 pub mod laws;
 pub(crate) mod name;
 pub mod names;
+pub mod places_by_name;
 pub mod predeclared;
 pub mod scopes;
 pub(crate) mod table;
