@@ -1,7 +1,9 @@
 //! Places that are found by names, in a time that no choice of names makes long.
 
-ghost use Rattle.std.specs.Prelude.{◌≡◌, ◌+◌, ◌<◌, ℕ, List, length, if◌then◌else◌, None, Some, All, IfOk, IfErr, OnOk, OnErr};
+ghost use Rattle.std.specs.Prelude.{◌≡◌, ◌+◌, ◌<◌, ℕ, List, length, if◌then◌else◌, None, Some, All, IsSome, IfSome, IfOk, IfErr, OnOk, OnErr};
 ghost use Rattle.std.specs.Str.{bytes_eq};
+ghost use Rattle.pickle_types.specs.Scopes.{is_named};
+ghost use Rattle.pickle_types.specs.Built.{bytes_now};
 ghost use Rattle.pickle_types.specs.PlacesByName.{bucket_of, place_at, IsBare};
 
 use crate::fault::FaultKind;
@@ -106,6 +108,35 @@ impl<'n> PlacesByName<'n> {
         self.open()?;
         let tree = bucket_of(name, self.trees.len());
         Ok(self.trees[tree].insert(name, place)?)
+    }
+
+    /// Gives a name a place, where there is a name, and tells the one that it had.
+    pub fn add(&mut self, name: Option<&'n [u8]>, place: usize) -> Result<Option<usize>, FaultKind>
+        ensures put { OnOk result ((word : List ℕ) → place_at self.new word ≡ (if is_named (bytes_now name.entry) word then Some place else place_at self.old word)) }
+        ensures had { IfOk result (λ had. IfSome name.entry (λ n. had ≡ place_at self.old n.now)) }
+        ensures err { OnErr result ((word : List ℕ) → place_at self.new word ≡ place_at self.old word) }
+        ensures kind { IfErr result (λ e. e ≡ FaultKind.Memory) }
+    {
+        match name {
+            None => Ok(None),
+            Some(name) => self.put(name, place),
+        }
+    }
+
+    /// Gives a name the place back that it had before, if any. The name has a place, so no memory is needed.
+    pub fn restore(&mut self, name: Option<&'n [u8]>, had: Option<usize>)
+        requires there { IfSome name (λ n. IsSome (place_at self.old n.now)) }
+        ensures { (word : List ℕ) → place_at self.new word ≡ (if is_named (bytes_now name.entry) word then had else place_at self.old word) }
+    {
+        let Some(name) = name else {
+            return;
+        };
+        match had {
+            None => self.remove(name),
+            Some(place) => {
+                let _ = self.put(name, place);
+            }
+        }
     }
 
     /// Takes away the place of a name.
