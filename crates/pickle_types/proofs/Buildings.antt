@@ -1,7 +1,6 @@
 -- One step of the definitions for each step of the builder.
 use Rattle.std.proofs.Common.{◌≡◌, ℕ, zero, suc, ◌+◌, ◌-◌, ◌<◌, ◌≤◌, ◌^◌, max, List, [], ◌∷◌, ◌++◌, map, Option, Some, None, Result, Ok, Err, Bool, length, take, drop, get_or, refl, sym, ap, ◌∙◌, arith}
 use Rattle.std.specs.Prelude.{is_some, All}
-use Rattle.std.specs.Map.{values_of}
 use Rattle.std.proofs.lemmas.Bool.{eq-eqb, ne_eqb}
 use Rattle.std.proofs.lemmas.List.{append-nil, length-append, length-take, drop_more, map_push, take_all, take-append-le}
 use Rattle.std.proofs.lemmas.List.Elements.{All-append}
@@ -39,8 +38,8 @@ pub pushed : (old new : Builder) (node : Node) → IsTable old.nodes → AreName
 pushed old new node table named below sound is same seen d at deep low last few =
     let grows : Grows old.nodes new.nodes = record { more = node ∷ []; is = is } in
     let longer = length-append old.nodes (node ∷ []) in
-    let known = names_kept old.nodes new.nodes table grows old.names.map.entries named in
-    let still = named_kept old.nodes new.nodes table grows (values_of old.names.map.entries) named in
+    let known = names_kept old.nodes new.nodes table grows old.names named in
+    let still = named_kept old.nodes new.nodes table grows (map (λ d. d.declared) old.names) named in
     record {
       keeps = record {
         grows = grows;

@@ -1,15 +1,15 @@
 -- One step of the definitions for each declaration that is added.
-use Rattle.std.proofs.Common.{◌≡◌, ℕ, List, [], ◌∷◌, ◌++◌, Option, Some, None, Result, Ok, Err, true, false, refl, ap, ◌∙◌, arith, Vec, Global}
+use Rattle.std.proofs.Common.{◌≡◌, ℕ, List, [], ◌∷◌, ◌++◌, map, Option, Some, None, Result, Ok, Err, true, false, refl, ◌∙◌, arith}
 use denote.Bor.{Bor}
 use Rattle.std.specs.Prelude.{is_some}
 use Rattle.std.proofs.lemmas.Bool.{and_parts, leb-true}
-use Rattle.std.specs.Map.{values_of}
 use Rattle.std.proofs.lemmas.List.{map_push}
 use Rattle.std.proofs.lemmas.List.Elements.{All-append}
 use Rattle.pickle_syntax.specs.Tree.{DeclarationTree}
 use Rattle.pickle_types.specs.declared.fault.FaultKind.{FaultKind}
 use Rattle.pickle_types.specs.declared.fault.FaultKind.TheVariants.{DuplicateType}
 use Rattle.pickle_types.specs.declared.names.Declared.{Declared}
+use Rattle.pickle_types.specs.declared.names.Named.{Named}
 use Rattle.pickle_types.specs.declared.table.Node.{Node}
 use Rattle.pickle_types.specs.declared.check.types.Builder.{Builder}
 use Rattle.pickle_types.specs.declared.integer.IntegerType.{IntegerType}
@@ -17,30 +17,27 @@ use Rattle.pickle_types.specs.Types.{PokeType, IntegerOf}
 use Rattle.pickle_types.specs.Table.{type_of, IsWidth}
 use Rattle.pickle_types.specs.Names.{Names, find_type}
 use Rattle.pickle_types.specs.Meaning.{unless_declared, meaning, declared_type, declared}
-use Rattle.pickle_types.specs.Built.{Fails, named_of, IsNamed, IsFound, AddsEntry}
+use Rattle.pickle_types.specs.Built.{Fails, named_of, IsNamed, IsFound, AddsName}
 use Rattle.pickle_types.specs.Building.{known_types, IsReady, is_unknown, may_add}
 use Rattle.pickle_types.proofs.Steps.{fails_bind}
-
-values_append : (es fs : List (Vec ℕ Global × Declared)) → values_of (es ++ fs) ≡ values_of es ++ values_of fs
-values_append [] fs = refl
-values_append (e ∷ es) fs = ap (λ l. e.1 ∷ l) (values_append es fs)
 
 pub record IsAdded (old new : Builder) (word : List ℕ) (node : ℕ) : Type 0 where
   pub ready : IsReady new
   pub known : known_types new ≡ known_types old ++ (word, type_of old.nodes node) ∷ []
 
 -- one more name
-pub added : (old new : Builder) (word : List ℕ) (d : Declared) → IsReady old → AddsEntry old.names.map.entries new.names.map.entries word d →
+pub added : (old new : Builder) (word : List ℕ) (d : Declared) → IsReady old → AddsName old.names new.names word d →
     new.nodes ≡ old.nodes → new.seen ≡ old.seen → IsNamed old.nodes d → IsAdded old new word d.node
 added old new word d ready adds nodes seen named =
-    let values = values_append old.names.map.entries ((adds.key, d) ∷ []) in
+    let one : Named = record { word = adds.name; declared = d } in
+    let values = map_push (λ (x : Named). x.declared) old.names one in
     record {
       ready = record {
         table = rw nodes ready.table;
-        named = rw (nodes, adds.entries, values) (All-append (IsNamed old.nodes) (values_of old.names.map.entries) (d ∷ []) ready.named (λ k e lt. let z : k ≡ 0 = omega arith in rw z named));
+        named = rw (nodes, adds.names, values) (All-append (IsNamed old.nodes) (map (λ (x : Named). x.declared) old.names) (d ∷ []) ready.named (λ k e lt. let z : k ≡ 0 = omega arith in rw z named));
         none = seen ∙ ready.none;
       };
-      known = rw (nodes, adds.entries) (map_push (named_of old.nodes) old.names.map.entries (adds.key, d) ∙ rw adds.bytes refl);
+      known = rw (nodes, adds.names) (map_push (named_of old.nodes) old.names one ∙ rw adds.bytes refl);
     }
 
 pub declared_twice : (nodes : List Node) (o : Option Declared) (found : Option PokeType) → IsFound nodes o found → is_some o ≡ true → unless_declared found ≡ Err DuplicateType

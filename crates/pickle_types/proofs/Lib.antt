@@ -14,6 +14,7 @@ pub mod Declarations
 pub mod WrongPlaces
 pub mod IllTyped
 pub mod Places
+pub mod Scattered
 pub mod Placed
 pub mod Items
 pub mod Indexed

@@ -1,22 +1,15 @@
 -- The names of a type's fields, and their places.
-use Rattle.std.proofs.Common.{◌≡◌, ℕ, suc, ◌+◌, List, [], ◌∷◌, ◌++◌, ◌||◌, ◌<◌, length, drop, get_or, Option, Some, None, Ok, Bool, true, false, cond, refl, sym, ap, ◌∙◌, arith}
-use denote.Bor.{Bor}
+use Rattle.std.proofs.Common.{◌≡◌, ℕ, suc, ◌+◌, List, [], ◌∷◌, ◌++◌, ◌||◌, ◌<◌, length, drop, get_or, Option, Some, None, Ok, Bool, true, false, refl, sym, ap, ◌∙◌, arith}
 use Rattle.std.specs.Prelude.{if◌then◌else◌, option_map, is_some}
-use Rattle.std.specs.Map.{lookup}
 use Rattle.std.specs.Str.{bytes_eq}
 use Rattle.std.specs.Cmp.Lexicographic.{bytes_decides}
 use Rattle.std.proofs.lemmas.Bool.{or_parts}
 use Rattle.std.proofs.lemmas.List.{drop_more}
-use Rattle.pickle_types.specs.declared.check.field_names.FieldNames.{FieldNames}
+use Rattle.pickle_types.specs.declared.places_by_name.PlacesByName.{PlacesByName}
+use Rattle.pickle_types.specs.PlacesByName.{place_at}
 use Rattle.pickle_types.specs.Scopes.{is_named}
 use Rattle.pickle_types.specs.Meaning.{has_name, fresh}
-use Rattle.pickle_types.specs.FieldNames.{place_named, kept_in, ArePlaced}
-
--- a place that is kept for a name
-pub place_kept : (new old : List (Bor (List ℕ) × ℕ)) (name : Bor (List ℕ)) (place : ℕ) →
-    ((q : Bor (List ℕ)) → lookup (λ k. bytes_eq q.now k.now) new ≡ cond (bytes_eq name.now q.now) (Some place) (lookup (λ k. bytes_eq q.now k.now) old)) →
-    (word : List ℕ) → lookup (λ (k : Bor (List ℕ)). bytes_eq word k.now) new ≡ (if bytes_eq name.now word then Some place else lookup (λ (k : Bor (List ℕ)). bytes_eq word k.now) old)
-place_kept new old name place h word = h (record { ref_ptr = (0, 0); now = word })
+use Rattle.pickle_types.specs.FieldNames.{place_named, ArePlaced}
 
 module _ (word : List ℕ) where
   some_here : (b c : Bool) (o : Option ℕ) → is_some o ≡ c → is_some (if b then Some 0 else option_map suc o) ≡ (b || c)
@@ -53,14 +46,19 @@ apart : (n : Option (List ℕ)) (names : List (Option (List ℕ))) → fresh n n
 apart None names e word same = cc
 apart (Some name) names e word same = fresh_apart name names e word same
 
--- one more field, whose name no other has
-pub placed_more : (names : List (Option (List ℕ))) (n : Option (List ℕ)) (old new : FieldNames) → ArePlaced names old → fresh n names ≡ Ok tt →
-    ((word : List ℕ) → kept_in new word ≡ (if is_named n word then Some (length names) else kept_in old word)) → ArePlaced (names ++ n ∷ []) new
-placed_more names n old new h new_name put = record { kept = λ word. put word ∙ by word (is_named n word) refl }
+-- one more name, which is none of the others
+pub placed_new : (names : List (Option (List ℕ))) (n : Option (List ℕ)) (old new : PlacesByName) → ArePlaced names old → ((word : List ℕ) → is_named n word ≡ true → has_name word names ≡ false) →
+    ((word : List ℕ) → place_at new word ≡ (if is_named n word then Some (length names) else place_at old word)) → ArePlaced (names ++ n ∷ []) new
+placed_new names n old new h other put = record { kept = λ word. put word ∙ by word (is_named n word) refl }
   where
-    by : (word : List ℕ) (b : Bool) → is_named n word ≡ b → (if b then Some (length names) else kept_in old word) ≡ place_named word (names ++ n ∷ [])
-    by word true e = sym (place_new word names n e (apart n names new_name word e))
+    by : (word : List ℕ) (b : Bool) → is_named n word ≡ b → (if b then Some (length names) else place_at old word) ≡ place_named word (names ++ n ∷ [])
+    by word true e = sym (place_new word names n e (other word e))
     by word false e = h.kept word ∙ sym (place_other word names n e)
+
+-- one more field, whose name no other has
+pub placed_more : (names : List (Option (List ℕ))) (n : Option (List ℕ)) (old new : PlacesByName) → ArePlaced names old → fresh n names ≡ Ok tt →
+    ((word : List ℕ) → place_at new word ≡ (if is_named n word then Some (length names) else place_at old word)) → ArePlaced (names ++ n ∷ []) new
+placed_more names n old new h new_name = placed_new names n old new h (apart n names new_name)
 
 -- a place among the names behind the first i
 abbrev pub behind : ℕ → Option ℕ → Option ℕ

@@ -1,31 +1,22 @@
 -- Where the innermost field of each name stands.
-use Rattle.std.proofs.Common.{◌≡◌, ℕ, suc, ◌<◌, ◌≤◌, List, [], ◌∷◌, ◌++◌, take, get_or, length, Option, Some, None, Bool, true, false, cond, refl, sym, ap, ◌∙◌, arith, inl, inr}
+use Rattle.std.proofs.Common.{◌≡◌, ℕ, suc, ◌+◌, ◌-◌, ◌<◌, ◌≤◌, List, [], ◌∷◌, ◌++◌, take, get_or, length, Option, Some, None, Bool, true, false, refl, sym, ap, subst, ◌∙◌, arith, inl, inr}
 use denote.Bor.{Bor}
-use Rattle.std.specs.Prelude.{if◌then◌else◌, slice_get, option_map, IfSome, MatchOption, OnOk, OnErr, Result, Ok, Err}
-use Rattle.std.specs.Option.{option_flatten}
-use Rattle.std.specs.Map.{lookup}
+use Rattle.std.specs.Prelude.{if◌then◌else◌, slice_get, option_map, IfSome, IsSome}
 use Rattle.std.specs.Str.{bytes_eq}
 use Rattle.std.specs.Cmp.Lexicographic.{bytes_decides}
 use Rattle.std.proofs.lemmas.Bool.{cases_lt}
 use Rattle.std.proofs.lemmas.Option.{slice_get_within}
-use Rattle.std.proofs.lemmas.List.{length-map, map_push, take-append-le, take_all, get_or-map}
+use Rattle.std.proofs.lemmas.List.{length-map, map_push, take-append-le, take_all, get_or-map, map-append, length-append, get_or_append_left, get_or-append-add, append-nil}
+use Rattle.std.proofs.Math.Seq.{take-append-add, take-suc}
 use Rattle.pickle_types.proofs.Items.{get_front, get_last, is_last}
 use Rattle.pickle_types.specs.declared.table.Node.{Node}
 use Rattle.pickle_types.specs.declared.scopes.Seen.{Seen}
-use Rattle.pickle_types.specs.declared.scopes.Entry.{Entry}
-use Rattle.pickle_types.specs.Scopes.{is_named, or_this, resolve}
-use Rattle.pickle_types.specs.Built.{bytes_now, view_of, views_of}
-use Rattle.pickle_types.specs.Innermost.{fields_of, or_here, last_place, kept_place, IsIndexed}
-
-flatten_cond : (b : Bool) (place : Option ℕ) (o : Option (Option ℕ)) → option_flatten (cond b (Some place) o) ≡ (if b then place else option_flatten o)
-flatten_cond true place o = refl
-flatten_cond false place o = refl
-
--- a place that is put at a name
-pub place_put : (new old : List (Bor (List ℕ) × Option ℕ)) (name : Bor (List ℕ)) (place : Option ℕ) →
-    ((q : Bor (List ℕ)) → lookup (λ k. bytes_eq q.now k.now) new ≡ cond (bytes_eq name.now q.now) (Some place) (lookup (λ k. bytes_eq q.now k.now) old)) →
-    (word : List ℕ) → kept_place new word ≡ (if bytes_eq name.now word then place else kept_place old word)
-place_put new old name place h word = ap option_flatten (h (record { ref_ptr = (0, 0); now = word })) ∙ flatten_cond (bytes_eq name.now word) place _
+use Rattle.pickle_types.specs.declared.many_fields.Entry.{Entry}
+use Rattle.pickle_types.specs.Scopes.{Visible, is_named, or_this, resolve}
+use Rattle.pickle_types.specs.Built.{bytes_now, view_of, views_of, IsInLevel, AreBelow}
+use Rattle.pickle_types.specs.Innermost.{fields_of, or_here, last_place, IsIndexed}
+use Rattle.pickle_types.specs.PlacesByName.{place_at}
+use Rattle.pickle_types.specs.declared.places_by_name.PlacesByName.{PlacesByName}
 
 -- the last place where there is one more field
 here_more : (here last : Bool) (n : ℕ) (o : Option ℕ) → or_here (if last then Some n else o) here ≡ (if last then Some (suc n) else or_here o here)
@@ -68,9 +59,9 @@ module _ (es : List Entry) (e : Entry) where
   taken_less : (i : ℕ) → i ≤ length es → take i (fields_of (es ++ e ∷ [])) ≡ take i (fields_of es)
   taken_less i le = let n = length-map es (λ x. x.field) in ap (take i) fields_more ∙ take-append-le i (fields_of es) (e.field ∷ []) (omega arith)
 
-  module _ (old new : List (Bor (List ℕ) × Option ℕ)) where
-    pub indexed_more : IsIndexed es old → IfSome e.field.name (λ n. e.hidden ≡ kept_place old n.now) →
-        ((word : List ℕ) → kept_place new word ≡ (if is_named (bytes_now e.field.name) word then Some (length es) else kept_place old word)) → IsIndexed (es ++ e ∷ []) new
+  module _ (old new : PlacesByName) where
+    pub indexed_more : IsIndexed es old → IfSome e.field.name (λ n. e.hidden ≡ place_at old n.now) →
+        ((word : List ℕ) → place_at new word ≡ (if is_named (bytes_now e.field.name) word then Some (length es) else place_at old word)) → IsIndexed (es ++ e ∷ []) new
     indexed_more h hides put = record {
       innermost = λ word.
           let n = length-map es (λ x. x.field) in
@@ -92,7 +83,7 @@ module _ (es : List Entry) (e : Entry) where
             let hidden = rw named at hides in
             rw (same, last, taken_less (length es) (omega arith)) (hidden ∙ h.innermost name.now ∙ ap (last_place name.now) (sym (take_all (length es) (fields_of es) (omega arith))))
 
-    pub indexed_less : IsIndexed (es ++ e ∷ []) old → ((word : List ℕ) → kept_place new word ≡ (if is_named (bytes_now e.field.name) word then e.hidden else kept_place old word)) → IsIndexed es new
+    pub indexed_less : IsIndexed (es ++ e ∷ []) old → ((word : List ℕ) → place_at new word ≡ (if is_named (bytes_now e.field.name) word then e.hidden else place_at old word)) → IsIndexed es new
     indexed_less h put = record {
       innermost = λ word. put word ∙ by word e.field.name refl;
       hidden = λ i x name at is.
@@ -103,59 +94,103 @@ module _ (es : List Entry) (e : Entry) where
         before : (word : List ℕ) → last_place word (take (length es) (fields_of (es ++ e ∷ []))) ≡ last_place word (fields_of es)
         before word = let n = length-map es (λ x. x.field) in ap (last_place word) (taken_less (length es) (omega arith) ∙ take_all (length es) (fields_of es) (omega arith))
 
-        other : (word : List ℕ) → is_named (bytes_now e.field.name) word ≡ false → kept_place old word ≡ last_place word (fields_of es)
+        other : (word : List ℕ) → is_named (bytes_now e.field.name) word ≡ false → place_at old word ≡ last_place word (fields_of es)
         other word apart = h.innermost word ∙ ap (last_place word) fields_more ∙ last_more word (fields_of es) e.field ∙ rw apart refl
 
-        by : (word : List ℕ) (o : Option (Bor (List ℕ))) → e.field.name ≡ o → (if is_named (bytes_now o) word then e.hidden else kept_place old word) ≡ last_place word (fields_of es)
+        by : (word : List ℕ) (o : Option (Bor (List ℕ))) → e.field.name ≡ o → (if is_named (bytes_now o) word then e.hidden else place_at old word) ≡ last_place word (fields_of es)
         by word None is = other word (rw is refl)
         by word (Some name) is = cases (bytes_eq name.now word) refl
           where
-            cases : (b : Bool) → bytes_eq name.now word ≡ b → (if b then e.hidden else kept_place old word) ≡ last_place word (fields_of es)
+            cases : (b : Bool) → bytes_eq name.now word ≡ b → (if b then e.hidden else place_at old word) ≡ last_place word (fields_of es)
             cases true same =
                 let equal : name.now ≡ word = (bytes_decides name.now word).0 same in
                 h.hidden (length es) e name (get_last es e) is ∙ before name.now ∙ ap (λ w. last_place w (fields_of es)) equal
             cases false apart = other word (rw is apart)
 
-    -- the last field is kept for its name
-    pub last_kept : IsIndexed (es ++ e ∷ []) old → MatchOption e.field.name ⊥ (λ n. kept_place old n.now ≡ None) → ⊥
-    last_kept h none = by e.field.name refl
-      where
-        by : (o : Option (Bor (List ℕ))) → e.field.name ≡ o → ⊥
-        by None is = rw is at none
-        by (Some name) is =
-            let gone = rw is at none in
-            let yes : bytes_eq name.now name.now ≡ true = (bytes_decides name.now name.now).1 refl in
-            let kept = h.innermost name.now ∙ ap (last_place name.now) fields_more ∙ last_more name.now (fields_of es) e.field in
-            let there : kept_place old name.now ≡ Some (length (fields_of es)) = kept ∙ rw (is, yes) refl in
-            let clash : None ≡ Some (length (fields_of es)) = sym gone ∙ there in
-            cc
+  -- the last field is kept for its name
+  pub last_kept : (places : PlacesByName) → IsIndexed (es ++ e ∷ []) places → IfSome e.field.name (λ n. IsSome (place_at places n.now))
+  last_kept places h = by e.field.name refl
+    where
+      by : (o : Option (Bor (List ℕ))) → e.field.name ≡ o → IfSome o (λ n. IsSome (place_at places n.now))
+      by None is = tt
+      by (Some name) is =
+          let yes : bytes_eq name.now name.now ≡ true = (bytes_decides name.now name.now).1 refl in
+          let kept = h.innermost name.now ∙ ap (last_place name.now) fields_more ∙ last_more name.now (fields_of es) e.field in
+          let there : place_at places name.now ≡ Some (length (fields_of es)) = kept ∙ rw (is, yes) refl in
+          rw there refl
 
 -- what is found where the places are kept
-module _ (es : List Entry) (places : List (Bor (List ℕ) × Option ℕ)) (h : IsIndexed es places) (word : List ℕ) where
-  pub meant_none : (nodes : List Node) → kept_place places word ≡ None → resolve word (views_of nodes (fields_of es)) ≡ None
+module _ (es : List Entry) (places : PlacesByName) (h : IsIndexed es places) (word : List ℕ) where
+  pub meant_none : (nodes : List Node) → place_at places word ≡ None → resolve word (views_of nodes (fields_of es)) ≡ None
   meant_none nodes none = by es (sym (h.innermost word) ∙ none)
     where
       by : (xs : List Entry) → last_place word (fields_of xs) ≡ None → resolve word (views_of nodes (fields_of xs)) ≡ None
       by [] is = refl
       by (x ∷ xs) is = meant_at nodes word x.field (fields_of (x ∷ xs)) ∙ rw is refl
 
-  pub meant_within : (i : ℕ) → kept_place places word ≡ Some i → i < length es
+  pub meant_within : (i : ℕ) → place_at places word ≡ Some i → i < length es
   meant_within i some =
       let at : last_place word (fields_of es) ≡ Some i = sym (h.innermost word) ∙ some in
       let lt = rw at at (last_within word (fields_of es)) in
       let n = length-map es (λ x. x.field) in
       omega arith
 
-  pub meant_some : (nodes : List Node) (i : ℕ) (e : Entry) → kept_place places word ≡ Some i → e ≡ get_or es i e → resolve word (views_of nodes (fields_of es)) ≡ Some (view_of nodes e.field)
+  pub meant_some : (nodes : List Node) (i : ℕ) (e : Entry) → place_at places word ≡ Some i → e ≡ get_or es i e → resolve word (views_of nodes (fields_of es)) ≡ Some (view_of nodes e.field)
   meant_some nodes i e some is =
       let at : last_place word (fields_of es) ≡ Some i = sym (h.innermost word) ∙ some in
       let field = get_or-map (λ x. x.field) es i e e.field (meant_within i some) in
       meant_at nodes word e.field (fields_of es) ∙ rw at (ap (λ s. Some (view_of nodes s)) (field ∙ ap (λ x. x.field) (sym is)))
 
-  pub field_at : (i : ℕ) (e : Entry) → kept_place places word ≡ Some i → e ≡ get_or es i e → e.field ≡ get_or (fields_of es) i e.field
+  pub field_at : (i : ℕ) (e : Entry) → place_at places word ≡ Some i → e ≡ get_or es i e → e.field ≡ get_or (fields_of es) i e.field
   field_at i e some is = ap (λ x. x.field) is ∙ sym (get_or-map (λ x. x.field) es i e e.field (meant_within i some))
 
--- what holds where a call succeeds, and it does
-pub on_ok : {A E P Q : Type 0} (r : Result A E) → OnOk r P → OnErr r Q → (Q → ⊥) → P
-on_ok (Ok x) p q not = p
-on_ok (Err e) p q not = absurd (not q)
+-- looking for a name among fields and others behind them
+module _ (word : List ℕ) where
+  pub resolve_some : (xs ys : List Visible) (v : Visible) → resolve word ys ≡ Some v → resolve word (xs ++ ys) ≡ Some v
+  resolve_some [] ys v some = some
+  resolve_some (x ∷ xs) ys v some = rw (resolve_some xs ys v some) refl
+
+  pub resolve_none : (xs ys : List Visible) → resolve word ys ≡ None → resolve word (xs ++ ys) ≡ resolve word xs
+  resolve_none [] ys none = none
+  resolve_none (x ∷ xs) ys none = ap (or_this word x) (resolve_none xs ys none)
+
+-- fields and others behind them
+module _ (nodes : List Node) (word : List ℕ) (few many : List Seen) where
+  pub seen_behind : (s : Seen) → resolve word (views_of nodes many) ≡ Some (view_of nodes s) → resolve word (views_of nodes (few ++ many)) ≡ Some (view_of nodes s)
+  seen_behind s some = ap (resolve word) (map-append (view_of nodes) few many) ∙ resolve_some word (views_of nodes few) (views_of nodes many) (view_of nodes s) some
+
+  pub seen_before : resolve word (views_of nodes many) ≡ None → resolve word (views_of nodes (few ++ many)) ≡ resolve word (views_of nodes few)
+  seen_before none = ap (resolve word) (map-append (view_of nodes) few many) ∙ resolve_none word (views_of nodes few) (views_of nodes many) none
+
+module _ (n levels : ℕ) (few many : List Seen) (below : AreBelow n levels (few ++ many)) where
+  pub below_before : AreBelow n levels few
+  below_before k d lt = let long = length-append few many in subst (IsInLevel n levels) (get_or_append_left few many d k lt) (below k d (omega arith))
+
+  pub below_behind : AreBelow n levels many
+  below_behind k d lt =
+      let long = length-append few many in
+      subst (IsInLevel n levels) (get_or-append-add few many k d) (below (length few + k) d (omega arith))
+
+-- the first of fields and others behind them
+pub taken_both : (few many : List Seen) (count : ℕ) → take count (few ++ many) ≡ take count few ++ take (count - length few) many
+taken_both few many count = elim (cases_lt count (length few)) [
+  | inl lt ↦ let none : count - length few ≡ 0 = omega arith in take-append-le count few many (omega arith) ∙ rw none (sym (append-nil (take count few)))
+  | inr le ↦
+      let more : length few + (count - length few) ≡ count = omega arith in
+      ap (λ c. take c (few ++ many)) (sym more) ∙ take-append-add few many (count - length few) ∙ ap (λ xs. xs ++ take (count - length few) many) (sym (take_all count few le))
+]
+
+-- the last of the first fields
+module _ (nodes : List Node) (word : List ℕ) (fields : List Seen) (left : ℕ) (d : Seen) (lt : left < length fields) where
+  last_of : take (left + 1) fields ≡ take left fields ++ get_or fields left d ∷ []
+  last_of = let next : left + 1 ≡ suc left = omega arith in ap (λ n. take n fields) next ∙ take-suc fields left d lt
+
+  pub last_here : is_named (bytes_now (get_or fields left d).name) word ≡ true → resolve word (views_of nodes (take (left + 1) fields)) ≡ Some (view_of nodes (get_or fields left d))
+  last_here here =
+      ap (λ xs. resolve word (views_of nodes xs)) last_of
+      ∙ seen_behind nodes word (take left fields) (get_or fields left d ∷ []) (get_or fields left d) (rw here refl)
+
+  pub last_passed : is_named (bytes_now (get_or fields left d).name) word ≡ false → resolve word (views_of nodes (take (left + 1) fields)) ≡ resolve word (views_of nodes (take left fields))
+  last_passed passed =
+      ap (λ xs. resolve word (views_of nodes xs)) last_of
+      ∙ seen_before nodes word (take left fields) (get_or fields left d ∷ []) (rw passed refl)

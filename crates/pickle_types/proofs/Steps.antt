@@ -1,7 +1,6 @@
 -- A table that grows keeps what names and fields mean.
-use Rattle.std.proofs.Common.{◌≡◌, ℕ, suc, List, [], ◌∷◌, ◌++◌, map, Option, Result, length, refl, ap, ◌∙◌, arith, Vec, Global}
+use Rattle.std.proofs.Common.{◌≡◌, ℕ, suc, List, [], ◌∷◌, ◌++◌, map, Option, Result, length, refl, ap, ◌∙◌, arith}
 use Rattle.std.specs.Prelude.{All}
-use Rattle.std.specs.Map.{values_of}
 use Rattle.std.proofs.lemmas.List.{map_push, append_assoc}
 use Rattle.std.proofs.lemmas.List.Elements.{All-append}
 use Rattle.pickle_types.specs.declared.fault.FaultKind.{FaultKind}
@@ -9,6 +8,7 @@ use Rattle.pickle_types.specs.declared.fault.FaultKind.TheVariants.{Memory}
 use Rattle.pickle_types.specs.declared.table.Node.{Node}
 use Rattle.pickle_types.specs.declared.scopes.Seen.{Seen}
 use Rattle.pickle_types.specs.declared.names.Declared.{Declared}
+use Rattle.pickle_types.specs.declared.names.Named.{Named}
 use Rattle.pickle_types.specs.Types.{PokeType}
 use Rattle.pickle_types.specs.Table.{type_of, IsTable, Grows}
 use Rattle.pickle_types.specs.Scopes.{sees}
@@ -31,10 +31,10 @@ module _ (old new : List Node) (table : IsTable old) (grows : Grows old new) whe
       let tail = views_kept levels seen (λ k d lt. h (suc k) d (omega arith)) in
       rw (head, tail) refl
 
-  pub names_kept : (es : List (Vec ℕ Global × Declared)) → All (IsNamed old) (values_of es) → map (named_of new) es ≡ map (named_of old) es
+  pub names_kept : (es : List Named) → All (IsNamed old) (map (λ d. d.declared) es) → map (named_of new) es ≡ map (named_of old) es
   names_kept [] h = refl
   names_kept (e ∷ es) h =
-      let head : type_of new e.1.node ≡ type_of old e.1.node = type_kept old new table grows e.1.node (h 0 e.1 (omega arith)).inside in
+      let head : type_of new e.declared.node ≡ type_of old e.declared.node = type_kept old new table grows e.declared.node (h 0 e.declared (omega arith)).inside in
       let tail = names_kept es (λ k d lt. h (suc k) d (omega arith)) in
       rw (head, tail) refl
 

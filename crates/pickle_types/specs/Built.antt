@@ -1,7 +1,7 @@
 -- What the checker holds, as the trees that it stands for.
-use Rattle.std.specs.Prelude.{◌≡◌, ℕ, ◌<◌, length, List, [], ◌∷◌, ◌++◌, map, Option, Some, None, Result, Ok, Err, Vec, All}
+use Rattle.std.specs.Prelude.{◌≡◌, ℕ, ◌<◌, length, List, [], ◌∷◌, ◌++◌, map, Option, Some, None, Result, Ok, Err, Vec, All, if◌then◌else◌}
 use Rattle.std.specs.declared.alloc.Global.{Global}
-use Rattle.std.specs.Map.{values_of}
+use Rattle.std.specs.Str.{bytes_eq}
 use denote.Bor.{Bor}
 use Rattle.pickle_types.specs.declared.fault.FaultKind.{FaultKind}
 use Rattle.pickle_types.specs.declared.fault.FaultKind.TheVariants.{Memory}
@@ -9,7 +9,7 @@ use Rattle.pickle_types.specs.declared.table.Field.{Field}
 use Rattle.pickle_types.specs.declared.table.Part.{Part}
 use Rattle.pickle_types.specs.declared.table.Node.{Node}
 use Rattle.pickle_types.specs.declared.names.Declared.{Declared}
-use Rattle.pickle_types.specs.declared.names.Names.{Names as RustNames}
+use Rattle.pickle_types.specs.declared.names.Named.{Named}
 use Rattle.pickle_types.specs.declared.scopes.Seen.{Seen}
 use Rattle.pickle_types.specs.declared.check.sorts.Sort.{Sort as RustSort}
 use Rattle.pickle_types.specs.declared.check.sorts.Sort.TheVariants as sort
@@ -53,19 +53,28 @@ pub record IsInLevel (n levels : ℕ) (s : Seen) : Type 0 where
 abbrev pub AreBelow : ℕ → ℕ → List Seen → Type 0
 AreBelow n levels seen = All (IsInLevel n levels) seen
 
-abbrev pub named_of : List Node → Vec ℕ Global × Declared → List ℕ × PokeType
-named_of nodes d = (d.0.items, type_of nodes d.1.node)
+abbrev pub named_of : List Node → Named → List ℕ × PokeType
+named_of nodes d = (d.word.items, type_of nodes d.declared.node)
 
-abbrev pub names_of : List Node → RustNames → Names
-names_of nodes names = map (named_of nodes) names.map.entries
+abbrev pub names_of : List Node → List Named → Names
+names_of nodes names = map (named_of nodes) names
+
+-- the names alone
+abbrev pub words_of : List Named → List (Option (List ℕ))
+words_of = map (λ d. Some d.word.items)
+
+-- what the first of some names that is the word was given to
+abbrev pub declared_as : List ℕ → List Named → Option Declared
+declared_as word [] = None
+declared_as word (d ∷ ds) = if bytes_eq word d.word.items then Some d.declared else declared_as word ds
 
 -- the node of a name is one of the table, and its depth is its type's
 pub record IsNamed (nodes : List Node) (d : Declared) : Type 0 where
   pub inside : d.node < length nodes
   pub deep : d.depth ≡ depth (type_of nodes d.node)
 
-abbrev pub AreNamed : List Node → RustNames → Type 0
-AreNamed nodes names = All (IsNamed nodes) (values_of names.map.entries)
+abbrev pub AreNamed : List Node → List Named → Type 0
+AreNamed nodes names = All (IsNamed nodes) (map (λ d. d.declared) names)
 
 abbrev pub IsFound : List Node → Option Declared → Option PokeType → Type 0
 IsFound nodes None found = found ≡ None
@@ -102,8 +111,8 @@ names_in (f ∷ fs) = name_of f.name ∷ names_in fs
 abbrev pub part_of : Field → Part
 part_of f = record { name = f.name; order = f.order; node = f.node; constraint = f.constraint }
 
--- one more entry, behind the others
-pub record AddsEntry (old new : List (Vec ℕ Global × Declared)) (word : List ℕ) (d : Declared) : Type 0 where
-  pub key : Vec ℕ Global
-  pub bytes : key.items ≡ word
-  pub entries : new ≡ old ++ (key, d) ∷ []
+-- one more name, behind the others
+pub record AddsName (old new : List Named) (word : List ℕ) (d : Declared) : Type 0 where
+  pub name : Vec ℕ Global
+  pub bytes : name.items ≡ word
+  pub names : new ≡ old ++ record { word = name; declared = d } ∷ []

@@ -1,14 +1,16 @@
 -- The names of a type's fields, and their places.
-use Rattle.std.specs.Prelude.{◌≡◌, ℕ, suc, ◌≤◌, List, [], ◌∷◌, length, Option, Some, None, option_map, slice_get, nat_eq, if◌then◌else◌}
+use Rattle.std.specs.Prelude.{◌≡◌, ℕ, suc, ◌≤◌, List, [], ◌∷◌, length, Option, Some, None, option_map, slice_get, if◌then◌else◌}
+use Rattle.std.specs.Ordering.{nat_cmp}
 use Rattle.std.specs.Map.{lookup}
-use Rattle.std.specs.Str.{bytes_eq}
+use Rattle.std.specs.BTreeMap.{is_at}
 use Rattle.pickle_types.specs.declared.table.Part.{Part}
 use Rattle.pickle_types.specs.declared.table.Shape.{Shape}
 use Rattle.pickle_types.specs.declared.table.Shape.TheVariants as shape
 use Rattle.pickle_types.specs.declared.table.Node.{Node}
-use Rattle.pickle_types.specs.declared.check.field_names.FieldNames.{FieldNames}
+use Rattle.pickle_types.specs.declared.places_by_name.PlacesByName.{PlacesByName}
 use Rattle.pickle_types.specs.Table.{name_of}
 use Rattle.pickle_types.specs.Scopes.{is_named}
+use Rattle.pickle_types.specs.PlacesByName.{place_at}
 use Rattle.pickle_types.specs.Built.{names_in}
 
 -- the place of the first field of a name
@@ -16,13 +18,9 @@ abbrev pub place_named : List ℕ → List (Option (List ℕ)) → Option ℕ
 place_named word [] = None
 place_named word (n ∷ ns) = if is_named n word then Some 0 else option_map suc (place_named word ns)
 
--- the place that is kept for a name
-abbrev pub kept_in : FieldNames → List ℕ → Option ℕ
-kept_in names word = lookup (λ k. bytes_eq word k.now) names.places.entries
-
 -- the place of each name is kept
-pub record ArePlaced (names : List (Option (List ℕ))) (places : FieldNames) : Type 0 where
-  pub kept : (word : List ℕ) → kept_in places word ≡ place_named word names
+pub record ArePlaced (names : List (Option (List ℕ))) (places : PlacesByName) : Type 0 where
+  pub kept : (word : List ℕ) → place_at places word ≡ place_named word names
 
 abbrev pub part_names : List Part → List (Option (List ℕ))
 part_names [] = []
@@ -39,6 +37,6 @@ shape_names (shape.Integral name number fields) = part_names fields.items
 shape_names (shape.Union name alternatives) = part_names alternatives.items
 
 -- where the names of a node's fields are kept, their places are
-pub record AreIndexed (nodes : List Node) (names : List (ℕ × FieldNames)) : Type 0 where
-  pub some : (i : ℕ) (node : Node) (places : FieldNames) → slice_get nodes i ≡ Some node → lookup (nat_eq i) names ≡ Some places → ArePlaced (shape_names node.shape) places
-  pub past : (i : ℕ) → length nodes ≤ i → lookup (nat_eq i) names ≡ None
+pub record AreIndexed (nodes : List Node) (names : List (ℕ × PlacesByName)) : Type 0 where
+  pub some : (i : ℕ) (node : Node) (places : PlacesByName) → slice_get nodes i ≡ Some node → lookup (is_at (nat_cmp i)) names ≡ Some places → ArePlaced (shape_names node.shape) places
+  pub past : (i : ℕ) → length nodes ≤ i → lookup (is_at (nat_cmp i)) names ≡ None

@@ -4,6 +4,7 @@ pub mod Table
 pub mod Bounds
 pub mod Scopes
 pub mod Innermost
+pub mod PlacesByName
 pub mod FieldNames
 pub mod Names
 pub mod Operators

@@ -15,7 +15,7 @@ nodes_of t = t.nodes.items
 
 -- the predeclared and the declared types, each with its name
 abbrev pub types_of : Table → Names
-types_of t = names_of t.nodes.items t.names
+types_of t = names_of t.nodes.items t.names.items
 
 -- how many types are declared
 abbrev pub count_of : Table → ℕ
@@ -32,7 +32,7 @@ IsInTable t id = id.node < length t.nodes.items
 -- the nodes are a table's, and each name has a node
 pub record IsSound (t : Table) : Type 0 where
   pub table : IsTable t.nodes.items
-  pub named : AreNamed t.nodes.items t.names
+  pub named : AreNamed t.nodes.items t.names.items
 
 -- what was found is the type of that name, where there is one
 abbrev pub IsTypeFound : Table → Option TypeId → Option PokeType → Type 0

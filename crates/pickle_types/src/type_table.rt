@@ -19,7 +19,7 @@ use crate::check::nodes::Nodes;
 use crate::check::types::{Builder, Found, Title};
 use crate::fault::{FaultKind, TypeFault};
 use crate::integer::IntegerType;
-use crate::names::{Declared, Names, find_name, insert};
+use crate::names::{Declared, Named, Names, find_listed, find_name};
 use crate::predeclared::PREDECLARED;
 use crate::scopes::Scopes;
 use crate::table::{Node, Shape};
@@ -40,7 +40,7 @@ impl<'n> Builder<'n> {
     }
 
     /// Gives a type a name that no type has.
-    fn add(&mut self, word: &[u8], found: Found) -> Result<(), FaultKind>
+    fn add(&mut self, word: &'n [u8], found: Found) -> Result<(), FaultKind>
         requires ready { IsReady self.old }
         requires new { find_type word.now (known_types self.old) ≡ None }
         requires inside { found.node < length self.old.nodes }
@@ -53,12 +53,12 @@ impl<'n> Builder<'n> {
             node: found.node,
             depth: found.depth,
         };
-        insert(&mut self.names, self.alloc, word, declared)?;
+        self.names.insert(self.alloc, word, declared)?;
         Ok(())
     }
 
     /// Adds integer types under names that are new.
-    fn predeclare(&mut self, types: &[(&[u8], IntegerType)]) -> Result<(), FaultKind>
+    fn predeclare(&mut self, types: &[(&'n [u8], IntegerType)]) -> Result<(), FaultKind>
         requires ready { IsReady self.old }
         requires new { IsTrue (may_add (known_types self.old) types.now) }
         ensures ready { OnOk result (IsReady self.new) }
@@ -71,7 +71,7 @@ impl<'n> Builder<'n> {
         Ok(())
     }
 
-    fn predeclare_one(&mut self, word: &[u8], ty: IntegerType) -> Result<(), FaultKind>
+    fn predeclare_one(&mut self, word: &'n [u8], ty: IntegerType) -> Result<(), FaultKind>
         requires ready { IsReady self.old }
         requires new { find_type word.now (known_types self.old) ≡ None }
         requires wide { IsWidth ty }
@@ -154,7 +154,7 @@ pub struct Table {
     pub(crate) nodes: Vec<Node>,
     /// The nodes of the declared types that are no other names of earlier ones, in rising order.
     pub(crate) roots: Vec<usize>,
-    names: Names,
+    names: Vec<Named>,
     declared: usize,
 }
 
@@ -183,17 +183,17 @@ impl Table {
         Ok(Table {
             nodes: nodes.into_nodes(),
             roots,
-            names,
+            names: names.into_list(),
             declared: pickle.declarations.len(),
         })
     }
 
-    /// The type of a declared or predeclared name.
+    /// The type of a declared or predeclared name, after a look at each name before it.
     pub fn find(&self, name: &[u8]) -> Option<TypeId>
         ensures found { IsTypeFound self.now result (find_type name.now (types_of self.now)) }
         ensures inside { IsSound self.now → IfSome result (IsInTable self.now) }
     {
-        match find_name(&self.names, name) {
+        match find_listed(&self.names, name) {
             Some(declared) => Some(TypeId {
                 node: declared.node,
             }),

@@ -90,7 +90,25 @@ const MANY: &str = r#"«0..70 type T~ = byte;»type A = uint<65>; ==> Width in t
 «0..100 type T~ = byte;»type T99 = bit; ==> DuplicateType in type 101
 «0..4095 type T~ = byte;»type A = B; ==> UnknownType in type 4096
 type U = union {«0..1024  byte a~;»}; ==> types 1
-type U = union {«0..1023  byte a~;» byte a7; }; ==> DuplicateField in type 1"#;
+type U = union {«0..1023  byte a~;» byte a7; }; ==> DuplicateField in type 1
+type A = struct {«0..40 byte f~;» byte x : f0 == f31 && f32 == f39; }; ==> types 1
+type A = struct {«0..40 byte f~;» byte x : f40; }; ==> UnknownName in type 1
+type A = struct {«0..40 byte f~;» struct { offset<byte,B> f3; byte x : f3 == 1#B; } s; byte y : f3 == 1; }; ==> types 1
+type A = struct {«0..40 byte f~;» struct { offset<byte,B> f39; byte x : f39 == 1#B; } s; byte y : f39 == 1; }; ==> types 1
+type A = struct {«0..40 byte f~;» struct { offset<byte,B> f3; byte x : f3 == 1; } s; }; ==> Mismatch in type 1
+type A = struct {«0..40 byte f~;» struct { offset<byte,B> f39; } s; byte y : f39 == 1#B; }; ==> Mismatch in type 1
+type A = struct {«0..40 byte f~;» struct { byte g; } s; byte y : g == 1; }; ==> UnknownName in type 1
+type A = struct {«0..40 byte f~;» struct {«0..400 byte g~;» byte x : g399 == f39; } s; byte y : f39 == 1; }; ==> types 1
+type A = struct {«0..400 byte f~;»}; type B = struct {«0..40 byte g~;» byte x : f399; }; ==> UnknownName in type 2"#;
+
+/// Names that are scattered to one tree, since 31 times A and a is 31 times B and B.
+const ALIKE: &str = r#"type Aa = byte; type BB = bit; type Aa = byte; ==> DuplicateType in type 3
+type Aa = byte; type A = struct { BB x; }; ==> UnknownType in type 2
+type Aa = byte; type BB = offset<byte,B>; type A = struct { Aa a; BB b : b == 1#B && a == 1; }; ==> types 3
+type A = struct {«0..40 byte f~;» byte Aa; offset<byte,B> BB : BB == 1#B && Aa == 1; }; ==> types 1
+type A = struct {«0..40 byte f~;» byte Aa; byte x : BB; }; ==> UnknownName in type 1
+type A = struct {«0..40 byte f~;» byte Aa; struct { offset<byte,B> BB : BB == 1#B && Aa == 1; } s; byte x : BB == 1; }; ==> UnknownName in type 1
+type A = struct {«0..40 byte f~;» byte AaAa; byte AaBB; byte BBAa; byte AaBB; }; ==> DuplicateField in type 1"#;
 
 /// Pickles, with the name of a type and a number of bits, and the most steps and slots.
 const BOUNDS: &str =
@@ -131,7 +149,7 @@ fn expect(rt: &impl Abort, alloc: Global, pickle: &[u8], told: &str) -> Result<(
 
 #[test]
 fn counts_types_or_tells_a_fault(rt: HostRuntime) -> Result<(), Fail> {
-    for table in [FAULTS, ACCEPTED, UNSEEN, LEFT_OUT, CHAINS, MANY] {
+    for table in [FAULTS, ACCEPTED, UNSEEN, LEFT_OUT, CHAINS, MANY, ALIKE] {
         for line in table.lines() {
             let (text, told) = line.split_once(" ==> ").ok_or("no arrow")?;
             let pickle = bytes_of(rt.alloc(), text)?;

@@ -9,8 +9,9 @@ ghost use Rattle.pickle_types.specs.FieldNames.{ArePlaced};
 ghost use Rattle.pickle_types.specs.declared.table.Field.{Field};
 ghost use Rattle.pickle_types.specs.contracts.table.Resolved as resolved;
 
-use crate::check::field_names::{FieldNames, field_place};
+use crate::check::field_names::field_place;
 use crate::fault::FaultKind;
+use crate::places_by_name::PlacesByName;
 use crate::table::Field;
 use std::alloc::Global;
 use std::marker::Model;
@@ -23,7 +24,7 @@ const FEW: usize = 32;
 pub struct FieldList<'n> {
     fields: Vec<Field>,
     /// The names of many fields.
-    names: Option<FieldNames<'n>>,
+    names: Option<PlacesByName<'n>>,
 }
 
 impl<'n> Model for FieldList<'n> {
@@ -44,7 +45,7 @@ impl<'n> FieldList<'n> {
     {
         let fields = Vec::with_capacity(alloc, count)?;
         let names = if count > FEW {
-            Some(FieldNames::with_capacity(alloc, count)?)
+            Some(PlacesByName::with_capacity(alloc, count)?)
         } else {
             None
         };
@@ -80,7 +81,7 @@ impl<'n> FieldList<'n> {
             return Ok(());
         };
         match names.add(name, place) {
-            Ok(()) => Ok(()),
+            Ok(_) => Ok(()),
             Err(kind) => {
                 self.fields.truncate(place);
                 Err(kind)
@@ -89,7 +90,7 @@ impl<'n> FieldList<'n> {
     }
 
     /// The fields, and the names of many.
-    pub fn into_parts(self) -> (Vec<Field>, Option<FieldNames<'n>>)
+    pub fn into_parts(self) -> (Vec<Field>, Option<PlacesByName<'n>>)
         ensures fields { result.0.items ≡ self.entry }
         ensures names { IfSome result.1 (ArePlaced (names_in self.entry)) }
     {

@@ -6,11 +6,12 @@ ghost use Rattle.pickle_types.specs.FieldNames.{place_named, shape_names, ArePla
 ghost use Rattle.pickle_types.specs.declared.table.Node.{Node};
 ghost use Rattle.pickle_types.specs.contracts.table.Resolved as resolved;
 
-use crate::check::field_names::{FieldNames, shape_place};
+use crate::check::field_names::shape_place;
 use crate::fault::FaultKind;
+use crate::places_by_name::PlacesByName;
 use crate::table::Node;
-use indexmap::IndexMap;
 use std::alloc::Global;
+use std::collections::BTreeMap;
 use std::marker::Model;
 
 /// Nodes, each found by its index, and their fields by their names.
@@ -18,7 +19,7 @@ use std::marker::Model;
 pub struct Nodes<'n> {
     nodes: Vec<Node>,
     /// The names of a node's fields, where it has many.
-    names: IndexMap<usize, FieldNames<'n>>,
+    names: BTreeMap<usize, PlacesByName<'n>>,
 }
 
 impl<'n> Model for Nodes<'n> {
@@ -37,7 +38,7 @@ impl<'n> Nodes<'n> {
     {
         Nodes {
             nodes: Vec::new(alloc),
-            names: IndexMap::new(alloc),
+            names: BTreeMap::new(alloc),
         }
     }
 
@@ -65,7 +66,7 @@ impl<'n> Nodes<'n> {
     }
 
     /// One more node, with the names of its fields where they are many.
-    pub fn push(&mut self, node: Node, names: Option<FieldNames<'n>>) -> Result<(), FaultKind>
+    pub fn push(&mut self, node: Node, names: Option<PlacesByName<'n>>) -> Result<(), FaultKind>
         requires { IfSome names (ArePlaced (shape_names node.shape)) }
         ensures ok { OnOk result (self.new ≡ self.old ++ node ∷ []) }
         ensures err { OnErr result (self.new ≡ self.old) }

@@ -12,7 +12,6 @@ ghost use Rattle.pickle_types.specs.Building.{known_types, visible_in, after_its
 
 use crate::check::expressions::{integer, typed};
 use crate::check::field_list::FieldList;
-use crate::check::field_names::FieldNames;
 use crate::check::fields::{
     condition_in, constraint_in, copied, form_in, fresh, label_in, name_in, order_in, parts_from,
     place_in, stand, struct_place, total_width,
@@ -24,6 +23,7 @@ use crate::check::references::{in_range, integer_referred, offset_parts};
 use crate::check::sorts::{has_width, operand_of, predeclared_node};
 use crate::fault::FaultKind;
 use crate::names::{Names, find_name};
+use crate::places_by_name::PlacesByName;
 use crate::scopes::{Scopes, Seen};
 use crate::table::{Extent, Field, MOST_ALTERNATIVES, MOST_NODES, Node, Resolved, Shape};
 use pickle_syntax::tree;
@@ -48,7 +48,7 @@ pub struct Title<'n> {
 #[derive(Drop)]
 pub struct Builder<'n> {
     pub alloc: Global,
-    pub names: Names,
+    pub names: Names<'n>,
     pub nodes: Nodes<'n>,
     pub seen: Scopes<'n>,
 }
@@ -197,7 +197,7 @@ impl<'n> Builder<'n> {
         &mut self,
         slot: Option<u16>,
         shape: Shape,
-        names: Option<FieldNames<'n>>,
+        names: Option<PlacesByName<'n>>,
         depth: u8,
     ) -> Result<Found, FaultKind>
         requires named { IfSome names (ArePlaced (shape_names shape)) }

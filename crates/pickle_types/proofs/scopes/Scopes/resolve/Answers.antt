@@ -1,28 +1,21 @@
-use Rattle.std.proofs.Common.{◌<◌, length, sym, subst, ◌∙◌, arith}
-use Rattle.std.proofs.lemmas.List.{length-map}
-use Rattle.pickle_types.specs.Built.{IsInLevel}
-use Rattle.pickle_types.proofs.Places.{meant_none, meant_within, meant_some, field_at}
+use Rattle.pickle_types.proofs.Places.{seen_behind, seen_before, below_before, below_behind}
 use Rattle.pickle_types.proofs.scopes.Scopes.resolve.Goals as goal
-
-pub index-requires : goal.index-requires
-index-requires c =
-    let within : c.in-Some.place < length c.self.inside.entries.items = meant_within _ c.self.inside.places.entries c.self.invariant c.args.word.now _ (sym c.place_of.ensures ∙ c.in-Some.is) in
-    omega arith
-
-pub returns-in-None-clause-found : goal.returns-in-None-clause-found
-returns-in-None-clause-found c nodes = rw (← c.self.view_is) (meant_none c.self.inside.entries.items c.self.inside.places.entries c.self.invariant c.args.word.now nodes (sym c.place_of.ensures ∙ c.in-None.is))
 
 pub returns-in-Some-clause-found : goal.returns-in-Some-clause-found
 returns-in-Some-clause-found c nodes =
-    rw (← c.self.view_is) (meant_some c.self.inside.entries.items c.self.inside.places.entries c.self.invariant c.args.word.now nodes c.in-Some.place c.index.result.now (sym c.place_of.ensures ∙ c.in-Some.is) c.index.ensures)
+    rw (← c.self.view_is) (seen_behind nodes c.args.word.now c.self.inside.few.items c.self.inside.many c.in-Some.field (c.in-Some.ensures.found nodes))
 
 pub returns-in-Some-clause-inside : goal.returns-in-Some-clause-inside
 returns-in-Some-clause-inside c n levels below =
-    let es = c.self.inside.entries.items in
-    let field = c.index.result.now.field in
-    let some = sym c.place_of.ensures ∙ c.in-Some.is in
-    let within : c.in-Some.place < length es = meant_within es c.self.inside.places.entries c.self.invariant c.args.word.now c.in-Some.place some in
-    let same = field_at es c.self.inside.places.entries c.self.invariant c.args.word.now c.in-Some.place c.index.result.now some c.index.ensures in
-    let long = length-map es (λ x. x.field) in
-    let all = rw (← c.self.view_is) at below in
-    subst (IsInLevel n levels) (sym same) (all c.in-Some.place field (omega arith))
+    c.in-Some.ensures.inside n levels (below_behind n levels c.self.inside.few.items c.self.inside.many (rw (← c.self.view_is) at below))
+
+pub returns-in-None-clause-found : goal.returns-in-None-clause-found
+returns-in-None-clause-found c nodes =
+    let before = seen_before nodes c.args.word.now c.self.inside.few.items c.self.inside.many (c.in-None.ensures.found nodes) in
+    let found = rw c.deref.ensures.value at c.last_named.ensures.found nodes in
+    rw (← c.self.view_is, before) found
+
+pub returns-in-None-clause-inside : goal.returns-in-None-clause-inside
+returns-in-None-clause-inside c n levels below =
+    let few = below_before n levels c.self.inside.few.items c.self.inside.many (rw (← c.self.view_is) at below) in
+    c.last_named.ensures.inside n levels (rw c.deref.ensures.value few)

@@ -13,4 +13,4 @@ invariant_of-self-in-Ok c =
     let fresh = rw (← c.requires.name, ← c.self.view_is) at c.requires.fresh in
     let placed = rw c.in-Some.is at c.self.invariant in
     rw (c.in_ok-push.ensures.items, names_more fields c.args.field)
-    (placed_more (names_in fields) (name_of c.args.field.name) c.in-Some.names c.add.new.self placed fresh (λ word. rw (c.requires.name, count, ← n) (c.in-Ok.ensures.ok word)))
+    (placed_more (names_in fields) (name_of c.args.field.name) c.in-Some.names c.add.new.self placed fresh (λ word. rw (c.requires.name, count, ← n) (c.in-Ok.ensures.put word)))

@@ -1,5 +1,5 @@
 use Rattle.std.proofs.Common.{◌≡◌, take, length}
-use Rattle.pickle_types.proofs.scopes.Scopes.truncate.Given as goal
+use Rattle.pickle_types.proofs.many_fields.ManyFields.truncate.Given as goal
 
 abbrev pub decreases-loop-self : goal.decreases-loop-self
 decreases-loop-self l = length l.self

@@ -1,0 +1,35 @@
+-- Places that are found by names, and the trees that names are scattered to.
+use Rattle.std.specs.Prelude.{ℕ, ◌+◌, ◌*◌, ◌%◌, length, List, [], ◌∷◌, Option, Some, None, slice_get}
+use Rattle.std.specs.Ordering.{nat_cmp}
+use Rattle.std.specs.Cmp.Lexicographic.{slice_cmp}
+use Rattle.std.specs.BTreeMap.{BTreeMap, get_by, IsEmpty}
+use denote.Bor.{Bor}
+use Rattle.pickle_types.specs.declared.places_by_name.PlacesByName.{PlacesByName}
+
+-- a number that the bytes of a name lead to, from n on
+abbrev pub scattered : ℕ → List ℕ → ℕ
+scattered n [] = n
+scattered n (byte ∷ bytes) = scattered ((n * 31 + byte) % 65536) bytes
+
+-- the tree of a name, of so many
+abbrev pub bucket_of : ℕ → List ℕ → ℕ
+bucket_of count word = scattered 0 word % count
+
+-- a tree of names
+abbrev pub Tree : Type 0
+Tree = BTreeMap (Bor (List ℕ)) ℕ
+
+abbrev pub IsBare : Tree → Type 0
+IsBare tree = IsEmpty tree
+
+abbrev pub place_in : List ℕ → Option Tree → Option ℕ
+place_in word None = None
+place_in word (Some tree) = get_by (λ k. slice_cmp nat_cmp word k.now) tree
+
+-- the place of a name, among trees
+abbrev pub place_among : List Tree → List ℕ → Option ℕ
+place_among trees word = place_in word (slice_get trees (bucket_of (length trees) word))
+
+-- the place of a name
+abbrev pub place_at : PlacesByName → List ℕ → Option ℕ
+place_at names word = place_among names.trees.items word

@@ -1,0 +1,159 @@
+//! Places that are found by names, in a time that no choice of names makes long.
+
+ghost use Rattle.std.specs.Prelude.{◌≡◌, ◌+◌, ◌<◌, ℕ, List, length, if◌then◌else◌, None, Some, All, IsSome, IfSome, IfOk, IfErr, OnOk, OnErr};
+ghost use Rattle.std.specs.Str.{bytes_eq};
+ghost use Rattle.pickle_types.specs.Scopes.{is_named};
+ghost use Rattle.pickle_types.specs.Built.{bytes_now};
+ghost use Rattle.pickle_types.specs.PlacesByName.{bucket_of, place_at, IsBare};
+
+use crate::fault::FaultKind;
+use std::alloc::Global;
+use std::collections::BTreeMap;
+
+/// How many trees names are scattered to where it isn't known how many there will be.
+const MANY: usize = 256;
+
+/// Names, each with a place. They are scattered to trees, so that a tree has few of them. Where names are chosen so that one tree
+/// has all, a name is found there by as many comparisons as the tree is deep.
+#[derive(Drop)]
+pub struct PlacesByName<'n> {
+    alloc: Global,
+    trees: Vec<BTreeMap<&'n [u8], usize>>,
+}
+
+/// The tree of a name, of so many.
+fn bucket_of(word: &[u8], count: usize) -> usize
+    requires some { 0 < count }
+    ensures tree { result ≡ bucket_of count word.now }
+    ensures inside { result < count }
+{
+    let mut scattered: usize = 0;
+    for byte in word {
+        scattered = (scattered * 31 + usize::from(*byte)) % 65536;
+    }
+    scattered % count
+}
+
+/// Adds so many trees without names.
+fn add_trees<'n>(
+    trees: &mut Vec<BTreeMap<&'n [u8], usize>>,
+    alloc: Global,
+    count: usize,
+) -> Result<(), FaultKind>
+    requires bare { All IsBare trees.old.items }
+    ensures bare { All IsBare trees.new.items }
+    ensures count { OnOk result (length trees.new.items ≡ length trees.old.items + count) }
+    ensures kind { IfErr result (λ e. e ≡ FaultKind.Memory) }
+{
+    trees.reserve(count)?;
+    for _ in 0..count {
+        trees.push(BTreeMap::new(alloc))?;
+    }
+    Ok(())
+}
+
+impl<'n> PlacesByName<'n> {
+    /// No names.
+    pub fn new(alloc: Global) -> PlacesByName<'n>
+        ensures { (word : List ℕ) → place_at result word ≡ None }
+    {
+        PlacesByName {
+            alloc,
+            trees: Vec::new(alloc),
+        }
+    }
+
+    /// No names, and trees for so many.
+    pub fn with_capacity(alloc: Global, count: usize) -> Result<PlacesByName<'n>, FaultKind>
+        ensures ok { IfOk result (λ names. (word : List ℕ) → place_at names word ≡ None) }
+        ensures kind { IfErr result (λ e. e ≡ FaultKind.Memory) }
+    {
+        let mut trees = Vec::new(alloc);
+        add_trees(&mut trees, alloc, count / 8 + 1)?;
+        Ok(PlacesByName { alloc, trees })
+    }
+
+    /// The place of a name.
+    pub fn find(&self, word: &[u8]) -> Option<usize>
+        ensures { result ≡ place_at self.now word.now }
+    {
+        let count = self.trees.len();
+        if count == 0 {
+            return None;
+        }
+        self.trees[bucket_of(word, count)].get(word).copied()
+    }
+
+    /// Makes trees, where there are none yet.
+    fn open(&mut self) -> Result<(), FaultKind>
+        ensures same { (word : List ℕ) → place_at self.new word ≡ place_at self.old word }
+        ensures some { OnOk result (0 < length self.new.trees.items) }
+        ensures none { OnErr result ((word : List ℕ) → place_at self.old word ≡ None) }
+        ensures kind { IfErr result (λ e. e ≡ FaultKind.Memory) }
+    {
+        if self.trees.is_empty() {
+            add_trees(&mut self.trees, self.alloc, MANY)?;
+        }
+        Ok(())
+    }
+
+    /// Gives a name a place, and tells the one that it had. A name that has one needs no memory.
+    pub fn put(&mut self, name: &'n [u8], place: usize) -> Result<Option<usize>, FaultKind>
+        ensures put { OnOk result ((word : List ℕ) → place_at self.new word ≡ (if bytes_eq name.now word then Some place else place_at self.old word)) }
+        ensures had { IfOk result (λ had. had ≡ place_at self.old name.now) }
+        ensures err { OnErr result ((word : List ℕ) → place_at self.new word ≡ place_at self.old word) }
+        ensures absent { OnErr result (place_at self.old name.now ≡ None) }
+        ensures kind { IfErr result (λ e. e ≡ FaultKind.Memory) }
+    {
+        self.open()?;
+        let tree = bucket_of(name, self.trees.len());
+        Ok(self.trees[tree].insert(name, place)?)
+    }
+
+    /// Gives a name a place, where there is a name, and tells the one that it had.
+    pub fn add(&mut self, name: Option<&'n [u8]>, place: usize) -> Result<Option<usize>, FaultKind>
+        ensures put { OnOk result ((word : List ℕ) → place_at self.new word ≡ (if is_named (bytes_now name.entry) word then Some place else place_at self.old word)) }
+        ensures had { IfOk result (λ had. IfSome name.entry (λ n. had ≡ place_at self.old n.now)) }
+        ensures err { OnErr result ((word : List ℕ) → place_at self.new word ≡ place_at self.old word) }
+        ensures kind { IfErr result (λ e. e ≡ FaultKind.Memory) }
+    {
+        match name {
+            None => Ok(None),
+            Some(name) => self.put(name, place),
+        }
+    }
+
+    /// Gives a name the place back that it had before, if any. The name has a place, so no memory is needed.
+    pub fn restore(&mut self, name: Option<&'n [u8]>, had: Option<usize>)
+        requires there { IfSome name (λ n. IsSome (place_at self.old n.now)) }
+        ensures { (word : List ℕ) → place_at self.new word ≡ (if is_named (bytes_now name.entry) word then had else place_at self.old word) }
+    {
+        let Some(name) = name else {
+            return;
+        };
+        match had {
+            None => self.remove(name),
+            Some(place) => {
+                let _ = self.put(name, place);
+            }
+        }
+    }
+
+    /// Takes away the place of a name.
+    pub fn remove(&mut self, name: &[u8])
+        ensures { (word : List ℕ) → place_at self.new word ≡ (if bytes_eq name.now word then None else place_at self.old word) }
+    {
+        let count = self.trees.len();
+        if count > 0 {
+            let tree = bucket_of(name, count);
+            let _ = self.trees[tree].remove(name);
+        }
+    }
+
+    /// Takes away all names.
+    pub fn clear(&mut self)
+        ensures { (word : List ℕ) → place_at self.new word ≡ None }
+    {
+        self.trees.clear();
+    }
+}
