@@ -1,5 +1,6 @@
 -- What the calls of a store do to its open values.
 use Rattle.std.proofs.Common.{◌≡◌, ℕ, ◌+◌, ◌-◌, ◌≤◌, List, [], ◌∷◌, Some, None, length, max, refl, sym, ◌∙◌, ap, arith}
+use Rattle.pickle_map.specs.declared.store.room.Room.{Room}
 use Rattle.pickle_map.specs.declared.store.slots.Marks.{Marks}
 use Rattle.pickle_map.specs.declared.store.slots.Shape.{Shape}
 use Rattle.pickle_map.specs.Tree.{Tree, parts_of}
@@ -48,7 +49,7 @@ module _ (h : Held) (shape : Shape) (start size : ℕ) (composite : IsComposite 
       ∙ ap (λ os. (Some (Tree (composite_label shape) start size (parts_of os)) ∷ []) ∷ outer_of (levels_at h.frames h.slots)) (sym i.top)
 
   pub family-room : FitsIn h.room (pushed (outer_of (levels h)) (Some (Tree (composite_label shape) start size (parts_of (top_of (levels h)))))) →
-      (length h.slots.nodes + 1 ≤ h.room) × ((length h.slots.links + (length h.slots.pending - (innermost h.frames).pending) ≤ h.room) × ((innermost h.frames).pending + 1 ≤ h.room))
+      (length h.slots.nodes + 1 ≤ h.room.least) × ((length h.slots.links + (length h.slots.pending - (innermost h.frames).pending) ≤ h.room.least) × ((innermost h.frames).pending + 1 ≤ h.room.least))
   unfolding levels
   family-room fits = room-whole h.frames h.slots shape h.room start size all fits
 
@@ -133,8 +134,8 @@ depth-lift h n e =
     length-levels n ∙ ap (λ (ks : List Marks). 1 + length ks) e ∙ length-around h.frames ∙ ap (λ m. max 1 (m - 1)) (sym (length-levels h))
 
 -- an empty store builds nothing
-pub none-open : (n : ℕ) → levels (empty n) ≡ no_values
+pub none-open : (room : Room) → levels (empty room) ≡ no_values
 unfolding levels stack
-none-open n = refl
+none-open room = refl
 
 pub ruleset none_open = (none-open)

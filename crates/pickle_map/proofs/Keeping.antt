@@ -3,6 +3,7 @@ use Rattle.std.proofs.Common.{◌≡◌, ℕ, ◌+◌, List, [], ◌∷◌, Opti
 use Rattle.std.specs.Prelude.{OnOk, OnErr, IsOk}
 use Rattle.std.proofs.lemmas.Bool.{false≢true}
 use Rattle.pickle_types.specs.declared.table.Node.{Node}
+use Rattle.pickle_map.specs.declared.store.room.Room.{Room}
 use Rattle.pickle_map.specs.Tree as tree
 use Rattle.pickle_map.specs.Levels as stored
 use Rattle.pickle_map.specs.Slots.{Held, levels}
@@ -23,7 +24,7 @@ module _ (nodes : List Node) where
   ok_member (Err x) old new m e = tt
 
   -- what doesn't fit exceeds the room
-  pub full : {A E : Type 0} (r : Result A E) (room : ℕ) (ls : stored.Levels) (keeps : Levels) → shown_levels nodes ls ≡ keeps → (stored.FitsIn room ls → IsOk r) → OnErr r (Exceeds room keeps)
+  pub full : {A E : Type 0} (r : Result A E) (room : Room) (ls : stored.Levels) (keeps : Levels) → shown_levels nodes ls ≡ keeps → (stored.FitsIn room ls → IsOk r) → OnErr r (Exceeds room keeps)
   full (Ok x) room ls keeps e h = tt
   full (Err x) room ls keeps e h = subst (Exceeds room) e (exceeds nodes room ls (λ fits. false≢true (h fits)))
 

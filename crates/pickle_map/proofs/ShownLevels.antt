@@ -4,6 +4,7 @@ use Rattle.std.proofs.Common.{inl, inr}
 use Rattle.std.proofs.lemmas.Bool.{cases_lt}
 use Rattle.std.proofs.lemmas.List.{map-append}
 use Rattle.pickle_types.specs.declared.table.Node.{Node}
+use Rattle.pickle_map.specs.declared.store.room.Room.{Room}
 use Rattle.pickle_map.specs.Tree as tree
 use Rattle.pickle_map.specs.Levels as stored
 use Rattle.pickle_map.specs.Values.{Value, Levels, pushed, opened, top_of, outer_of, gathered, member_count, level_at, value_at, text_level}
@@ -110,18 +111,18 @@ module _ (nodes : List Node) where
   total_pending_shown (top ∷ outer) = let a = level_pending_shown top in let b = total_pending_shown outer in omega (arith, a, b)
 
   -- levels that don't fit exceed the room for one of the kinds
-  pub exceeds : (room : ℕ) (ls : stored.Levels) → (stored.FitsIn room ls → ⊥) → Exceeds room (shown_levels nodes ls)
+  pub exceeds : (room : Room) (ls : stored.Levels) → (stored.FitsIn room ls → ⊥) → Exceeds room (shown_levels nodes ls)
   exceeds room ls h =
-      elim (cases_lt room (stored.total_nodes ls)) [
+      elim (cases_lt room.least (stored.total_nodes ls)) [
         | inl lt ↦ (NodeSlot, rw (total_nodes_shown ls) lt)
         | inr n ↦
-            elim (cases_lt room (stored.total_links ls)) [
+            elim (cases_lt room.least (stored.total_links ls)) [
               | inl lt ↦ (LinkSlot, rw (total_links_shown ls) lt)
               | inr l ↦
-                  elim (cases_lt room (stored.total_pending ls)) [
+                  elim (cases_lt room.least (stored.total_pending ls)) [
                     | inl lt ↦ (PendingSlot, rw (total_pending_shown ls) lt)
                     | inr p ↦
-                        elim (cases_lt room (stored.total_bytes ls)) [
+                        elim (cases_lt room.least (stored.total_bytes ls)) [
                           | inl lt ↦ (ByteSlot, rw (total_bytes_shown ls) lt)
                           | inr b ↦
                               absurd (h (record { nodes = n; links = l; pending = p; bytes = b }))

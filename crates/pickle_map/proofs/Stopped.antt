@@ -66,11 +66,11 @@ module _ {world : World} {limit : ℕ} (m : ℕ) (ty : PokeType) (order : Order)
   told_limit Memory h e = cc
 
   -- room was wanted only where there is less than the type's
-  pub told_memory : (stop : Stop) → Follows world limit (plan m ty order no_values s) k j k' j' (stop_finish stop) → (told stop s).kind ≡ fault.Memory → world.room < room ty m
+  pub told_memory : (stop : Stop) → Follows world limit (plan m ty order no_values s) k j k' j' (stop_finish stop) → (told stop s).kind ≡ fault.Memory → world.room.least < room ty m
   told_memory (Fault kind place) h e = absurd (no_run kind (followed_kind m ty order no_values s h) (rw e tt))
   told_memory Limit h e = cc
   told_memory Device h e = cc
-  told_memory Memory h e = let f = followed_room m ty order no_values s h in let less : world.room < 0 + 0 + room ty m = f.1 in omega (arith, less)
+  told_memory Memory h e = let f = followed_room m ty order no_values s h in let less : world.room.least < 0 + 0 + room ty m = f.1 in omega (arith, less)
 
   pub told_device : (stop : Stop) → Follows world limit (plan m ty order no_values s) k j k' j' (stop_finish stop) → (told stop s).kind ≡ fault.Device → stop ≡ Device
   told_device (Fault kind place) h e = absurd (no_run kind (followed_kind m ty order no_values s h) (rw e tt))

@@ -3,6 +3,7 @@ use Rattle.std.proofs.Common.{arith, ◌≡◌, ℕ, zero, suc, inl, inr, ◌+�
 use Rattle.std.proofs.lemmas.Bool.{le-leb, lt-leb, cases_lt}
 use Rattle.bit_space.specs.declared.order.Order.{Order}
 use Rattle.bit_space.specs.Reading.{MayRead}
+use Rattle.pickle_map.specs.declared.store.room.Room.{Room}
 use Rattle.pickle_map.specs.declared.faults.MapFaultKind.TheVariants.{End}
 use Rattle.pickle_map.specs.declared.mapper.stop.Stop.{Stop}
 use Rattle.pickle_map.specs.declared.mapper.stop.Stop.TheVariants.{Fault, Limit, Device, Memory}
@@ -34,7 +35,7 @@ needs_in f (Tick p) h = tt
 needs_in f (Made count levels p) h = absurd h
 needs_in f (Read place width order rest) h = absurd h
 
-wants_in : {A B : Type 0} (f : A → Plan B) (room : ℕ) (q : Plan A) → NeedsRoom room q → NeedsRoom room (and_then q f)
+wants_in : {A B : Type 0} (f : A → Plan B) (room : Room) (q : Plan A) → NeedsRoom room q → NeedsRoom room (and_then q f)
 wants_in f room (Ended a) h = absurd h
 wants_in f room (Tick p) h = absurd h
 wants_in f room (Made count levels p) h = h
@@ -168,14 +169,14 @@ first_no_tick p f ek el ej = follow_no_tick ek el ej
 
 -- a level closed, after what was done in it
 module _ {world : World} {limit : ℕ} (p : Plan (Result Levels FaultAt)) (make : Levels → Value) (inside : Levels) {k j k1 j1 : ℕ} (h : Follows world limit p k j k1 j1 (Done (Ok inside))) where
-  pub closes_no_room : {room : ℕ} → room ≡ world.room → Exceeds room (pushed (outer_of inside) (Some (make inside))) → Follows world limit (then_ok p (closes make)) k j k1 j1 NoRoom
+  pub closes_no_room : {room : Room} → room ≡ world.room → Exceeds room (pushed (outer_of inside) (Some (make inside))) → Follows world limit (then_ok p (closes make)) k j k1 j1 NoRoom
   closes_no_room e full = ends_no_room p (closes make) inside (outer_of inside) (make inside) refl h (subst (λ r. Exceeds r (pushed (outer_of inside) (Some (make inside)))) e full)
 
   pub closes_made : {k2 j2 : ℕ} → k2 ≡ k1 → j2 ≡ j1 + 1 → Follows world limit (then_ok p (closes make)) k j k2 j2 (Done (Ok (make inside)))
   closes_made ek ej = ends_made p (closes make) inside (outer_of inside) (make inside) refl h {limit1 = limit} refl ek ej
 
 -- in a room of the same size
-pub in_room : {known : Option (List ℕ)} {r r' : ℕ} {limit : ℕ} {A : Type 0} {p : Plan A} {k j k' j' : ℕ} {finish : Finish A} → r ≡ r' → Follows (record { known = known; room = r }) limit p k j k' j' finish → Follows (record { known = known; room = r' }) limit p k j k' j' finish
+pub in_room : {known : Option (List ℕ)} {r r' : Room} {limit : ℕ} {A : Type 0} {p : Plan A} {k j k' j' : ℕ} {finish : Finish A} → r ≡ r' → Follows (record { known = known; room = r }) limit p k j k' j' finish → Follows (record { known = known; room = r' }) limit p k j k' j' finish
 in_room {known} {limit} {p} {k} {j} {k'} {j'} {finish} e h = subst (λ r. Follows (record { known = known; room = r }) limit p k j k' j' finish) e h
 
 pub outer_pushed : (levels : Levels) (v : Option Value) → outer_of (pushed levels v) ≡ outer_of levels

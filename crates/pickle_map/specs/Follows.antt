@@ -2,14 +2,15 @@
 use Rattle.std.specs.Prelude.{◌≡◌, ℕ, ◌+◌, List, Option}
 use Rattle.bit_space.specs.declared.order.Order.{Order}
 use Rattle.bit_space.specs.Reading.{MayRead}
+use Rattle.pickle_map.specs.declared.store.room.Room.{Room}
 use Rattle.pickle_map.specs.Values.{Levels}
 use Rattle.pickle_map.specs.Room.{Exceeds}
 use Rattle.pickle_map.specs.Plan.{Plan, Ended, Tick, Made, Read}
 
--- the bits of the file, where they are known, and how many slots of each kind the store has room for
+-- the bits of the file, where they are known, and the store's room
 pub record World : Type 0 where
   pub known : Option (List ℕ)
-  pub room : ℕ
+  pub room : Room
 
 -- the way from a plan, after k steps with j values made, to its rest, after k' steps with j' values made
 pub data Walk (world : World) {A : Type 0} (rest : Plan A) (k' j' : ℕ) : Plan A → ℕ → ℕ → Type 0 where
@@ -34,7 +35,7 @@ NeedsStep (Made count levels p) = ⊥
 NeedsStep (Read place width order rest) = ⊥
 
 -- more is to be kept than there is room for
-abbrev pub NeedsRoom : {A : Type 0} → ℕ → Plan A → Type 0
+abbrev pub NeedsRoom : {A : Type 0} → Room → Plan A → Type 0
 NeedsRoom room (Ended a) = ⊥
 NeedsRoom room (Tick p) = ⊥
 NeedsRoom room (Made count levels p) = Exceeds room levels

@@ -55,7 +55,7 @@ pub fn map<S: Space>(
     ensures steps { meter.new.steps ≤ meter.old.steps + cost (type_named table.now id) (8 * (S.view space.old).len) }
     ensures made { (meter.old.made ≤ meter.new.made) × (meter.new.made + meter.old.steps ≤ meter.old.made + meter.new.steps) }
     ensures limit { IfErr result (λ f. f.kind ≡ MapFaultKind.Limit → (meter.new.steps ≡ meter.old.limit) × (meter.old.limit < meter.old.steps + cost (type_named table.now id) (8 * (S.view space.old).len))) }
-    ensures memory { IfErr result (λ f. f.kind ≡ MapFaultKind.Memory → store.old.room < room (type_named table.now id) (8 * (S.view space.old).len)) }
+    ensures memory { IfErr result (λ f. f.kind ≡ MapFaultKind.Memory → store.old.room.least < room (type_named table.now id) (8 * (S.view space.old).len)) }
     ensures device { IfErr result (λ f. f.kind ≡ MapFaultKind.Device → HasRisen (S.view space.old).failures (S.view space.new).failures) }
     // What ends a run is told at the mapping's start.
     ensures place { IfErr result (λ f. EndsRun f.kind → f.at ≡ start) }
