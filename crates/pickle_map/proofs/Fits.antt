@@ -64,6 +64,17 @@ room-more ks s room vs h f =
       bytes = omega (arith, f.bytes, t.bytes, total_bytes-extended ls vs);
     }
 
+-- what fits in the room of the slots that hold it
+pub room-holds : (ks : List Marks) (s : Slots) (room : Room) → AreLevels ks s → HasRoom room s 0 0 0 0 → FitsIn room (levels_at ks s)
+room-holds ks s room h r =
+    let t = totals ks s h in
+    record {
+      nodes = omega (arith, r.nodes, t.nodes);
+      links = omega (arith, r.links, t.links);
+      pending = omega (arith, r.pending, t.pending);
+      bytes = omega (arith, r.bytes, t.bytes);
+    }
+
 -- room for one more byte of the text under way
 pub room-byte : (ks : List Marks) (s : Slots) (room : Room) (start byte : ℕ) (bytes : List ℕ) (outer : Levels) → AreLevels ks s → levels_at ks s ≡ text_level bytes start outer → FitsIn room (text_level (bytes ++ byte ∷ []) start outer) → length s.bytes + 1 ≤ room.least
 room-byte ks s room start byte bytes outer h e f =

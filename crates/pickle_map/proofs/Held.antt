@@ -8,7 +8,7 @@ use Rattle.pickle_map.specs.Levels.{no_values, top_of, outer_of, extended, pushe
 use Rattle.pickle_map.specs.Slots.{Slots, Held, empty, levels, stack, cut_to, marks_of, level_of, innermost, AreLevels, levels_at, Adds, IsNumber, number_value, IsComposite, composite_label, with_leaf, with_family, with_absent, HasRoom, around}
 use Rattle.pickle_map.proofs.Counted.{levels-more, levels_at-more, levels-above, levels_at-above, levels-sound, Adds-none, Adds-level}
 use Rattle.pickle_map.proofs.Placed.{number-adds, number-nodes, family-adds, absent-adds}
-use Rattle.pickle_map.proofs.Fits.{room-more, room-whole, levels-replaced, levels_at-replaced, innermost-level}
+use Rattle.pickle_map.proofs.Fits.{room-holds, room-more, room-whole, levels-replaced, levels_at-replaced, innermost-level}
 
 -- numbers
 module _ (h : Held) (shape : Shape) (start c : ℕ) (number : IsNumber shape) (all : AreLevels h.frames h.slots) where
@@ -117,6 +117,11 @@ absent-levels h all = levels_at-more h.frames h.slots (with_absent h.slots) (Non
 pub absent-room : (h : Held) → AreLevels h.frames h.slots → FitsIn h.room (pushed (levels h) None) → HasRoom h.room h.slots 0 0 1 0
 unfolding levels
 absent-room h all fits = room-more h.frames h.slots h.room (None ∷ []) all fits
+
+-- what a store holds that has the room
+pub held-fits : (h : Held) → AreLevels h.frames h.slots → HasRoom h.room h.slots 0 0 0 0 → FitsIn h.room (levels h)
+unfolding levels
+held-fits h all room = room-holds h.frames h.slots h.room all room
 
 -- how many values are open
 pub depth-same : (h n : Held) → n.frames ≡ h.frames → length (levels n) ≡ length (levels h)

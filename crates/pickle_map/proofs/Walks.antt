@@ -11,7 +11,7 @@ use Rattle.pickle_map.specs.Values.{Value, Levels, pushed, outer_of}
 use Rattle.pickle_map.specs.Room.{Exceeds}
 use Rattle.pickle_map.specs.Clauses.{FaultAt}
 use Rattle.pickle_map.specs.Plan.{Plan, Ended, Tick, Made, Read, and_then, after, on_value, then_ok}
-use Rattle.pickle_map.specs.Follows.{World, Walk, arrived, stepped, kept, read, Finish, Done, NoSteps, Broken, NoRoom, Partly, NeedsStep, NeedsRoom, Follows}
+use Rattle.pickle_map.specs.Follows.{World, Walk, arrived, stepped, kept, read, Finish, Done, NoSteps, Broken, NoRoom, Partly, NeedsStep, NeedsRead, NeedsRoom, Follows}
 use Rattle.pickle_map.specs.Mapping.{from_inside, makes, closes}
 use Rattle.pickle_map.specs.Stops.{stop_finish}
 
@@ -34,6 +34,12 @@ needs_in f (Ended a) h = absurd h
 needs_in f (Tick p) h = tt
 needs_in f (Made count levels p) h = absurd h
 needs_in f (Read place width order rest) h = absurd h
+
+reads_in : {A B : Type 0} (f : A → Plan B) (q : Plan A) → NeedsRead q → NeedsRead (and_then q f)
+reads_in f (Ended a) h = absurd h
+reads_in f (Tick p) h = absurd h
+reads_in f (Made count levels p) h = absurd h
+reads_in f (Read place width order rest) h = tt
 
 wants_in : {A B : Type 0} (f : A → Plan B) (room : Room) (q : Plan A) → NeedsRoom room q → NeedsRoom room (and_then q f)
 wants_in f room (Ended a) h = absurd h
@@ -71,9 +77,9 @@ follow_made {world} {limit} {count} {p} {k} {j} {k'} {j'} {finish} el ek ej h =
 pub follow_read : {world : World} {limit : ℕ} {A : Type 0} {place width : ℕ} {order : Order} {ps : ℕ → Plan A} {k j k' j' : ℕ} {finish : Finish A} (n : ℕ) → MayRead world.known order place width n → Follows world limit (ps n) k j k' j' finish → Follows world limit (Read place width order ps) k j k' j' finish
 follow_read n m h = record { rest = h.rest; walk = read n m h.walk; ends = h.ends }
 
--- broken off
-pub follow_broken : {world : World} {limit : ℕ} {A : Type 0} {p : Plan A} {k j : ℕ} → Follows world limit p k j k j Broken
-follow_broken {p} = record { rest = p; walk = arrived; ends = tt }
+-- a number that the device didn't give
+pub follow_broken : {world : World} {limit : ℕ} {A : Type 0} {place width : ℕ} {order : Order} {ps : ℕ → Plan A} {k j : ℕ} → Follows world limit (Read place width order ps) k j k j Broken
+follow_broken {place} {width} {order} {ps} = record { rest = Read place width order ps; walk = arrived; ends = tt }
 
 -- the same counts by other names
 pub follow_at : {world : World} {limit limit' : ℕ} {A : Type 0} {p : Plan A} {k j k1 j1 k' j' : ℕ} {finish : Finish A} → limit' ≡ limit → k1 ≡ k → j1 ≡ j → Follows world limit' p k1 j1 k' j' finish → Follows world limit p k j k' j' finish
@@ -103,7 +109,7 @@ follow_stop p f Limit v = record {
   walk = walk_in (on_value f) v.walk;
   ends = (needs_in (on_value f) v.rest v.ends.0, v.ends.1);
 }
-follow_stop p f Device v = record { rest = and_then v.rest (on_value f); walk = walk_in (on_value f) v.walk; ends = tt }
+follow_stop p f Device v = record { rest = and_then v.rest (on_value f); walk = walk_in (on_value f) v.walk; ends = reads_in (on_value f) v.rest v.ends }
 follow_stop {world} p f Memory v = record { rest = and_then v.rest (on_value f); walk = walk_in (on_value f) v.walk; ends = wants_in (on_value f) world.room v.rest v.ends }
 
 -- where a loop stands
@@ -125,7 +131,7 @@ follow_and_no_steps p f v = record {
 }
 
 pub follow_and_broken : {world : World} {limit : ℕ} {A B : Type 0} (p : Plan A) (f : A → Plan B) {k j k' j' : ℕ} → Follows world limit p k j k' j' Broken → Follows world limit (and_then p f) k j k' j' Broken
-follow_and_broken p f v = record { rest = and_then v.rest f; walk = walk_in f v.walk; ends = tt }
+follow_and_broken p f v = record { rest = and_then v.rest f; walk = walk_in f v.walk; ends = reads_in f v.rest v.ends }
 
 pub follow_and_no_room : {world : World} {limit : ℕ} {A B : Type 0} (p : Plan A) (f : A → Plan B) {k j k' j' : ℕ} → Follows world limit p k j k' j' NoRoom → Follows world limit (and_then p f) k j k' j' NoRoom
 follow_and_no_room {world} p f v = record { rest = and_then v.rest f; walk = walk_in f v.walk; ends = wants_in f world.room v.rest v.ends }

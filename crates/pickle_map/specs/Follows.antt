@@ -34,6 +34,13 @@ NeedsStep (Tick p) = Unit {0}
 NeedsStep (Made count levels p) = ⊥
 NeedsStep (Read place width order rest) = ⊥
 
+-- a read comes next
+abbrev pub NeedsRead : {A : Type 0} → Plan A → Type 0
+NeedsRead (Ended a) = ⊥
+NeedsRead (Tick p) = ⊥
+NeedsRead (Made count levels p) = ⊥
+NeedsRead (Read place width order rest) = Unit {0}
+
 -- more is to be kept than there is room for
 abbrev pub NeedsRoom : {A : Type 0} → Room → Plan A → Type 0
 NeedsRoom room (Ended a) = ⊥
@@ -45,7 +52,7 @@ NeedsRoom room (Read place width order rest) = ⊥
 abbrev pub EndsAs : {A : Type 0} → World → Finish A → Plan A → (limit steps : ℕ) → Type 0
 EndsAs world (Done a) rest limit k = rest ≡ Ended a
 EndsAs world NoSteps rest limit k = NeedsStep rest × (k ≡ limit)
-EndsAs world Broken rest limit k = Unit {0}
+EndsAs world Broken rest limit k = NeedsRead rest
 EndsAs world NoRoom rest limit k = NeedsRoom world.room rest
 EndsAs world (Partly q) rest limit k = rest ≡ q
 

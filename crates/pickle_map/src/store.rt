@@ -1,5 +1,6 @@
-ghost use Rattle.std.specs.Prelude.{◌≡◌, ◌≤◌, ◌-◌, ◌++◌, ◌∷◌, [], Some, None, take, drop, IfOk, vec_len, vec_capacity};
-ghost use Rattle.pickle_map.specs.Levels.{no_values};
+ghost use Rattle.std.specs.Prelude.{◌≡◌, ◌≤◌, ◌-◌, ◌++◌, ◌∷◌, [], Some, None, take, drop, IfOk, IsTrue, ◌↔◌, vec_len, vec_capacity};
+ghost use Rattle.pickle_map.specs.Levels.{no_values, FitsIn};
+ghost use Rattle.pickle_map.specs.declared.store.room.Growth.TheVariants.{Never};
 ghost use Rattle.pickle_map.specs.Slots.{empty, growing, fixed, marks_of, innermost, levels};
 
 mod append;
@@ -139,6 +140,14 @@ impl Store {
         self.texts.clear();
         self.bytes.clear();
         self.frames.clear();
+    }
+
+    /// Whether the store never asks for more room than it was made with. What such a store holds fits in that.
+    pub fn never_grows(&self) -> bool
+        ensures is { IsTrue result ↔ (self.now.room.growth ≡ Never) }
+        ensures fits { self.now.room.growth ≡ Never → FitsIn self.now.room (levels self.now) }
+    {
+        matches!(self.room.growth, Growth::Never)
     }
 
     // How much of each kind there is.
