@@ -1,7 +1,7 @@
 //! The calls by their names.
 
 use crate::ended::Ended;
-use crate::samples::{ELEMENTS, MIXED, UNIONS};
+use crate::samples::{ARRAYS, ELEMENTS, MIXED, UNIONS};
 use crate::sparing::{
     asking_tables, mapping_again, mapping_in_room, mapping_letters_in_room, mapping_within,
     reading_values, telling_lengths, telling_tokens, using_spaces,
@@ -14,7 +14,7 @@ use std::fs::File;
 use std::rt::Files;
 
 /// The names of the calls.
-pub const CALLS: [&str; 26] = [
+pub const CALLS: [&str; 27] = [
     "lex",
     "parse",
     "build",
@@ -34,6 +34,7 @@ pub const CALLS: [&str; 26] = [
     "room_1005",
     "most_9",
     "most_7",
+    "most_21",
     "again_mixed",
     "again_elements",
     "spaces",
@@ -73,6 +74,7 @@ fn run_named<R: Files<File = File> + AllocGlobal>(rt: &R, name: &[u8]) -> Result
         b"room_1005" => mapping_letters_in_room(alloc),
         b"most_9" => mapping_within(alloc, MIXED, 9),
         b"most_7" => mapping_within(alloc, ELEMENTS, 7),
+        b"most_21" => mapping_within(alloc, ARRAYS, 21),
         b"again_mixed" => mapping_again(alloc, MIXED),
         b"again_elements" => mapping_again(alloc, ELEMENTS),
         b"spaces" => using_spaces(alloc),
