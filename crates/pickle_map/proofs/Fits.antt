@@ -1,6 +1,7 @@
 -- What the open values take, and when there is room for more.
 use Rattle.std.proofs.Common.{◌≡◌, ℕ, ◌+◌, ◌-◌, ◌≤◌, List, [], ◌∷◌, ◌++◌, Option, Some, length, refl, sym, ◌∙◌, ap, subst, arith}
 use Rattle.std.proofs.lemmas.List.{length-append, length-drop}
+use Rattle.pickle_map.specs.declared.store.room.Room.{Room}
 use Rattle.pickle_map.specs.declared.store.slots.Marks.{Marks}
 use Rattle.pickle_map.specs.declared.store.slots.Shape.{Shape}
 use Rattle.pickle_map.specs.Tree.{Value, Tree, parts_of}
@@ -52,7 +53,7 @@ total_bytes-extended [] vs = omega arith
 total_bytes-extended (top ∷ outer) vs = omega (arith, level_bytes-append top vs)
 
 -- room for more parts of the innermost open value
-pub room-more : (ks : List Marks) (s : Slots) (room : ℕ) (vs : List (Option Value)) → AreLevels ks s → FitsIn room (extended (levels_at ks s) vs) → HasRoom room s (level_nodes vs) (level_links vs) (length vs) (level_bytes vs)
+pub room-more : (ks : List Marks) (s : Slots) (room : Room) (vs : List (Option Value)) → AreLevels ks s → FitsIn room (extended (levels_at ks s) vs) → HasRoom room s (level_nodes vs) (level_links vs) (length vs) (level_bytes vs)
 room-more ks s room vs h f =
     let t = totals ks s h in
     let ls = levels_at ks s in
@@ -63,8 +64,19 @@ room-more ks s room vs h f =
       bytes = omega (arith, f.bytes, t.bytes, total_bytes-extended ls vs);
     }
 
+-- what fits in the room of the slots that hold it
+pub room-holds : (ks : List Marks) (s : Slots) (room : Room) → AreLevels ks s → HasRoom room s 0 0 0 0 → FitsIn room (levels_at ks s)
+room-holds ks s room h r =
+    let t = totals ks s h in
+    record {
+      nodes = omega (arith, r.nodes, t.nodes);
+      links = omega (arith, r.links, t.links);
+      pending = omega (arith, r.pending, t.pending);
+      bytes = omega (arith, r.bytes, t.bytes);
+    }
+
 -- room for one more byte of the text under way
-pub room-byte : (ks : List Marks) (s : Slots) (room start byte : ℕ) (bytes : List ℕ) (outer : Levels) → AreLevels ks s → levels_at ks s ≡ text_level bytes start outer → FitsIn room (text_level (bytes ++ byte ∷ []) start outer) → length s.bytes + 1 ≤ room
+pub room-byte : (ks : List Marks) (s : Slots) (room : Room) (start byte : ℕ) (bytes : List ℕ) (outer : Levels) → AreLevels ks s → levels_at ks s ≡ text_level bytes start outer → FitsIn room (text_level (bytes ++ byte ∷ []) start outer) → length s.bytes + 1 ≤ room.least
 room-byte ks s room start byte bytes outer h e f =
     omega (arith, f.bytes, (totals ks s h).bytes, ap total_bytes e, length-append bytes (byte ∷ []))
 
@@ -94,9 +106,9 @@ innermost-level (k ∷ []) s h = record { is = h.1.0; cut = h.1.1.0; sound = h.0
 innermost-level (k ∷ j ∷ ks) s h = record { is = h.1.0; cut = h.1.1.0; sound = h.0; top = refl }
 
 -- room for a value of the parts of the innermost open value, in their place
-pub room-whole : (ks : List Marks) (s : Slots) (shape : Shape) (room start size : ℕ) → AreLevels ks s →
+pub room-whole : (ks : List Marks) (s : Slots) (shape : Shape) (room : Room) (start size : ℕ) → AreLevels ks s →
     FitsIn room (pushed (outer_of (levels_at ks s)) (Some (Tree (composite_label shape) start size (parts_of (top_of (levels_at ks s)))))) →
-    (length s.nodes + 1 ≤ room) × ((length s.links + (length s.pending - (innermost ks).pending) ≤ room) × ((innermost ks).pending + 1 ≤ room))
+    (length s.nodes + 1 ≤ room.least) × ((length s.links + (length s.pending - (innermost ks).pending) ≤ room.least) × ((innermost ks).pending + 1 ≤ room.least))
 room-whole [] s shape room start size h f =
     let level = level_of root_marks s in
     (omega (arith, f.nodes, h.1.nodes, nodes_in_parts-of level), (omega (arith, f.links, h.1.links, links_in_parts-of level, length-stack s), omega (arith, f.pending)))

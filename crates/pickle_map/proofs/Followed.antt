@@ -160,15 +160,15 @@ module _ {world : World} {limit : ℕ} (m : ℕ) (ty : PokeType) (order : Order)
       (e, omega (arith, u.1))
 
   -- room was wanted only where there is less than the type's
-  pub followed_room : Follows world limit (plan m ty order levels s) k j k' j' NoRoom → (kind : Slot) × (world.room < slots kind levels + room ty m)
+  pub followed_room : Follows world limit (plan m ty order levels s) k j k' j' NoRoom → (kind : Slot) × (world.room.least < slots kind levels + room ty m)
   followed_room h = wanted h.rest h.ends (λ kind. walk_keeps h.walk (room_enough m ty order levels s kind))
     where
-      wanted : (q : Plan (Result Value FaultAt)) → NeedsRoom world.room q → ((kind : Slot) → Always (λ kept. slots kind kept ≤ slots kind levels + room ty m) (λ r. Unit {0}) q) → (kind : Slot) × (world.room < slots kind levels + room ty m)
+      wanted : (q : Plan (Result Value FaultAt)) → NeedsRoom world.room q → ((kind : Slot) → Always (λ kept. slots kind kept ≤ slots kind levels + room ty m) (λ r. Unit {0}) q) → (kind : Slot) × (world.room.least < slots kind levels + room ty m)
       wanted (Ended a) h l = absurd h
       wanted (Tick p) h l = absurd h
       wanted (Made count levels' p) h l = (h.0, less h.0 (l h.0) h.1)
         where
-          less : (kind : Slot) → Always (λ kept. slots kind kept ≤ slots kind levels + room ty m) (λ r. Unit {0}) (Made count levels' p) → world.room < slots kind levels' → world.room < slots kind levels + room ty m
+          less : (kind : Slot) → Always (λ kept. slots kind kept ≤ slots kind levels + room ty m) (λ r. Unit {0}) (Made count levels' p) → world.room.least < slots kind levels' → world.room.least < slots kind levels + room ty m
           less kind (after_made le more) lt = omega arith
       wanted (Read place width order' rest) h l = absurd h
 

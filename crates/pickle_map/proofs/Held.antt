@@ -1,5 +1,6 @@
 -- What the calls of a store do to its open values.
 use Rattle.std.proofs.Common.{◌≡◌, ℕ, ◌+◌, ◌-◌, ◌≤◌, List, [], ◌∷◌, Some, None, length, max, refl, sym, ◌∙◌, ap, arith}
+use Rattle.pickle_map.specs.declared.store.room.Room.{Room}
 use Rattle.pickle_map.specs.declared.store.slots.Marks.{Marks}
 use Rattle.pickle_map.specs.declared.store.slots.Shape.{Shape}
 use Rattle.pickle_map.specs.Tree.{Tree, parts_of}
@@ -7,7 +8,7 @@ use Rattle.pickle_map.specs.Levels.{no_values, top_of, outer_of, extended, pushe
 use Rattle.pickle_map.specs.Slots.{Slots, Held, empty, levels, stack, cut_to, marks_of, level_of, innermost, AreLevels, levels_at, Adds, IsNumber, number_value, IsComposite, composite_label, with_leaf, with_family, with_absent, HasRoom, around}
 use Rattle.pickle_map.proofs.Counted.{levels-more, levels_at-more, levels-above, levels_at-above, levels-sound, Adds-none, Adds-level}
 use Rattle.pickle_map.proofs.Placed.{number-adds, number-nodes, family-adds, absent-adds}
-use Rattle.pickle_map.proofs.Fits.{room-more, room-whole, levels-replaced, levels_at-replaced, innermost-level}
+use Rattle.pickle_map.proofs.Fits.{room-holds, room-more, room-whole, levels-replaced, levels_at-replaced, innermost-level}
 
 -- numbers
 module _ (h : Held) (shape : Shape) (start c : ℕ) (number : IsNumber shape) (all : AreLevels h.frames h.slots) where
@@ -48,7 +49,7 @@ module _ (h : Held) (shape : Shape) (start size : ℕ) (composite : IsComposite 
       ∙ ap (λ os. (Some (Tree (composite_label shape) start size (parts_of os)) ∷ []) ∷ outer_of (levels_at h.frames h.slots)) (sym i.top)
 
   pub family-room : FitsIn h.room (pushed (outer_of (levels h)) (Some (Tree (composite_label shape) start size (parts_of (top_of (levels h)))))) →
-      (length h.slots.nodes + 1 ≤ h.room) × ((length h.slots.links + (length h.slots.pending - (innermost h.frames).pending) ≤ h.room) × ((innermost h.frames).pending + 1 ≤ h.room))
+      (length h.slots.nodes + 1 ≤ h.room.least) × ((length h.slots.links + (length h.slots.pending - (innermost h.frames).pending) ≤ h.room.least) × ((innermost h.frames).pending + 1 ≤ h.room.least))
   unfolding levels
   family-room fits = room-whole h.frames h.slots shape h.room start size all fits
 
@@ -117,6 +118,11 @@ pub absent-room : (h : Held) → AreLevels h.frames h.slots → FitsIn h.room (p
 unfolding levels
 absent-room h all fits = room-more h.frames h.slots h.room (None ∷ []) all fits
 
+-- what a store holds that has the room
+pub held-fits : (h : Held) → AreLevels h.frames h.slots → HasRoom h.room h.slots 0 0 0 0 → FitsIn h.room (levels h)
+unfolding levels
+held-fits h all room = room-holds h.frames h.slots h.room all room
+
 -- how many values are open
 pub depth-same : (h n : Held) → n.frames ≡ h.frames → length (levels n) ≡ length (levels h)
 depth-same h n e = omega (arith, length-levels h, length-levels n, ap (λ (ks : List Marks). length ks) e)
@@ -133,8 +139,8 @@ depth-lift h n e =
     length-levels n ∙ ap (λ (ks : List Marks). 1 + length ks) e ∙ length-around h.frames ∙ ap (λ m. max 1 (m - 1)) (sym (length-levels h))
 
 -- an empty store builds nothing
-pub none-open : (n : ℕ) → levels (empty n) ≡ no_values
+pub none-open : (room : Room) → levels (empty room) ≡ no_values
 unfolding levels stack
-none-open n = refl
+none-open room = refl
 
 pub ruleset none_open = (none-open)

@@ -1,16 +1,18 @@
 -- What the calls of a store do to the levels that it keeps.
-use Rattle.std.proofs.Common.{◌≡◌, ℕ, ◌+◌, List, [], ◌∷◌, Option, Some, Result, Ok, Err, ap, subst, ◌∙◌}
+use Rattle.std.proofs.Common.{◌≡◌, ℕ, ◌+◌, ◌≤◌, List, [], ◌∷◌, Option, Some, Result, Ok, Err, ap, subst, ◌∙◌}
 use Rattle.std.specs.Prelude.{OnOk, OnErr, IsOk}
 use Rattle.std.proofs.lemmas.Bool.{false≢true}
 use Rattle.pickle_types.specs.declared.table.Node.{Node}
+use Rattle.pickle_map.specs.declared.store.room.Growth.TheVariants.{Never}
+use Rattle.pickle_map.specs.declared.store.room.Room.{Room}
 use Rattle.pickle_map.specs.Tree as tree
 use Rattle.pickle_map.specs.Levels as stored
 use Rattle.pickle_map.specs.Slots.{Held, levels}
 use Rattle.pickle_map.specs.Values.{Mapped, Levels, pushed, opened, top_of, outer_of, gathered}
 use Rattle.pickle_map.specs.Means.{value_of}
-use Rattle.pickle_map.specs.Room.{Exceeds}
+use Rattle.pickle_map.specs.Room.{Slot, slots, Exceeds}
 use Rattle.pickle_map.specs.Shown.{shown_label, shown, shown_parts, shown_member, shown_levels, kept}
-use Rattle.pickle_map.proofs.ShownLevels.{shown_pushed, shown_outer, shown_top, shown_gathered, exceeds}
+use Rattle.pickle_map.proofs.ShownLevels.{shown_pushed, shown_outer, shown_top, shown_gathered, exceeds, within}
 
 module _ (nodes : List Node) where
   -- one more member
@@ -23,9 +25,14 @@ module _ (nodes : List Node) where
   ok_member (Err x) old new m e = tt
 
   -- what doesn't fit exceeds the room
-  pub full : {A E : Type 0} (r : Result A E) (room : ℕ) (ls : stored.Levels) (keeps : Levels) → shown_levels nodes ls ≡ keeps → (stored.FitsIn room ls → IsOk r) → OnErr r (Exceeds room keeps)
+  pub full : {A E : Type 0} (r : Result A E) (room : Room) (ls : stored.Levels) (keeps : Levels) → shown_levels nodes ls ≡ keeps → (stored.FitsIn room ls → IsOk r) → OnErr r (Exceeds room keeps)
   full (Ok x) room ls keeps e h = tt
   full (Err x) room ls keeps e h = subst (Exceeds room) e (exceeds nodes room ls (λ fits. false≢true (h fits)))
+
+  -- a store that never grows holds no more than its room
+  pub kept_within : (old new : Held) → new.room ≡ old.room → old.room.growth ≡ Never → (new.room.growth ≡ Never → stored.FitsIn new.room (levels new)) → (kind : Slot) → slots kind (kept nodes new) ≤ old.room.least
+  unfolding kept
+  kept_within old new e never fits kind = subst (λ (r : Room). slots kind (shown_levels nodes (levels new)) ≤ r.least) e (within nodes new.room (levels new) (fits (ap (λ (r : Room). r.growth) e ∙ never)) kind)
 
   pub full_member : {A E : Type 0} (r : Result A E) (old : Held) (m : Option tree.Value) → (stored.FitsIn old.room (stored.pushed (levels old) m) → IsOk r) → OnErr r (Exceeds old.room (pushed (kept nodes old) (shown_member nodes m)))
   unfolding kept

@@ -5,6 +5,7 @@ use Rattle.std.proofs.lemmas.Bool.{le-leb, eq-eqb, ne_eqb, false≢true}
 use Rattle.bit_space.specs.declared.order.Order.{Order}
 use Rattle.bit_space.specs.Bits.{bits_of}
 use Rattle.bit_space.specs.SpaceView.{SpaceView}
+use Rattle.pickle_map.specs.declared.store.room.Room.{Room}
 use Rattle.pickle_map.specs.Slots.{Held}
 use Rattle.pickle_map.specs.Framed.{world_of}
 use Rattle.pickle_types.specs.declared.table.Field.{Field}
@@ -90,20 +91,20 @@ union_is m name alternatives order levels s = refl
 
 module _ {world : World} {limit : ℕ} (p : Plan (Result Opened FaultAt)) (s end : ℕ) (inside : Levels) {k j k1 j1 : ℕ} (h : Follows world limit p k j k1 j1 (Done (Ok (inside, end)))) where
   module _ (name : Naming) (names : List Naming) where
-    pub struct_no_room : {room : ℕ} → room ≡ world.room → Exceeds room (pushed (outer_of inside) (Some (struct_value name names s end inside))) → Follows world limit (then_ok p (struct_closes name names s)) k j k1 j1 NoRoom
+    pub struct_no_room : {room : Room} → room ≡ world.room → Exceeds room (pushed (outer_of inside) (Some (struct_value name names s end inside))) → Follows world limit (then_ok p (struct_closes name names s)) k j k1 j1 NoRoom
     struct_no_room e full = ends_no_room p (struct_closes name names s) (inside, end) (outer_of inside) (struct_value name names s end inside) refl h (subst (λ r. Exceeds r (pushed (outer_of inside) (Some (struct_value name names s end inside)))) e full)
 
     pub struct_made : {k2 j2 : ℕ} → k2 ≡ k1 → j2 ≡ j1 + 1 → Follows world limit (then_ok p (struct_closes name names s)) k j k2 j2 (Done (Ok (struct_value name names s end inside)))
     struct_made ek ej = ends_made p (struct_closes name names s) (inside, end) (outer_of inside) (struct_value name names s end inside) refl h {limit1 = limit} refl ek ej
 
-  pub array_no_room : {room : ℕ} → room ≡ world.room → Exceeds room (pushed (outer_of inside) (Some (array_value s end inside))) → Follows world limit (then_ok p (array_closes s)) k j k1 j1 NoRoom
+  pub array_no_room : {room : Room} → room ≡ world.room → Exceeds room (pushed (outer_of inside) (Some (array_value s end inside))) → Follows world limit (then_ok p (array_closes s)) k j k1 j1 NoRoom
   array_no_room e full = ends_no_room p (array_closes s) (inside, end) (outer_of inside) (array_value s end inside) refl h (subst (λ r. Exceeds r (pushed (outer_of inside) (Some (array_value s end inside)))) e full)
 
   pub array_made : {k2 j2 : ℕ} → k2 ≡ k1 → j2 ≡ j1 + 1 → Follows world limit (then_ok p (array_closes s)) k j k2 j2 (Done (Ok (array_value s end inside)))
   array_made ek ej = ends_made p (array_closes s) (inside, end) (outer_of inside) (array_value s end inside) refl h {limit1 = limit} refl ek ej
 
 module _ {world : World} {limit : ℕ} (p : Plan (Result Taken FaultAt)) (name : Naming) (levels : Levels) (s : ℕ) (t : Taken) {k j k1 j1 : ℕ} (h : Follows world limit p k j k1 j1 (Done (Ok t))) where
-  pub union_no_room : {room : ℕ} → room ≡ world.room → Exceeds room (pushed levels (Some (union_value name s t))) → Follows world limit (then_ok p (union_closes name levels s)) k j k1 j1 NoRoom
+  pub union_no_room : {room : Room} → room ≡ world.room → Exceeds room (pushed levels (Some (union_value name s t))) → Follows world limit (then_ok p (union_closes name levels s)) k j k1 j1 NoRoom
   union_no_room e full = ends_no_room p (union_closes name levels s) t levels (union_value name s t) refl h (subst (λ r. Exceeds r (pushed levels (Some (union_value name s t)))) e full)
 
   pub union_made : {k2 j2 : ℕ} → k2 ≡ k1 → j2 ≡ j1 + 1 → Follows world limit (then_ok p (union_closes name levels s)) k j k2 j2 (Done (Ok (union_value name s t)))
@@ -132,7 +133,7 @@ module _ {world : World} {limit : ℕ} (types : ℕ → PokeType) (m : ℕ) (pin
       condition_stops stop le h = rw is (follow_tick el ek ej (follow_stop _ _ stop (settles_stop _ _ stop refl le h ej2)))
 
       module _ (there : Settles limit1 k1 k2 (Ok false) (condition (optional_term f.condition) levels s) (clause_steps (optional_term f.condition) levels)) where
-        pub absent_no_room : {room : ℕ} → room ≡ world.room → Exceeds room (pushed levels None) → Follows world limit (fields_plan m pinned s (open_fields types fs) order levels behind top) k j k2 j2 NoRoom
+        pub absent_no_room : {room : Room} → room ≡ world.room → Exceeds room (pushed levels None) → Follows world limit (fields_plan m pinned s (open_fields types fs) order levels behind top) k j k2 j2 NoRoom
         unfolding fields_plan
         absent_no_room e full = rw is (follow_tick el ek ej (follow_then_ok _ _ (settles_ok _ _ false refl there ej2) (follow_no_room (subst (λ r. Exceeds r (pushed levels None)) e full))))
 

@@ -41,7 +41,9 @@ module _ {world : World} {limit : ℕ} {A : Type 0} (m s place width : ℕ) (ord
       let past : m < place + width = omega (arith, em, h.3) in
       rw (h.0, h.1, lt-leb (place + width) m past) (follow_tick refl h.2 ej follow_done)
   read_stops before after Limit el em h ej = follow_no_tick h.1 (h.1 ∙ h.0 ∙ el) ej
-  read_stops before after Device el em h ej = follow_tick refl h.0 ej follow_broken
+  read_stops before after Device el em h ej =
+      let inside : place + width ≤ m = omega (arith, em, h.1) in
+      rw (le-leb (place + width) m inside) (follow_tick refl h.0 ej follow_broken)
   read_stops before after Memory el em h ej = absurd h
 
   -- a read that gives a number

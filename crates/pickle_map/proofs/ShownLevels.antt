@@ -1,13 +1,14 @@
 -- What is done to a store's levels is done to the levels that they show.
-use Rattle.std.proofs.Common.{◌≡◌, ℕ, ◌+◌, List, [], ◌∷◌, length, Option, Some, None, refl, ap, arith}
+use Rattle.std.proofs.Common.{◌≡◌, ◌+◌, ◌≤◌, List, [], ◌∷◌, length, Option, Some, None, refl, ap, arith}
 use Rattle.std.proofs.Common.{inl, inr}
 use Rattle.std.proofs.lemmas.Bool.{cases_lt}
 use Rattle.std.proofs.lemmas.List.{map-append}
 use Rattle.pickle_types.specs.declared.table.Node.{Node}
+use Rattle.pickle_map.specs.declared.store.room.Room.{Room}
 use Rattle.pickle_map.specs.Tree as tree
 use Rattle.pickle_map.specs.Levels as stored
 use Rattle.pickle_map.specs.Values.{Value, Levels, pushed, opened, top_of, outer_of, gathered, member_count, level_at, value_at, text_level}
-use Rattle.pickle_map.specs.Room.{NodeSlot, LinkSlot, PendingSlot, ByteSlot, slots, level_slots, value_slots, members_slots, text_length, Exceeds}
+use Rattle.pickle_map.specs.Room.{Slot, NodeSlot, LinkSlot, PendingSlot, ByteSlot, slots, level_slots, value_slots, members_slots, text_length, Exceeds}
 use Rattle.pickle_map.specs.Shown.{shown_label, shown, shown_parts, shown_member, shown_level, shown_levels}
 
 module _ (nodes : List Node) where
@@ -110,18 +111,18 @@ module _ (nodes : List Node) where
   total_pending_shown (top ∷ outer) = let a = level_pending_shown top in let b = total_pending_shown outer in omega (arith, a, b)
 
   -- levels that don't fit exceed the room for one of the kinds
-  pub exceeds : (room : ℕ) (ls : stored.Levels) → (stored.FitsIn room ls → ⊥) → Exceeds room (shown_levels nodes ls)
+  pub exceeds : (room : Room) (ls : stored.Levels) → (stored.FitsIn room ls → ⊥) → Exceeds room (shown_levels nodes ls)
   exceeds room ls h =
-      elim (cases_lt room (stored.total_nodes ls)) [
+      elim (cases_lt room.least (stored.total_nodes ls)) [
         | inl lt ↦ (NodeSlot, rw (total_nodes_shown ls) lt)
         | inr n ↦
-            elim (cases_lt room (stored.total_links ls)) [
+            elim (cases_lt room.least (stored.total_links ls)) [
               | inl lt ↦ (LinkSlot, rw (total_links_shown ls) lt)
               | inr l ↦
-                  elim (cases_lt room (stored.total_pending ls)) [
+                  elim (cases_lt room.least (stored.total_pending ls)) [
                     | inl lt ↦ (PendingSlot, rw (total_pending_shown ls) lt)
                     | inr p ↦
-                        elim (cases_lt room (stored.total_bytes ls)) [
+                        elim (cases_lt room.least (stored.total_bytes ls)) [
                           | inl lt ↦ (ByteSlot, rw (total_bytes_shown ls) lt)
                           | inr b ↦
                               absurd (h (record { nodes = n; links = l; pending = p; bytes = b }))
@@ -129,3 +130,10 @@ module _ (nodes : List Node) where
                   ]
             ]
       ]
+
+  -- levels that fit fill no more slots of any kind than there are
+  pub within : (room : Room) (ls : stored.Levels) → stored.FitsIn room ls → (kind : Slot) → slots kind (shown_levels nodes ls) ≤ room.least
+  within room ls f NodeSlot = let e = total_nodes_shown ls in omega (arith, f.nodes, e)
+  within room ls f LinkSlot = let e = total_links_shown ls in omega (arith, f.links, e)
+  within room ls f PendingSlot = let e = total_pending_shown ls in omega (arith, f.pending, e)
+  within room ls f ByteSlot = let e = total_bytes_shown ls in omega (arith, f.bytes, e)

@@ -1,5 +1,6 @@
 -- What the fault of a mapping says that followed its type's plan.
-use Rattle.std.proofs.Common.{◌≡◌, ℕ, ◌+◌, ◌-◌, ◌*◌, ◌<◌, ◌≤◌, length, List, Some, Err, refl, sym, ap, subst, ◌∙◌, arith}
+use Rattle.std.proofs.Common.{◌≡◌, ℕ, ◌+◌, ◌-◌, ◌*◌, ◌<◌, ◌≤◌, length, List, Some, Result, Err, refl, sym, ap, subst, ◌∙◌, arith}
+use Rattle.bit_space.specs.declared.meter.Meter.{Meter}
 use Rattle.bit_space.specs.declared.order.Order.{Order}
 use Rattle.bit_space.specs.Bits.{bits_of}
 use Rattle.bit_space.specs.SpaceView.{SpaceView, IsWhole}
@@ -17,10 +18,13 @@ use Rattle.pickle_map.specs.declared.mapper.stop.Stop.TheVariants.{Fault, Limit,
 use Rattle.pickle_map.specs.Answer.{Answer}
 use Rattle.pickle_map.specs.FaultKinds.{IsMeant}
 use Rattle.pickle_map.specs.Follows.{World, Follows}
-use Rattle.pickle_map.specs.Mapped.{told, FaultMeans, EndsRun}
+use Rattle.pickle_map.specs.Framed.{Runs}
+use Rattle.pickle_map.specs.Mapped.{told, FaultMeans, CountsToThere, EndsRun}
 use Rattle.pickle_map.specs.Mapping.{plan}
 use Rattle.pickle_map.specs.Stops.{stop_finish}
-use Rattle.pickle_map.specs.Values.{no_values}
+use Rattle.pickle_map.specs.Clauses.{FaultAt}
+use Rattle.pickle_map.specs.Plan.{Plan}
+use Rattle.pickle_map.specs.Values.{Value, no_values}
 use Rattle.pickle_map.proofs.FaultKinds.{followed_kind}
 use Rattle.pickle_map.proofs.Followed.{followed_limit, followed_room, followed_result, followed_too_long, followed_part}
 
@@ -50,6 +54,19 @@ no_run fault.Limit m r = m
 no_run fault.Device m r = m
 no_run fault.Memory m r = m
 
+meant_counts : (space : SpaceView) (meter meter' : Meter) (store : Held) (p : Plan (Result Value FaultAt)) (kind : MapFaultKind) → IsMeant kind → CountsToThere kind space meter meter' store p
+meant_counts space meter meter' store p fault.End m = tt
+meant_counts space meter meter' store p fault.Constraint m = tt
+meant_counts space meter meter' store p fault.Bounds m = tt
+meant_counts space meter meter' store p fault.NoBits m = tt
+meant_counts space meter meter' store p fault.Zero m = tt
+meant_counts space meter meter' store p fault.Overflow m = tt
+meant_counts space meter meter' store p fault.Absent m = tt
+meant_counts space meter meter' store p fault.Index m = tt
+meant_counts space meter meter' store p fault.Limit m = tt
+meant_counts space meter meter' store p fault.Device m = absurd m
+meant_counts space meter meter' store p fault.Memory m = absurd m
+
 module _ {world : World} {limit : ℕ} (m : ℕ) (ty : PokeType) (order : Order) (s : ℕ) {k j k' j' : ℕ} where
   -- what ends a run is told where the mapping began
   pub told_there : (stop : Stop) → Follows world limit (plan m ty order no_values s) k j k' j' (stop_finish stop) → EndsRun (told stop s).kind → (told stop s).at ≡ s
@@ -66,17 +83,25 @@ module _ {world : World} {limit : ℕ} (m : ℕ) (ty : PokeType) (order : Order)
   told_limit Memory h e = cc
 
   -- room was wanted only where there is less than the type's
-  pub told_memory : (stop : Stop) → Follows world limit (plan m ty order no_values s) k j k' j' (stop_finish stop) → (told stop s).kind ≡ fault.Memory → world.room < room ty m
+  pub told_memory : (stop : Stop) → Follows world limit (plan m ty order no_values s) k j k' j' (stop_finish stop) → (told stop s).kind ≡ fault.Memory → world.room.least < room ty m
   told_memory (Fault kind place) h e = absurd (no_run kind (followed_kind m ty order no_values s h) (rw e tt))
   told_memory Limit h e = cc
   told_memory Device h e = cc
-  told_memory Memory h e = let f = followed_room m ty order no_values s h in let less : world.room < 0 + 0 + room ty m = f.1 in omega (arith, less)
+  told_memory Memory h e = let f = followed_room m ty order no_values s h in let less : world.room.least < 0 + 0 + room ty m = f.1 in omega (arith, less)
 
   pub told_device : (stop : Stop) → Follows world limit (plan m ty order no_values s) k j k' j' (stop_finish stop) → (told stop s).kind ≡ fault.Device → stop ≡ Device
   told_device (Fault kind place) h e = absurd (no_run kind (followed_kind m ty order no_values s h) (rw e tt))
   told_device Limit h e = cc
   told_device Device h e = refl
   told_device Memory h e = cc
+
+-- what was counted when the mapping was broken off
+module _ (m : ℕ) (ty : PokeType) (order : Order) (s : ℕ) (space : SpaceView) (meter meter' : Meter) (store : Held) where
+  pub told_counts : (stop : Stop) → Runs space meter meter' store (plan m ty order no_values s) (stop_finish stop) → CountsToThere (told stop s).kind space meter meter' store (plan m ty order no_values s)
+  told_counts (Fault kind place) h = meant_counts space meter meter' store _ kind (followed_kind m ty order no_values s h)
+  told_counts Limit h = tt
+  told_counts Device h = h
+  told_counts Memory h = h
 
 module _ {world : World} {limit : ℕ} (bits : List ℕ) (ty : PokeType) (order : Order) (s : ℕ) {k j k' j' : ℕ} (known : world.known ≡ Some bits) (within : k' ≤ limit) where
   pub told_means : (stop : Stop) → Follows world limit (plan (length bits) ty order no_values s) k j k' j' (stop_finish stop) → FaultMeans bits ty order s (limit - k) (told stop s).kind (told stop s).at (k' - k) (j' - j)

@@ -6,6 +6,7 @@ use Rattle.bit_space.specs.Bits.{bits_of}
 use Rattle.bit_space.specs.SpaceView.{SpaceView, HasRisen}
 use Rattle.bit_space.specs.Reading.{MayRead}
 use Rattle.pickle_types.specs.declared.table.Node.{Node}
+use Rattle.pickle_map.specs.declared.store.room.Room.{Room}
 use Rattle.pickle_map.specs.declared.mapper.stop.Stop.{Stop}
 use Rattle.pickle_map.specs.Values.{Levels, pushed, outer_of, text_value, text_level}
 use Rattle.pickle_map.specs.Levels as stored
@@ -33,7 +34,7 @@ module _ {world : World} {limit : ℕ} (m n : ℕ) (bytes : List ℕ) (outer : L
 
   module _ {limit1 : ℕ} (b : ℕ) (el : limit1 ≡ limit) (ek : k1 ≡ k + 1) (ej : j1 ≡ j) (fits : place + 8 ≤ m) (may : MayRead world.known Big place 8 b) where
     -- no room for the text that ends here
-    pub text_not_closed : {room : ℕ} → b ≡ 0 → room ≡ world.room → Exceeds room (pushed outer (Some (text_value bytes s (place + 8)))) → Follows world limit (text_plan m n bytes outer s place) k j k1 j1 NoRoom
+    pub text_not_closed : {room : Room} → b ≡ 0 → room ≡ world.room → Exceeds room (pushed outer (Some (text_value bytes s (place + 8)))) → Follows world limit (text_plan m n bytes outer s place) k j k1 j1 NoRoom
     unfolding text_plan after_byte
     text_not_closed {room} e er full =
         let full : Exceeds world.room (pushed outer (Some (text_value bytes s (place + 8)))) = subst (λ r. Exceeds r (pushed outer (Some (text_value bytes s (place + 8))))) er full in
@@ -51,7 +52,7 @@ module _ {world : World} {limit : ℕ} (m n : ℕ) (bytes : List ℕ) (outer : L
 
   -- a byte more
   module _ {limit1 : ℕ} (b : ℕ) (el : limit1 ≡ limit) (ek : k1 ≡ k + 1) (ej : j1 ≡ j) (fits : place + 8 ≤ m) (may : MayRead world.known Big place 8 b) (some : b ≡ 0 → ⊥) where
-    pub text_no_room : {room : ℕ} → room ≡ world.room → Exceeds room (text_level (bytes ++ b ∷ []) s outer) → Follows world limit (text_plan m n bytes outer s place) k j k1 j1 NoRoom
+    pub text_no_room : {room : Room} → room ≡ world.room → Exceeds room (text_level (bytes ++ b ∷ []) s outer) → Follows world limit (text_plan m n bytes outer s place) k j k1 j1 NoRoom
     unfolding text_plan after_byte
     text_no_room {room} er full = by_byte b may some (subst (λ r. Exceeds r (text_level (bytes ++ b ∷ []) s outer)) er full) n left
       where
@@ -76,11 +77,11 @@ module _ (nodes : List Node) (store : Held) (bytes : List ℕ) (start : ℕ) (ou
   around_text w = sym (shown_outer nodes (levels store)) ∙ ap (shown_levels nodes) (writing-outer store bytes start outer w)
 
   -- a text that doesn't go into the levels around it
-  pub not_closed : (room : ℕ) → (stored.FitsIn room (stored.pushed outer (Some (tree.text_value bytes start))) → false ≡ true) → Exceeds room (pushed (shown_levels nodes outer) (Some (text_value bytes start (start + 8 * (length bytes + 1)))))
+  pub not_closed : (room : Room) → (stored.FitsIn room (stored.pushed outer (Some (tree.text_value bytes start))) → false ≡ true) → Exceeds room (pushed (shown_levels nodes outer) (Some (text_value bytes start (start + 8 * (length bytes + 1)))))
   not_closed room h = subst (Exceeds room) (shown_pushed nodes outer (Some (tree.text_value bytes start))) (exceeds nodes room (stored.pushed outer (Some (tree.text_value bytes start))) (λ fits. false≢true (h fits)))
 
   -- a text that doesn't take a byte more
-  pub not_longer : (room : ℕ) → (stored.FitsIn room (stored.text_level bytes start outer) → false ≡ true) → Exceeds room (text_level bytes start (shown_levels nodes outer))
+  pub not_longer : (room : Room) → (stored.FitsIn room (stored.text_level bytes start outer) → false ≡ true) → Exceeds room (text_level bytes start (shown_levels nodes outer))
   not_longer room h = exceeds nodes room (stored.text_level bytes start outer) (λ fits. false≢true (h fits))
 
   pub keeps_text : levels store ≡ stored.pushed outer (Some (tree.text_value bytes start)) → kept nodes store ≡ pushed (shown_levels nodes outer) (Some (text_value bytes start (start + 8 * (length bytes + 1))))

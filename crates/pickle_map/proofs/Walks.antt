@@ -3,6 +3,7 @@ use Rattle.std.proofs.Common.{arith, ◌≡◌, ℕ, zero, suc, inl, inr, ◌+�
 use Rattle.std.proofs.lemmas.Bool.{le-leb, lt-leb, cases_lt}
 use Rattle.bit_space.specs.declared.order.Order.{Order}
 use Rattle.bit_space.specs.Reading.{MayRead}
+use Rattle.pickle_map.specs.declared.store.room.Room.{Room}
 use Rattle.pickle_map.specs.declared.faults.MapFaultKind.TheVariants.{End}
 use Rattle.pickle_map.specs.declared.mapper.stop.Stop.{Stop}
 use Rattle.pickle_map.specs.declared.mapper.stop.Stop.TheVariants.{Fault, Limit, Device, Memory}
@@ -10,7 +11,7 @@ use Rattle.pickle_map.specs.Values.{Value, Levels, pushed, outer_of}
 use Rattle.pickle_map.specs.Room.{Exceeds}
 use Rattle.pickle_map.specs.Clauses.{FaultAt}
 use Rattle.pickle_map.specs.Plan.{Plan, Ended, Tick, Made, Read, and_then, after, on_value, then_ok}
-use Rattle.pickle_map.specs.Follows.{World, Walk, arrived, stepped, kept, read, Finish, Done, NoSteps, Broken, NoRoom, Partly, NeedsStep, NeedsRoom, Follows}
+use Rattle.pickle_map.specs.Follows.{World, Walk, arrived, stepped, kept, read, Finish, Done, NoSteps, Broken, NoRoom, Partly, NeedsStep, NeedsRead, NeedsRoom, Follows}
 use Rattle.pickle_map.specs.Mapping.{from_inside, makes, closes}
 use Rattle.pickle_map.specs.Stops.{stop_finish}
 
@@ -34,7 +35,13 @@ needs_in f (Tick p) h = tt
 needs_in f (Made count levels p) h = absurd h
 needs_in f (Read place width order rest) h = absurd h
 
-wants_in : {A B : Type 0} (f : A → Plan B) (room : ℕ) (q : Plan A) → NeedsRoom room q → NeedsRoom room (and_then q f)
+reads_in : {A B : Type 0} (f : A → Plan B) (q : Plan A) → NeedsRead q → NeedsRead (and_then q f)
+reads_in f (Ended a) h = absurd h
+reads_in f (Tick p) h = absurd h
+reads_in f (Made count levels p) h = absurd h
+reads_in f (Read place width order rest) h = tt
+
+wants_in : {A B : Type 0} (f : A → Plan B) (room : Room) (q : Plan A) → NeedsRoom room q → NeedsRoom room (and_then q f)
 wants_in f room (Ended a) h = absurd h
 wants_in f room (Tick p) h = absurd h
 wants_in f room (Made count levels p) h = h
@@ -70,9 +77,9 @@ follow_made {world} {limit} {count} {p} {k} {j} {k'} {j'} {finish} el ek ej h =
 pub follow_read : {world : World} {limit : ℕ} {A : Type 0} {place width : ℕ} {order : Order} {ps : ℕ → Plan A} {k j k' j' : ℕ} {finish : Finish A} (n : ℕ) → MayRead world.known order place width n → Follows world limit (ps n) k j k' j' finish → Follows world limit (Read place width order ps) k j k' j' finish
 follow_read n m h = record { rest = h.rest; walk = read n m h.walk; ends = h.ends }
 
--- broken off
-pub follow_broken : {world : World} {limit : ℕ} {A : Type 0} {p : Plan A} {k j : ℕ} → Follows world limit p k j k j Broken
-follow_broken {p} = record { rest = p; walk = arrived; ends = tt }
+-- a number that the device didn't give
+pub follow_broken : {world : World} {limit : ℕ} {A : Type 0} {place width : ℕ} {order : Order} {ps : ℕ → Plan A} {k j : ℕ} → Follows world limit (Read place width order ps) k j k j Broken
+follow_broken {place} {width} {order} {ps} = record { rest = Read place width order ps; walk = arrived; ends = tt }
 
 -- the same counts by other names
 pub follow_at : {world : World} {limit limit' : ℕ} {A : Type 0} {p : Plan A} {k j k1 j1 k' j' : ℕ} {finish : Finish A} → limit' ≡ limit → k1 ≡ k → j1 ≡ j → Follows world limit' p k1 j1 k' j' finish → Follows world limit p k j k' j' finish
@@ -102,7 +109,7 @@ follow_stop p f Limit v = record {
   walk = walk_in (on_value f) v.walk;
   ends = (needs_in (on_value f) v.rest v.ends.0, v.ends.1);
 }
-follow_stop p f Device v = record { rest = and_then v.rest (on_value f); walk = walk_in (on_value f) v.walk; ends = tt }
+follow_stop p f Device v = record { rest = and_then v.rest (on_value f); walk = walk_in (on_value f) v.walk; ends = reads_in (on_value f) v.rest v.ends }
 follow_stop {world} p f Memory v = record { rest = and_then v.rest (on_value f); walk = walk_in (on_value f) v.walk; ends = wants_in (on_value f) world.room v.rest v.ends }
 
 -- where a loop stands
@@ -124,7 +131,7 @@ follow_and_no_steps p f v = record {
 }
 
 pub follow_and_broken : {world : World} {limit : ℕ} {A B : Type 0} (p : Plan A) (f : A → Plan B) {k j k' j' : ℕ} → Follows world limit p k j k' j' Broken → Follows world limit (and_then p f) k j k' j' Broken
-follow_and_broken p f v = record { rest = and_then v.rest f; walk = walk_in f v.walk; ends = tt }
+follow_and_broken p f v = record { rest = and_then v.rest f; walk = walk_in f v.walk; ends = reads_in f v.rest v.ends }
 
 pub follow_and_no_room : {world : World} {limit : ℕ} {A B : Type 0} (p : Plan A) (f : A → Plan B) {k j k' j' : ℕ} → Follows world limit p k j k' j' NoRoom → Follows world limit (and_then p f) k j k' j' NoRoom
 follow_and_no_room {world} p f v = record { rest = and_then v.rest f; walk = walk_in f v.walk; ends = wants_in f world.room v.rest v.ends }
@@ -168,14 +175,14 @@ first_no_tick p f ek el ej = follow_no_tick ek el ej
 
 -- a level closed, after what was done in it
 module _ {world : World} {limit : ℕ} (p : Plan (Result Levels FaultAt)) (make : Levels → Value) (inside : Levels) {k j k1 j1 : ℕ} (h : Follows world limit p k j k1 j1 (Done (Ok inside))) where
-  pub closes_no_room : {room : ℕ} → room ≡ world.room → Exceeds room (pushed (outer_of inside) (Some (make inside))) → Follows world limit (then_ok p (closes make)) k j k1 j1 NoRoom
+  pub closes_no_room : {room : Room} → room ≡ world.room → Exceeds room (pushed (outer_of inside) (Some (make inside))) → Follows world limit (then_ok p (closes make)) k j k1 j1 NoRoom
   closes_no_room e full = ends_no_room p (closes make) inside (outer_of inside) (make inside) refl h (subst (λ r. Exceeds r (pushed (outer_of inside) (Some (make inside)))) e full)
 
   pub closes_made : {k2 j2 : ℕ} → k2 ≡ k1 → j2 ≡ j1 + 1 → Follows world limit (then_ok p (closes make)) k j k2 j2 (Done (Ok (make inside)))
   closes_made ek ej = ends_made p (closes make) inside (outer_of inside) (make inside) refl h {limit1 = limit} refl ek ej
 
 -- in a room of the same size
-pub in_room : {known : Option (List ℕ)} {r r' : ℕ} {limit : ℕ} {A : Type 0} {p : Plan A} {k j k' j' : ℕ} {finish : Finish A} → r ≡ r' → Follows (record { known = known; room = r }) limit p k j k' j' finish → Follows (record { known = known; room = r' }) limit p k j k' j' finish
+pub in_room : {known : Option (List ℕ)} {r r' : Room} {limit : ℕ} {A : Type 0} {p : Plan A} {k j k' j' : ℕ} {finish : Finish A} → r ≡ r' → Follows (record { known = known; room = r }) limit p k j k' j' finish → Follows (record { known = known; room = r' }) limit p k j k' j' finish
 in_room {known} {limit} {p} {k} {j} {k'} {j'} {finish} e h = subst (λ r. Follows (record { known = known; room = r }) limit p k j k' j' finish) e h
 
 pub outer_pushed : (levels : Levels) (v : Option Value) → outer_of (pushed levels v) ≡ outer_of levels

@@ -3,6 +3,7 @@ use Rattle.std.proofs.Common.{◌≡◌, ℕ, ◌+◌, ◌-◌, ◌<◌, ◌≤�
 use Rattle.std.specs.Prelude.{slice_set}
 use Rattle.std.proofs.Math.Seq.{take-length}
 use Rattle.std.proofs.lemmas.List.{append_assoc, length-append, length_push, length-set, take_at, take_more_set}
+use Rattle.pickle_map.specs.declared.store.room.Room.{Room}
 use Rattle.pickle_map.specs.declared.store.slots.Shape.TheVariants.{Text}
 use Rattle.pickle_map.specs.Tree.{text_value}
 use Rattle.pickle_map.specs.Levels.{Levels, top_of, outer_of, extended, pushed, text_level, level_nodes, FitsIn}
@@ -139,7 +140,7 @@ module _ (h : Held) (byte : ℕ) (bytes : List ℕ) (start : ℕ) (outer : Level
         short = short-push bytes byte short;
       }
 
-  pub stale-room : (HasNoNode h → ⊥) → FitsIn h.room (text_level (bytes ++ byte ∷ []) start outer) → length h.slots.bytes + 1 ≤ h.room
+  pub stale-room : (HasNoNode h → ⊥) → FitsIn h.room (text_level (bytes ++ byte ∷ []) start outer) → length h.slots.bytes + 1 ≤ h.room.least
   unfolding levels
   stale-room n fits = room-byte h.frames h.slots h.room start byte bytes outer (writing-all h bytes start outer w) (writing-levels h bytes start outer w (stale-some h bytes start outer w n)) fits
 
@@ -154,7 +155,7 @@ close-fresh h bytes start outer w e =
     ap (λ ls. pushed ls (Some (text_value [] start))) (writing-empty h start outer w') ∙ ap (λ bs. text_level bs start outer) (sym none)
 
 -- a text takes the same in its own level and in the one around it
-pub fits-closed : (room : ℕ) (bytes : List ℕ) (start : ℕ) (outer : Levels) → FitsIn room (pushed outer (Some (text_value bytes start))) → FitsIn room (text_level bytes start outer)
+pub fits-closed : (room : Room) (bytes : List ℕ) (start : ℕ) (outer : Levels) → FitsIn room (pushed outer (Some (text_value bytes start))) → FitsIn room (text_level bytes start outer)
 fits-closed room bytes start outer f =
     let vs = Some (text_value bytes start) ∷ [] in
     record {

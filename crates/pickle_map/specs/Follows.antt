@@ -2,14 +2,15 @@
 use Rattle.std.specs.Prelude.{◌≡◌, ℕ, ◌+◌, List, Option}
 use Rattle.bit_space.specs.declared.order.Order.{Order}
 use Rattle.bit_space.specs.Reading.{MayRead}
+use Rattle.pickle_map.specs.declared.store.room.Room.{Room}
 use Rattle.pickle_map.specs.Values.{Levels}
 use Rattle.pickle_map.specs.Room.{Exceeds}
 use Rattle.pickle_map.specs.Plan.{Plan, Ended, Tick, Made, Read}
 
--- the bits of the file, where they are known, and how many slots of each kind the store has room for
+-- the bits of the file, where they are known, and the store's room
 pub record World : Type 0 where
   pub known : Option (List ℕ)
-  pub room : ℕ
+  pub room : Room
 
 -- the way from a plan, after k steps with j values made, to its rest, after k' steps with j' values made
 pub data Walk (world : World) {A : Type 0} (rest : Plan A) (k' j' : ℕ) : Plan A → ℕ → ℕ → Type 0 where
@@ -33,8 +34,15 @@ NeedsStep (Tick p) = Unit {0}
 NeedsStep (Made count levels p) = ⊥
 NeedsStep (Read place width order rest) = ⊥
 
+-- a read comes next
+abbrev pub NeedsRead : {A : Type 0} → Plan A → Type 0
+NeedsRead (Ended a) = ⊥
+NeedsRead (Tick p) = ⊥
+NeedsRead (Made count levels p) = ⊥
+NeedsRead (Read place width order rest) = Unit {0}
+
 -- more is to be kept than there is room for
-abbrev pub NeedsRoom : {A : Type 0} → ℕ → Plan A → Type 0
+abbrev pub NeedsRoom : {A : Type 0} → Room → Plan A → Type 0
 NeedsRoom room (Ended a) = ⊥
 NeedsRoom room (Tick p) = ⊥
 NeedsRoom room (Made count levels p) = Exceeds room levels
@@ -44,7 +52,7 @@ NeedsRoom room (Read place width order rest) = ⊥
 abbrev pub EndsAs : {A : Type 0} → World → Finish A → Plan A → (limit steps : ℕ) → Type 0
 EndsAs world (Done a) rest limit k = rest ≡ Ended a
 EndsAs world NoSteps rest limit k = NeedsStep rest × (k ≡ limit)
-EndsAs world Broken rest limit k = Unit {0}
+EndsAs world Broken rest limit k = NeedsRead rest
 EndsAs world NoRoom rest limit k = NeedsRoom world.room rest
 EndsAs world (Partly q) rest limit k = rest ≡ q
 

@@ -1,5 +1,6 @@
 -- The values that are being built, and the slots that they take.
 use Rattle.std.specs.Prelude.{ℕ, zero, suc, ◌+◌, ◌≤◌, List, [], ◌∷◌, ◌++◌, Option, Some, None, length, slice_get, unwrap_or}
+use Rattle.pickle_map.specs.declared.store.room.Room.{Room}
 use Rattle.pickle_map.specs.Tree.{Value, Tree, Parts, End, Absent, Present, bytes_of, text_value}
 
 -- the parts so far of each value that is open, the innermost first; the last level holds the whole
@@ -104,8 +105,8 @@ total_bytes [] = 0
 total_bytes (top ∷ outer) = level_bytes top + total_bytes outer
 
 -- room of that many of each kind of slot is enough for these
-pub record FitsIn (room : ℕ) (ls : Levels) : Type 0 where
-  pub nodes : total_nodes ls ≤ room
-  pub links : total_links ls ≤ room
-  pub pending : total_pending ls ≤ room
-  pub bytes : total_bytes ls ≤ room
+pub record FitsIn (room : Room) (ls : Levels) : Type 0 where
+  pub nodes : total_nodes ls ≤ room.least
+  pub links : total_links ls ≤ room.least
+  pub pending : total_pending ls ≤ room.least
+  pub bytes : total_bytes ls ≤ room.least

@@ -1,6 +1,8 @@
 -- What a mapping gives and answers.
-use Rattle.std.specs.Prelude.{◌≡◌, ℕ, List, Some, Err}
+use Rattle.std.specs.Prelude.{◌≡◌, ℕ, List, Some, Result, Err}
+use Rattle.bit_space.specs.declared.meter.Meter.{Meter}
 use Rattle.bit_space.specs.declared.order.Order.{Order}
+use Rattle.bit_space.specs.SpaceView.{SpaceView}
 use Rattle.pickle_types.specs.declared.table.Node.{Node}
 use Rattle.pickle_types.specs.Types.{PokeType}
 use Rattle.pickle_map.specs.declared.faults.MapFault.{MapFault}
@@ -9,6 +11,10 @@ use Rattle.pickle_map.specs.declared.faults.MapFaultKind.TheVariants as fault
 use Rattle.pickle_map.specs.declared.mapper.stop.Stop.{Stop}
 use Rattle.pickle_map.specs.declared.mapper.stop.Stop.TheVariants.{Fault, Limit, Device, Memory}
 use Rattle.pickle_map.specs.Answer.{Answer, BrokenOff}
+use Rattle.pickle_map.specs.Clauses.{FaultAt}
+use Rattle.pickle_map.specs.Follows.{Broken, NoRoom}
+use Rattle.pickle_map.specs.Framed.{Runs}
+use Rattle.pickle_map.specs.Plan.{Plan}
 use Rattle.pickle_map.specs.Shown.{kept}
 use Rattle.pickle_map.specs.Slots.{Held}
 use Rattle.pickle_map.specs.Values.{Value, no_values, pushed}
@@ -32,6 +38,13 @@ abbrev pub FaultMeans : List ℕ → PokeType → Order → (s limit : ℕ) → 
 FaultMeans bits ty order s limit fault.Device at k j = BrokenOff bits ty order s limit k j
 FaultMeans bits ty order s limit fault.Memory at k j = BrokenOff bits ty order s limit k j
 FaultMeans bits ty order s limit kind at k j = Answer bits ty order s limit (Err (kind, at)) k j
+
+-- Where a device or want of memory broke a mapping off, its calls counted the steps and the values of its plan up to the read that
+-- failed, or up to what was to be kept and had no room.
+abbrev pub CountsToThere : MapFaultKind → SpaceView → (meter meter' : Meter) → Held → Plan (Result Value FaultAt) → Type 0
+CountsToThere fault.Device space meter meter' store p = Runs space meter meter' store p Broken
+CountsToThere fault.Memory space meter meter' store p = Runs space meter meter' store p NoRoom
+CountsToThere kind space meter meter' store p = Unit {0}
 
 -- faults that a run ends with, which no type means
 abbrev pub EndsRun : MapFaultKind → Type 0

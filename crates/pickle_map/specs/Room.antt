@@ -1,5 +1,6 @@
 -- How many slots of each kind a mapping under way fills.
 use Rattle.std.specs.Prelude.{ℕ, ◌+◌, ◌<◌, length, List, [], ◌∷◌, Option, Some, None}
+use Rattle.pickle_map.specs.declared.store.room.Room.{Room}
 use Rattle.pickle_map.specs.Values.{Label, IntegerLabel, OffsetLabel, TextLabel, ArrayLabel, StructLabel, UnionLabel, Value, Mapped, Members, NoMembers, MemberThen, AbsentThen, member_count, Levels}
 
 -- The kinds of slots: a node for each value, a link for each member of a value, a pending child for each member of a level
@@ -55,5 +56,5 @@ slots kind [] = 0
 slots kind (top ∷ outer) = level_slots kind top + slots kind outer
 
 -- of one of the kinds, the levels fill more slots than there is room for
-abbrev pub Exceeds : ℕ → Levels → Type 0
-Exceeds room levels = (kind : Slot) × (room < slots kind levels)
+abbrev pub Exceeds : Room → Levels → Type 0
+Exceeds room levels = (kind : Slot) × (room.least < slots kind levels)

@@ -2,6 +2,8 @@
 use Rattle.std.specs.Prelude.{◌≡◌, ℕ, zero, suc, ◌+◌, ◌-◌, ◌*◌, ◌^◌, ◌<◌, ◌≤◌, ℤ, pos, Bool, true, false, List, [], ◌∷◌, ◌++◌, Option, Some, None, length, take, drop, map, slice_get, slice_index, slice_index_or, unwrap_or, IfSome, FitsSigned}
 use Rattle.std.specs.Option.{option_map}
 use Rattle.std.specs.Int.{cast_signed, w64, FitsUnsigned}
+use Rattle.pickle_map.specs.declared.store.room.Growth.TheVariants.{Free, Never}
+use Rattle.pickle_map.specs.declared.store.room.Room.{Room}
 use Rattle.pickle_map.specs.declared.store.slots.Node.{Node}
 use Rattle.pickle_map.specs.declared.store.slots.Family.{Family}
 use Rattle.pickle_map.specs.declared.store.slots.Marks.{Marks}
@@ -27,10 +29,18 @@ no_slots = record { nodes = []; families = []; links = []; pending = []; texts =
 pub record Held : Type 0 where
   pub slots : Slots
   pub frames : List Marks
-  pub room : ℕ
+  pub room : Room
 
-abbrev pub empty : ℕ → Held
-empty n = record { slots = no_slots; frames = []; room = n }
+-- room for n slots of each kind at least, and for more where there is memory
+abbrev pub growing : ℕ → Room
+growing n = record { least = n; growth = Free }
+
+-- room for n slots of each kind, and never for more
+abbrev pub fixed : ℕ → Room
+fixed n = record { least = n; growth = Never }
+
+abbrev pub empty : Room → Held
+empty room = record { slots = no_slots; frames = []; room = room }
 
 -- `count` elements from `first` on
 abbrev pub part : {A : Type 0} → ℕ → ℕ → List A → List A
@@ -345,26 +355,36 @@ pub record GoesOn (h : Held) : Type 0 where
   pub short : IsShort (length bytes + 1)
 
 -- room of that many of each kind is enough for so many more
-pub record HasRoom (room : ℕ) (s : Slots) (node_count link_count pending_count byte_count : ℕ) : Type 0 where
-  pub nodes : length s.nodes + node_count ≤ room
-  pub links : length s.links + link_count ≤ room
-  pub pending : length s.pending + pending_count ≤ room
-  pub bytes : length s.bytes + byte_count ≤ room
+pub record HasRoom (room : Room) (s : Slots) (node_count link_count pending_count byte_count : ℕ) : Type 0 where
+  pub nodes : length s.nodes + node_count ≤ room.least
+  pub links : length s.links + link_count ≤ room.least
+  pub pending : length s.pending + pending_count ≤ room.least
+  pub bytes : length s.bytes + byte_count ≤ room.least
 
 -- a number that 64 bits can stand for
 abbrev pub IsContentNumber : Bool → ℤ → Type 0
 IsContentNumber true z = FitsSigned w64 z
 IsContentNumber false z = FitsUnsigned w64 z
 
--- what holds of a store, with the capacities of its vectors
+-- each vector has a capacity of just n
+pub record AreAll (n node_capacity family_capacity link_capacity pending_capacity text_capacity byte_capacity : ℕ) : Type 0 where
+  pub nodes : node_capacity ≡ n
+  pub families : family_capacity ≡ n
+  pub links : link_capacity ≡ n
+  pub pending : pending_capacity ≡ n
+  pub texts : text_capacity ≡ n
+  pub bytes : byte_capacity ≡ n
+
+-- What holds of a store, with the capacities of its vectors: each has the store's room, and just that where it never grows.
 pub record IsStore (h : Held) (node_capacity family_capacity link_capacity pending_capacity text_capacity byte_capacity : ℕ) : Type 0 where
   pub levels : AreLevels h.frames h.slots
-  pub nodes : h.room ≤ node_capacity
-  pub families : h.room ≤ family_capacity
-  pub links : h.room ≤ link_capacity
-  pub pending : h.room ≤ pending_capacity
-  pub texts : h.room ≤ text_capacity
-  pub bytes : h.room ≤ byte_capacity
+  pub nodes : h.room.least ≤ node_capacity
+  pub families : h.room.least ≤ family_capacity
+  pub links : h.room.least ≤ link_capacity
+  pub pending : h.room.least ≤ pending_capacity
+  pub texts : h.room.least ≤ text_capacity
+  pub bytes : h.room.least ≤ byte_capacity
+  pub fixed : h.room.growth ≡ Never → AreAll h.room.least node_capacity family_capacity link_capacity pending_capacity text_capacity byte_capacity
 
 -- the marks of the values around the innermost open one
 abbrev pub around : List Marks → List Marks

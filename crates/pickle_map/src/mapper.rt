@@ -7,8 +7,11 @@ ghost use Rattle.pickle_types.specs.Bounds.{cost, room};
 ghost use Rattle.pickle_types.specs.TypeTable.{nodes_of, type_named, IsSound, IsInTable};
 ghost use Rattle.pickle_map.specs.Answer.{Answer};
 ghost use Rattle.pickle_map.specs.Fits.{Fits};
-ghost use Rattle.pickle_map.specs.Mapped.{Gives, FaultMeans, EndsRun, told};
-ghost use Rattle.pickle_map.specs.Room.{NodeSlot, ByteSlot, value_slots};
+ghost use Rattle.pickle_map.specs.Mapping.{plan};
+ghost use Rattle.pickle_map.specs.Mapped.{Gives, FaultMeans, CountsToThere, EndsRun, told};
+ghost use Rattle.pickle_map.specs.Room.{Slot, NodeSlot, ByteSlot, value_slots, slots};
+ghost use Rattle.pickle_map.specs.Shown.{kept};
+ghost use Rattle.pickle_map.specs.declared.store.room.Growth.TheVariants.{Never};
 ghost use Rattle.pickle_map.specs.Slots.{empty};
 ghost use Rattle.pickle_map.specs.Values.{no_values};
 
@@ -55,12 +58,16 @@ pub fn map<S: Space>(
     ensures steps { meter.new.steps ≤ meter.old.steps + cost (type_named table.now id) (8 * (S.view space.old).len) }
     ensures made { (meter.old.made ≤ meter.new.made) × (meter.new.made + meter.old.steps ≤ meter.old.made + meter.new.steps) }
     ensures limit { IfErr result (λ f. f.kind ≡ MapFaultKind.Limit → (meter.new.steps ≡ meter.old.limit) × (meter.old.limit < meter.old.steps + cost (type_named table.now id) (8 * (S.view space.old).len))) }
-    ensures memory { IfErr result (λ f. f.kind ≡ MapFaultKind.Memory → store.old.room < room (type_named table.now id) (8 * (S.view space.old).len)) }
+    ensures memory { IfErr result (λ f. f.kind ≡ MapFaultKind.Memory → store.old.room.least < room (type_named table.now id) (8 * (S.view space.old).len)) }
     ensures device { IfErr result (λ f. f.kind ≡ MapFaultKind.Device → HasRisen (S.view space.old).failures (S.view space.new).failures) }
+    // A mapping that was broken off counted its steps and values up to the read that failed, or to what had no room.
+    ensures counts { IfErr result (λ f. CountsToThere f.kind (S.view space.old) meter.old meter.new store.old (plan (8 * (S.view space.old).len) (type_named table.now id) order no_values start)) }
     // What ends a run is told at the mapping's start.
     ensures place { IfErr result (λ f. EndsRun f.kind → f.at ≡ start) }
     ensures emptied { OnErr result (store.new ≡ empty store.old.room) }
     ensures room { store.new.room ≡ store.old.room }
+    // What a store that never grows holds at most.
+    ensures held { OnOk result (store.old.room.growth ≡ Never → (kind : Slot) → slots kind (kept (nodes_of table.now) store.new) ≤ store.old.room.least) }
     ensures most { meter.new.limit ≡ meter.old.limit }
     ensures len { (S.view space.new).len ≡ (S.view space.old).len }
     ensures bytes { (S.view space.new).bytes ≡ (S.view space.old).bytes }
@@ -75,7 +82,10 @@ pub fn map<S: Space>(
         meter,
         store,
     ) {
-        Ok(_) => Ok(()),
+        Ok(_) => {
+            let _fixed = store.never_grows();
+            Ok(())
+        }
         Err(stop) => {
             store.clear();
             Err(told(stop, start))

@@ -1,17 +1,20 @@
-ghost use Rattle.std.specs.Prelude.{◌≡◌, ◌≤◌, ◌-◌, ◌++◌, ◌∷◌, [], Some, None, take, drop, IfOk, vec_len, vec_capacity};
-ghost use Rattle.pickle_map.specs.Levels.{no_values};
-ghost use Rattle.pickle_map.specs.Slots.{empty, marks_of, innermost, levels};
+ghost use Rattle.std.specs.Prelude.{◌≡◌, ◌≤◌, ◌-◌, ◌++◌, ◌∷◌, [], Some, None, take, drop, IfOk, IsTrue, ◌↔◌, vec_len, vec_capacity};
+ghost use Rattle.pickle_map.specs.Levels.{no_values, FitsIn};
+ghost use Rattle.pickle_map.specs.declared.store.room.Growth.TheVariants.{Never};
+ghost use Rattle.pickle_map.specs.Slots.{empty, growing, fixed, marks_of, innermost, levels};
 
 mod append;
 mod cut;
 mod place;
 mod read;
+pub(crate) mod room;
 mod scope;
 pub(crate) mod slots;
 mod text;
 
 use arrayvec::ArrayVec;
 use bit_space::Memory;
+use room::{Growth, Room};
 use slots::{Family, Link, Marks, Node};
 use std::alloc::Global;
 use std::marker::Model;
@@ -30,7 +33,7 @@ pub struct Store {
     texts: Vec<usize>,
     bytes: Vec<u8>,
     frames: ArrayVec<Marks, 64>,
-    room: usize,
+    room: Room,
 }
 
 impl Model for Store {
@@ -56,7 +59,7 @@ impl Model for Store {
 impl Store {
     /// An empty store without room.
     pub fn new(alloc: Global) -> Store
-        ensures empty { result ≡ empty 0 }
+        ensures empty { result ≡ empty (growing 0) }
         ensures levels { levels result ≡ no_values }
     {
         Store {
@@ -67,21 +70,52 @@ impl Store {
             texts: Vec::new(alloc),
             bytes: Vec::new(alloc),
             frames: ArrayVec::new(),
-            room: 0,
+            room: Room {
+                least: 0,
+                growth: Growth::Free,
+            },
         }
     }
 
     /// An empty store with room for `room` nodes, links, pending children and bytes of texts, each.
     pub fn with_room(alloc: Global, room: usize) -> Result<Store, Memory>
-        ensures empty { IfOk result (λ s. s ≡ empty room) }
+        ensures empty { IfOk result (λ s. s ≡ empty (growing room)) }
         ensures levels { IfOk result (λ s. levels s ≡ no_values) }
     {
-        let nodes = Vec::with_capacity(alloc, room)?;
-        let families = Vec::with_capacity(alloc, room)?;
-        let links = Vec::with_capacity(alloc, room)?;
-        let pending = Vec::with_capacity(alloc, room)?;
-        let texts = Vec::with_capacity(alloc, room)?;
-        let bytes = Vec::with_capacity(alloc, room)?;
+        Store::reserved(
+            alloc,
+            Room {
+                least: room,
+                growth: Growth::Free,
+            },
+        )
+    }
+
+    /// An empty store with room for `most` nodes, links, pending children and bytes of texts, each, which never asks for more:
+    /// what doesn't fit is refused as want of memory.
+    pub fn with_most(alloc: Global, most: usize) -> Result<Store, Memory>
+        ensures empty { IfOk result (λ s. s ≡ empty (fixed most)) }
+        ensures levels { IfOk result (λ s. levels s ≡ no_values) }
+    {
+        Store::reserved(
+            alloc,
+            Room {
+                least: most,
+                growth: Growth::Never,
+            },
+        )
+    }
+
+    // An empty store that has all its room.
+    fn reserved(alloc: Global, room: Room) -> Result<Store, Memory>
+        ensures empty { IfOk result (λ s. s ≡ empty room) }
+    {
+        let nodes = Vec::with_capacity(alloc, room.least)?;
+        let families = Vec::with_capacity(alloc, room.least)?;
+        let links = Vec::with_capacity(alloc, room.least)?;
+        let pending = Vec::with_capacity(alloc, room.least)?;
+        let texts = Vec::with_capacity(alloc, room.least)?;
+        let bytes = Vec::with_capacity(alloc, room.least)?;
         Ok(Store {
             nodes,
             families,
@@ -106,6 +140,14 @@ impl Store {
         self.texts.clear();
         self.bytes.clear();
         self.frames.clear();
+    }
+
+    /// Whether the store never asks for more room than it was made with. What such a store holds fits in that.
+    pub fn never_grows(&self) -> bool
+        ensures is { IsTrue result ↔ (self.now.room.growth ≡ Never) }
+        ensures fits { self.now.room.growth ≡ Never → FitsIn self.now.room (levels self.now) }
+    {
+        matches!(self.room.growth, Growth::Never)
     }
 
     // How much of each kind there is.

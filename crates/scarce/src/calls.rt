@@ -1,10 +1,10 @@
 //! The calls by their names.
 
 use crate::ended::Ended;
-use crate::samples::{ELEMENTS, MIXED, UNIONS};
+use crate::samples::{ARRAYS, ELEMENTS, MIXED, UNIONS};
 use crate::sparing::{
-    asking_tables, mapping_again, mapping_in_room, mapping_letters_in_room, reading_values,
-    telling_lengths, telling_tokens, using_spaces,
+    asking_tables, mapping_again, mapping_in_room, mapping_letters_in_room, mapping_within,
+    reading_values, telling_lengths, telling_tokens, using_spaces,
 };
 use crate::wanting::{
     building, lexing, mapping, paging, parsing, reading_pages, reading_pickle, reading_words,
@@ -14,7 +14,7 @@ use std::fs::File;
 use std::rt::Files;
 
 /// The names of the calls.
-pub const CALLS: [&str; 24] = [
+pub const CALLS: [&str; 27] = [
     "lex",
     "parse",
     "build",
@@ -32,6 +32,9 @@ pub const CALLS: [&str; 24] = [
     "room_105",
     "room_17",
     "room_1005",
+    "most_9",
+    "most_7",
+    "most_21",
     "again_mixed",
     "again_elements",
     "spaces",
@@ -69,6 +72,9 @@ fn run_named<R: Files<File = File> + AllocGlobal>(rt: &R, name: &[u8]) -> Result
         b"room_105" => mapping_in_room(alloc, ELEMENTS, 105),
         b"room_17" => mapping_in_room(alloc, UNIONS, 17),
         b"room_1005" => mapping_letters_in_room(alloc),
+        b"most_9" => mapping_within(alloc, MIXED, 9),
+        b"most_7" => mapping_within(alloc, ELEMENTS, 7),
+        b"most_21" => mapping_within(alloc, ARRAYS, 21),
         b"again_mixed" => mapping_again(alloc, MIXED),
         b"again_elements" => mapping_again(alloc, ELEMENTS),
         b"spaces" => using_spaces(alloc),

@@ -32,5 +32,12 @@ pub const UNIONS: Sample<'_> = Sample {
     text: b"[U {b=2UB},U {b=3UB}]\n",
 };
 
+/// Two arrays of many elements: the links of the first change places with its elements, those of the second move.
+pub const ARRAYS: Sample<'_> = Sample {
+    pickle: b"type T = struct { byte[9] a; byte[9] b; };",
+    bytes: b"\x01\x02\x03\x04\x05\x06\x07\x08\x09\x09\x08\x07\x06\x05\x04\x03\x02\x01",
+    text: b"T {a=[1UB,2UB,3UB,4UB,5UB,6UB,7UB,8UB,9UB],b=[9UB,8UB,7UB,6UB,5UB,4UB,3UB,2UB,1UB]}\n",
+};
+
 /// A text that is kept by an alternative that is given up, and then by the next.
 pub const LONG_PICKLE: &[u8] = b"type T = union { string a : 0 != 0; string b; };";

@@ -24,6 +24,22 @@ pub fn mapping_in_room(alloc: Global, sample: Sample<'_>, slots: usize) -> Resul
     Ok(Ended::answer_if(first && second))
 }
 
+/// Maps in a store that holds just the slots of the mapping and never asks for more. One of a slot less tells of want of memory.
+pub fn mapping_within(alloc: Global, sample: Sample<'_>, slots: usize) -> Result<Ended, Ended> {
+    let (table, id) = types_of(alloc, sample.pickle)?;
+    let mut space = space_of(alloc, sample.bytes)?;
+    let mut tight = Store::with_most(alloc, slots.saturating_sub(1)).map_err(|_| Ended::Early)?;
+    let mut store = Store::with_most(alloc, slots).map_err(|_| Ended::Early)?;
+    let refused = match map_type(&table, id, &mut space, &mut tight) {
+        Ok(()) => false,
+        Err(fault) => fault.kind == MapFaultKind::Memory && fault.at == 0,
+    };
+    let emptied = tight.root(&table).is_none();
+    let mapped = is_mapped(&table, id, &mut space, &mut store, sample);
+    let fixed = tight.never_grows() && store.never_grows();
+    Ok(Ended::answer_if(refused && emptied && mapped && fixed))
+}
+
 /// A thousand letters are kept by an alternative that is given up, and then by the next, in the room of one.
 pub fn mapping_letters_in_room(alloc: Global) -> Result<Ended, Ended> {
     let mut bytes = [b'a'; 1001];

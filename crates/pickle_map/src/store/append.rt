@@ -1,17 +1,21 @@
 //! Appends to a vector that has the room.
 ghost use Rattle.std.specs.Prelude.{◌≡◌, ◌+◌, ◌≤◌, ◌++◌, length, vec_len, vec_capacity};
+ghost use Rattle.pickle_map.specs.declared.store.room.Growth.TheVariants.{Never};
+
+use crate::store::room::{Growth, Room};
 
 /// So many items, at most, are appended one by one, which takes less than a call for them all.
 const FEW: usize = 8;
 
-/// Appends items, for which there is room.
+/// Appends items, for which there is room. The call for many may grow a vector, for what its contract says.
 #[inline(always)]
-pub(super) fn append<T: Copy>(to: &mut Vec<T>, items: &[T])
+pub(super) fn append<T: Copy>(to: &mut Vec<T>, items: &[T], room: Room)
     requires { vec_len to.old + length items.now ≤ vec_capacity to.old }
     ensures items { to.new.items ≡ to.old.items ++ items.now }
     ensures capacity { vec_capacity to.old ≤ vec_capacity to.new }
+    ensures fixed { room.growth ≡ Never → vec_capacity to.new ≡ vec_capacity to.old }
 {
-    if items.len() > FEW {
+    if items.len() > FEW && matches!(room.growth, Growth::Free) {
         append_many(to, items);
         return;
     }

@@ -1,17 +1,18 @@
 ghost use Rattle.std.specs.Prelude.{◌≡◌, ℕ, ◌+◌, ◌-◌, ◌<◌, ◌≤◌, ◌++◌, ◌∷◌, [], Some, None, ℤ, take, drop, length, max, min, IsOk, OnOk, OnErr, vec_len, vec_capacity, List};
+ghost use Rattle.pickle_map.specs.declared.store.room.Growth.TheVariants.{Never};
 ghost use Rattle.pickle_map.specs.Tree.{Tree, End, parts_of, text_value, IntegerLabel, OffsetLabel, ArrayLabel, StructLabel, UnionLabel};
 ghost use Rattle.pickle_map.specs.Levels.{Levels, pushed, outer_of, top_of, extended, text_level, FitsIn};
 ghost use Rattle.pickle_map.specs.Slots.{levels, IsNumber, number_value, number_in, IsContentNumber, IsComposite, composite_label};
 
 use crate::store::Store;
 use crate::store::append::append;
+use crate::store::room::Room;
 use crate::store::slots::{Family, Link, Node, Shape};
 use bit_space::Memory;
-use std::alloc::AllocError;
 
 // Moves the links above a mark, for which there is room, and leaves room for one there. The vectors change places where
 // all links move to an empty one of the same capacity: an array of numbers has as many as the file has bytes.
-fn move_above(from: &mut Vec<Link>, mark: usize, to: &mut Vec<Link>)
+fn move_above(from: &mut Vec<Link>, mark: usize, to: &mut Vec<Link>, room: Room)
     requires mark { mark ≤ vec_len from.old }
     requires room { vec_len to.old + (vec_len from.old - mark) ≤ vec_capacity to.old }
     requires above { mark < vec_capacity from.old }
@@ -19,44 +20,52 @@ fn move_above(from: &mut Vec<Link>, mark: usize, to: &mut Vec<Link>)
     ensures to { to.new.items ≡ to.old.items ++ drop mark from.old.items }
     ensures len { vec_len from.new ≡ mark }
     ensures above { mark < vec_capacity from.new }
-    ensures from_capacity { vec_capacity from.old ≤ vec_capacity from.new }
+    ensures from_capacity { vec_capacity from.new ≡ vec_capacity from.old }
     ensures to_capacity { vec_capacity to.old ≤ vec_capacity to.new }
+    ensures fixed { room.growth ≡ Never → vec_capacity to.new ≡ vec_capacity to.old }
 {
     if mark == 0 && to.is_empty() && !from.is_empty() && from.capacity() == to.capacity() {
         std::mem::swap(from, to);
         return;
     }
-    append(to, &from[mark..]);
+    append(to, &from[mark..], room);
     from.truncate(mark);
 }
 
 // Makes room for the links above a mark, in an empty vector as much as where they are, so that both can change places.
-fn reserve_moved(to: &mut Vec<Link>, from: &Vec<Link>, mark: usize) -> Result<(), AllocError>
+fn reserve_moved(
+    to: &mut Vec<Link>,
+    from: &Vec<Link>,
+    mark: usize,
+    room: Room,
+) -> Result<(), Memory>
     requires { mark ≤ vec_len from.now }
     ensures items { to.new.items ≡ to.old.items }
     ensures len { vec_len to.new ≡ vec_len to.old }
     ensures ok { OnOk result (vec_len to.new + (vec_len from.now - mark) ≤ vec_capacity to.new) }
     ensures capacity { vec_capacity to.old ≤ vec_capacity to.new }
+    ensures fixed { room.growth ≡ Never → vec_capacity to.new ≡ vec_capacity to.old }
     ensures full { OnErr result (vec_capacity to.old < vec_len to.old + (vec_len from.now - mark)) }
 {
     let count = from.len() - mark;
     if mark == 0 && to.is_empty() && to.capacity() < count {
-        let _refused = to.reserve(from.capacity());
+        let _refused = room.reserve(to, from.capacity());
     }
-    to.reserve(count)
+    room.reserve(to, count)
 }
 
 // Makes room for one link above a mark, where those that stand there are to go.
-fn reserve_above(links: &mut Vec<Link>, mark: usize) -> Result<(), AllocError>
+fn reserve_above(links: &mut Vec<Link>, mark: usize, room: Room) -> Result<(), Memory>
     requires { mark ≤ vec_len links.old }
     ensures items { links.new.items ≡ links.old.items }
     ensures len { vec_len links.new ≡ vec_len links.old }
     ensures ok { OnOk result (mark < vec_capacity links.new) }
     ensures capacity { vec_capacity links.old ≤ vec_capacity links.new }
+    ensures fixed { room.growth ≡ Never → vec_capacity links.new ≡ vec_capacity links.old }
     ensures full { OnErr result (vec_capacity links.old < mark + 1) }
 {
     if mark == links.len() {
-        links.reserve(1)
+        room.reserve(links, 1)
     } else {
         Ok(())
     }
@@ -85,8 +94,8 @@ impl Store {
         ensures succeeds { FitsIn self.old.room (pushed (levels self.old) (Some (number_value shape start content))) → IsOk result }
     {
         let index = self.nodes.len();
-        self.nodes.reserve(1)?;
-        self.pending.reserve(1)?;
+        self.room.reserve(&mut self.nodes, 1)?;
+        self.room.reserve(&mut self.pending, 1)?;
         self.pending.push_reserved(Link::to(index));
         self.nodes.push_reserved(Node {
             start,
@@ -111,11 +120,11 @@ impl Store {
         let content = self.families.len() as u64;
         let count = self.pending.len() - mark;
         let end = self.links.len() + count;
-        self.nodes.reserve(1)?;
-        self.families.reserve(1)?;
-        reserve_moved(&mut self.links, &self.pending, mark)?;
-        reserve_above(&mut self.pending, mark)?;
-        move_above(&mut self.pending, mark, &mut self.links);
+        self.room.reserve(&mut self.nodes, 1)?;
+        self.room.reserve(&mut self.families, 1)?;
+        reserve_moved(&mut self.links, &self.pending, mark, self.room)?;
+        reserve_above(&mut self.pending, mark, self.room)?;
+        move_above(&mut self.pending, mark, &mut self.links, self.room);
         self.pending.push_reserved(Link::to(index));
         self.families.push_reserved(Family { end, size });
         self.nodes.push_reserved(Node {
@@ -185,7 +194,7 @@ impl Store {
         ensures depth { length (levels self.new) ≡ length (levels self.old) }
         ensures succeeds { FitsIn self.old.room (pushed (levels self.old) None) → IsOk result }
     {
-        self.pending.reserve(1)?;
+        self.room.reserve(&mut self.pending, 1)?;
         self.pending.push_reserved(Link::absent());
         Ok(())
     }

@@ -23,11 +23,11 @@ impl Store {
         let index = self.nodes.len();
         let content = self.texts.len() as u64;
         let end = self.bytes.len() + bytes.len();
-        self.nodes.reserve(1)?;
-        self.pending.reserve(1)?;
-        self.texts.reserve(1)?;
-        self.bytes.reserve(bytes.len())?;
-        append(&mut self.bytes, bytes);
+        self.room.reserve(&mut self.nodes, 1)?;
+        self.room.reserve(&mut self.pending, 1)?;
+        self.room.reserve(&mut self.texts, 1)?;
+        self.room.reserve(&mut self.bytes, bytes.len())?;
+        append(&mut self.bytes, bytes, self.room);
         self.texts.push_reserved(end);
         self.pending.push_reserved(Link::to(index));
         self.nodes.push_reserved(Node {
@@ -45,9 +45,9 @@ impl Store {
         ensures slots { OnOk result (self.new ≡ record self.old { slots = with_byte byte self.old.slots }) }
         ensures err { OnErr result (self.new ≡ self.old) }
         ensures depth { length (levels self.new) ≡ length (levels self.old) }
-        ensures succeeds { length self.old.slots.bytes + 1 ≤ self.old.room → IsOk result }
+        ensures succeeds { length self.old.slots.bytes + 1 ≤ self.old.room.least → IsOk result }
     {
-        self.bytes.reserve(1)?;
+        self.room.reserve(&mut self.bytes, 1)?;
         self.bytes.push_reserved(byte);
         let last = self.texts.len() - 1;
         self.texts[last] = self.bytes.len();

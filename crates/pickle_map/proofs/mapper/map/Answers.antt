@@ -6,7 +6,8 @@ use Rattle.pickle_map.specs.Slots.{levels}
 use Rattle.pickle_map.specs.Values.{no_values}
 use Rattle.pickle_map.proofs.Followed.{walk_rises, followed_steps, followed_made, followed_fits, followed_size, followed_result}
 use Rattle.pickle_map.proofs.Held.{none-open}
-use Rattle.pickle_map.proofs.Stopped.{told_there, told_limit, told_memory, told_device, told_means, none_kept}
+use Rattle.pickle_map.proofs.Keeping.{kept_within}
+use Rattle.pickle_map.proofs.Stopped.{told_there, told_limit, told_memory, told_device, told_counts, told_means, none_kept}
 use Rattle.pickle_map.proofs.mapper.map.Goals as goal
 
 pub map_type-requires-clause-open : goal.map_type-requires-clause-open
@@ -117,3 +118,13 @@ returns-in-Ok-clause-size g c =
     let keeps = rw (c.nodes.ensures, none) at m.kept in
     let h = rw (c.nodes.ensures, none, c.from.ensures) at m.follows in
     record { value = m.value; keeps = keeps; holds = followed_size (8 * (g.S.Space.view c.args.space.now).len) (type_of c.args.table.now.nodes.items c.args.id.node) c.args.order no_values c.args.start h }
+
+pub returns-in-Err-clause-counts : goal.returns-in-Err-clause-counts
+returns-in-Err-clause-counts g c =
+    let none = none_kept c.args.table.now.nodes.items c.args.store.now c.requires.empty in
+    let h = rw (c.nodes.ensures, none, c.from.ensures) at c.in-Err.ensures.err in
+    rw c.told.ensures (told_counts (8 * (g.S.Space.view c.args.space.now).len) (type_of c.args.table.now.nodes.items c.args.id.node) c.args.order c.args.start (g.S.Space.view c.args.space.now) c.args.meter.now c.map_type.new.meter c.args.store.now c.in-Err.stop h)
+
+pub returns-in-Ok-clause-held : goal.returns-in-Ok-clause-held
+returns-in-Ok-clause-held g c =
+    λ never. kept_within c.args.table.now.nodes.items c.args.store.now c.map_type.new.store c.in-Ok.ensures.room never c.never_grows-fixed.ensures.fits

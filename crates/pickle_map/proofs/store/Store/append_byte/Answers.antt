@@ -1,4 +1,4 @@
-use Rattle.std.proofs.Common.{refl, rules, ap, subst, sym}
+use Rattle.std.proofs.Common.{refl, rules, ap, subst, sym, arith}
 use Rattle.pickle_map.specs.Slots.{Slots, Held, GoesOn}
 use Rattle.pickle_map.specs.contracts.store.Store.{the_view}
 use Rattle.pickle_map.proofs.Writing.{byte-frames, byte-placed}
@@ -18,6 +18,14 @@ invariant_of-self-2 c =
       pending = search rules;
       texts = search rules;
       bytes = search rules;
+      fixed = λ e. let f = c.self.invariant.fixed e in record {
+        nodes = f.nodes;
+        families = f.families;
+        links = f.links;
+        pending = f.pending;
+        texts = f.texts;
+        bytes = omega (arith, f.bytes, c.reserve.ensures.fixed e, c.push_reserved.ensures.capacity);
+      };
     }
 
 pub returns-clause-slots : goal.returns-clause-slots

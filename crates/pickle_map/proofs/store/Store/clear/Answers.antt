@@ -1,4 +1,4 @@
-use Rattle.std.proofs.Common.{rules}
+use Rattle.std.proofs.Common.{rules, arith}
 use Rattle.pickle_map.proofs.Empty.{empty-levels}
 use Rattle.pickle_map.proofs.store.Store.clear.Goals as goal
 
@@ -12,4 +12,12 @@ invariant_of-self c =
       pending = search rules;
       texts = search rules;
       bytes = search rules;
+      fixed = λ e. let f = c.self.invariant.fixed e in record {
+        nodes = omega (arith, f.nodes, c.clear.ensures.capacity);
+        families = omega (arith, f.families, c.clear-2.ensures.capacity);
+        links = omega (arith, f.links, c.clear-3.ensures.capacity);
+        pending = omega (arith, f.pending, c.clear-4.ensures.capacity);
+        texts = omega (arith, f.texts, c.clear-5.ensures.capacity);
+        bytes = omega (arith, f.bytes, c.clear-6.ensures.capacity);
+      };
     }

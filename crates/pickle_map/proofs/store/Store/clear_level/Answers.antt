@@ -1,4 +1,4 @@
-use Rattle.std.proofs.Common.{refl, rules, ◌≡◌}
+use Rattle.std.proofs.Common.{refl, rules, ◌≡◌, arith}
 use Rattle.pickle_map.specs.Slots.{Slots, innermost, cut_to}
 use Rattle.pickle_map.specs.contracts.store.Store.{the_view}
 use Rattle.pickle_map.proofs.Held.{clear-frames, clear-levels}
@@ -19,6 +19,14 @@ invariant_of-self c =
       pending = search rules;
       texts = search rules;
       bytes = search rules;
+      fixed = λ e. let f = c.self.invariant.fixed e in record {
+        nodes = omega (arith, f.nodes, c.truncate.ensures.capacity);
+        families = omega (arith, f.families, c.truncate-2.ensures.capacity);
+        links = omega (arith, f.links, c.truncate-3.ensures.capacity);
+        pending = omega (arith, f.pending, c.truncate-4.ensures.capacity);
+        texts = omega (arith, f.texts, c.truncate-5.ensures.capacity);
+        bytes = omega (arith, f.bytes, c.truncate-6.ensures.capacity);
+      };
     }
 
 pub returns-clause-levels : goal.returns-clause-levels

@@ -16,6 +16,7 @@ invariant_of-self c =
       pending = search rules;
       texts = search rules;
       bytes = search rules;
+      fixed = c.self.invariant.fixed;
     }
 
 pub returns-clause-levels : goal.returns-clause-levels

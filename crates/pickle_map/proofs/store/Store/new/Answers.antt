@@ -12,4 +12,5 @@ invariant_of-result c =
       pending = search rules;
       texts = search rules;
       bytes = search rules;
+      fixed = λ e. cc;
     }

@@ -30,6 +30,14 @@ invariant_of-self-2 c =
       pending = search rules;
       texts = search rules;
       bytes = search rules;
+      fixed = λ e. let f = c.self.invariant.fixed e in record {
+        nodes = omega (arith, f.nodes, c.reserve.ensures.fixed e, c.push_reserved-2.ensures.capacity);
+        families = f.families;
+        links = f.links;
+        pending = omega (arith, f.pending, c.reserve-2.ensures.fixed e, c.push_reserved.ensures.capacity);
+        texts = f.texts;
+        bytes = f.bytes;
+      };
     }
 
 pub returns-clause-ok : goal.returns-clause-ok

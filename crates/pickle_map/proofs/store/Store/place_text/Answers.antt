@@ -44,6 +44,14 @@ invariant_of-self-2 c =
       pending = search rules;
       texts = search rules;
       bytes = search rules;
+      fixed = λ e. let f = c.self.invariant.fixed e in record {
+        nodes = omega (arith, f.nodes, c.reserve.ensures.fixed e, c.push_reserved-3.ensures.capacity);
+        families = f.families;
+        links = f.links;
+        pending = omega (arith, f.pending, c.reserve-2.ensures.fixed e, c.push_reserved-2.ensures.capacity);
+        texts = omega (arith, f.texts, c.reserve-3.ensures.fixed e, c.push_reserved.ensures.capacity);
+        bytes = omega (arith, f.bytes, c.reserve-4.ensures.fixed e, c.append.ensures.fixed e);
+      };
     }
 
 pub returns-clause-levels : goal.returns-clause-levels

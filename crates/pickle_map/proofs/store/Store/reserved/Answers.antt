@@ -1,6 +1,6 @@
 use Rattle.std.proofs.Common.{rules}
 use Rattle.pickle_map.proofs.Empty.{empty-levels}
-use Rattle.pickle_map.proofs.store.Store.with_room.Goals as goal
+use Rattle.pickle_map.proofs.store.Store.reserved.Goals as goal
 
 pub invariant_of-result : goal.invariant_of-result
 invariant_of-result c =
@@ -12,4 +12,5 @@ invariant_of-result c =
       pending = search rules;
       texts = search rules;
       bytes = search rules;
+      fixed = λ e. record { nodes = search rules; families = search rules; links = search rules; pending = search rules; texts = search rules; bytes = search rules };
     }
