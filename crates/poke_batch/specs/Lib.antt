@@ -14,6 +14,7 @@ pub mod Taken
 pub mod Lines
 pub mod Told
 pub mod FaultLines
+pub mod Paths
 pub mod Runs
 pub mod RunsUnder
 pub mod Accepted

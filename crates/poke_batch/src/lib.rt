@@ -14,6 +14,8 @@ mod hex;
 mod lines;
 pub mod mode;
 pub mod offset_word;
+pub mod part;
+pub mod path;
 pub mod pickle;
 pub mod print;
 pub mod run;
