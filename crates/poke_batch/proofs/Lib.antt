@@ -20,6 +20,8 @@ pub mod Refusing
 pub mod Sayings
 pub mod Mappings
 pub mod UnderTerms
+pub mod PathTexts
+pub mod PartsFound
 mod LineRows
 mod Refused
 mod ValueTextRows

@@ -15,11 +15,11 @@ use Rattle.poke_batch.specs.declared.ask.Ask.{Ask}
 use Rattle.poke_batch.specs.declared.status.Status.{Status}
 use Rattle.poke_batch.specs.declared.status.Status.TheVariants.{Fault}
 use Rattle.poke_batch.specs.declared.terms.Terms.{Terms}
-use Rattle.poke_batch.specs.Lines.{fault_at_line}
+use Rattle.poke_batch.specs.Lines.{fault_line, fault_at_line}
 use Rattle.poke_batch.specs.Accepted.{Refuses, refusal_saying}
 use Rattle.poke_batch.specs.FaultLines.{fault_saying}
 use Rattle.poke_batch.specs.Runs.{MapsAs, value, refused_map, no_memory}
-use Rattle.poke_batch.specs.RunsUnder.{MapsUnder, mapped_under, ended_under, SaysIt, said_so, no_memory_for_it, is_left, text_saying, kept_saying, value_saying}
+use Rattle.poke_batch.specs.RunsUnder.{MapsUnder, mapped_under, ended_under, SaysIt, said_so, no_memory_for_it, is_left, text_saying, part_saying, kept_saying, value_saying}
 use Rattle.poke_batch.specs.Told.{Saying, Text, Line, Says}
 
 -- a value that fits starts where it was to start
@@ -92,6 +92,10 @@ pub long_saying : (most start : ℕ) (text : List ℕ) → most < length text �
 long_saying most start text more =
     subst (λ b. SaysIt (if b then Text text else Line Fault (fault_at_line (codes "Output") start)) (Line Fault (fault_at_line (codes "Output") start))) (sym (lt-leb (length text) most more)) said_so
 
+-- a value without the part that is asked for
+pub no_part_saying : (ask : Ask) (most : Option ℕ) (found : Option Value) → found ≡ None → SaysIt (part_saying ask most found) (Line Fault (fault_line (codes "NoSuchPart")))
+no_part_saying ask most found none = subst (λ o. SaysIt (part_saying ask most o) (Line Fault (fault_line (codes "NoSuchPart")))) (sym none) said_so
+
 -- a value that ends before its file
 pub left_saying : (ask : Ask) (terms : Terms) (bits : ℕ) (mapped : Value) (end : ℕ) → end ≡ end_of mapped → is_left terms.whole end bits ≡ true
     → SaysIt (value_saying ask terms bits mapped) (Line Fault (fault_at_line (codes "Left") end))
@@ -110,7 +114,7 @@ said_under pickle ask terms before after mapped right saying no_memory_for_it = 
 
 -- without terms a mapping says what it does under none
 pub without_terms : (pickle : List ℕ) (ask : Ask) (before after : SpaceView) (saying : Saying)
-    → MapsUnder pickle ask (record { whole = false; most_output = None }) before after saying → MapsAs pickle ask before after saying
+    → MapsUnder pickle ask (record { whole = false; most_output = None; part = None }) before after saying → MapsAs pickle ask before after saying
 without_terms pickle ask before after saying (mapped_under asked answer fits) = value asked answer fits
 without_terms pickle ask before after saying (ended_under ends) = ends
 

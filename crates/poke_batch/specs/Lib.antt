@@ -22,6 +22,7 @@ pub mod Lines
 pub mod Told
 pub mod FaultLines
 pub mod FileLine
+pub mod Paths
 pub mod Runs
 pub mod RunsUnder
 pub mod Accepted

@@ -9,6 +9,7 @@ use Rattle.poke_batch.specs.declared.status.Status.{Status}
 use Rattle.poke_batch.specs.declared.status.Status.TheVariants.{Fault, Outside}
 use Rattle.poke_batch.specs.declared.terms.Terms.{Terms}
 use Rattle.poke_batch.specs.Lines.{fault_line, fault_at_line}
+use Rattle.poke_batch.specs.Paths.{part_at}
 use Rattle.poke_batch.specs.Printed.{printed}
 use Rattle.poke_batch.specs.Runs.{HasAnswer, IsAsked, MapsAs}
 use Rattle.poke_batch.specs.Told.{Saying, Text, Line}
@@ -22,9 +23,14 @@ text_saying (Some most) start text = if nat_le (length text) most then Text text
 abbrev pub is_left : (whole : Bool) (end bits : ℕ) → Bool
 is_left whole end bits = whole && nat_lt end bits
 
+-- what is said of the part that is asked for, where the value has it
+abbrev pub part_saying : Ask → (most : Option ℕ) → Option Value → Saying
+part_saying ask most None = Line Fault (fault_line (codes "NoSuchPart"))
+part_saying ask most (Some part) = text_saying most ask.start (printed ask.mode part)
+
 -- what is said of a value that ends where it has to
 abbrev pub kept_saying : Ask → Terms → Value → Saying
-kept_saying ask terms value = text_saying terms.most_output ask.start (printed ask.mode value)
+kept_saying ask terms value = part_saying ask terms.most_output (part_at terms.part value)
 
 -- what is said of a value that was mapped from a file of so many bits: the first term that it doesn't meet, or its text
 abbrev pub value_saying : Ask → Terms → (bits : ℕ) → Value → Saying

@@ -2,10 +2,14 @@
 
 ghost use Rattle.std.specs.Prelude.{◌≡◌, ℕ, List, Option};
 ghost use Rattle.poke_batch.specs.FaultLines.{fault_kind, fault_saying};
-ghost use Rattle.poke_batch.specs.Told.{IsSaid};
+ghost use Rattle.poke_batch.specs.Told.{IsSaid, IsTold};
+ghost use Rattle.poke_batch.specs.Lines.{fault_line};
+ghost use Rattle.poke_batch.specs.declared.status.Status.TheVariants.{Fault};
 
+use crate::lines::put_fault;
 use crate::status::Status;
 use crate::tell::{fail, fault_at};
+use crate::write::WriteFault;
 use pickle_map::{MapFault, MapFaultKind};
 use std::io::Write;
 
@@ -17,6 +21,16 @@ pub fn tell_fault<E: Write>(err: &mut E, fault: MapFault) -> Status
         MapFaultKind::Device => fail(err, b"Device"),
         MapFaultKind::Memory => fail(err, b"Memory"),
         kind => fault_at(err, kind_name(kind), fault.at),
+    }
+}
+
+/// Tells a fault that has no place in the file.
+pub fn tell_plain_fault<E: Write>(err: &mut E, kind: &[u8]) -> Status
+    ensures { IsTold Fault (fault_line kind.now) result (E.contents err.old) (E.contents err.new) }
+{
+    match put_fault(err, kind) {
+        Ok(()) => Status::Fault,
+        Err(WriteFault) => Status::Outside,
     }
 }
 

@@ -17,6 +17,8 @@ pub mod laws;
 mod lines;
 pub mod mode;
 pub mod offset_word;
+pub mod part;
+pub mod path;
 pub mod pickle;
 pub mod print;
 pub mod run;

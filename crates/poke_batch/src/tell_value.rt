@@ -5,11 +5,13 @@ ghost use Rattle.pickle_map.specs.Refs.{value_shown};
 ghost use Rattle.pickle_map.specs.Values.{start_of, end_of};
 ghost use Rattle.poke_batch.specs.Lines.{fault_at_line};
 ghost use Rattle.poke_batch.specs.Printed.{printed};
-ghost use Rattle.poke_batch.specs.RunsUnder.{SaysIt, is_left, text_saying, value_saying};
+ghost use Rattle.poke_batch.specs.RunsUnder.{SaysIt, is_left, text_saying, kept_saying, value_saying};
 ghost use Rattle.poke_batch.specs.Told.{Says};
 
 use crate::ask::Ask;
 use crate::draft::{DraftFault, gather};
+use crate::fault::tell_plain_fault;
+use crate::part::part_at;
 use crate::print::print;
 use crate::status::Status;
 use crate::tell::{answer, fail, fault_at};
@@ -37,7 +39,7 @@ pub fn tell_value<O: Write, E: Write>(
     if is_left(terms.whole, end, bits) {
         fault_at(err, b"Left", end)
     } else {
-        tell_text(alloc, value, ask, terms.most_output, out, err)
+        tell_kept(alloc, value, ask, terms, out, err)
     }
 }
 
@@ -46,6 +48,24 @@ fn is_left(whole: bool, end: u128, bits: u128) -> bool
     ensures { result ≡ is_left whole end bits }
 {
     whole && end < bits
+}
+
+// Writes the text of the part that is asked for of a value that ends where it has to.
+fn tell_kept<O: Write, E: Write>(
+    alloc: Global,
+    value: ValueRef<'_>,
+    ask: &Ask<'_>,
+    terms: &Terms,
+    out: &mut O,
+    err: &mut E,
+) -> Status
+    ensures { Says (SaysIt (kept_saying ask.now terms.now (value_shown value.entry))) result
+        (O.contents out.old) (O.contents out.new) (E.contents err.old) (E.contents err.new) }
+{
+    match part_at(value, &terms.part) {
+        Some(part) => tell_text(alloc, part, ask, terms.most_output, out, err),
+        None => tell_plain_fault(err, b"NoSuchPart"),
+    }
 }
 
 // Writes the text of a value where it has no more bytes than the most.

@@ -2,6 +2,8 @@
 
 ghost use Rattle.std.specs.Prelude.{◌≡◌, false, None};
 
+use crate::path::Path;
+
 /// What a mapped value has to meet before it is written. [`Terms::none`] asks for nothing.
 #[derive(Debug, Drop, PartialEq, Eq)]
 pub struct Terms {
@@ -9,16 +11,19 @@ pub struct Terms {
     pub whole: bool,
     /// The most bytes of its text, with the line feed that ends it; nothing where any length will do.
     pub most_output: Option<u64>,
+    /// The path to the part that is written; nothing for the value itself.
+    pub part: Option<Path>,
 }
 
 impl Terms {
     /// Terms that every value meets.
     pub fn none() -> Terms
-        ensures { result ≡ record { whole = false; most_output = None } }
+        ensures { result ≡ record { whole = false; most_output = None; part = None } }
     {
         Terms {
             whole: false,
             most_output: None,
+            part: None,
         }
     }
 }

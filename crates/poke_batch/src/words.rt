@@ -10,6 +10,7 @@ ghost use Rattle.poke_batch.specs.declared.words.WordFault.TheVariants.{Memory};
 
 use crate::mode::Mode;
 use crate::offset_word::offset_word;
+use crate::path::{Path, PathFault, read_path};
 use crate::terms::Terms;
 use bit_space::Order;
 use clap::ArgMatches;
@@ -170,11 +171,11 @@ fn order_of(word: &str) -> Order {
 fn read_map(alloc: Global, found: &ArgMatches<'_>) -> Result<Job, WordFault>
     ensures { IfOk result (WritesInMode (unwrap_or (first_value (found_of found.now) (codes "mode")) [])) }
 {
+    let terms = terms_of(alloc, found)?;
     let at = bits_of(found.get_str("at").unwrap_or(""))?;
     let order = order_of(found.get_str("endian").unwrap_or(""));
     let limit = found.get_one::<u64>("limit").unwrap_or(DEFAULT_LIMIT);
     let mode = mode_of(found.get_str("mode").unwrap_or(""));
-    let terms = terms_of(found);
     let pickle = word_of(alloc, found, "PICKLE")?;
     let name = word_of(alloc, found, "TYPE")?;
     let file = word_of(alloc, found, "FILE")?;
@@ -228,10 +229,25 @@ fn names_in(alloc: Global, found: &ArgMatches<'_>) -> Result<FileNames, AllocErr
 }
 
 // The terms that options ask for.
-fn terms_of(found: &ArgMatches<'_>) -> Terms {
-    Terms {
+fn terms_of(alloc: Global, found: &ArgMatches<'_>) -> Result<Terms, WordFault> {
+    Ok(Terms {
         whole: found.get_flag("whole"),
         most_output: found.get_one::<u64>("max-output"),
+        part: match found.get_str("get") {
+            Some(word) => Some(path_of(alloc, word)?),
+            None => None,
+        },
+    })
+}
+
+// The path that a word is.
+fn path_of(alloc: Global, word: &str) -> Result<Path, WordFault> {
+    match read_path(alloc, word.as_bytes()) {
+        Ok(path) => Ok(path),
+        Err(PathFault::Form) => Err(WordFault::Usage(format!(in alloc;
+            "error: invalid value '{word}' for '--get <PATH>': not a path\n\nFor more information, try '--help'.\n"
+        )?)),
+        Err(PathFault::Memory) => Err(WordFault::Memory),
     }
 }
 

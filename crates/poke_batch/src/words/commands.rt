@@ -22,6 +22,7 @@ Options of map:
   --mode MODE      how the value is written: flat, tree, json or lines [default: flat]
   --whole          take only a value that ends where FILE does [default: any end]
   --max-output N   the most bytes of the text, 0 to 18446744073709551615 [default: any length]
+  --get PATH       write a part of the value: . or steps of .name, .place, [place] [default: .]
 
 Options of dump:
   --from OFFSET    the first byte, in whole bytes [default: 0#B]
@@ -160,6 +161,7 @@ fn with_mapping<'a>(
         .arg(option(alloc, "mode", "MODE", "How the value is written", "flat").value_parser(modes))?
         .arg(whole(alloc))?
         .arg(max_output(alloc))?
+        .arg(part(alloc))?
         .arg(pickle(alloc))?
         .arg(name(alloc))
 }
@@ -177,6 +179,12 @@ fn max_output<'a>(alloc: Global) -> Arg<'a> {
         .value_name("N")
         .help("The most bytes of the text, 0 to 18446744073709551615 [default: any length]")
         .value_parser(clap::value_parser!(u64))
+}
+
+fn part<'a>(alloc: Global) -> Arg<'a> {
+    Arg::new(alloc, "get").long("get").value_name("PATH").help(
+        "Write a part of the value: . or steps of .name, .place, [place] [default: .]",
+    )
 }
 
 fn bound<'a>(alloc: Global) -> Result<Command<'a>, AllocError> {

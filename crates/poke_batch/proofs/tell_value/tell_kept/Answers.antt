@@ -1,0 +1,14 @@
+use Rattle.std.proofs.Common.{codes, sym}
+use Rattle.pickle_map.specs.Refs.{value_shown}
+use Rattle.poke_batch.specs.declared.status.Status.TheVariants.{Fault}
+use Rattle.poke_batch.specs.Lines.{fault_line}
+use Rattle.poke_batch.specs.Paths.{part_at}
+use Rattle.poke_batch.proofs.Sayings.{line_says}
+use Rattle.poke_batch.proofs.UnderTerms.{no_part_saying}
+use Rattle.poke_batch.proofs.tell_value.tell_kept.Goals as goal
+
+pub returns-in-None : goal.returns-in-None
+returns-in-None g c =
+    line_says _ Fault (fault_line (codes "NoSuchPart")) _ _ _ _
+    (no_part_saying c.args.ask.now c.args.terms.now.most_output (part_at c.args.terms.now.part (value_shown c.args.value)) (sym c.in-None.ensures))
+    c.tell_plain_fault.ensures

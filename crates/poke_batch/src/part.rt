@@ -1,0 +1,79 @@
+//! The part of a value that a path leads to.
+
+ghost use Rattle.std.specs.Prelude.{◌≡◌, false, if◌then◌else◌};
+ghost use Rattle.std.specs.Option.{option_map};
+ghost use Rattle.pickle_map.specs.Refs.{value_shown};
+ghost use Rattle.pickle_map.specs.Values.{label_of, members_of, member_count};
+ghost use Rattle.pickle_map.specs.Labels.{member_name};
+ghost use Rattle.poke_batch.specs.Paths.{is_array, is_named, is_nameless, place_named, step_to, part_of, part_at};
+
+use crate::path::{Path, Step};
+use pickle_map::{Kind, ValueRef};
+
+/// The part that a path leads to, where the value has it, and the value itself where there is no path.
+pub fn part_at<'a>(value: ValueRef<'a>, path: &Option<Path>) -> Option<ValueRef<'a>>
+    ensures { option_map value_shown result ≡ part_at path.now (value_shown value.entry) }
+{
+    match path {
+        Some(path) => part_of(value, path.steps.as_slice()),
+        None => Some(value),
+    }
+}
+
+fn part_of<'a>(value: ValueRef<'a>, steps: &[Step]) -> Option<ValueRef<'a>>
+    ensures { option_map value_shown result ≡ part_of steps.now (value_shown value.entry) }
+{
+    let mut part = value;
+    for step in steps {
+        match step_to(part, step) {
+            Some(next) => part = next,
+            None => return None,
+        }
+    }
+    Some(part)
+}
+
+fn step_to<'a>(value: ValueRef<'a>, step: &Step) -> Option<ValueRef<'a>>
+    ensures { option_map value_shown result ≡ step_to step.now (value_shown value.entry) }
+{
+    match step {
+        Step::Field(name) => value.child(place_named(value, name.as_slice())?),
+        Step::Place(place) if is_nameless(value, *place as usize) => value.child(*place as usize),
+        Step::Element(place) if is_array(value) => value.child(*place as usize),
+        _ => None,
+    }
+}
+
+// The first place whose member has a name.
+fn place_named(value: ValueRef<'_>, name: &[u8]) -> Option<usize>
+    ensures { result ≡ place_named name.now (label_of (value_shown value.entry)) (member_count (members_of (value_shown value.entry))) 0 }
+{
+    for place in 0..value.len() {
+        if is_named(value.field_name(place), name) {
+            return Some(place);
+        }
+    }
+    None
+}
+
+fn is_named(its: Option<&[u8]>, name: &[u8]) -> bool
+    ensures { result ≡ is_named name.now (option_map (λ its. its.now) its.entry) }
+{
+    match its {
+        Some(its) => its == name,
+        None => false,
+    }
+}
+
+// Whether the member at a place of a value is a field or an alternative, and has no name.
+fn is_nameless(value: ValueRef<'_>, place: usize) -> bool
+    ensures { result ≡ (if is_array (label_of (value_shown value.entry)) then false else is_nameless (member_name (label_of (value_shown value.entry)) place)) }
+{
+    !is_array(value) && value.field_name(place).is_none()
+}
+
+fn is_array(value: ValueRef<'_>) -> bool
+    ensures { result ≡ is_array (label_of (value_shown value.entry)) }
+{
+    value.kind() == Kind::Array
+}
