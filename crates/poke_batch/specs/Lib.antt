@@ -6,6 +6,7 @@ pub mod LineText
 pub mod Printed
 pub mod Suffixes
 pub mod PartText
+pub mod WordText
 pub mod Words
 pub mod BoundText
 pub mod Written
