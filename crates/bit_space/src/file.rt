@@ -4,20 +4,28 @@ ghost use Rattle.std.specs.Prelude.{◌≡◌, ℕ, ◌+◌, ◌^◌, ◌<◌, �
 ghost use Rattle.bit_space.specs.SpaceView.{unknown, unknown_whole};
 
 use crate::space::{DeviceFault, Space};
-use std::fs::File;
-use std::os::unix::fs::FileExt;
+use std::fs::{self, File, FileType};
+use std::io::{self, Seek, SeekFrom};
+use std::os::unix::fs::{FileExt, FileTypeExt};
 use std::rt::Files;
 use thiserror::Error;
 
 /// Why a file was not opened as a space.
 #[derive(Clone, Copy, Debug, PartialEq, Eq, Error)]
 pub enum OpenFault {
-    /// There is no such file, it is not to be read, or it is a directory.
+    /// There is no such file, it is not to be read, or it has no length, as a directory, a FIFO, a socket, a terminal or
+    /// another device of characters.
     #[error("fault Open")]
     NotOpened,
     /// It has 2^60 bytes or more.
     #[error("fault TooLong")]
     TooLong,
+}
+
+impl From<io::Error> for OpenFault {
+    fn from(_error: io::Error) -> OpenFault {
+        OpenFault::NotOpened
+    }
 }
 
 /// A file of the length that it had when it was opened. Nothing is claimed of its bytes.
@@ -30,20 +38,17 @@ pub struct FileSpace {
 }
 
 impl FileSpace {
-    /// Opens the file at `path` to be read.
+    /// Opens the file at `path` to be read: a regular file, or a device of blocks. Its length, in bytes, is the place of its
+    /// end. A file of any other kind isn't opened, and so a FIFO isn't waited for.
     pub fn open<R: Files<File = File>>(rt: &R, path: &str) -> Result<FileSpace, OpenFault>
         ensures { IfOk result (λ space. ⟦<FileSpace as Space>⟧.view space ≡ unknown space.length 0) }
     {
-        let Ok(file) = File::open(rt, path) else {
-            return Err(OpenFault::NotOpened);
-        };
-        let Ok(metadata) = file.metadata() else {
-            return Err(OpenFault::NotOpened);
-        };
-        if metadata.is_dir() {
-            return Err(OpenFault::NotOpened);
-        }
-        let length = metadata.len();
+        // To open a FIFO is to wait for its writer, so its kind is asked for before.
+        require_length(fs::metadata(rt, path)?.file_type())?;
+        let mut file = File::open(rt, path)?;
+        // Another file may have taken the path meanwhile.
+        require_length(file.metadata()?.file_type())?;
+        let length = file.seek(SeekFrom::End(0))?;
         if length < 1 << 60 {
             Ok(FileSpace {
                 file,
@@ -53,6 +58,15 @@ impl FileSpace {
         } else {
             Err(OpenFault::TooLong)
         }
+    }
+}
+
+// Refuses the kinds of files that have no length.
+fn require_length(kind: FileType) -> Result<(), OpenFault> {
+    if kind.is_file() || kind.is_block_device() {
+        Ok(())
+    } else {
+        Err(OpenFault::NotOpened)
     }
 }
 

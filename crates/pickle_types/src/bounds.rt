@@ -400,7 +400,13 @@ fn node_bounds(nodes: &[Node], roots: &[usize], known: &[Bounds], bits: u64, at:
 
 /// The bounds of a node, from those of the nodes that it names.
 #[cycle(bounds)]
-fn shape_bounds(nodes: &[Node], roots: &[usize], known: &[Bounds], bits: u64, at: usize) -> Bounds
+pub(crate) fn shape_bounds(
+    nodes: &[Node],
+    roots: &[usize],
+    known: &[Bounds],
+    bits: u64,
+    at: usize,
+) -> Bounds
     requires table { IsTable nodes.now }
     requires at { at < length nodes.now }
     requires known { AreKnown nodes.now roots.now known.now bits }
@@ -433,6 +439,8 @@ fn shape_bounds(nodes: &[Node], roots: &[usize], known: &[Bounds], bits: u64, at
 }
 
 /// The bounds of a node on so many bits. `roots` are the nodes of the declared types, in rising order: each is looked at once.
+// Not inlined: what is known takes 320 KiB of stack, which no other run is to have.
+#[inline(never)]
 pub fn type_bounds(nodes: &[Node], roots: &[usize], bits: u64, at: usize) -> Bounds
     requires table { IsTable nodes.now }
     requires at { at < length nodes.now }

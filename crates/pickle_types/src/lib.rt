@@ -5,6 +5,7 @@ pub mod bounds;
 pub mod check;
 pub mod fault;
 pub mod integer;
+mod known_bounds;
 pub mod laws;
 pub(crate) mod many_fields;
 pub(crate) mod name;

@@ -13,6 +13,7 @@ pub mod LeafText
 pub mod Printed
 pub mod Suffixes
 pub mod PartText
+pub mod WordText
 pub mod Words
 pub mod BoundText
 pub mod Written

@@ -16,7 +16,7 @@ use crate::ask::Ask;
 use crate::bound::{put_bounds, put_line};
 use crate::fault::tell_fault;
 use crate::status::Status;
-use crate::tell::{answer, refuse};
+use crate::tell::{answer, fail, refuse};
 use crate::tell_value::tell_value;
 use crate::terms::Terms;
 use crate::write::WriteFault;
@@ -67,11 +67,10 @@ pub fn run_bound<O: Write, E: Write>(
         Err(refusal) => return tell_refusal(err, refusal),
     };
     match table.find(name) {
-        Some(ty) => {
-            let steps = table.step_bound(ty, bits);
-            let slots = table.slot_bound(ty, bits);
-            answer(put_bounds(out, steps, slots), err)
-        }
+        Some(ty) => match table.bounds(alloc, ty, bits) {
+            Ok(bounds) => answer(put_bounds(out, bounds.steps, bounds.slots), err),
+            Err(_) => fail(err, b"Memory"),
+        },
         None => refuse(err, b"NoSuchType"),
     }
 }

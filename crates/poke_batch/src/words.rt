@@ -1,5 +1,6 @@
 //! The words of the command line.
 mod commands;
+mod shown;
 
 ghost use Rattle.std.specs.Prelude.{◌≡◌, ℕ, ◌*◌, ◌^◌, ◌≤◌, [], codes, MatchResult, IfOk, IfErr, OnErr};
 ghost use Rattle.std.specs.Option.{unwrap_or};
@@ -16,8 +17,12 @@ use bit_space::Order;
 use clap::ArgMatches;
 use clap::error::ErrorKind;
 use commands::{DEFAULT_LIMIT, PROGRAM, program};
+use shown::shown_words;
 use std::alloc::{AllocError, Global};
 use thiserror::Error;
+
+/// What is told where words are wrong, but not as they are shown.
+const WRONG_WORD: &str = "error: a word has bytes that aren't printed\n";
 
 /// What a command line asks for.
 #[derive(Debug, Drop, PartialEq, Eq)]
@@ -121,7 +126,10 @@ pub fn read_words(alloc: Global, words: Vec<String>) -> Result<Job, WordFault>
     let named = after_name(alloc, words.as_slice())?;
     match program(alloc)?.try_get_matches_from(named.as_slice()) {
         Ok(matches) => read_command(alloc, &matches),
-        Err(error) => Err(told(alloc, &error)),
+        Err(error) => match told(alloc, &error, words.as_slice()) {
+            Ok(fault) => Err(fault),
+            Err(AllocError) => Err(WordFault::Memory),
+        },
     }
 }
 
@@ -135,17 +143,35 @@ fn after_name<'a>(alloc: Global, words: &'a [String]) -> Result<Vec<&'a str>, Al
     Ok(named)
 }
 
-fn told(alloc: Global, error: &clap::Error) -> WordFault {
-    let kind = error.kind();
-    if kind == ErrorKind::OutOfMemory {
-        return WordFault::Memory;
+fn told(alloc: Global, error: &clap::Error, words: &[String]) -> Result<WordFault, AllocError> {
+    match error.kind() {
+        ErrorKind::DisplayHelp | ErrorKind::DisplayVersion => {
+            Ok(WordFault::Help(text_of(alloc, error)?))
+        }
+        ErrorKind::OutOfMemory => Ok(WordFault::Memory),
+        _ => Ok(WordFault::Usage(usage_of(alloc, words)?)),
+    }
+}
+
+// What is wrong with words. clap's text holds some of them, so it is asked for its text on the words as they are shown: else a
+// word with a line feed in it could pass for a line of that text. A backslash is in no option, no command and no value that an
+// option takes, so what is wrong with a word stays wrong.
+fn usage_of(alloc: Global, words: &[String]) -> Result<String, AllocError> {
+    let shown = shown_words(alloc, words)?;
+    let named = after_name(alloc, shown.as_slice())?;
+    match program(alloc)?.try_get_matches_from(named.as_slice()) {
+        Ok(_matches) => String::from_str(alloc, WRONG_WORD),
+        Err(error) => text_of(alloc, &error),
+    }
+}
+
+fn text_of(alloc: Global, error: &clap::Error) -> Result<String, AllocError> {
+    if error.kind() == ErrorKind::OutOfMemory {
+        return Err(AllocError);
     }
     match format!(in alloc; "{error}") {
-        Ok(text) if kind == ErrorKind::DisplayHelp || kind == ErrorKind::DisplayVersion => {
-            WordFault::Help(text)
-        }
-        Ok(text) => WordFault::Usage(text),
-        Err(_) => WordFault::Memory,
+        Ok(text) => Ok(text),
+        Err(_) => Err(AllocError),
     }
 }
 
@@ -210,7 +236,7 @@ fn read_each(alloc: Global, found: &ArgMatches<'_>) -> Result<Job, WordFault>
         order: order_of(found.get_str("endian").unwrap_or("")),
         limit: found.get_one::<u64>("limit").unwrap_or(DEFAULT_LIMIT),
         mode: mode_of(found.get_str("mode").unwrap_or("")),
-        terms: terms_of(found),
+        terms: terms_of(alloc, found)?,
         pickle: word_of(alloc, found, "PICKLE")?,
         name: word_of(alloc, found, "TYPE")?,
         files: names_in(alloc, found)?,

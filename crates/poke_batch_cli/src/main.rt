@@ -3,18 +3,19 @@
 
 mod each;
 mod files;
+mod given;
 mod jobs;
 
 use arrayvec::ArrayVec;
+use given::given_words;
 use jobs::do_job;
 use poke_batch::status::Status;
 use poke_batch::tell::{answer, fail, refuse};
 use poke_batch::words::{Job, WordFault, read_words};
 use poke_batch::write::put;
-use std::env;
-use std::io::{ErrorKind, Write};
+use std::alloc::{AllocError, Global};
+use std::io::{IsTerminal, Write};
 use std::process::ExitCode;
-use std::rt::Env;
 
 /// The line that a job tells on standard error. The longest has 62 bytes.
 type Line = ArrayVec<u8, 128>;
@@ -34,18 +35,25 @@ fn main(rt: HostRuntime) -> ExitCode {
     ExitCode::from(status as u8)
 }
 
-fn read_job<R: Env + AllocGlobal>(rt: &R) -> Result<Job, WordFault> {
-    let alloc = rt.alloc();
-    match env::args(rt) {
-        Ok(words) => {
-            let words: Vec<String> = words.skip(1).collect(alloc)?;
-            read_words(alloc, words)
+fn read_job(rt: &HostRuntime) -> Result<Job, WordFault> {
+    let words = given_words(rt)?;
+    if words.is_empty() && rt.stdin().is_terminal() {
+        show_help(rt.alloc(), &mut rt.stderr())?;
+    }
+    read_words(rt.alloc(), words)
+}
+
+// Shows the short help to somebody at a terminal who gave no words, since the job then waits for a pickle to be typed.
+fn show_help<E: Write>(alloc: Global, err: &mut E) -> Result<(), AllocError> {
+    let mut words = Vec::new(alloc);
+    words.push(String::from_str(alloc, "-h")?)?;
+    match read_words(alloc, words) {
+        Err(WordFault::Help(text)) => {
+            // The job is done also where its help is lost.
+            let _told = put(err, text.as_bytes());
+            Ok(())
         }
-        Err(error) if error.kind() == ErrorKind::OutOfMemory => Err(WordFault::Memory),
-        Err(_) => {
-            let text = "error: a word is not UTF-8\n";
-            Err(WordFault::Usage(String::from_str(alloc, text)?))
-        }
+        _ => Err(AllocError),
     }
 }
 

@@ -68,5 +68,7 @@ fn files(rt: HostRuntime) -> Result<(), Fail> {
     assert_eq!(rt; missing, Some(OpenFault::NotOpened));
     let directory = FileSpace::open(&rt, "/").err();
     assert_eq!(rt; directory, Some(OpenFault::NotOpened));
+    let endless = FileSpace::open(&rt, "/dev/zero").err();
+    assert_eq!(rt; endless, Some(OpenFault::NotOpened));
     Ok(())
 }
