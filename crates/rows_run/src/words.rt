@@ -18,7 +18,11 @@ map p T f ==> Map { at: 0, order: Big, limit: 1000000000, mode: Flat, pickle: "p
 map p --endian=little T --at=2#B f --limit 7 --mode flat ==> Map { at: 16, order: Little, limit: 7, mode: Flat, pickle: "p", name: "T", file: "f" }
 map --limit 18446744073709551615 -- p T f ==> Map { at: 0, order: Big, limit: 18446744073709551615, mode: Flat, pickle: "p", name: "T", file: "f" }
 map --limit +5 p T f ==> Map { at: 0, order: Big, limit: 5, mode: Flat, pickle: "p", name: "T", file: "f" }
-map --mode tree p T f ==> Map { at: 0, order: Big, limit: 1000000000, mode: Tree, pickle: "p", name: "T", file: "f" }"#;
+map --mode tree p T f ==> Map { at: 0, order: Big, limit: 1000000000, mode: Tree, pickle: "p", name: "T", file: "f" }
+map --whole p T f ==> MapUnder { at: 0, order: Big, limit: 1000000000, mode: Flat, terms: Terms { whole: true, most_output: None, part: None }, pickle: "p", name: "T", file: "f" }
+map --max-output 5 p T f ==> MapUnder { at: 0, order: Big, limit: 1000000000, mode: Flat, terms: Terms { whole: false, most_output: Some(5), part: None }, pickle: "p", name: "T", file: "f" }
+map --get . p T f ==> MapUnder { at: 0, order: Big, limit: 1000000000, mode: Flat, terms: Terms { whole: false, most_output: None, part: Some(Path { steps: [] }) }, pickle: "p", name: "T", file: "f" }
+map --get .a[2].0 p T f ==> MapUnder { at: 0, order: Big, limit: 1000000000, mode: Flat, terms: Terms { whole: false, most_output: None, part: Some(Path { steps: [Field([97]), Element(2), Place(0)] }) }, pickle: "p", name: "T", file: "f" }"#;
 
 /// Words that are no job.
 const WRONG: &str = r#"map --at 8 p T f ==> refused offset
@@ -32,6 +36,10 @@ map --at -1#b p T f ==> usage
 map --at 1#b --at 1#b p T f ==> usage
 map --endian middle p T f ==> usage
 map --mode leaf p T f ==> usage
+map --max-output -1 p T f ==> usage
+map --whole --whole p T f ==> usage
+map --get a p T f ==> usage
+map --at 8 --get a p T f ==> usage
 map --color p T f ==> usage
 map p T ==> usage
 map p T f g ==> usage
