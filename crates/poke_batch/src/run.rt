@@ -102,7 +102,8 @@ pub fn run_map<S: Space, O: Write, E: Write>(
 /// term that it doesn't meet.
 ///
 /// A value that ends before the file's last bit, where it has to end there, is told as `Left` at the first bit behind it; one
-/// whose text has more bytes than the most is told as `Output` at the mapping's start. A mapping that has a fault tells that.
+/// without the part that is asked for as `NoSuchPart`; one whose text, or its part's, has more bytes than the most as `Output` at the
+/// mapping's start. A mapping that has a fault tells that.
 pub fn run_map_under<S: Space, O: Write, E: Write>(
     alloc: Global,
     pickle: &[u8],
