@@ -5,6 +5,11 @@ use Rattle.std.proofs.lemmas.Bool.{le-leb, lt-leb}
 use Rattle.pickle_types.specs.Types.{PokeType, IntegerOf, OffsetOf, StringOf, ArrayOf, StructOf, IntegralOf, UnionOf, Fields, NoFields, FieldThen, Parts, NoParts, PartThen}
 use Rattle.pickle_map.specs.Fits.{ElementsFit, no_more_fit, one_more_fits, Fits, FitsNumber, FieldsFit, AlternativeFits}
 use Rattle.pickle_map.specs.Means.{Taken}
+use Rattle.pickle_map.specs.Slots.{Held, empty}
+use Rattle.pickle_map.specs.declared.store.room.Room.{Room}
+use Rattle.pickle_types.specs.Bounds.{room}
+use Rattle.std.proofs.lemmas.Option.{same_Some}
+use Rattle.poke_batch.specs.Runs.{IsAsked}
 use Rattle.pickle_map.specs.Values.{Value, Levels, start_of, end_of, pushed, opened}
 use Rattle.bit_space.specs.SpaceView.{SpaceView}
 use Rattle.pickle_map.specs.declared.faults.MapFaultKind.{MapFaultKind}
@@ -19,7 +24,7 @@ use Rattle.poke_batch.specs.Lines.{fault_line, fault_at_line}
 use Rattle.poke_batch.specs.Accepted.{Refuses, refusal_saying}
 use Rattle.poke_batch.specs.FaultLines.{fault_saying}
 use Rattle.poke_batch.specs.Runs.{MapsAs, value, refused_map, no_memory}
-use Rattle.poke_batch.specs.RunsUnder.{MapsUnder, mapped_under, ended_under, SaysIt, said_so, no_memory_for_it, is_left, text_saying, part_saying, kept_saying, value_saying}
+use Rattle.poke_batch.specs.RunsUnder.{MapsUnder, mapped_under, ended_under, slots_under, IsStoreOf, end_saying, SaysIt, said_so, no_memory_for_it, is_left, text_saying, part_saying, kept_saying, value_saying}
 use Rattle.poke_batch.specs.Told.{Saying, Text, Line, Says}
 
 -- a value that fits starts where it was to start
@@ -114,9 +119,10 @@ said_under pickle ask terms before after mapped right saying no_memory_for_it = 
 
 -- without terms a mapping says what it does under none
 pub without_terms : (pickle : List ℕ) (ask : Ask) (before after : SpaceView) (saying : Saying)
-    → MapsUnder pickle ask (record { whole = false; most_output = None; part = None }) before after saying → MapsAs pickle ask before after saying
+    → MapsUnder pickle ask (record { whole = false; most_output = None; part = None; most_slots = None }) before after saying → MapsAs pickle ask before after saying
 without_terms pickle ask before after saying (mapped_under asked answer fits) = value asked answer fits
 without_terms pickle ask before after saying (ended_under ends) = ends
+without_terms pickle ask before after saying (slots_under asked e less) = absurd cc
 
 -- a fault of a mapping is told as without terms
 pub fault_under : (pickle : List ℕ) (ask : Ask) (terms : Terms) (before after : SpaceView) (kind : MapFaultKind) (at : ℕ)
@@ -142,3 +148,33 @@ refused_under refusal.TooDeep refuses = ended_under (refused_map refuses)
 refused_under refusal.TooMany refuses = ended_under (refused_map refuses)
 refused_under (refusal.Types kind declaration) refuses = ended_under (refused_map refuses)
 refused_under refusal.Memory refuses = ended_under (refused_map refuses)
+
+-- a store of the most slots has just these
+pub least_of : (most : Option ℕ) (old cleared : Held) {bound : ℕ} → IsStoreOf most old → cleared ≡ empty old.room → cleared.room.least < bound → (n : ℕ) → most ≡ Some n → n < bound
+least_of None old cleared is same less n e = absurd cc
+least_of (Some m) old cleared {bound} is same less n e =
+    subst (λ x. x < bound) (ap (λ (h : Held). h.room.least) same ∙ ap (λ (r : Room). r.least) is ∙ same_Some m n e) less
+
+end_by : (pickle : List ℕ) (ask : Ask) (terms : Terms) (before after : SpaceView) {type : PokeType} (most : Option ℕ) (kind : MapFaultKind) (at : ℕ)
+    → terms.most_slots ≡ most → IsAsked pickle ask.name.now type
+    → (kind ≡ fault.Memory → (n : ℕ) → most ≡ Some n → n < room type (8 * before.len))
+    → MapsUnder pickle ask terms before after (fault_saying kind at) → MapsUnder pickle ask terms before after (end_saying most ask.start kind at)
+end_by pickle ask terms before after None kind at e asked less right = right
+end_by pickle ask terms before after (Some n) fault.End at e asked less right = right
+end_by pickle ask terms before after (Some n) fault.Constraint at e asked less right = right
+end_by pickle ask terms before after (Some n) fault.Bounds at e asked less right = right
+end_by pickle ask terms before after (Some n) fault.NoBits at e asked less right = right
+end_by pickle ask terms before after (Some n) fault.Zero at e asked less right = right
+end_by pickle ask terms before after (Some n) fault.Overflow at e asked less right = right
+end_by pickle ask terms before after (Some n) fault.Absent at e asked less right = right
+end_by pickle ask terms before after (Some n) fault.Index at e asked less right = right
+end_by pickle ask terms before after (Some n) fault.Limit at e asked less right = right
+end_by pickle ask terms before after (Some n) fault.Device at e asked less right = right
+end_by pickle ask terms before after (Some n) fault.Memory at e asked less right = slots_under asked e (less refl n refl)
+
+-- in a store of the most slots want of memory is want of slots
+pub end_under : (pickle : List ℕ) (ask : Ask) (terms : Terms) (before after : SpaceView) {type : PokeType} (kind : MapFaultKind) (at : ℕ)
+    → IsAsked pickle ask.name.now type
+    → (kind ≡ fault.Memory → (n : ℕ) → terms.most_slots ≡ Some n → n < room type (8 * before.len))
+    → MapsUnder pickle ask terms before after (fault_saying kind at) → MapsUnder pickle ask terms before after (end_saying terms.most_slots ask.start kind at)
+end_under pickle ask terms before after kind at asked less right = end_by pickle ask terms before after terms.most_slots kind at refl asked less right

@@ -2,7 +2,13 @@
 use Rattle.std.specs.Prelude.{◌*◌, ◌≡◌, ℕ, Bool, ◌&&◌, List, Option, Some, None, Ok, length, nat_le, nat_lt, if◌then◌else◌, codes}
 use Rattle.bit_space.specs.SpaceView.{SpaceView}
 use Rattle.pickle_types.specs.Types.{PokeType}
+use Rattle.pickle_types.specs.Bounds.{room}
 use Rattle.pickle_map.specs.Fits.{Fits}
+use Rattle.pickle_map.specs.Slots.{Held, fixed}
+use Rattle.pickle_map.specs.declared.faults.MapFaultKind.{MapFaultKind}
+use Rattle.pickle_map.specs.declared.faults.MapFaultKind.TheVariants as fault
+use Rattle.pickle_map.specs.declared.store.room.Growth.TheVariants.{Free}
+use Rattle.poke_batch.specs.FaultLines.{fault_saying}
 use Rattle.pickle_map.specs.Values.{Value, end_of, no_values}
 use Rattle.poke_batch.specs.declared.ask.Ask.{Ask}
 use Rattle.poke_batch.specs.declared.status.Status.{Status}
@@ -53,3 +59,17 @@ pub data MapsUnder (pickle : List ℕ) (ask : Ask) (terms : Terms) (before after
   -- where there is no value, what a mapping without terms has to say
   ended_under : {status : Status} {line : List ℕ} → MapsAs pickle ask before after (Line status line)
       → MapsUnder pickle ask terms before after (Line status line)
+  -- the mapping didn't find room in so many slots of each kind, which are fewer than its bound
+  slots_under : {type : PokeType} {most : ℕ} → IsAsked pickle ask.name.now type → terms.most_slots ≡ Some most
+      → most < room type (8 * before.len) → MapsUnder pickle ask terms before after (Line Fault (fault_at_line (codes "Slots") ask.start))
+
+-- a store for a mapping under terms: it holds just the most slots, where there is a most
+abbrev pub IsStoreOf : (most : Option ℕ) → Held → Type 0
+IsStoreOf None store = store.room.growth ≡ Free
+IsStoreOf (Some most) store = store.room ≡ fixed most
+
+-- what is said of a fault of a mapping that began at a bit, in a store of the most slots: there want of memory is want of slots
+abbrev pub end_saying : (most : Option ℕ) (start : ℕ) → MapFaultKind → (at : ℕ) → Saying
+end_saying None start kind at = fault_saying kind at
+end_saying (Some most) start fault.Memory at = Line Fault (fault_at_line (codes "Slots") start)
+end_saying (Some most) start kind at = fault_saying kind at

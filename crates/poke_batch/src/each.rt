@@ -6,17 +6,17 @@ ghost use Rattle.bit_space.specs.SpaceView.{Keeps};
 ghost use Rattle.pickle_types.specs.TypeTable.{type_named, IsSound, IsInTable};
 ghost use Rattle.poke_batch.specs.FileLine.{TellsFile, written_of};
 ghost use Rattle.poke_batch.specs.Runs.{IsAsked};
-ghost use Rattle.poke_batch.specs.RunsUnder.{MapsUnder};
+ghost use Rattle.poke_batch.specs.RunsUnder.{MapsUnder, IsStoreOf};
 ghost use Rattle.poke_batch.specs.Written.{AppendsPart};
 ghost use Rattle.poke_batch.specs.declared.status.Status.{Status};
 
 use crate::ask::Ask;
 use crate::file_line::put_file_line;
-use crate::run::map_stored;
+use crate::run::{map_stored, store_of};
 use crate::status::Status;
 use crate::terms::Terms;
 use crate::write::WriteFault;
-use bit_space::Space;
+use bit_space::{Memory, Space};
 use pickle_map::Store;
 use pickle_types::type_table::{Table, TypeId};
 use std::alloc::Global;
@@ -32,14 +32,16 @@ pub struct Kept {
 }
 
 impl Kept {
-    /// Nothing yet, and no room.
-    pub fn new(alloc: Global) -> Kept {
-        Kept {
+    /// Nothing yet, and room for the most slots, where there is a most.
+    pub fn new(alloc: Global, most_slots: Option<u64>) -> Result<Kept, Memory>
+        ensures { IfOk result (λ kept. IsStoreOf most_slots kept.store) }
+    {
+        Ok(Kept {
             alloc,
-            store: Store::new(alloc),
+            store: store_of(alloc, most_slots)?,
             text: Vec::new(alloc),
             line: Vec::new(alloc),
-        }
+        })
     }
 }
 
@@ -57,6 +59,8 @@ pub fn run_file<S: Space, W: Write>(
 ) -> Result<Status, WriteFault>
     requires sound { IsSound table.now }
     requires known { IsInTable table.now id }
+    requires store { IsStoreOf terms.now.most_slots kept.old.store }
+    ensures store { IsStoreOf terms.now.most_slots kept.new.store }
     ensures ok { (pickle : List ℕ) → IsAsked pickle ask.now.name.now (type_named table.now id)
         → IfOk result (λ status. TellsFile (MapsUnder pickle ask.now terms.now (S.view space.old) (S.view space.new)) Appends name.now status (W.contents w.old) (W.contents w.new)) }
     ensures err { (pickle : List ℕ) → IsAsked pickle ask.now.name.now (type_named table.now id)

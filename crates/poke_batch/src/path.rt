@@ -12,7 +12,7 @@ use std::alloc::{AllocError, Global};
 pub enum Step {
     /// The field of a struct, or the alternative taken of a union, that has this name.
     Field(Vec<u8>),
-    /// The nameless field at this place among the declared ones, from 0, or the nameless alternative taken, at place 0.
+    /// The nameless field at this place among the declared ones, from 0.
     Place(u64),
     /// The element of an array at this place, from 0.
     Element(u64),
@@ -44,7 +44,7 @@ impl From<AllocError> for PathFault {
 /// The path that a word is, such as `.`, `.name`, `[2].name` or `.name[0].1`.
 ///
 /// A dot alone is the value itself. Else there is a step or more: `.name` to the field or alternative of a name, `.place` to a nameless
-/// one, `[place]` to an element. A name is of letters, digits and `_`, and begins with no digit; a place has decimal digits without leading
+/// field, `[place]` to an element. A name is of letters, digits and `_`, and begins with no digit; a place has decimal digits without leading
 /// zeros and is below 2^64. It is the form in which this project's profile writes the places of values.
 pub fn read_path(alloc: Global, word: &[u8]) -> Result<Path, PathFault>
     ensures { IfOk result (λ path. path_text path.steps.items ≡ word.now) }

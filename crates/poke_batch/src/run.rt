@@ -6,9 +6,9 @@ ghost use Rattle.bit_space.specs.SpaceView.{Keeps};
 ghost use Rattle.pickle_types.specs.TypeTable.{nodes_of, type_named, IsSound, IsInTable};
 ghost use Rattle.pickle_map.specs.Shown.{kept};
 ghost use Rattle.pickle_map.specs.Values.{Value, value_at, start_of, end_of};
-ghost use Rattle.poke_batch.specs.Told.{Says};
+ghost use Rattle.poke_batch.specs.Told.{Says, IsSaid};
 ghost use Rattle.poke_batch.specs.Runs.{ChecksAs, BoundsAs, IsAsked, MapsAs, types_text};
-ghost use Rattle.poke_batch.specs.RunsUnder.{MapsUnder, SaysIt, value_saying};
+ghost use Rattle.poke_batch.specs.RunsUnder.{MapsUnder, IsStoreOf, end_saying, SaysIt, value_saying};
 ghost use Rattle.poke_batch.specs.Written.{AppendsPart};
 
 use crate::accept::{accept, tell_refusal};
@@ -16,12 +16,12 @@ use crate::ask::Ask;
 use crate::bound::{put_bounds, put_line};
 use crate::fault::tell_fault;
 use crate::status::Status;
-use crate::tell::{answer, fail, refuse};
+use crate::tell::{answer, fail, fault_at, refuse};
 use crate::tell_value::tell_value;
 use crate::terms::Terms;
 use crate::write::WriteFault;
-use bit_space::{Meter, Space};
-use pickle_map::{Store, map};
+use bit_space::{Memory, Meter, Space};
+use pickle_map::{MapFault, MapFaultKind, Store, map};
 use pickle_types::type_table::{Table, TypeId};
 use std::alloc::Global;
 use std::io::Write;
@@ -101,7 +101,8 @@ pub fn run_map<S: Space, O: Write, E: Write>(
 /// term that it doesn't meet.
 ///
 /// A value that ends before the file's last bit, where it has to end there, is told as `Left` at the first bit behind it; one
-/// whose text has more bytes than the most is told as `Output` at the mapping's start. A mapping that has a fault tells that.
+/// without the part that is asked for as `NoSuchPart`; one whose text, or its part's, has more bytes than the most as `Output` at the
+/// mapping's start. A mapping that has a fault tells that.
 pub fn run_map_under<S: Space, O: Write, E: Write>(
     alloc: Global,
     pickle: &[u8],
@@ -120,18 +121,44 @@ pub fn run_map_under<S: Space, O: Write, E: Write>(
         Err(refusal) => return tell_refusal(err, refusal),
     };
     match table.find(ask.name) {
-        Some(id) => map_stored(
-            alloc,
-            &table,
-            id,
-            ask,
-            terms,
-            &mut Store::new(alloc),
-            space,
-            out,
-            err,
-        ),
+        Some(id) => map_new(alloc, &table, id, ask, terms, space, out, err),
         None => refuse(err, b"NoSuchType"),
+    }
+}
+
+// Maps a type of a table into a store of its own.
+fn map_new<S: Space, O: Write, E: Write>(
+    alloc: Global,
+    table: &Table,
+    id: TypeId,
+    ask: &Ask<'_>,
+    terms: &Terms,
+    space: &mut S,
+    out: &mut O,
+    err: &mut E,
+) -> Status
+    requires sound { IsSound table.now }
+    requires known { IsInTable table.now id }
+    ensures says { (pickle : List ℕ) → IsAsked pickle ask.now.name.now (type_named table.now id)
+        → Says (MapsUnder pickle ask.now terms.now (S.view space.old) (S.view space.new)) result
+        (O.contents out.old) (O.contents out.new) (E.contents err.old) (E.contents err.new) }
+    ensures keeps { Keeps (S.view space.old) (S.view space.new) }
+{
+    match store_of(alloc, terms.most_slots) {
+        Ok(mut store) => map_stored(
+            alloc, table, id, ask, terms, &mut store, space, out, err,
+        ),
+        Err(Memory) => fail(err, b"Memory"),
+    }
+}
+
+/// A store for mappings that may fill so many slots of each kind, which are reserved, or any number.
+pub fn store_of(alloc: Global, most: Option<u64>) -> Result<Store, Memory>
+    ensures { IfOk result (IsStoreOf most) }
+{
+    match most {
+        Some(most) => Store::with_most(alloc, most as usize),
+        None => Ok(Store::new(alloc)),
     }
 }
 
@@ -149,6 +176,8 @@ pub fn map_stored<S: Space, O: Write, E: Write>(
 ) -> Status
     requires sound { IsSound table.now }
     requires known { IsInTable table.now id }
+    requires store { IsStoreOf terms.now.most_slots store.old }
+    ensures store { IsStoreOf terms.now.most_slots store.new }
     ensures says { (pickle : List ℕ) → IsAsked pickle ask.now.name.now (type_named table.now id)
         → Says (MapsUnder pickle ask.now terms.now (S.view space.old) (S.view space.new)) result
         (O.contents out.old) (O.contents out.new) (E.contents err.old) (E.contents err.new) }
@@ -159,8 +188,18 @@ pub fn map_stored<S: Space, O: Write, E: Write>(
     let mut meter = Meter::new(ask.limit);
     match map(table, id, ask.order, ask.start, space, &mut meter, store) {
         Ok(()) => tell_root(alloc, store, table, ask, terms, bytes, out, err),
-        Err(fault) => tell_fault(err, fault),
+        Err(fault) => tell_end(err, fault, terms.most_slots, ask.start),
     }
+}
+
+// Tells the fault of a mapping that began at a bit. In a store of the most slots want of memory is want of slots.
+fn tell_end<E: Write>(err: &mut E, fault: MapFault, most: Option<u64>, start: u64) -> Status
+    ensures { (out : Option (List ℕ)) → IsSaid (end_saying most start fault.kind fault.at) result out out (E.contents err.old) (E.contents err.new) }
+{
+    if most.is_some() && fault.kind == MapFaultKind::Memory {
+        return fault_at(err, b"Slots", u128::from(start));
+    }
+    tell_fault(err, fault)
 }
 
 // Says what the value that a store holds has to say, mapped from a file of so many bytes.

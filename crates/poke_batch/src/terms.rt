@@ -13,17 +13,20 @@ pub struct Terms {
     pub most_output: Option<u64>,
     /// The path to the part that is written; nothing for the value itself.
     pub part: Option<Path>,
+    /// The most slots of each kind that its mapping may fill, reserved before it; nothing where any number will do.
+    pub most_slots: Option<u64>,
 }
 
 impl Terms {
     /// Terms that every value meets.
     pub fn none() -> Terms
-        ensures { result ≡ record { whole = false; most_output = None; part = None } }
+        ensures { result ≡ record { whole = false; most_output = None; part = None; most_slots = None } }
     {
         Terms {
             whole: false,
             most_output: None,
             part: None,
+            most_slots: None,
         }
     }
 }

@@ -263,6 +263,7 @@ fn terms_of(alloc: Global, found: &ArgMatches<'_>) -> Result<Terms, WordFault> {
             Some(word) => Some(path_of(alloc, word)?),
             None => None,
         },
+        most_slots: found.get_one::<u64>("slots"),
     })
 }
 

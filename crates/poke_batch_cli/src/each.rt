@@ -1,8 +1,10 @@
 //! A type mapped over many files, whose names stand in the words or in a list.
 ghost use Rattle.pickle_types.specs.TypeTable.{IsSound, IsInTable};
+ghost use Rattle.poke_batch.specs.RunsUnder.{IsStoreOf};
 
 use crate::files::{FileFault, open_space};
 use arrayvec::ArrayVec;
+use bit_space::Memory;
 use pickle_types::type_table::{Table, TypeId};
 use poke_batch::accept::{accept, tell_refusal};
 use poke_batch::ask::Ask;
@@ -35,6 +37,12 @@ impl ListFault {
             ListFault::Memory => b"Memory",
             ListFault::Write => b"Write",
         }
+    }
+}
+
+impl From<Memory> for ListFault {
+    fn from(_memory: Memory) -> ListFault {
+        ListFault::Memory
     }
 }
 
@@ -104,7 +112,7 @@ fn run_words<R: Files<File = File> + Input + AllocGlobal, O: Write>(
     requires sound { IsSound table.now }
     requires known { IsInTable table.now id }
 {
-    let mut kept = Kept::new(rt.alloc());
+    let mut kept = Kept::new(rt.alloc(), terms.most_slots)?;
     let mut greatest = Status::Done;
     for name in names {
         let status = run_name(rt, table, id, ask, terms, &mut kept, name.as_bytes(), out)?;
@@ -129,7 +137,7 @@ fn run_list<R: Files<File = File> + Input + AllocGlobal, L: Read + Drop, O: Writ
     let Ok(mut list) = BufReader::new(rt.alloc(), list) else {
         return Err(ListFault::Memory);
     };
-    let mut kept = Kept::new(rt.alloc());
+    let mut kept = Kept::new(rt.alloc(), terms.most_slots)?;
     let mut name = Vec::new(rt.alloc());
     let mut greatest = Status::Done;
     // (a loop whose end the list decides: no list has as many names)
@@ -172,6 +180,8 @@ fn run_name<R: Files<File = File> + AllocGlobal, O: Write>(
 ) -> Result<Status, WriteFault>
     requires sound { IsSound table.now }
     requires known { IsInTable table.now id }
+    requires store { IsStoreOf terms.now.most_slots kept.old.store }
+    ensures store { IsStoreOf terms.now.most_slots kept.new.store }
 {
     let opened = match str::from_utf8(name) {
         Ok(path) => open_space(rt, path),

@@ -20,7 +20,15 @@ map --limit 18446744073709551615 -- p T f ==> Map { at: 0, order: Big, limit: 18
 map --limit +5 p T f ==> Map { at: 0, order: Big, limit: 5, mode: Flat, pickle: "p", name: "T", file: "f" }
 map --mode tree p T f ==> Map { at: 0, order: Big, limit: 1000000000, mode: Tree, pickle: "p", name: "T", file: "f" }
 map --mode json p T f ==> Map { at: 0, order: Big, limit: 1000000000, mode: Json, pickle: "p", name: "T", file: "f" }
-map --mode=lines p T f ==> Map { at: 0, order: Big, limit: 1000000000, mode: Lines, pickle: "p", name: "T", file: "f" }"#;
+map --mode=lines p T f ==> Map { at: 0, order: Big, limit: 1000000000, mode: Lines, pickle: "p", name: "T", file: "f" }
+map --slots 7 p T f ==> MapUnder { at: 0, order: Big, limit: 1000000000, mode: Flat, terms: Terms { whole: false, most_output: None, part: None, most_slots: Some(7) }, pickle: "p", name: "T", file: "f" }
+each --mode json p T f ==> Each { at: 0, order: Big, limit: 1000000000, mode: Json, terms: Terms { whole: false, most_output: None, part: None, most_slots: None }, pickle: "p", name: "T", files: Words(["f"]) }
+each p T f g ==> Each { at: 0, order: Big, limit: 1000000000, mode: Flat, terms: Terms { whole: false, most_output: None, part: None, most_slots: None }, pickle: "p", name: "T", files: Words(["f", "g"]) }
+each --files0-from - --whole p T ==> Each { at: 0, order: Big, limit: 1000000000, mode: Flat, terms: Terms { whole: true, most_output: None, part: None, most_slots: None }, pickle: "p", name: "T", files: EndedByZero("-") }
+map --whole p T f ==> MapUnder { at: 0, order: Big, limit: 1000000000, mode: Flat, terms: Terms { whole: true, most_output: None, part: None, most_slots: None }, pickle: "p", name: "T", file: "f" }
+map --max-output 5 p T f ==> MapUnder { at: 0, order: Big, limit: 1000000000, mode: Flat, terms: Terms { whole: false, most_output: Some(5), part: None, most_slots: None }, pickle: "p", name: "T", file: "f" }
+map --get . p T f ==> MapUnder { at: 0, order: Big, limit: 1000000000, mode: Flat, terms: Terms { whole: false, most_output: None, part: Some(Path { steps: [] }), most_slots: None }, pickle: "p", name: "T", file: "f" }
+map --get .a[2].0 p T f ==> MapUnder { at: 0, order: Big, limit: 1000000000, mode: Flat, terms: Terms { whole: false, most_output: None, part: Some(Path { steps: [Field([97]), Element(2), Place(0)] }), most_slots: None }, pickle: "p", name: "T", file: "f" }"#;
 
 /// Words that are no job.
 const WRONG: &str = r#"map --at 8 p T f ==> refused offset
@@ -34,6 +42,10 @@ map --at -1#b p T f ==> usage
 map --at 1#b --at 1#b p T f ==> usage
 map --endian middle p T f ==> usage
 map --mode leaf p T f ==> usage
+map --max-output -1 p T f ==> usage
+map --whole --whole p T f ==> usage
+map --get a p T f ==> usage
+map --at 8 --get a p T f ==> usage
 map --color p T f ==> usage
 map p T ==> usage
 map p T f g ==> usage

@@ -22,6 +22,7 @@ Options of map:
   --mode MODE      how the value is written: flat, tree, json or lines [default: flat]
   --whole          take only a value that ends where FILE does [default: any end]
   --max-output N   the most bytes of the text, 0 to 18446744073709551615 [default: any length]
+  --slots N        the most slots of the mapping, of each kind, 0 to 18446744073709551615 [default: any number]
   --get PATH       write a part of the value: . or steps of .name, .place, [place] [default: .]
 
 Options of dump:
@@ -161,6 +162,7 @@ fn with_mapping<'a>(
         .arg(option(alloc, "mode", "MODE", "How the value is written", "flat").value_parser(modes))?
         .arg(whole(alloc))?
         .arg(max_output(alloc))?
+        .arg(slots(alloc))?
         .arg(part(alloc))?
         .arg(pickle(alloc))?
         .arg(name(alloc))
@@ -171,6 +173,14 @@ fn whole<'a>(alloc: Global) -> Arg<'a> {
         .long("whole")
         .action(ArgAction::SetTrue)
         .help("Take only a value that ends where FILE does [default: any end]")
+}
+
+fn slots<'a>(alloc: Global) -> Arg<'a> {
+    Arg::new(alloc, "slots")
+        .long("slots")
+        .value_name("N")
+        .help("The most slots of the mapping, of each kind, reserved before it, 0 to 18446744073709551615 [default: any number]")
+        .value_parser(clap::value_parser!(u64))
 }
 
 fn max_output<'a>(alloc: Global) -> Arg<'a> {

@@ -2,11 +2,10 @@ use Rattle.std.proofs.Common.{◌≤◌, ◌∙◌, subst, sym}
 use Rattle.std.proofs.lemmas.Option.{same_Some}
 use Rattle.pickle_types.specs.TypeTable.{nodes_of, type_named}
 use Rattle.pickle_map.specs.Values.{start_of, end_of, no_values}
-use Rattle.poke_batch.specs.FaultLines.{fault_saying}
-use Rattle.poke_batch.specs.RunsUnder.{mapped_under}
+use Rattle.poke_batch.specs.RunsUnder.{mapped_under, end_saying}
 use Rattle.poke_batch.proofs.Mappings.{fault_says, value_answers, root_given}
 use Rattle.poke_batch.proofs.Sayings.{said_says}
-use Rattle.poke_batch.proofs.UnderTerms.{starts_before_end, says_more, said_under, fault_under}
+use Rattle.poke_batch.proofs.UnderTerms.{starts_before_end, says_more, said_under, fault_under, end_under, least_of}
 use Rattle.poke_batch.proofs.run.map_stored.Goals as goal
 
 pub tell_root-requires-clause-forward : goal.tell_root-requires-clause-forward
@@ -30,7 +29,9 @@ returns-in-Ok-clause-says g c =
 pub returns-in-Err-clause-says : goal.returns-in-Err-clause-says
 returns-in-Err-clause-says g c =
     λ pickle asked.
-    said_says _ (fault_saying c.in-Err.fault.kind c.in-Err.fault.at) _ _ _ _ _
+    said_says _ (end_saying c.args.terms.now.most_slots c.args.ask.now.start c.in-Err.fault.kind c.in-Err.fault.at) _ _ _ _ _
+    (end_under pickle c.args.ask.now c.args.terms.now _ _ c.in-Err.fault.kind c.in-Err.fault.at asked
+    (λ memory. least_of c.args.terms.now.most_slots _ _ c.args.requires.store c.clear.ensures.empty (c.in-Err.ensures.memory memory))
     (fault_under pickle c.args.ask.now c.args.terms.now _ _ c.in-Err.fault.kind c.in-Err.fault.at
-    (fault_says pickle c.args.ask.now _ _ (type_named c.args.table.now c.args.id) c.in-Err.fault.at c.new-meter.result.limit c.new-meter.result.steps _ _ _ c.in-Err.fault.kind c.new-meter.ensures.limit c.new-meter.ensures.steps asked c.in-Err.ensures.fault c.in-Err.ensures.limit c.in-Err.ensures.place c.in-Err.ensures.device))
-    (c.tell_fault.ensures _)
+    (fault_says pickle c.args.ask.now _ _ (type_named c.args.table.now c.args.id) c.in-Err.fault.at c.new-meter.result.limit c.new-meter.result.steps _ _ _ c.in-Err.fault.kind c.new-meter.ensures.limit c.new-meter.ensures.steps asked c.in-Err.ensures.fault c.in-Err.ensures.limit c.in-Err.ensures.place c.in-Err.ensures.device)))
+    (c.tell_end.ensures _)

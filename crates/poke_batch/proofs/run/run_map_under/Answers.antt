@@ -13,7 +13,7 @@ pub returns-in-Err-clause-says : goal.returns-in-Err-clause-says
 returns-in-Err-clause-says g c = said_says _ (refusal_saying c.in-Err.refusal) _ _ _ _ _ (refused_under c.in-Err.refusal c.in-Err.ensures.err) (c.tell_refusal.ensures _)
 
 pub returns-in-Some-clause-says : goal.returns-in-Some-clause-says
-returns-in-Some-clause-says g c = c.map_stored.ensures.says c.args.pickle.now (asked c.in-Ok.ensures.ok.1 c.in-Some.ensures.found)
+returns-in-Some-clause-says g c = c.map_new.ensures.says c.args.pickle.now (asked c.in-Ok.ensures.ok.1 c.in-Some.ensures.found)
 
 pub returns-clause-says : goal.returns-clause-says
 returns-clause-says g c = line_says _ Refused (refused_line (codes "NoSuchType")) _ _ _ _ (ended_under (unknown c.in-Ok.ensures.ok.1 c.in-None.ensures.found)) c.refuse.ensures
