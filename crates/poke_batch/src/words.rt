@@ -17,7 +17,7 @@ use bit_space::Order;
 use clap::ArgMatches;
 use clap::error::ErrorKind;
 use commands::{DEFAULT_LIMIT, PROGRAM, program};
-use shown::shown_words;
+use shown::{shown_word, shown_words};
 use std::alloc::{AllocError, Global};
 use thiserror::Error;
 
@@ -271,11 +271,16 @@ fn terms_of(alloc: Global, found: &ArgMatches<'_>) -> Result<Terms, WordFault> {
 fn path_of(alloc: Global, word: &str) -> Result<Path, WordFault> {
     match read_path(alloc, word.as_bytes()) {
         Ok(path) => Ok(path),
-        Err(PathFault::Form) => Err(WordFault::Usage(format!(in alloc;
-            "error: invalid value '{word}' for '--get <PATH>': not a path\n\nFor more information, try '--help'.\n"
-        )?)),
+        Err(PathFault::Form) => Err(WordFault::Usage(no_path(alloc, word)?)),
         Err(PathFault::Memory) => Err(WordFault::Memory),
     }
+}
+
+fn no_path(alloc: Global, word: &str) -> Result<String, AllocError> {
+    let word = shown_word(alloc, word.as_bytes())?;
+    format!(in alloc;
+        "error: invalid value '{word}' for '--get <PATH>': not a path\n\nFor more information, try '--help'.\n"
+    )
 }
 
 // The mode that a word names, and the default where it names none.

@@ -14,7 +14,8 @@ pub fn shown_words(alloc: Global, words: &[String]) -> Result<Vec<String>, Alloc
     Ok(shown)
 }
 
-fn shown_word(alloc: Global, word: &[u8]) -> Result<String, AllocError>
+/// A word as it is told: bytes that don't stand for themselves as escapes.
+pub fn shown_word(alloc: Global, word: &[u8]) -> Result<String, AllocError>
     ensures { IfOk result (λ text. string_bytes text ≡ word_text word.now) }
 {
     let mut text = String::new(alloc);
