@@ -1,12 +1,12 @@
 -- The texts of values in JSON are as the grammar has them.
-use Rattle.std.proofs.Common.{◌≡◌, ◌∙◌, ℕ, ℤ, suc, ◌+◌, ◌^◌, ◌<◌, ◌≤◌, Bool, true, false, List, [], ◌∷◌, ◌++◌, Some, None, codes, decimal, sym, ap, subst, arith}
+use Rattle.std.proofs.Common.{ℕ, ℤ, suc, ◌+◌, ◌^◌, ◌<◌, ◌≤◌, true, false, List, [], ◌++◌, Some, None, codes, decimal, sym, ap, subst, arith}
 use Rattle.std.specs.Prelude.{unsigned_abs}
 use Rattle.std.specs.Fmt.{signed_decimal}
 use Rattle.std.proofs.lemmas.List.{append-nil, append_assoc}
 use Rattle.pickle_map.specs.Values.{Naming, Label, IntegerLabel, OffsetLabel, TextLabel, ArrayLabel, StructLabel, UnionLabel, Value, Mapped, Members, NoMembers, MemberThen, AbsentThen, member_count}
 use Rattle.pickle_map.specs.Labels.{member_name}
 use Rattle.poke_batch.specs.JsonText.{json_text, json_members, json_offset, json_string, key_text, key_before, no_key}
-use Rattle.poke_batch.specs.Json.{IsBlanks, no_blank, one_blank, line_feed, IsString, IsValue, number_value, string_value, empty_list, list, empty_object, object, IsJson, json, IsElements, last_element, element, IsField, field, IsFields, last_field, one_field}
+use Rattle.poke_batch.specs.Json.{no_blank, one_blank, line_feed, IsString, IsValue, number_value, string_value, empty_list, list, empty_object, object, IsJson, json, IsElements, last_element, element, IsField, field, IsFields, last_field, one_field}
 use Rattle.poke_batch.specs.Laws.{HasSmallParts, AreSmallParts, PrintsJson}
 use Rattle.poke_batch.proofs.JsonWords.{number_is, natural_is, string_is, place_is}
 
