@@ -1,10 +1,10 @@
 -- Laws of the texts of values in JSON.
-use Rattle.std.proofs.Common.{◌≡◌, ℕ, suc, add-one, ◌+◌, ◌<◌, ◌≤◌, List, [], ◌++◌, length, take, Option, Some, None, Bool, false, codes, decimal, refl, sym, ◌∙◌, ap, subst, arith}
+use Rattle.std.proofs.Common.{◌≡◌, ℕ, add-one, ◌+◌, ◌<◌, ◌≤◌, List, [], ◌++◌, length, take, Option, Some, None, Bool, false, codes, refl, sym, ◌∙◌, ap, subst, arith}
 use Rattle.std.specs.Fmt.{signed_decimal}
 use Rattle.std.specs.List.{prefix_len}
 use Rattle.std.proofs.lemmas.List.{append_assoc, append-nil, take_all}
 use Rattle.pickle_map.specs.declared.value.Kind.TheVariants as kind
-use Rattle.pickle_map.specs.Values.{Value, Mapped, Label, IntegerLabel, OffsetLabel, TextLabel, ArrayLabel, StructLabel, UnionLabel, Members, label_of, member_count, member_at}
+use Rattle.pickle_map.specs.Values.{Value, Mapped, IntegerLabel, OffsetLabel, TextLabel, ArrayLabel, StructLabel, UnionLabel, Members, label_of, member_count, member_at}
 use Rattle.pickle_map.specs.Labels.{kind_of, number_of, unit_of, bytes_of}
 use Rattle.poke_batch.specs.Gathered.{Gathers}
 use Rattle.poke_batch.specs.ValueText.{spelled, is_plain, comma}

@@ -1,13 +1,13 @@
 -- The texts of values in JSON are as the grammar has them.
-use Rattle.std.proofs.Common.{◌≡◌, ◌∙◌, ℕ, ℤ, suc, ◌+◌, ◌^◌, ◌<◌, ◌≤◌, Bool, true, false, List, [], ◌∷◌, ◌++◌, Some, None, codes, decimal, sym, ap, subst, arith}
+use Rattle.std.proofs.Common.{ℕ, ℤ, suc, ◌+◌, ◌^◌, ◌<◌, ◌≤◌, true, false, List, [], ◌++◌, Some, None, codes, decimal, sym, ap, subst, arith}
 use Rattle.std.specs.Prelude.{unsigned_abs}
 use Rattle.std.specs.Fmt.{signed_decimal}
 use Rattle.std.proofs.lemmas.List.{append-nil, append_assoc}
 use Rattle.pickle_map.specs.Values.{Naming, Label, IntegerLabel, OffsetLabel, TextLabel, ArrayLabel, StructLabel, UnionLabel, Value, Mapped, Members, NoMembers, MemberThen, AbsentThen, member_count}
 use Rattle.pickle_map.specs.Labels.{member_name}
 use Rattle.poke_batch.specs.JsonText.{json_text, json_members, json_offset, json_string, key_text, key_before, no_key}
-use Rattle.poke_batch.specs.Json.{IsBlanks, no_blank, one_blank, line_feed, IsString, IsValue, number_value, string_value, empty_list, list, empty_object, object, IsJson, json, IsElements, last_element, element, IsField, field, IsFields, last_field, one_field}
-use Rattle.poke_batch.specs.Laws.{IsSmall, AreSmall, PrintsJson}
+use Rattle.poke_batch.specs.Json.{no_blank, one_blank, line_feed, IsString, IsValue, number_value, string_value, empty_list, list, empty_object, object, IsJson, json, IsElements, last_element, element, IsField, field, IsFields, last_field, one_field}
+use Rattle.poke_batch.specs.Laws.{HasSmallParts, AreSmallParts, PrintsJson}
 use Rattle.poke_batch.proofs.JsonWords.{number_is, natural_is, string_is, place_is}
 
 -- a value without blanks
@@ -55,7 +55,7 @@ offset_is magnitude unit m u =
     (object (one_field first (last_field second)))
 
 mutual
-  value_is : (value : Value) → IsSmall value → IsValue (json_text value)
+  value_is : (value : Value) → HasSmallParts value → IsValue (json_text value)
   value_is (Mapped (IntegerLabel number type) start end _) h = number_value (number_is number h.0)
   value_is (Mapped (OffsetLabel magnitude type unit) start end _) h = offset_is magnitude unit h.0.0 h.0.1
   value_is (Mapped (TextLabel bytes) start end _) h = string_value (string_is bytes)
@@ -63,24 +63,24 @@ mutual
   value_is (Mapped (StructLabel name fields) start end all) h = object_is (fields_are (StructLabel name fields) 0 all (omega (arith, h.1)) h.2)
   value_is (Mapped (UnionLabel name index alternative) start end all) h = object_is (fields_are (UnionLabel name index alternative) 0 all (omega (arith, h.1)) h.2)
 
-  elements_are : (place : ℕ) (members : Members) → AreSmall members → Joined IsElements (json_members no_key place true members)
+  elements_are : (place : ℕ) (members : Members) → AreSmallParts members → Joined IsElements (json_members no_key place true members)
   elements_are place NoMembers h = empty
   elements_are place (AbsentThen rest) h = elements_are (suc place) rest h
   elements_are place (MemberThen value rest) h = joined (element_then (bare (value_is value h.0)) (elements_follow (suc place) rest h.1))
 
-  elements_follow : (place : ℕ) (members : Members) → AreSmall members → Rest IsElements (json_members no_key place false members)
+  elements_follow : (place : ℕ) (members : Members) → AreSmallParts members → Rest IsElements (json_members no_key place false members)
   elements_follow place NoMembers h = none
   elements_follow place (AbsentThen rest) h = elements_follow (suc place) rest h
   elements_follow place (MemberThen value rest) h = some (element_then (bare (value_is value h.0)) (elements_follow (suc place) rest h.1))
 
-  fields_are : (label : Label) (place : ℕ) (members : Members) → place + member_count members ≤ 2 ^ 64 → AreSmall members → Joined IsFields (json_members (key_before label) place true members)
+  fields_are : (label : Label) (place : ℕ) (members : Members) → place + member_count members ≤ 2 ^ 64 → AreSmallParts members → Joined IsFields (json_members (key_before label) place true members)
   fields_are label place NoMembers few h = empty
   fields_are label place (AbsentThen rest) few h = fields_are label (suc place) rest (omega (arith, few)) h
   fields_are label place (MemberThen value rest) few h =
       joined (field_then (field_is (key_is (member_name label place) place (omega (arith, few))) (value_is value h.0))
       (fields_follow label (suc place) rest (omega (arith, few)) h.1))
 
-  fields_follow : (label : Label) (place : ℕ) (members : Members) → place + member_count members ≤ 2 ^ 64 → AreSmall members → Rest IsFields (json_members (key_before label) place false members)
+  fields_follow : (label : Label) (place : ℕ) (members : Members) → place + member_count members ≤ 2 ^ 64 → AreSmallParts members → Rest IsFields (json_members (key_before label) place false members)
   fields_follow label place NoMembers few h = none
   fields_follow label place (AbsentThen rest) few h = fields_follow label (suc place) rest (omega (arith, few)) h
   fields_follow label place (MemberThen value rest) few h =

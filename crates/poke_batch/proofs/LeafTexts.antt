@@ -1,5 +1,5 @@
 -- Laws of the lines of parts that have no parts.
-use Rattle.std.proofs.Common.{◌≡◌, ℕ, suc, add-one, ◌+◌, ◌<◌, ◌≤◌, List, [], ◌++◌, Option, Some, None, Bool, true, false, refl, sym, ◌∙◌, ap, subst}
+use Rattle.std.proofs.Common.{◌≡◌, ℕ, add-one, ◌+◌, ◌<◌, ◌≤◌, List, [], ◌++◌, Option, Some, None, true, false, refl, sym, ◌∙◌, ap, subst}
 use Rattle.std.specs.Option.{option_map, is_some}
 use Rattle.pickle_map.specs.declared.value.ValueRef.{ValueRef}
 use Rattle.pickle_map.specs.Refs.{value_shown}

@@ -17,17 +17,17 @@ HasSmallNumbers (UnionLabel name index alternative) = Unit {0}
 
 -- all numbers of a value are below 2^64, and so are the numbers of members of all its parts, as those of mapped values are
 abbrev mutual
-  pub IsSmall : Value → Type 0
-  IsSmall (Mapped label start end members) = HasSmallNumbers label × (member_count members ≤ 2 ^ 64) × AreSmall members
+  pub HasSmallParts : Value → Type 0
+  HasSmallParts (Mapped label start end members) = HasSmallNumbers label × (member_count members ≤ 2 ^ 64) × AreSmallParts members
 
-  pub AreSmall : Members → Type 0
-  AreSmall NoMembers = Unit {0}
-  AreSmall (MemberThen value rest) = IsSmall value × AreSmall rest
-  AreSmall (AbsentThen rest) = AreSmall rest
+  pub AreSmallParts : Members → Type 0
+  AreSmallParts NoMembers = Unit {0}
+  AreSmallParts (MemberThen value rest) = HasSmallParts value × AreSmallParts rest
+  AreSmallParts (AbsentThen rest) = AreSmallParts rest
 
 -- what is printed in JSON is a JSON text
 abbrev pub PrintsJson : Type 0
-PrintsJson = (value : Value) → IsSmall value → IsJson (json_line value)
+PrintsJson = (value : Value) → HasSmallParts value → IsJson (json_line value)
 
 -- lines of parts that have no parts, each under the path of steps that lead to its part
 pub data LinesOf (value : Value) : List ℕ → Type 0 where

@@ -1,6 +1,6 @@
 -- The text that a value is printed as with a line for each part that has no parts.
 use Rattle.std.specs.Prelude.{ℕ, suc, ◌-◌, Bool, true, false, ◌&&◌, List, [], ◌++◌, if◌then◌else◌, codes, decimal}
-use Rattle.pickle_map.specs.Values.{Label, Value, Mapped, Members, NoMembers, MemberThen, AbsentThen, label_of, start_of, end_of, members_of}
+use Rattle.pickle_map.specs.Values.{Label, Value, Mapped, Members, NoMembers, MemberThen, AbsentThen, start_of, end_of}
 use Rattle.pickle_map.specs.Labels.{kind_of}
 use Rattle.poke_batch.specs.PathText.{step_text, path_text}
 use Rattle.poke_batch.specs.TreeText.{has_parts}

@@ -1,6 +1,6 @@
 -- The path of a part of a value: the steps that lead to it.
 use Rattle.std.specs.Prelude.{◌≡◌, ℕ, List, [], ◌∷◌, ◌++◌, Some, None, codes, decimal}
-use Rattle.pickle_map.specs.Values.{Naming, Label, IntegerLabel, OffsetLabel, TextLabel, ArrayLabel, StructLabel, UnionLabel, Value, label_of, members_of, member_at}
+use Rattle.pickle_map.specs.Values.{Naming, Label, ArrayLabel, Value, label_of, members_of, member_at}
 use Rattle.pickle_map.specs.Labels.{member_name}
 use Rattle.poke_batch.specs.TreeText.{in_brackets}
 

@@ -1,8 +1,5 @@
 -- The text of the steps that lead to a part, and of what is written for it.
 use Rattle.std.specs.Prelude.{ℕ, List, [], ◌++◌, Some, None}
-use Rattle.pickle_map.specs.declared.value.ValueRef.{ValueRef}
-use Rattle.pickle_map.specs.Refs.{value_shown}
-use Rattle.pickle_map.specs.Values.{label_of, members_of}
 use Rattle.poke_batch.specs.declared.print.steps.Step.{Step}
 use Rattle.poke_batch.specs.declared.print.steps.Step.TheVariants.{Element, Field, Nameless}
 use Rattle.poke_batch.specs.declared.print.steps.Steps.{Steps, Start, Then'}

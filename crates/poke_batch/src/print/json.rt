@@ -1,11 +1,10 @@
 //! Prints values in JSON.
-ghost use Rattle.std.specs.Prelude.{◌≡◌, ◌≤◌, ◌++◌, true, length, OnOk, OnErr, codes, decimal};
+ghost use Rattle.std.specs.Prelude.{◌≡◌, ◌≤◌, ◌++◌, true, length, OnOk, OnErr};
 ghost use Rattle.std.specs.List.{prefix_len};
-ghost use Rattle.std.specs.Fmt.{signed_decimal};
 ghost use Rattle.pickle_map.specs.Refs.{value_shown};
 ghost use Rattle.poke_batch.specs.Written.{AppendsPart};
 ghost use Rattle.poke_batch.specs.Gathered.{Gathers};
-ghost use Rattle.poke_batch.specs.ValueText.{is_plain, comma};
+ghost use Rattle.poke_batch.specs.ValueText.{is_plain};
 ghost use Rattle.poke_batch.specs.JsonText.{json_line, json_text, json_offset};
 ghost use Rattle.poke_batch.specs.JsonParts.{array_json, elements_json, object_json, fields_json, element_json, start_json, field_json, name_start, place_start};
 

@@ -1,12 +1,10 @@
 //! Prints values with a line for each part that has no parts.
-ghost use Rattle.std.specs.Prelude.{◌≡◌, ◌++◌, true, false, OnOk, OnErr, codes};
+ghost use Rattle.std.specs.Prelude.{◌≡◌, ◌++◌, true, false, OnOk, OnErr};
 ghost use Rattle.pickle_map.specs.Values.{label_of, members_of};
 ghost use Rattle.pickle_map.specs.Refs.{value_shown};
 ghost use Rattle.poke_batch.specs.Written.{AppendsPart};
 ghost use Rattle.poke_batch.specs.Gathered.{Gathers};
-ghost use Rattle.poke_batch.specs.PathText.{path_text};
-ghost use Rattle.poke_batch.specs.Steps.{steps_of};
-ghost use Rattle.poke_batch.specs.LinesText.{part_lines, place_cells, text_cell, leaf_line, is_parted, any_present};
+ghost use Rattle.poke_batch.specs.LinesText.{part_lines, place_cells, text_cell, is_parted, any_present};
 ghost use Rattle.poke_batch.specs.LeafText.{leaf_at, leaves_at, branches_at, branch_at};
 
 use super::flat::put_value;

@@ -1,7 +1,7 @@
 //! Prints the paths of parts.
-ghost use Rattle.std.specs.Prelude.{◌≡◌, ◌≢◌, ◌++◌, [], OnOk, OnErr, codes, decimal};
+ghost use Rattle.std.specs.Prelude.{◌≡◌, ◌≢◌, ◌++◌, [], OnOk, OnErr, codes};
 ghost use Rattle.pickle_map.specs.Values.{label_of};
-ghost use Rattle.pickle_map.specs.Labels.{kind_of, member_name};
+ghost use Rattle.pickle_map.specs.Labels.{member_name};
 ghost use Rattle.pickle_map.specs.Refs.{value_shown};
 ghost use Rattle.poke_batch.specs.Written.{AppendsPart};
 ghost use Rattle.poke_batch.specs.Gathered.{Gathers};
