@@ -7,7 +7,8 @@ use crate::store::room::{Growth, Room};
 /// So many items, at most, are appended one by one, which takes less than a call for them all.
 const FEW: usize = 8;
 
-/// Appends items, for which there is room. The call for many may grow a vector, for what its contract says.
+/// Appends items, for which there is room. Of the call for many it is only promised that a vector doesn't shrink, so
+/// where the room never grows all go one by one.
 #[inline(always)]
 pub(super) fn append<T: Copy>(to: &mut Vec<T>, items: &[T], room: Room)
     requires { vec_len to.old + length items.now ≤ vec_capacity to.old }
