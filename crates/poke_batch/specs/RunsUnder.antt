@@ -1,5 +1,5 @@
 -- What a run has to say of a pickle under terms.
-use Rattle.std.specs.Prelude.{◌*◌, ◌≡◌, ℕ, Bool, ◌&&◌, List, Option, Some, None, Ok, length, nat_le, nat_lt, if◌then◌else◌, codes}
+use Rattle.std.specs.Prelude.{◌*◌, ◌<◌, ◌≡◌, ℕ, Bool, ◌&&◌, List, Option, Some, None, Ok, length, nat_le, nat_lt, if◌then◌else◌, codes}
 use Rattle.bit_space.specs.SpaceView.{SpaceView}
 use Rattle.pickle_types.specs.Types.{PokeType}
 use Rattle.pickle_types.specs.Bounds.{room}

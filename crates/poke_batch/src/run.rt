@@ -1,6 +1,6 @@
 //! The runs: from a pickle's bytes to a text or a line.
 
-ghost use Rattle.std.specs.Prelude.{◌≡◌, ℕ, ◌*◌, ◌≤◌, List, Some, IsSome, OnOk, OnErr};
+ghost use Rattle.std.specs.Prelude.{◌≡◌, ℕ, ◌*◌, ◌≤◌, List, Some, IsSome, OnOk, OnErr, IfOk, Option};
 ghost use Rattle.std.specs.Io.KnownBytes.{Appends};
 ghost use Rattle.bit_space.specs.SpaceView.{Keeps};
 ghost use Rattle.pickle_types.specs.TypeTable.{nodes_of, type_named, IsSound, IsInTable};
