@@ -12,6 +12,7 @@ pub mod ShortTexts
 pub mod Refusing
 pub mod Sayings
 pub mod Mappings
+pub mod Places
 mod LineRows
 mod ValueTextRows
 mod TreeTextRows

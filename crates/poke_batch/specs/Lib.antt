@@ -16,3 +16,4 @@ pub mod Told
 pub mod FaultLines
 pub mod Runs
 pub mod Accepted
+pub mod Places

@@ -18,5 +18,6 @@ pub mod print;
 pub mod run;
 pub mod status;
 pub mod tell;
+pub mod why;
 pub mod words;
 pub mod write;

@@ -5,7 +5,9 @@ use poke_batch::dump::{DumpFault, dump};
 use poke_batch::run::{run_bound, run_check, run_map};
 use poke_batch::status::Status;
 use poke_batch::tell::fail;
-use poke_batch::words::Job;
+use poke_batch::why::explanation;
+use poke_batch::words::{Asked, Job};
+use std::alloc::{AllocError, Global};
 use std::fs::File;
 use std::io::{BufWriter, Input, Write};
 use std::rt::Files;
@@ -13,17 +15,19 @@ use std::rt::Files;
 /// The bytes of an answer that are gathered before they are written.
 const GATHERED: usize = 65_536;
 
-/// Does a job. Its answer goes to `out`, which has it all before the status is told, and its line to `err`.
+/// Does a job. Its answer goes to `out`, which has it all before the status is told, its line to `err`, and why it is refused, where
+/// that is asked, to `reason`.
 pub fn do_job<R: Files<File = File> + Input + AllocGlobal, O: Write + Drop, E: Write>(
     rt: &R,
-    job: Job,
+    asked: Asked,
     out: O,
     err: &mut E,
+    reason: &mut Vec<u8>,
 ) -> Status {
     let Ok(mut out) = BufWriter::with_capacity(rt.alloc(), GATHERED, out) else {
         return fail(err, b"Memory");
     };
-    let status = match run_job(rt, job, &mut out, err) {
+    let status = match run_job(rt, asked, &mut out, err, reason) {
         Ok(status) => status,
         Err(fault) => fail(err, fault.kind()),
     };
@@ -40,17 +44,19 @@ pub fn do_job<R: Files<File = File> + Input + AllocGlobal, O: Write + Drop, E: W
 
 fn run_job<R: Files<File = File> + Input + AllocGlobal, O: Write, E: Write>(
     rt: &R,
-    job: Job,
+    asked: Asked,
     out: &mut O,
     err: &mut E,
+    reason: &mut Vec<u8>,
 ) -> Result<Status, FileFault> {
+    let Asked { job, why } = asked;
     match job {
         Job::Map {
             at,
             order,
             limit,
             mode,
-            pickle,
+            pickle: path,
             name,
             file,
         } => {
@@ -61,17 +67,33 @@ fn run_job<R: Files<File = File> + Input + AllocGlobal, O: Write, E: Write>(
                 limit,
                 mode,
             };
-            let pickle = read_pickle_of(rt, pickle.as_str())?;
+            let pickle = read_pickle_of(rt, path.as_str())?;
             let mut space = open_space(rt, file.as_str())?;
-            Ok(run_map(rt.alloc(), &pickle, &ask, &mut space, out, err))
+            let status = run_map(rt.alloc(), &pickle, &ask, &mut space, out, err);
+            if why && status == Status::Refused {
+                *reason = reason_of(rt.alloc(), &pickle, path.as_str(), Some(ask.name));
+            }
+            Ok(status)
         }
-        Job::Bound { pickle, name, bits } => {
-            let pickle = read_pickle_of(rt, pickle.as_str())?;
-            Ok(run_bound(rt.alloc(), &pickle, name.as_bytes(), bits, out, err))
+        Job::Bound {
+            pickle: path,
+            name,
+            bits,
+        } => {
+            let pickle = read_pickle_of(rt, path.as_str())?;
+            let status = run_bound(rt.alloc(), &pickle, name.as_bytes(), bits, out, err);
+            if why && status == Status::Refused {
+                *reason = reason_of(rt.alloc(), &pickle, path.as_str(), Some(name.as_bytes()));
+            }
+            Ok(status)
         }
-        Job::Check { pickle } => {
-            let pickle = read_pickle_of(rt, pickle.as_str())?;
-            Ok(run_check(rt.alloc(), &pickle, out, err))
+        Job::Check { pickle: path } => {
+            let pickle = read_pickle_of(rt, path.as_str())?;
+            let status = run_check(rt.alloc(), &pickle, out, err);
+            if why && status == Status::Refused {
+                *reason = reason_of(rt.alloc(), &pickle, path.as_str(), None);
+            }
+            Ok(status)
         }
         Job::Dump {
             from,
@@ -86,5 +108,13 @@ fn run_job<R: Files<File = File> + Input + AllocGlobal, O: Write, E: Write>(
                 Err(DumpFault::Write) => Ok(fail(err, b"Write")),
             }
         }
+    }
+}
+
+// Why a pickle or a name is refused. Nothing is told where there is no memory for it: the line that refuses it stands.
+fn reason_of(alloc: Global, pickle: &[u8], path: &str, name: Option<&[u8]>) -> Vec<u8> {
+    match explanation(alloc, pickle, path.as_bytes(), name) {
+        Ok(reason) => reason,
+        Err(AllocError) => Vec::new(alloc),
     }
 }

@@ -8,7 +8,7 @@ use arrayvec::ArrayVec;
 use jobs::do_job;
 use poke_batch::status::Status;
 use poke_batch::tell::{answer, fail, refuse};
-use poke_batch::words::{Job, WordFault, read_words};
+use poke_batch::words::{Asked, WordFault, read_asked};
 use poke_batch::write::put;
 use std::env;
 use std::io::{ErrorKind, Write};
@@ -20,8 +20,9 @@ type Line = ArrayVec<u8, 128>;
 
 fn main(rt: HostRuntime) -> ExitCode {
     let mut line = Line::new();
+    let mut reason = Vec::new(rt.alloc());
     let status = match read_job(&rt) {
-        Ok(job) => do_job(&rt, job, rt.stdout(), &mut line),
+        Ok(asked) => do_job(&rt, asked, rt.stdout(), &mut line, &mut reason),
         Err(fault) => tell_words(fault, &mut rt.stdout(), &mut rt.stderr(), &mut line),
     };
     let told = put(&mut rt.stderr(), line.as_slice());
@@ -30,15 +31,19 @@ fn main(rt: HostRuntime) -> ExitCode {
     } else {
         Status::Outside
     };
+    // The status is that of the line, whatever becomes of the reason for it.
+    if told.is_ok() {
+        let _ = put(&mut rt.stderr(), reason.as_slice());
+    }
     ExitCode::from(status as u8)
 }
 
-fn read_job<R: Env + AllocGlobal>(rt: &R) -> Result<Job, WordFault> {
+fn read_job<R: Env + AllocGlobal>(rt: &R) -> Result<Asked, WordFault> {
     let alloc = rt.alloc();
     match env::args(rt) {
         Ok(words) => {
             let words: Vec<String> = words.skip(1).collect(alloc)?;
-            read_words(alloc, words)
+            read_asked(alloc, words)
         }
         Err(error) if error.kind() == ErrorKind::OutOfMemory => Err(WordFault::Memory),
         Err(_) => {

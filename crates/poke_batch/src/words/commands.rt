@@ -21,6 +21,9 @@ Options of map:
   --limit N        the most steps of the mapping, 0 to 18446744073709551615 [default: 1000000000]
   --mode MODE      how the value is written, flat or tree [default: flat]
 
+Options of map, bound and check:
+  --why            tell why the pickle or the type's name is refused: line, column and a sentence [default: not told]
+
 Options of dump:
   --from OFFSET    the first byte, in whole bytes [default: 0#B]
   --size OFFSET    how much to dump at most, in whole bytes [default: 128#B]
@@ -111,6 +114,7 @@ fn map<'a>(alloc: Global) -> Result<Command<'a>, AllocError> {
         )
         .value_parser(clap::value_parser!(u64)))?
         .arg(option(alloc, "mode", "MODE", "How the value is written", "flat").value_parser(modes))?
+        .arg(why(alloc))?
         .arg(pickle(alloc))?
         .arg(name(alloc))?
         .arg(file(alloc))
@@ -124,6 +128,7 @@ fn bound<'a>(alloc: Global) -> Result<Command<'a>, AllocError> {
     Command::new(alloc, "bound")
         .about("Prints the most steps and slots that mapping a type over so many bits takes")
         .after_help(BOUND_HELP)
+        .arg(why(alloc))?
         .arg(pickle(alloc))?
         .arg(name(alloc))?
         .arg(bits)
@@ -133,6 +138,7 @@ fn check<'a>(alloc: Global) -> Result<Command<'a>, AllocError> {
     Command::new(alloc, "check")
         .about("Checks a pickle and prints the number of its types")
         .after_help(CHECK_HELP)
+        .arg(why(alloc))?
         .arg(pickle(alloc))
 }
 
@@ -171,6 +177,15 @@ fn option<'a>(
 
 fn offset<'a>(alloc: Global, name: &'a str, help: &'a str, default: &'a str) -> Arg<'a> {
     option(alloc, name, "OFFSET", help, default)
+}
+
+fn why<'a>(alloc: Global) -> Arg<'a> {
+    Arg::new(alloc, "why")
+        .long("why")
+        .action(ArgAction::SetTrue)
+        .help(
+            "Tell why the pickle or TYPE is refused: line, column and a sentence [default: not told]",
+        )
 }
 
 fn pickle<'a>(alloc: Global) -> Arg<'a> {
