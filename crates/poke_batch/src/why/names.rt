@@ -7,23 +7,29 @@ use crate::why::script::{Part, Script};
 use crate::why::sorts::Sort;
 use crate::why::syntax::opening;
 use crate::why::text::Text;
+use crate::why::types::is_declared_as;
 use std::alloc::{AllocError, Global};
 
 /// The most names that are tried.
 const MOST_TRIED: usize = 128;
 
+/// The most names that are tried behind a long front of a pickle, and from how many bytes on it is long.
+const FEW_TRIED: usize = 16;
+const LONG: usize = 65_536;
+
 /// The most names that are told.
 const MOST_TOLD: usize = 8;
 
-/// The names among some tokens, each once, in order.
+/// The names among some tokens, each once, in order, so many of them at most.
 pub fn names_in<'t>(
     alloc: Global,
     script: &Script<'t>,
     part: Part,
+    most: usize,
 ) -> Result<Vec<&'t [u8]>, AllocError> {
     let mut names: Vec<&'t [u8]> = Vec::new(alloc);
     for token in part.first..part.end {
-        if MOST_TRIED <= names.len() {
+        if most <= names.len() {
             return Ok(names);
         }
         let word = script.text(token);
@@ -59,11 +65,8 @@ impl<'a, 't> Place<'a, 't> {
             return self.finding(name, self.say_sort(text, operand)?, None);
         }
         let dotted = Text::new(self.alloc).say(written)?.say(b".")?.into_bytes();
-        let everything = Part {
-            first: 0,
-            end: self.script.len(),
-        };
-        let seen = self.seen_names(everything, dotted.as_slice())?;
+        let among = self.fields_of(operand);
+        let seen = self.seen_names(among, dotted.as_slice())?;
         let text = self
             .say_type(Text::new(self.alloc), operand)?
             .say(b" has no field ")?;
@@ -72,18 +75,38 @@ impl<'a, 't> Place<'a, 't> {
         self.finding(name, text, None)
     }
 
-    /// The tokens of the pickle before the expression.
+    /// The tokens of the declaration before the expression.
     fn before(self) -> Part {
         Part {
-            first: 0,
+            first: last_type(self.script, self.part.first),
             end: self.part.first,
+        }
+    }
+
+    /// Tokens among which the fields of an operand are: those of the declaration of its type, where that is known.
+    fn fields_of(self, operand: Part) -> Part {
+        let everything = Part {
+            first: 0,
+            end: self.script.len(),
+        };
+        let Some(name) = self.type_name(operand) else {
+            return everything;
+        };
+        match (0..self.part.first).find(|token| is_declared_as(self.script, *token, name)) {
+            Some(first) => Part {
+                first,
+                end: next_type(self.script, first),
+            },
+            None => everything,
         }
     }
 
     /// The names among some tokens that have a meaning behind a front.
     fn seen_names(self, among: Part, front: &[u8]) -> Result<Vec<&'t [u8]>, AllocError> {
+        let long = LONG < self.clause.probe.front.len();
+        let most = if long { FEW_TRIED } else { MOST_TRIED };
         let mut seen = Vec::new(self.alloc);
-        for word in names_in(self.alloc, self.script, among)? {
+        for word in names_in(self.alloc, self.script, among, most)? {
             let path = Text::new(self.alloc).say(front)?.say(word)?.into_bytes();
             if self.clause.probe.is_meant(path.as_slice())? {
                 seen.push(word)?;
@@ -113,33 +136,20 @@ impl<'a, 't> Place<'a, 't> {
         say_list(text.say(link)?, words.as_slice(), b" and ")
     }
 
-    /// That a name stands later in the pickle, or is the field's own.
+    /// That a name stands later in the declaration, or is the field's own.
     fn later_help(self, word: &[u8]) -> Result<Option<Text>, AllocError> {
-        let later = Part {
-            first: self.clause.part.end,
-            end: self.script.len(),
-        };
         let text = Text::new(self.alloc);
         if self.is_own(word) {
             return Ok(Some(text.say(
                 b"a label, a condition and a bound see only the fields before their own",
             )?));
         }
-        match word {
-            b"sizeof" => Ok(Some(text.say(b"`sizeof` is left out: write `NAME'size`")?)),
-            b"OFFSET" | b"offset" => Ok(Some(text.say(
-                b"the place of a field is not seen: add the sizes of the fields before it",
-            )?)),
-            _
-                if names_in(self.alloc, self.script, later)?
-                    .as_slice()
-                    .contains(&word) => Ok(Some(
-                text.quote(word)?.say(
-                    b" stands elsewhere: only the fields before are seen, in this type or the inline types around it",
-                )?,
-            )),
-            _ => Ok(None),
+        let end = next_type(self.script, self.part.end);
+        if (self.part.end..end).any(|token| self.script.text(token) == word) {
+            let text = text.quote(word)?.say(b" stands later: only the fields before are seen")?;
+            return Ok(Some(text));
         }
+        Ok(None)
     }
 
     /// Whether a name is that of the field of the expression: it stands before a sign of the field, or behind the bound.
@@ -159,14 +169,40 @@ impl<'a, 't> Place<'a, 't> {
 
     /// The text, and how the type of an operand is called behind it: by the name of its field's type, or by the operand itself.
     fn say_type(self, text: Text, operand: Part) -> Result<Text, AllocError> {
+        match self.type_name(operand) {
+            Some(name) => text.show(name),
+            None => text.quote(self.script.slice(operand)),
+        }
+    }
+
+    /// The name of the type of the field that an operand names, where it has one.
+    fn type_name(self, operand: Part) -> Option<&'t [u8]> {
         let word = self.script.slice(operand);
         for back in 1..self.part.first {
             let token = self.part.first - back;
             let before = token.saturating_sub(1);
             if self.script.text(token) == word && self.script.is_name(before) {
-                return text.show(self.script.text(before));
+                return Some(self.script.text(before));
             }
         }
-        text.quote(word)
+        None
     }
+}
+
+/// The last `type` before a token, or the first token.
+fn last_type(script: &Script<'_>, token: usize) -> usize {
+    for back in 0..token {
+        let first = token - back;
+        if script.text(first) == b"type".as_slice() {
+            return first;
+        }
+    }
+    0
+}
+
+/// The first `type` behind a token, or the end.
+fn next_type(script: &Script<'_>, token: usize) -> usize {
+    (token..script.len())
+        .find(|next| script.text(*next) == b"type".as_slice())
+        .unwrap_or(script.len())
 }

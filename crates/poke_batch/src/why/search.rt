@@ -54,7 +54,7 @@ pub fn locate(script: &Script<'_>, form: Part, probe: Probe) -> Result<Site, All
             };
             return Ok(Site::Base(reference, probe));
         }
-        let integral = brace > form.first.saturating_add(1);
+        let integral = is_integral(script, form, brace);
         if integral && probe.kind == FaultKind::IntegralWidths {
             return Ok(Site::Body(form, probe));
         }
@@ -64,6 +64,9 @@ pub fn locate(script: &Script<'_>, form: Part, probe: Probe) -> Result<Site, All
         let parts = field_parts(script, field);
         let whole = field_probe(script, form, field, &probe)?;
         let inside = whole.around(b"", b" n__")?;
+        if integral && probe.kind == FaultKind::NotHere && is_plain(script, parts.form) {
+            return Ok(Site::Base(parts.form, inside));
+        }
         if !inside.fails(script.slice(parts.form))? {
             return in_field(script, parts, whole);
         }
@@ -71,6 +74,19 @@ pub fn locate(script: &Script<'_>, form: Part, probe: Probe) -> Result<Site, All
         probe = inside;
     }
     Ok(Site::Body(form, probe))
+}
+
+/// Whether a struct or union with its `{` at `brace` is an integral struct.
+fn is_integral(script: &Script<'_>, form: Part, brace: usize) -> bool {
+    form.first.saturating_add(1) < brace && script.text(form.first) == b"struct".as_slice()
+}
+
+/// Whether a type is a struct or union that isn't read as an integer.
+fn is_plain(script: &Script<'_>, form: Part) -> bool {
+    matches!(
+        (script.text(form.first), script.text(form.first.saturating_add(1))),
+        (b"pinned", _) | (b"struct" | b"union", b"{")
+    )
 }
 
 /// A probe for a field, or what stands in its place, inside a type.
@@ -95,10 +111,7 @@ fn is_reference_wrong(
     brace: usize,
     probe: &Probe,
 ) -> Result<bool, AllocError> {
-    let plain = brace <= form.first.saturating_add(1);
-    let pinned = script.text(form.first) == b"pinned".as_slice();
-    if plain
-        || pinned
+    if !is_integral(script, form, brace)
         || probe.kind == FaultKind::IntegralWidths
         || probe.kind == FaultKind::NotHere
     {

@@ -2,7 +2,6 @@
 
 use crate::why::anatomy::{FieldParts, declaration};
 use crate::why::clause::{Finding, clause_finding};
-use crate::why::names::names_in;
 use crate::why::near::nearest;
 use crate::why::note::Note;
 use crate::why::place::place_behind;
@@ -96,7 +95,7 @@ fn earlier_declaration(script: &Script<'_>, name: Part) -> Option<usize> {
     (0..name.first).find(|token| is_declared_as(script, *token, script.slice(name)))
 }
 
-fn is_declared_as(script: &Script<'_>, token: usize, word: &[u8]) -> bool {
+pub fn is_declared_as(script: &Script<'_>, token: usize, word: &[u8]) -> bool {
     script.text_before(token) == b"type".as_slice() && script.text(token) == word
 }
 
@@ -380,7 +379,10 @@ fn of_field(
             ),
         });
     }
-    let (part, sentence) = misplaced(script, parts, probe)?;
+    let (part, sentence) = match probe.kind {
+        FaultKind::NotHere => misplaced(script, parts, probe)?,
+        kind => (parts.whole, rule_of(kind)),
+    };
     Ok(Finding {
         part,
         sentence: Text::new(alloc).say(sentence.as_bytes())?.into_bytes(),
