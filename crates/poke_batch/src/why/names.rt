@@ -15,6 +15,7 @@ const MOST_TRIED: usize = 128;
 
 /// The most names that are tried behind a long front of a pickle, and from how many bytes on it is long.
 const FEW_TRIED: usize = 16;
+
 const LONG: usize = 65_536;
 
 /// The most names that are told.
@@ -146,7 +147,9 @@ impl<'a, 't> Place<'a, 't> {
         }
         let end = next_type(self.script, self.part.end);
         if (self.part.end..end).any(|token| self.script.text(token) == word) {
-            let text = text.quote(word)?.say(b" stands later: only the fields before are seen")?;
+            let text = text
+                .quote(word)?
+                .say(b" stands later: only the fields before are seen")?;
             return Ok(Some(text));
         }
         Ok(None)

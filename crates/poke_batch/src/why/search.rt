@@ -84,7 +84,10 @@ fn is_integral(script: &Script<'_>, form: Part, brace: usize) -> bool {
 /// Whether a type is a struct or union that isn't read as an integer.
 fn is_plain(script: &Script<'_>, form: Part) -> bool {
     matches!(
-        (script.text(form.first), script.text(form.first.saturating_add(1))),
+        (
+            script.text(form.first),
+            script.text(form.first.saturating_add(1))
+        ),
         (b"pinned", _) | (b"struct" | b"union", b"{")
     )
 }
