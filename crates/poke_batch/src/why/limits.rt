@@ -43,7 +43,7 @@ fn passing_token(alloc: Global, script: &Script<'_>, limit: Limit) -> Result<usi
         if high <= low {
             break;
         }
-        let middle = low + (high - low) / 2;
+        let middle = low.saturating_add(high.saturating_sub(low) / 2);
         if is_passed(alloc, cut(script.bytes, 0, script.behind(middle)), limit)? {
             high = middle;
         } else {

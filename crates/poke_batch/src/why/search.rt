@@ -139,7 +139,7 @@ fn failing_field(
     let mut low = 0;
     let mut high = fields.len();
     for _ in 0..16 {
-        let middle = low + high.saturating_sub(low) / 2;
+        let middle = low.saturating_add(high.saturating_sub(low) / 2);
         let Some(field) = fields.get(middle) else {
             return Ok(None);
         };
