@@ -136,7 +136,7 @@ fn failing_field(
     probe: &Probe,
 ) -> Result<Option<Part>, AllocError> {
     let fields = fields(probe.alloc, script, brace, form.end)?;
-    let mut low = 0;
+    let mut low: usize = 0;
     let mut high = fields.len();
     for _ in 0..16 {
         let middle = low.saturating_add(high.saturating_sub(low) / 2);
