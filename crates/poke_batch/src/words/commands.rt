@@ -25,6 +25,9 @@ Options of map:
   --slots N        the most slots of the mapping, of each kind, 0 to 18446744073709551615 [default: any number]
   --get PATH       write a part of the value: . or steps of .name, .place, [place] [default: .]
 
+Options of map, each, bound and check:
+  --why            tell why the pickle or the type's name is refused: line, column and a sentence [default: not told]
+
 Options of dump:
   --from OFFSET    the first byte, in whole bytes [default: 0#B]
   --size OFFSET    how much to dump at most, in whole bytes [default: 128#B]
@@ -164,6 +167,7 @@ fn with_mapping<'a>(
         .arg(max_output(alloc))?
         .arg(slots(alloc))?
         .arg(part(alloc))?
+        .arg(why(alloc))?
         .arg(pickle(alloc))?
         .arg(name(alloc))
 }
@@ -205,6 +209,7 @@ fn bound<'a>(alloc: Global) -> Result<Command<'a>, AllocError> {
     Command::new(alloc, "bound")
         .about("Prints the most steps and slots that mapping a type over so many bits takes")
         .after_help(BOUND_HELP)
+        .arg(why(alloc))?
         .arg(pickle(alloc))?
         .arg(name(alloc))?
         .arg(bits)
@@ -214,6 +219,7 @@ fn check<'a>(alloc: Global) -> Result<Command<'a>, AllocError> {
     Command::new(alloc, "check")
         .about("Checks a pickle and prints the number of its types")
         .after_help(CHECK_HELP)
+        .arg(why(alloc))?
         .arg(pickle(alloc))
 }
 
@@ -252,6 +258,15 @@ fn option<'a>(
 
 fn offset<'a>(alloc: Global, name: &'a str, help: &'a str, default: &'a str) -> Arg<'a> {
     option(alloc, name, "OFFSET", help, default)
+}
+
+fn why<'a>(alloc: Global) -> Arg<'a> {
+    Arg::new(alloc, "why")
+        .long("why")
+        .action(ArgAction::SetTrue)
+        .help(
+            "Tell why the pickle or TYPE is refused: line, column and a sentence [default: not told]",
+        )
 }
 
 fn pickle<'a>(alloc: Global) -> Arg<'a> {
