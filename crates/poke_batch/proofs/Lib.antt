@@ -15,5 +15,6 @@ pub mod Mappings
 mod LineRows
 mod ValueTextRows
 mod TreeTextRows
+mod TextRoomRows
 mod JsonTextRows
 mod LinesTextRows

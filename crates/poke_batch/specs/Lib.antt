@@ -18,4 +18,5 @@ pub mod Lines
 pub mod Told
 pub mod FaultLines
 pub mod Runs
+pub mod TextRoom
 pub mod Accepted
