@@ -32,7 +32,7 @@ pub mod ShownLabels
 pub mod Lookup
 pub mod Elements
 mod Always
-mod Fitting
+pub mod Fitting
 mod Rooms
 pub mod Followed
 pub mod FaultKinds

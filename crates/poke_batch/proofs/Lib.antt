@@ -12,6 +12,9 @@ pub mod ShortTexts
 pub mod Refusing
 pub mod Sayings
 pub mod Mappings
+pub mod NumberLengths
+pub mod Sizes
+pub mod SizesFit
 mod LineRows
 mod ValueTextRows
 mod TreeTextRows
