@@ -10,7 +10,7 @@ mod Widths
 mod Planned
 mod Exists
 mod Outcomes
-mod OnBits
+pub mod OnBits
 pub mod FamilyRows
 pub mod Grown
 pub mod Counted

@@ -15,6 +15,8 @@ pub mod Mappings
 pub mod NumberLengths
 pub mod Sizes
 pub mod SizesFit
+pub mod BoundedTexts
+pub mod TextNodes
 mod LineRows
 mod ValueTextRows
 mod TreeTextRows

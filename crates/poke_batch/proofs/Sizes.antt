@@ -83,8 +83,17 @@ mutual
   flat_members m label place first (MemberThen value rest) =
       let before = comma first in
       let name = name_text (member_name label place) in
-      omega (arith, flat_short m value, flat_members m label (suc place) false rest, comma_short first, flat_before label place, flat_moves label place (size_in Flat m value).lines,
-      length-append (before ++ (name ++ value_text value)) (members_text label (suc place) false rest), length-append before (name ++ value_text value), length-append name (value_text value))
+      omega (
+        arith,
+        flat_short m value,
+        flat_members m label (suc place) false rest,
+        comma_short first,
+        flat_before label place,
+        flat_moves label place (size_in Flat m value).lines,
+        length-append (before ++ (name ++ value_text value)) (members_text label (suc place) false rest),
+        length-append before (name ++ value_text value),
+        length-append name (value_text value),
+      )
 
 -- ---- over lines
 
@@ -138,5 +147,13 @@ mutual
   tree_parts m level label place (MemberThen value rest) =
       let one = size_in Tree m value in
       let more = members_in Tree m label (suc place) rest in
-      omega (arith, tree_short m (level + 1) (prefix_text label place) value, tree_parts m level label (suc place) rest, tree_before label place, tree_moves label place one.lines, level_more level one.lines,
-      mul-add (2 * level) one.lines more.lines, length-append (lines_text (level + 1) (prefix_text label place) value) (parts_text (level + 1) label (suc place) rest))
+      omega (
+        arith,
+        tree_short m (level + 1) (prefix_text label place) value,
+        tree_parts m level label (suc place) rest,
+        tree_before label place,
+        tree_moves label place one.lines,
+        level_more level one.lines,
+        mul-add (2 * level) one.lines more.lines,
+        length-append (lines_text (level + 1) (prefix_text label place) value) (parts_text (level + 1) label (suc place) rest),
+      )

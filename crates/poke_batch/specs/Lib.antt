@@ -19,4 +19,8 @@ pub mod Told
 pub mod FaultLines
 pub mod Runs
 pub mod TextRoom
+pub mod TextHeld
+pub mod OutputRoom
+pub mod TextLaws
+pub mod TextRuns
 pub mod Accepted

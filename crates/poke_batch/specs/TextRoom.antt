@@ -1,5 +1,5 @@
 -- A bound on the bytes of the text of a value, by its type and the bits of the file alone.
-use Rattle.std.specs.Prelude.{ℕ, ◌+◌, ◌-◌, ◌*◌, ◌/◌, ◌^◌, max, length, List, ℤ, pos, negsuc, if◌then◌else◌, codes, decimal}
+use Rattle.std.specs.Prelude.{ℕ, ◌+◌, ◌-◌, ◌*◌, ◌/◌, ◌^◌, max, length, List, ℤ, pos, negsuc, if◌then◌else◌, Option, None, Some, codes, decimal}
 use Rattle.pickle_types.specs.declared.integer.IntegerType.{IntegerType}
 use Rattle.pickle_types.specs.Types.{PokeType, IntegerOf, OffsetOf, StringOf, ArrayOf, StructOf, IntegralOf, UnionOf, Fields, NoFields, FieldThen, Parts, NoParts, PartThen}
 use Rattle.pickle_types.specs.Bounds.{least_width, count_of}
@@ -133,3 +133,8 @@ most_text mode type m = (size_of mode type m).text + end_room mode
 -- the same in each mode
 unfoldable pub most_text_in_any : PokeType → (m : ℕ) → ℕ
 most_text_in_any type m = max (most_text Flat type m) (most_text Tree type m)
+
+-- in a mode, where one is named, or else in any
+abbrev pub most_text_for : Option Mode → PokeType → (m : ℕ) → ℕ
+most_text_for None type m = most_text_in_any type m
+most_text_for (Some mode) type m = most_text mode type m

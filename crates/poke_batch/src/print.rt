@@ -6,7 +6,7 @@ mod line;
 mod name;
 mod number;
 mod string;
-mod suffix;
+pub(crate) mod suffix;
 mod tree;
 
 ghost use Rattle.std.specs.Prelude.{◌++◌, OnOk, OnErr};

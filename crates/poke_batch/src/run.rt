@@ -1,4 +1,5 @@
 //! The runs: from a pickle's bytes to a text or a line.
+mod bound_text;
 
 ghost use Rattle.std.specs.Prelude.{◌≡◌, ℕ, ◌≤◌, List, Some, IsSome, OnOk, OnErr};
 ghost use Rattle.std.specs.Io.KnownBytes.{Appends};
@@ -21,6 +22,7 @@ use crate::status::Status;
 use crate::tell::{answer, refuse};
 use crate::write::WriteFault;
 use bit_space::{Meter, Space};
+pub use bound_text::run_bound_text;
 use pickle_map::{Store, map};
 use pickle_types::type_table::{Table, TypeId};
 use std::alloc::Global;

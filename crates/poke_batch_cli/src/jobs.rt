@@ -2,7 +2,7 @@
 use crate::files::{FileFault, open_space, read_pickle_of};
 use poke_batch::ask::Ask;
 use poke_batch::dump::{DumpFault, dump};
-use poke_batch::run::{run_bound, run_check, run_map};
+use poke_batch::run::{run_bound, run_bound_text, run_check, run_map};
 use poke_batch::status::Status;
 use poke_batch::tell::fail;
 use poke_batch::words::Job;
@@ -68,6 +68,23 @@ fn run_job<R: Files<File = File> + Input + AllocGlobal, O: Write, E: Write>(
         Job::Bound { pickle, name, bits } => {
             let pickle = read_pickle_of(rt, pickle.as_str())?;
             Ok(run_bound(rt.alloc(), &pickle, name.as_bytes(), bits, out, err))
+        }
+        Job::BoundText {
+            pickle,
+            name,
+            bits,
+            mode,
+        } => {
+            let pickle = read_pickle_of(rt, pickle.as_str())?;
+            Ok(run_bound_text(
+                rt.alloc(),
+                &pickle,
+                name.as_bytes(),
+                bits,
+                mode,
+                out,
+                err,
+            ))
         }
         Job::Check { pickle } => {
             let pickle = read_pickle_of(rt, pickle.as_str())?;
