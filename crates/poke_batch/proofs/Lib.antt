@@ -7,6 +7,9 @@ pub mod DumpRows
 pub mod StringTexts
 pub mod MemberTexts
 pub mod LineTexts
+pub mod JsonTexts
+pub mod JsonWords
+pub mod JsonValues
 pub mod DigitCounts
 pub mod ShortTexts
 pub mod Refusing

@@ -7,6 +7,7 @@ use Rattle.std.proofs.lemmas.Bool.{leb-true, leb-false, eqb-true, eqb-false, lt-
 use Rattle.pickle_types.specs.declared.integer.IntegerType.{IntegerType}
 use Rattle.pickle_map.specs.Arithmetic.{with_sign}
 use Rattle.poke_batch.specs.ValueText.{suffix_of, typed_text, cast_text, type_word, integer_text, offset_text, unit_text}
+use Rattle.poke_batch.specs.JsonText.{json_offset}
 use Rattle.poke_batch.specs.TextRoom.{longest_number}
 
 abbrev spelt : ℕ → ℕ → List ℕ → List ℕ
@@ -80,3 +81,12 @@ pub offset_longest : (type : IntegerType) (unit n : ℕ) → n < 2 ^ type.width 
 unfolding offset_text
 offset_longest type unit n lt =
     omega (arith, integer_longest type n lt, length-append (integer_text type (with_sign type n)) (codes "#" ++ unit_text unit), length-append (integer_text type (longest_number type)) (codes "#" ++ unit_text unit))
+
+pub json_offset_length : (magnitude unit : List ℕ) → length (json_offset magnitude unit) ≡ 22 + length magnitude + length unit
+unfolding json_offset
+json_offset_length magnitude unit =
+    omega (arith, length-append magnitude (codes ",\"unit\":" ++ (unit ++ codes "}")), length-append unit (codes "}"))
+
+pub json_offset_longest : (type : IntegerType) (n : ℕ) (unit : List ℕ) → n < 2 ^ type.width → length (json_offset (signed_decimal (with_sign type n)) unit) ≤ length (json_offset (signed_decimal (longest_number type)) unit)
+json_offset_longest type n unit lt =
+    omega (arith, number_longest type n lt, json_offset_length (signed_decimal (with_sign type n)) unit, json_offset_length (signed_decimal (longest_number type)) unit)

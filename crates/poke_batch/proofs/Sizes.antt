@@ -1,15 +1,17 @@
 -- The sizes of values: a text that is as long as they say, in each mode.
 use Rattle.std.proofs.Common.{◌≡◌, ℕ, zero, suc, ◌+◌, ◌-◌, ◌*◌, ◌≤◌, max, Bool, true, false, List, [], ◌∷◌, ◌++◌, Option, Some, None, length, codes, decimal, replicate, refl, sym, ap, subst, arith, length-append}
 use Rattle.std.proofs.Math.Nat.{add-mul, mul-add}
+use Rattle.std.specs.Fmt.{signed_decimal}
 use Rattle.std.specs.Prelude.{if◌then◌else◌}
 use Rattle.pickle_map.specs.declared.value.Kind.{Kind}
 use Rattle.pickle_map.specs.declared.value.Kind.TheVariants.{Integer, Offset, Text, Array, Struct, Union}
 use Rattle.pickle_map.specs.Values.{Naming, Label, IntegerLabel, OffsetLabel, TextLabel, ArrayLabel, StructLabel, UnionLabel, Value, Mapped, Members, NoMembers, MemberThen, AbsentThen, member_count}
 use Rattle.pickle_map.specs.Labels.{kind_of, member_name}
 use Rattle.poke_batch.specs.declared.mode.Mode.{Mode}
-use Rattle.poke_batch.specs.declared.mode.Mode.TheVariants.{Flat, Tree}
+use Rattle.poke_batch.specs.declared.mode.Mode.TheVariants.{Flat, Tree, Json}
 use Rattle.poke_batch.specs.ValueText.{integer_text, offset_text, string_text, title_text, name_text, comma, value_text, members_text}
 use Rattle.poke_batch.specs.TreeText.{in_brackets, indent_text, prefix_text, head_text, line_text, has_parts, lines_text, parts_text}
+use Rattle.poke_batch.specs.JsonText.{json_string, json_offset, key_text, key_before, no_key, json_text, json_members}
 use Rattle.poke_batch.specs.TextRoom.{Size, array_room, titled_room, line_room, element_before, element_moves, field_before, field_moves, with_parts, moved, no_size, both}
 
 -- what the text of a value has beside its members
@@ -21,6 +23,12 @@ own_room Flat ArrayLabel count = array_room Flat count
 own_room Flat (StructLabel name fields) count = titled_room Flat (codes "struct") name
 own_room Flat (UnionLabel name index alternative) count = titled_room Flat (codes "union") name
 own_room Tree label count = length (head_text label count)
+own_room Json (IntegerLabel number type) count = length (signed_decimal number)
+own_room Json (OffsetLabel magnitude type unit) count = length (json_offset (signed_decimal magnitude) (decimal unit))
+own_room Json (TextLabel bytes) count = length (json_string bytes)
+own_room Json ArrayLabel count = array_room Json count
+own_room Json (StructLabel name fields) count = titled_room Json (codes "struct") name
+own_room Json (UnionLabel name index alternative) count = titled_room Json (codes "union") name
 
 abbrev pub member_before : Mode → Label → (place : ℕ) → ℕ
 member_before mode ArrayLabel place = element_before mode place
@@ -157,3 +165,48 @@ mutual
         mul-add (2 * level) one.lines more.lines,
         length-append (lines_text (level + 1) (prefix_text label place) value) (parts_text (level + 1) label (suc place) rest),
       )
+
+-- ---- in JSON
+
+-- what stands before a member is short, its comma included
+abbrev IsShortBefore : (before : (place : ℕ) → List ℕ) → Label → Type 0
+IsShortBefore before label = (place : ℕ) → 1 + length (before place) ≤ member_before Json label place
+
+no_key_short : IsShortBefore no_key ArrayLabel
+no_key_short place = omega arith
+
+struct_key_short : (name : Naming) (fields : List Naming) → IsShortBefore (key_before (StructLabel name fields)) (StructLabel name fields)
+struct_key_short name fields place = omega (arith, length-append (key_text (member_name (StructLabel name fields) place) place) (codes ":"))
+
+union_key_short : (name : Naming) (index : ℕ) (alternative : Naming) → IsShortBefore (key_before (UnionLabel name index alternative)) (UnionLabel name index alternative)
+union_key_short name index alternative place = omega (arith, length-append (key_text (member_name (UnionLabel name index alternative) place) place) (codes ":"))
+
+json_moves : (label : Label) (place lines : ℕ) → member_moves Json label place * lines ≡ 0
+json_moves (IntegerLabel number type) place lines = omega arith
+json_moves (OffsetLabel magnitude type unit) place lines = omega arith
+json_moves (TextLabel bytes) place lines = omega arith
+json_moves ArrayLabel place lines = omega arith
+json_moves (StructLabel name fields) place lines = omega arith
+json_moves (UnionLabel name index alternative) place lines = omega arith
+
+mutual
+  pub json_short : (m : ℕ) (v : Value) → length (json_text v) ≤ (size_in Json m v).text
+  json_short m (Mapped (IntegerLabel number type) start end _) = omega arith
+  json_short m (Mapped (OffsetLabel magnitude type unit) start end _) = omega arith
+  json_short m (Mapped (TextLabel bytes) start end _) = omega arith
+  json_short m (Mapped ArrayLabel start end members) =
+      omega (arith, json_members_short m no_key ArrayLabel no_key_short 0 true members, length-append (json_members no_key 0 true members) (codes "]"))
+  json_short m (Mapped (StructLabel name fields) start end members) =
+      let before = key_before (StructLabel name fields) in
+      omega (arith, json_members_short m before (StructLabel name fields) (struct_key_short name fields) 0 true members, length-append (json_members before 0 true members) (codes "}"))
+  json_short m (Mapped (UnionLabel name index alternative) start end members) =
+      let before = key_before (UnionLabel name index alternative) in
+      omega (arith, json_members_short m before (UnionLabel name index alternative) (union_key_short name index alternative) 0 true members, length-append (json_members before 0 true members) (codes "}"))
+
+  json_members_short : (m : ℕ) (before : (place : ℕ) → List ℕ) (label : Label) → IsShortBefore before label → (place : ℕ) (first : Bool) (members : Members) → length (json_members before place first members) ≤ (members_in Json m label place members).text
+  json_members_short m before label h place first NoMembers = omega arith
+  json_members_short m before label h place first (AbsentThen rest) = json_members_short m before label h (suc place) first rest
+  json_members_short m before label h place first (MemberThen value rest) =
+      let front = comma first ++ before place in
+      omega (arith, json_short m value, json_members_short m before label h (suc place) false rest, comma_short first, h place, json_moves label place (size_in Json m value).lines,
+      length-append (front ++ json_text value) (json_members before (suc place) false rest), length-append front (json_text value), length-append (comma first) (before place))

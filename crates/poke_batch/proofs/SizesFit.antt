@@ -16,12 +16,13 @@ use Rattle.pickle_map.specs.Means.{field_names, part_names, integer_value, offse
 use Rattle.pickle_map.specs.Fits.{ElementsFit, no_more_fit, one_more_fits, FitsNumber, DigitsFit, Fits, FieldsFit, AlternativeFits}
 use Rattle.pickle_map.proofs.Fitting.{fits_wide, fits_inside}
 use Rattle.poke_batch.specs.declared.mode.Mode.{Mode}
-use Rattle.poke_batch.specs.declared.mode.Mode.TheVariants.{Flat, Tree}
-use Rattle.poke_batch.specs.ValueText.{bytes_text, byte_text, escape_text, is_plain, string_text}
+use Rattle.poke_batch.specs.declared.mode.Mode.TheVariants.{Flat, Tree, Json}
+use Rattle.poke_batch.specs.ValueText.{spelled_byte, spelled, escape_text, is_plain, string_text}
+use Rattle.poke_batch.specs.JsonText.{json_escape, json_string}
 use Rattle.poke_batch.specs.TreeText.{in_brackets}
 use Rattle.poke_batch.specs.TextRoom
 use Rattle.poke_batch.specs.TextRoom.{Size, integer_room, offset_room, string_room, array_room, titled_room, line_room, element_before, element_moves, field_before, field_moves, joined, with_parts, moved, no_size, both, greater, repeated, array_size, size_of, fields_size, parts_size, greatest_size}
-use Rattle.poke_batch.proofs.NumberLengths.{decimal_longer, integer_longest, offset_longest}
+use Rattle.poke_batch.proofs.NumberLengths.{decimal_longer, number_longest, integer_longest, offset_longest, json_offset_longest}
 use Rattle.poke_batch.proofs.Sizes.{own_room, member_before, member_moves, size_in, members_in}
 
 -- ---- sizes within sizes
@@ -33,6 +34,7 @@ pub record Within (a b : Size) : Type 0 where
 joined_more : (mode : Mode) (a b c d : ℕ) → a ≤ c → b ≤ d → joined mode a b ≤ joined mode c d
 joined_more Flat a b c d h g = omega (arith, h, g)
 joined_more Tree a b c d h g = omega (arith, h, g)
+joined_more Json a b c d h g = omega (arith, h, g)
 
 parts_within : (mode : Mode) (own own' : ℕ) {a b : Size} → own ≤ own' → Within a b → Within (with_parts mode own a) (with_parts mode own' b)
 parts_within mode own own' {a} {b} le h = record {
@@ -69,10 +71,12 @@ rest_within b h = record { text = omega (arith, h.text); lines = omega (arith, h
 integer_within : (mode : Mode) (type : IntegerType) (n count : ℕ) → n < 2 ^ type.width → own_room mode (IntegerLabel (with_sign type n) type) count ≤ integer_room mode type
 integer_within Flat type n count lt = integer_longest type n lt
 integer_within Tree type n count lt = integer_longest type n lt
+integer_within Json type n count lt = number_longest type n lt
 
 offset_within : (mode : Mode) (type : IntegerType) (unit n count : ℕ) → n < 2 ^ type.width → own_room mode (OffsetLabel (with_sign type n) type unit) count ≤ offset_room mode type unit
 offset_within Flat type unit n count lt = offset_longest type unit n lt
 offset_within Tree type unit n count lt = offset_longest type unit n lt
+offset_within Json type unit n count lt = json_offset_longest type n (decimal unit) lt
 
 if_short : (b : Bool) (x y : List ℕ) (n : ℕ) → length x ≤ n → length y ≤ n → length (if b then x else y) ≤ n
 if_short true x y n h g = h
@@ -85,14 +89,28 @@ escape_short byte =
     (if_short (byte == 10) _ _ 4 (omega arith)
     (if_short (byte == 9) _ _ 4 (omega arith) (omega arith))))
 
-bytes_short : (bytes : List ℕ) → length (bytes_text bytes) ≤ 4 * length bytes
-bytes_short [] = omega arith
-bytes_short (b ∷ bytes) =
-    omega (arith, if_short (is_plain b) (b ∷ []) (escape_text b) 4 (omega arith) (escape_short b), bytes_short bytes, length-append (byte_text b) (bytes_text bytes))
+json_escape_short : (byte : ℕ) → length (json_escape byte) ≤ 6
+json_escape_short byte =
+    if_short (byte == 92) _ _ 6 (omega arith)
+    (if_short (byte == 34) _ _ 6 (omega arith)
+    (if_short (byte == 8) _ _ 6 (omega arith)
+    (if_short (byte == 9) _ _ 6 (omega arith)
+    (if_short (byte == 10) _ _ 6 (omega arith)
+    (if_short (byte == 12) _ _ 6 (omega arith)
+    (if_short (byte == 13) _ _ 6 (omega arith) (omega arith)))))))
+
+spelled_short : (escape : ℕ → List ℕ) (n : ℕ) → 1 ≤ n → ((byte : ℕ) → length (escape byte) ≤ n) → (bytes : List ℕ) → length (spelled escape bytes) ≤ n * length bytes
+spelled_short escape n some h [] = omega arith
+spelled_short escape n some h (b ∷ bytes) =
+    omega (arith, if_short (is_plain b) (b ∷ []) (escape b) n some (h b), spelled_short escape n some h bytes, mul-add n 1 (length bytes), length-append (spelled_byte escape b) (spelled escape bytes))
 
 string_short : (bytes : List ℕ) → length (string_text bytes) ≤ 2 + 4 * length bytes
 unfolding string_text
-string_short bytes = omega (arith, bytes_short bytes, length-append (bytes_text bytes) (codes "\""))
+string_short bytes = omega (arith, spelled_short escape_text 4 (omega arith) escape_short bytes, length-append (spelled escape_text bytes) (codes "\""))
+
+json_string_short : (bytes : List ℕ) → length (json_string bytes) ≤ 2 + 6 * length bytes
+unfolding json_string
+json_string_short bytes = omega (arith, spelled_short json_escape 6 (omega arith) json_escape_short bytes, length-append (spelled json_escape bytes) (codes "\""))
 
 -- a string's bytes, and the 0 behind them, end in the file
 few_bytes : (m s n : ℕ) → s + 8 * (n + 1) ≤ m → n ≤ m / 8 - 1
@@ -101,6 +119,7 @@ few_bytes m s n le = omega (arith, le)
 text_within : (mode : Mode) (m s count : ℕ) (bytes : List ℕ) → s + 8 * (length bytes + 1) ≤ m → own_room mode (TextLabel bytes) count ≤ string_room mode m
 text_within Flat m s count bytes le = omega (arith, string_short bytes, few_bytes m s (length bytes) le)
 text_within Tree m s count bytes le = omega (arith, string_short bytes, few_bytes m s (length bytes) le)
+text_within Json m s count bytes le = omega (arith, json_string_short bytes, few_bytes m s (length bytes) le)
 
 -- ---- members
 
@@ -185,14 +204,17 @@ brackets_longer i count le = omega (arith, decimal_longer i count le, length-app
 before_more : (mode : Mode) (i count : ℕ) → i ≤ count → element_before mode i ≤ element_before mode count
 before_more Flat i count le = omega arith
 before_more Tree i count le = omega (arith, brackets_longer i count le)
+before_more Json i count le = omega arith
 
 moves_more : (mode : Mode) (i count : ℕ) → i ≤ count → element_moves mode i ≤ element_moves mode count
 moves_more Flat i count le = omega arith
 moves_more Tree i count le = omega arith
+moves_more Json i count le = omega arith
 
 array_more : (mode : Mode) (i count : ℕ) → i ≤ count → own_room mode ArrayLabel i ≤ array_room mode count
 array_more Flat i count le = omega arith
 array_more Tree i count le = brackets_longer i count le
+array_more Json i count le = omega arith
 
 -- elements from a number on: how many there are, the bits that they take at least, and their size
 record AreElements (mode : Mode) (m width count i place end : ℕ) (element : Size) (more : List (Option Value)) : Type 0 where
@@ -239,10 +261,12 @@ elements_size mode m least width count element Fit is most each {inside = inside
 own_struct : (mode : Mode) (name : Naming) (fields : List Naming) (count : ℕ) → own_room mode (StructLabel name fields) count ≡ titled_room mode (codes "struct") name
 own_struct Flat name fields count = refl
 own_struct Tree name fields count = refl
+own_struct Json name fields count = refl
 
 own_union : (mode : Mode) (name : Naming) (index : ℕ) (alternative : Naming) (count : ℕ) → own_room mode (UnionLabel name index alternative) count ≡ titled_room mode (codes "union") name
 own_union Flat name index alternative count = refl
 own_union Tree name index alternative count = refl
+own_union Json name index alternative count = refl
 
 scalar_within : (mode : Mode) (m own : ℕ) (label : Label) (start end : ℕ) → own_room mode label 0 ≤ own → Within (size_in mode m (Mapped label start end NoMembers)) (with_parts mode (own + line_room mode m) no_size)
 scalar_within mode m own label start end h = parts_within mode _ _ (omega (arith, h)) same_within

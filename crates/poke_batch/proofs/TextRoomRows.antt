@@ -4,8 +4,9 @@ use Rattle.std.specs.Fmt.{digits}
 use Rattle.pickle_types.specs.declared.integer.IntegerType.{IntegerType}
 use Rattle.pickle_types.specs.Types.{PokeType, IntegerOf, OffsetOf, StringOf, ArrayOf, StructOf, IntegralOf, UnionOf, Unbounded, FieldThen, NoFields, PartThen, NoParts}
 use Rattle.pickle_types.specs.Bounds.{least_width}
-use Rattle.poke_batch.specs.declared.mode.Mode.TheVariants.{Flat, Tree}
+use Rattle.poke_batch.specs.declared.mode.Mode.TheVariants.{Flat, Tree, Json}
 use Rattle.poke_batch.specs.ValueText.{integer_text, offset_text}
+use Rattle.poke_batch.specs.JsonText.{json_offset, json_string}
 use Rattle.poke_batch.specs.TextRoom.{size_of, most_text}
 
 abbrev unsigned : ℕ → PokeType
@@ -71,3 +72,18 @@ a_deeper_tree = refl
 a_union : most_text Flat (UnionOf None (PartThen (Some (codes "a")) None (unsigned 8) None (PartThen (Some (codes "b")) None (unsigned 32) None NoParts))) 40 ≡ 23
 unfolding most_text size_of integer_text digits
 a_union = refl
+
+-- {,"a":255,"1":4294967295} and a line feed
+a_json_struct : most_text Json pair 40 ≡ 27
+unfolding most_text size_of json_string digits
+a_json_struct = refl
+
+-- {"magnitude":255,"unit":8} and a line feed
+a_json_offset : most_text Json (OffsetOf (record { width = 8; signed = false }) 8) 80 ≡ 27
+unfolding most_text size_of json_offset digits
+a_json_offset = refl
+
+-- two quotes, nine bytes of six each, and a line feed
+a_json_string : most_text Json StringOf 80 ≡ 57
+unfolding most_text size_of
+a_json_string = refl

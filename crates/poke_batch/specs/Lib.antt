@@ -4,6 +4,8 @@ pub mod ValueText
 pub mod TreeText
 pub mod LineText
 pub mod JsonText
+pub mod JsonParts
+pub mod Escaped
 pub mod PathText
 pub mod LinesText
 pub mod Printed
@@ -24,3 +26,5 @@ pub mod OutputRoom
 pub mod TextLaws
 pub mod TextRuns
 pub mod Accepted
+pub mod Json
+pub mod Laws

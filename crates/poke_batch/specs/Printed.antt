@@ -2,10 +2,12 @@
 use Rattle.std.specs.Prelude.{ℕ, List}
 use Rattle.pickle_map.specs.Values.{Value}
 use Rattle.poke_batch.specs.declared.mode.Mode.{Mode}
-use Rattle.poke_batch.specs.declared.mode.Mode.TheVariants.{Flat, Tree}
+use Rattle.poke_batch.specs.declared.mode.Mode.TheVariants.{Flat, Tree, Json}
 use Rattle.poke_batch.specs.ValueText.{flat_text}
 use Rattle.poke_batch.specs.TreeText.{tree_text}
+use Rattle.poke_batch.specs.JsonText.{json_line}
 
 abbrev pub printed : Mode → Value → List ℕ
 printed Flat value = flat_text value
 printed Tree value = tree_text value
+printed Json value = json_line value

@@ -1,13 +1,15 @@
 -- A bound on the bytes of the text of a value, by its type and the bits of the file alone.
 use Rattle.std.specs.Prelude.{ℕ, ◌+◌, ◌-◌, ◌*◌, ◌/◌, ◌^◌, max, length, List, ℤ, pos, negsuc, if◌then◌else◌, Option, None, Some, codes, decimal}
+use Rattle.std.specs.Fmt.{signed_decimal}
 use Rattle.pickle_types.specs.declared.integer.IntegerType.{IntegerType}
 use Rattle.pickle_types.specs.Types.{PokeType, IntegerOf, OffsetOf, StringOf, ArrayOf, StructOf, IntegralOf, UnionOf, Fields, NoFields, FieldThen, Parts, NoParts, PartThen}
 use Rattle.pickle_types.specs.Bounds.{least_width, count_of}
 use Rattle.pickle_map.specs.Values.{Naming}
 use Rattle.poke_batch.specs.declared.mode.Mode.{Mode}
-use Rattle.poke_batch.specs.declared.mode.Mode.TheVariants.{Flat, Tree}
+use Rattle.poke_batch.specs.declared.mode.Mode.TheVariants.{Flat, Tree, Json}
 use Rattle.poke_batch.specs.ValueText.{integer_text, offset_text, title_text, name_text}
 use Rattle.poke_batch.specs.TreeText.{in_brackets}
+use Rattle.poke_batch.specs.JsonText.{json_offset, key_text}
 
 -- a bound on the bytes of a text, and one on the lines in it that move where the text is that of a part
 pub record Size : Type 0 where
@@ -21,53 +23,64 @@ longest_number type = if type.signed then negsuc (2 ^ (type.width - 1) - 1) else
 abbrev pub integer_room : Mode → IntegerType → ℕ
 integer_room Flat type = length (integer_text type (longest_number type))
 integer_room Tree type = length (integer_text type (longest_number type))
+integer_room Json type = length (signed_decimal (longest_number type))
 
 abbrev pub offset_room : Mode → IntegerType → (unit : ℕ) → ℕ
 offset_room Flat type unit = length (offset_text type unit (longest_number type))
 offset_room Tree type unit = length (offset_text type unit (longest_number type))
+offset_room Json type unit = length (json_offset (signed_decimal (longest_number type)) (decimal unit))
 
 -- quotes, and the longest escape for each byte; the last byte is the 0, which isn't written
 abbrev pub string_room : Mode → (m : ℕ) → ℕ
 string_room Flat m = 2 + 4 * (m / 8 - 1)
 string_room Tree m = 2 + 4 * (m / 8 - 1)
+string_room Json m = 2 + 6 * (m / 8 - 1)
 
 -- what an array has beside its elements
 abbrev pub array_room : Mode → (count : ℕ) → ℕ
 array_room Flat count = 2
 array_room Tree count = length (in_brackets count)
+array_room Json count = 2
 
 -- what a struct or a union has beside its members
 abbrev pub titled_room : Mode → (sort : List ℕ) → Naming → ℕ
 titled_room Flat sort name = length (title_text sort name) + 3
 titled_room Tree sort name = length (title_text sort name)
+titled_room Json sort name = 2
 
 -- what stands round the text of a value on a line of its own
 abbrev pub line_room : Mode → (m : ℕ) → ℕ
 line_room Flat m = 0
 line_room Tree m = 1
+line_room Json m = 0
 
 -- what stands before an element, and before each line of it
 abbrev pub element_before : Mode → (place : ℕ) → ℕ
 element_before Flat place = 1
 element_before Tree place = length (in_brackets place) + 1
+element_before Json place = 1
 
 abbrev pub element_moves : Mode → (place : ℕ) → ℕ
 element_moves Flat place = 0
 element_moves Tree place = 2
+element_moves Json place = 0
 
 -- what stands before a field or an alternative, and before each line of it
 abbrev pub field_before : Mode → Naming → (place : ℕ) → ℕ
 field_before Flat name place = 1 + length (name_text name)
 field_before Tree name place = length (name_text name)
+field_before Json name place = 2 + length (key_text name place)
 
 abbrev pub field_moves : Mode → Naming → (place : ℕ) → ℕ
 field_moves Flat name place = 0
 field_moves Tree name place = 2
+field_moves Json name place = 0
 
 -- what a value has of its own, and what its parts have
 abbrev pub joined : Mode → (own parts : ℕ) → ℕ
 joined Flat own parts = own + parts
 joined Tree own parts = own + parts
+joined Json own parts = own + parts
 
 abbrev pub with_parts : Mode → (own : ℕ) → Size → Size
 with_parts mode own parts = record { text = joined mode own parts.text; lines = joined mode 1 parts.lines }
@@ -125,6 +138,7 @@ unfoldable mutual
 abbrev pub end_room : Mode → ℕ
 end_room Flat = 1
 end_room Tree = 0
+end_room Json = 1
 
 -- the most bytes of the text of a value of a type on m bits
 unfoldable pub most_text : Mode → PokeType → (m : ℕ) → ℕ
@@ -132,7 +146,7 @@ most_text mode type m = (size_of mode type m).text + end_room mode
 
 -- the same in each mode
 unfoldable pub most_text_in_any : PokeType → (m : ℕ) → ℕ
-most_text_in_any type m = max (most_text Flat type m) (most_text Tree type m)
+most_text_in_any type m = max (most_text Flat type m) (max (most_text Tree type m) (most_text Json type m))
 
 -- in a mode, where one is named, or else in any
 abbrev pub most_text_for : Option Mode → PokeType → (m : ℕ) → ℕ

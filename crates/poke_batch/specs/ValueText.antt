@@ -63,12 +63,16 @@ escape_text byte =
     else if byte == 9 then codes "\\t"
     else codes "\\x" ++ hex_digit (byte / 16) ∷ hex_digit (byte % 16) ∷ []
 
-abbrev pub byte_text : ℕ → List ℕ
-byte_text byte = if is_plain byte then byte ∷ [] else escape_text byte
+abbrev pub spelled_byte : (escape : ℕ → List ℕ) → ℕ → List ℕ
+spelled_byte escape byte = if is_plain byte then byte ∷ [] else escape byte
+
+-- each byte as itself where it is plain, else as an escape
+abbrev pub spelled : (escape : ℕ → List ℕ) → List ℕ → List ℕ
+spelled escape [] = []
+spelled escape (byte ∷ bytes) = spelled_byte escape byte ++ spelled escape bytes
 
 abbrev pub bytes_text : List ℕ → List ℕ
-bytes_text [] = []
-bytes_text (byte ∷ bytes) = byte_text byte ++ bytes_text bytes
+bytes_text bytes = spelled escape_text bytes
 
 unfoldable pub string_text : List ℕ → List ℕ
 string_text bytes = codes "\"" ++ (bytes_text bytes ++ codes "\"")

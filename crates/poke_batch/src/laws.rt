@@ -1,6 +1,12 @@
-//! The laws of the bounds on texts. These functions do nothing: the contract of each is a law.
+//! The laws of the texts of values. These functions do nothing: the contract of each is a law.
 
+ghost use Rattle.poke_batch.specs.Laws.{PrintsJson};
 ghost use Rattle.poke_batch.specs.TextLaws.{TextsAreBounded, MeantTextsAreBounded, AnyModeIsBounded, OutputsAreBounded};
+
+/// What is printed in JSON, of a value whose numbers and numbers of members are below 2^64, is a text of the grammar of RFC 8259.
+pub fn prints_json()
+    ensures law { PrintsJson }
+{}
 
 /// A value that fits a type over so many bits has, in each mode, a text of at most as many bytes as the type's bound.
 pub fn texts_are_bounded()

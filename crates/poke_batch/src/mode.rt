@@ -5,4 +5,6 @@ pub enum Mode {
     Flat,
     /// A line for each value, and below it those of its parts.
     Tree,
+    /// In JSON, on one line.
+    Json,
 }

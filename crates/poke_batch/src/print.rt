@@ -1,7 +1,9 @@
 //! Prints mapped values.
 mod bytes;
 mod digits;
+mod escape;
 mod flat;
+mod json;
 mod line;
 mod name;
 mod number;
@@ -19,6 +21,7 @@ ghost use Rattle.poke_batch.specs.Printed.{printed};
 use crate::mode::Mode;
 use crate::write::WriteFault;
 use flat::put_flat;
+use json::put_json;
 use line::Line;
 use pickle_map::ValueRef;
 use std::io::Write;
@@ -48,5 +51,6 @@ fn put_printed<W: Write>(
     match mode {
         Mode::Flat => put_flat(w, line, value),
         Mode::Tree => put_tree(w, line, value),
+        Mode::Json => put_json(w, line, value),
     }
 }

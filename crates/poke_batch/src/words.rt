@@ -159,6 +159,7 @@ fn mode_of(word: &str) -> Mode
 {
     match word {
         "tree" => Mode::Tree,
+        "json" => Mode::Json,
         _ => Mode::Flat,
     }
 }

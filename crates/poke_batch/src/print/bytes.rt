@@ -1,6 +1,7 @@
 //! Lays out bytes and short texts.
 ghost use Rattle.std.specs.Prelude.{◌≡◌, ◌+◌, ◌≤◌, [], ◌∷◌, ◌++◌, length, codes, take};
 ghost use Rattle.poke_batch.specs.ValueText.{comma};
+ghost use Rattle.poke_batch.specs.JsonParts.{plain_key};
 
 /// The room of a line.
 pub const LINE_ROOM: usize = 512;
@@ -33,6 +34,21 @@ pub fn push_name(bytes: &mut Bytes, at: usize, first: bool, name: &[u8]) -> usiz
     let at = push_comma(bytes, at, first);
     let at = push_short(bytes, at, name);
     push(bytes, at, b'=')
+}
+
+/// Lays out what stands before a field of JSON whose name is short and plain, and tells where it ends.
+#[inline(always)]
+pub fn push_key(bytes: &mut Bytes, at: usize, first: bool, name: &[u8]) -> usize
+    requires short { length name.now ≤ SHORT }
+    requires room { at + length name.now + 4 ≤ LINE_ROOM }
+    ensures text { take result bytes.new ≡ take at bytes.old ++ plain_key first name.now }
+    ensures len { result ≤ LINE_ROOM }
+{
+    let at = push_comma(bytes, at, first);
+    let at = push(bytes, at, b'"');
+    let at = push_short(bytes, at, name);
+    let at = push(bytes, at, b'"');
+    push(bytes, at, b':')
 }
 
 #[inline(always)]

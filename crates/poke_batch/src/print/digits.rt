@@ -3,6 +3,7 @@ ghost use Rattle.std.specs.Prelude.{◌≡◌, ◌+◌, ◌≤◌, [], ◌∷◌
 ghost use Rattle.std.specs.Fmt.{signed_decimal};
 ghost use Rattle.poke_batch.specs.Suffixes.{sign_letter, letter_text, suffix_text};
 ghost use Rattle.poke_batch.specs.TreeText.{in_brackets};
+ghost use Rattle.poke_batch.specs.JsonText.{place_key};
 
 use crate::print::bytes::{Bytes, LINE_ROOM, push};
 use crate::print::suffix::Suffix;
@@ -28,8 +29,9 @@ pub fn push_number(
     push_suffix(bytes, at, suffix)
 }
 
+/// Lays out a number of a magnitude, and tells where it ends.
 #[inline(always)]
-fn push_signed(bytes: &mut Bytes, at: usize, number: i128, magnitude: u64) -> usize
+pub fn push_signed(bytes: &mut Bytes, at: usize, number: i128, magnitude: u64) -> usize
     requires room { at + 21 ≤ LINE_ROOM }
     requires magnitude { magnitude ≡ unsigned_abs number }
     ensures text { take result bytes.new ≡ take at bytes.old ++ signed_decimal number }
@@ -53,6 +55,18 @@ pub fn push_in_brackets(bytes: &mut Bytes, at: usize, number: u64) -> usize
     let at = push(bytes, at, b'[');
     let at = push_digits(bytes, at, number);
     push(bytes, at, b']')
+}
+
+/// Lays out a number in double quotes, and tells where it ends.
+#[inline(always)]
+pub fn push_place_key(bytes: &mut Bytes, at: usize, place: u64) -> usize
+    requires { at + LONGEST_NUMBER ≤ LINE_ROOM }
+    ensures text { take result bytes.new ≡ take at bytes.old ++ place_key place }
+    ensures len { result ≤ LINE_ROOM }
+{
+    let at = push(bytes, at, b'"');
+    let at = push_digits(bytes, at, place);
+    push(bytes, at, b'"')
 }
 
 #[inline(always)]

@@ -7,9 +7,13 @@ ghost use Rattle.poke_batch.specs.Gathered.{Gathers};
 ghost use Rattle.poke_batch.specs.Suffixes.{suffix_text};
 ghost use Rattle.poke_batch.specs.TreeText.{in_brackets};
 ghost use Rattle.poke_batch.specs.ValueText.{comma};
+ghost use Rattle.poke_batch.specs.JsonText.{place_key};
+ghost use Rattle.poke_batch.specs.JsonParts.{plain_key};
 
-use crate::print::bytes::{LINE_ROOM, SHORT, push_name, push_short};
-use crate::print::digits::{LONGEST_NUMBER, push_in_brackets, push_number, push_suffix};
+use crate::print::bytes::{LINE_ROOM, SHORT, push_key, push_name, push_short};
+use crate::print::digits::{
+    LONGEST_NUMBER, push_in_brackets, push_number, push_place_key, push_signed, push_suffix,
+};
 use crate::print::suffix::Suffix;
 use crate::write::{WriteFault, put};
 use itoa::Buffer;
@@ -158,6 +162,23 @@ impl Line {
         Ok(())
     }
 
+    /// Adds an integer, as [`Line::put`] adds a text.
+    #[tactic(auto, using(crate::proofs::Gathered::gathers_then))]
+    #[inline(always)]
+    pub fn put_integer<W: Write>(&mut self, w: &mut W, number: i128) -> Result<(), WriteFault>
+        ensures ok { OnOk result (Gathers (W.contents w.old) (W.contents w.new) self.old self.new (signed_decimal number)) }
+        ensures err { OnErr result (AppendsPart (W.contents w.old) (W.contents w.new) (self.old ++ signed_decimal number)) }
+    {
+        match u64::try_from(number.unsigned_abs()) {
+            Ok(magnitude) => {
+                self.make_room(w)?;
+                self.len = push_signed(&mut self.bytes, self.len, number, magnitude);
+                Ok(())
+            }
+            Err(_) => self.put_signed(w, number),
+        }
+    }
+
     /// Adds an integer.
     pub fn put_signed<W: Write>(&mut self, w: &mut W, number: i128) -> Result<(), WriteFault>
         ensures ok { OnOk result (Gathers (W.contents w.old) (W.contents w.new) self.old self.new (signed_decimal number)) }
@@ -186,6 +207,36 @@ impl Line {
     {
         self.make_room(w)?;
         self.len = push_in_brackets(&mut self.bytes, self.len, number as u64);
+        Ok(())
+    }
+
+    /// Adds what stands before a field of JSON whose name is short and plain, as [`Line::put`] adds a text.
+    #[tactic(auto, using(crate::proofs::Gathered::gathers_then))]
+    #[inline(always)]
+    pub fn put_short_key<W: Write>(
+        &mut self,
+        w: &mut W,
+        first: bool,
+        name: &[u8],
+    ) -> Result<(), WriteFault>
+        requires { length name.now ≤ SHORT }
+        ensures ok { OnOk result (Gathers (W.contents w.old) (W.contents w.new) self.old self.new (plain_key first name.now)) }
+        ensures err { OnErr result (AppendsPart (W.contents w.old) (W.contents w.new) (self.old ++ plain_key first name.now)) }
+    {
+        self.make_room(w)?;
+        self.len = push_key(&mut self.bytes, self.len, first, name);
+        Ok(())
+    }
+
+    /// Adds a number in double quotes, as [`Line::put`] adds a text.
+    #[tactic(auto, using(crate::proofs::Gathered::gathers_then))]
+    #[inline(always)]
+    pub fn put_place_key<W: Write>(&mut self, w: &mut W, place: usize) -> Result<(), WriteFault>
+        ensures ok { OnOk result (Gathers (W.contents w.old) (W.contents w.new) self.old self.new (place_key place)) }
+        ensures err { OnErr result (AppendsPart (W.contents w.old) (W.contents w.new) (self.old ++ place_key place)) }
+    {
+        self.make_room(w)?;
+        self.len = push_place_key(&mut self.bytes, self.len, place as u64);
         Ok(())
     }
 

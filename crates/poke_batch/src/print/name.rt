@@ -64,8 +64,9 @@ fn put_name<W: Write>(
     Ok(())
 }
 
+/// Writes a comma, but before the first.
 #[inline(always)]
-fn put_comma<W: Write>(w: &mut W, line: &mut Line, first: bool) -> Result<(), WriteFault>
+pub fn put_comma<W: Write>(w: &mut W, line: &mut Line, first: bool) -> Result<(), WriteFault>
     ensures ok { OnOk result (Gathers (W.contents w.old) (W.contents w.new) line.old line.new (comma first)) }
     ensures err { OnErr result (AppendsPart (W.contents w.old) (W.contents w.new) (line.old ++ comma first)) }
 {

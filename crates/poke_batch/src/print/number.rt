@@ -93,7 +93,8 @@ fn put_cast<W: Write>(
     Ok(())
 }
 
-fn put_digits<W: Write>(w: &mut W, line: &mut Line, number: u32) -> Result<(), WriteFault>
+/// Writes a number.
+pub fn put_digits<W: Write>(w: &mut W, line: &mut Line, number: u32) -> Result<(), WriteFault>
     ensures ok { OnOk result (Gathers (W.contents w.old) (W.contents w.new) line.old line.new (decimal number)) }
     ensures err { OnErr result (AppendsPart (W.contents w.old) (W.contents w.new) (line.old ++ decimal number)) }
 {

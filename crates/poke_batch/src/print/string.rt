@@ -3,10 +3,12 @@ ghost use Rattle.std.specs.Prelude.{◌≡◌, ◌<◌, ◌≤◌, ◌++◌, fal
 ghost use Rattle.std.specs.List.{prefix_len};
 ghost use Rattle.poke_batch.specs.Written.{AppendsPart};
 ghost use Rattle.poke_batch.specs.Gathered.{Gathers};
-ghost use Rattle.poke_batch.specs.ValueText.{string_text, bytes_text, escape_text, is_plain};
+ghost use Rattle.poke_batch.specs.ValueText.{string_text, spelled, is_plain};
+ghost use Rattle.poke_batch.specs.JsonText.{json_string};
+ghost use Rattle.poke_batch.specs.Escaped.{escape_of};
 
+use super::escape::{Escapes, put_escape};
 use super::line::Line;
-use crate::hex::hex_digit;
 use crate::write::WriteFault;
 use std::io::Write;
 
@@ -18,32 +20,55 @@ pub fn put_string<W: Write>(w: &mut W, line: &mut Line, bytes: &[u8]) -> Result<
     ensures err { OnErr result (AppendsPart (W.contents w.old) (W.contents w.new) (line.old ++ string_text bytes.now)) }
 {
     line.put(w, b"\"")?;
-    put_bytes(w, line, bytes)?;
+    put_bytes(w, line, Escapes::Poke, bytes)?;
     line.put(w, b"\"")?;
     Ok(())
 }
 
-fn put_bytes<W: Write>(w: &mut W, line: &mut Line, bytes: &[u8]) -> Result<(), WriteFault>
-    ensures ok { OnOk result (Gathers (W.contents w.old) (W.contents w.new) line.old line.new (bytes_text bytes.now)) }
-    ensures err { OnErr result (AppendsPart (W.contents w.old) (W.contents w.new) (line.old ++ bytes_text bytes.now)) }
+/// Writes a string of JSON.
+#[tactic(auto, using(crate::proofs::Gathered::gathered), unfolding(crate::specs::JsonText::json_string))]
+#[inline(never)]
+pub fn put_json_string<W: Write>(w: &mut W, line: &mut Line, bytes: &[u8]) -> Result<(), WriteFault>
+    ensures ok { OnOk result (Gathers (W.contents w.old) (W.contents w.new) line.old line.new (json_string bytes.now)) }
+    ensures err { OnErr result (AppendsPart (W.contents w.old) (W.contents w.new) (line.old ++ json_string bytes.now)) }
+{
+    line.put(w, b"\"")?;
+    put_bytes(w, line, Escapes::Json, bytes)?;
+    line.put(w, b"\"")?;
+    Ok(())
+}
+
+fn put_bytes<W: Write>(
+    w: &mut W,
+    line: &mut Line,
+    escapes: Escapes,
+    bytes: &[u8],
+) -> Result<(), WriteFault>
+    ensures ok { OnOk result (Gathers (W.contents w.old) (W.contents w.new) line.old line.new (spelled (escape_of escapes) bytes.now)) }
+    ensures err { OnErr result (AppendsPart (W.contents w.old) (W.contents w.new) (line.old ++ spelled (escape_of escapes) bytes.now)) }
 {
     let mut done = 0;
     while done < bytes.len() {
-        done += put_next(w, line, &bytes[done..])?;
+        done += put_next(w, line, escapes, &bytes[done..])?;
     }
     Ok(())
 }
 
 // Writes all the plain bytes that come first, or else the first byte as an escape, and tells how many bytes that were.
-fn put_next<W: Write>(w: &mut W, line: &mut Line, bytes: &[u8]) -> Result<usize, WriteFault>
+fn put_next<W: Write>(
+    w: &mut W,
+    line: &mut Line,
+    escapes: Escapes,
+    bytes: &[u8],
+) -> Result<usize, WriteFault>
     requires { 0 < length bytes.now }
     ensures some { IfOk result (λ n. (0 < n) × (n ≤ length bytes.now)) }
-    ensures ok { IfOk result (λ n. Gathers (W.contents w.old) (W.contents w.new) line.old line.new (bytes_text (take n bytes.now))) }
-    ensures err { OnErr result (AppendsPart (W.contents w.old) (W.contents w.new) (line.old ++ bytes_text bytes.now)) }
+    ensures ok { IfOk result (λ n. Gathers (W.contents w.old) (W.contents w.new) line.old line.new (spelled (escape_of escapes) (take n bytes.now))) }
+    ensures err { OnErr result (AppendsPart (W.contents w.old) (W.contents w.new) (line.old ++ spelled (escape_of escapes) bytes.now)) }
 {
     let run = plain_len(bytes);
     if run == 0 {
-        put_escape(w, line, bytes[0])?;
+        put_escape(w, line, escapes, bytes[0])?;
         Ok(1)
     } else {
         line.put(w, &bytes[..run])?;
@@ -51,8 +76,8 @@ fn put_next<W: Write>(w: &mut W, line: &mut Line, bytes: &[u8]) -> Result<usize,
     }
 }
 
-// How many plain bytes come first.
-fn plain_len(bytes: &[u8]) -> usize
+/// How many plain bytes come first.
+pub fn plain_len(bytes: &[u8]) -> usize
     ensures { result ≡ prefix_len is_plain bytes.now }
 {
     bytes.iter().take_while(|byte| is_plain(**byte)).count()
@@ -62,20 +87,4 @@ fn is_plain(byte: u8) -> bool
     ensures { result ≡ is_plain byte }
 {
     32 <= byte && byte <= 126 && byte != b'"' && byte != b'\\'
-}
-
-fn put_escape<W: Write>(w: &mut W, line: &mut Line, byte: u8) -> Result<(), WriteFault>
-    ensures ok { OnOk result (Gathers (W.contents w.old) (W.contents w.new) line.old line.new (escape_text byte)) }
-    ensures err { OnErr result (AppendsPart (W.contents w.old) (W.contents w.new) (line.old ++ escape_text byte)) }
-{
-    match byte {
-        b'\\' => line.put(w, b"\\\\"),
-        b'"' => line.put(w, b"\\\""),
-        b'\n' => line.put(w, b"\\n"),
-        b'\t' => line.put(w, b"\\t"),
-        _ => line.put(
-            w,
-            &[b'\\', b'x', hex_digit(byte >> 4), hex_digit(byte & 15)],
-        ),
-    }
 }

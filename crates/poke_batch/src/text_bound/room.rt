@@ -1,10 +1,11 @@
 //! How many bytes the pieces of a text take.
-ghost use Rattle.std.specs.Prelude.{◌≡◌, ℤ, ◌+◌, ◌^◌, ◌<◌, ◌≤◌, length, decimal};
+ghost use Rattle.std.specs.Prelude.{◌≡◌, ℤ, ◌+◌, ◌*◌, ◌^◌, ◌<◌, ◌≤◌, length, decimal};
 ghost use Rattle.std.specs.Fmt.{signed_decimal};
 ghost use Rattle.pickle_types.specs.Sound.{IsWidth};
 ghost use Rattle.pickle_types.specs.Table.{name_of};
 ghost use Rattle.poke_batch.specs.Suffixes.{suffix_text};
-ghost use Rattle.poke_batch.specs.ValueText.{integer_text, typed_text, suffix_of, unit_text, title_text, name_text};
+ghost use Rattle.poke_batch.specs.JsonText.{json_escape, json_offset, key_text};
+ghost use Rattle.poke_batch.specs.ValueText.{spelled, spelled_byte, integer_text, typed_text, suffix_of, unit_text, title_text, name_text};
 ghost use Rattle.poke_batch.specs.TreeText.{in_brackets};
 ghost use Rattle.poke_batch.specs.TextRoom.{longest_number, integer_room, offset_room, string_room, array_room, titled_room, line_room, element_before, element_moves, field_before, field_moves, end_room};
 
@@ -79,6 +80,7 @@ pub fn integer_room(mode: Mode, ty: IntegerType) -> u128
 {
     match mode {
         Mode::Flat | Mode::Tree => typed_room(ty),
+        Mode::Json => longest_digits(ty),
     }
 }
 
@@ -101,7 +103,17 @@ pub fn offset_room(mode: Mode, ty: IntegerType, unit: u32) -> u128
 {
     match mode {
         Mode::Flat | Mode::Tree => typed_room(ty) + 1 + unit_room(unit),
+        Mode::Json => json_offset_room(ty, unit),
     }
+}
+
+/// The longest object of an offset.
+fn json_offset_room(ty: IntegerType, unit: u32) -> u128
+    requires width { IsWidth ty }
+    ensures count { result ≡ length (json_offset (signed_decimal (longest_number ty)) (decimal unit)) }
+    ensures few { result ≤ 142 }
+{
+    22 + longest_digits(ty) + digits(u128::from(unit))
 }
 
 pub fn string_room(mode: Mode, bits: u64) -> u128
@@ -111,6 +123,7 @@ pub fn string_room(mode: Mode, bits: u64) -> u128
     let most = u128::from((bits / 8).saturating_sub(1));
     match mode {
         Mode::Flat | Mode::Tree => 2 + 4 * most,
+        Mode::Json => 2 + 6 * most,
     }
 }
 
@@ -127,7 +140,7 @@ pub fn array_room(mode: Mode, count: u128) -> u128
     ensures few { result ≤ 42 }
 {
     match mode {
-        Mode::Flat => 2,
+        Mode::Flat | Mode::Json => 2,
         Mode::Tree => brackets_room(count),
     }
 }
@@ -150,6 +163,7 @@ pub fn titled_room(mode: Mode, sort: &[u8], name: &Option<Name>) -> u128
     match mode {
         Mode::Flat => title_room(sort, name) + 3,
         Mode::Tree => title_room(sort, name),
+        Mode::Json => 2,
     }
 }
 
@@ -159,7 +173,7 @@ pub fn line_room(mode: Mode, bits: u64) -> u128
     ensures few { result ≤ 1 }
 {
     match mode {
-        Mode::Flat => 0,
+        Mode::Flat | Mode::Json => 0,
         Mode::Tree => 1,
     }
 }
@@ -169,7 +183,7 @@ pub fn element_before(mode: Mode, place: u128) -> u128
     ensures count { result ≡ element_before mode place }
 {
     match mode {
-        Mode::Flat => 1,
+        Mode::Flat | Mode::Json => 1,
         Mode::Tree => brackets_room(place) + 1,
     }
 }
@@ -179,7 +193,7 @@ pub fn element_moves(mode: Mode, place: u128) -> u128
     ensures count { result ≡ element_moves mode place }
 {
     match mode {
-        Mode::Flat => 0,
+        Mode::Flat | Mode::Json => 0,
         Mode::Tree => 2,
     }
 }
@@ -194,6 +208,41 @@ fn name_room(name: &Option<Name>) -> u128
     }
 }
 
+/// A byte of a string in JSON.
+fn json_byte_room(byte: u8) -> u128
+    ensures count { result ≡ length (spelled_byte json_escape byte) }
+    ensures few { result ≤ 6 }
+{
+    match byte {
+        b'"' | b'\\' | 8 | 9 | 10 | 12 | 13 => 2,
+        32..=126 => 1,
+        _ => 6,
+    }
+}
+
+fn json_bytes_room(bytes: &[u8]) -> u128
+    ensures count { result ≡ length (spelled json_escape bytes.now) }
+    ensures few { result ≤ 6 * length bytes.now }
+{
+    let mut room: u128 = 0;
+    for byte in bytes {
+        room += json_byte_room(*byte);
+    }
+    room
+}
+
+/// The key of a field or an alternative.
+#[tactic(auto, unfolding(crate::specs::JsonText::json_string))]
+fn key_room(name: &Option<Name>, place: usize) -> u128
+    ensures count { result ≡ length (key_text (name_of name.now) place) }
+    ensures few { result < 2 ^ 68 }
+{
+    match name {
+        Some(name) => 2 + json_bytes_room(name.as_slice()),
+        None => 2 + digits(place as u128),
+    }
+}
+
 /// What stands before a field or an alternative.
 pub fn field_before(mode: Mode, name: &Option<Name>, place: usize) -> u128
     ensures count { result ≡ field_before mode (name_of name.now) place }
@@ -201,6 +250,7 @@ pub fn field_before(mode: Mode, name: &Option<Name>, place: usize) -> u128
     match mode {
         Mode::Flat => 1 + name_room(name),
         Mode::Tree => name_room(name),
+        Mode::Json => 2 + key_room(name, place),
     }
 }
 
@@ -209,7 +259,7 @@ pub fn field_moves(mode: Mode, name: &Option<Name>, place: usize) -> u128
     ensures count { result ≡ field_moves mode (name_of name.now) place }
 {
     match mode {
-        Mode::Flat => 0,
+        Mode::Flat | Mode::Json => 0,
         Mode::Tree => 2,
     }
 }
@@ -219,7 +269,7 @@ pub fn end_room(mode: Mode) -> u128
     ensures count { result ≡ end_room mode }
 {
     match mode {
-        Mode::Flat => 1,
+        Mode::Flat | Mode::Json => 1,
         Mode::Tree => 0,
     }
 }

@@ -32,7 +32,7 @@ fn joined(mode: Mode, own: Option<u128>, parts: Option<u128>) -> Option<u128>
     ensures { (x y : ℕ) → IsBound own x → IsBound parts y → IsBound result (joined mode x y) }
 {
     match mode {
-        Mode::Flat | Mode::Tree => sum_of(own, parts),
+        Mode::Flat | Mode::Tree | Mode::Json => sum_of(own, parts),
     }
 }
 

@@ -1,0 +1,28 @@
+-- The laws of the texts of values.
+use Rattle.std.specs.Prelude.{ℕ, ◌≤◌, ◌^◌, ◌<◌, unsigned_abs}
+use Rattle.pickle_map.specs.Values.{Label, IntegerLabel, OffsetLabel, TextLabel, ArrayLabel, StructLabel, UnionLabel, Value, Mapped, Members, NoMembers, MemberThen, AbsentThen, member_count}
+use Rattle.poke_batch.specs.Json.{IsJson}
+use Rattle.poke_batch.specs.JsonText.{json_line}
+
+-- the numbers of a label are below 2^64
+abbrev pub HasSmallNumbers : Label → Type 0
+HasSmallNumbers (IntegerLabel number type) = unsigned_abs number < 2 ^ 64
+HasSmallNumbers (OffsetLabel magnitude type unit) = (unsigned_abs magnitude < 2 ^ 64) × (unit < 2 ^ 64)
+HasSmallNumbers (TextLabel bytes) = Unit {0}
+HasSmallNumbers ArrayLabel = Unit {0}
+HasSmallNumbers (StructLabel name fields) = Unit {0}
+HasSmallNumbers (UnionLabel name index alternative) = Unit {0}
+
+-- all numbers of a value are below 2^64, and so are the numbers of members of all its parts, as those of mapped values are
+abbrev mutual
+  pub IsSmall : Value → Type 0
+  IsSmall (Mapped label start end members) = HasSmallNumbers label × (member_count members ≤ 2 ^ 64) × AreSmall members
+
+  pub AreSmall : Members → Type 0
+  AreSmall NoMembers = Unit {0}
+  AreSmall (MemberThen value rest) = IsSmall value × AreSmall rest
+  AreSmall (AbsentThen rest) = AreSmall rest
+
+-- what is printed in JSON is a JSON text
+abbrev pub PrintsJson : Type 0
+PrintsJson = (value : Value) → IsSmall value → IsJson (json_line value)
