@@ -9,7 +9,7 @@ use Rattle.pickle_map.proofs.OnBits.{outcomes_fit}
 use Rattle.poke_batch.specs.declared.accept.Refusal.TheVariants as refusal
 use Rattle.poke_batch.specs.declared.ask.Ask.{Ask}
 use Rattle.poke_batch.specs.declared.mode.Mode.{Mode}
-use Rattle.poke_batch.specs.declared.mode.Mode.TheVariants.{Flat, Tree, Json}
+use Rattle.poke_batch.specs.declared.mode.Mode.TheVariants.{Flat, Tree, Json, Lines}
 use Rattle.poke_batch.specs.declared.status.Status.{Status}
 use Rattle.poke_batch.specs.OutputRoom.{GrowsWithin, OutputIsBounded}
 use Rattle.poke_batch.specs.Printed.{printed}
@@ -19,14 +19,15 @@ use Rattle.poke_batch.specs.TextRoom.{most_text, most_text_in_any}
 use Rattle.poke_batch.specs.Told.{Saying, IsSaid, IsWritten}
 use Rattle.poke_batch.specs.ValueText.{value_text}
 use Rattle.poke_batch.specs.JsonText.{json_text}
-use Rattle.poke_batch.proofs.Sizes.{flat_short, tree_short, json_short}
+use Rattle.poke_batch.proofs.Sizes.{flat_short, tree_short, json_short, all_lines_short}
 use Rattle.poke_batch.proofs.SizesFit.{value_within}
 
 pub text_bounded : TextsAreBounded
 unfolding most_text
-text_bounded Flat m ty levels s v h = omega (arith, flat_short m v, (value_within Flat m ty levels s v h).text, length-append (value_text v) (codes "\n"))
-text_bounded Tree m ty levels s v h = omega (arith, tree_short m 0 [] v, (value_within Tree m ty levels s v h).text)
-text_bounded Json m ty levels s v h = omega (arith, json_short m v, (value_within Json m ty levels s v h).text, length-append (json_text v) (codes "\n"))
+text_bounded Flat m ty levels s v h = omega (arith, flat_short v, (value_within Flat m ty levels s v h).text, length-append (value_text v) (codes "\n"))
+text_bounded Tree m ty levels s v h = omega (arith, tree_short 0 [] v, (value_within Tree m ty levels s v h).text)
+text_bounded Lines m ty levels s v h = omega (arith, all_lines_short v, (value_within Lines m ty levels s v h).text)
+text_bounded Json m ty levels s v h = omega (arith, json_short v, (value_within Json m ty levels s v h).text, length-append (json_text v) (codes "\n"))
 
 pub meant_text_bounded : MeantTextsAreBounded
 meant_text_bounded mode bytes ty order levels s v k j means =
@@ -37,6 +38,7 @@ unfolding most_text_in_any
 any_mode_bounded Flat ty m = omega arith
 any_mode_bounded Tree ty m = omega arith
 any_mode_bounded Json ty m = omega arith
+any_mode_bounded Lines ty m = omega arith
 
 written_within : (text : List ℕ) (status : Status) (out out' err err' : Option (List ℕ)) (most : ℕ) → length text ≤ most → IsWritten text status out out' err err' → GrowsWithin out out' most
 written_within text status out out' err err' most le (inl h) = record { taken = text; appends = h.1; few = le }

@@ -73,7 +73,7 @@ json_of_integer (Mapped ArrayLabel start end _) e = cc
 json_of_integer (Mapped (StructLabel name fields) start end _) e = cc
 json_of_integer (Mapped (UnionLabel name index alternative) start end _) e = cc
 
-pub json_of_offset : (v : Value) → kind.Offset ≡ kind_of (label_of v) → json_text v ≡ json_offset (signed_decimal (number_of (label_of v))) (decimal (unit_of (label_of v)))
+pub json_of_offset : (v : Value) → kind.Offset ≡ kind_of (label_of v) → json_text v ≡ json_offset (number_of (label_of v)) (unit_of (label_of v))
 json_of_offset (Mapped (IntegerLabel number type) start end _) e = cc
 json_of_offset (Mapped (OffsetLabel magnitude type unit) start end _) e = refl
 json_of_offset (Mapped (TextLabel bytes) start end _) e = cc

@@ -1,11 +1,12 @@
 -- The texts of values in JSON are as the grammar has them.
-use Rattle.std.proofs.Common.{◌≡◌, ◌∙◌, ℕ, suc, ◌+◌, ◌^◌, ◌<◌, ◌≤◌, Bool, true, false, List, [], ◌∷◌, ◌++◌, Some, None, codes, decimal, sym, ap, subst, arith}
+use Rattle.std.proofs.Common.{◌≡◌, ◌∙◌, ℕ, ℤ, suc, ◌+◌, ◌^◌, ◌<◌, ◌≤◌, Bool, true, false, List, [], ◌∷◌, ◌++◌, Some, None, codes, decimal, sym, ap, subst, arith}
+use Rattle.std.specs.Prelude.{unsigned_abs}
 use Rattle.std.specs.Fmt.{signed_decimal}
 use Rattle.std.proofs.lemmas.List.{append-nil, append_assoc}
 use Rattle.pickle_map.specs.Values.{Naming, Label, IntegerLabel, OffsetLabel, TextLabel, ArrayLabel, StructLabel, UnionLabel, Value, Mapped, Members, NoMembers, MemberThen, AbsentThen, member_count}
 use Rattle.pickle_map.specs.Labels.{member_name}
 use Rattle.poke_batch.specs.JsonText.{json_text, json_members, json_offset, json_string, key_text, key_before, no_key}
-use Rattle.poke_batch.specs.Json.{IsBlanks, no_blank, one_blank, line_feed, IsNumber, IsString, IsValue, number_value, string_value, empty_list, list, empty_object, object, IsJson, json, IsElements, last_element, element, IsField, field, IsFields, last_field, one_field}
+use Rattle.poke_batch.specs.Json.{IsBlanks, no_blank, one_blank, line_feed, IsString, IsValue, number_value, string_value, empty_list, list, empty_object, object, IsJson, json, IsElements, last_element, element, IsField, field, IsFields, last_field, one_field}
 use Rattle.poke_batch.specs.Laws.{IsSmall, AreSmall, PrintsJson}
 use Rattle.poke_batch.proofs.JsonWords.{number_is, natural_is, string_is, place_is}
 
@@ -45,18 +46,18 @@ key_is : (name : Naming) (place : ℕ) → place < 2 ^ 64 → IsString (key_text
 key_is None place small = place_is place small
 key_is (Some name) place small = string_is name
 
-offset_is : {magnitude unit : List ℕ} → IsNumber magnitude → IsNumber unit → IsValue (json_offset magnitude unit)
+offset_is : (magnitude : ℤ) (unit : ℕ) → unsigned_abs magnitude < 2 ^ 64 → unit < 2 ^ 64 → IsValue (json_offset magnitude unit)
 unfolding json_offset json_string
-offset_is {magnitude} {unit} m u =
-    let first : IsField (codes "\"magnitude\":" ++ magnitude) = field_is (string_is (codes "magnitude")) (number_value m) in
-    let second : IsField (codes "\"unit\":" ++ unit) = field_is (string_is (codes "unit")) (number_value u) in
-    subst IsValue (ap (λ s. codes "{\"magnitude\":" ++ s) (append_assoc magnitude (codes ",\"unit\":" ++ unit) (codes "}")))
+offset_is magnitude unit m u =
+    let first : IsField (codes "\"magnitude\":" ++ signed_decimal magnitude) = field_is (string_is (codes "magnitude")) (number_value (number_is magnitude m)) in
+    let second : IsField (codes "\"unit\":" ++ decimal unit) = field_is (string_is (codes "unit")) (number_value (natural_is unit u)) in
+    subst IsValue (ap (λ s. codes "{\"magnitude\":" ++ s) (append_assoc (signed_decimal magnitude) (codes ",\"unit\":" ++ decimal unit) (codes "}")))
     (object (one_field first (last_field second)))
 
 mutual
   value_is : (value : Value) → IsSmall value → IsValue (json_text value)
   value_is (Mapped (IntegerLabel number type) start end _) h = number_value (number_is number h.0)
-  value_is (Mapped (OffsetLabel magnitude type unit) start end _) h = offset_is (number_is magnitude h.0.0) (natural_is unit h.0.1)
+  value_is (Mapped (OffsetLabel magnitude type unit) start end _) h = offset_is magnitude unit h.0.0 h.0.1
   value_is (Mapped (TextLabel bytes) start end _) h = string_value (string_is bytes)
   value_is (Mapped ArrayLabel start end all) h = list_is (elements_are 0 all h.2)
   value_is (Mapped (StructLabel name fields) start end all) h = object_is (fields_are (StructLabel name fields) 0 all (omega (arith, h.1)) h.2)

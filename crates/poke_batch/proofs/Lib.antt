@@ -10,6 +10,9 @@ pub mod LineTexts
 pub mod JsonTexts
 pub mod JsonWords
 pub mod JsonValues
+pub mod Paths
+pub mod LeafTexts
+pub mod LeafLines
 pub mod DigitCounts
 pub mod ShortTexts
 pub mod Refusing

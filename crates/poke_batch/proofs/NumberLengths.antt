@@ -82,11 +82,10 @@ unfolding offset_text
 offset_longest type unit n lt =
     omega (arith, integer_longest type n lt, length-append (integer_text type (with_sign type n)) (codes "#" ++ unit_text unit), length-append (integer_text type (longest_number type)) (codes "#" ++ unit_text unit))
 
-pub json_offset_length : (magnitude unit : List ℕ) → length (json_offset magnitude unit) ≡ 22 + length magnitude + length unit
+pub json_offset_length : (magnitude : ℤ) (unit : ℕ) → length (json_offset magnitude unit) ≡ 22 + length (signed_decimal magnitude) + length (decimal unit)
 unfolding json_offset
 json_offset_length magnitude unit =
-    omega (arith, length-append magnitude (codes ",\"unit\":" ++ (unit ++ codes "}")), length-append unit (codes "}"))
+    omega (arith, length-append (signed_decimal magnitude) (codes ",\"unit\":" ++ (decimal unit ++ codes "}")), length-append (decimal unit) (codes "}"))
 
-pub json_offset_longest : (type : IntegerType) (n : ℕ) (unit : List ℕ) → n < 2 ^ type.width → length (json_offset (signed_decimal (with_sign type n)) unit) ≤ length (json_offset (signed_decimal (longest_number type)) unit)
-json_offset_longest type n unit lt =
-    omega (arith, number_longest type n lt, json_offset_length (signed_decimal (with_sign type n)) unit, json_offset_length (signed_decimal (longest_number type)) unit)
+pub json_offset_longest : (type : IntegerType) (n unit : ℕ) → n < 2 ^ type.width → length (json_offset (with_sign type n) unit) ≤ length (json_offset (longest_number type) unit)
+json_offset_longest type n unit lt = omega (arith, number_longest type n lt, json_offset_length (with_sign type n) unit, json_offset_length (longest_number type) unit)

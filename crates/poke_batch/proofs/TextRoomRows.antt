@@ -4,7 +4,7 @@ use Rattle.std.specs.Fmt.{digits}
 use Rattle.pickle_types.specs.declared.integer.IntegerType.{IntegerType}
 use Rattle.pickle_types.specs.Types.{PokeType, IntegerOf, OffsetOf, StringOf, ArrayOf, StructOf, IntegralOf, UnionOf, Unbounded, FieldThen, NoFields, PartThen, NoParts}
 use Rattle.pickle_types.specs.Bounds.{least_width}
-use Rattle.poke_batch.specs.declared.mode.Mode.TheVariants.{Flat, Tree, Json}
+use Rattle.poke_batch.specs.declared.mode.Mode.TheVariants.{Flat, Tree, Json, Lines}
 use Rattle.poke_batch.specs.ValueText.{integer_text, offset_text}
 use Rattle.poke_batch.specs.JsonText.{json_offset, json_string}
 use Rattle.poke_batch.specs.TextRoom.{size_of, most_text}
@@ -87,3 +87,8 @@ a_json_offset = refl
 a_json_string : most_text Json StringOf 80 ≡ 57
 unfolding most_text size_of
 a_json_string = refl
+
+-- `.a`, 40 bits at most as a start, 8 bits and 255UB, then the same of `.1` with 32 bits and 4294967295U; and the dot of a path
+lines_of_a_struct : most_text Lines pair 40 ≡ 44
+unfolding most_text size_of integer_text digits
+lines_of_a_struct = refl

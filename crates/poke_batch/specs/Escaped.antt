@@ -2,9 +2,12 @@
 use Rattle.std.specs.Prelude.{ℕ, List}
 use Rattle.poke_batch.specs.declared.print.escape.Escapes.{Escapes}
 use Rattle.poke_batch.specs.declared.print.escape.Escapes.TheVariants.{Poke, Json}
-use Rattle.poke_batch.specs.ValueText.{escape_text}
+use Rattle.poke_batch.specs.ValueText.{escape_text, spelled}
 use Rattle.poke_batch.specs.JsonText.{json_escape}
 
 abbrev pub escape_of : Escapes → ℕ → List ℕ
 escape_of Poke = escape_text
 escape_of Json = json_escape
+
+abbrev pub spelled_by : Escapes → List ℕ → List ℕ
+spelled_by escapes bytes = spelled (escape_of escapes) bytes

@@ -1,5 +1,5 @@
 -- The text that a value is printed as in JSON.
-use Rattle.std.specs.Prelude.{ℕ, suc, ◌/◌, ◌%◌, Bool, true, false, List, [], ◌∷◌, ◌++◌, Some, None, ◌==◌, if◌then◌else◌, codes, decimal}
+use Rattle.std.specs.Prelude.{ℕ, ℤ, suc, ◌/◌, ◌%◌, Bool, true, false, List, [], ◌∷◌, ◌++◌, Some, None, ◌==◌, if◌then◌else◌, codes, decimal}
 use Rattle.std.specs.Fmt.{signed_decimal}
 use Rattle.pickle_map.specs.Values.{Naming, Label, IntegerLabel, OffsetLabel, TextLabel, ArrayLabel, StructLabel, UnionLabel, Value, Mapped, Members, NoMembers, MemberThen, AbsentThen}
 use Rattle.pickle_map.specs.Labels.{member_name}
@@ -39,14 +39,14 @@ abbrev pub no_key : (place : ℕ) → List ℕ
 no_key place = []
 
 -- the unit is in bits
-unfoldable pub json_offset : (magnitude unit : List ℕ) → List ℕ
-json_offset magnitude unit = codes "{\"magnitude\":" ++ (magnitude ++ (codes ",\"unit\":" ++ (unit ++ codes "}")))
+unfoldable pub json_offset : (magnitude : ℤ) (unit : ℕ) → List ℕ
+json_offset magnitude unit = codes "{\"magnitude\":" ++ (signed_decimal magnitude ++ (codes ",\"unit\":" ++ (decimal unit ++ codes "}")))
 
 abbrev mutual
   -- a number for an integer, a list for an array, an object for the others but strings
   pub json_text : Value → List ℕ
   json_text (Mapped (IntegerLabel number type) start end _) = signed_decimal number
-  json_text (Mapped (OffsetLabel magnitude type unit) start end _) = json_offset (signed_decimal magnitude) (decimal unit)
+  json_text (Mapped (OffsetLabel magnitude type unit) start end _) = json_offset magnitude unit
   json_text (Mapped (TextLabel bytes) start end _) = json_string bytes
   json_text (Mapped ArrayLabel start end members) = codes "[" ++ (json_members no_key 0 true members ++ codes "]")
   json_text (Mapped (StructLabel name fields) start end members) = codes "{" ++ (json_members (key_before (StructLabel name fields)) 0 true members ++ codes "}")

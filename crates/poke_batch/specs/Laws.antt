@@ -1,8 +1,10 @@
 -- The laws of the texts of values.
-use Rattle.std.specs.Prelude.{ℕ, ◌≤◌, ◌^◌, ◌<◌, unsigned_abs}
-use Rattle.pickle_map.specs.Values.{Label, IntegerLabel, OffsetLabel, TextLabel, ArrayLabel, StructLabel, UnionLabel, Value, Mapped, Members, NoMembers, MemberThen, AbsentThen, member_count}
+use Rattle.std.specs.Prelude.{◌≡◌, ℕ, ◌≤◌, ◌^◌, ◌<◌, false, List, [], ◌++◌, unsigned_abs}
+use Rattle.pickle_map.specs.Values.{Label, IntegerLabel, OffsetLabel, TextLabel, ArrayLabel, StructLabel, UnionLabel, Value, Mapped, Members, NoMembers, MemberThen, AbsentThen, label_of, members_of, member_count}
 use Rattle.poke_batch.specs.Json.{IsJson}
 use Rattle.poke_batch.specs.JsonText.{json_line}
+use Rattle.poke_batch.specs.PathText.{Leads}
+use Rattle.poke_batch.specs.LinesText.{leaf_line, is_parted, part_lines}
 
 -- the numbers of a label are below 2^64
 abbrev pub HasSmallNumbers : Label → Type 0
@@ -26,3 +28,13 @@ abbrev mutual
 -- what is printed in JSON is a JSON text
 abbrev pub PrintsJson : Type 0
 PrintsJson = (value : Value) → IsSmall value → IsJson (json_line value)
+
+-- lines of parts that have no parts, each under the path of steps that lead to its part
+pub data LinesOf (value : Value) : List ℕ → Type 0 where
+  no_line : LinesOf value []
+  one_line : {steps rest : List ℕ} (part : Value) → Leads value steps part → is_parted (label_of part) (members_of part) ≡ false → LinesOf value rest
+      → LinesOf value (leaf_line steps part ++ rest)
+
+-- each line that is printed of a value names its part
+abbrev pub LinesNameParts : Type 0
+LinesNameParts = (value : Value) → LinesOf value (part_lines value)

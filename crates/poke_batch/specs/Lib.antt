@@ -8,6 +8,8 @@ pub mod JsonParts
 pub mod Escaped
 pub mod PathText
 pub mod LinesText
+pub mod Steps
+pub mod LeafText
 pub mod Printed
 pub mod Suffixes
 pub mod PartText

@@ -6,14 +6,20 @@ use Rattle.poke_batch.specs.PathText.{step_text, path_text}
 use Rattle.poke_batch.specs.TreeText.{has_parts}
 use Rattle.poke_batch.specs.ValueText.{value_text}
 
--- so many bits, as an offset word
-abbrev pub bits_text : ℕ → List ℕ
-bits_text bits = decimal bits ++ codes "#b"
+-- so many bits behind a tab, as an offset word
+abbrev pub bits_cell : ℕ → List ℕ
+bits_cell bits = codes "\t" ++ (decimal bits ++ codes "#b")
+
+-- where a value is: its start and its size
+abbrev pub place_cells : Value → List ℕ
+place_cells value = bits_cell (start_of value) ++ bits_cell (end_of value - start_of value)
+
+abbrev pub text_cell : Value → List ℕ
+text_cell value = codes "\t" ++ (value_text value ++ codes "\n")
 
 -- the line of a part: its path, start, size and text, with tabs between them
 abbrev pub leaf_line : (steps : List ℕ) → Value → List ℕ
-leaf_line steps value =
-    path_text steps ++ (codes "\t" ++ (bits_text (start_of value) ++ (codes "\t" ++ (bits_text (end_of value - start_of value) ++ (codes "\t" ++ (value_text value ++ codes "\n"))))))
+leaf_line steps value = path_text steps ++ (place_cells value ++ text_cell value)
 
 abbrev pub any_present : Members → Bool
 any_present NoMembers = false

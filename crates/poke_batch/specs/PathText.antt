@@ -4,15 +4,15 @@ use Rattle.pickle_map.specs.Values.{Naming, Label, IntegerLabel, OffsetLabel, Te
 use Rattle.pickle_map.specs.Labels.{member_name}
 use Rattle.poke_batch.specs.TreeText.{in_brackets}
 
--- the name of a field or an alternative, or where it has none its place among the declared fields, from 0
-abbrev pub field_word : Naming → (place : ℕ) → List ℕ
-field_word None place = decimal place
-field_word (Some name) place = name
+-- the step to a field or an alternative: its name, or where it has none its place among the declared fields, from 0
+abbrev pub field_step : Naming → (place : ℕ) → List ℕ
+field_step None place = codes "." ++ decimal place
+field_step (Some name) place = codes "." ++ name
 
--- the step from a value to its part at a place: `[i]` to an element, `.name` or `.place` to a field or an alternative
+-- the step from a value to its part at a place; that to an element is `[i]`
 abbrev pub step_text : Label → (place : ℕ) → List ℕ
 step_text ArrayLabel place = in_brackets place
-step_text label place = codes "." ++ field_word (member_name label place) place
+step_text label place = field_step (member_name label place) place
 
 -- the path of these steps: a dot for the value itself
 abbrev pub path_text : (steps : List ℕ) → List ℕ

@@ -2,12 +2,14 @@
 use Rattle.std.specs.Prelude.{ℕ, List}
 use Rattle.pickle_map.specs.Values.{Value}
 use Rattle.poke_batch.specs.declared.mode.Mode.{Mode}
-use Rattle.poke_batch.specs.declared.mode.Mode.TheVariants.{Flat, Tree, Json}
+use Rattle.poke_batch.specs.declared.mode.Mode.TheVariants.{Flat, Tree, Json, Lines}
 use Rattle.poke_batch.specs.ValueText.{flat_text}
 use Rattle.poke_batch.specs.TreeText.{tree_text}
 use Rattle.poke_batch.specs.JsonText.{json_line}
+use Rattle.poke_batch.specs.LinesText.{part_lines}
 
 abbrev pub printed : Mode → Value → List ℕ
 printed Flat value = flat_text value
 printed Tree value = tree_text value
 printed Json value = json_line value
+printed Lines value = part_lines value

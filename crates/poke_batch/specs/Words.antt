@@ -1,7 +1,7 @@
 -- What words ask for.
 use Rattle.std.specs.Prelude.{◌≡◌, ◌≢◌, ℕ, List, Option, Some, None, string_bytes, codes}
 use Rattle.poke_batch.specs.declared.mode.Mode.{Mode}
-use Rattle.poke_batch.specs.declared.mode.Mode.TheVariants.{Flat, Tree, Json}
+use Rattle.poke_batch.specs.declared.mode.Mode.TheVariants.{Flat, Tree, Json, Lines}
 use Rattle.poke_batch.specs.declared.words.Job.{Job}
 use Rattle.poke_batch.specs.declared.words.Job.TheVariants.{Map, Bound, BoundText, Check, Dump}
 
@@ -13,11 +13,12 @@ IsCheckOf name (BoundText pickle type bits mode) = ⊥
 IsCheckOf name (Check pickle) = string_bytes pickle ≡ name
 IsCheckOf name (Dump from size ruler file) = ⊥
 
--- `tree` and `json` name modes of their own, all other words the first
+-- `tree`, `json` and `lines` name modes of their own, all other words the first
 abbrev pub NamesMode : List ℕ → Mode → Type 0
-NamesMode word Flat = (word ≢ codes "tree") × (word ≢ codes "json")
+NamesMode word Flat = (word ≢ codes "tree") × (word ≢ codes "json") × (word ≢ codes "lines")
 NamesMode word Tree = word ≡ codes "tree"
 NamesMode word Json = word ≡ codes "json"
+NamesMode word Lines = word ≡ codes "lines"
 
 -- a mapping whose value is written in the mode that a word names
 abbrev pub WritesInMode : List ℕ → Job → Type 0

@@ -1,11 +1,16 @@
 //! The laws of the texts of values. These functions do nothing: the contract of each is a law.
 
-ghost use Rattle.poke_batch.specs.Laws.{PrintsJson};
+ghost use Rattle.poke_batch.specs.Laws.{PrintsJson, LinesNameParts};
 ghost use Rattle.poke_batch.specs.TextLaws.{TextsAreBounded, MeantTextsAreBounded, AnyModeIsBounded, OutputsAreBounded};
 
 /// What is printed in JSON, of a value whose numbers and numbers of members are below 2^64, is a text of the grammar of RFC 8259.
 pub fn prints_json()
     ensures law { PrintsJson }
+{}
+
+/// What is printed of a value over lines are lines of parts that have no parts, each behind a path that leads to its part.
+pub fn lines_name_parts()
+    ensures law { LinesNameParts }
 {}
 
 /// A value that fits a type over so many bits has, in each mode, a text of at most as many bytes as the type's bound.

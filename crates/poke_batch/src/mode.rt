@@ -7,4 +7,6 @@ pub enum Mode {
     Tree,
     /// In JSON, on one line.
     Json,
+    /// A line for each part that has no parts: its path, start, size and text.
+    Lines,
 }

@@ -5,8 +5,10 @@ mod escape;
 mod flat;
 mod json;
 mod line;
+mod lines;
 mod name;
 mod number;
+mod steps;
 mod string;
 pub(crate) mod suffix;
 mod tree;
@@ -23,6 +25,7 @@ use crate::write::WriteFault;
 use flat::put_flat;
 use json::put_json;
 use line::Line;
+use lines::put_lines;
 use pickle_map::ValueRef;
 use std::io::Write;
 use tree::put_tree;
@@ -52,5 +55,6 @@ fn put_printed<W: Write>(
         Mode::Flat => put_flat(w, line, value),
         Mode::Tree => put_tree(w, line, value),
         Mode::Json => put_json(w, line, value),
+        Mode::Lines => put_lines(w, line, value),
     }
 }

@@ -36,7 +36,8 @@ pub fn most_text_in_any(table: &Table, id: TypeId, bits: u64) -> Option<u128>
     let flat = most_text(table, id, bits, Mode::Flat);
     let tree = most_text(table, id, bits, Mode::Tree);
     let json = most_text(table, id, bits, Mode::Json);
-    greater_of(flat, greater_of(tree, json))
+    let lines = most_text(table, id, bits, Mode::Lines);
+    greater_of(flat, greater_of(tree, greater_of(json, lines)))
 }
 
 /// The most bytes of the text of a value of a type over so many bits in a mode, where one is named, or else whatever

@@ -160,6 +160,7 @@ fn mode_of(word: &str) -> Mode
     match word {
         "tree" => Mode::Tree,
         "json" => Mode::Json,
+        "lines" => Mode::Lines,
         _ => Mode::Flat,
     }
 }

@@ -10,10 +10,10 @@ mod checks;
 #[cfg(test)]
 mod dumps;
 #[cfg(test)]
+mod modes;
+#[cfg(test)]
 mod offset_words;
 #[cfg(test)]
 mod pickles;
-#[cfg(test)]
-mod trees;
 #[cfg(test)]
 mod words;

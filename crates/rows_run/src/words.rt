@@ -20,7 +20,9 @@ map p T f ==> Map { at: 0, order: Big, limit: 1000000000, mode: Flat, pickle: "p
 map p --endian=little T --at=2#B f --limit 7 --mode flat ==> Map { at: 16, order: Little, limit: 7, mode: Flat, pickle: "p", name: "T", file: "f" }
 map --limit 18446744073709551615 -- p T f ==> Map { at: 0, order: Big, limit: 18446744073709551615, mode: Flat, pickle: "p", name: "T", file: "f" }
 map --limit +5 p T f ==> Map { at: 0, order: Big, limit: 5, mode: Flat, pickle: "p", name: "T", file: "f" }
-map --mode tree p T f ==> Map { at: 0, order: Big, limit: 1000000000, mode: Tree, pickle: "p", name: "T", file: "f" }"#;
+map --mode tree p T f ==> Map { at: 0, order: Big, limit: 1000000000, mode: Tree, pickle: "p", name: "T", file: "f" }
+map --mode json p T f ==> Map { at: 0, order: Big, limit: 1000000000, mode: Json, pickle: "p", name: "T", file: "f" }
+map --mode=lines p T f ==> Map { at: 0, order: Big, limit: 1000000000, mode: Lines, pickle: "p", name: "T", file: "f" }"#;
 
 /// Words that are no job.
 const WRONG: &str = r#"map --at 8 p T f ==> refused offset

@@ -1,9 +1,10 @@
 //! Lays out integers in bytes.
-ghost use Rattle.std.specs.Prelude.{◌≡◌, ◌+◌, ◌≤◌, [], ◌∷◌, ◌++◌, length, take, decimal, unsigned_abs};
+ghost use Rattle.std.specs.Prelude.{◌≡◌, ◌+◌, ◌≤◌, [], ◌∷◌, ◌++◌, length, take, codes, decimal, unsigned_abs};
 ghost use Rattle.std.specs.Fmt.{signed_decimal};
 ghost use Rattle.poke_batch.specs.Suffixes.{sign_letter, letter_text, suffix_text};
 ghost use Rattle.poke_batch.specs.TreeText.{in_brackets};
 ghost use Rattle.poke_batch.specs.JsonText.{place_key};
+ghost use Rattle.poke_batch.specs.LinesText.{bits_cell};
 
 use crate::print::bytes::{Bytes, LINE_ROOM, push};
 use crate::print::suffix::Suffix;
@@ -67,6 +68,30 @@ pub fn push_place_key(bytes: &mut Bytes, at: usize, place: u64) -> usize
     let at = push(bytes, at, b'"');
     let at = push_digits(bytes, at, place);
     push(bytes, at, b'"')
+}
+
+/// Lays out a dot and a number, and tells where it ends.
+#[inline(always)]
+pub fn push_place(bytes: &mut Bytes, at: usize, place: u64) -> usize
+    requires { at + LONGEST_NUMBER ≤ LINE_ROOM }
+    ensures text { take result bytes.new ≡ take at bytes.old ++ (codes "." ++ decimal place) }
+    ensures len { result ≤ LINE_ROOM }
+{
+    let at = push(bytes, at, b'.');
+    push_digits(bytes, at, place)
+}
+
+/// Lays out a tab and so many bits as an offset word, and tells where it ends.
+#[inline(always)]
+pub fn push_bits(bytes: &mut Bytes, at: usize, bits: u64) -> usize
+    requires { at + LONGEST_NUMBER ≤ LINE_ROOM }
+    ensures text { take result bytes.new ≡ take at bytes.old ++ bits_cell bits }
+    ensures len { result ≤ LINE_ROOM }
+{
+    let at = push(bytes, at, b'\t');
+    let at = push_digits(bytes, at, bits);
+    let at = push(bytes, at, b'#');
+    push(bytes, at, b'b')
 }
 
 #[inline(always)]

@@ -26,11 +26,16 @@ pub fn put_flat<W: Write>(w: &mut W, line: &mut Line, value: ValueRef<'_>) -> Re
     Ok(())
 }
 
+/// Writes a value.
 // Inlined, so that a member costs no call of its own where it is an integer.
 #[tactic(auto, using(crate::proofs::MemberTexts::by_kind))]
 #[inline(always)]
 #[cycle(flat)]
-fn put_value<W: Write>(w: &mut W, line: &mut Line, value: ValueRef<'_>) -> Result<(), WriteFault>
+pub fn put_value<W: Write>(
+    w: &mut W,
+    line: &mut Line,
+    value: ValueRef<'_>,
+) -> Result<(), WriteFault>
     ensures ok { OnOk result (Gathers (W.contents w.old) (W.contents w.new) line.old line.new (value_text (value_shown value.entry))) }
     ensures err { OnErr result (AppendsPart (W.contents w.old) (W.contents w.new) (line.old ++ value_text (value_shown value.entry))) }
 {

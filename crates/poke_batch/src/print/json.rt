@@ -56,8 +56,8 @@ fn put_offset<W: Write>(
     magnitude: i128,
     unit: u32,
 ) -> Result<(), WriteFault>
-    ensures ok { OnOk result (Gathers (W.contents w.old) (W.contents w.new) line.old line.new (json_offset (signed_decimal magnitude) (decimal unit))) }
-    ensures err { OnErr result (AppendsPart (W.contents w.old) (W.contents w.new) (line.old ++ json_offset (signed_decimal magnitude) (decimal unit))) }
+    ensures ok { OnOk result (Gathers (W.contents w.old) (W.contents w.new) line.old line.new (json_offset magnitude unit)) }
+    ensures err { OnErr result (AppendsPart (W.contents w.old) (W.contents w.new) (line.old ++ json_offset magnitude unit)) }
 {
     line.put(w, b"{\"magnitude\":")?;
     line.put_integer(w, magnitude)?;

@@ -1,5 +1,5 @@
 //! Gathers small texts, so that the writer is called once for many.
-ghost use Rattle.std.specs.Prelude.{◌≡◌, ◌+◌, ◌≤◌, ◌++◌, [], length, codes, OnOk, OnErr};
+ghost use Rattle.std.specs.Prelude.{◌≡◌, ◌+◌, ◌≤◌, ◌++◌, [], length, codes, decimal, OnOk, OnErr};
 ghost use Rattle.std.specs.Fmt.{signed_decimal};
 ghost use Rattle.std.specs.Io.KnownBytes.{Appends};
 ghost use Rattle.poke_batch.specs.Written.{AppendsPart};
@@ -9,10 +9,12 @@ ghost use Rattle.poke_batch.specs.TreeText.{in_brackets};
 ghost use Rattle.poke_batch.specs.ValueText.{comma};
 ghost use Rattle.poke_batch.specs.JsonText.{place_key};
 ghost use Rattle.poke_batch.specs.JsonParts.{plain_key};
+ghost use Rattle.poke_batch.specs.LinesText.{bits_cell};
 
 use crate::print::bytes::{LINE_ROOM, SHORT, push_key, push_name, push_short};
 use crate::print::digits::{
-    LONGEST_NUMBER, push_in_brackets, push_number, push_place_key, push_signed, push_suffix,
+    LONGEST_NUMBER, push_bits, push_in_brackets, push_number, push_place, push_place_key,
+    push_signed, push_suffix,
 };
 use crate::print::suffix::Suffix;
 use crate::write::{WriteFault, put};
@@ -237,6 +239,30 @@ impl Line {
     {
         self.make_room(w)?;
         self.len = push_place_key(&mut self.bytes, self.len, place as u64);
+        Ok(())
+    }
+
+    /// Adds a dot and a number, as [`Line::put`] adds a text.
+    #[tactic(auto, using(crate::proofs::Gathered::gathers_then))]
+    #[inline(always)]
+    pub fn put_place<W: Write>(&mut self, w: &mut W, place: usize) -> Result<(), WriteFault>
+        ensures ok { OnOk result (Gathers (W.contents w.old) (W.contents w.new) self.old self.new (codes "." ++ decimal place)) }
+        ensures err { OnErr result (AppendsPart (W.contents w.old) (W.contents w.new) (self.old ++ (codes "." ++ decimal place))) }
+    {
+        self.make_room(w)?;
+        self.len = push_place(&mut self.bytes, self.len, place as u64);
+        Ok(())
+    }
+
+    /// Adds a tab and so many bits as an offset word, as [`Line::put`] adds a text.
+    #[tactic(auto, using(crate::proofs::Gathered::gathers_then))]
+    #[inline(always)]
+    pub fn put_bits<W: Write>(&mut self, w: &mut W, bits: u64) -> Result<(), WriteFault>
+        ensures ok { OnOk result (Gathers (W.contents w.old) (W.contents w.new) self.old self.new (bits_cell bits)) }
+        ensures err { OnErr result (AppendsPart (W.contents w.old) (W.contents w.new) (self.old ++ bits_cell bits)) }
+    {
+        self.make_room(w)?;
+        self.len = push_bits(&mut self.bytes, self.len, bits);
         Ok(())
     }
 

@@ -3,9 +3,9 @@ ghost use Rattle.std.specs.Prelude.{◌≡◌, ◌<◌, ◌≤◌, ◌++◌, fal
 ghost use Rattle.std.specs.List.{prefix_len};
 ghost use Rattle.poke_batch.specs.Written.{AppendsPart};
 ghost use Rattle.poke_batch.specs.Gathered.{Gathers};
-ghost use Rattle.poke_batch.specs.ValueText.{string_text, spelled, is_plain};
+ghost use Rattle.poke_batch.specs.ValueText.{string_text, is_plain};
 ghost use Rattle.poke_batch.specs.JsonText.{json_string};
-ghost use Rattle.poke_batch.specs.Escaped.{escape_of};
+ghost use Rattle.poke_batch.specs.Escaped.{spelled_by};
 
 use super::escape::{Escapes, put_escape};
 use super::line::Line;
@@ -44,8 +44,8 @@ fn put_bytes<W: Write>(
     escapes: Escapes,
     bytes: &[u8],
 ) -> Result<(), WriteFault>
-    ensures ok { OnOk result (Gathers (W.contents w.old) (W.contents w.new) line.old line.new (spelled (escape_of escapes) bytes.now)) }
-    ensures err { OnErr result (AppendsPart (W.contents w.old) (W.contents w.new) (line.old ++ spelled (escape_of escapes) bytes.now)) }
+    ensures ok { OnOk result (Gathers (W.contents w.old) (W.contents w.new) line.old line.new (spelled_by escapes bytes.now)) }
+    ensures err { OnErr result (AppendsPart (W.contents w.old) (W.contents w.new) (line.old ++ spelled_by escapes bytes.now)) }
 {
     let mut done = 0;
     while done < bytes.len() {
@@ -63,8 +63,8 @@ fn put_next<W: Write>(
 ) -> Result<usize, WriteFault>
     requires { 0 < length bytes.now }
     ensures some { IfOk result (λ n. (0 < n) × (n ≤ length bytes.now)) }
-    ensures ok { IfOk result (λ n. Gathers (W.contents w.old) (W.contents w.new) line.old line.new (spelled (escape_of escapes) (take n bytes.now))) }
-    ensures err { OnErr result (AppendsPart (W.contents w.old) (W.contents w.new) (line.old ++ spelled (escape_of escapes) bytes.now)) }
+    ensures ok { IfOk result (λ n. Gathers (W.contents w.old) (W.contents w.new) line.old line.new (spelled_by escapes (take n bytes.now))) }
+    ensures err { OnErr result (AppendsPart (W.contents w.old) (W.contents w.new) (line.old ++ spelled_by escapes bytes.now)) }
 {
     let run = plain_len(bytes);
     if run == 0 {

@@ -87,7 +87,8 @@ fn put_below<W: Write>(
     }
 }
 
-fn has_parts(kind: Kind) -> bool
+/// Whether the members of values of a kind have lines of their own.
+pub fn has_parts(kind: Kind) -> bool
     ensures { result ≡ has_parts kind }
 {
     match kind {

@@ -141,9 +141,10 @@ pub fn integer_size(mode: Mode, bits: u64, ty: IntegerType) -> NodeSize
     requires width { IsWidth ty }
     ensures { AreSizes result mode (IntegerOf ty) bits }
 {
-    let own = integer_room(mode, ty) + line_room(mode, bits);
+    let width = u64::from(ty.width);
+    let own = integer_room(mode, ty) + line_room(mode, bits, width);
     NodeSize {
-        least: Some(u64::from(ty.width)),
+        least: Some(width),
         size: with_parts(mode, own, no_size()),
     }
 }
@@ -153,9 +154,10 @@ pub fn offset_size(mode: Mode, bits: u64, ty: IntegerType, unit: u32) -> NodeSiz
     requires width { IsWidth ty }
     ensures { AreSizes result mode (OffsetOf ty unit) bits }
 {
-    let own = offset_room(mode, ty, unit) + line_room(mode, bits);
+    let width = u64::from(ty.width);
+    let own = offset_room(mode, ty, unit) + line_room(mode, bits, width);
     NodeSize {
-        least: Some(u64::from(ty.width)),
+        least: Some(width),
         size: with_parts(mode, own, no_size()),
     }
 }
@@ -164,7 +166,7 @@ pub fn offset_size(mode: Mode, bits: u64, ty: IntegerType, unit: u32) -> NodeSiz
 pub fn string_size(mode: Mode, bits: u64) -> NodeSize
     ensures { AreSizes result mode StringOf bits }
 {
-    let own = string_room(mode, bits) + line_room(mode, bits);
+    let own = string_room(mode, bits) + line_room(mode, bits, bits);
     NodeSize {
         least: Some(8),
         size: with_parts(mode, own, no_size()),
@@ -176,7 +178,7 @@ pub fn array_size(mode: Mode, bits: u64, element: NodeSize) -> NodeSize
     ensures { (type : PokeType) (bound : Bound) → AreSizes element mode type bits → AreSizes result mode (ArrayOf type bound) bits }
 {
     let count = elements(bits, element.least);
-    let own = array_room(mode, count) + line_room(mode, bits);
+    let own = array_room(mode, count) + line_room(mode, bits, bits);
     let before = element_before(mode, count);
     let moves = element_moves(mode, count);
     let parts = repeated(count, moved(before, moves, element.size));
@@ -208,7 +210,7 @@ pub fn struct_size(
     ensures { (all : Fields) → AreFieldSizes fields mode 0 all bits → AreSizes result mode (StructOf (name_of name.now) pinned all) bits }
 {
     let least = least_of_fields(pinned, fields);
-    let own = titled_room(mode, b"struct", name) + line_room(mode, bits);
+    let own = titled_room(mode, b"struct", name) + line_room(mode, bits, bits);
     NodeSize {
         least,
         size: with_parts(mode, own, fields.size),
@@ -225,9 +227,10 @@ pub fn integral_size(
 ) -> NodeSize
     ensures { (all : Parts) → ArePartSizes fields mode 0 all bits → AreSizes result mode (IntegralOf (name_of name.now) ty all) bits }
 {
-    let own = titled_room(mode, b"struct", name) + line_room(mode, bits);
+    let width = u64::from(ty.width);
+    let own = titled_room(mode, b"struct", name) + line_room(mode, bits, width);
     NodeSize {
-        least: Some(u64::from(ty.width)),
+        least: Some(width),
         size: with_parts(mode, own, fields.all),
     }
 }
@@ -236,7 +239,7 @@ pub fn integral_size(
 pub fn union_size(mode: Mode, bits: u64, name: &Option<Name>, alternatives: PartSizes) -> NodeSize
     ensures { (all : Parts) → ArePartSizes alternatives mode 0 all bits → AreSizes result mode (UnionOf (name_of name.now) all) bits }
 {
-    let own = titled_room(mode, b"union", name) + line_room(mode, bits);
+    let own = titled_room(mode, b"union", name) + line_room(mode, bits, bits);
     NodeSize {
         least: alternatives.least,
         size: with_parts(mode, own, alternatives.greatest),

@@ -4,6 +4,7 @@ ghost use Rattle.std.specs.Fmt.{signed_decimal};
 ghost use Rattle.pickle_types.specs.Sound.{IsWidth};
 ghost use Rattle.pickle_types.specs.Table.{name_of};
 ghost use Rattle.poke_batch.specs.Suffixes.{suffix_text};
+ghost use Rattle.poke_batch.specs.PathText.{field_step};
 ghost use Rattle.poke_batch.specs.JsonText.{json_escape, json_offset, key_text};
 ghost use Rattle.poke_batch.specs.ValueText.{spelled, spelled_byte, integer_text, typed_text, suffix_of, unit_text, title_text, name_text};
 ghost use Rattle.poke_batch.specs.TreeText.{in_brackets};
@@ -79,7 +80,7 @@ pub fn integer_room(mode: Mode, ty: IntegerType) -> u128
     ensures few { result ≤ 101 }
 {
     match mode {
-        Mode::Flat | Mode::Tree => typed_room(ty),
+        Mode::Flat | Mode::Tree | Mode::Lines => typed_room(ty),
         Mode::Json => longest_digits(ty),
     }
 }
@@ -102,15 +103,16 @@ pub fn offset_room(mode: Mode, ty: IntegerType, unit: u32) -> u128
     ensures few { result ≤ 142 }
 {
     match mode {
-        Mode::Flat | Mode::Tree => typed_room(ty) + 1 + unit_room(unit),
+        Mode::Flat | Mode::Tree | Mode::Lines => typed_room(ty) + 1 + unit_room(unit),
         Mode::Json => json_offset_room(ty, unit),
     }
 }
 
 /// The longest object of an offset.
+#[tactic(auto, using(crate::proofs::NumberLengths::json_offset_length))]
 fn json_offset_room(ty: IntegerType, unit: u32) -> u128
     requires width { IsWidth ty }
-    ensures count { result ≡ length (json_offset (signed_decimal (longest_number ty)) (decimal unit)) }
+    ensures count { result ≡ length (json_offset (longest_number ty) unit) }
     ensures few { result ≤ 142 }
 {
     22 + longest_digits(ty) + digits(u128::from(unit))
@@ -122,7 +124,7 @@ pub fn string_room(mode: Mode, bits: u64) -> u128
 {
     let most = u128::from((bits / 8).saturating_sub(1));
     match mode {
-        Mode::Flat | Mode::Tree => 2 + 4 * most,
+        Mode::Flat | Mode::Tree | Mode::Lines => 2 + 4 * most,
         Mode::Json => 2 + 6 * most,
     }
 }
@@ -140,7 +142,7 @@ pub fn array_room(mode: Mode, count: u128) -> u128
     ensures few { result ≤ 42 }
 {
     match mode {
-        Mode::Flat | Mode::Json => 2,
+        Mode::Flat | Mode::Json | Mode::Lines => 2,
         Mode::Tree => brackets_room(count),
     }
 }
@@ -161,20 +163,21 @@ pub fn titled_room(mode: Mode, sort: &[u8], name: &Option<Name>) -> u128
     ensures few { result < 2 ^ 65 }
 {
     match mode {
-        Mode::Flat => title_room(sort, name) + 3,
+        Mode::Flat | Mode::Lines => title_room(sort, name) + 3,
         Mode::Tree => title_room(sort, name),
         Mode::Json => 2,
     }
 }
 
-/// What stands round the text of a value on a line of its own.
-pub fn line_room(mode: Mode, bits: u64) -> u128
-    ensures count { result ≡ line_room mode bits }
-    ensures few { result ≤ 1 }
+/// What stands round the text of a value on a line of its own: in lines its start, at most `bits`, and its size, at most `widest`.
+pub fn line_room(mode: Mode, bits: u64, widest: u64) -> u128
+    ensures count { result ≡ line_room mode bits widest }
+    ensures few { result ≤ 88 }
 {
     match mode {
         Mode::Flat | Mode::Json => 0,
         Mode::Tree => 1,
+        Mode::Lines => 8 + (digits(u128::from(bits)) + digits(u128::from(widest))),
     }
 }
 
@@ -185,6 +188,7 @@ pub fn element_before(mode: Mode, place: u128) -> u128
     match mode {
         Mode::Flat | Mode::Json => 1,
         Mode::Tree => brackets_room(place) + 1,
+        Mode::Lines => 0,
     }
 }
 
@@ -195,6 +199,7 @@ pub fn element_moves(mode: Mode, place: u128) -> u128
     match mode {
         Mode::Flat | Mode::Json => 0,
         Mode::Tree => 2,
+        Mode::Lines => brackets_room(place),
     }
 }
 
@@ -251,6 +256,17 @@ pub fn field_before(mode: Mode, name: &Option<Name>, place: usize) -> u128
         Mode::Flat => 1 + name_room(name),
         Mode::Tree => name_room(name),
         Mode::Json => 2 + key_room(name, place),
+        Mode::Lines => 0,
+    }
+}
+
+/// The step of a path to a field or an alternative.
+fn step_room(name: &Option<Name>, place: usize) -> u128
+    ensures count { result ≡ length (field_step (name_of name.now) place) }
+{
+    match name {
+        Some(name) => 1 + name.as_slice().len() as u128,
+        None => 1 + digits(place as u128),
     }
 }
 
@@ -261,15 +277,16 @@ pub fn field_moves(mode: Mode, name: &Option<Name>, place: usize) -> u128
     match mode {
         Mode::Flat | Mode::Json => 0,
         Mode::Tree => 2,
+        Mode::Lines => step_room(name, place),
     }
 }
 
-/// The line feed behind a text of one line.
+/// The line feed behind a text of one line, and the dot that is the path of a value without parts.
 pub fn end_room(mode: Mode) -> u128
     ensures count { result ≡ end_room mode }
 {
     match mode {
-        Mode::Flat | Mode::Json => 1,
+        Mode::Flat | Mode::Json | Mode::Lines => 1,
         Mode::Tree => 0,
     }
 }

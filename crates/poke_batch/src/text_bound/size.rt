@@ -27,12 +27,13 @@ fn times(count: u128, each: Option<u128>) -> Option<u128>
     }
 }
 
-/// What a value has of its own, and what its parts have.
+/// What a value has of its own, and what its parts have, or in lines the one or the other.
 fn joined(mode: Mode, own: Option<u128>, parts: Option<u128>) -> Option<u128>
     ensures { (x y : ℕ) → IsBound own x → IsBound parts y → IsBound result (joined mode x y) }
 {
     match mode {
         Mode::Flat | Mode::Tree | Mode::Json => sum_of(own, parts),
+        Mode::Lines => greater_of(own, parts),
     }
 }
 

@@ -19,7 +19,7 @@ Options of map:
   --at OFFSET      where the value begins [default: 0#b]
   --endian ORDER   byte order, big or little [default: big]
   --limit N        the most steps of the mapping, 0 to 18446744073709551615 [default: 1000000000]
-  --mode MODE      how the value is written, flat, tree or json [default: flat]
+  --mode MODE      how the value is written: flat, tree, json or lines [default: flat]
 
 Options of bound:
   --text           print the most bytes of the text too
@@ -100,7 +100,7 @@ pub fn program<'a>(alloc: Global) -> Result<Command<'a>, AllocError> {
 
 fn map<'a>(alloc: Global) -> Result<Command<'a>, AllocError> {
     let orders = ["big", "little"].as_slice();
-    let modes = ["flat", "tree", "json"].as_slice();
+    let modes = ["flat", "tree", "json", "lines"].as_slice();
     Command::new(alloc, "map")
         .about("Maps a type over a file and prints the value")
         .after_help(MAP_HELP)
@@ -129,7 +129,7 @@ fn bound<'a>(alloc: Global) -> Result<Command<'a>, AllocError> {
         .long("text")
         .action(ArgAction::SetTrue)
         .help("Print the most bytes of the text too");
-    let modes = ["flat", "tree", "json"].as_slice();
+    let modes = ["flat", "tree", "json", "lines"].as_slice();
     let mode = Arg::new(alloc, "mode")
         .long("mode")
         .value_name("MODE")
