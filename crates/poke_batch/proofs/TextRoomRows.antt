@@ -74,7 +74,7 @@ unfolding most_text size_of integer_text digits
 a_union = refl
 
 -- {,"a":255,"1":4294967295} and a line feed
-a_json_struct : most_text Json pair 40 ≡ 27
+a_json_struct : most_text Json pair 40 ≡ 26
 unfolding most_text size_of json_string digits
 a_json_struct = refl
 

@@ -14,6 +14,6 @@ loop-byte-preserved c =
     let two = length-append (spelled json_escape (take at bytes)) (spelled json_escape (get_or bytes at 0 ∷ [])) in
     let one = length-append (spelled_byte json_escape (get_or bytes at 0)) [] in
     record {
-      so_far = omega (arith, c.loop-byte.invariant.so_far, c.json_byte_room.ensures.count, more, split, two, one);
-      few = omega (arith, c.loop-byte.invariant.few, c.json_byte_room.ensures.few);
+      so_far = omega (arith, c.loop-byte.invariant.so_far, c.json_byte_room-room.ensures.count, more, split, two, one);
+      few = omega (arith, c.loop-byte.invariant.few, c.json_byte_room-room.ensures.few);
     }
