@@ -215,8 +215,17 @@ mutual
   json_members_short before label h place first (AbsentThen rest) = json_members_short before label h (suc place) first rest
   json_members_short before label h place first (MemberThen value rest) =
       let front = comma first ++ before place in
-      omega (arith, json_short value, json_members_short before label h (suc place) false rest, comma_short first, h place, json_moves label place (size_in Json value).lines,
-      length-append (front ++ json_text value) (json_members before (suc place) false rest), length-append front (json_text value), length-append (comma first) (before place))
+      omega (
+        arith,
+        json_short value,
+        json_members_short before label h (suc place) false rest,
+        comma_short first,
+        h place,
+        json_moves label place (size_in Json value).lines,
+        length-append (front ++ json_text value) (json_members before (suc place) false rest),
+        length-append front (json_text value),
+        length-append (comma first) (before place),
+      )
 
 -- ---- a line for each part without parts
 
@@ -244,8 +253,15 @@ cell_length bits = omega (arith, length-append (decimal bits) (codes "#b"))
 leaf_length : (steps : List ℕ) (v : Value) → length (leaf_line steps v) ≡ length (path_text steps) + (8 + (length (decimal (start_of v)) + length (decimal (end_of v - start_of v))) + length (value_text v))
 leaf_length steps v =
     let size = end_of v - start_of v in
-    omega (arith, cell_length (start_of v), cell_length size, length-append (bits_cell (start_of v)) (bits_cell size), length-append (path_text steps) (place_cells v ++ text_cell v),
-    length-append (place_cells v) (text_cell v), length-append (value_text v) (codes "\n"))
+    omega (
+      arith,
+      cell_length (start_of v),
+      cell_length size,
+      length-append (bits_cell (start_of v)) (bits_cell size),
+      length-append (path_text steps) (place_cells v ++ text_cell v),
+      length-append (place_cells v) (text_cell v),
+      length-append (value_text v) (codes "\n"),
+    )
 
 path_length : (steps : List ℕ) → 0 < length steps → length (path_text steps) ≡ length steps
 path_length [] lt = absurd (omega (arith, lt))
@@ -290,8 +306,13 @@ mutual
           omega (arith, few, mul-le-mul_left {m = parts.lines} {n = max 1 parts.lines} (length steps) (omega arith))
       chosen few false e =
           let parts = members_in Lines label 0 members in
-          omega (arith, leaf_short label start end members e, leaf_length steps (Mapped label start end members), path_length steps some,
-          mul-le-mul_left {m = 1} {n = max 1 parts.lines} (length steps) (omega arith))
+          omega (
+            arith,
+            leaf_short label start end members e,
+            leaf_length steps (Mapped label start end members),
+            path_length steps some,
+            mul-le-mul_left {m = 1} {n = max 1 parts.lines} (length steps) (omega arith),
+          )
 
   branches_short : (steps : List ℕ) (label : Label) (place : ℕ) (members : Members) → length (branches_text steps label place members) ≤ (members_in Lines label place members).text + length steps * (members_in Lines label place members).lines
   branches_short steps label place NoMembers = omega arith
@@ -303,8 +324,15 @@ mutual
       let long = length-append steps step in
       let first = lines_short (steps ++ step) value (omega (arith, long, step_some label place)) in
       let moves = step_length label place in
-      omega (arith, rw (long, moves) at first, branches_short steps label (suc place) rest, lines_before label place, add-mul (length steps) (member_moves Lines label place) one.lines,
-      mul-add (length steps) one.lines more.lines, length-append (leaves_text (steps ++ step) value) (branches_text steps label (suc place) rest))
+      omega (
+        arith,
+        rw (long, moves) at first,
+        branches_short steps label (suc place) rest,
+        lines_before label place,
+        add-mul (length steps) (member_moves Lines label place) one.lines,
+        mul-add (length steps) one.lines more.lines,
+        length-append (leaves_text (steps ++ step) value) (branches_text steps label (suc place) rest),
+      )
 
 -- a value without parts has a dot for its path
 pub all_lines_short : (v : Value) → length (part_lines v) ≤ (size_in Lines v).text + 1

@@ -76,15 +76,7 @@ fn run_job<R: Files<File = File> + Input + AllocGlobal, O: Write, E: Write>(
             mode,
         } => {
             let pickle = read_pickle_of(rt, pickle.as_str())?;
-            Ok(run_bound_text(
-                rt.alloc(),
-                &pickle,
-                name.as_bytes(),
-                bits,
-                mode,
-                out,
-                err,
-            ))
+            Ok(run_bound_text(rt.alloc(), &pickle, name.as_bytes(), bits, mode, out, err))
         }
         Job::Check { pickle } => {
             let pickle = read_pickle_of(rt, pickle.as_str())?;
