@@ -1,4 +1,5 @@
 //! The runs: from a pickle's bytes to a text or a line.
+mod bound_text;
 
 ghost use Rattle.std.specs.Prelude.{◌≡◌, ℕ, ◌*◌, ◌≤◌, List, Some, IsSome, OnOk, OnErr, IfOk, Option};
 ghost use Rattle.std.specs.Io.KnownBytes.{Appends};
@@ -21,6 +22,7 @@ use crate::tell_value::tell_value;
 use crate::terms::Terms;
 use crate::write::WriteFault;
 use bit_space::{Memory, Meter, Space};
+pub use bound_text::run_bound_text;
 use pickle_map::{MapFault, MapFaultKind, Store, map};
 use pickle_types::type_table::{Table, TypeId};
 use std::alloc::Global;
@@ -145,9 +147,7 @@ fn map_new<S: Space, O: Write, E: Write>(
     ensures keeps { Keeps (S.view space.old) (S.view space.new) }
 {
     match store_of(alloc, terms.most_slots) {
-        Ok(mut store) => map_stored(
-            alloc, table, id, ask, terms, &mut store, space, out, err,
-        ),
+        Ok(mut store) => map_stored(alloc, table, id, ask, terms, &mut store, space, out, err),
         Err(Memory) => fail(err, b"Memory"),
     }
 }

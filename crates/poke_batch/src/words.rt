@@ -6,7 +6,7 @@ ghost use Rattle.std.specs.Prelude.{◌≡◌, ℕ, ◌*◌, ◌^◌, ◌≤◌,
 ghost use Rattle.std.specs.Option.{unwrap_or};
 ghost use Rattle.clap.specs.Matches.{found_of, first_value};
 ghost use Rattle.poke_batch.specs.OffsetWord.{IsOffsetWord};
-ghost use Rattle.poke_batch.specs.Words.{IsCheckOf, NamesMode, WritesInMode};
+ghost use Rattle.poke_batch.specs.Words.{IsCheckOf, NamesMode, WritesInMode, BoundsTextIn};
 ghost use Rattle.poke_batch.specs.declared.words.WordFault.TheVariants.{Memory};
 
 use crate::mode::Mode;
@@ -64,6 +64,14 @@ pub enum Job {
         pickle: String,
         name: String,
         bits: u64,
+    },
+    /// Tell the most steps and slots that mapping a type over so many bits takes, and the most bytes of its text in a
+    /// mode, or in any.
+    BoundText {
+        pickle: String,
+        name: String,
+        bits: u64,
+        mode: Option<Mode>,
     },
     /// Check a pickle.
     Check {
@@ -327,10 +335,28 @@ fn mode_of(word: &str) -> Mode
 }
 
 fn read_bound(alloc: Global, found: &ArgMatches<'_>) -> Result<Job, WordFault> {
+    if found.get_flag("text") {
+        return read_bound_text(alloc, found);
+    }
     Ok(Job::Bound {
         pickle: word_of(alloc, found, "PICKLE")?,
         name: word_of(alloc, found, "TYPE")?,
         bits: found.get_one::<u64>("BITS").unwrap_or(0),
+    })
+}
+
+fn read_bound_text(alloc: Global, found: &ArgMatches<'_>) -> Result<Job, WordFault>
+    ensures { IfOk result (BoundsTextIn (first_value (found_of found.now) (codes "mode"))) }
+{
+    let mode = match found.get_str("mode") {
+        Some(word) => Some(mode_of(word)),
+        None => None,
+    };
+    Ok(Job::BoundText {
+        pickle: word_of(alloc, found, "PICKLE")?,
+        name: word_of(alloc, found, "TYPE")?,
+        bits: found.get_one::<u64>("BITS").unwrap_or(0),
+        mode,
     })
 }
 

@@ -4,12 +4,12 @@ use crate::files::{FileFault, open_space, read_pickle_of};
 use pickle_reasons::explanation;
 use poke_batch::ask::Ask;
 use poke_batch::dump::{DumpFault, dump};
-use poke_batch::run::{run_bound, run_check, run_map_under};
+use poke_batch::run::{run_bound, run_bound_text, run_check, run_map_under};
 use poke_batch::status::Status;
 use poke_batch::tell::fail;
 use poke_batch::terms::Terms;
 use poke_batch::words::{Asked, Job};
-use std::alloc::{AllocError, Global};
+use std::alloc::Global;
 use std::fs::File;
 use std::io::{BufWriter, Input, Write};
 use std::rt::Files;
@@ -137,6 +137,25 @@ fn run_job<R: Files<File = File> + Input + AllocGlobal, O: Write, E: Write>(
         } => {
             let pickle = read_pickle_of(rt, path.as_str())?;
             let status = run_bound(rt.alloc(), &pickle, name.as_bytes(), bits, out, err);
+            explain(
+                rt.alloc(),
+                why,
+                status,
+                &pickle,
+                path.as_str(),
+                Some(name.as_bytes()),
+                reason,
+            );
+            Ok(status)
+        }
+        Job::BoundText {
+            pickle: path,
+            name,
+            bits,
+            mode,
+        } => {
+            let pickle = read_pickle_of(rt, path.as_str())?;
+            let status = run_bound_text(rt.alloc(), &pickle, name.as_bytes(), bits, mode, out, err);
             explain(
                 rt.alloc(),
                 why,
