@@ -26,6 +26,5 @@ pub mod status;
 pub mod tell;
 mod tell_value;
 pub mod terms;
-pub mod text_bound;
 pub mod words;
 pub mod write;

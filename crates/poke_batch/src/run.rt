@@ -1,5 +1,4 @@
 //! The runs: from a pickle's bytes to a text or a line.
-mod bound_text;
 
 ghost use Rattle.std.specs.Prelude.{◌≡◌, ℕ, ◌*◌, ◌≤◌, List, Some, IsSome, OnOk, OnErr, IfOk, Option};
 ghost use Rattle.std.specs.Io.KnownBytes.{Appends};
@@ -22,7 +21,6 @@ use crate::tell_value::tell_value;
 use crate::terms::Terms;
 use crate::write::WriteFault;
 use bit_space::{Memory, Meter, Space};
-pub use bound_text::run_bound_text;
 use pickle_map::{MapFault, MapFaultKind, Store, map};
 use pickle_types::type_table::{Table, TypeId};
 use std::alloc::Global;

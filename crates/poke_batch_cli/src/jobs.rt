@@ -4,7 +4,7 @@ use crate::files::{FileFault, open_space, read_pickle_of};
 use pickle_reasons::explanation;
 use poke_batch::ask::Ask;
 use poke_batch::dump::{DumpFault, dump};
-use poke_batch::run::{run_bound, run_bound_text, run_check, run_map_under};
+use poke_batch::run::{run_bound, run_check, run_map_under};
 use poke_batch::status::Status;
 use poke_batch::tell::fail;
 use poke_batch::terms::Terms;
@@ -13,6 +13,7 @@ use std::alloc::Global;
 use std::fs::File;
 use std::io::{BufWriter, Input, Write};
 use std::rt::Files;
+use text_bounds::run::run_bound_text;
 
 /// The bytes of an answer that are gathered before they are written.
 const GATHERED: usize = 65_536;

@@ -1,0 +1,5 @@
+pub mod TextRoom
+pub mod TextHeld
+pub mod OutputRoom
+pub mod TextLaws
+pub mod TextRuns

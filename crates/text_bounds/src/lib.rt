@@ -1,0 +1,10 @@
+//! The most bytes of text that a value of a type has over so many bits, in each mode.
+#![tactic(auto)]
+
+pub mod bound;
+mod fields;
+pub mod laws;
+mod nodes;
+mod room;
+pub mod run;
+mod size;

@@ -1,0 +1,70 @@
+//! The run that bounds the text of a value too.
+ghost use Rattle.std.specs.Prelude.{ℕ, List};
+ghost use Rattle.pickle_types.specs.TypeTable.{type_named, IsSound, IsInTable};
+ghost use Rattle.poke_batch.specs.Runs.{IsAsked};
+ghost use Rattle.text_bounds.specs.TextRuns.{TextBoundsAs};
+ghost use Rattle.poke_batch.specs.Told.{Says};
+
+use crate::bound::most_text_for;
+use pickle_types::type_table::{Table, TypeId};
+use poke_batch::accept::{accept, tell_refusal};
+use poke_batch::bound::put_bounds_and_text;
+use poke_batch::mode::Mode;
+use poke_batch::status::Status;
+use poke_batch::tell::{answer, fail, refuse};
+use std::alloc::Global;
+use std::io::Write;
+
+/// Tells the most steps and slots that a mapping of a type of a pickle over so many bits takes, and the most bytes of its
+/// text in a mode, or whatever the mode where none is named.
+pub fn run_bound_text<O: Write, E: Write>(
+    alloc: Global,
+    pickle: &[u8],
+    name: &[u8],
+    bits: u64,
+    mode: Option<Mode>,
+    out: &mut O,
+    err: &mut E,
+) -> Status
+    ensures { Says (TextBoundsAs pickle.now name.now bits mode) result
+        (O.contents out.old) (O.contents out.new) (E.contents err.old) (E.contents err.new) }
+{
+    let table = match accept(alloc, pickle) {
+        Ok(table) => table,
+        Err(refusal) => return tell_refusal(err, refusal),
+    };
+    match table.find(name) {
+        Some(ty) => bound_found(alloc, &table, ty, bits, mode, out, err),
+        None => refuse(err, b"NoSuchType"),
+    }
+}
+
+// Tells the bounds of a type of a table.
+fn bound_found<O: Write, E: Write>(
+    alloc: Global,
+    table: &Table,
+    id: TypeId,
+    bits: u64,
+    mode: Option<Mode>,
+    out: &mut O,
+    err: &mut E,
+) -> Status
+    requires sound { IsSound table.now }
+    requires known { IsInTable table.now id }
+    ensures { (pickle name : List ℕ) → IsAsked pickle name (type_named table.now id)
+        → Says (TextBoundsAs pickle name bits mode) result
+        (O.contents out.old) (O.contents out.new) (E.contents err.old) (E.contents err.new) }
+{
+    let Ok(bounds) = table.bounds(alloc, id, bits) else {
+        return fail(err, b"Memory");
+    };
+    match most_text_for(alloc, table, id, bits, mode) {
+        Ok(text) => {
+            answer(
+                put_bounds_and_text(out, bounds.steps, bounds.slots, text),
+                err,
+            )
+        }
+        Err(_) => fail(err, b"Memory"),
+    }
+}
