@@ -10,7 +10,7 @@ mod name;
 mod number;
 mod steps;
 mod string;
-pub(crate) mod suffix;
+pub mod suffix;
 mod tree;
 
 ghost use Rattle.std.specs.Prelude.{◌++◌, OnOk, OnErr};
