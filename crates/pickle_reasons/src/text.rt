@@ -4,6 +4,7 @@ ghost use Rattle.std.specs.Prelude.{◌≡◌, ◌++◌, ◌&&◌, nat_le, [], I
 ghost use Rattle.pickle_reasons.specs.Places.{shown_behind};
 
 use itoa::Buffer;
+use poke_batch::hex::hex_digit;
 use std::alloc::{AllocError, Global};
 
 /// The most bytes of a word that are shown.
@@ -71,8 +72,8 @@ impl Text {
             self.say(&[
                 b'\\',
                 b'x',
-                crate::hex::hex_digit(byte >> 4),
-                crate::hex::hex_digit(byte & 15),
+                hex_digit(byte >> 4),
+                hex_digit(byte & 15),
             ])
         }
     }

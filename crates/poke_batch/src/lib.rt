@@ -12,7 +12,7 @@ pub mod dump;
 pub mod each;
 pub mod fault;
 pub mod file_line;
-mod hex;
+pub mod hex;
 pub mod laws;
 mod lines;
 pub mod mode;

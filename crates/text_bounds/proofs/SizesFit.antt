@@ -20,7 +20,7 @@ use Rattle.poke_batch.specs.declared.mode.Mode.TheVariants.{Flat, Tree, Json, Li
 use Rattle.poke_batch.specs.ValueText.{spelled_byte, spelled, escape_text, is_plain, string_text}
 use Rattle.poke_batch.specs.JsonText.{json_escape, json_string}
 use Rattle.poke_batch.specs.TreeText.{in_brackets}
-use Rattle.poke_batch.specs.TextRoom
+use Rattle.text_bounds.specs.TextRoom
 use Rattle.text_bounds.specs.TextRoom.{Size, integer_room, offset_room, string_room, array_room, titled_room, line_room, element_before, element_moves, field_before, field_moves, joined, with_parts, moved, no_size, both, greater, repeated, array_size, size_of, fields_size, parts_size, greatest_size}
 use Rattle.text_bounds.proofs.NumberLengths.{decimal_longer, number_longest, integer_longest, offset_longest, json_offset_longest}
 use Rattle.text_bounds.proofs.Sizes.{own_room, member_before, member_moves, size_in, members_in}
@@ -96,11 +96,8 @@ json_escape_short : (byte : ℕ) → length (json_escape byte) ≤ 6
 json_escape_short byte =
     if_short (byte == 92) _ _ 6 (omega arith)
     (if_short (byte == 34) _ _ 6 (omega arith)
-    (if_short (byte == 8) _ _ 6 (omega arith)
     (if_short (byte == 9) _ _ 6 (omega arith)
-    (if_short (byte == 10) _ _ 6 (omega arith)
-    (if_short (byte == 12) _ _ 6 (omega arith)
-    (if_short (byte == 13) _ _ 6 (omega arith) (omega arith)))))))
+    (if_short (byte == 10) _ _ 6 (omega arith) (omega arith))))
 
 spelled_short : (escape : ℕ → List ℕ) (n : ℕ) → 1 ≤ n → ((byte : ℕ) → length (escape byte) ≤ n) → (bytes : List ℕ) → length (spelled escape bytes) ≤ n * length bytes
 spelled_short escape n some h [] = omega arith

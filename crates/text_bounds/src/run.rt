@@ -1,5 +1,7 @@
 //! The run that bounds the text of a value too.
-ghost use Rattle.std.specs.Prelude.{ℕ, List};
+ghost use Rattle.std.specs.Prelude.{ℕ, List, IfOk};
+ghost use Rattle.pickle_types.specs.Bounds.{cost, room, IsBound};
+ghost use Rattle.text_bounds.specs.TextRoom.{most_text_for};
 ghost use Rattle.pickle_types.specs.TypeTable.{type_named, IsSound, IsInTable};
 ghost use Rattle.poke_batch.specs.Runs.{IsAsked};
 ghost use Rattle.text_bounds.specs.TextRuns.{TextBoundsAs};
@@ -12,7 +14,7 @@ use poke_batch::bound::put_bounds_and_text;
 use poke_batch::mode::Mode;
 use poke_batch::status::Status;
 use poke_batch::tell::{answer, fail, refuse};
-use std::alloc::Global;
+use std::alloc::{AllocError, Global};
 use std::io::Write;
 
 /// Tells the most steps and slots that a mapping of a type of a pickle over so many bits takes, and the most bytes of its
@@ -39,6 +41,36 @@ pub fn run_bound_text<O: Write, E: Write>(
     }
 }
 
+/// The bounds of a type on so many bits; None for what is 2^128 or more.
+#[derive(Clone, Copy)]
+struct AllBounds {
+    steps: Option<u128>,
+    slots: Option<u128>,
+    text: Option<u128>,
+}
+
+fn all_bounds(
+    alloc: Global,
+    table: &Table,
+    id: TypeId,
+    bits: u64,
+    mode: Option<Mode>,
+) -> Result<AllBounds, AllocError>
+    requires sound { IsSound table.now }
+    requires known { IsInTable table.now id }
+    ensures steps { IfOk result (λ all. IsBound all.steps (cost (type_named table.now id) bits)) }
+    ensures slots { IfOk result (λ all. IsBound all.slots (room (type_named table.now id) bits)) }
+    ensures text { IfOk result (λ all. IsBound all.text (most_text_for mode (type_named table.now id) bits)) }
+{
+    let bounds = table.bounds(alloc, id, bits)?;
+    let text = most_text_for(alloc, table, id, bits, mode)?;
+    Ok(AllBounds {
+        steps: bounds.steps,
+        slots: bounds.slots,
+        text,
+    })
+}
+
 // Tells the bounds of a type of a table.
 fn bound_found<O: Write, E: Write>(
     alloc: Global,
@@ -55,16 +87,8 @@ fn bound_found<O: Write, E: Write>(
         → Says (TextBoundsAs pickle name bits mode) result
         (O.contents out.old) (O.contents out.new) (E.contents err.old) (E.contents err.new) }
 {
-    let Ok(bounds) = table.bounds(alloc, id, bits) else {
-        return fail(err, b"Memory");
-    };
-    match most_text_for(alloc, table, id, bits, mode) {
-        Ok(text) => {
-            answer(
-                put_bounds_and_text(out, bounds.steps, bounds.slots, text),
-                err,
-            )
-        }
+    match all_bounds(alloc, table, id, bits, mode) {
+        Ok(all) => answer(put_bounds_and_text(out, all.steps, all.slots, all.text), err),
         Err(_) => fail(err, b"Memory"),
     }
 }
