@@ -18,3 +18,4 @@ pub mod Placed
 pub mod Items
 pub mod Indexed
 pub mod Selections
+pub mod DeclaredTypes
