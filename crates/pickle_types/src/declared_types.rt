@@ -1,13 +1,17 @@
-//! The declared types of a table, and what is told of them.
+//! What is told of the declared types of a table.
 
-ghost use Rattle.std.specs.Prelude.{◌≡◌, IfOk, slice_get};
+ghost use Rattle.std.specs.Prelude.{◌≡◌, ℕ, ◌<◌, length, map, IfOk};
+ghost use Rattle.pickle_types.specs.Table.{IsTable};
 ghost use Rattle.pickle_types.specs.TypeTable.{types_of, IsSound};
-ghost use Rattle.pickle_types.specs.DeclaredTypes.{shape_kind, declared_in, IsToldOf, HasWidths};
+ghost use Rattle.pickle_types.specs.Built.{named_of};
+ghost use Rattle.pickle_types.specs.Holds.{AreKnown, HoldsWidth};
+ghost use Rattle.pickle_types.specs.DeclaredTypes.{shape_kind, declared_in, held_width, told_of, told_as};
 
 use crate::bounds::{Bounds, node_bounds};
 use crate::known_bounds::known_bounds;
+use crate::names::Named;
 use crate::predeclared::PREDECLARED;
-use crate::table::Shape;
+use crate::table::{Node, Shape};
 use crate::type_table::Table;
 use std::alloc::{AllocError, Global};
 
@@ -32,39 +36,52 @@ pub struct DeclaredType<'t> {
     pub least: Option<u64>,
 }
 
-/// The least widths of the declared types of a table.
-#[derive(Drop)]
-pub struct Widths {
-    known: Vec<Bounds>,
-}
-
 impl Table {
-    /// The least widths of the declared types. They take 80 bytes for each.
-    pub fn widths(&self, alloc: Global) -> Result<Widths, AllocError>
+    /// What is told of each declared type, in the order of the declarations. While it runs it takes 80 bytes of memory more for each.
+    pub fn declared_types(&self, alloc: Global) -> Result<Vec<DeclaredType<'_>>, AllocError>
         requires sound { IsSound self.now }
-        ensures { IfOk result (HasWidths self.now) }
+        ensures { IfOk result (λ told. map told_of told.items ≡ map told_as (declared_in (types_of self.now))) }
     {
         let known = known_bounds(alloc, &self.nodes, &self.roots, 0, self.nodes.len())?;
-        Ok(Widths { known })
-    }
-
-    /// What is told of the declared type at a place, counted from 0, where there is one.
-    pub fn declared_type<'t>(&'t self, widths: &Widths, place: usize) -> Option<DeclaredType<'t>>
-        requires sound { IsSound self.now }
-        requires widths { HasWidths self.now widths.now }
-        ensures { IsToldOf result (slice_get (declared_in (types_of self.now)) place) }
-    {
-        if place >= self.names.map.len() {
-            return None;
+        let mut told = Vec::new(alloc);
+        let mut place = PREDECLARED.len();
+        while place < self.names.len() {
+            let named = &self.names[place];
+            told.push(tell(&self.nodes, &self.roots, known.as_slice(), named))?;
+            place += 1;
         }
-        let (name, declared) = self.names.map.get_index(PREDECLARED.len() + place)?;
-        let node = declared.node;
-        let bounds = node_bounds(&self.nodes, &self.roots, widths.known.as_slice(), 0, node);
-        Some(DeclaredType {
-            name: name.as_slice(),
-            kind: kind_of(&self.nodes[node].shape),
-            least: bounds.least,
-        })
+        Ok(told)
+    }
+}
+
+// What is told of a type that has a name.
+fn tell<'t>(
+    nodes: &[Node],
+    roots: &[usize],
+    known: &[Bounds],
+    named: &'t Named,
+) -> DeclaredType<'t>
+    requires table { IsTable nodes.now }
+    requires known { AreKnown nodes.now roots.now known.now 0 }
+    requires inside { named.now.declared.node < length nodes.now }
+    ensures { told_of result ≡ told_as (named_of nodes.now named.now) }
+{
+    let node = named.declared.node;
+    let bounds = node_bounds(nodes, roots, known, 0, node);
+    DeclaredType {
+        name: named.word.as_slice(),
+        kind: kind_of(&nodes[node].shape),
+        least: held(bounds.least),
+    }
+}
+
+// A width that is held is told as it is.
+fn held(least: Option<u64>) -> Option<u64>
+    ensures { (width : ℕ) → HoldsWidth least width → result ≡ held_width width }
+{
+    match least {
+        Some(width) => Some(width),
+        None => None,
     }
 }
 
