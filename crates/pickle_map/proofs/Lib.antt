@@ -11,7 +11,7 @@ mod Widths
 mod Planned
 mod Exists
 mod Outcomes
-mod OnBits
+pub mod OnBits
 pub mod FamilyRows
 pub mod Grown
 pub mod Counted
@@ -33,7 +33,7 @@ pub mod ShownLabels
 pub mod Lookup
 pub mod Elements
 mod Always
-mod Fitting
+pub mod Fitting
 mod Rooms
 pub mod Followed
 pub mod FaultKinds

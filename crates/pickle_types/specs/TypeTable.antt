@@ -13,6 +13,10 @@ use Rattle.pickle_types.specs.Built.{names_of, AreNamed}
 abbrev pub nodes_of : Table → List Node
 nodes_of t = t.nodes.items
 
+-- the nodes of the declared types that are no other names of earlier ones
+abbrev pub roots_of : Table → List ℕ
+roots_of t = t.roots.items
+
 -- the predeclared and the declared types, each with its name
 abbrev pub types_of : Table → Names
 types_of t = names_of t.nodes.items t.names.items

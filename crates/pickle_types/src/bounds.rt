@@ -43,7 +43,8 @@ pub struct PartBounds {
     pub greatest_slots: Option<u128>,
 }
 
-fn sum_of(a: Option<u128>, b: Option<u128>) -> Option<u128>
+/// The sum of two bounds; None from 2^128 on.
+pub fn sum_of(a: Option<u128>, b: Option<u128>) -> Option<u128>
     ensures { (x y : ℕ) → IsBound a x → IsBound b y → IsBound result (x + y) }
 {
     match (a, b) {
@@ -52,7 +53,8 @@ fn sum_of(a: Option<u128>, b: Option<u128>) -> Option<u128>
     }
 }
 
-fn greater_of(a: Option<u128>, b: Option<u128>) -> Option<u128>
+/// The greater of two bounds.
+pub fn greater_of(a: Option<u128>, b: Option<u128>) -> Option<u128>
     ensures { (x y : ℕ) → IsBound a x → IsBound b y → IsBound result (max x y) }
 {
     match (a, b) {
@@ -72,7 +74,8 @@ fn times(count: u128, each: Option<u128>) -> Option<u128>
     }
 }
 
-fn width_sum(a: Option<u64>, b: Option<u64>) -> Option<u64>
+/// The sum of two widths in bits; None from 2^64 on.
+pub fn width_sum(a: Option<u64>, b: Option<u64>) -> Option<u64>
     ensures { (v w : ℕ) → HoldsWidth a v → HoldsWidth b w → HoldsWidth result (v + w) }
 {
     match (a, b) {
@@ -81,7 +84,8 @@ fn width_sum(a: Option<u64>, b: Option<u64>) -> Option<u64>
     }
 }
 
-fn greater_width(a: Option<u64>, b: Option<u64>) -> Option<u64>
+/// The greater of two widths in bits.
+pub fn greater_width(a: Option<u64>, b: Option<u64>) -> Option<u64>
     ensures { (v w : ℕ) → HoldsWidth a v → HoldsWidth b w → HoldsWidth result (max v w) }
 {
     match (a, b) {
@@ -90,7 +94,8 @@ fn greater_width(a: Option<u64>, b: Option<u64>) -> Option<u64>
     }
 }
 
-fn lesser_width(a: Option<u64>, b: Option<u64>) -> Option<u64>
+/// The lesser of two widths in bits.
+pub fn lesser_width(a: Option<u64>, b: Option<u64>) -> Option<u64>
     ensures { (v w : ℕ) → HoldsWidth a v → HoldsWidth b w → HoldsWidth result (min v w) }
 {
     match (a, b) {
@@ -101,7 +106,7 @@ fn lesser_width(a: Option<u64>, b: Option<u64>) -> Option<u64>
 }
 
 /// How many elements of a least width are tried on so many bits.
-fn elements(bits: u64, least: Option<u64>) -> u128
+pub fn elements(bits: u64, least: Option<u64>) -> u128
     ensures count { (w : ℕ) → HoldsWidth least w → result ≡ count_of bits w }
     ensures some { 0 < result }
 {
@@ -154,7 +159,7 @@ fn bound_weight(extent: &Extent) -> Option<u128>
 }
 
 /// The least width of a field, which is 0 where a condition may leave it absent.
-fn least_present(least: Option<u64>, condition: &Option<Box<Resolved>>) -> Option<u64>
+pub fn least_present(least: Option<u64>, condition: &Option<Box<Resolved>>) -> Option<u64>
     ensures { (w : ℕ) → HoldsWidth least w → HoldsWidth result (where_present (optional_term condition.now) w) }
 {
     match condition {
@@ -191,7 +196,7 @@ fn field_before(field: &Field, own: Bounds, rest: FieldBounds) -> FieldBounds
 }
 
 /// The least width of a part, and of those behind it if there are any.
-fn least_before(own: Option<u64>, rest: Option<u64>, is_last: bool) -> Option<u64>
+pub fn least_before(own: Option<u64>, rest: Option<u64>, is_last: bool) -> Option<u64>
     ensures last { (w : ℕ) → HoldsWidth own w → IsTrue is_last → HoldsWidth result w }
     ensures more { (w v : ℕ) → HoldsWidth own w → HoldsWidth rest v → is_last ≡ false → HoldsWidth result (min w v) }
 {

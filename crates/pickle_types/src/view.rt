@@ -2,7 +2,7 @@
 //! parts, with names resolved to an open level and a place in it.
 
 ghost use Rattle.std.specs.Prelude.{◌≡◌};
-ghost use Rattle.pickle_types.specs.TypeTable.{nodes_of};
+ghost use Rattle.pickle_types.specs.TypeTable.{nodes_of, roots_of};
 
 pub use crate::name::Name;
 pub use crate::table::{Extent, Field, Node, Part, Resolved, Shape};
@@ -14,5 +14,12 @@ impl Table {
         ensures { result.now ≡ nodes_of self.now }
     {
         &self.nodes
+    }
+
+    /// The nodes of the declared types that are no other names of earlier ones, in rising order.
+    pub fn roots(&self) -> &[usize]
+        ensures { result.now ≡ roots_of self.now }
+    {
+        &self.roots
     }
 }

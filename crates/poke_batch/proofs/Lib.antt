@@ -22,9 +22,15 @@ pub mod Mappings
 pub mod UnderTerms
 pub mod PathTexts
 pub mod PartsFound
+pub mod NumberLengths
+pub mod Sizes
+pub mod SizesFit
+pub mod BoundedTexts
+pub mod TextNodes
 mod LineRows
 mod Refused
 mod ValueTextRows
 mod TreeTextRows
+mod TextRoomRows
 mod JsonTextRows
 mod LinesTextRows

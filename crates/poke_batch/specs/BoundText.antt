@@ -13,3 +13,7 @@ bound_line name bound = name ++ (bound_number bound ++ codes "\n")
 -- the most steps, then the most slots
 abbrev pub bound_text : (steps slots : Option ℕ) → List ℕ
 bound_text steps slots = bound_line (codes "steps ") steps ++ bound_line (codes "slots ") slots
+
+-- the most steps, the most slots, then the most bytes of text
+abbrev pub bound_text_and : (steps slots text : Option ℕ) → List ℕ
+bound_text_and steps slots text = bound_text steps slots ++ bound_line (codes "text ") text

@@ -26,6 +26,11 @@ pub mod FileLine
 pub mod Paths
 pub mod Runs
 pub mod RunsUnder
+pub mod TextRoom
+pub mod TextHeld
+pub mod OutputRoom
+pub mod TextLaws
+pub mod TextRuns
 pub mod Accepted
 pub mod Json
 pub mod Laws

@@ -69,7 +69,11 @@ IsStoreOf None store = store.room.growth ≡ Free
 IsStoreOf (Some most) store = store.room ≡ fixed most
 
 -- what is said of a fault of a mapping that began at a bit, in a store of the most slots: there want of memory is want of slots
+abbrev pub fixed_saying : (start : ℕ) → MapFaultKind → (at : ℕ) → Saying
+fixed_saying start fault.Memory at = Line Fault (fault_at_line (codes "Slots") start)
+fixed_saying start kind at = fault_saying kind at
+
+-- the same in a store of the most slots, or in any
 abbrev pub end_saying : (most : Option ℕ) (start : ℕ) → MapFaultKind → (at : ℕ) → Saying
 end_saying None start kind at = fault_saying kind at
-end_saying (Some most) start fault.Memory at = Line Fault (fault_at_line (codes "Slots") start)
-end_saying (Some most) start kind at = fault_saying kind at
+end_saying (Some most) start kind at = fixed_saying start kind at

@@ -1,9 +1,9 @@
 -- What words ask for.
-use Rattle.std.specs.Prelude.{◌≡◌, ◌≢◌, ℕ, List, string_bytes, codes}
+use Rattle.std.specs.Prelude.{◌≡◌, ◌≢◌, ℕ, List, Option, Some, None, string_bytes, codes}
 use Rattle.poke_batch.specs.declared.mode.Mode.{Mode}
 use Rattle.poke_batch.specs.declared.mode.Mode.TheVariants.{Flat, Tree, Json, Lines}
 use Rattle.poke_batch.specs.declared.words.Job.{Job}
-use Rattle.poke_batch.specs.declared.words.Job.TheVariants.{Map, MapUnder, Each, Bound, Check, Dump}
+use Rattle.poke_batch.specs.declared.words.Job.TheVariants.{Map, MapUnder, Each, Bound, BoundText, Check, Dump}
 
 -- a check of the pickle with this name
 abbrev pub IsCheckOf : List ℕ → Job → Type 0
@@ -11,6 +11,7 @@ IsCheckOf name (Map at order limit mode pickle type file) = ⊥
 IsCheckOf name (MapUnder at order limit mode terms pickle type file) = ⊥
 IsCheckOf name (Each at order limit mode terms pickle type files) = ⊥
 IsCheckOf name (Bound pickle type bits) = ⊥
+IsCheckOf name (BoundText pickle type bits mode) = ⊥
 IsCheckOf name (Check pickle) = string_bytes pickle ≡ name
 IsCheckOf name (Dump from size ruler file) = ⊥
 
@@ -27,5 +28,23 @@ WritesInMode word (Map at order limit mode pickle type file) = NamesMode word mo
 WritesInMode word (MapUnder at order limit mode terms pickle type file) = NamesMode word mode
 WritesInMode word (Each at order limit mode terms pickle type files) = NamesMode word mode
 WritesInMode word (Bound pickle type bits) = ⊥
+WritesInMode word (BoundText pickle type bits mode) = ⊥
 WritesInMode word (Check pickle) = ⊥
 WritesInMode word (Dump from size ruler file) = ⊥
+
+-- a mode that a word names, or none where there is no word
+abbrev pub NamesModeIfAny : Option (List ℕ) → Option Mode → Type 0
+NamesModeIfAny None None = Unit {0}
+NamesModeIfAny None (Some mode) = ⊥
+NamesModeIfAny (Some word) None = ⊥
+NamesModeIfAny (Some word) (Some mode) = NamesMode word mode
+
+-- bounds that tell of texts in the mode that a word names, or in any
+abbrev pub BoundsTextIn : Option (List ℕ) → Job → Type 0
+BoundsTextIn word (Map at order limit mode pickle type file) = ⊥
+BoundsTextIn word (MapUnder at order limit mode terms pickle type file) = ⊥
+BoundsTextIn word (Each at order limit mode terms pickle type files) = ⊥
+BoundsTextIn word (Bound pickle type bits) = ⊥
+BoundsTextIn word (BoundText pickle type bits mode) = NamesModeIfAny word mode
+BoundsTextIn word (Check pickle) = ⊥
+BoundsTextIn word (Dump from size ruler file) = ⊥

@@ -2,7 +2,7 @@
 ghost use Rattle.std.specs.Prelude.{OnOk, OnErr};
 ghost use Rattle.std.specs.Io.KnownBytes.{Appends};
 ghost use Rattle.poke_batch.specs.Written.{AppendsPart};
-ghost use Rattle.poke_batch.specs.BoundText.{bound_line, bound_number, bound_text};
+ghost use Rattle.poke_batch.specs.BoundText.{bound_line, bound_number, bound_text, bound_text_and};
 
 use crate::write::{WriteFault, put};
 use itoa::Buffer;
@@ -20,6 +20,23 @@ pub fn put_bounds<W: Write>(
 {
     put_line(w, b"steps ", steps)?;
     put_line(w, b"slots ", slots)?;
+    Ok(())
+}
+
+/// Writes the most steps and slots that a mapping takes, and the most bytes of its text, a line each. None is a bound of
+/// 2^128 or more.
+#[tactic(auto, using(crate::proofs::Parts::written))]
+pub fn put_bounds_and_text<W: Write>(
+    w: &mut W,
+    steps: Option<u128>,
+    slots: Option<u128>,
+    text: Option<u128>,
+) -> Result<(), WriteFault>
+    ensures ok { OnOk result (Appends (W.contents w.old) (W.contents w.new) (bound_text_and steps slots text)) }
+    ensures err { OnErr result (AppendsPart (W.contents w.old) (W.contents w.new) (bound_text_and steps slots text)) }
+{
+    put_bounds(w, steps, slots)?;
+    put_line(w, b"text ", text)?;
     Ok(())
 }
 

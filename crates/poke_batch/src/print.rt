@@ -10,7 +10,7 @@ mod name;
 mod number;
 mod steps;
 mod string;
-mod suffix;
+pub(crate) mod suffix;
 mod tree;
 
 ghost use Rattle.std.specs.Prelude.{◌++◌, OnOk, OnErr};

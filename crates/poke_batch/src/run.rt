@@ -1,4 +1,5 @@
 //! The runs: from a pickle's bytes to a text or a line.
+mod bound_text;
 
 ghost use Rattle.std.specs.Prelude.{◌≡◌, ℕ, ◌*◌, ◌≤◌, List, Some, IsSome, OnOk, OnErr, IfOk, Option};
 ghost use Rattle.std.specs.Io.KnownBytes.{Appends};
@@ -8,7 +9,7 @@ ghost use Rattle.pickle_map.specs.Shown.{kept};
 ghost use Rattle.pickle_map.specs.Values.{Value, value_at, start_of, end_of};
 ghost use Rattle.poke_batch.specs.Told.{Says, IsSaid};
 ghost use Rattle.poke_batch.specs.Runs.{ChecksAs, BoundsAs, IsAsked, MapsAs, types_text};
-ghost use Rattle.poke_batch.specs.RunsUnder.{MapsUnder, IsStoreOf, end_saying, SaysIt, value_saying};
+ghost use Rattle.poke_batch.specs.RunsUnder.{MapsUnder, IsStoreOf, end_saying, fixed_saying, SaysIt, value_saying};
 ghost use Rattle.poke_batch.specs.Written.{AppendsPart};
 
 use crate::accept::{accept, tell_refusal};
@@ -21,6 +22,7 @@ use crate::tell_value::tell_value;
 use crate::terms::Terms;
 use crate::write::WriteFault;
 use bit_space::{Memory, Meter, Space};
+pub use bound_text::run_bound_text;
 use pickle_map::{MapFault, MapFaultKind, Store, map};
 use pickle_types::type_table::{Table, TypeId};
 use std::alloc::Global;
@@ -145,9 +147,7 @@ fn map_new<S: Space, O: Write, E: Write>(
     ensures keeps { Keeps (S.view space.old) (S.view space.new) }
 {
     match store_of(alloc, terms.most_slots) {
-        Ok(mut store) => map_stored(
-            alloc, table, id, ask, terms, &mut store, space, out, err,
-        ),
+        Ok(mut store) => map_stored(alloc, table, id, ask, terms, &mut store, space, out, err),
         Err(Memory) => fail(err, b"Memory"),
     }
 }
@@ -196,10 +196,20 @@ pub fn map_stored<S: Space, O: Write, E: Write>(
 fn tell_end<E: Write>(err: &mut E, fault: MapFault, most: Option<u64>, start: u64) -> Status
     ensures { (out : Option (List ℕ)) → IsSaid (end_saying most start fault.kind fault.at) result out out (E.contents err.old) (E.contents err.new) }
 {
-    if most.is_some() && fault.kind == MapFaultKind::Memory {
-        return fault_at(err, b"Slots", u128::from(start));
+    match most {
+        None => tell_fault(err, fault),
+        Some(_) => tell_fixed(err, fault, start),
     }
-    tell_fault(err, fault)
+}
+
+// The same in a store of the most slots.
+fn tell_fixed<E: Write>(err: &mut E, fault: MapFault, start: u64) -> Status
+    ensures { (out : Option (List ℕ)) → IsSaid (fixed_saying start fault.kind fault.at) result out out (E.contents err.old) (E.contents err.new) }
+{
+    match fault.kind {
+        MapFaultKind::Memory => fault_at(err, b"Slots", u128::from(start)),
+        _ => tell_fault(err, fault),
+    }
 }
 
 // Says what the value that a store holds has to say, mapped from a file of so many bytes.

@@ -2,11 +2,11 @@
 mod commands;
 mod shown;
 
-ghost use Rattle.std.specs.Prelude.{◌≡◌, ℕ, ◌*◌, ◌^◌, ◌≤◌, [], codes, MatchResult, IfOk, IfErr, OnErr};
+ghost use Rattle.std.specs.Prelude.{◌≡◌, ℕ, ◌*◌, ◌^◌, ◌≤◌, [], codes, MatchResult, IfOk, IfErr, OnErr, false};
 ghost use Rattle.std.specs.Option.{unwrap_or};
 ghost use Rattle.clap.specs.Matches.{found_of, first_value};
 ghost use Rattle.poke_batch.specs.OffsetWord.{IsOffsetWord};
-ghost use Rattle.poke_batch.specs.Words.{IsCheckOf, NamesMode, WritesInMode};
+ghost use Rattle.poke_batch.specs.Words.{IsCheckOf, NamesMode, WritesInMode, BoundsTextIn};
 ghost use Rattle.poke_batch.specs.declared.words.WordFault.TheVariants.{Memory};
 
 use crate::mode::Mode;
@@ -65,6 +65,14 @@ pub enum Job {
         name: String,
         bits: u64,
     },
+    /// Tell the most steps and slots that mapping a type over so many bits takes, and the most bytes of its text in a
+    /// mode, or in any.
+    BoundText {
+        pickle: String,
+        name: String,
+        bits: u64,
+        mode: Option<Mode>,
+    },
     /// Check a pickle.
     Check {
         pickle: String,
@@ -112,24 +120,55 @@ impl From<AllocError> for WordFault {
     }
 }
 
+/// A job, and whether a refusal by it is explained.
+#[derive(Debug, Drop, PartialEq, Eq)]
+pub struct Asked {
+    pub job: Job,
+    /// Whether `--why` was given.
+    pub why: bool,
+}
+
 /// What the words of a command line, without the program's name, ask for. No words at all ask for a check of standard input, `-`.
+/// That `--why` is given is left out: [`read_asked`] tells it too.
 ///
 /// All words are read before any of them is judged as an offset. What the commands, their options and defaults are is this project's
 /// profile; `--help` tells them.
 pub fn read_words(alloc: Global, words: Vec<String>) -> Result<Job, WordFault>
     ensures { words.items ≡ [] → MatchResult result (IsCheckOf (codes "-")) (λ fault. fault ≡ WordFault.Memory) }
 {
+    Ok(read_asked(alloc, words)?.job)
+}
+
+/// What the words of a command line, without the program's name, ask for, and whether `--why` is among them. No words at all
+/// ask for a check of standard input, `-`, without it.
+pub fn read_asked(alloc: Global, words: Vec<String>) -> Result<Asked, WordFault>
+    ensures { words.items ≡ [] → MatchResult result (λ asked. IsCheckOf (codes "-") asked.job × (asked.why ≡ false)) (λ fault. fault ≡ WordFault.Memory) }
+{
     if words.is_empty() {
         let pickle = String::from_str(alloc, "-")?;
-        return Ok(Job::Check { pickle });
+        return Ok(Asked {
+            job: Job::Check { pickle },
+            why: false,
+        });
     }
     let named = after_name(alloc, words.as_slice())?;
     match program(alloc)?.try_get_matches_from(named.as_slice()) {
-        Ok(matches) => read_command(alloc, &matches),
+        Ok(matches) => Ok(Asked {
+            job: read_command(alloc, &matches)?,
+            why: asks_why(&matches),
+        }),
         Err(error) => match told(alloc, &error, words.as_slice()) {
             Ok(fault) => Err(fault),
             Err(AllocError) => Err(WordFault::Memory),
         },
+    }
+}
+
+// Whether a command that reads a pickle has the flag `--why`.
+fn asks_why(matches: &ArgMatches<'_>) -> bool {
+    match matches.subcommand() {
+        Some(("map" | "each" | "bound" | "check", found)) => found.get_flag("why"),
+        _ => false,
     }
 }
 
@@ -296,10 +335,28 @@ fn mode_of(word: &str) -> Mode
 }
 
 fn read_bound(alloc: Global, found: &ArgMatches<'_>) -> Result<Job, WordFault> {
+    if found.get_flag("text") {
+        return read_bound_text(alloc, found);
+    }
     Ok(Job::Bound {
         pickle: word_of(alloc, found, "PICKLE")?,
         name: word_of(alloc, found, "TYPE")?,
         bits: found.get_one::<u64>("BITS").unwrap_or(0),
+    })
+}
+
+fn read_bound_text(alloc: Global, found: &ArgMatches<'_>) -> Result<Job, WordFault>
+    ensures { IfOk result (BoundsTextIn (first_value (found_of found.now) (codes "mode"))) }
+{
+    let mode = match found.get_str("mode") {
+        Some(word) => Some(mode_of(word)),
+        None => None,
+    };
+    Ok(Job::BoundText {
+        pickle: word_of(alloc, found, "PICKLE")?,
+        name: word_of(alloc, found, "TYPE")?,
+        bits: found.get_one::<u64>("BITS").unwrap_or(0),
+        mode,
     })
 }
 

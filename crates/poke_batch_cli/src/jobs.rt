@@ -1,13 +1,15 @@
 //! Each job, over its files and a writer for its answer.
 use crate::each::run_each;
 use crate::files::{FileFault, open_space, read_pickle_of};
+use pickle_reasons::explanation;
 use poke_batch::ask::Ask;
 use poke_batch::dump::{DumpFault, dump};
-use poke_batch::run::{run_bound, run_check, run_map_under};
+use poke_batch::run::{run_bound, run_bound_text, run_check, run_map_under};
 use poke_batch::status::Status;
 use poke_batch::tell::fail;
 use poke_batch::terms::Terms;
-use poke_batch::words::Job;
+use poke_batch::words::{Asked, Job};
+use std::alloc::Global;
 use std::fs::File;
 use std::io::{BufWriter, Input, Write};
 use std::rt::Files;
@@ -15,17 +17,19 @@ use std::rt::Files;
 /// The bytes of an answer that are gathered before they are written.
 const GATHERED: usize = 65_536;
 
-/// Does a job. Its answer goes to `out`, which has it all before the status is told, and its line to `err`.
+/// Does a job. Its answer goes to `out`, which has it all before the status is told, its line to `err`, and why it is refused, where
+/// that is asked, to `reason`.
 pub fn do_job<R: Files<File = File> + Input + AllocGlobal, O: Write + Drop, E: Write>(
     rt: &R,
-    job: Job,
+    asked: Asked,
     out: O,
     err: &mut E,
+    reason: &mut Vec<u8>,
 ) -> Status {
     let Ok(mut out) = BufWriter::with_capacity(rt.alloc(), GATHERED, out) else {
         return fail(err, b"Memory");
     };
-    let status = match run_job(rt, job, &mut out, err) {
+    let status = match run_job(rt, asked, &mut out, err, reason) {
         Ok(status) => status,
         Err(fault) => fail(err, fault.kind()),
     };
@@ -42,10 +46,12 @@ pub fn do_job<R: Files<File = File> + Input + AllocGlobal, O: Write + Drop, E: W
 
 fn run_job<R: Files<File = File> + Input + AllocGlobal, O: Write, E: Write>(
     rt: &R,
-    job: Job,
+    asked: Asked,
     out: &mut O,
     err: &mut E,
+    reason: &mut Vec<u8>,
 ) -> Result<Status, FileFault> {
+    let Asked { job, why } = asked;
     match job {
         Job::Map {
             at,
@@ -63,7 +69,17 @@ fn run_job<R: Files<File = File> + Input + AllocGlobal, O: Write, E: Write>(
                 limit,
                 mode,
             };
-            map_file(rt, &pickle, &file, &ask, &Terms::none(), out, err)
+            map_file(
+                rt,
+                why,
+                &pickle,
+                &file,
+                &ask,
+                &Terms::none(),
+                out,
+                err,
+                reason,
+            )
         }
         Job::MapUnder {
             at,
@@ -82,7 +98,7 @@ fn run_job<R: Files<File = File> + Input + AllocGlobal, O: Write, E: Write>(
                 limit,
                 mode,
             };
-            map_file(rt, &pickle, &file, &ask, &terms, out, err)
+            map_file(rt, why, &pickle, &file, &ask, &terms, out, err, reason)
         }
         Job::Each {
             at,
@@ -90,7 +106,7 @@ fn run_job<R: Files<File = File> + Input + AllocGlobal, O: Write, E: Write>(
             limit,
             mode,
             terms,
-            pickle,
+            pickle: path,
             name,
             files,
         } => {
@@ -101,16 +117,69 @@ fn run_job<R: Files<File = File> + Input + AllocGlobal, O: Write, E: Write>(
                 limit,
                 mode,
             };
-            let pickle = read_pickle_of(rt, pickle.as_str())?;
-            Ok(run_each(rt, &pickle, &ask, &terms, &files, out, err))
+            let pickle = read_pickle_of(rt, path.as_str())?;
+            let status = run_each(rt, &pickle, &ask, &terms, &files, out, err);
+            explain(
+                rt.alloc(),
+                why,
+                status,
+                &pickle,
+                &path,
+                Some(ask.name),
+                reason,
+            );
+            Ok(status)
         }
-        Job::Bound { pickle, name, bits } => {
-            let pickle = read_pickle_of(rt, pickle.as_str())?;
-            Ok(run_bound(rt.alloc(), &pickle, name.as_bytes(), bits, out, err))
+        Job::Bound {
+            pickle: path,
+            name,
+            bits,
+        } => {
+            let pickle = read_pickle_of(rt, path.as_str())?;
+            let status = run_bound(rt.alloc(), &pickle, name.as_bytes(), bits, out, err);
+            explain(
+                rt.alloc(),
+                why,
+                status,
+                &pickle,
+                path.as_str(),
+                Some(name.as_bytes()),
+                reason,
+            );
+            Ok(status)
         }
-        Job::Check { pickle } => {
-            let pickle = read_pickle_of(rt, pickle.as_str())?;
-            Ok(run_check(rt.alloc(), &pickle, out, err))
+        Job::BoundText {
+            pickle: path,
+            name,
+            bits,
+            mode,
+        } => {
+            let pickle = read_pickle_of(rt, path.as_str())?;
+            let status = run_bound_text(rt.alloc(), &pickle, name.as_bytes(), bits, mode, out, err);
+            explain(
+                rt.alloc(),
+                why,
+                status,
+                &pickle,
+                path.as_str(),
+                Some(name.as_bytes()),
+                reason,
+            );
+            Ok(status)
+        }
+        Job::Check { pickle: path } => {
+            let pickle = read_pickle_of(rt, path.as_str())?;
+            let status = run_check(rt.alloc(), &pickle, out, err);
+            explain(
+                rt.alloc(),
+                why,
+                status,
+                &pickle,
+                path.as_str(),
+                None,
+                reason,
+            );
+            Ok(status)
         }
         Job::Dump {
             from,
@@ -131,14 +200,45 @@ fn run_job<R: Files<File = File> + Input + AllocGlobal, O: Write, E: Write>(
 // Maps a type of a pickle over a file, each at its path.
 fn map_file<R: Files<File = File> + Input + AllocGlobal, O: Write, E: Write>(
     rt: &R,
-    pickle: &str,
+    why: bool,
+    path: &str,
     file: &str,
     ask: &Ask<'_>,
     terms: &Terms,
     out: &mut O,
     err: &mut E,
+    reason: &mut Vec<u8>,
 ) -> Result<Status, FileFault> {
-    let pickle = read_pickle_of(rt, pickle)?;
+    let pickle = read_pickle_of(rt, path)?;
     let mut space = open_space(rt, file)?;
-    Ok(run_map_under(rt.alloc(), &pickle, ask, terms, &mut space, out, err))
+    let status = run_map_under(rt.alloc(), &pickle, ask, terms, &mut space, out, err);
+    explain(
+        rt.alloc(),
+        why,
+        status,
+        &pickle,
+        path,
+        Some(ask.name),
+        reason,
+    );
+    Ok(status)
+}
+
+// Tells why a pickle or a name is refused, where that is asked and a run ended so. Nothing is told where there is no memory for it: the
+// line that refuses it stands.
+fn explain(
+    alloc: Global,
+    why: bool,
+    status: Status,
+    pickle: &[u8],
+    path: &str,
+    name: Option<&[u8]>,
+    reason: &mut Vec<u8>,
+) {
+    if !why || status != Status::Refused {
+        return;
+    }
+    if let Ok(lines) = explanation(alloc, pickle, path.as_bytes(), name) {
+        *reason = lines;
+    }
 }

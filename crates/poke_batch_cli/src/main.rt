@@ -11,7 +11,7 @@ use given::given_words;
 use jobs::do_job;
 use poke_batch::status::Status;
 use poke_batch::tell::{answer, fail, refuse};
-use poke_batch::words::{Job, WordFault, read_words};
+use poke_batch::words::{Asked, WordFault, read_asked};
 use poke_batch::write::put;
 use std::alloc::{AllocError, Global};
 use std::io::{IsTerminal, Write};
@@ -22,8 +22,9 @@ type Line = ArrayVec<u8, 128>;
 
 fn main(rt: HostRuntime) -> ExitCode {
     let mut line = Line::new();
+    let mut reason = Vec::new(rt.alloc());
     let status = match read_job(&rt) {
-        Ok(job) => do_job(&rt, job, rt.stdout(), &mut line),
+        Ok(asked) => do_job(&rt, asked, rt.stdout(), &mut line, &mut reason),
         Err(fault) => tell_words(fault, &mut rt.stdout(), &mut rt.stderr(), &mut line),
     };
     let told = put(&mut rt.stderr(), line.as_slice());
@@ -32,15 +33,19 @@ fn main(rt: HostRuntime) -> ExitCode {
     } else {
         Status::Outside
     };
+    // The status is that of the line, whatever becomes of the reason for it.
+    if told.is_ok() {
+        let _ = put(&mut rt.stderr(), reason.as_slice());
+    }
     ExitCode::from(status as u8)
 }
 
-fn read_job(rt: &HostRuntime) -> Result<Job, WordFault> {
+fn read_job(rt: &HostRuntime) -> Result<Asked, WordFault> {
     let words = given_words(rt)?;
     if words.is_empty() && rt.stdin().is_terminal() {
         show_help(rt.alloc(), &mut rt.stderr())?;
     }
-    read_words(rt.alloc(), words)
+    read_asked(rt.alloc(), words)
 }
 
 // Shows the short help to somebody at a terminal who gave no words, since the job then waits for a pickle to be typed.

@@ -10,6 +10,8 @@ const JOBS: &str = r#" ==> Check { pickle: "-" }
 check - ==> Check { pickle: "-" }
 check p ==> Check { pickle: "p" }
 bound p T 25 ==> Bound { pickle: "p", name: "T", bits: 25 }
+bound --text p T 25 ==> BoundText { pickle: "p", name: "T", bits: 25, mode: None }
+bound p --text T --mode tree 25 ==> BoundText { pickle: "p", name: "T", bits: 25, mode: Some(Tree) }
 dump f ==> Dump { from: 0, size: 128, ruler: true, file: "f" }
 dump - ==> Dump { from: 0, size: 128, ruler: true, file: "-" }
 dump --from 2#4 --size=16#b --no-ruler f ==> Dump { from: 1, size: 2, ruler: false, file: "f" }
@@ -51,6 +53,8 @@ map p T ==> usage
 map p T f g ==> usage
 bound p T ==> usage
 bound p T -1 ==> usage
+bound --mode tree p T 25 ==> usage
+bound --text --mode leaf p T 25 ==> usage
 dump --no-ruler --no-ruler f ==> usage
 check ==> usage
 chec p ==> usage

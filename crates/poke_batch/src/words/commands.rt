@@ -25,6 +25,13 @@ Options of map:
   --slots N        the most slots of the mapping, of each kind, 0 to 18446744073709551615 [default: any number]
   --get PATH       write a part of the value: . or steps of .name, .place, [place] [default: .]
 
+Options of map, each, bound and check:
+  --why            tell why the pickle or the type's name is refused: line, column and a sentence [default: not told]
+
+Options of bound:
+  --text           print the most bytes of the text too
+  --mode MODE      with --text, the text in this mode alone [default: in any]
+
 Options of dump:
   --from OFFSET    the first byte, in whole bytes [default: 0#B]
   --size OFFSET    how much to dump at most, in whole bytes [default: 128#B]
@@ -75,7 +82,7 @@ Example:
   echo 'type P = struct { uint<8> a; uint<16> b; };' | poke_batch bound - P 24
 
 Statuses:
-  0  the two bounds were written
+  0  the bounds were written
   2  refused: words, the pickle or the type's name
   3  memory, a file, standard input or an output failed";
 
@@ -164,6 +171,7 @@ fn with_mapping<'a>(
         .arg(max_output(alloc))?
         .arg(slots(alloc))?
         .arg(part(alloc))?
+        .arg(why(alloc))?
         .arg(pickle(alloc))?
         .arg(name(alloc))
 }
@@ -179,7 +187,9 @@ fn slots<'a>(alloc: Global) -> Arg<'a> {
     Arg::new(alloc, "slots")
         .long("slots")
         .value_name("N")
-        .help("The most slots of the mapping, of each kind, reserved before it, 0 to 18446744073709551615 [default: any number]")
+        .help(
+            "The most slots of the mapping, of each kind, reserved before it, 0 to 18446744073709551615 [default: any number]",
+        )
         .value_parser(clap::value_parser!(u64))
 }
 
@@ -202,9 +212,23 @@ fn bound<'a>(alloc: Global) -> Result<Command<'a>, AllocError> {
         .required(true)
         .help("The size of a file in bits, 0 to 18446744073709551615")
         .value_parser(clap::value_parser!(u64));
+    let text = Arg::new(alloc, "text")
+        .long("text")
+        .action(ArgAction::SetTrue)
+        .help("Print the most bytes of the text too");
+    let modes = ["flat", "tree", "json", "lines"].as_slice();
+    let mode = Arg::new(alloc, "mode")
+        .long("mode")
+        .value_name("MODE")
+        .help("The text in this mode alone [default: in any]")
+        .value_parser(modes)
+        .requires_arg("text")?;
     Command::new(alloc, "bound")
         .about("Prints the most steps and slots that mapping a type over so many bits takes")
         .after_help(BOUND_HELP)
+        .arg(text)?
+        .arg(mode)?
+        .arg(why(alloc))?
         .arg(pickle(alloc))?
         .arg(name(alloc))?
         .arg(bits)
@@ -214,6 +238,7 @@ fn check<'a>(alloc: Global) -> Result<Command<'a>, AllocError> {
     Command::new(alloc, "check")
         .about("Checks a pickle and prints the number of its types")
         .after_help(CHECK_HELP)
+        .arg(why(alloc))?
         .arg(pickle(alloc))
 }
 
@@ -252,6 +277,15 @@ fn option<'a>(
 
 fn offset<'a>(alloc: Global, name: &'a str, help: &'a str, default: &'a str) -> Arg<'a> {
     option(alloc, name, "OFFSET", help, default)
+}
+
+fn why<'a>(alloc: Global) -> Arg<'a> {
+    Arg::new(alloc, "why")
+        .long("why")
+        .action(ArgAction::SetTrue)
+        .help(
+            "Tell why the pickle or TYPE is refused: line, column and a sentence [default: not told]",
+        )
 }
 
 fn pickle<'a>(alloc: Global) -> Arg<'a> {

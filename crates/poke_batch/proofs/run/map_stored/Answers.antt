@@ -31,7 +31,7 @@ returns-in-Err-clause-says g c =
     λ pickle asked.
     said_says _ (end_saying c.args.terms.now.most_slots c.args.ask.now.start c.in-Err.fault.kind c.in-Err.fault.at) _ _ _ _ _
     (end_under pickle c.args.ask.now c.args.terms.now _ _ c.in-Err.fault.kind c.in-Err.fault.at asked
-    (λ memory. least_of c.args.terms.now.most_slots _ _ c.args.requires.store c.clear.ensures.empty (c.in-Err.ensures.memory memory))
+    (λ memory. least_of c.args.terms.now.most_slots _ _ c.requires.store c.clear.ensures.empty (c.in-Err.ensures.memory memory))
     (fault_under pickle c.args.ask.now c.args.terms.now _ _ c.in-Err.fault.kind c.in-Err.fault.at
     (fault_says pickle c.args.ask.now _ _ (type_named c.args.table.now c.args.id) c.in-Err.fault.at c.new-meter.result.limit c.new-meter.result.steps _ _ _ c.in-Err.fault.kind c.new-meter.ensures.limit c.new-meter.ensures.steps asked c.in-Err.ensures.fault c.in-Err.ensures.limit c.in-Err.ensures.place c.in-Err.ensures.device)))
     (c.tell_end.ensures _)

@@ -1,0 +1,25 @@
+-- Texts that begin with a place.
+use Rattle.std.proofs.Common.{◌≡◌, ◌≤◌, ℕ, List, [], ◌++◌, length, take, fold, Result, Ok, Err, IfOk, subst}
+use Rattle.pickle_syntax.specs.Tree.{DeclarationTree}
+use Rattle.pickle_types.specs.Names.{Names}
+use Rattle.poke_batch.specs.Accepted.{IsAccepted}
+use Rattle.pickle_reasons.specs.Places.{TellsPlace, Explains, placed, unplaced, place_line, line_behind, column_behind, called_by, shown_behind}
+
+pub tells_place : (pickle called before line_text below text sentence : List ℕ) (at line column : ℕ) → at ≤ length pickle → before ≡ take at pickle
+    → line ≡ line_behind before → column ≡ column_behind before → line_text ≡ place_line called line column sentence → text ≡ line_text ++ below
+    → TellsPlace pickle called text
+tells_place pickle called before line_text below text sentence at line column inside cut l c told whole =
+    record { at = at; inside = inside; sentence = sentence; rest = below; whole = cc }
+
+pub called_is : (path : List ℕ) {start shown called : List ℕ} → called ≡ shown → shown ≡ fold shown_behind start path → start ≡ [] → called ≡ called_by path
+called_is path same shown_is empty = cc
+
+pub placed_if : {V E : Type 0} (pickle path : List ℕ) {called : List ℕ} → called ≡ called_by path → (items : V → List ℕ) (r : Result V E) → IfOk r (λ v. TellsPlace pickle called (items v))
+    → IfOk r (λ v. Explains pickle path (items v))
+placed_if pickle path e items (Ok v) told = placed (subst (λ called. TellsPlace pickle called (items v)) e told)
+placed_if pickle path e items (Err x) told = tt
+
+pub unplaced_if : {V E : Type 0} (pickle path : List ℕ) {declarations : List DeclarationTree} {types : Names} → IsAccepted pickle declarations types
+    → (items : V → List ℕ) (r : Result V E) → IfOk r (λ v. Explains pickle path (items v))
+unplaced_if pickle path accepted items (Ok v) = unplaced accepted
+unplaced_if pickle path accepted items (Err x) = tt

@@ -1,0 +1,14 @@
+use Rattle.std.proofs.Common.{◌∙◌, ap}
+use Rattle.pickle_reasons.specs.Places.{unplaced}
+use Rattle.pickle_reasons.proofs.Places.{called_is, placed_if, unplaced_if}
+use Rattle.pickle_reasons.proofs.explanation.Goals as goal
+
+pub returns-in-Some : goal.returns-in-Some
+returns-in-Some c = unplaced_if _ _ c.in-Ok.ensures.ok.1 (λ v. v.items) c.no_such_type.result
+
+pub returns-in-Ok : goal.returns-in-Ok
+returns-in-Ok c = unplaced c.in-Ok.ensures.ok.1
+
+pub returns : goal.returns
+returns c =
+    placed_if c.args.pickle.now c.args.path.now (called_is c.args.path.now (c.as_slice.ensures.value ∙ ap (λ v. v.items) c.into_bytes-called.ensures) c.in_ok-show-in-Err.ensures c.new-in-Err.ensures) (λ v. v.items) c.note_text.result c.note_text.ensures

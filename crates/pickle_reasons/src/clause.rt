@@ -1,0 +1,398 @@
+//! Sentences about an expression that the checker of types refuses.
+
+use crate::nodes::{Node, token_count};
+use crate::probe::Probe;
+use crate::script::{Part, Script};
+use crate::search::{Clause, Purpose};
+use crate::sorts::{Sort, say_sort, sort_of};
+use crate::text::Text;
+use crate::types::{name_of, unknown_type};
+use pickle_syntax::token::Attribute;
+use pickle_syntax::tree::{Clauses, Expression, Field, Form, Pickle, Suffix};
+use pickle_types::fault::FaultKind;
+use poke_batch::accept::{Refusal, read_syntax};
+use std::alloc::{AllocError, Global};
+
+/// The most operands inside an operand.
+const MOST_LEVELS: usize = 64;
+
+/// The most tokens of an expression in which a part is sought.
+const MOST_TOKENS: usize = 4096;
+
+/// A sentence about some tokens.
+#[derive(Drop)]
+pub struct Finding {
+    pub part: Part,
+    pub sentence: Vec<u8>,
+    pub help: Option<Vec<u8>>,
+}
+
+/// An expression in its clause.
+#[derive(Clone, Copy)]
+pub struct Place<'a, 't> {
+    pub alloc: Global,
+    pub script: &'a Script<'t>,
+    pub clause: &'a Clause,
+    pub part: Part,
+}
+
+/// What is wrong with an expression.
+pub fn clause_finding(
+    alloc: Global,
+    script: &Script<'_>,
+    clause: &Clause,
+) -> Result<Finding, AllocError> {
+    let text = Text::new(alloc).say(b"type n__ = struct { byte n__p : ")?;
+    let text = text
+        .say(script.slice(clause.part))?
+        .say(b"; };")?
+        .into_bytes();
+    let tree = match read_syntax(alloc, text.as_slice()) {
+        Ok(tree) => tree,
+        Err(Refusal::Memory) => return Err(AllocError),
+        Err(_) => return whole(alloc, script, clause),
+    };
+    match expression_of(&tree) {
+        Some(expression) if token_count(expression) <= MOST_TOKENS => {
+            let node = Node {
+                expression,
+                first: clause.part.first,
+            };
+            in_expression(alloc, script, clause, node)
+        }
+        _ => whole(alloc, script, clause),
+    }
+}
+
+/// The expression of a pickle that was made for it.
+fn expression_of<'a, 't>(tree: &'a Pickle<'t>) -> Option<&'a Expression<'t>> {
+    let declaration = tree.declarations.first()?;
+    match &declaration.form {
+        Form::Struct(_, fields) => constraint_of(fields.first()?),
+        _ => None,
+    }
+}
+
+fn constraint_of<'a, 't>(field: &'a Field<'t>) -> Option<&'a Expression<'t>> {
+    match &field.clauses {
+        Clauses::Constraint(expression) => Some(expression),
+        _ => None,
+    }
+}
+
+fn in_expression(
+    alloc: Global,
+    script: &Script<'_>,
+    clause: &Clause,
+    node: Node<'_, '_>,
+) -> Result<Finding, AllocError> {
+    if is_meant(script, clause, node)? {
+        return whole(alloc, script, clause);
+    }
+    let mut node = node;
+    for _ in 0..MOST_LEVELS {
+        match failing_operand(alloc, script, clause, node)? {
+            Some(operand) => node = operand,
+            None => break,
+        }
+    }
+    of_node(alloc, script, clause, node)
+}
+
+fn is_meant(script: &Script<'_>, clause: &Clause, node: Node<'_, '_>) -> Result<bool, AllocError> {
+    clause.probe.is_meant(script.slice(node.part()))
+}
+
+/// The first operand that has a fault of its own.
+fn failing_operand<'a, 't>(
+    alloc: Global,
+    script: &Script<'_>,
+    clause: &Clause,
+    node: Node<'a, 't>,
+) -> Result<Option<Node<'a, 't>>, AllocError> {
+    for operand in node.operands(alloc)? {
+        if !operand.is_text() && !is_meant(script, clause, operand)? {
+            return Ok(Some(operand));
+        }
+    }
+    Ok(None)
+}
+
+/// That a whole expression isn't what its purpose asks for.
+fn whole(alloc: Global, script: &Script<'_>, clause: &Clause) -> Result<Finding, AllocError> {
+    let expression = script.slice(clause.part);
+    let text = Text::new(alloc).say(match clause.purpose {
+        Purpose::Constraint => b"a constraint is an integer, this is ".as_slice(),
+        Purpose::Condition => b"a condition is an integer, this is ".as_slice(),
+        Purpose::Label => b"a label is an offset, this is ".as_slice(),
+        Purpose::Bound => b"a bound is an integer or an offset, this is ".as_slice(),
+    })?;
+    let text = say_sort(text, &clause.probe, expression)?;
+    let help = match clause.purpose {
+        Purpose::Label => Some(
+            Text::new(alloc)
+                .say(b"write it with a unit, as ")?
+                .quote(with_unit(alloc, script, clause.part)?.as_slice())?
+                .into_bytes(),
+        ),
+        Purpose::Constraint | Purpose::Condition => Some(
+            Text::new(alloc)
+                .say(b"compare it with a value of its type, as in `x == 0` or `x > 0#B`")?
+                .into_bytes(),
+        ),
+        Purpose::Bound => None,
+    };
+    Ok(Finding {
+        part: clause.part,
+        sentence: text.into_bytes(),
+        help,
+    })
+}
+
+/// An integer with the unit of bytes behind it.
+fn with_unit(alloc: Global, script: &Script<'_>, part: Part) -> Result<Vec<u8>, AllocError> {
+    let expression = script.slice(part);
+    if part.first.saturating_add(1) == part.end {
+        return Ok(Text::new(alloc).say(expression)?.say(b"#B")?.into_bytes());
+    }
+    Ok(
+        Text::new(alloc)
+            .say(b"(")?
+            .say(expression)?
+            .say(b")#B")?
+            .into_bytes(),
+    )
+}
+
+/// What is wrong with an expression whose operands have no fault.
+fn of_node<'a>(
+    alloc: Global,
+    script: &'a Script<'_>,
+    clause: &'a Clause,
+    node: Node<'_, '_>,
+) -> Result<Finding, AllocError> {
+    let place = Place {
+        alloc,
+        script,
+        clause,
+        part: node.part(),
+    };
+    match node.expression {
+        Expression::Name(word) => place.unknown_name(word),
+        Expression::Infix(operation) => place.infix(&operation.left),
+        Expression::Prefix(_, inner) => place.prefix(inner),
+        Expression::Index(element) => place.index(&element.operand),
+        Expression::After(after) => place.after(&after.operand, &after.suffix),
+        Expression::Choice(selection) => place.choice(&selection.condition, &selection.yes),
+        Expression::Bracket(_) | Expression::Text(_) => place.finding(
+            node.part(),
+            Text::new(alloc).say(
+                b"a text is only compared, without brackets, with a string: `s == \"..\"`",
+            )?,
+            None,
+        ),
+        Expression::Number(_) | Expression::Character(_) => place.finding(
+            node.part(),
+            Text::new(alloc).say(b"no type holds this number")?,
+            None,
+        ),
+    }
+}
+
+impl<'a, 't> Place<'a, 't> {
+    /// A sentence about some tokens.
+    pub fn finding(
+        self,
+        part: Part,
+        text: Text,
+        help: Option<Text>,
+    ) -> Result<Finding, AllocError> {
+        Ok(Finding {
+            part,
+            sentence: text.into_bytes(),
+            help: match help {
+                Some(help) => Some(help.into_bytes()),
+                None => None,
+            },
+        })
+    }
+
+    /// Some tokens from this expression's first on, so many behind it.
+    fn tokens(self, behind: usize, count: usize) -> Part {
+        let first = self.part.first.saturating_add(behind);
+        Part {
+            first,
+            end: first.saturating_add(count),
+        }
+    }
+
+    /// The tokens from one on, up to the expression's end.
+    fn rest(self, behind: usize) -> Part {
+        Part {
+            first: self.part.first.saturating_add(behind),
+            end: self.part.end,
+        }
+    }
+
+    /// The text, and behind it what some tokens are as an expression.
+    pub fn say_sort(self, text: Text, part: Part) -> Result<Text, AllocError> {
+        say_sort(text, &self.clause.probe, self.script.slice(part))
+    }
+
+    /// What some tokens are as an expression.
+    pub fn sort(self, part: Part) -> Result<Sort, AllocError> {
+        sort_of(&self.clause.probe, self.script.slice(part))
+    }
+
+    /// An operator between two operands that it doesn't take.
+    fn infix(self, left: &Expression<'_>) -> Result<Finding, AllocError> {
+        let count = token_count(left);
+        let sign = self.tokens(count, 1);
+        let left = self.tokens(0, count);
+        let right = self.rest(count.saturating_add(1));
+        let text = Text::new(self.alloc)
+            .quote(self.script.slice(sign))?
+            .say(b" between ")?;
+        let text = self.say_sort(text, left)?.say(b" and ")?;
+        let text = self.say_sort(text, right)?;
+        let help = match (self.sort(left)?, self.sort(right)?) {
+            (Sort::Integer, Sort::Offset) => Some(self.unit_help(left)?),
+            (Sort::Offset, Sort::Integer) => Some(self.unit_help(right)?),
+            (Sort::Offset, Sort::Offset) => Some(Text::new(self.alloc).say(
+                b"of two offsets there are `+`, `-`, `/`, `%` and the comparisons; for `*` one is an integer",
+            )?),
+            (Sort::Struct | Sort::Array, _) | (_, Sort::Struct | Sort::Array) => Some(Text::new(
+                self.alloc,
+            ).say(
+                b"structs and arrays are not compared whole: compare their fields or elements, as `a.x == 1` or `a[0] == 'x'`",
+            )?),
+            (Sort::Text | Sort::Unknown, _) | (_, Sort::Text | Sort::Unknown) => Some(Text::new(
+                self.alloc,
+            ).say(
+                b"a string is only compared by `==` or `!=` with a text in quotes; one byte is a character, as `'a'`",
+            )?),
+            _ => None,
+        };
+        self.finding(sign, text, help)
+    }
+
+    /// That an integer is no offset.
+    fn unit_help(self, integer: Part) -> Result<Text, AllocError> {
+        let written = with_unit(self.alloc, self.script, integer)?;
+        Text::new(self.alloc)
+            .say(b"an integer has no unit: write ")?
+            .quote(written.as_slice())?
+            .say(b" for bytes")
+    }
+
+    fn prefix(self, inner: &Expression<'_>) -> Result<Finding, AllocError> {
+        let sign = self.tokens(0, 1);
+        let text = Text::new(self.alloc)
+            .quote(self.script.slice(sign))?
+            .say(b" before ")?;
+        let text = self.say_sort(text, self.tokens(1, token_count(inner)))?;
+        let help = Text::new(self.alloc).say(
+            b"`+` and `-` stand before integers and offsets, `~` and `!` before integers",
+        )?;
+        self.finding(sign, text, Some(help))
+    }
+
+    fn index(self, operand: &Expression<'_>) -> Result<Finding, AllocError> {
+        let count = token_count(operand);
+        let array = self.tokens(0, count);
+        if self.sort(array)? == Sort::Array {
+            let inner = self.rest(count.saturating_add(1));
+            let index = Part {
+                first: inner.first,
+                end: inner.end.saturating_sub(1),
+            };
+            let text = Text::new(self.alloc).say(b"an index is an integer, this is ")?;
+            return self.finding(index, self.say_sort(text, index)?, None);
+        }
+        let text = Text::new(self.alloc).say(b"only arrays are indexed, ")?;
+        let text = text.quote(self.script.slice(array))?.say(b" is ")?;
+        self.finding(self.rest(count), self.say_sort(text, array)?, None)
+    }
+
+    fn choice(
+        self,
+        condition: &Expression<'_>,
+        yes: &Expression<'_>,
+    ) -> Result<Finding, AllocError> {
+        let count = token_count(condition);
+        let condition = self.tokens(0, count);
+        if self.sort(condition)? != Sort::Integer {
+            let text = Text::new(self.alloc).say(b"a condition is an integer, this is ")?;
+            return self.finding(condition, self.say_sort(text, condition)?, None);
+        }
+        let start = count.saturating_add(1);
+        let text = Text::new(self.alloc).say(b"a choice between ")?;
+        let text = self
+            .say_sort(text, self.tokens(start, token_count(yes)))?
+            .say(b" and ")?;
+        let no = start.saturating_add(token_count(yes)).saturating_add(1);
+        let text = self.say_sort(text, self.rest(no))?;
+        let help = Text::new(self.alloc).say(
+            b"both are integers, or both offsets of one type and unit",
+        )?;
+        self.finding(self.part, text, Some(help))
+    }
+
+    fn after(self, operand: &Expression<'_>, suffix: &Suffix<'_>) -> Result<Finding, AllocError> {
+        let count = token_count(operand);
+        let operand = self.tokens(0, count);
+        match suffix {
+            Suffix::Select(word) => self.unknown_field(operand, word),
+            Suffix::Attribute(Attribute::Length) => {
+                let text = Text::new(self.alloc).say(b"`'length` is that of an array, ")?;
+                self.operand_is(text, operand)
+            }
+            Suffix::Attribute(Attribute::Size) => {
+                let text = Text::new(self.alloc).say(b"`'size` is that of a field, ")?;
+                self.operand_is(text, operand)
+            }
+            Suffix::Unit(_) if self.clause.probe.kind == FaultKind::Width => {
+                let text = Text::new(self.alloc).say(b"a unit has 1 to 4294967295 bits")?;
+                self.finding(self.rest(count.saturating_add(1)), text, None)
+            }
+            Suffix::Unit(_) => {
+                let text = Text::new(self.alloc).say(b"a unit stands behind an integer, ")?;
+                self.operand_is(text, operand)
+            }
+            Suffix::Convert(_) => self.conversion(operand),
+        }
+    }
+
+    /// The text, and what an operand is behind it.
+    fn operand_is(self, text: Text, operand: Part) -> Result<Finding, AllocError> {
+        let text = text.quote(self.script.slice(operand))?.say(b" is ")?;
+        let text = self.say_sort(text, operand)?;
+        let suffix = Part {
+            first: operand.end,
+            end: self.part.end,
+        };
+        self.finding(suffix, text, None)
+    }
+
+    fn conversion(self, operand: Part) -> Result<Finding, AllocError> {
+        let target = Part {
+            first: operand.end.saturating_add(1),
+            end: self.part.end,
+        };
+        let written = self.script.slice(target);
+        let text = Text::new(self.alloc);
+        if self.clause.probe.kind == FaultKind::UnknownType {
+            return unknown_type(self.alloc, self.script, name_of(self.script, target));
+        }
+        if self.clause.probe.kind == FaultKind::Width {
+            let text = text.say(b"a width is 1 to 64 bits, a unit 1 to 4294967295 bits")?;
+            return self.finding(target, text, None);
+        }
+        let text = text.say(b"`as ")?.show(written)?.say(b"` of ")?;
+        let text = self.say_sort(text, operand)?;
+        let help = Text::new(self.alloc).say(
+            b"an integer is converted to an integer type, an offset to an offset type; an integer gets a unit by `#B`, an offset loses it by `/ 1#B`",
+        )?;
+        self.finding(target, text, Some(help))
+    }
+}

@@ -1,0 +1,145 @@
+//! What may stand at a place of a pickle: the parser is asked.
+
+use crate::text::Text;
+use poke_batch::accept::{Refusal, read_syntax};
+use std::alloc::{AllocError, Global};
+
+/// What may stand at a place.
+#[derive(Clone, Copy, Debug, Drop)]
+pub struct Expected {
+    /// `type`, which begins a declaration.
+    pub declaration: bool,
+    /// A type as a field or an array has it.
+    pub form: bool,
+    /// An operand of an expression.
+    pub value: bool,
+    /// An operator between two operands.
+    pub operator: bool,
+    /// A name.
+    pub name: bool,
+    /// A number.
+    pub number: bool,
+}
+
+/// Tokens that are told one by one, where no group of tokens has them.
+const SIGNS: [&[u8]; 15] = [
+    b"=", b"struct", b"{", b"}", b"[", b"]", b")", b",", b">", b":", b"@", b"if", b";", b"b", b"B",
+];
+
+/// Whether a pickle that begins with `front` may go on with tokens.
+pub fn goes_on(alloc: Global, front: &[u8], tokens: &[u8]) -> Result<bool, AllocError> {
+    let text = Text::new(alloc).say(front)?.say(b"\n")?.say(tokens)?;
+    let text = text.into_bytes();
+    match read_syntax(alloc, text.as_slice()) {
+        Ok(_) => Ok(true),
+        Err(Refusal::Syntax(at)) => Ok(text.len() <= at),
+        Err(Refusal::Memory) => Err(AllocError),
+        Err(_) => Ok(false),
+    }
+}
+
+impl Expected {
+    /// What may stand behind the front of a pickle.
+    pub fn behind(alloc: Global, front: &[u8]) -> Result<Expected, AllocError> {
+        Ok(Expected {
+            declaration: goes_on(alloc, front, b"type")?,
+            form: goes_on(alloc, front, b"string")?,
+            value: goes_on(alloc, front, b"(")?,
+            operator: goes_on(alloc, front, b"+ 1")?,
+            name: goes_on(alloc, front, b"n")?,
+            number: goes_on(alloc, front, b"1")?,
+        })
+    }
+
+    /// The groups of tokens that may stand there, as words.
+    fn groups(self) -> [&'static [u8]; 5] {
+        let operator: &'static [u8] = if self.operator && !self.value {
+            b"an operator"
+        } else {
+            b""
+        };
+        let name: &'static [u8] = if self.name && !self.form && !self.value {
+            b"a name"
+        } else {
+            b""
+        };
+        let number: &'static [u8] = if self.number && !self.value {
+            b"a number"
+        } else {
+            b""
+        };
+        [self.statement(), self.operand(), operator, name, number]
+    }
+
+    fn statement(self) -> &'static [u8] {
+        match self {
+            Expected {
+                declaration: true,
+                ..
+            } => b"`type`",
+            Expected { form: true, .. } => b"a type",
+            _ => b"",
+        }
+    }
+
+    fn operand(self) -> &'static [u8] {
+        if self.value { b"a value" } else { b"" }
+    }
+}
+
+/// The text, and behind it what may stand behind the front of a pickle, as in "a name, `:` or `;`".
+pub fn say_expected(
+    alloc: Global,
+    text: Text,
+    front: &[u8],
+    expected: Expected,
+) -> Result<Text, AllocError> {
+    let mut words: Vec<Vec<u8>> = Vec::new(alloc);
+    for group in expected.groups() {
+        if !group.is_empty() {
+            words.push(Vec::from_slice(alloc, group)?)?;
+        }
+    }
+    push_signs(alloc, &mut words, front, expected)?;
+    say_list(text, words.as_slice(), b" or ")
+}
+
+/// Adds the tokens that may stand behind the front of a pickle and are in no group.
+fn push_signs(
+    alloc: Global,
+    words: &mut Vec<Vec<u8>>,
+    front: &[u8],
+    expected: Expected,
+) -> Result<(), AllocError> {
+    for sign in SIGNS {
+        if !is_grouped(sign, expected) && goes_on(alloc, front, sign)? {
+            words.push(Text::new(alloc).quote(sign)?.into_bytes())?;
+        }
+    }
+    Ok(())
+}
+
+/// Whether a token is in a group that may stand there.
+fn is_grouped(sign: &[u8], expected: Expected) -> bool {
+    match sign {
+        b"struct" => expected.form,
+        b"{" => expected.form && !expected.value,
+        b"[" | b">" => expected.value || expected.operator,
+        b"b" | b"B" => expected.name || expected.form || expected.value,
+        _ => false,
+    }
+}
+
+/// The text, and a list of words behind it, parted by commas, the last by `last`.
+pub fn say_list(text: Text, words: &[Vec<u8>], last: &[u8]) -> Result<Text, AllocError> {
+    let mut text = text;
+    for (index, word) in words.iter().enumerate() {
+        if index != 0 && index.saturating_add(1) == words.len() {
+            text = text.say(last)?;
+        } else if index != 0 {
+            text = text.say(b", ")?;
+        }
+        text = text.say(word.as_slice())?;
+    }
+    Ok(text)
+}

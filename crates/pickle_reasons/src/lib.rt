@@ -1,0 +1,77 @@
+//! Why a pickle, or the name of a type, is refused: further lines, behind the one that refuses it.
+#![tactic(auto)]
+
+ghost use Rattle.std.specs.Prelude.{IfOk};
+ghost use Rattle.pickle_reasons.specs.Places.{Explains};
+
+mod advice;
+mod anatomy;
+mod clause;
+mod expected;
+mod lexical;
+mod limits;
+mod names;
+mod near;
+mod nodes;
+mod note;
+mod place;
+mod probe;
+mod script;
+mod search;
+mod shown;
+mod sorts;
+mod syntax;
+mod text;
+mod type_names;
+mod types;
+
+use crate::lexical::lexical_note;
+use crate::limits::{Limit, limit_note};
+use crate::note::{Note, note_text};
+use crate::script::Script;
+use crate::syntax::syntax_note;
+use crate::text::Text;
+use crate::type_names::no_such_type;
+use crate::types::types_note;
+use poke_batch::accept::{Refusal, accept};
+use std::alloc::{AllocError, Global};
+
+/// The lines that tell why a pickle is refused, or the name of a type that is asked of it; none where neither is. `path` is the
+/// path of the pickle; bytes outside 0x20 to 0x7e of what is shown are escaped.
+pub fn explanation(
+    alloc: Global,
+    pickle: &[u8],
+    path: &[u8],
+    name: Option<&[u8]>,
+) -> Result<Vec<u8>, AllocError>
+    ensures { IfOk result (λ text. Explains pickle.now path.now text.items) }
+{
+    match accept(alloc, pickle) {
+        Ok(table) => match name {
+            Some(name) if table.find(name).is_none() => no_such_type(alloc, pickle, name),
+            _ => Ok(Vec::new(alloc)),
+        },
+        Err(refusal) => {
+            let called = Text::new(alloc).show(path)?.into_bytes();
+            let note = note_of(alloc, pickle, refusal)?;
+            note_text(alloc, pickle, called.as_slice(), &note)
+        }
+    }
+}
+
+/// The note about a refusal.
+fn note_of(alloc: Global, pickle: &[u8], refusal: Refusal) -> Result<Note, AllocError> {
+    if let Refusal::Tokens(kind, at) = refusal {
+        return lexical_note(alloc, pickle, kind, at);
+    }
+    let Some(script) = Script::new(alloc, pickle) else {
+        return Err(AllocError);
+    };
+    match refusal {
+        Refusal::Syntax(at) => syntax_note(alloc, &script, at),
+        Refusal::Types(kind, number) => types_note(alloc, &script, kind, number),
+        Refusal::TooDeep => limit_note(alloc, &script, Limit::Depth),
+        Refusal::TooMany => limit_note(alloc, &script, Limit::Count),
+        Refusal::Tokens(_, _) | Refusal::Memory => Err(AllocError),
+    }
+}

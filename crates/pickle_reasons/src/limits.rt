@@ -1,0 +1,62 @@
+//! Sentences about limits of the syntax.
+
+use crate::note::Note;
+use crate::script::{Script, cut};
+use crate::text::Text;
+use poke_batch::accept::{Refusal, read_syntax};
+use std::alloc::{AllocError, Global};
+
+/// A limit of the syntax.
+#[derive(Clone, Copy, Debug, PartialEq, Eq)]
+pub enum Limit {
+    /// 64 levels of an expression, or of types in one another.
+    Depth,
+    /// 1,024 fields or 4,096 declarations.
+    Count,
+}
+
+/// The token by which a limit is passed, and the limit.
+pub fn limit_note(alloc: Global, script: &Script<'_>, limit: Limit) -> Result<Note, AllocError> {
+    let token = passing_token(alloc, script, limit)?;
+    let sentence = match limit {
+        Limit::Depth => "here an expression, or types inside a type, have more than 64 levels",
+        Limit::Count =>
+            "here are more than 1024 fields of a struct or union, or more than 4096 declarations",
+    };
+    let help = match limit {
+        Limit::Depth => "leave out brackets, or declare an inner type by a name",
+        Limit::Count => "declare some of the fields as a type of their own",
+    };
+    Ok(Note {
+        at: script.first(token),
+        length: script.text(token).len(),
+        sentence: Text::new(alloc).say(sentence.as_bytes())?.into_bytes(),
+        help: Some(Text::new(alloc).say(help.as_bytes())?.into_bytes()),
+    })
+}
+
+/// The first token with which the parser tells that a limit is passed.
+fn passing_token(alloc: Global, script: &Script<'_>, limit: Limit) -> Result<usize, AllocError> {
+    let mut low: usize = 0;
+    let mut high = script.len();
+    for _ in 0..32 {
+        if high <= low {
+            break;
+        }
+        let middle = low.saturating_add(high.saturating_sub(low) / 2);
+        if is_passed(alloc, cut(script.bytes, 0, script.behind(middle)), limit)? {
+            high = middle;
+        } else {
+            low = middle.saturating_add(1);
+        }
+    }
+    Ok(low)
+}
+
+fn is_passed(alloc: Global, front: &[u8], limit: Limit) -> Result<bool, AllocError> {
+    match (read_syntax(alloc, front), limit) {
+        (Err(Refusal::Memory), _) => Err(AllocError),
+        (Err(Refusal::TooDeep), Limit::Depth) | (Err(Refusal::TooMany), Limit::Count) => Ok(true),
+        _ => Ok(false),
+    }
+}

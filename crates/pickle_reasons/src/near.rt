@@ -1,0 +1,45 @@
+//! Words that are near to each other.
+
+use std::alloc::{AllocError, Global};
+use strsim::generic_levenshtein;
+
+/// The longest word for which a near one is sought, in bytes.
+const MOST_BYTES: usize = 64;
+
+/// How many edits a near word may be away, by a word's length in bytes.
+fn most_edits(length: usize) -> usize {
+    match length {
+        0..=1 => 0,
+        2 => 1,
+        3..=5 => 2,
+        _ => length / 3,
+    }
+}
+
+/// Among some words the one that takes the fewest edits from a word, the first of them, where it is near.
+pub fn nearest<'t>(
+    alloc: Global,
+    word: &[u8],
+    among: &[&'t [u8]],
+) -> Result<Option<&'t [u8]>, AllocError> {
+    if MOST_BYTES < word.len() {
+        return Ok(None);
+    }
+    let mut best = None;
+    let mut least = most_edits(word.len()).saturating_add(1);
+    for other in among {
+        let edits = edits_between(alloc, word, other)?;
+        if edits < least {
+            least = edits;
+            best = Some(*other);
+        }
+    }
+    Ok(best)
+}
+
+fn edits_between(alloc: Global, word: &[u8], other: &[u8]) -> Result<usize, AllocError> {
+    if MOST_BYTES < other.len() {
+        return Ok(usize::MAX);
+    }
+    generic_levenshtein(alloc, word, other)
+}

@@ -1,0 +1,119 @@
+//! Expressions with the tokens that they are made of.
+
+ghost use Rattle.std.specs.Prelude.{◌≤◌};
+
+use crate::script::Part;
+use pickle_syntax::tree::{Expression, Reference, Suffix, Target};
+use std::alloc::{AllocError, Global};
+
+/// An expression, and its first token.
+#[derive(Clone, Copy)]
+pub struct Node<'a, 't> {
+    pub expression: &'a Expression<'t>,
+    pub first: usize,
+}
+
+/// How many tokens an expression has.
+pub fn token_count(expression: &Expression<'_>) -> usize {
+    match expression {
+        Expression::Number(_)
+        | Expression::Character(_)
+        | Expression::Text(_)
+        | Expression::Name(_) => 1,
+        Expression::Bracket(inner) => token_count(inner).saturating_add(2),
+        Expression::Prefix(_, inner) => token_count(inner).saturating_add(1),
+        Expression::Infix(operation) => token_count(&operation.left)
+            .saturating_add(1)
+            .saturating_add(token_count(&operation.right)),
+        Expression::Choice(selection) => token_count(&selection.condition)
+            .saturating_add(2)
+            .saturating_add(token_count(&selection.yes))
+            .saturating_add(token_count(&selection.no)),
+        Expression::Index(element) => token_count(&element.operand)
+            .saturating_add(2)
+            .saturating_add(token_count(&element.index)),
+        Expression::After(after) => token_count(&after.operand).saturating_add(suffix_tokens(
+            &after.suffix,
+        )),
+    }
+}
+
+/// How many tokens follow an operand.
+fn suffix_tokens(suffix: &Suffix<'_>) -> usize {
+    match suffix {
+        Suffix::Select(_) | Suffix::Unit(_) => 2,
+        Suffix::Attribute(_) => 1,
+        Suffix::Convert(Target::Reference(reference)) => 1 + reference_tokens(reference),
+        Suffix::Convert(Target::Offset(reference, _)) => 5 + reference_tokens(reference),
+    }
+}
+
+fn reference_tokens(reference: &Reference<'_>) -> usize
+    ensures { result ≤ 3 }
+{
+    match reference {
+        Reference::Int(_) | Reference::Uint(_) => 3,
+        Reference::Named(_) => 1,
+    }
+}
+
+impl<'a, 't> Node<'a, 't> {
+    /// The tokens of the expression.
+    pub fn part(self) -> Part {
+        Part {
+            first: self.first,
+            end: self.first.saturating_add(token_count(self.expression)),
+        }
+    }
+
+    /// An operand, some tokens behind this one's first.
+    fn inner(self, expression: &'a Expression<'t>, behind: usize) -> Node<'a, 't> {
+        Node {
+            expression,
+            first: self.first.saturating_add(behind),
+        }
+    }
+
+    /// The operands, in the order in which they are checked.
+    pub fn operands(self, alloc: Global) -> Result<Vec<Node<'a, 't>>, AllocError> {
+        let mut operands = Vec::new(alloc);
+        match self.expression {
+            Expression::Number(_)
+            | Expression::Character(_)
+            | Expression::Text(_)
+            | Expression::Name(_) => {}
+            Expression::Bracket(inner) | Expression::Prefix(_, inner) => {
+                operands.push(self.inner(inner, 1))?;
+            }
+            Expression::Infix(operation) => {
+                let left = self.inner(&operation.left, 0);
+                operands.push(left)?;
+                let right = token_count(&operation.left).saturating_add(1);
+                operands.push(self.inner(&operation.right, right))?;
+            }
+            Expression::Choice(selection) => {
+                operands.push(self.inner(&selection.condition, 0))?;
+                let yes = token_count(&selection.condition).saturating_add(1);
+                operands.push(self.inner(&selection.yes, yes))?;
+                let no = yes
+                    .saturating_add(token_count(&selection.yes))
+                    .saturating_add(1);
+                operands.push(self.inner(&selection.no, no))?;
+            }
+            Expression::Index(element) => {
+                operands.push(self.inner(&element.operand, 0))?;
+                let index = token_count(&element.operand).saturating_add(1);
+                operands.push(self.inner(&element.index, index))?;
+            }
+            Expression::After(after) => {
+                operands.push(self.inner(&after.operand, 0))?;
+            }
+        }
+        Ok(operands)
+    }
+
+    /// Whether it is a text.
+    pub fn is_text(self) -> bool {
+        matches!(self.expression, Expression::Text(_))
+    }
+}

@@ -1,0 +1,49 @@
+//! The types of a pickle that has none of a name.
+
+use crate::expected::say_list;
+use crate::near::nearest;
+use crate::script::{Part, Script};
+use crate::text::Text;
+use crate::types::declared_before;
+use std::alloc::{AllocError, Global};
+
+/// The most types that are told.
+const MOST_TOLD: usize = 20;
+
+/// The lines that tell the types of a pickle that has none of a name, and the nearest.
+pub fn no_such_type(alloc: Global, pickle: &[u8], name: &[u8]) -> Result<Vec<u8>, AllocError> {
+    let Some(script) = Script::new(alloc, pickle) else {
+        return Err(AllocError);
+    };
+    let behind = Part {
+        first: script.len(),
+        end: script.len(),
+    };
+    let types = declared_before(alloc, &script, behind)?;
+    let text = Text::new(alloc)
+        .say(b"  no type ")?
+        .quote(name)?
+        .say(b" is declared; ")?;
+    let text = say_types(alloc, text, types.as_slice())?.say(b"\n")?;
+    let text = match nearest(alloc, name, types.as_slice())? {
+        Some(near) => text.say(b"  help: is ")?.quote(near)?.say(b" meant?\n")?,
+        None => text,
+    };
+    Ok(text.into_bytes())
+}
+
+/// The text, and the names of types behind it.
+fn say_types(alloc: Global, text: Text, types: &[&[u8]]) -> Result<Text, AllocError> {
+    if types.is_empty() {
+        return text.say(b"the pickle declares no types");
+    }
+    let mut words: Vec<Vec<u8>> = Vec::new(alloc);
+    for name in types.iter().take(MOST_TOLD) {
+        words.push(Text::new(alloc).quote(name)?.into_bytes())?;
+    }
+    let text = say_list(text.say(b"the types are ")?, words.as_slice(), b" and ")?;
+    match types.len().checked_sub(MOST_TOLD) {
+        Some(more) if 0 < more => text.say(b", and ")?.say_number(more)?.say(b" more"),
+        _ => Ok(text),
+    }
+}

@@ -1,0 +1,451 @@
+//! Sentences about types that the checker refuses.
+
+use crate::anatomy::{FieldParts, declaration};
+use crate::clause::{Finding, clause_finding};
+use crate::near::nearest;
+use crate::note::Note;
+use crate::place::place_behind;
+use crate::probe::Probe;
+use crate::script::{Part, Script, cut};
+use crate::search::{Site, locate};
+use crate::text::Text;
+use pickle_types::fault::FaultKind;
+use std::alloc::{AllocError, Global};
+
+/// What an integral struct has as fields.
+const IN_INTEGRAL: &str =
+    "a field of an integral struct is an integer, an offset or an integral struct";
+
+/// What is wrong with the types of a declaration, counted from 1.
+pub fn types_note(
+    alloc: Global,
+    script: &Script<'_>,
+    kind: FaultKind,
+    number: usize,
+) -> Result<Note, AllocError> {
+    let whole = declaration(script, number);
+    let finding = finding(alloc, script, kind, whole)?;
+    let (at, behind) = script.bounds(finding.part);
+    Ok(Note {
+        at,
+        length: behind.saturating_sub(at),
+        sentence: finding.sentence,
+        help: finding.help,
+    })
+}
+
+fn finding(
+    alloc: Global,
+    script: &Script<'_>,
+    kind: FaultKind,
+    whole: Part,
+) -> Result<Finding, AllocError> {
+    let name = Part {
+        first: whole.first.saturating_add(1),
+        end: whole.first.saturating_add(2),
+    };
+    if kind == FaultKind::DuplicateType {
+        return declared_twice(alloc, script, name);
+    }
+    let form = Part {
+        first: whole.first.saturating_add(3),
+        end: whole.end,
+    };
+    let probe = Probe {
+        alloc,
+        kind,
+        front: Vec::from_slice(alloc, cut(script.bytes, 0, script.first(form.first)))?,
+        back: Vec::from_slice(alloc, b";")?,
+    };
+    match locate(script, form, probe)? {
+        Site::Body(form, probe) => of_body(alloc, script, name, form, &probe),
+        Site::Base(base, probe) => of_base(alloc, script, base, &probe),
+        Site::Field(parts, probe) => of_field(alloc, script, &parts, &probe),
+        Site::Clause(clause) => clause_finding(alloc, script, &clause),
+    }
+}
+
+/// That a declared name is taken.
+fn declared_twice(alloc: Global, script: &Script<'_>, name: Part) -> Result<Finding, AllocError> {
+    let word = script.slice(name);
+    let text = Text::new(alloc).quote(word)?;
+    let text = match earlier_declaration(script, name) {
+        Some(token) => {
+            let line = line_of(script, token);
+            text.say(b" is declared in line ")?
+                .say_number(line)?
+                .say(b" already")?
+        }
+        None => text.say(b" is predeclared")?,
+    };
+    let help = Text::new(alloc).say(b"choose another name for this type")?;
+    Ok(Finding {
+        part: name,
+        sentence: text.into_bytes(),
+        help: Some(help.into_bytes()),
+    })
+}
+
+fn line_of(script: &Script<'_>, token: usize) -> usize {
+    place_behind(cut(script.bytes, 0, script.first(token))).line
+}
+
+/// The token by which a name is declared before.
+fn earlier_declaration(script: &Script<'_>, name: Part) -> Option<usize> {
+    (0..name.first).find(|token| is_declared_as(script, *token, script.slice(name)))
+}
+
+pub fn is_declared_as(script: &Script<'_>, token: usize, word: &[u8]) -> bool {
+    script.text_before(token) == b"type".as_slice() && script.text(token) == word
+}
+
+/// What is wrong with a struct or union as a whole.
+fn of_body(
+    alloc: Global,
+    script: &Script<'_>,
+    name: Part,
+    form: Part,
+    probe: &Probe,
+) -> Result<Finding, AllocError> {
+    let text = Text::new(alloc);
+    let (part, text, help) = match probe.kind {
+        FaultKind::IntegralWidths => {
+            let reference = integral_reference(script, form);
+            let text = text.say(b"the widths of this struct's fields don't add up to ")?;
+            (
+                reference,
+                text.quote(script.slice(reference))?,
+                widths_help(script, form, probe)?,
+            )
+        }
+        FaultKind::NotHere => {
+            let head = Part {
+                first: form.first,
+                end: form.first.saturating_add(1),
+            };
+            (
+                head,
+                text.say(misplaced_body(script, form).as_bytes())?,
+                None,
+            )
+        }
+        FaultKind::TooDeep => (
+            name,
+            text.say(b"this type has more than 64 levels, with the types opened that it names")?,
+            None,
+        ),
+        _ => (name, text.say(rule_of(probe.kind).as_bytes())?, None),
+    };
+    Ok(Finding {
+        part,
+        sentence: text.into_bytes(),
+        help,
+    })
+}
+
+/// Why a struct or union may not stand in its place.
+fn misplaced_body(script: &Script<'_>, form: Part) -> &'static str {
+    match script.text(form.first.saturating_add(2)) {
+        b"}" => "a union has at least one alternative",
+        _ => IN_INTEGRAL,
+    }
+}
+
+/// The integer type of an integral struct.
+fn integral_reference(script: &Script<'_>, form: Part) -> Part {
+    let first = form.first.saturating_add(1);
+    let end = match script.text(first) {
+        b"int<" | b"uint<" => first.saturating_add(3),
+        _ => first.saturating_add(1),
+    };
+    Part { first, end }
+}
+
+/// How wide an integral struct has to be for its fields: the checker is asked.
+fn widths_help(
+    script: &Script<'_>,
+    form: Part,
+    probe: &Probe,
+) -> Result<Option<Vec<u8>>, AllocError> {
+    let rest = Part {
+        first: integral_reference(script, form).end,
+        end: form.end,
+    };
+    for width in 1..65 {
+        let text = Text::new(probe.alloc)
+            .say(b"struct uint<")?
+            .say_number(width)?;
+        let text = text.say(b"> ")?.say(script.slice(rest))?.into_bytes();
+        if !probe.fails(text.as_slice())? {
+            let text = Text::new(probe.alloc).say(b"the width of the fields together is ")?;
+            return Ok(Some(text.say_number(width)?.into_bytes()));
+        }
+    }
+    Ok(None)
+}
+
+/// What is wrong with a type that is no struct or union, or the integer type of an integral struct.
+fn of_base(
+    alloc: Global,
+    script: &Script<'_>,
+    base: Part,
+    probe: &Probe,
+) -> Result<Finding, AllocError> {
+    let text = Text::new(alloc);
+    match probe.kind {
+        FaultKind::UnknownType => unknown_type(alloc, script, name_of(script, base)),
+        FaultKind::Width => {
+            let part = number_of(script, base, probe)?;
+            let text = if script.text_before(part.first) == b",".as_slice() {
+                text.say(b"a unit has 1 to 4294967295 bits, not ")?
+            } else {
+                text.say(b"an integer has 1 to 64 bits, not ")?
+            };
+            let text = text.say(script.slice(part))?;
+            Ok(Finding {
+                part,
+                sentence: text.into_bytes(),
+                help: None,
+            })
+        }
+        FaultKind::Mismatch => {
+            let part = name_of(script, base);
+            let text = text.say(b"an integer type stands here, and ")?;
+            let text = text.quote(script.slice(part))?.say(b" is none")?;
+            Ok(Finding {
+                part,
+                sentence: text.into_bytes(),
+                help: None,
+            })
+        }
+        kind => Ok(Finding {
+            part: base,
+            sentence: text.say(rule_of(kind).as_bytes())?.into_bytes(),
+            help: None,
+        }),
+    }
+}
+
+/// The name in a type, or all of the type.
+pub fn name_of(script: &Script<'_>, base: Part) -> Part {
+    match (base.first..base.end).find(|token| script.is_name(*token)) {
+        Some(first) => Part {
+            first,
+            end: first.saturating_add(1),
+        },
+        None => base,
+    }
+}
+
+/// The number in a type that has the fault, or all of the type.
+fn number_of(script: &Script<'_>, base: Part, probe: &Probe) -> Result<Part, AllocError> {
+    let inner = Part {
+        first: base.first.saturating_add(1),
+        end: base.first.saturating_add(4),
+    };
+    let offset = script.text(base.first) == b"offset<".as_slice();
+    let in_unit = offset
+        && !(script.is_number(inner.first.saturating_add(1)) && probe.fails(script.slice(inner))?);
+    let first = if in_unit {
+        base.end.saturating_sub(2)
+    } else {
+        base.first
+    };
+    Ok(
+        match (first..base.end).find(|token| script.is_number(*token)) {
+            Some(first) => Part {
+                first,
+                end: first.saturating_add(1),
+            },
+            None => base,
+        },
+    )
+}
+
+/// That no type of a name is declared.
+pub fn unknown_type(alloc: Global, script: &Script<'_>, name: Part) -> Result<Finding, AllocError> {
+    let word = script.slice(name);
+    let text = Text::new(alloc).say(b"no type ")?.quote(word)?;
+    let text = text.say(b" is declared before this")?;
+    let mut known = declared_before(alloc, script, name)?;
+    known.extend_from_slice(PREDECLARED.as_slice())?;
+    let later = (name.end..script.len()).find(|token| is_declared_as(script, *token, word));
+    let help = match (of_foreign(word), later) {
+        (Some(help), _) => Some(Text::new(alloc).say(help.as_bytes())?),
+        (None, Some(token)) => {
+            let text = Text::new(alloc).say(b"it is declared in line ")?;
+            let text = text.say_number(line_of(script, token))?;
+            Some(text.say(b": move that declaration before this one")?)
+        }
+        (None, None) => near_type(alloc, script, name, known.as_slice())?,
+    };
+    Ok(Finding {
+        part: name,
+        sentence: text.into_bytes(),
+        help: match help {
+            Some(help) => Some(help.into_bytes()),
+            None => None,
+        },
+    })
+}
+
+fn near_type(
+    alloc: Global,
+    script: &Script<'_>,
+    name: Part,
+    known: &[&[u8]],
+) -> Result<Option<Text>, AllocError> {
+    if is_own(script, name) {
+        return Ok(Some(Text::new(alloc).say(b"a type doesn't contain itself")?));
+    }
+    match nearest(alloc, script.slice(name), known)? {
+        Some(near) => Ok(Some(Text::new(alloc).say(b"is ")?.quote(near)?.say(b" meant?")?)),
+        None => Ok(None),
+    }
+}
+
+/// Whether a name is that of the declaration in which it stands.
+fn is_own(script: &Script<'_>, name: Part) -> bool {
+    earlier_declaration(script, name).is_some()
+}
+
+/// The names that are declared before a token.
+pub fn declared_before<'t>(
+    alloc: Global,
+    script: &Script<'t>,
+    name: Part,
+) -> Result<Vec<&'t [u8]>, AllocError> {
+    let mut known = Vec::new(alloc);
+    for token in 0..name.first {
+        if script.text_before(token) == b"type".as_slice() {
+            known.push(script.text(token))?;
+        }
+    }
+    Ok(known)
+}
+
+/// The predeclared types.
+const PREDECLARED: [&[u8]; 18] = [
+    b"bit", b"nibble", b"byte", b"char", b"short", b"ushort", b"int", b"uint", b"long", b"ulong",
+    b"int8", b"int16", b"int32", b"int64", b"uint8", b"uint16", b"uint32", b"uint64",
+];
+
+/// What stands for a type of GNU poke, C or other languages.
+fn of_foreign(word: &[u8]) -> Option<&'static str> {
+    match word {
+        b"any" | b"void" => Some(
+            "it is left out, and nothing stands for it: write `byte[n]` for bytes of any meaning",
+        ),
+        b"float" | b"double" => Some(
+            "there are no floating point numbers: write `uint<32>` or `uint<64>` for their bits",
+        ),
+        b"bool" | b"boolean" => Some("write an integer, as `byte` or `uint<1>`"),
+        b"uint8_t" | b"u8" | b"u1" | b"BYTE" | b"UBYTE" | b"uchar" => Some(
+            "write `uint<8>` or `byte`",
+        ),
+        b"uint16_t" | b"u16" | b"u2" | b"WORD" | b"USHORT" => Some("write `uint<16>`"),
+        b"uint32_t" | b"u32" | b"u4" | b"DWORD" => Some("write `uint<32>`"),
+        b"uint64_t" | b"u64" | b"QWORD" => Some("write `uint<64>`"),
+        b"int8_t" | b"i8" | b"s8" | b"s1" => Some("write `int<8>`"),
+        b"int16_t" | b"i16" | b"s16" | b"s2" => Some("write `int<16>`"),
+        b"int32_t" | b"i32" | b"s32" | b"s4" => Some("write `int<32>`"),
+        b"int64_t" | b"i64" | b"s64" | b"s8_t" => Some("write `int<64>`"),
+        b"u16le" | b"u2le" | b"le16" => Some("write `little uint<16>`"),
+        b"u32le" | b"u4le" | b"le32" => Some("write `little uint<32>`"),
+        b"u16be" | b"u2be" | b"be16" => Some("write `big uint<16>`"),
+        b"u32be" | b"u4be" | b"be32" => Some("write `big uint<32>`"),
+        b"str" | b"strz" | b"stringz" => Some("write `string` for bytes up to a 0, or `char[n]`"),
+        _ => None,
+    }
+}
+
+/// What is wrong with a field as a whole.
+fn of_field(
+    alloc: Global,
+    script: &Script<'_>,
+    parts: &FieldParts,
+    probe: &Probe,
+) -> Result<Finding, AllocError> {
+    if probe.kind == FaultKind::DuplicateField {
+        let text = Text::new(alloc).say(b"this struct or union has a field ")?;
+        let text = text.quote(script.slice(parts.name))?.say(b" already")?;
+        return Ok(Finding {
+            part: parts.name,
+            sentence: text.into_bytes(),
+            help: Some(
+                Text::new(alloc)
+                    .say(b"choose another name for this one")?
+                    .into_bytes(),
+            ),
+        });
+    }
+    let (part, sentence) = match probe.kind {
+        FaultKind::NotHere => misplaced(script, parts, probe)?,
+        kind => (parts.whole, rule_of(kind)),
+    };
+    Ok(Finding {
+        part,
+        sentence: Text::new(alloc).say(sentence.as_bytes())?.into_bytes(),
+        help: None,
+    })
+}
+
+/// What may not stand in a field: the checker is asked about the field without it.
+fn misplaced(
+    script: &Script<'_>,
+    parts: &FieldParts,
+    probe: &Probe,
+) -> Result<(Part, &'static str), AllocError> {
+    let bare = Part {
+        first: parts.form.first,
+        end: parts.name.end,
+    };
+    if probe.fails(script.slice(bare))? {
+        if parts.name.first < parts.name.end {
+            return Ok((parts.form, IN_INTEGRAL));
+        }
+        return Ok((
+            parts.form,
+            "an alternative of a union has a name; a field of an integral struct is an integer, an offset or an integral struct",
+        ));
+    }
+    let ordered = Part {
+        first: parts.order.first,
+        end: parts.name.end,
+    };
+    if parts.order.first < parts.order.end && probe.fails(script.slice(ordered))? {
+        return Ok((
+            parts.order,
+            "`big` and `little` stand only before integers, offsets and integral structs, and not inside an integral struct: write them before the fields inside",
+        ));
+    }
+    if parts.label.first < parts.label.end {
+        return Ok((
+            parts.label,
+            "a field of a union, of a pinned or of an integral struct has no label",
+        ));
+    }
+    Ok((
+        parts.condition,
+        "a field of a union or of an integral struct has no condition",
+    ))
+}
+
+/// The rule that a declaration breaks.
+fn rule_of(kind: FaultKind) -> &'static str {
+    match kind {
+        FaultKind::UnknownType => "a type is named that isn't declared before",
+        FaultKind::DuplicateType => "the name of this type is taken",
+        FaultKind::UnknownName => "a name is used that no field has that is seen",
+        FaultKind::DuplicateField => "two fields have one name",
+        FaultKind::Mismatch => "an expression or a type isn't of the kind that its place asks for",
+        FaultKind::Width =>
+            "a width is outside of 1 to 64 bits, or a unit outside of 1 to 4294967295 bits",
+        FaultKind::IntegralWidths =>
+            "the widths of an integral struct's fields don't add up to its own",
+        FaultKind::NotHere => IN_INTEGRAL,
+        FaultKind::TooDeep =>
+            "this type has more than 64 levels, with the types opened that it names",
+        FaultKind::Memory => "there was no memory",
+    }
+}

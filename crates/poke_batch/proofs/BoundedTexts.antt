@@ -1,0 +1,65 @@
+-- The bounds on texts.
+use Rattle.std.proofs.Common.{◌≡◌, ℕ, ◌+◌, ◌*◌, ◌≤◌, List, [], ◌++◌, Option, length, codes, Ok, ap, subst, sym, inl, inr, arith, length-append}
+use Rattle.std.specs.Io.KnownBytes.{Appends}
+use Rattle.bit_space.specs.SpaceView.{SpaceView}
+use Rattle.pickle_types.specs.Types.{PokeType}
+use Rattle.pickle_map.specs.Fits.{Fits}
+use Rattle.pickle_map.specs.Values.{Value, Levels}
+use Rattle.pickle_map.proofs.OnBits.{outcomes_fit}
+use Rattle.poke_batch.specs.declared.accept.Refusal.TheVariants as refusal
+use Rattle.poke_batch.specs.declared.ask.Ask.{Ask}
+use Rattle.poke_batch.specs.declared.mode.Mode.{Mode}
+use Rattle.poke_batch.specs.declared.mode.Mode.TheVariants.{Flat, Tree, Json, Lines}
+use Rattle.poke_batch.specs.declared.status.Status.{Status}
+use Rattle.poke_batch.specs.OutputRoom.{GrowsWithin, OutputIsBounded}
+use Rattle.poke_batch.specs.Printed.{printed}
+use Rattle.poke_batch.specs.Runs.{MapsAs, value, stops, device, unknown, refused_map, no_memory}
+use Rattle.poke_batch.specs.TextLaws.{TextsAreBounded, MeantTextsAreBounded, AnyModeIsBounded, OutputsAreBounded}
+use Rattle.poke_batch.specs.TextRoom.{most_text, most_text_in_any}
+use Rattle.poke_batch.specs.Told.{Saying, IsSaid, IsWritten}
+use Rattle.poke_batch.specs.ValueText.{value_text}
+use Rattle.poke_batch.specs.JsonText.{json_text}
+use Rattle.poke_batch.proofs.Sizes.{flat_short, tree_short, json_short, all_lines_short}
+use Rattle.poke_batch.proofs.SizesFit.{value_within}
+
+pub text_bounded : TextsAreBounded
+unfolding most_text
+text_bounded Flat m ty levels s v h = omega (arith, flat_short v, (value_within Flat m ty levels s v h).text, length-append (value_text v) (codes "\n"))
+text_bounded Tree m ty levels s v h = omega (arith, tree_short 0 [] v, (value_within Tree m ty levels s v h).text)
+text_bounded Lines m ty levels s v h = omega (arith, all_lines_short v, (value_within Lines m ty levels s v h).text)
+text_bounded Json m ty levels s v h = omega (arith, json_short v, (value_within Json m ty levels s v h).text, length-append (json_text v) (codes "\n"))
+
+pub meant_text_bounded : MeantTextsAreBounded
+meant_text_bounded mode bytes ty order levels s v k j means =
+    text_bounded mode (length (Rattle.bit_space.specs.Bits.bits_of bytes)) ty levels s v (outcomes_fit bytes ty order levels s (Ok v) k j means)
+
+pub any_mode_bounded : AnyModeIsBounded
+unfolding most_text_in_any
+any_mode_bounded Flat ty m = omega arith
+any_mode_bounded Tree ty m = omega arith
+any_mode_bounded Json ty m = omega arith
+any_mode_bounded Lines ty m = omega arith
+
+written_within : (text : List ℕ) (status : Status) (out out' err err' : Option (List ℕ)) (most : ℕ) → length text ≤ most → IsWritten text status out out' err err' → GrowsWithin out out' most
+written_within text status out out' err err' most le (inl h) = record { taken = text; appends = h.1; few = le }
+written_within text status out out' err err' most le (inr h) =
+    let part = h.1 in
+    record { taken = part.taken; appends = part.appends; few = omega (arith, le, ap length part.whole, length-append part.taken part.rest) }
+
+saying_bounded : (pickle : List ℕ) (ask : Ask) (before after : SpaceView) (saying : Saying) (status : Status) (out out' err err' : Option (List ℕ))
+    → MapsAs pickle ask before after saying → IsSaid saying status out out' err err' → OutputIsBounded pickle ask before.len out out'
+saying_bounded pickle ask before after saying status out out' err err' (value {type = type} {mapped = mapped} asked means fits) h =
+    inr (type, asked, written_within (printed ask.mode mapped) status out out' err err' _ (text_bounded ask.mode (8 * before.len) type _ ask.start mapped fits) h)
+saying_bounded pickle ask before after saying status out out' err err' (stops asked a b c d) h = inl h.0
+saying_bounded pickle ask before after saying status out out' err err' (device asked a) h = inl h.0
+saying_bounded pickle ask before after saying status out out' err err' (unknown a b) h = inl h.0
+saying_bounded pickle ask before after saying status out out' err err' (refused_map {refusal = refusal.Tokens kind at} a) h = inl h.0
+saying_bounded pickle ask before after saying status out out' err err' (refused_map {refusal = refusal.Syntax at} a) h = inl h.0
+saying_bounded pickle ask before after saying status out out' err err' (refused_map {refusal = refusal.TooDeep} a) h = inl h.0
+saying_bounded pickle ask before after saying status out out' err err' (refused_map {refusal = refusal.TooMany} a) h = inl h.0
+saying_bounded pickle ask before after saying status out out' err err' (refused_map {refusal = refusal.Types kind declaration} a) h = inl h.0
+saying_bounded pickle ask before after saying status out out' err err' (refused_map {refusal = refusal.Memory} a) h = inl h.0
+saying_bounded pickle ask before after saying status out out' err err' no_memory h = inl h.0
+
+pub output_bounded : OutputsAreBounded
+output_bounded pickle ask before after status out out' err err' h = saying_bounded pickle ask before after h.saying status out out' err err' h.right h.said

@@ -1,0 +1,6 @@
+use Rattle.poke_batch.proofs.BoundedTexts.{any_mode_bounded}
+use Rattle.poke_batch.proofs.laws.any_mode_is_bounded.Goals as goal
+
+-- src/laws.rt
+pub returns : goal.returns
+returns c = record { law = any_mode_bounded }

@@ -1,0 +1,13 @@
+use Rattle.std.proofs.Common.{◌≡◌, ◌+◌, ap, ◌∙◌, arith}
+use Rattle.pickle_types.specs.Bounds.{least_width}
+use Rattle.poke_batch.specs.TextRoom.{size_of, line_room, no_size}
+use Rattle.poke_batch.proofs.text_bound.fields.integer_size.Goals as goal
+
+pub returns : goal.returns
+unfolding least_width size_of
+returns c =
+    let line = c.line_room.ensures.count ∙ ap (line_room c.args.mode c.args.bits) c.from-width.ensures in
+    record {
+      least = c.from-width.ensures;
+      size = c.with_parts.ensures _ no_size (omega (arith, c.integer_room.ensures.count, line)) c.no_size.ensures;
+    }

@@ -1,0 +1,13 @@
+use Rattle.std.proofs.Common.{◌≡◌, ◌+◌, ap, ◌∙◌, arith}
+use Rattle.pickle_types.specs.Bounds.{least_width}
+use Rattle.poke_batch.specs.TextRoom.{size_of, line_room}
+use Rattle.poke_batch.proofs.text_bound.fields.integral_size.Goals as goal
+
+pub returns : goal.returns
+unfolding least_width size_of
+returns c all h =
+    let line = c.line_room.ensures.count ∙ ap (line_room c.args.mode c.args.bits) c.from-width.ensures in
+    record {
+      least = c.from-width.ensures;
+      size = c.with_parts.ensures _ _ (omega (arith, c.titled_room.ensures.count, line)) h.all;
+    }

@@ -1,0 +1,15 @@
+use Rattle.std.proofs.Common.{◌≡◌, Bool, true, false, refl, sym, ◌∙◌}
+use Rattle.pickle_types.specs.Types.{PokeType, Parts, NoParts, PartThen}
+use Rattle.pickle_types.specs.Bounds.{least_width}
+use Rattle.poke_batch.specs.TextRoom.{size_of}
+use Rattle.poke_batch.proofs.TextNodes.{least_with_rest}
+use Rattle.poke_batch.proofs.text_bound.fields.part_and_rest.Goals as goal
+
+pub returns : goal.returns
+unfolding size_of
+returns c type parts m h g = record {
+  empty = refl;
+  least = least_with_rest _ _ _ m type parts c.args.rest.is_empty _ _ _ g.empty h.least g.least c.least_before-least.ensures.last c.least_before-least.ensures.more;
+  all = c.both-all.ensures _ _ (c.placed.ensures _ h.size) g.all;
+  greatest = c.greater-greatest.ensures _ _ (c.placed-2.ensures _ h.size) g.greatest;
+}

@@ -1,0 +1,38 @@
+-- What the sizes of texts hold, as they are computed.
+use Rattle.std.specs.Prelude.{◌≡◌, ℕ, List, Some, slice_get}
+use Rattle.pickle_types.specs.declared.table.Node.{Node}
+use Rattle.pickle_types.specs.Types.{PokeType, Fields, Parts}
+use Rattle.pickle_types.specs.Table.{type_of}
+use Rattle.pickle_types.specs.Bounds.{IsBound, least_width, sum_of_widths, greatest_width, has_label, least_of_widths}
+use Rattle.pickle_types.specs.Holds.{HoldsWidth, is_none}
+use Rattle.poke_batch.specs.declared.mode.Mode.{Mode}
+use Rattle.poke_batch.specs.declared.text_bound.size.TextSize.{TextSize}
+use Rattle.poke_batch.specs.declared.text_bound.fields.NodeSize.{NodeSize}
+use Rattle.poke_batch.specs.declared.text_bound.fields.FieldSizes.{FieldSizes}
+use Rattle.poke_batch.specs.declared.text_bound.fields.PartSizes.{PartSizes}
+use Rattle.poke_batch.specs.TextRoom.{Size, size_of, fields_size, parts_size, greatest_size}
+
+pub record HoldsSize (b : TextSize) (size : Size) : Type 0 where
+  pub text : IsBound b.text size.text
+  pub lines : IsBound b.lines size.lines
+
+pub record AreSizes (b : NodeSize) (mode : Mode) (type : PokeType) (m : ℕ) : Type 0 where
+  pub least : HoldsWidth b.least (least_width type)
+  pub size : HoldsSize b.size (size_of mode type m)
+
+-- of the fields from a place on
+pub record AreFieldSizes (b : FieldSizes) (mode : Mode) (place : ℕ) (fields : Fields) (m : ℕ) : Type 0 where
+  pub sum : HoldsWidth b.sum (sum_of_widths fields)
+  pub greatest : HoldsWidth b.greatest (greatest_width fields)
+  pub label : b.has_label ≡ has_label fields
+  pub size : HoldsSize b.size (fields_size mode place fields m)
+
+pub record ArePartSizes (b : PartSizes) (mode : Mode) (place : ℕ) (parts : Parts) (m : ℕ) : Type 0 where
+  pub empty : b.is_empty ≡ is_none parts
+  pub least : HoldsWidth b.least (least_of_widths parts)
+  pub all : HoldsSize b.all (parts_size mode place parts m)
+  pub greatest : HoldsSize b.greatest (greatest_size mode parts m)
+
+-- the sizes of the first declared types are known
+pub record AreKnownSizes (nodes : List Node) (roots : List ℕ) (known : List NodeSize) (mode : Mode) (m : ℕ) : Type 0 where
+  pub each : (k root : ℕ) (b : NodeSize) → slice_get roots k ≡ Some root → slice_get known k ≡ Some b → AreSizes b mode (type_of nodes root) m

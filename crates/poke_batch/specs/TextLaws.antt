@@ -1,0 +1,35 @@
+-- The laws of the bounds on texts.
+use Rattle.std.specs.Prelude.{◌≤◌, ℕ, List, Option, Ok, length}
+use Rattle.bit_space.specs.declared.order.Order.{Order}
+use Rattle.bit_space.specs.Bits.{bits_of}
+use Rattle.bit_space.specs.SpaceView.{SpaceView}
+use Rattle.pickle_types.specs.Types.{PokeType}
+use Rattle.pickle_map.specs.Fits.{Fits}
+use Rattle.pickle_map.specs.Means.{Means}
+use Rattle.pickle_map.specs.Values.{Value, Levels}
+use Rattle.poke_batch.specs.declared.ask.Ask.{Ask}
+use Rattle.poke_batch.specs.declared.mode.Mode.{Mode}
+use Rattle.poke_batch.specs.declared.status.Status.{Status}
+use Rattle.poke_batch.specs.OutputRoom.{OutputIsBounded}
+use Rattle.poke_batch.specs.Printed.{printed}
+use Rattle.poke_batch.specs.Runs.{MapsAs}
+use Rattle.poke_batch.specs.TextRoom.{most_text, most_text_in_any}
+use Rattle.poke_batch.specs.Told.{Says}
+
+-- a value that fits a type on m bits has a text of at most so many bytes
+abbrev pub TextsAreBounded : Type 0
+TextsAreBounded = (mode : Mode) (m : ℕ) (ty : PokeType) (levels : Levels) (s : ℕ) (v : Value) → Fits m ty levels s v → length (printed mode v) ≤ most_text mode ty m
+
+-- and so has a value that a type means on a file's bits
+abbrev pub MeantTextsAreBounded : Type 0
+MeantTextsAreBounded = (mode : Mode) (bytes : List ℕ) (ty : PokeType) (order : Order) (levels : Levels) (s : ℕ) (v : Value) (k j : ℕ)
+    → Means (bits_of bytes) ty order levels s (Ok v) k j → length (printed mode v) ≤ most_text mode ty (length (bits_of bytes))
+
+-- the bound for any mode is one for each
+abbrev pub AnyModeIsBounded : Type 0
+AnyModeIsBounded = (mode : Mode) (ty : PokeType) (m : ℕ) → most_text mode ty m ≤ most_text_in_any ty m
+
+-- a mapping that says what it has to say writes no more than that
+abbrev pub OutputsAreBounded : Type 0
+OutputsAreBounded = (pickle : List ℕ) (ask : Ask) (before after : SpaceView) (status : Status) (out out' err err' : Option (List ℕ))
+    → Says (MapsAs pickle ask before after) status out out' err err' → OutputIsBounded pickle ask before.len out out'

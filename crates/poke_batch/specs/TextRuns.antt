@@ -1,0 +1,22 @@
+-- What a run has to say of the bounds of a type, that of its texts included.
+use Rattle.std.specs.Prelude.{◌≡◌, ℕ, List, Option, Some, None, codes}
+use Rattle.pickle_syntax.specs.Tree.{DeclarationTree}
+use Rattle.pickle_types.specs.Types.{PokeType}
+use Rattle.pickle_types.specs.Names.{Names, find_type}
+use Rattle.pickle_types.specs.Bounds.{cost, room, IsBound}
+use Rattle.poke_batch.specs.declared.accept.Refusal.{Refusal}
+use Rattle.poke_batch.specs.declared.mode.Mode.{Mode}
+use Rattle.poke_batch.specs.declared.status.Status.TheVariants.{Refused}
+use Rattle.poke_batch.specs.Accepted.{IsAccepted, Refuses, refusal_saying}
+use Rattle.poke_batch.specs.BoundText.{bound_text_and}
+use Rattle.poke_batch.specs.Lines.{refused_line}
+use Rattle.poke_batch.specs.TextRoom.{most_text_for}
+use Rattle.poke_batch.specs.Told.{Saying, Text, Line}
+
+-- what is to be said of the bounds of a type of a pickle, over so many bits and in a mode, where one is named
+pub data TextBoundsAs (pickle name : List ℕ) (bits : ℕ) (mode : Option Mode) : Saying → Type 0 where
+  text_bounds : {declarations : List DeclarationTree} {types : Names} {type : PokeType} (steps slots text : Option ℕ) → IsAccepted pickle declarations types → find_type name types ≡ Some type
+      → IsBound steps (cost type bits) → IsBound slots (room type bits) → IsBound text (most_text_for mode type bits) → TextBoundsAs pickle name bits mode (Text (bound_text_and steps slots text))
+  no_type_to_bound : {declarations : List DeclarationTree} {types : Names} → IsAccepted pickle declarations types → find_type name types ≡ None
+      → TextBoundsAs pickle name bits mode (Line Refused (refused_line (codes "NoSuchType")))
+  refused_text_bounds : {refusal : Refusal} → Refuses pickle refusal → TextBoundsAs pickle name bits mode (refusal_saying refusal)

@@ -1,0 +1,247 @@
+//! The sizes of types, by those of the types that they are made of.
+ghost use Rattle.std.specs.Prelude.{◌≡◌, ℕ, ◌+◌, ◌||◌, List, Option};
+ghost use Rattle.pickle_types.specs.Sound.{IsWidth};
+ghost use Rattle.pickle_types.specs.Table.{name_of, optional_term};
+ghost use Rattle.pickle_types.specs.Types.{Bound, PokeType, IntegerOf, OffsetOf, StringOf, ArrayOf, StructOf, IntegralOf, UnionOf, Fields, FieldThen, NoFields, Parts, PartThen, NoParts};
+ghost use Rattle.pickle_types.specs.Bounds.{is_some, least_width};
+ghost use Rattle.pickle_types.specs.Holds.{HoldsWidth};
+ghost use Rattle.poke_batch.specs.TextRoom.{Size, moved, field_before, field_moves};
+ghost use Rattle.poke_batch.specs.TextHeld.{HoldsSize, AreSizes, AreFieldSizes, ArePartSizes};
+
+use super::room::{
+    array_room, element_before, element_moves, field_before, field_moves, integer_room, line_room,
+    offset_room, string_room, titled_room,
+};
+use super::size::{TextSize, both, greater, moved, no_size, repeated, with_parts};
+use crate::mode::Mode;
+use pickle_types::bounds::{
+    elements, greater_width, least_before, least_present, lesser_width, width_sum,
+};
+use pickle_types::integer::IntegerType;
+use pickle_types::view::{Field, Name, Part};
+
+/// The least width of a type in bits, None from 2^64 on, and the size of its texts.
+#[derive(Clone, Copy, Default)]
+pub struct NodeSize {
+    pub least: Option<u64>,
+    pub size: TextSize,
+}
+
+/// What is known of some fields of a struct, the last ones.
+#[derive(Clone, Copy)]
+pub struct FieldSizes {
+    /// The least width where the fields follow one another.
+    pub sum: Option<u64>,
+    /// The least width where they may lie over one another.
+    pub greatest: Option<u64>,
+    pub has_label: bool,
+    pub size: TextSize,
+}
+
+/// What is known of some alternatives of a union, or fields of an integral struct, the last ones.
+#[derive(Clone, Copy)]
+pub struct PartSizes {
+    pub is_empty: bool,
+    pub least: Option<u64>,
+    /// Where all are written.
+    pub all: TextSize,
+    /// Where one is written.
+    pub greatest: TextSize,
+}
+
+#[tactic(auto, unfolding(pickle_types::specs::Bounds::least_width, crate::specs::TextRoom::size_of))]
+pub fn no_fields() -> FieldSizes
+    ensures { (mode : Mode) (place m : ℕ) → AreFieldSizes result mode place NoFields m }
+{
+    FieldSizes {
+        sum: Some(0),
+        greatest: Some(0),
+        has_label: false,
+        size: no_size(),
+    }
+}
+
+#[tactic(auto, unfolding(pickle_types::specs::Bounds::least_width, crate::specs::TextRoom::size_of))]
+pub fn no_parts() -> PartSizes
+    ensures { (mode : Mode) (place m : ℕ) → ArePartSizes result mode place NoParts m }
+{
+    PartSizes {
+        is_empty: true,
+        least: Some(0),
+        all: no_size(),
+        greatest: no_size(),
+    }
+}
+
+/// The sizes of a field and of those behind it.
+#[tactic(auto, unfolding(pickle_types::specs::Bounds::least_width, crate::specs::TextRoom::size_of))]
+pub fn field_and_rest(
+    mode: Mode,
+    place: usize,
+    field: &Field,
+    own: NodeSize,
+    rest: FieldSizes,
+) -> FieldSizes
+    ensures { (type : PokeType) (fields : Fields) (m : ℕ) → AreSizes own mode type m → AreFieldSizes rest mode (place + 1) fields m → AreFieldSizes result mode place (FieldThen (name_of field.now.name) field.now.order type (optional_term field.now.constraint) (optional_term field.now.label) (optional_term field.now.condition) fields) m }
+{
+    let least = least_present(own.least, &field.condition);
+    let sum = width_sum(least, rest.sum);
+    let greatest = greater_width(least, rest.greatest);
+    let has_label = is_labelled(field, rest.has_label);
+    let size = both(placed(mode, place, &field.name, own.size), rest.size);
+    FieldSizes {
+        sum,
+        greatest,
+        has_label,
+        size,
+    }
+}
+
+/// Whether a field has a label, or one of those behind it.
+fn is_labelled(field: &Field, rest: bool) -> bool
+    ensures { result ≡ (is_some (optional_term field.now.label) || rest) }
+{
+    field.label.is_some() || rest
+}
+
+/// The sizes of a part and of those behind it.
+#[tactic(auto, unfolding(pickle_types::specs::Bounds::least_width, crate::specs::TextRoom::size_of))]
+pub fn part_and_rest(
+    mode: Mode,
+    place: usize,
+    part: &Part,
+    own: NodeSize,
+    rest: PartSizes,
+) -> PartSizes
+    ensures { (type : PokeType) (parts : Parts) (m : ℕ) → AreSizes own mode type m → ArePartSizes rest mode (place + 1) parts m → ArePartSizes result mode place (PartThen (name_of part.now.name) part.now.order type (optional_term part.now.constraint) parts) m }
+{
+    let least = least_before(own.least, rest.least, rest.is_empty);
+    let all = both(placed(mode, place, &part.name, own.size), rest.all);
+    let greatest = greater(placed(mode, 0, &part.name, own.size), rest.greatest);
+    PartSizes {
+        is_empty: false,
+        least,
+        all,
+        greatest,
+    }
+}
+
+/// A part with what stands before it.
+fn placed(mode: Mode, place: usize, name: &Option<Name>, part: TextSize) -> TextSize
+    ensures { (size : Size) → HoldsSize part size
+        → HoldsSize result (moved (field_before mode (name_of name.now) place) (field_moves mode (name_of name.now) place) size) }
+{
+    let before = field_before(mode, name, place);
+    let moves = field_moves(mode, name, place);
+    moved(before, moves, part)
+}
+
+#[tactic(auto, unfolding(pickle_types::specs::Bounds::least_width, crate::specs::TextRoom::size_of))]
+pub fn integer_size(mode: Mode, bits: u64, ty: IntegerType) -> NodeSize
+    requires width { IsWidth ty }
+    ensures { AreSizes result mode (IntegerOf ty) bits }
+{
+    let width = u64::from(ty.width);
+    let own = integer_room(mode, ty) + line_room(mode, bits, width);
+    NodeSize {
+        least: Some(width),
+        size: with_parts(mode, own, no_size()),
+    }
+}
+
+#[tactic(auto, unfolding(pickle_types::specs::Bounds::least_width, crate::specs::TextRoom::size_of))]
+pub fn offset_size(mode: Mode, bits: u64, ty: IntegerType, unit: u32) -> NodeSize
+    requires width { IsWidth ty }
+    ensures { AreSizes result mode (OffsetOf ty unit) bits }
+{
+    let width = u64::from(ty.width);
+    let own = offset_room(mode, ty, unit) + line_room(mode, bits, width);
+    NodeSize {
+        least: Some(width),
+        size: with_parts(mode, own, no_size()),
+    }
+}
+
+#[tactic(auto, unfolding(pickle_types::specs::Bounds::least_width, crate::specs::TextRoom::size_of))]
+pub fn string_size(mode: Mode, bits: u64) -> NodeSize
+    ensures { AreSizes result mode StringOf bits }
+{
+    let own = string_room(mode, bits) + line_room(mode, bits, bits);
+    NodeSize {
+        least: Some(8),
+        size: with_parts(mode, own, no_size()),
+    }
+}
+
+#[tactic(auto, unfolding(pickle_types::specs::Bounds::least_width, crate::specs::TextRoom::size_of))]
+pub fn array_size(mode: Mode, bits: u64, element: NodeSize) -> NodeSize
+    ensures { (type : PokeType) (bound : Bound) → AreSizes element mode type bits → AreSizes result mode (ArrayOf type bound) bits }
+{
+    let count = elements(bits, element.least);
+    let own = array_room(mode, count) + line_room(mode, bits, bits);
+    let before = element_before(mode, count);
+    let moves = element_moves(mode, count);
+    let parts = repeated(count, moved(before, moves, element.size));
+    NodeSize {
+        least: Some(0),
+        size: with_parts(mode, own, parts),
+    }
+}
+
+#[tactic(auto, unfolding(pickle_types::specs::Bounds::least_width))]
+fn least_of_fields(pinned: bool, fields: FieldSizes) -> Option<u64>
+    ensures { (name : Option (List ℕ)) (mode : Mode) (place m : ℕ) (all : Fields) → AreFieldSizes fields mode place all m → HoldsWidth result (least_width (StructOf name pinned all)) }
+{
+    if pinned || fields.has_label {
+        fields.greatest
+    } else {
+        fields.sum
+    }
+}
+
+#[tactic(auto, unfolding(pickle_types::specs::Bounds::least_width, crate::specs::TextRoom::size_of))]
+pub fn struct_size(
+    mode: Mode,
+    bits: u64,
+    name: &Option<Name>,
+    pinned: bool,
+    fields: FieldSizes,
+) -> NodeSize
+    ensures { (all : Fields) → AreFieldSizes fields mode 0 all bits → AreSizes result mode (StructOf (name_of name.now) pinned all) bits }
+{
+    let least = least_of_fields(pinned, fields);
+    let own = titled_room(mode, b"struct", name) + line_room(mode, bits, bits);
+    NodeSize {
+        least,
+        size: with_parts(mode, own, fields.size),
+    }
+}
+
+#[tactic(auto, unfolding(pickle_types::specs::Bounds::least_width, crate::specs::TextRoom::size_of))]
+pub fn integral_size(
+    mode: Mode,
+    bits: u64,
+    name: &Option<Name>,
+    ty: IntegerType,
+    fields: PartSizes,
+) -> NodeSize
+    ensures { (all : Parts) → ArePartSizes fields mode 0 all bits → AreSizes result mode (IntegralOf (name_of name.now) ty all) bits }
+{
+    let width = u64::from(ty.width);
+    let own = titled_room(mode, b"struct", name) + line_room(mode, bits, width);
+    NodeSize {
+        least: Some(width),
+        size: with_parts(mode, own, fields.all),
+    }
+}
+
+#[tactic(auto, unfolding(pickle_types::specs::Bounds::least_width, crate::specs::TextRoom::size_of))]
+pub fn union_size(mode: Mode, bits: u64, name: &Option<Name>, alternatives: PartSizes) -> NodeSize
+    ensures { (all : Parts) → ArePartSizes alternatives mode 0 all bits → AreSizes result mode (UnionOf (name_of name.now) all) bits }
+{
+    let own = titled_room(mode, b"union", name) + line_room(mode, bits, bits);
+    NodeSize {
+        least: alternatives.least,
+        size: with_parts(mode, own, alternatives.greatest),
+    }
+}

@@ -1,0 +1,156 @@
+//! The sizes of a table's nodes.
+ghost use Rattle.std.specs.Prelude.{ℕ, ◌<◌, ◌≤◌, length};
+ghost use Rattle.pickle_types.specs.Table.{type_of, IsTable, open_fields, open_parts, FieldsBelow, PartsBelow};
+ghost use Rattle.poke_batch.specs.TextHeld.{AreSizes, AreFieldSizes, ArePartSizes, AreKnownSizes};
+
+use super::fields::{
+    FieldSizes, NodeSize, PartSizes, array_size, field_and_rest, integer_size, integral_size,
+    no_fields, no_parts, offset_size, part_and_rest, string_size, struct_size, union_size,
+};
+use crate::mode::Mode;
+use arrayvec::ArrayVec;
+use pickle_types::view::{Field, Node, Part, Shape};
+
+/// The sizes of a struct's fields, from the last to the first.
+#[cycle(sizes)]
+fn fields_sizes(
+    mode: Mode,
+    nodes: &[Node],
+    roots: &[usize],
+    known: &[NodeSize],
+    bits: u64,
+    below: usize,
+    fields: &[Field],
+) -> FieldSizes
+    requires table { IsTable nodes.now }
+    requires below { below ≤ length nodes.now }
+    requires fields { FieldsBelow below fields.now }
+    requires known { AreKnownSizes nodes.now roots.now known.now mode bits }
+    ensures { AreFieldSizes result mode 0 (open_fields (type_of nodes.now) fields.now) bits }
+{
+    let mut all = no_fields();
+    let mut at = fields.len();
+    while at > 0 {
+        at -= 1;
+        let field = &fields[at];
+        let own = node_size(mode, nodes, roots, known, bits, field.node);
+        all = field_and_rest(mode, at, field, own, all);
+    }
+    all
+}
+
+/// The sizes of the parts of a union or an integral struct, from the last to the first.
+#[cycle(sizes)]
+fn parts_sizes(
+    mode: Mode,
+    nodes: &[Node],
+    roots: &[usize],
+    known: &[NodeSize],
+    bits: u64,
+    below: usize,
+    parts: &[Part],
+) -> PartSizes
+    requires table { IsTable nodes.now }
+    requires below { below ≤ length nodes.now }
+    requires parts { PartsBelow below parts.now }
+    requires known { AreKnownSizes nodes.now roots.now known.now mode bits }
+    ensures { ArePartSizes result mode 0 (open_parts (type_of nodes.now) parts.now) bits }
+{
+    let mut all = no_parts();
+    let mut at = parts.len();
+    while at > 0 {
+        at -= 1;
+        let part = &parts[at];
+        let own = node_size(mode, nodes, roots, known, bits, part.node);
+        all = part_and_rest(mode, at, part, own, all);
+    }
+    all
+}
+
+/// The size of a node, from those that are known or anew.
+#[cycle(sizes)]
+fn node_size(
+    mode: Mode,
+    nodes: &[Node],
+    roots: &[usize],
+    known: &[NodeSize],
+    bits: u64,
+    at: usize,
+) -> NodeSize
+    requires table { IsTable nodes.now }
+    requires at { at < length nodes.now }
+    requires known { AreKnownSizes nodes.now roots.now known.now mode bits }
+    ensures { AreSizes result mode (type_of nodes.now at) bits }
+{
+    if let Some(slot) = nodes[at].slot {
+        let slot = usize::from(slot);
+        if slot < known.len() && slot < roots.len() && roots[slot] == at {
+            return known[slot];
+        }
+    }
+    shape_size(mode, nodes, roots, known, bits, at)
+}
+
+/// The size of a node, from those of the nodes that it names.
+#[cycle(sizes)]
+fn shape_size(
+    mode: Mode,
+    nodes: &[Node],
+    roots: &[usize],
+    known: &[NodeSize],
+    bits: u64,
+    at: usize,
+) -> NodeSize
+    requires table { IsTable nodes.now }
+    requires at { at < length nodes.now }
+    requires known { AreKnownSizes nodes.now roots.now known.now mode bits }
+    ensures { AreSizes result mode (type_of nodes.now at) bits }
+{
+    match &nodes[at].shape {
+        Shape::Integer(number) => integer_size(mode, bits, *number),
+        Shape::Offset(number, unit) => offset_size(mode, bits, *number, *unit),
+        Shape::String => string_size(mode, bits),
+        Shape::Array(element, _) => {
+            let element = node_size(mode, nodes, roots, known, bits, *element);
+            array_size(mode, bits, element)
+        }
+        Shape::Struct {
+            name,
+            pinned,
+            fields,
+        } => {
+            let fields = fields_sizes(mode, nodes, roots, known, bits, at, fields);
+            struct_size(mode, bits, name, *pinned, fields)
+        }
+        Shape::Integral {
+            name,
+            number,
+            fields,
+        } => {
+            let fields = parts_sizes(mode, nodes, roots, known, bits, at, fields);
+            integral_size(mode, bits, name, *number, fields)
+        }
+        Shape::Union { name, alternatives } => {
+            let alternatives = parts_sizes(mode, nodes, roots, known, bits, at, alternatives);
+            union_size(mode, bits, name, alternatives)
+        }
+    }
+}
+
+/// The size of a node on so many bits. `roots` are the nodes of the declared types, in rising order: each is looked at once.
+#[inline(never)]
+pub fn type_size(mode: Mode, nodes: &[Node], roots: &[usize], bits: u64, at: usize) -> NodeSize
+    requires table { IsTable nodes.now }
+    requires at { at < length nodes.now }
+    ensures { AreSizes result mode (type_of nodes.now at) bits }
+{
+    let mut known: ArrayVec<NodeSize, 4096> = ArrayVec::new();
+    for root in roots {
+        if *root >= at || known.is_full() {
+            break;
+        }
+        let size = shape_size(mode, nodes, roots, known.as_slice(), bits, *root);
+        known.push(size);
+    }
+    shape_size(mode, nodes, roots, known.as_slice(), bits, at)
+}

@@ -1,0 +1,292 @@
+//! How many bytes the pieces of a text take.
+ghost use Rattle.std.specs.Prelude.{◌≡◌, ℤ, ◌+◌, ◌*◌, ◌^◌, ◌<◌, ◌≤◌, length, decimal};
+ghost use Rattle.std.specs.Fmt.{signed_decimal};
+ghost use Rattle.pickle_types.specs.Sound.{IsWidth};
+ghost use Rattle.pickle_types.specs.Table.{name_of};
+ghost use Rattle.poke_batch.specs.Suffixes.{suffix_text};
+ghost use Rattle.poke_batch.specs.PathText.{field_step};
+ghost use Rattle.poke_batch.specs.JsonText.{json_escape, json_offset, key_text};
+ghost use Rattle.poke_batch.specs.ValueText.{spelled, spelled_byte, integer_text, typed_text, suffix_of, unit_text, title_text, name_text};
+ghost use Rattle.poke_batch.specs.TreeText.{in_brackets};
+ghost use Rattle.poke_batch.specs.TextRoom.{longest_number, integer_room, offset_room, string_room, array_room, titled_room, line_room, element_before, element_moves, field_before, field_moves, end_room};
+
+use crate::mode::Mode;
+use crate::print::suffix::{Suffix, suffix_of};
+use itoa::Buffer;
+use pickle_types::integer::IntegerType;
+use pickle_types::view::Name;
+
+fn digits(number: u128) -> u128
+    ensures count { result ≡ length (decimal number) }
+    ensures few { result ≤ 40 }
+{
+    Buffer::new().format(number).len() as u128
+}
+
+/// The digits of the number of a type that has the most, and its minus.
+fn longest_digits(ty: IntegerType) -> u128
+    requires width { IsWidth ty }
+    ensures count { result ≡ length (signed_decimal (longest_number ty)) }
+    ensures few { result ≤ 41 }
+{
+    if ty.signed {
+        1 + digits(1u128 << (u32::from(ty.width) - 1))
+    } else {
+        digits((1u128 << u32::from(ty.width)) - 1)
+    }
+}
+
+fn suffix_room(suffix: Suffix) -> u128
+    ensures count { result ≡ length (suffix_text suffix) }
+    ensures few { result ≤ 2 }
+{
+    let sign = if suffix.signed { 0 } else { 1 };
+    let letter = if suffix.letter.is_some() { 1 } else { 0 };
+    sign + letter
+}
+
+/// What tells the type of an integer beside its digits.
+fn type_room(ty: IntegerType) -> u128
+    ensures count { (number : ℤ) → length (typed_text (suffix_of ty) ty number) ≡ result + length (signed_decimal number) }
+    ensures few { result ≤ 60 }
+{
+    match suffix_of(ty) {
+        Some(suffix) => suffix_room(suffix),
+        None => cast_room(ty),
+    }
+}
+
+fn cast_room(ty: IntegerType) -> u128
+    ensures count { (number : ℤ) → length (typed_text None ty number) ≡ result + length (signed_decimal number) }
+    ensures few { result ≤ 60 }
+{
+    let word = if ty.signed { 5 } else { 6 };
+    word + 3 + digits(u128::from(ty.width))
+}
+
+/// The longest text of an integer.
+#[tactic(auto, unfolding(crate::specs::ValueText::integer_text))]
+fn typed_room(ty: IntegerType) -> u128
+    requires width { IsWidth ty }
+    ensures count { result ≡ length (integer_text ty (longest_number ty)) }
+    ensures few { result ≤ 101 }
+{
+    type_room(ty) + longest_digits(ty)
+}
+
+pub fn integer_room(mode: Mode, ty: IntegerType) -> u128
+    requires width { IsWidth ty }
+    ensures count { result ≡ integer_room mode ty }
+    ensures few { result ≤ 101 }
+{
+    match mode {
+        Mode::Flat | Mode::Tree | Mode::Lines => typed_room(ty),
+        Mode::Json => longest_digits(ty),
+    }
+}
+
+fn unit_room(unit: u32) -> u128
+    ensures count { result ≡ length (unit_text unit) }
+    ensures few { result ≤ 40 }
+{
+    match unit {
+        1 => 1,
+        8 => 1,
+        _ => digits(u128::from(unit)),
+    }
+}
+
+#[tactic(auto, unfolding(crate::specs::ValueText::offset_text))]
+pub fn offset_room(mode: Mode, ty: IntegerType, unit: u32) -> u128
+    requires width { IsWidth ty }
+    ensures count { result ≡ offset_room mode ty unit }
+    ensures few { result ≤ 142 }
+{
+    match mode {
+        Mode::Flat | Mode::Tree | Mode::Lines => typed_room(ty) + 1 + unit_room(unit),
+        Mode::Json => json_offset_room(ty, unit),
+    }
+}
+
+/// The longest object of an offset.
+#[tactic(auto, using(crate::proofs::NumberLengths::json_offset_length))]
+fn json_offset_room(ty: IntegerType, unit: u32) -> u128
+    requires width { IsWidth ty }
+    ensures count { result ≡ length (json_offset (longest_number ty) unit) }
+    ensures few { result ≤ 142 }
+{
+    22 + longest_digits(ty) + digits(u128::from(unit))
+}
+
+pub fn string_room(mode: Mode, bits: u64) -> u128
+    ensures count { result ≡ string_room mode bits }
+    ensures few { result < 2 ^ 65 }
+{
+    let most = u128::from((bits / 8).saturating_sub(1));
+    match mode {
+        Mode::Flat | Mode::Tree | Mode::Lines => 2 + 4 * most,
+        Mode::Json => 2 + 6 * most,
+    }
+}
+
+fn brackets_room(number: u128) -> u128
+    ensures count { result ≡ length (in_brackets number) }
+    ensures few { result ≤ 42 }
+{
+    2 + digits(number)
+}
+
+/// What an array of so many elements has beside them.
+pub fn array_room(mode: Mode, count: u128) -> u128
+    ensures count { result ≡ array_room mode count }
+    ensures few { result ≤ 42 }
+{
+    match mode {
+        Mode::Flat | Mode::Json | Mode::Lines => 2,
+        Mode::Tree => brackets_room(count),
+    }
+}
+
+fn title_room(sort: &[u8], name: &Option<Name>) -> u128
+    ensures count { result ≡ length (title_text sort.now (name_of name.now)) }
+    ensures few { result < 2 ^ 64 }
+{
+    match name {
+        Some(name) => name.as_slice().len() as u128,
+        None => sort.len() as u128,
+    }
+}
+
+/// What a struct or a union has beside its members.
+pub fn titled_room(mode: Mode, sort: &[u8], name: &Option<Name>) -> u128
+    ensures count { result ≡ titled_room mode sort.now (name_of name.now) }
+    ensures few { result < 2 ^ 65 }
+{
+    match mode {
+        Mode::Flat | Mode::Lines => title_room(sort, name) + 3,
+        Mode::Tree => title_room(sort, name),
+        Mode::Json => 2,
+    }
+}
+
+/// What stands round the text of a value on a line of its own: in lines its start, at most `bits`, and its size, at most `widest`.
+pub fn line_room(mode: Mode, bits: u64, widest: u64) -> u128
+    ensures count { result ≡ line_room mode bits widest }
+    ensures few { result ≤ 88 }
+{
+    match mode {
+        Mode::Flat | Mode::Json => 0,
+        Mode::Tree => 1,
+        Mode::Lines => 8 + (digits(u128::from(bits)) + digits(u128::from(widest))),
+    }
+}
+
+/// What stands before an element.
+pub fn element_before(mode: Mode, place: u128) -> u128
+    ensures count { result ≡ element_before mode place }
+{
+    match mode {
+        Mode::Flat | Mode::Json => 1,
+        Mode::Tree => brackets_room(place) + 1,
+        Mode::Lines => 0,
+    }
+}
+
+/// What stands before each line of an element.
+pub fn element_moves(mode: Mode, place: u128) -> u128
+    ensures count { result ≡ element_moves mode place }
+{
+    match mode {
+        Mode::Flat | Mode::Json => 0,
+        Mode::Tree => 2,
+        Mode::Lines => brackets_room(place),
+    }
+}
+
+fn name_room(name: &Option<Name>) -> u128
+    ensures count { result ≡ length (name_text (name_of name.now)) }
+    ensures few { result ≤ 2 ^ 64 }
+{
+    match name {
+        Some(name) => name.as_slice().len() as u128 + 1,
+        None => 0,
+    }
+}
+
+/// A byte of a string in JSON.
+fn json_byte_room(byte: u8) -> u128
+    ensures count { result ≡ length (spelled_byte json_escape byte) }
+    ensures few { result ≤ 6 }
+{
+    match byte {
+        b'"' | b'\\' | 8 | 9 | 10 | 12 | 13 => 2,
+        32..=126 => 1,
+        _ => 6,
+    }
+}
+
+fn json_bytes_room(bytes: &[u8]) -> u128
+    ensures count { result ≡ length (spelled json_escape bytes.now) }
+    ensures few { result ≤ 6 * length bytes.now }
+{
+    let mut room: u128 = 0;
+    for byte in bytes {
+        room += json_byte_room(*byte);
+    }
+    room
+}
+
+/// The key of a field or an alternative.
+#[tactic(auto, unfolding(crate::specs::JsonText::json_string))]
+fn key_room(name: &Option<Name>, place: usize) -> u128
+    ensures count { result ≡ length (key_text (name_of name.now) place) }
+    ensures few { result < 2 ^ 68 }
+{
+    match name {
+        Some(name) => 2 + json_bytes_room(name.as_slice()),
+        None => 2 + digits(place as u128),
+    }
+}
+
+/// What stands before a field or an alternative.
+pub fn field_before(mode: Mode, name: &Option<Name>, place: usize) -> u128
+    ensures count { result ≡ field_before mode (name_of name.now) place }
+{
+    match mode {
+        Mode::Flat => 1 + name_room(name),
+        Mode::Tree => name_room(name),
+        Mode::Json => 2 + key_room(name, place),
+        Mode::Lines => 0,
+    }
+}
+
+/// The step of a path to a field or an alternative.
+fn step_room(name: &Option<Name>, place: usize) -> u128
+    ensures count { result ≡ length (field_step (name_of name.now) place) }
+{
+    match name {
+        Some(name) => 1 + name.as_slice().len() as u128,
+        None => 1 + digits(place as u128),
+    }
+}
+
+/// What stands before each line of a field or an alternative.
+pub fn field_moves(mode: Mode, name: &Option<Name>, place: usize) -> u128
+    ensures count { result ≡ field_moves mode (name_of name.now) place }
+{
+    match mode {
+        Mode::Flat | Mode::Json => 0,
+        Mode::Tree => 2,
+        Mode::Lines => step_room(name, place),
+    }
+}
+
+/// The line feed behind a text of one line, and the dot that is the path of a value without parts.
+pub fn end_room(mode: Mode) -> u128
+    ensures count { result ≡ end_room mode }
+{
+    match mode {
+        Mode::Flat | Mode::Json | Mode::Lines => 1,
+        Mode::Tree => 0,
+    }
+}
