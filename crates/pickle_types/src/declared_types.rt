@@ -55,12 +55,7 @@ impl Table {
 }
 
 // What is told of a type that has a name.
-fn tell<'t>(
-    nodes: &[Node],
-    roots: &[usize],
-    known: &[Bounds],
-    named: &'t Named,
-) -> DeclaredType<'t>
+fn tell<'t>(nodes: &[Node], roots: &[usize], known: &[Bounds], named: &'t Named) -> DeclaredType<'t>
     requires table { IsTable nodes.now }
     requires known { AreKnown nodes.now roots.now known.now 0 }
     requires inside { named.now.declared.node < length nodes.now }
