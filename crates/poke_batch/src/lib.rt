@@ -27,5 +27,6 @@ pub mod tell;
 mod tell_value;
 pub mod terms;
 pub mod text_bound;
+pub mod types;
 pub mod words;
 pub mod write;
