@@ -19,3 +19,4 @@ pub mod Placed
 pub mod Items
 pub mod Indexed
 pub mod Selections
+pub mod DeclaredTypes

@@ -16,3 +16,4 @@ pub mod Built
 pub mod Building
 pub mod Holds
 pub mod TypeTable
+pub mod DeclaredTypes

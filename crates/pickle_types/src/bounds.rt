@@ -388,7 +388,13 @@ fn parts_bounds(
 
 /// The bounds of a node, from those that are known or anew.
 #[cycle(bounds)]
-fn node_bounds(nodes: &[Node], roots: &[usize], known: &[Bounds], bits: u64, at: usize) -> Bounds
+pub(crate) fn node_bounds(
+    nodes: &[Node],
+    roots: &[usize],
+    known: &[Bounds],
+    bits: u64,
+    at: usize,
+) -> Bounds
     requires table { IsTable nodes.now }
     requires at { at < length nodes.now }
     requires known { AreKnown nodes.now roots.now known.now bits }

@@ -11,7 +11,7 @@ use crate::type_table::{Table, TypeId};
 use std::alloc::{AllocError, Global};
 
 /// The bounds on so many bits of the declared types before a node. `roots` are their nodes, in rising order.
-fn known_bounds(
+pub fn known_bounds(
     alloc: Global,
     nodes: &[Node],
     roots: &[usize],

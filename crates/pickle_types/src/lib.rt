@@ -3,6 +3,7 @@
 
 pub mod bounds;
 pub mod check;
+pub mod declared_types;
 pub mod fault;
 pub mod integer;
 mod known_bounds;

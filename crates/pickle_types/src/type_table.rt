@@ -154,7 +154,7 @@ pub struct Table {
     pub(crate) nodes: Vec<Node>,
     /// The nodes of the declared types that are no other names of earlier ones, in rising order.
     pub(crate) roots: Vec<usize>,
-    names: Vec<Named>,
+    pub(crate) names: Vec<Named>,
     declared: usize,
 }
 

@@ -2,6 +2,7 @@ pub mod OffsetWords
 pub mod DumpLines
 pub mod Parts
 pub mod FileLines
+pub mod TypeLines
 pub mod Gathered
 pub mod Bytes
 pub mod DumpRows

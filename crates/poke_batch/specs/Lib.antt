@@ -23,6 +23,7 @@ pub mod Lines
 pub mod Told
 pub mod FaultLines
 pub mod FileLine
+pub mod TypesText
 pub mod Paths
 pub mod Runs
 pub mod RunsUnder

@@ -3,7 +3,7 @@ use Rattle.std.specs.Prelude.{◌≡◌, ◌≢◌, ℕ, List, Option, Some, Non
 use Rattle.poke_batch.specs.declared.mode.Mode.{Mode}
 use Rattle.poke_batch.specs.declared.mode.Mode.TheVariants.{Flat, Tree, Json, Lines}
 use Rattle.poke_batch.specs.declared.words.Job.{Job}
-use Rattle.poke_batch.specs.declared.words.Job.TheVariants.{Map, MapUnder, Each, Bound, BoundText, Check, Dump}
+use Rattle.poke_batch.specs.declared.words.Job.TheVariants.{Map, MapUnder, Each, Bound, BoundText, Check, Types, Dump}
 
 -- a check of the pickle with this name
 abbrev pub IsCheckOf : List ℕ → Job → Type 0
@@ -13,6 +13,7 @@ IsCheckOf name (Each at order limit mode terms pickle type files) = ⊥
 IsCheckOf name (Bound pickle type bits) = ⊥
 IsCheckOf name (BoundText pickle type bits mode) = ⊥
 IsCheckOf name (Check pickle) = string_bytes pickle ≡ name
+IsCheckOf name (Types pickle) = ⊥
 IsCheckOf name (Dump from size ruler file) = ⊥
 
 -- `tree`, `json` and `lines` name modes of their own, all other words the first
@@ -30,6 +31,7 @@ WritesInMode word (Each at order limit mode terms pickle type files) = NamesMode
 WritesInMode word (Bound pickle type bits) = ⊥
 WritesInMode word (BoundText pickle type bits mode) = ⊥
 WritesInMode word (Check pickle) = ⊥
+WritesInMode word (Types pickle) = ⊥
 WritesInMode word (Dump from size ruler file) = ⊥
 
 -- a mode that a word names, or none where there is no word
@@ -47,4 +49,5 @@ BoundsTextIn word (Each at order limit mode terms pickle type files) = ⊥
 BoundsTextIn word (Bound pickle type bits) = ⊥
 BoundsTextIn word (BoundText pickle type bits mode) = NamesModeIfAny word mode
 BoundsTextIn word (Check pickle) = ⊥
+BoundsTextIn word (Types pickle) = ⊥
 BoundsTextIn word (Dump from size ruler file) = ⊥

@@ -26,5 +26,6 @@ pub mod status;
 pub mod tell;
 mod tell_value;
 pub mod terms;
+pub mod types;
 pub mod words;
 pub mod write;

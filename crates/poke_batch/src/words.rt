@@ -77,6 +77,10 @@ pub enum Job {
     Check {
         pickle: String,
     },
+    /// Tell the types that a pickle declares.
+    Types {
+        pickle: String,
+    },
     /// Dump the bytes of a file, from a byte on.
     Dump {
         from: u64,
@@ -167,7 +171,7 @@ pub fn read_asked(alloc: Global, words: Vec<String>) -> Result<Asked, WordFault>
 // Whether a command that reads a pickle has the flag `--why`.
 fn asks_why(matches: &ArgMatches<'_>) -> bool {
     match matches.subcommand() {
-        Some(("map" | "each" | "bound" | "check", found)) => found.get_flag("why"),
+        Some(("map" | "each" | "bound" | "check" | "types", found)) => found.get_flag("why"),
         _ => false,
     }
 }
@@ -219,6 +223,7 @@ fn read_command(alloc: Global, matches: &ArgMatches<'_>) -> Result<Job, WordFaul
         Some(("map", found)) => read_map(alloc, found),
         Some(("each", found)) => read_each(alloc, found),
         Some(("bound", found)) => read_bound(alloc, found),
+        Some(("types", found)) => read_types(alloc, found),
         Some(("dump", found)) => read_dump(alloc, found),
         Some((_, found)) => read_check(alloc, found),
         None => read_check(alloc, matches),
@@ -362,6 +367,12 @@ fn read_bound_text(alloc: Global, found: &ArgMatches<'_>) -> Result<Job, WordFau
 
 fn read_check(alloc: Global, found: &ArgMatches<'_>) -> Result<Job, WordFault> {
     Ok(Job::Check {
+        pickle: word_of(alloc, found, "PICKLE")?,
+    })
+}
+
+fn read_types(alloc: Global, found: &ArgMatches<'_>) -> Result<Job, WordFault> {
+    Ok(Job::Types {
         pickle: word_of(alloc, found, "PICKLE")?,
     })
 }

@@ -8,6 +8,7 @@ use poke_batch::run::{run_bound, run_check, run_map_under};
 use poke_batch::status::Status;
 use poke_batch::tell::fail;
 use poke_batch::terms::Terms;
+use poke_batch::types::run_types;
 use poke_batch::words::{Asked, Job};
 use std::alloc::Global;
 use std::fs::File;
@@ -171,6 +172,20 @@ fn run_job<R: Files<File = File> + Input + AllocGlobal, O: Write, E: Write>(
         Job::Check { pickle: path } => {
             let pickle = read_pickle_of(rt, path.as_str())?;
             let status = run_check(rt.alloc(), &pickle, out, err);
+            explain(
+                rt.alloc(),
+                why,
+                status,
+                &pickle,
+                path.as_str(),
+                None,
+                reason,
+            );
+            Ok(status)
+        }
+        Job::Types { pickle: path } => {
+            let pickle = read_pickle_of(rt, path.as_str())?;
+            let status = run_types(rt.alloc(), &pickle, out, err);
             explain(
                 rt.alloc(),
                 why,

@@ -11,7 +11,7 @@ use given::given_words;
 use jobs::do_job;
 use poke_batch::status::Status;
 use poke_batch::tell::{answer, fail, refuse};
-use poke_batch::words::{Asked, WordFault, read_asked};
+use poke_batch::words::{Asked, WordFault, read_asked, read_words};
 use poke_batch::write::put;
 use std::alloc::{AllocError, Global};
 use std::io::{IsTerminal, Write};

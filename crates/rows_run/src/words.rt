@@ -9,6 +9,7 @@ use std::test::Fail;
 const JOBS: &str = r#" ==> Check { pickle: "-" }
 check - ==> Check { pickle: "-" }
 check p ==> Check { pickle: "p" }
+types p ==> Types { pickle: "p" }
 bound p T 25 ==> Bound { pickle: "p", name: "T", bits: 25 }
 bound --text p T 25 ==> BoundText { pickle: "p", name: "T", bits: 25, mode: None }
 bound p --text T --mode tree 25 ==> BoundText { pickle: "p", name: "T", bits: 25, mode: Some(Tree) }
@@ -57,6 +58,8 @@ bound --mode tree p T 25 ==> usage
 bound --text --mode leaf p T 25 ==> usage
 dump --no-ruler --no-ruler f ==> usage
 check ==> usage
+types ==> usage
+types p T ==> usage
 chec p ==> usage
 - ==> usage
 "" ==> usage"#;

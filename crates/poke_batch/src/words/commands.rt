@@ -25,7 +25,7 @@ Options of map:
   --slots N        the most slots of the mapping, of each kind, 0 to 18446744073709551615 [default: any number]
   --get PATH       write a part of the value: . or steps of .name, .place, [place] [default: .]
 
-Options of map, each, bound and check:
+Options of map, each, bound, check and types:
   --why            tell why the pickle or the type's name is refused: line, column and a sentence [default: not told]
 
 Options of bound:
@@ -95,6 +95,18 @@ Statuses:
   2  refused: words or the pickle
   3  memory, a file, standard input or an output failed";
 
+const TYPES_HELP: &str = "\
+Each type that PICKLE declares has a line: its name, a tab, integer, offset, string, array, struct or union, a tab, and the
+least width of its values as an offset, such as 24#b.
+
+Example:
+  echo 'type P = struct { uint<8> a; uint<16> b; };' | poke_batch types -
+
+Statuses:
+  0  the lines were written
+  2  refused: words or the pickle
+  3  memory, a file, standard input or an output failed";
+
 const DUMP_HELP: &str = "\
 OFFSET is a number, # and a unit: b for bits, B for bytes, or a number of bits, as 16#B or 2#4.
 
@@ -118,6 +130,7 @@ pub fn program<'a>(alloc: Global) -> Result<Command<'a>, AllocError> {
         .subcommand(each(alloc)?)?
         .subcommand(bound(alloc)?)?
         .subcommand(check(alloc)?)?
+        .subcommand(types(alloc)?)?
         .subcommand(dump(alloc)?)
 }
 
@@ -238,6 +251,14 @@ fn check<'a>(alloc: Global) -> Result<Command<'a>, AllocError> {
     Command::new(alloc, "check")
         .about("Checks a pickle and prints the number of its types")
         .after_help(CHECK_HELP)
+        .arg(why(alloc))?
+        .arg(pickle(alloc))
+}
+
+fn types<'a>(alloc: Global) -> Result<Command<'a>, AllocError> {
+    Command::new(alloc, "types")
+        .about("Prints the name, the kind and the least width of each type of a pickle")
+        .after_help(TYPES_HELP)
         .arg(why(alloc))?
         .arg(pickle(alloc))
 }
