@@ -95,10 +95,10 @@ const HELLO: &[u8] = b"76543210  0011 2233 4455 6677 8899 aabb ccdd eeff  012345
 
 /// The lengths of a file and of pages.
 pub fn telling_lengths<R: Files<File = File> + AllocGlobal>(rt: &R) -> Result<Ended, Ended> {
-    let file = FileSpace::open(rt, "/dev/null").map_err(|_| Ended::Early)?;
+    let file = FileSpace::open(rt, "/proc/self/exe").map_err(|_| Ended::Early)?;
     let space = space_of(rt.alloc(), b"\x12\x34")?;
     let paged = Paged::new(rt.alloc(), space).map_err(|_| Ended::Early)?;
-    Ok(Ended::answer_if(file.len() == 0 && paged.len() == 2))
+    Ok(Ended::answer_if(file.len() > 0 && paged.len() == 2))
 }
 
 /// The places of tokens, and a word of an offset.
