@@ -1,5 +1,5 @@
 use Rattle.poke_batch.specs.RunsUnder.{IsStoreOf}
 use Rattle.poke_batch_cli.proofs.each.run_list.Given as goal
 
-abbrev pub invariant-loop-name : goal.invariant-loop-name
-invariant-loop-name g l = IsStoreOf l.terms.most_slots l.kept.store
+abbrev pub invariant-loop : goal.invariant-loop
+invariant-loop g l = IsStoreOf l.terms.most_slots l.kept.store
