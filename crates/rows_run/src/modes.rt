@@ -94,7 +94,7 @@ T
   e=[0]
   s=-2H#4
 json
-{"f":0,"2":"\b\f\r\u007f\u00ff\\","e":[],"s":{"magnitude":-2,"unit":4}}
+{"f":0,"2":"\u0008\u000c\u000d\u007f\u00ff\\","e":[],"s":{"magnitude":-2,"unit":4}}
 lines
 .f|0#b|8#b|0UB
 .2|8#b|56#b|"\x08\x0c\x0d\x7f\xff\\"
