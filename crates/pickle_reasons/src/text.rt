@@ -69,12 +69,7 @@ impl Text {
         if is_shown(byte) {
             self.say(&[byte])
         } else {
-            self.say(&[
-                b'\\',
-                b'x',
-                hex_digit(byte >> 4),
-                hex_digit(byte & 15),
-            ])
+            self.say(&[b'\\', b'x', hex_digit(byte >> 4), hex_digit(byte & 15)])
         }
     }
 

@@ -88,7 +88,10 @@ fn bound_found<O: Write, E: Write>(
         (O.contents out.old) (O.contents out.new) (E.contents err.old) (E.contents err.new) }
 {
     match all_bounds(alloc, table, id, bits, mode) {
-        Ok(all) => answer(put_bounds_and_text(out, all.steps, all.slots, all.text), err),
+        Ok(all) => answer(
+            put_bounds_and_text(out, all.steps, all.slots, all.text),
+            err,
+        ),
         Err(_) => fail(err, b"Memory"),
     }
 }
