@@ -3,7 +3,7 @@ use Rattle.std.specs.Prelude.{◌≡◌, ◌≤◌, ◌+◌, ◌/◌, ◌%◌, �
 use Rattle.pickle_syntax.specs.Tree.{DeclarationTree}
 use Rattle.pickle_types.specs.Names.{Names}
 use Rattle.poke_batch.specs.Accepted.{IsAccepted}
-use Rattle.poke_batch.specs.DumpText.{hex_digit}
+use Rattle.poke_batch.specs.HexDigits.{hex_digit}
 
 -- the line of the place behind some bytes, counted from 1: a line feed ends a line
 abbrev pub line_behind : List ℕ → ℕ

@@ -19,7 +19,7 @@ use Rattle.pickle_map.specs.declared.faults.MapFaultKind.{MapFaultKind}
 use Rattle.pickle_map.specs.declared.faults.MapFaultKind.TheVariants as fault
 use Rattle.poke_batch.specs.Accepted.{IsAccepted}
 use Rattle.poke_batch.specs.FaultLines.{fault_kind, fault_saying}
-use Rattle.poke_batch.specs.declared.ask.Ask.{Ask}
+use Rattle.command_words.specs.declared.ask.Ask.{Ask}
 use Rattle.poke_batch.specs.declared.status.Status.TheVariants.{Fault}
 use Rattle.poke_batch.specs.Lines.{fault_at_line}
 use Rattle.poke_batch.specs.Runs.{HasAnswer, IsAsked, MapsAs, stops, device, no_memory}

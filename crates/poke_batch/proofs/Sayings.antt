@@ -5,9 +5,9 @@ use Rattle.std.specs.Io.KnownBytes.{Appends, Keeps}
 use Rattle.std.proofs.KnownBytes.{Keeps-refl}
 use Rattle.poke_batch.specs.declared.status.Status.{Status}
 use Rattle.poke_batch.specs.declared.status.Status.TheVariants.{Done, Outside}
-use Rattle.poke_batch.specs.declared.write.WriteFault.{WriteFault}
+use Rattle.value_text.specs.declared.write.WriteFault.{WriteFault}
 use Rattle.poke_batch.specs.Lines.{fault_line}
-use Rattle.poke_batch.specs.Written.{AppendsPart}
+use Rattle.value_text.specs.Written.{AppendsPart}
 use Rattle.pickle_syntax.specs.Tree.{DeclarationTree}
 use Rattle.pickle_types.specs.Names.{Names}
 use Rattle.poke_batch.specs.Accepted.{IsAccepted}

@@ -10,9 +10,9 @@ use Rattle.std.proofs.Math.Seq.{take-suc}
 use Rattle.pickle_types.specs.Names.{Names}
 use Rattle.pickle_types.specs.DeclaredTypes.{told_of, told_as, declared_in}
 use Rattle.pickle_types.specs.declared.declared_types.DeclaredType.{DeclaredType}
-use Rattle.poke_batch.specs.Written.{AppendsPart}
+use Rattle.value_text.specs.Written.{AppendsPart}
 use Rattle.poke_batch.specs.TypesText.{type_line, told_lines, types_lines}
-use Rattle.poke_batch.proofs.Parts.{part_first, part_next}
+use Rattle.value_text.proofs.Parts.{part_first, part_next}
 
 next_is : (n : ℕ) → n + 1 ≡ suc n
 next_is n = omega arith

@@ -16,10 +16,10 @@ use Rattle.pickle_map.specs.declared.faults.MapFaultKind.{MapFaultKind}
 use Rattle.pickle_map.specs.declared.faults.MapFaultKind.TheVariants as fault
 use Rattle.poke_batch.specs.declared.accept.Refusal.{Refusal}
 use Rattle.poke_batch.specs.declared.accept.Refusal.TheVariants as refusal
-use Rattle.poke_batch.specs.declared.ask.Ask.{Ask}
+use Rattle.command_words.specs.declared.ask.Ask.{Ask}
 use Rattle.poke_batch.specs.declared.status.Status.{Status}
 use Rattle.poke_batch.specs.declared.status.Status.TheVariants.{Fault}
-use Rattle.poke_batch.specs.declared.terms.Terms.{Terms}
+use Rattle.command_words.specs.declared.terms.Terms.{Terms}
 use Rattle.poke_batch.specs.Lines.{fault_line, fault_at_line}
 use Rattle.poke_batch.specs.Accepted.{Refuses, refusal_saying}
 use Rattle.poke_batch.specs.FaultLines.{fault_saying}

@@ -1,11 +1,8 @@
 -- The text of a dump of bytes.
-use Rattle.std.specs.Prelude.{ℕ, ◌+◌, ◌-◌, ◌*◌, ◌/◌, ◌%◌, Bool, List, [], ◌∷◌, ◌++◌, Option, None, Some, ◌==◌, ◌&&◌, nat_lt, nat_le, length, take, drop, map, replicate, slice_get, if◌then◌else◌, codes}
+use Rattle.std.specs.Prelude.{ℕ, ◌+◌, ◌-◌, ◌*◌, ◌/◌, ◌%◌, Bool, List, [], ◌∷◌, ◌++◌, Option, None, Some, ◌==◌, ◌&&◌, nat_le, length, take, drop, map, replicate, slice_get, if◌then◌else◌, codes}
 use Rattle.std.specs.List.{flat_map, range_with_len}
 use Rattle.std.specs.Int.Digits.{digits_of}
-
--- the lower-case hexadecimal digit of a value below 16: '0' is 48 and 'a' is 97
-abbrev pub hex_digit : ℕ → ℕ
-hex_digit n = if nat_lt n 10 then 48 + n else 87 + n
+use Rattle.value_text.specs.HexDigits.{hex_digit}
 
 -- hexadecimal digits of a place, after the zeros that make them eight, if they are fewer
 unfoldable pub place_text : ℕ → List ℕ

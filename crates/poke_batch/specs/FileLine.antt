@@ -4,7 +4,7 @@ use Rattle.poke_batch.specs.declared.status.Status.{Status}
 use Rattle.poke_batch.specs.declared.status.Status.TheVariants.{Done, Fault, Refused, Outside}
 use Rattle.poke_batch.specs.Lines.{fault_line}
 use Rattle.poke_batch.specs.Told.{Saying, Says}
-use Rattle.poke_batch.specs.ValueText.{is_plain, escape_text}
+use Rattle.value_text.specs.ValueText.{is_plain, escape_text}
 
 -- a byte of a name, as in a string, but for `"` (34), which stands for itself
 abbrev pub name_byte : ℕ → List ℕ

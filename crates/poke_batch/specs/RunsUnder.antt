@@ -10,13 +10,13 @@ use Rattle.pickle_map.specs.declared.faults.MapFaultKind.TheVariants as fault
 use Rattle.pickle_map.specs.declared.store.room.Growth.TheVariants.{Free}
 use Rattle.poke_batch.specs.FaultLines.{fault_saying}
 use Rattle.pickle_map.specs.Values.{Value, end_of, no_values}
-use Rattle.poke_batch.specs.declared.ask.Ask.{Ask}
+use Rattle.command_words.specs.declared.ask.Ask.{Ask}
 use Rattle.poke_batch.specs.declared.status.Status.{Status}
 use Rattle.poke_batch.specs.declared.status.Status.TheVariants.{Fault, Outside}
-use Rattle.poke_batch.specs.declared.terms.Terms.{Terms}
+use Rattle.command_words.specs.declared.terms.Terms.{Terms}
 use Rattle.poke_batch.specs.Lines.{fault_line, fault_at_line}
-use Rattle.poke_batch.specs.Paths.{part_at}
-use Rattle.poke_batch.specs.Printed.{printed}
+use Rattle.command_words.specs.Paths.{part_at}
+use Rattle.value_text.specs.Printed.{printed}
 use Rattle.poke_batch.specs.Runs.{HasAnswer, IsAsked, MapsAs}
 use Rattle.poke_batch.specs.Told.{Saying, Text, Line}
 

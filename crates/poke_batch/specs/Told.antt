@@ -4,7 +4,7 @@ use Rattle.std.specs.Io.KnownBytes.{Appends, Keeps}
 use Rattle.poke_batch.specs.declared.status.Status.{Status}
 use Rattle.poke_batch.specs.declared.status.Status.TheVariants.{Done, Outside}
 use Rattle.poke_batch.specs.Lines.{fault_line}
-use Rattle.poke_batch.specs.Written.{AppendsPart}
+use Rattle.value_text.specs.Written.{AppendsPart}
 
 -- known bytes grow by a part of a text, from its front, or by all of it
 pub record AppendsUpTo (old new : Option (List ℕ)) (text : List ℕ) : Type 0 where

@@ -1,15 +1,15 @@
 //! The text of the bounds of a mapping.
 ghost use Rattle.std.specs.Prelude.{OnOk, OnErr};
 ghost use Rattle.std.specs.Io.KnownBytes.{Appends};
-ghost use Rattle.poke_batch.specs.Written.{AppendsPart};
+ghost use Rattle.value_text.specs.Written.{AppendsPart};
 ghost use Rattle.poke_batch.specs.BoundText.{bound_line, bound_number, bound_text, bound_text_and};
 
-use crate::write::{WriteFault, put};
 use itoa::Buffer;
 use std::io::Write;
+use value_text::write::{WriteFault, put};
 
 /// Writes the most steps and slots that a mapping takes, a line each. None is a bound of 2^128 or more.
-#[tactic(auto, using(crate::proofs::Parts::written))]
+#[tactic(auto, using(value_text::proofs::Parts::written))]
 pub fn put_bounds<W: Write>(
     w: &mut W,
     steps: Option<u128>,
@@ -25,7 +25,7 @@ pub fn put_bounds<W: Write>(
 
 /// Writes the most steps and slots that a mapping takes, and the most bytes of its text, a line each. None is a bound of
 /// 2^128 or more.
-#[tactic(auto, using(crate::proofs::Parts::written))]
+#[tactic(auto, using(value_text::proofs::Parts::written))]
 pub fn put_bounds_and_text<W: Write>(
     w: &mut W,
     steps: Option<u128>,
@@ -41,7 +41,7 @@ pub fn put_bounds_and_text<W: Write>(
 }
 
 /// Writes a line with a name and a bound.
-#[tactic(auto, using(crate::proofs::Parts::written), unfolding(crate::specs::BoundText::bound_line))]
+#[tactic(auto, using(value_text::proofs::Parts::written), unfolding(crate::specs::BoundText::bound_line))]
 pub(crate) fn put_line<W: Write>(
     w: &mut W,
     name: &[u8],

@@ -3,16 +3,16 @@
 ghost use Rattle.std.specs.Prelude.{◌≡◌, ◌<◌, ◌≤◌, Some, length, IsOk, IfOk, IfErr, OnOk, OnErr};
 ghost use Rattle.std.specs.Io.KnownBytes.{Appends};
 ghost use Rattle.pickle_map.specs.Refs.{value_shown};
-ghost use Rattle.poke_batch.specs.Printed.{printed};
-ghost use Rattle.poke_batch.specs.Written.{AppendsPart};
+ghost use Rattle.value_text.specs.Printed.{printed};
+ghost use Rattle.value_text.specs.Written.{AppendsPart};
 
-use crate::mode::Mode;
-use crate::print::print;
-use crate::write::WriteFault;
 use pickle_map::ValueRef;
 use std::alloc::Global;
 use std::io;
 use std::io::Write;
+use value_text::mode::Mode;
+use value_text::print::print;
+use value_text::write::WriteFault;
 
 /// Why a text isn't gathered.
 #[derive(Clone, Copy, Debug, Drop, PartialEq, Eq)]

@@ -4,15 +4,15 @@ mod line;
 ghost use Rattle.std.specs.Prelude.{◌≡◌, ℕ, ◌+◌, ◌-◌, ◌^◌, ◌<◌, ◌≤◌, List, Some, [], if◌then◌else◌, slice_range, take, drop, min, OnOk, OnErr, IfErr};
 ghost use Rattle.std.specs.Io.KnownBytes.{Appends};
 ghost use Rattle.bit_space.specs.SpaceView.{HasRisen, Keeps};
-ghost use Rattle.poke_batch.specs.Written.{AppendsPart};
+ghost use Rattle.value_text.specs.Written.{AppendsPart};
 ghost use Rattle.poke_batch.specs.DumpText.{dump_text, line_text, lines_text, ruler_text};
 ghost use Rattle.poke_batch.specs.declared.dump.DumpFault.TheVariants.{Device, Write as WriteFailed};
 
-use crate::write::{WriteFault, put};
 use bit_space::{DeviceFault, Space};
 use line::{LINE_ROOM, lay_out};
 use std::io::Write;
 use thiserror::Error;
+use value_text::write::{WriteFault, put};
 
 /// Why a dump ended early.
 #[derive(Clone, Copy, Debug, PartialEq, Eq, Error)]

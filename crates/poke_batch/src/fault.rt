@@ -9,9 +9,9 @@ ghost use Rattle.poke_batch.specs.declared.status.Status.TheVariants.{Fault};
 use crate::lines::put_fault;
 use crate::status::Status;
 use crate::tell::{fail, fault_at};
-use crate::write::WriteFault;
 use pickle_map::{MapFault, MapFaultKind};
 use std::io::Write;
+use value_text::write::WriteFault;
 
 /// Tells a fault of a mapping, at a bit of the file, or what failed outside it.
 pub fn tell_fault<E: Write>(err: &mut E, fault: MapFault) -> Status

@@ -5,27 +5,20 @@
 #![tactic(auto)]
 
 pub mod accept;
-pub mod ask;
 pub mod bound;
 pub mod draft;
 pub mod dump;
 pub mod each;
 pub mod fault;
 pub mod file_line;
-pub mod hex;
-pub mod laws;
 mod lines;
-pub mod mode;
-pub mod offset_word;
 pub mod part;
-pub mod path;
 pub mod pickle;
-pub mod print;
 pub mod run;
 pub mod status;
 pub mod tell;
 mod tell_value;
-pub mod terms;
 pub mod types;
-pub mod words;
-pub mod write;
+
+pub use command_words::{ask, offset_word, path, terms, words};
+pub use value_text::{hex, laws, mode, print, write};

@@ -2,12 +2,12 @@
 
 ghost use Rattle.std.specs.Prelude.{◌∷◌, [], ◌++◌, decimal, OnOk, OnErr};
 ghost use Rattle.std.specs.Io.KnownBytes.{Appends};
-ghost use Rattle.poke_batch.specs.Written.{AppendsPart};
+ghost use Rattle.value_text.specs.Written.{AppendsPart};
 ghost use Rattle.poke_batch.specs.Lines.{refused_line, refused_at_line, refused_in_line, fault_line, fault_at_line};
 
-use crate::write::{WriteFault, put};
 use itoa::Buffer;
 use std::io::Write;
+use value_text::write::{WriteFault, put};
 
 /// Writes what is refused as a whole.
 pub fn put_refused<W: Write>(w: &mut W, kind: &[u8]) -> Result<(), WriteFault>
@@ -61,7 +61,7 @@ pub fn put_fault_at<W: Write>(w: &mut W, kind: &[u8], bit: u128) -> Result<(), W
 }
 
 // `lead`, the kind, and the line's end
-#[tactic(auto, using(crate::proofs::Parts::written))]
+#[tactic(auto, using(value_text::proofs::Parts::written))]
 fn put_plain<W: Write>(w: &mut W, lead: &[u8], kind: &[u8]) -> Result<(), WriteFault>
     ensures ok { OnOk result (Appends (W.contents w.old) (W.contents w.new) (lead.now ++ (kind.now ++ 10 ∷ []))) }
     ensures err { OnErr result (AppendsPart (W.contents w.old) (W.contents w.new) (lead.now ++ (kind.now ++ 10 ∷ []))) }
@@ -73,7 +73,7 @@ fn put_plain<W: Write>(w: &mut W, lead: &[u8], kind: &[u8]) -> Result<(), WriteF
 }
 
 // `lead`, the kind, and a number between `link` and `tail`
-#[tactic(auto, using(crate::proofs::Parts::written))]
+#[tactic(auto, using(value_text::proofs::Parts::written))]
 fn put_placed<W: Write>(
     w: &mut W,
     lead: &[u8],
@@ -95,7 +95,7 @@ fn put_placed<W: Write>(
 }
 
 /// Writes the decimal digits of a number, and `tail`.
-#[tactic(auto, using(crate::proofs::Parts::written))]
+#[tactic(auto, using(value_text::proofs::Parts::written))]
 pub fn put_number<W: Write>(w: &mut W, number: u128, tail: &[u8]) -> Result<(), WriteFault>
     ensures ok { OnOk result (Appends (W.contents w.old) (W.contents w.new) (decimal number ++ tail.now)) }
     ensures err { OnErr result (AppendsPart (W.contents w.old) (W.contents w.new) (decimal number ++ tail.now)) }

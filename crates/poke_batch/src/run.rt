@@ -9,22 +9,22 @@ ghost use Rattle.pickle_map.specs.Values.{Value, value_at, start_of, end_of};
 ghost use Rattle.poke_batch.specs.Told.{Says, IsSaid};
 ghost use Rattle.poke_batch.specs.Runs.{ChecksAs, BoundsAs, IsAsked, MapsAs, types_text};
 ghost use Rattle.poke_batch.specs.RunsUnder.{MapsUnder, IsStoreOf, end_saying, fixed_saying, SaysIt, value_saying};
-ghost use Rattle.poke_batch.specs.Written.{AppendsPart};
+ghost use Rattle.value_text.specs.Written.{AppendsPart};
 
 use crate::accept::{accept, tell_refusal};
-use crate::ask::Ask;
 use crate::bound::{put_bounds, put_line};
 use crate::fault::tell_fault;
 use crate::status::Status;
 use crate::tell::{answer, fail, fault_at, refuse};
 use crate::tell_value::tell_value;
-use crate::terms::Terms;
-use crate::write::WriteFault;
 use bit_space::{Memory, Meter, Space};
+use command_words::ask::Ask;
+use command_words::terms::Terms;
 use pickle_map::{MapFault, MapFaultKind, Store, map};
 use pickle_types::type_table::{Table, TypeId};
 use std::alloc::Global;
 use std::io::Write;
+use value_text::write::WriteFault;
 
 /// Checks a pickle, and writes how many types it declares.
 pub fn run_check<O: Write, E: Write>(

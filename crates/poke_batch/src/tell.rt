@@ -8,8 +8,8 @@ ghost use Rattle.poke_batch.specs.declared.status.Status.TheVariants.{Done, Faul
 
 use crate::lines::{put_fault, put_fault_at, put_refused, put_refused_at, put_refused_in};
 use crate::status::Status;
-use crate::write::WriteFault;
 use std::io::Write;
+use value_text::write::WriteFault;
 
 /// Ends a run by a refusal.
 pub fn refuse<E: Write>(err: &mut E, kind: &[u8]) -> Status

@@ -5,16 +5,16 @@ ghost use Rattle.std.specs.Io.KnownBytes.{Appends};
 ghost use Rattle.pickle_types.specs.DeclaredTypes.{told_of};
 ghost use Rattle.poke_batch.specs.Told.{Says};
 ghost use Rattle.poke_batch.specs.TypesText.{kind_column, width_number, width_text, type_line, told_lines, TypesAs};
-ghost use Rattle.poke_batch.specs.Written.{AppendsPart};
+ghost use Rattle.value_text.specs.Written.{AppendsPart};
 
 use crate::accept::{accept, tell_refusal};
 use crate::status::Status;
 use crate::tell::{answer, fail};
-use crate::write::{WriteFault, put};
 use itoa::Buffer;
 use pickle_types::declared_types::{DeclaredType, TypeKind};
 use std::alloc::Global;
 use std::io::Write;
+use value_text::write::{WriteFault, put};
 
 /// Checks a pickle, and writes a line for each type that it declares, in the order of the declarations: its name, its kind and the
 /// least width of its values, with a tab between them.
@@ -53,7 +53,7 @@ fn put_types<W: Write>(w: &mut W, types: &[DeclaredType<'_>]) -> Result<(), Writ
     Ok(())
 }
 
-#[tactic(auto, using(crate::proofs::Parts::written), unfolding(crate::specs::TypesText::type_line))]
+#[tactic(auto, using(value_text::proofs::Parts::written), unfolding(crate::specs::TypesText::type_line))]
 fn put_type<W: Write>(w: &mut W, told: &DeclaredType<'_>) -> Result<(), WriteFault>
     ensures ok { OnOk result (Appends (W.contents w.old) (W.contents w.new) (type_line (told_of told.now))) }
     ensures err { OnErr result (AppendsPart (W.contents w.old) (W.contents w.new) (type_line (told_of told.now))) }
@@ -77,7 +77,7 @@ fn column(kind: TypeKind) -> &'static [u8]
     }
 }
 
-#[tactic(auto, using(crate::proofs::Parts::written), unfolding(crate::specs::TypesText::width_text))]
+#[tactic(auto, using(value_text::proofs::Parts::written), unfolding(crate::specs::TypesText::width_text))]
 fn put_width<W: Write>(w: &mut W, width: Option<u64>) -> Result<(), WriteFault>
     ensures ok { OnOk result (Appends (W.contents w.old) (W.contents w.new) (width_text width)) }
     ensures err { OnErr result (AppendsPart (W.contents w.old) (W.contents w.new) (width_text width)) }

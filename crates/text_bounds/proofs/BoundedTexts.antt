@@ -7,9 +7,9 @@ use Rattle.pickle_map.specs.Fits.{Fits}
 use Rattle.pickle_map.specs.Values.{Value, Levels}
 use Rattle.pickle_map.proofs.OnBits.{outcomes_fit}
 use Rattle.poke_batch.specs.declared.accept.Refusal.TheVariants as refusal
-use Rattle.poke_batch.specs.declared.ask.Ask.{Ask}
-use Rattle.poke_batch.specs.declared.mode.Mode.{Mode}
-use Rattle.poke_batch.specs.declared.mode.Mode.TheVariants.{Flat, Tree, Json, Lines}
+use Rattle.command_words.specs.declared.ask.Ask.{Ask}
+use Rattle.value_text.specs.declared.mode.Mode.{Mode}
+use Rattle.value_text.specs.declared.mode.Mode.TheVariants.{Flat, Tree, Json, Lines}
 use Rattle.poke_batch.specs.declared.status.Status.{Status}
 use Rattle.text_bounds.specs.OutputRoom.{GrowsWithin, OutputIsBounded}
 use Rattle.poke_batch.specs.Printed.{printed}

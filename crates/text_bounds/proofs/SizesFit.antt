@@ -15,8 +15,8 @@ use Rattle.pickle_map.specs.Arithmetic.{with_sign}
 use Rattle.pickle_map.specs.Means.{field_names, part_names, integer_value, offset_value, array_value, struct_value, Taken, union_value}
 use Rattle.pickle_map.specs.Fits.{ElementsFit, no_more_fit, one_more_fits, FitsNumber, DigitsFit, Fits, FieldsFit, AlternativeFits}
 use Rattle.pickle_map.proofs.Fitting.{fits_wide, fits_inside}
-use Rattle.poke_batch.specs.declared.mode.Mode.{Mode}
-use Rattle.poke_batch.specs.declared.mode.Mode.TheVariants.{Flat, Tree, Json, Lines}
+use Rattle.value_text.specs.declared.mode.Mode.{Mode}
+use Rattle.value_text.specs.declared.mode.Mode.TheVariants.{Flat, Tree, Json, Lines}
 use Rattle.poke_batch.specs.ValueText.{spelled_byte, spelled, escape_text, is_plain, string_text}
 use Rattle.poke_batch.specs.JsonText.{json_escape, json_string}
 use Rattle.poke_batch.specs.TreeText.{in_brackets}

@@ -18,7 +18,7 @@ use Rattle.pickle_types.specs.Holds.{HoldsWidth, is_none}
 use Rattle.pickle_types.specs.Types.{Term, Parts, PokeType, FieldThen, NoFields, PartThen, NoParts}
 use Rattle.pickle_types.specs.Table.{type_of, open_shape, open_fields, open_parts, name_of, optional_term, IsTable, NamesBelow}
 use Rattle.pickle_types.proofs.Tables.{opens, node_at}
-use Rattle.poke_batch.specs.declared.mode.Mode.{Mode}
+use Rattle.value_text.specs.declared.mode.Mode.{Mode}
 use Rattle.text_bounds.specs.declared.fields.NodeSize.{NodeSize}
 use Rattle.text_bounds.specs.declared.fields.FieldSizes.{FieldSizes}
 use Rattle.text_bounds.specs.declared.fields.PartSizes.{PartSizes}

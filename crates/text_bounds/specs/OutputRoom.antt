@@ -2,7 +2,7 @@
 use Rattle.std.specs.Prelude.{◌≤◌, ◌*◌, ◌⊎◌, ℕ, List, Option, length}
 use Rattle.std.specs.Io.KnownBytes.{Appends, Keeps}
 use Rattle.pickle_types.specs.Types.{PokeType}
-use Rattle.poke_batch.specs.declared.ask.Ask.{Ask}
+use Rattle.command_words.specs.declared.ask.Ask.{Ask}
 use Rattle.poke_batch.specs.Runs.{IsAsked}
 use Rattle.text_bounds.specs.TextRoom.{most_text}
 

@@ -7,8 +7,8 @@ use Rattle.pickle_types.specs.Types.{PokeType}
 use Rattle.pickle_map.specs.Fits.{Fits}
 use Rattle.pickle_map.specs.Means.{Means}
 use Rattle.pickle_map.specs.Values.{Value, Levels}
-use Rattle.poke_batch.specs.declared.ask.Ask.{Ask}
-use Rattle.poke_batch.specs.declared.mode.Mode.{Mode}
+use Rattle.command_words.specs.declared.ask.Ask.{Ask}
+use Rattle.value_text.specs.declared.mode.Mode.{Mode}
 use Rattle.poke_batch.specs.declared.status.Status.{Status}
 use Rattle.text_bounds.specs.OutputRoom.{OutputIsBounded}
 use Rattle.poke_batch.specs.Printed.{printed}

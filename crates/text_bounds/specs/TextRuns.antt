@@ -5,7 +5,7 @@ use Rattle.pickle_types.specs.Types.{PokeType}
 use Rattle.pickle_types.specs.Names.{Names, find_type}
 use Rattle.pickle_types.specs.Bounds.{cost, room, IsBound}
 use Rattle.poke_batch.specs.declared.accept.Refusal.{Refusal}
-use Rattle.poke_batch.specs.declared.mode.Mode.{Mode}
+use Rattle.value_text.specs.declared.mode.Mode.{Mode}
 use Rattle.poke_batch.specs.declared.status.Status.TheVariants.{Refused}
 use Rattle.poke_batch.specs.Accepted.{IsAccepted, Refuses, refusal_saying}
 use Rattle.poke_batch.specs.BoundText.{bound_text_and}

@@ -1,8 +1,9 @@
 //! A line of a dump.
 ghost use Rattle.std.specs.Prelude.{◌≡◌, ℕ, ◌+◌, ◌-◌, ◌*◌, ◌^◌, ◌<◌, ◌≤◌, [], ◌∷◌, ◌++◌, length, map, max, take};
-ghost use Rattle.poke_batch.specs.DumpText.{hex_digit, place_text, gap, column, columns, shown, line_text};
+ghost use Rattle.poke_batch.specs.DumpText.{place_text, gap, column, columns, shown, line_text};
+ghost use Rattle.value_text.specs.HexDigits.{hex_digit};
 
-use crate::hex::hex_digit;
+use value_text::hex::hex_digit;
 
 /// Room for the longest line: a place of 16 digits, 16 columns of up to 3 bytes, 16 bytes as text, and 4 bytes between and after them.
 pub const LINE_ROOM: usize = 84;

@@ -1,6 +1,6 @@
 use Rattle.std.proofs.lemmas.Result.{err_from_is_err_and}
 use Rattle.std.proofs.KnownBytes.{Appends-trans}
-use Rattle.poke_batch.proofs.Parts.{part_first, part_next}
+use Rattle.value_text.proofs.Parts.{part_first, part_next}
 use Rattle.poke_batch.specs.DumpText.{dump_text}
 use Rattle.poke_batch.proofs.dump.dump.Goals as goal
 

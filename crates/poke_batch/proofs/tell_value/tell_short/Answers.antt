@@ -2,7 +2,7 @@ use Rattle.std.proofs.Common.{◌≤◌, ◌∙◌, codes, length, subst, sym}
 use Rattle.pickle_map.specs.Refs.{value_shown}
 use Rattle.poke_batch.specs.declared.status.Status.TheVariants.{Fault, Outside}
 use Rattle.poke_batch.specs.Lines.{fault_line, fault_at_line}
-use Rattle.poke_batch.specs.Printed.{printed}
+use Rattle.value_text.specs.Printed.{printed}
 use Rattle.poke_batch.specs.RunsUnder.{no_memory_for_it}
 use Rattle.poke_batch.proofs.Sayings.{line_says, text_says}
 use Rattle.poke_batch.proofs.UnderTerms.{short_saying, long_saying}

@@ -1,5 +1,5 @@
 use Rattle.pickle_map.specs.Refs.{value_shown}
-use Rattle.poke_batch.specs.Printed.{printed}
+use Rattle.value_text.specs.Printed.{printed}
 use Rattle.poke_batch.proofs.Sayings.{text_says}
 use Rattle.poke_batch.proofs.UnderTerms.{free_saying}
 use Rattle.poke_batch.proofs.tell_value.tell_text.Goals as goal

@@ -2,7 +2,7 @@ use Rattle.std.proofs.Common.{◌≡◌, ◌+◌, ◌*◌, ◌≤◌, [], ◌∷
 use Rattle.std.proofs.lemmas.List.{take_more, take_all}
 use Rattle.poke_batch.specs.JsonText.{json_escape}
 use Rattle.poke_batch.specs.ValueText.{spelled, spelled_byte}
-use Rattle.poke_batch.proofs.StringTexts.{bytes_append}
+use Rattle.value_text.proofs.StringTexts.{bytes_append}
 use Rattle.text_bounds.proofs.room.json_bytes_room.Goals as goal
 
 pub loop-byte-preserved : goal.loop-byte-preserved

@@ -1,0 +1,2 @@
+pub mod OffsetWords
+pub mod PathTexts

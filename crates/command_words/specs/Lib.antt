@@ -1,0 +1,4 @@
+pub mod OffsetWord
+pub mod WordText
+pub mod Words
+pub mod Paths

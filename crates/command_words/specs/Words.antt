@@ -1,0 +1,53 @@
+-- What words ask for.
+use Rattle.std.specs.Prelude.{◌≡◌, ◌≢◌, ℕ, List, Option, Some, None, string_bytes, codes}
+use Rattle.value_text.specs.declared.mode.Mode.{Mode}
+use Rattle.value_text.specs.declared.mode.Mode.TheVariants.{Flat, Tree, Json, Lines}
+use Rattle.command_words.specs.declared.words.Job.{Job}
+use Rattle.command_words.specs.declared.words.Job.TheVariants.{Map, MapUnder, Each, Bound, BoundText, Check, Types, Dump}
+
+-- a check of the pickle with this name
+abbrev pub IsCheckOf : List ℕ → Job → Type 0
+IsCheckOf name (Map at order limit mode pickle type file) = ⊥
+IsCheckOf name (MapUnder at order limit mode terms pickle type file) = ⊥
+IsCheckOf name (Each at order limit mode terms pickle type files) = ⊥
+IsCheckOf name (Bound pickle type bits) = ⊥
+IsCheckOf name (BoundText pickle type bits mode) = ⊥
+IsCheckOf name (Check pickle) = string_bytes pickle ≡ name
+IsCheckOf name (Types pickle) = ⊥
+IsCheckOf name (Dump from size ruler file) = ⊥
+
+-- `tree`, `json` and `lines` name modes of their own, all other words the first
+abbrev pub NamesMode : List ℕ → Mode → Type 0
+NamesMode word Flat = (word ≢ codes "tree") × (word ≢ codes "json") × (word ≢ codes "lines")
+NamesMode word Tree = word ≡ codes "tree"
+NamesMode word Json = word ≡ codes "json"
+NamesMode word Lines = word ≡ codes "lines"
+
+-- a mapping whose value is written in the mode that a word names
+abbrev pub WritesInMode : List ℕ → Job → Type 0
+WritesInMode word (Map at order limit mode pickle type file) = NamesMode word mode
+WritesInMode word (MapUnder at order limit mode terms pickle type file) = NamesMode word mode
+WritesInMode word (Each at order limit mode terms pickle type files) = NamesMode word mode
+WritesInMode word (Bound pickle type bits) = ⊥
+WritesInMode word (BoundText pickle type bits mode) = ⊥
+WritesInMode word (Check pickle) = ⊥
+WritesInMode word (Types pickle) = ⊥
+WritesInMode word (Dump from size ruler file) = ⊥
+
+-- a mode that a word names, or none where there is no word
+abbrev pub NamesModeIfAny : Option (List ℕ) → Option Mode → Type 0
+NamesModeIfAny None None = Unit {0}
+NamesModeIfAny None (Some mode) = ⊥
+NamesModeIfAny (Some word) None = ⊥
+NamesModeIfAny (Some word) (Some mode) = NamesMode word mode
+
+-- bounds that tell of texts in the mode that a word names, or in any
+abbrev pub BoundsTextIn : Option (List ℕ) → Job → Type 0
+BoundsTextIn word (Map at order limit mode pickle type file) = ⊥
+BoundsTextIn word (MapUnder at order limit mode terms pickle type file) = ⊥
+BoundsTextIn word (Each at order limit mode terms pickle type files) = ⊥
+BoundsTextIn word (Bound pickle type bits) = ⊥
+BoundsTextIn word (BoundText pickle type bits mode) = NamesModeIfAny word mode
+BoundsTextIn word (Check pickle) = ⊥
+BoundsTextIn word (Types pickle) = ⊥
+BoundsTextIn word (Dump from size ruler file) = ⊥

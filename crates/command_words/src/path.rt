@@ -1,0 +1,166 @@
+//! Paths to the parts of a value, as words of a command line.
+
+ghost use Rattle.std.specs.Prelude.{◌≡◌, ◌≤◌, ◌<◌, [], ◌∷◌, ◌++◌, length, codes, decimal, IfOk, IfSome, OnOk};
+ghost use Rattle.command_words.specs.Paths.{step_text, steps_text, path_text};
+ghost use Rattle.command_words.specs.declared.path.PathFault.TheVariants.{Memory};
+
+use itoa::Buffer;
+use std::alloc::{AllocError, Global};
+
+/// A step from a value to one of its parts.
+#[derive(Debug, Drop, PartialEq, Eq)]
+pub enum Step {
+    /// The field of a struct, or the alternative taken of a union, that has this name.
+    Field(Vec<u8>),
+    /// The nameless field at this place among the declared ones, from 0.
+    Place(u64),
+    /// The element of an array at this place, from 0.
+    Element(u64),
+}
+
+/// The steps to a part of a value; none lead to the value itself.
+#[derive(Debug, Drop, PartialEq, Eq)]
+pub struct Path {
+    pub steps: Vec<Step>,
+}
+
+/// Why a word is no path.
+#[derive(Clone, Copy, Debug, Drop, PartialEq, Eq)]
+pub enum PathFault {
+    /// It has not the form of one, or a number in it is 2^64 or more.
+    Form,
+    /// There was no memory.
+    Memory,
+}
+
+impl From<AllocError> for PathFault {
+    ghost from_gives = { λ _ fault. fault ≡ Memory };
+
+    fn from(_error: AllocError) -> PathFault {
+        PathFault::Memory
+    }
+}
+
+/// The path that a word is, such as `.`, `.name`, `[2].name` or `.name[0].1`.
+///
+/// A dot alone is the value itself. Else there is a step or more: `.name` to the field or alternative of a name, `.place` to a nameless
+/// field, `[place]` to an element. A name is of letters, digits and `_`, and begins with no digit; a place has decimal digits without leading
+/// zeros and is below 2^64. It is the form in which this project's profile writes the places of values.
+pub fn read_path(alloc: Global, word: &[u8]) -> Result<Path, PathFault>
+    ensures { IfOk result (λ path. path_text path.steps.items ≡ word.now) }
+{
+    match word {
+        b"" => Err(PathFault::Form),
+        b"." => Ok(Path {
+            steps: Vec::new(alloc),
+        }),
+        _ => Ok(Path {
+            steps: read_steps(alloc, word)?,
+        }),
+    }
+}
+
+fn read_steps(alloc: Global, text: &[u8]) -> Result<Vec<Step>, PathFault>
+    ensures { IfOk result (λ steps. steps_text steps.items ≡ text.now) }
+{
+    let mut steps = Vec::new(alloc);
+    let mut done = 0;
+    while done < text.len() {
+        let end = done + step_len(&text[done..]);
+        let step = read_step(alloc, &text[done..end])?;
+        add(&mut steps, step)?;
+        done = end;
+    }
+    Ok(steps)
+}
+
+fn add(steps: &mut Vec<Step>, step: Step) -> Result<(), PathFault>
+    ensures { OnOk result (steps.new.items ≡ steps.old.items ++ step ∷ []) }
+{
+    match steps.push(step) {
+        Ok(()) => Ok(()),
+        Err(_) => Err(PathFault::Memory),
+    }
+}
+
+// How many bytes the first step of a text has.
+fn step_len(text: &[u8]) -> usize
+    requires { 0 < length text.now }
+    ensures least { 0 < result }
+    ensures most { result ≤ length text.now }
+{
+    let next = text[1..]
+        .iter()
+        .position(|byte| *byte == b'.' || *byte == b'[');
+    match next {
+        Some(place) => place + 1,
+        None => text.len(),
+    }
+}
+
+fn read_step(alloc: Global, word: &[u8]) -> Result<Step, PathFault>
+    ensures { IfOk result (λ step. step_text step ≡ word.now) }
+{
+    match word.split_first() {
+        Some((b'.', name)) => read_field(alloc, name),
+        Some((b'[', place)) => read_element(place),
+        _ => Err(PathFault::Form),
+    }
+}
+
+// The step whose text is a dot and these bytes.
+fn read_field(alloc: Global, name: &[u8]) -> Result<Step, PathFault>
+    ensures { IfOk result (λ step. step_text step ≡ codes "." ++ name.now) }
+{
+    if is_name(name) {
+        return Ok(Step::Field(copy(alloc, name)?));
+    }
+    match number(name) {
+        Some(place) => Ok(Step::Place(place)),
+        None => Err(PathFault::Form),
+    }
+}
+
+fn copy(alloc: Global, bytes: &[u8]) -> Result<Vec<u8>, AllocError>
+    ensures { IfOk result (λ copy. copy.items ≡ bytes.now) }
+{
+    let mut copy = Vec::new(alloc);
+    copy.extend_from_slice(bytes)?;
+    Ok(copy)
+}
+
+// Whether bytes are a name: letters, digits and `_`, and first no digit.
+fn is_name(bytes: &[u8]) -> bool {
+    match bytes.first() {
+        Some(first) if !first.is_ascii_digit() => bytes
+            .iter()
+            .all(|byte| byte.is_ascii_alphanumeric() || *byte == b'_'),
+        _ => false,
+    }
+}
+
+// The step whose text is a bracket and these bytes.
+fn read_element(place: &[u8]) -> Result<Step, PathFault>
+    ensures { IfOk result (λ step. step_text step ≡ codes "[" ++ place.now) }
+{
+    match place.split_last() {
+        Some((b']', digits)) => match number(digits) {
+            Some(place) => Ok(Step::Element(place)),
+            None => Err(PathFault::Form),
+        },
+        _ => Err(PathFault::Form),
+    }
+}
+
+// The number that has these decimal digits, without leading zeros, where it is below 2^64.
+fn number(digits: &[u8]) -> Option<u64>
+    ensures { IfSome result (λ number. decimal number ≡ digits.now) }
+{
+    let number: u64 = std::str::from_utf8(digits).ok()?.parse().ok()?;
+    let mut buffer = Buffer::new();
+    if buffer.format(number).as_bytes() == digits {
+        Some(number)
+    } else {
+        None
+    }
+}

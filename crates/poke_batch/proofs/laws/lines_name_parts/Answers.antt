@@ -1,6 +1,0 @@
-use Rattle.poke_batch.proofs.LeafLines.{lines_name_parts}
-use Rattle.poke_batch.proofs.laws.lines_name_parts.Goals as goal
-
--- src/laws.rt
-pub returns : goal.returns
-returns c = record { law = lines_name_parts }

@@ -1,9 +1,0 @@
-use Rattle.std.proofs.Common.{◌≡◌}
-use Rattle.pickle_map.specs.Values.{members_of}
-use Rattle.pickle_map.specs.Refs.{value_shown}
-use Rattle.poke_batch.specs.LinesText.{any_present}
-use Rattle.poke_batch.proofs.MemberTexts.{members_from}
-use Rattle.poke_batch.proofs.print.lines.any_present.Given as goal
-
-abbrev pub invariant-loop-place : goal.invariant-loop-place
-invariant-loop-place l = any_present (members_from l.place (members_of (value_shown l.fn.value))) ≡ any_present (members_of (value_shown l.fn.value))

@@ -1,0 +1,17 @@
+pub mod Parts
+pub mod Gathered
+pub mod StringTexts
+pub mod MemberTexts
+pub mod LineTexts
+pub mod JsonTexts
+pub mod JsonWords
+pub mod JsonValues
+pub mod Paths
+pub mod LeafTexts
+pub mod LeafLines
+pub mod DigitCounts
+pub mod ShortTexts
+mod ValueTextRows
+mod TreeTextRows
+mod JsonTextRows
+mod LinesTextRows

@@ -1,0 +1,54 @@
+-- Laws of the texts of strings.
+use Rattle.std.proofs.Common.{◌≡◌, ℕ, suc, ◌+◌, ◌-◌, ◌<◌, ◌≤◌, Option, List, [], ◌∷◌, ◌++◌, take, drop, length, refl, sym, ◌∙◌, ap, subst, arith, inl, inr}
+use Rattle.std.specs.Prelude.{slice_index}
+use Rattle.std.specs.List.{prefix_len}
+use Rattle.std.proofs.lemmas.Bool.{cases_Bool}
+use Rattle.std.proofs.lemmas.List.{append_assoc, take-append-drop, drop-drop, take_rest, length-drop}
+use Rattle.value_text.specs.Written.{AppendsPart}
+use Rattle.value_text.specs.Gathered.{Gathers}
+use Rattle.value_text.specs.ValueText.{spelled, spelled_byte, is_plain}
+use Rattle.value_text.proofs.Gathered.{Told, told_more, told_part}
+
+one_more : (n : ℕ) → 1 + n ≡ suc n
+one_more n = omega arith
+
+pub bytes_append : (escape : ℕ → List ℕ) (xs ys : List ℕ) → spelled escape (xs ++ ys) ≡ spelled escape xs ++ spelled escape ys
+bytes_append escape [] ys = refl
+bytes_append escape (x ∷ xs) ys = ap (λ s. spelled_byte escape x ++ s) (bytes_append escape xs ys) ∙ sym (append_assoc (spelled_byte escape x) (spelled escape xs) (spelled escape ys))
+
+pub bytes_split : (escape : ℕ → List ℕ) (n : ℕ) (bytes : List ℕ) → spelled escape bytes ≡ spelled escape (take n bytes) ++ spelled escape (drop n bytes)
+bytes_split escape n bytes = ap (spelled escape) (sym (take-append-drop n bytes)) ∙ bytes_append escape (take n bytes) (drop n bytes)
+
+-- the plain bytes that come first stand for themselves
+pub plain_text : (escape : ℕ → List ℕ) (bytes : List ℕ) → spelled escape (take (prefix_len is_plain bytes) bytes) ≡ take (prefix_len is_plain bytes) bytes
+plain_text escape [] = refl
+plain_text escape (b ∷ bytes) = elim (cases_Bool (is_plain b)) [
+  | inl hit ↦ rw (hit, one_more (prefix_len is_plain bytes), hit) (ap (λ s. b ∷ s) (plain_text escape bytes))
+  | inr miss ↦ rw miss refl
+]
+
+pub plain_then : (escape : ℕ → List ℕ) (bytes : List ℕ) → spelled escape bytes ≡ take (prefix_len is_plain bytes) bytes ++ spelled escape (drop (prefix_len is_plain bytes) bytes)
+plain_then escape bytes = bytes_split escape (prefix_len is_plain bytes) bytes ∙ ap (λ s. s ++ spelled escape (drop (prefix_len is_plain bytes) bytes)) (plain_text escape bytes)
+
+-- a first byte that isn't plain
+pub escape_then : (escape : ℕ → List ℕ) (bytes : List ℕ) → prefix_len is_plain bytes ≡ 0 → 0 < length bytes → spelled escape bytes ≡ escape (slice_index bytes 0) ++ spelled escape (drop 1 bytes)
+escape_then escape [] e lt = absurd (omega (arith, lt))
+escape_then escape (b ∷ bytes) e lt = elim (cases_Bool (is_plain b)) [
+  | inl hit ↦ absurd (omega (arith, rw hit at e))
+  | inr miss ↦ rw miss refl
+]
+
+-- one turn of writing what is left
+pub bytes_step : (escape : ℕ → List ℕ) (a b c : Option (List ℕ)) (l m o : List ℕ) (k n : ℕ) (bytes : List ℕ) → k ≤ length bytes → Told a b l m (spelled escape (drop k bytes)) (spelled escape bytes) → n ≤ length (take (length bytes - k) (drop k bytes)) → Gathers b c m o (spelled escape (take n (take (length bytes - k) (drop k bytes)))) → (k + n ≤ length bytes) × Told a c l o (spelled escape (drop (k + n) bytes)) (spelled escape bytes)
+bytes_step escape a b c l m o k n bytes le told low g =
+    let e : take (length bytes - k) (drop k bytes) ≡ drop k bytes = take_rest bytes k in
+    let low' : n ≤ length (drop k bytes) = subst (λ s. n ≤ length s) e low in
+    let g' : Gathers b c m o (spelled escape (take n (drop k bytes))) = subst (λ s. Gathers b c m o (spelled escape (take n s))) e g in
+    let split : spelled escape (drop k bytes) ≡ spelled escape (take n (drop k bytes)) ++ spelled escape (drop (k + n) bytes) =
+    bytes_split escape n (drop k bytes) ∙ ap (λ s. spelled escape (take n (drop k bytes)) ++ spelled escape s) (drop-drop n k bytes) in
+    (omega (arith, length-drop k bytes, le, low'), told_more a b c l m o _ _ _ (subst (λ t. Told a b l m t (spelled escape bytes)) split told) g')
+
+-- a part of what is left
+pub bytes_cut : (escape : ℕ → List ℕ) (a b c : Option (List ℕ)) (l m : List ℕ) (k : ℕ) (bytes : List ℕ) → Told a b l m (spelled escape (drop k bytes)) (spelled escape bytes) → AppendsPart b c (m ++ spelled escape (take (length bytes - k) (drop k bytes))) → AppendsPart a c (l ++ spelled escape bytes)
+bytes_cut escape a b c l m k bytes told g =
+    told_part a b c l m _ _ told (subst (λ s. AppendsPart b c (m ++ spelled escape s)) (take_rest bytes k) g)

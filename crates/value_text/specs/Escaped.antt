@@ -1,0 +1,13 @@
+-- Whose escapes the bytes of strings are written with.
+use Rattle.std.specs.Prelude.{ℕ, List}
+use Rattle.value_text.specs.declared.print.escape.Escapes.{Escapes}
+use Rattle.value_text.specs.declared.print.escape.Escapes.TheVariants.{Poke, Json}
+use Rattle.value_text.specs.ValueText.{escape_text, spelled}
+use Rattle.value_text.specs.JsonText.{json_escape}
+
+abbrev pub escape_of : Escapes → ℕ → List ℕ
+escape_of Poke = escape_text
+escape_of Json = json_escape
+
+abbrev pub spelled_by : Escapes → List ℕ → List ℕ
+spelled_by escapes bytes = spelled (escape_of escapes) bytes

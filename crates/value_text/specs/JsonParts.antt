@@ -1,0 +1,40 @@
+-- The text of a value in JSON, in the parts that are written one after the other.
+use Rattle.std.specs.Prelude.{ℕ, Bool, true, List, ◌++◌, codes}
+use Rattle.pickle_map.specs.Values.{Value, label_of, members_of}
+use Rattle.pickle_map.specs.declared.value.ValueRef.{ValueRef}
+use Rattle.pickle_map.specs.Refs.{value_shown}
+use Rattle.value_text.specs.ValueText.{comma}
+use Rattle.value_text.specs.JsonText.{json_text, json_members, json_string, place_key, key_before, no_key}
+
+abbrev pub elements_json : Value → List ℕ
+elements_json value = json_members no_key 0 true (members_of value)
+
+abbrev pub array_json : Value → List ℕ
+array_json value = codes "[" ++ (elements_json value ++ codes "]")
+
+abbrev pub fields_json : Value → List ℕ
+fields_json value = json_members (key_before (label_of value)) 0 true (members_of value)
+
+abbrev pub object_json : Value → List ℕ
+object_json value = codes "{" ++ (fields_json value ++ codes "}")
+
+abbrev pub element_json : (first : Bool) → Value → List ℕ
+element_json first value = comma first ++ json_text value
+
+-- what stands before a field whose name needs no escapes
+abbrev pub plain_key : (first : Bool) → (name : List ℕ) → List ℕ
+plain_key first name = comma first ++ (codes "\"" ++ (name ++ (codes "\"" ++ codes ":")))
+
+-- what stands before a field of a name, and before one at a place without a name
+abbrev pub name_start : (first : Bool) → (name : List ℕ) → List ℕ
+name_start first name = comma first ++ (json_string name ++ codes ":")
+
+abbrev pub place_start : (first : Bool) → (place : ℕ) → List ℕ
+place_start first place = comma first ++ (place_key place ++ codes ":")
+
+-- what stands before the part at a place of a struct or a union
+abbrev pub start_json : (first : Bool) → ValueRef → (place : ℕ) → List ℕ
+start_json first value place = comma first ++ key_before (label_of (value_shown value)) place
+
+abbrev pub field_json : (first : Bool) → ValueRef → (place : ℕ) → ValueRef → List ℕ
+field_json first value place field = start_json first value place ++ json_text (value_shown field)

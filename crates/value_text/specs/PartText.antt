@@ -1,0 +1,29 @@
+-- The text of a value in the parts that are written one after the other.
+use Rattle.std.specs.Prelude.{ℕ, Bool, true, List, ◌++◌, codes}
+use Rattle.pickle_types.specs.declared.integer.IntegerType.{IntegerType}
+use Rattle.pickle_map.specs.Values.{Naming, Label, ArrayLabel, Value, label_of, members_of}
+use Rattle.pickle_map.specs.Labels.{name_of, width_of, signed_of}
+use Rattle.value_text.specs.ValueText.{value_text, members_text, title_text, name_text, comma}
+
+-- the type of an integer, or of an offset's magnitude
+abbrev pub type_of : Label → IntegerType
+type_of label = record { width = width_of label; signed = signed_of label }
+
+-- all members of a value
+abbrev pub all_members_text : Value → List ℕ
+all_members_text value = members_text (label_of value) 0 true (members_of value)
+
+-- a member with what stands before it
+abbrev pub member_text : (first : Bool) → Naming → Value → List ℕ
+member_text first name value = (comma first ++ name_text name) ++ value_text value
+
+-- the elements of an array, which have no names
+abbrev pub elements_text : Value → List ℕ
+elements_text value = members_text ArrayLabel 0 true (members_of value)
+
+abbrev pub array_text : Value → List ℕ
+array_text value = codes "[" ++ (elements_text value ++ codes "]")
+
+-- a struct or a union
+abbrev pub titled_text : (sort : List ℕ) → Value → List ℕ
+titled_text sort value = title_text sort (name_of (label_of value)) ++ (codes " {" ++ (all_members_text value ++ codes "}"))

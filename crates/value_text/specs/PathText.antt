@@ -1,0 +1,32 @@
+-- The path of a part of a value: the steps that lead to it.
+use Rattle.std.specs.Prelude.{◌≡◌, ℕ, List, [], ◌∷◌, ◌++◌, Some, None, codes, decimal}
+use Rattle.pickle_map.specs.Values.{Naming, Label, ArrayLabel, Value, label_of, members_of, member_at}
+use Rattle.pickle_map.specs.Labels.{member_name}
+use Rattle.value_text.specs.TreeText.{in_brackets}
+
+-- the step to a field or an alternative: its name, or where it has none its place among the declared fields, from 0
+abbrev pub field_step : Naming → (place : ℕ) → List ℕ
+field_step None place = codes "." ++ decimal place
+field_step (Some name) place = codes "." ++ name
+
+-- the step from a value to its part at a place; that to an element is `[i]`
+abbrev pub step_text : Label → (place : ℕ) → List ℕ
+step_text ArrayLabel place = in_brackets place
+step_text label place = field_step (member_name label place) place
+
+-- the path of these steps: a dot for the value itself
+abbrev pub path_text : (steps : List ℕ) → List ℕ
+path_text [] = codes "."
+path_text (byte ∷ steps) = byte ∷ steps
+
+-- these steps lead from a value to a part of it
+pub data Leads : Value → (steps : List ℕ) → Value → Type 0 where
+  here : {value : Value} → Leads value [] value
+  further : {value part found : Value} {steps : List ℕ} (place : ℕ) → member_at (members_of value) place ≡ Some part → Leads part steps found
+      → Leads value (step_text (label_of value) place ++ steps) found
+
+-- a path names a part of a value
+pub record IsPathTo (value : Value) (path : List ℕ) (part : Value) : Type 0 where
+  pub steps : List ℕ
+  pub leads : Leads value steps part
+  pub is : path ≡ path_text steps

@@ -1,0 +1,115 @@
+-- The text that a value is printed as, on one line.
+use Rattle.std.specs.Prelude.{ℕ, suc, ◌/◌, ◌%◌, ℤ, Bool, true, false, not, ◌&&◌, List, [], ◌∷◌, ◌++◌, Option, Some, None, ◌==◌, nat_le, if◌then◌else◌, codes, decimal}
+use Rattle.std.specs.Fmt.{signed_decimal}
+use Rattle.pickle_types.specs.declared.integer.IntegerType.{IntegerType}
+use Rattle.pickle_map.specs.Values.{Naming, Label, IntegerLabel, OffsetLabel, TextLabel, ArrayLabel, StructLabel, UnionLabel, Value, Mapped, Members, NoMembers, MemberThen, AbsentThen}
+use Rattle.pickle_map.specs.Labels.{member_name}
+use Rattle.value_text.specs.HexDigits.{hex_digit}
+
+-- the letter of a width, where it has one; 32 bits need none
+abbrev pub width_letter : ℕ → Option (List ℕ)
+width_letter width =
+    if width == 32 then Some (codes "")
+    else if width == 8 then Some (codes "B")
+    else if width == 16 then Some (codes "H")
+    else if width == 64 then Some (codes "L")
+    else if width == 4 then Some (codes "N")
+    else None
+
+-- what tells the type of an integer behind its digits, where a suffix does: `U` where it has no sign, then its width
+abbrev pub with_sign_letter : (signed : Bool) → Option (List ℕ) → Option (List ℕ)
+with_sign_letter signed None = None
+with_sign_letter true (Some letter) = Some letter
+with_sign_letter false (Some letter) = Some (codes "U" ++ letter)
+
+abbrev pub suffix_of : IntegerType → Option (List ℕ)
+suffix_of type = with_sign_letter type.signed (width_letter type.width)
+
+abbrev pub type_word : (signed : Bool) → List ℕ
+type_word true = codes "(int<"
+type_word false = codes "(uint<"
+
+-- the type before the digits
+abbrev pub cast_text : IntegerType → ℤ → List ℕ
+cast_text type number = type_word type.signed ++ (decimal type.width ++ (codes ">) " ++ signed_decimal number))
+
+abbrev pub typed_text : Option (List ℕ) → IntegerType → ℤ → List ℕ
+typed_text (Some suffix) type number = signed_decimal number ++ suffix
+typed_text None type number = cast_text type number
+
+unfoldable pub integer_text : IntegerType → ℤ → List ℕ
+integer_text type number = typed_text (suffix_of type) type number
+
+-- a unit of so many bits
+abbrev pub unit_text : ℕ → List ℕ
+unit_text unit =
+    if unit == 1 then codes "b"
+    else if unit == 8 then codes "B"
+    else decimal unit
+
+unfoldable pub offset_text : IntegerType → ℕ → ℤ → List ℕ
+offset_text type unit magnitude = integer_text type magnitude ++ (codes "#" ++ unit_text unit)
+
+-- whether a byte of a string stands for itself: from the space (32) to `~` (126), but not `"` (34) and `\` (92)
+abbrev pub is_plain : ℕ → Bool
+is_plain byte = nat_le 32 byte && nat_le byte 126 && not (byte == 34) && not (byte == 92)
+
+-- any other byte: `\\`, `\"`, `\n`, `\t`, or `\x` and two digits
+abbrev pub escape_text : ℕ → List ℕ
+escape_text byte =
+    if byte == 92 then codes "\\\\"
+    else if byte == 34 then codes "\\\""
+    else if byte == 10 then codes "\\n"
+    else if byte == 9 then codes "\\t"
+    else codes "\\x" ++ hex_digit (byte / 16) ∷ hex_digit (byte % 16) ∷ []
+
+abbrev pub spelled_byte : (escape : ℕ → List ℕ) → ℕ → List ℕ
+spelled_byte escape byte = if is_plain byte then byte ∷ [] else escape byte
+
+-- each byte as itself where it is plain, else as an escape
+abbrev pub spelled : (escape : ℕ → List ℕ) → List ℕ → List ℕ
+spelled escape [] = []
+spelled escape (byte ∷ bytes) = spelled_byte escape byte ++ spelled escape bytes
+
+abbrev pub bytes_text : List ℕ → List ℕ
+bytes_text bytes = spelled escape_text bytes
+
+unfoldable pub string_text : List ℕ → List ℕ
+string_text bytes = codes "\"" ++ (bytes_text bytes ++ codes "\"")
+
+-- the name of a type, or its sort where it is nameless
+abbrev pub title_text : (sort : List ℕ) → Naming → List ℕ
+title_text sort None = sort
+title_text sort (Some name) = name
+
+-- the name before a field
+abbrev pub name_text : Naming → List ℕ
+name_text None = []
+name_text (Some name) = name ++ codes "="
+
+-- a comma, but before the first
+abbrev pub comma : (first : Bool) → List ℕ
+comma true = []
+comma false = codes ","
+
+abbrev mutual
+  pub value_text : Value → List ℕ
+  value_text (Mapped (IntegerLabel number type) start end _) = integer_text type number
+  value_text (Mapped (OffsetLabel magnitude type unit) start end _) = offset_text type unit magnitude
+  value_text (Mapped (TextLabel bytes) start end _) = string_text bytes
+  value_text (Mapped ArrayLabel start end members) = codes "[" ++ (members_text ArrayLabel 0 true members ++ codes "]")
+  value_text (Mapped (StructLabel name fields) start end members) =
+      title_text (codes "struct") name ++ (codes " {" ++ (members_text (StructLabel name fields) 0 true members ++ codes "}"))
+  value_text (Mapped (UnionLabel name index alternative) start end members) =
+      title_text (codes "union") name ++ (codes " {" ++ (members_text (UnionLabel name index alternative) 0 true members ++ codes "}"))
+
+  -- the present members from a place on, each behind its name if it has one, joined by commas
+  pub members_text : Label → (place : ℕ) (first : Bool) → Members → List ℕ
+  members_text label place first NoMembers = []
+  members_text label place first (AbsentThen rest) = members_text label (suc place) first rest
+  members_text label place first (MemberThen value rest) =
+      (comma first ++ (name_text (member_name label place) ++ value_text value)) ++ members_text label (suc place) false rest
+
+-- the whole output
+abbrev pub flat_text : Value → List ℕ
+flat_text value = value_text value ++ codes "\n"

@@ -1,0 +1,151 @@
+//! Lays out integers in bytes.
+ghost use Rattle.std.specs.Prelude.{◌≡◌, ◌+◌, ◌≤◌, [], ◌∷◌, ◌++◌, length, take, codes, decimal, unsigned_abs};
+ghost use Rattle.std.specs.Fmt.{signed_decimal};
+ghost use Rattle.value_text.specs.Suffixes.{sign_letter, letter_text, suffix_text};
+ghost use Rattle.value_text.specs.TreeText.{in_brackets};
+ghost use Rattle.value_text.specs.JsonText.{place_key};
+ghost use Rattle.value_text.specs.LinesText.{bits_cell};
+
+use crate::print::bytes::{Bytes, LINE_ROOM, push};
+use crate::print::suffix::Suffix;
+
+/// A minus, 20 digits and a suffix of two letters.
+pub const LONGEST_NUMBER: usize = 23;
+
+/// Lays out a number of a magnitude with its suffix, and tells where it ends.
+#[inline(always)]
+pub fn push_number(
+    bytes: &mut Bytes,
+    at: usize,
+    number: i128,
+    magnitude: u64,
+    suffix: Suffix,
+) -> usize
+    requires room { at + LONGEST_NUMBER ≤ LINE_ROOM }
+    requires magnitude { magnitude ≡ unsigned_abs number }
+    ensures text { take result bytes.new ≡ take at bytes.old ++ (signed_decimal number ++ suffix_text suffix) }
+    ensures len { result ≤ LINE_ROOM }
+{
+    let at = push_signed(bytes, at, number, magnitude);
+    push_suffix(bytes, at, suffix)
+}
+
+/// Lays out a number of a magnitude, and tells where it ends.
+#[inline(always)]
+pub fn push_signed(bytes: &mut Bytes, at: usize, number: i128, magnitude: u64) -> usize
+    requires room { at + 21 ≤ LINE_ROOM }
+    requires magnitude { magnitude ≡ unsigned_abs number }
+    ensures text { take result bytes.new ≡ take at bytes.old ++ signed_decimal number }
+    ensures len { result ≤ at + 21 }
+{
+    if number < 0 {
+        let at = push(bytes, at, b'-');
+        push_digits(bytes, at, magnitude)
+    } else {
+        push_digits(bytes, at, magnitude)
+    }
+}
+
+/// Lays out a number in brackets, and tells where it ends.
+#[inline(always)]
+pub fn push_in_brackets(bytes: &mut Bytes, at: usize, number: u64) -> usize
+    requires { at + LONGEST_NUMBER ≤ LINE_ROOM }
+    ensures text { take result bytes.new ≡ take at bytes.old ++ in_brackets number }
+    ensures len { result ≤ LINE_ROOM }
+{
+    let at = push(bytes, at, b'[');
+    let at = push_digits(bytes, at, number);
+    push(bytes, at, b']')
+}
+
+/// Lays out a number in double quotes, and tells where it ends.
+#[inline(always)]
+pub fn push_place_key(bytes: &mut Bytes, at: usize, place: u64) -> usize
+    requires { at + LONGEST_NUMBER ≤ LINE_ROOM }
+    ensures text { take result bytes.new ≡ take at bytes.old ++ place_key place }
+    ensures len { result ≤ LINE_ROOM }
+{
+    let at = push(bytes, at, b'"');
+    let at = push_digits(bytes, at, place);
+    push(bytes, at, b'"')
+}
+
+/// Lays out a dot and a number, and tells where it ends.
+#[inline(always)]
+pub fn push_place(bytes: &mut Bytes, at: usize, place: u64) -> usize
+    requires { at + LONGEST_NUMBER ≤ LINE_ROOM }
+    ensures text { take result bytes.new ≡ take at bytes.old ++ (codes "." ++ decimal place) }
+    ensures len { result ≤ LINE_ROOM }
+{
+    let at = push(bytes, at, b'.');
+    push_digits(bytes, at, place)
+}
+
+/// Lays out a tab and so many bits as an offset word, and tells where it ends.
+#[inline(always)]
+pub fn push_bits(bytes: &mut Bytes, at: usize, bits: u64) -> usize
+    requires { at + LONGEST_NUMBER ≤ LINE_ROOM }
+    ensures text { take result bytes.new ≡ take at bytes.old ++ bits_cell bits }
+    ensures len { result ≤ LINE_ROOM }
+{
+    let at = push(bytes, at, b'\t');
+    let at = push_digits(bytes, at, bits);
+    let at = push(bytes, at, b'#');
+    push(bytes, at, b'b')
+}
+
+#[inline(always)]
+fn push_digits(bytes: &mut Bytes, at: usize, number: u64) -> usize
+    requires { at + 20 ≤ LINE_ROOM }
+    ensures text { take result bytes.new ≡ take at bytes.old ++ decimal number }
+    ensures len { result ≤ at + 20 }
+{
+    let end = at + digit_count(number);
+    itoa::write_digits(number, bytes, end);
+    end
+}
+
+#[tactic(auto, using(crate::proofs::DigitCounts::longest))]
+#[inline(always)]
+fn digit_count(number: u64) -> usize
+    ensures count { result ≡ length (decimal number) }
+    ensures most { result ≤ 20 }
+{
+    if number < 10 {
+        1
+    } else {
+        number.ilog10() as usize + 1
+    }
+}
+
+/// Lays out a suffix, and tells where it ends.
+#[inline(always)]
+pub fn push_suffix(bytes: &mut Bytes, at: usize, suffix: Suffix) -> usize
+    requires { at + 2 ≤ LINE_ROOM }
+    ensures text { take result bytes.new ≡ take at bytes.old ++ suffix_text suffix }
+    ensures len { result ≤ LINE_ROOM }
+{
+    let at = push_sign_letter(bytes, at, suffix.signed);
+    push_letter(bytes, at, suffix.letter)
+}
+
+#[inline(always)]
+fn push_sign_letter(bytes: &mut Bytes, at: usize, signed: bool) -> usize
+    requires { at + 1 ≤ LINE_ROOM }
+    ensures text { take result bytes.new ≡ take at bytes.old ++ sign_letter signed }
+    ensures len { result ≤ at + 1 }
+{
+    if signed { at } else { push(bytes, at, b'U') }
+}
+
+#[inline(always)]
+fn push_letter(bytes: &mut Bytes, at: usize, letter: Option<u8>) -> usize
+    requires { at + 1 ≤ LINE_ROOM }
+    ensures text { take result bytes.new ≡ take at bytes.old ++ letter_text letter }
+    ensures len { result ≤ at + 1 }
+{
+    match letter {
+        Some(letter) => push(bytes, at, letter),
+        None => at,
+    }
+}

@@ -1,0 +1,134 @@
+//! Prints values on one line.
+ghost use Rattle.std.specs.Prelude.{◌++◌, OnOk, OnErr, codes};
+ghost use Rattle.std.specs.Option.{option_map};
+ghost use Rattle.pickle_map.specs.Refs.{value_shown};
+ghost use Rattle.value_text.specs.Written.{AppendsPart};
+ghost use Rattle.value_text.specs.Gathered.{Gathers};
+ghost use Rattle.value_text.specs.ValueText.{flat_text, value_text};
+ghost use Rattle.value_text.specs.PartText.{array_text, elements_text, titled_text, all_members_text, member_text};
+
+use super::line::Line;
+use super::name::{put_start, put_title};
+use super::number::{put_integer, put_offset, type_of};
+use super::string::put_string;
+use crate::write::WriteFault;
+use pickle_map::{Kind, ValueRef};
+use std::io::Write;
+
+/// Writes a value and a line feed.
+#[tactic(auto, using(crate::proofs::Gathered::gathered))]
+pub fn put_flat<W: Write>(w: &mut W, line: &mut Line, value: ValueRef<'_>) -> Result<(), WriteFault>
+    ensures ok { OnOk result (Gathers (W.contents w.old) (W.contents w.new) line.old line.new (flat_text (value_shown value.entry))) }
+    ensures err { OnErr result (AppendsPart (W.contents w.old) (W.contents w.new) (line.old ++ flat_text (value_shown value.entry))) }
+{
+    put_value(w, line, value)?;
+    line.put(w, b"\n")?;
+    Ok(())
+}
+
+/// Writes a value.
+// Inlined, so that a member costs no call of its own where it is an integer.
+#[tactic(auto, using(crate::proofs::MemberTexts::by_kind))]
+#[inline(always)]
+#[cycle(flat)]
+pub fn put_value<W: Write>(
+    w: &mut W,
+    line: &mut Line,
+    value: ValueRef<'_>,
+) -> Result<(), WriteFault>
+    ensures ok { OnOk result (Gathers (W.contents w.old) (W.contents w.new) line.old line.new (value_text (value_shown value.entry))) }
+    ensures err { OnErr result (AppendsPart (W.contents w.old) (W.contents w.new) (line.old ++ value_text (value_shown value.entry))) }
+{
+    match value.kind() {
+        Kind::Integer => put_integer(w, line, type_of(value), value.number()),
+        Kind::Offset => put_offset(w, line, type_of(value), value.unit(), value.number()),
+        Kind::Text => put_string(w, line, value.bytes()),
+        Kind::Array => put_array(w, line, value),
+        Kind::Struct => put_titled(w, line, value, b"struct"),
+        Kind::Union => put_titled(w, line, value, b"union"),
+    }
+}
+
+#[tactic(auto, using(crate::proofs::Gathered::gathered))]
+#[inline(never)]
+#[cycle(flat)]
+fn put_array<W: Write>(w: &mut W, line: &mut Line, value: ValueRef<'_>) -> Result<(), WriteFault>
+    ensures ok { OnOk result (Gathers (W.contents w.old) (W.contents w.new) line.old line.new (array_text (value_shown value.entry))) }
+    ensures err { OnErr result (AppendsPart (W.contents w.old) (W.contents w.new) (line.old ++ array_text (value_shown value.entry))) }
+{
+    line.put(w, b"[")?;
+    put_elements(w, line, value)?;
+    line.put(w, b"]")?;
+    Ok(())
+}
+
+// Writes the elements of an array, which have no names.
+#[cycle(flat)]
+fn put_elements<W: Write>(w: &mut W, line: &mut Line, value: ValueRef<'_>) -> Result<(), WriteFault>
+    ensures ok { OnOk result (Gathers (W.contents w.old) (W.contents w.new) line.old line.new (elements_text (value_shown value.entry))) }
+    ensures err { OnErr result (AppendsPart (W.contents w.old) (W.contents w.new) (line.old ++ elements_text (value_shown value.entry))) }
+{
+    let elements = value.members();
+    let mut first = true;
+    for place in 0..elements.len() {
+        if let Some(element) = elements.get(place) {
+            put_member(w, line, first, None, element)?;
+            first = false;
+        }
+    }
+    Ok(())
+}
+
+// Writes a struct or a union, with the word for its sort where it is nameless.
+#[tactic(auto, using(crate::proofs::Gathered::gathered))]
+#[inline(never)]
+#[cycle(flat)]
+fn put_titled<W: Write>(
+    w: &mut W,
+    line: &mut Line,
+    value: ValueRef<'_>,
+    sort: &[u8],
+) -> Result<(), WriteFault>
+    ensures ok { OnOk result (Gathers (W.contents w.old) (W.contents w.new) line.old line.new (titled_text sort.now (value_shown value.entry))) }
+    ensures err { OnErr result (AppendsPart (W.contents w.old) (W.contents w.new) (line.old ++ titled_text sort.now (value_shown value.entry))) }
+{
+    put_title(w, line, sort, value.type_name())?;
+    line.put(w, b" {")?;
+    put_members(w, line, value)?;
+    line.put(w, b"}")?;
+    Ok(())
+}
+
+#[cycle(flat)]
+fn put_members<W: Write>(w: &mut W, line: &mut Line, value: ValueRef<'_>) -> Result<(), WriteFault>
+    ensures ok { OnOk result (Gathers (W.contents w.old) (W.contents w.new) line.old line.new (all_members_text (value_shown value.entry))) }
+    ensures err { OnErr result (AppendsPart (W.contents w.old) (W.contents w.new) (line.old ++ all_members_text (value_shown value.entry))) }
+{
+    let members = value.members();
+    let mut first = true;
+    for place in 0..members.len() {
+        if let Some(member) = members.get(place) {
+            put_member(w, line, first, value.field_name(place), member)?;
+            first = false;
+        }
+    }
+    Ok(())
+}
+
+#[tactic(auto, using(crate::proofs::Gathered::gathered))]
+#[inline(always)]
+#[cycle(flat)]
+fn put_member<W: Write>(
+    w: &mut W,
+    line: &mut Line,
+    first: bool,
+    name: Option<&[u8]>,
+    member: ValueRef<'_>,
+) -> Result<(), WriteFault>
+    ensures ok { OnOk result (Gathers (W.contents w.old) (W.contents w.new) line.old line.new (member_text first (option_map (λ name. name.now) name.entry) (value_shown member.entry))) }
+    ensures err { OnErr result (AppendsPart (W.contents w.old) (W.contents w.new) (line.old ++ member_text first (option_map (λ name. name.now) name.entry) (value_shown member.entry))) }
+{
+    put_start(w, line, first, name)?;
+    put_value(w, line, member)?;
+    Ok(())
+}

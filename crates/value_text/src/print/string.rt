@@ -1,0 +1,90 @@
+//! Prints strings.
+ghost use Rattle.std.specs.Prelude.{◌≡◌, ◌<◌, ◌≤◌, ◌++◌, false, take, length, slice_index, IfOk, OnErr, OnOk};
+ghost use Rattle.std.specs.List.{prefix_len};
+ghost use Rattle.value_text.specs.Written.{AppendsPart};
+ghost use Rattle.value_text.specs.Gathered.{Gathers};
+ghost use Rattle.value_text.specs.ValueText.{string_text, is_plain};
+ghost use Rattle.value_text.specs.JsonText.{json_string};
+ghost use Rattle.value_text.specs.Escaped.{spelled_by};
+
+use super::escape::{Escapes, put_escape};
+use super::line::Line;
+use crate::write::WriteFault;
+use std::io::Write;
+
+/// Writes a string in double quotes.
+#[tactic(auto, using(crate::proofs::Gathered::gathered), unfolding(crate::specs::ValueText::string_text))]
+#[inline(never)]
+pub fn put_string<W: Write>(w: &mut W, line: &mut Line, bytes: &[u8]) -> Result<(), WriteFault>
+    ensures ok { OnOk result (Gathers (W.contents w.old) (W.contents w.new) line.old line.new (string_text bytes.now)) }
+    ensures err { OnErr result (AppendsPart (W.contents w.old) (W.contents w.new) (line.old ++ string_text bytes.now)) }
+{
+    line.put(w, b"\"")?;
+    put_bytes(w, line, Escapes::Poke, bytes)?;
+    line.put(w, b"\"")?;
+    Ok(())
+}
+
+/// Writes a string of JSON.
+#[tactic(auto, using(crate::proofs::Gathered::gathered), unfolding(crate::specs::JsonText::json_string))]
+#[inline(never)]
+pub fn put_json_string<W: Write>(w: &mut W, line: &mut Line, bytes: &[u8]) -> Result<(), WriteFault>
+    ensures ok { OnOk result (Gathers (W.contents w.old) (W.contents w.new) line.old line.new (json_string bytes.now)) }
+    ensures err { OnErr result (AppendsPart (W.contents w.old) (W.contents w.new) (line.old ++ json_string bytes.now)) }
+{
+    line.put(w, b"\"")?;
+    put_bytes(w, line, Escapes::Json, bytes)?;
+    line.put(w, b"\"")?;
+    Ok(())
+}
+
+fn put_bytes<W: Write>(
+    w: &mut W,
+    line: &mut Line,
+    escapes: Escapes,
+    bytes: &[u8],
+) -> Result<(), WriteFault>
+    ensures ok { OnOk result (Gathers (W.contents w.old) (W.contents w.new) line.old line.new (spelled_by escapes bytes.now)) }
+    ensures err { OnErr result (AppendsPart (W.contents w.old) (W.contents w.new) (line.old ++ spelled_by escapes bytes.now)) }
+{
+    let mut done = 0;
+    while done < bytes.len() {
+        done += put_next(w, line, escapes, &bytes[done..])?;
+    }
+    Ok(())
+}
+
+// Writes all the plain bytes that come first, or else the first byte as an escape, and tells how many bytes that were.
+fn put_next<W: Write>(
+    w: &mut W,
+    line: &mut Line,
+    escapes: Escapes,
+    bytes: &[u8],
+) -> Result<usize, WriteFault>
+    requires { 0 < length bytes.now }
+    ensures some { IfOk result (λ n. (0 < n) × (n ≤ length bytes.now)) }
+    ensures ok { IfOk result (λ n. Gathers (W.contents w.old) (W.contents w.new) line.old line.new (spelled_by escapes (take n bytes.now))) }
+    ensures err { OnErr result (AppendsPart (W.contents w.old) (W.contents w.new) (line.old ++ spelled_by escapes bytes.now)) }
+{
+    let run = plain_len(bytes);
+    if run == 0 {
+        put_escape(w, line, escapes, bytes[0])?;
+        Ok(1)
+    } else {
+        line.put(w, &bytes[..run])?;
+        Ok(run)
+    }
+}
+
+/// How many plain bytes come first.
+pub fn plain_len(bytes: &[u8]) -> usize
+    ensures { result ≡ prefix_len is_plain bytes.now }
+{
+    bytes.iter().take_while(|byte| is_plain(**byte)).count()
+}
+
+fn is_plain(byte: u8) -> bool
+    ensures { result ≡ is_plain byte }
+{
+    32 <= byte && byte <= 126 && byte != b'"' && byte != b'\\'
+}
