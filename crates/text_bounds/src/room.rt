@@ -65,7 +65,7 @@ fn cast_room(ty: IntegerType) -> u128
 }
 
 /// The longest text of an integer.
-#[tactic(auto, unfolding(poke_batch::specs::ValueText::integer_text))]
+#[tactic(auto, unfolding(value_text::specs::ValueText::integer_text))]
 fn typed_room(ty: IntegerType) -> u128
     requires width { IsWidth ty }
     ensures count { result ≡ length (integer_text ty (longest_number ty)) }
@@ -96,7 +96,7 @@ fn unit_room(unit: u32) -> u128
     }
 }
 
-#[tactic(auto, unfolding(poke_batch::specs::ValueText::offset_text))]
+#[tactic(auto, unfolding(value_text::specs::ValueText::offset_text))]
 pub fn offset_room(mode: Mode, ty: IntegerType, unit: u32) -> u128
     requires width { IsWidth ty }
     ensures count { result ≡ offset_room mode ty unit }
@@ -237,7 +237,7 @@ fn json_bytes_room(bytes: &[u8]) -> u128
 }
 
 /// The key of a field or an alternative.
-#[tactic(auto, unfolding(poke_batch::specs::JsonText::json_string))]
+#[tactic(auto, unfolding(value_text::specs::JsonText::json_string))]
 fn key_room(name: &Option<Name>, place: usize) -> u128
     ensures count { result ≡ length (key_text (name_of name.now) place) }
     ensures few { result < 2 ^ 68 }
