@@ -3,9 +3,6 @@ use Rattle.std.proofs.Common.{ℕ, ◌-◌, ◌^◌, ◌≤◌, inl, inr, refl, 
 use Rattle.std.proofs.lemmas.Bool.{cases_lt}
 use Rattle.bit_space.specs.SpaceView.{SpaceView, Keeps, HasRisen}
 
-pub keeps_same : {view : SpaceView} → Keeps view view
-keeps_same = record { len = refl; bytes = refl; failures = omega arith }
-
 pub keeps_all : {a b c : SpaceView} → Keeps a b → Keeps b c → Keeps a c
 keeps_all k h = record { len = h.len ∙ k.len; bytes = h.bytes ∙ k.bytes; failures = omega (arith, k.failures, h.failures) }
 

@@ -16,9 +16,6 @@ use Rattle.bit_space.specs.SpaceView.{SpaceView, Keeps}
 use Rattle.bit_space.specs.Pages.{IsPage, ArePages}
 use Rattle.bit_space.proofs.Digits.{range_of_range}
 
-abbrev Entries : Type 0
-Entries = List (ℕ × Vec ℕ Global)
-
 -- what a cache keeps is still right after a call on the space
 pub page_kept : {before after : SpaceView} {page : ℕ} {content : List ℕ} → Keeps before after → IsPage before page content → IsPage after page content
 page_kept {before} {after} {page} {content} k h = record {
@@ -86,9 +83,6 @@ shown_same {view} {now} {page} {content} {shown} {part} at n same h e s g l p by
 pub record Filled (view : SpaceView) (at done : ℕ) (into : List ℕ) : Type 0 where
   pub same : (bytes : List ℕ) → view.bytes ≡ Some bytes → take done into ≡ slice_range bytes at (at + done)
 
-pub filled_none : {view : SpaceView} (at : ℕ) (into : List ℕ) → Filled view at 0 into
-filled_none at into = record { same = λ bytes e. let z : at + 0 - at ≡ 0 = omega arith in rw z refl }
-
 two_ranges : (bytes : List ℕ) (at done count : ℕ) → slice_range bytes at (at + done) ++ slice_range bytes (at + done) (at + done + count) ≡ slice_range bytes at (at + (done + count))
 two_ranges bytes at done count =
     let a : at + done - at ≡ done = omega arith in
@@ -102,7 +96,3 @@ pub filled_more : {before now : SpaceView} (at done k n : ℕ) (into part : List
 filled_more {before} {now} at done k n into part kept h l s g count e = record {
   same = λ bytes f. rw (sym e) (take-put_mid done k into part (done + n) (omega (arith, s)) l ∙ rw (h.same bytes f, g bytes (kept.bytes ∙ f)) (two_ranges bytes at done n));
 }
-
--- the whole
-pub filled_all : {view : SpaceView} (at done : ℕ) (into : List ℕ) → Filled view at done into → done ≡ length into → (bytes : List ℕ) → view.bytes ≡ Some bytes → into ≡ slice_range bytes at (at + length into)
-filled_all {view} at done into h e bytes k = sym (take-length into) ∙ subst (λ n. take n into ≡ slice_range bytes at (at + n)) e (h.same bytes k)

@@ -75,12 +75,3 @@ signed_from (suc (suc d) ∷ xs) h = absurd (omega (arith, h.0))
 pub signed_is : (order : Order) (bits : List ℕ) → AreDigits bits → signed_number order bits ≡ with_sign (length bits) (number order bits)
 unfolding signed_number number
 signed_is order bits h = rw (sym (length-digits order bits)) (signed_from (digits order bits) (digits_digits order bits h))
-
--- what is known of a space's bits
-pub known_digits : (view : SpaceView) (bits : List ℕ) → known_bits view ≡ Some bits → AreDigits bits
-known_digits view bits e = let b = known_bytes view.bytes bits e in rw b.2 (bits_of_digits b.0)
-
-pub known_length : (view : SpaceView) (bits : List ℕ) → IsWhole view → known_bits view ≡ Some bits → length bits ≡ 8 * view.len
-known_length view bits w e =
-    let b = known_bytes view.bytes bits e in
-    rw b.2 (length-bits_of b.0 ∙ ap (λ n. 8 * n) (w b.0 b.1))

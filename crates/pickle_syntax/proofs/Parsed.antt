@@ -44,12 +44,6 @@ is_refused toks stop.TooDeep count e h x = never_pickle toks Deep e x
 is_refused toks stop.TooMany count e h x = never_pickle toks Many e x
 is_refused toks stop.Memory count e h x = h refl
 
-pub is_place : (s : Stop) (count : ℕ) → IsPlaceWithin count (fault_of s count)
-is_place (stop.Syntax left) count = omega arith
-is_place stop.TooDeep count = tt
-is_place stop.TooMany count = tt
-is_place stop.Memory count = tt
-
 pub is_deep : (kinds : List Kind) (s : Stop) (count : ℕ) → Fails s (pickle_at standard (tokens_of kinds)) → fault_of s count ≡ TooDeep → 64 < length kinds
 is_deep kinds (stop.Syntax left) count e h = absurd cc
 is_deep kinds stop.TooDeep count e h = omega (arith, pickle_refused (tokens_of kinds) Deep e, length-map kinds token_of)

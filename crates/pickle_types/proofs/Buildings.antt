@@ -110,9 +110,6 @@ built_then a b c (Err _) given whole g s e h = e ∙ h
 pub visible_kept : (old new : Builder) → IsTable old.nodes → Keeps old new → new.seen ≡ old.seen → (levels : ℕ) → AreBelow (length old.nodes) levels old.seen → visible_in new ≡ visible_in old
 visible_kept old new table keeps same levels below = rw same (views_kept old.nodes new.nodes table keeps.grows levels old.seen below)
 
-pub seen_kept : (old new : Builder) → IsTable old.nodes → Keeps old new → new.seen ≡ old.seen → (levels : ℕ) → AreBelow (length old.nodes) levels old.seen → AreBelow (length new.nodes) levels new.seen
-seen_kept old new table keeps same levels below = rw same (below_kept old.nodes new.nodes table keeps.grows levels old.seen below)
-
 pub array_depth : (t : PokeType) (b : Bound) → depth (ArrayOf t b) ≡ 1 + depth t
 unfolding depth
 array_depth t b = refl
@@ -173,10 +170,6 @@ pub front_none : (at : ℕ → PokeType) (r : Result Fields FaultKind) → r ≡
 front_none at (Ok fs) = refl
 front_none at (Err e) = refl
 
-pub fails_front : (e : FaultKind) (g : Fields → Fields) (r : Result Fields FaultKind) → Fails e r → Fails e (with_front g r)
-fails_front Memory g r h = tt
-fails_front _ g r h = rw h refl
-
 -- one more field that is built
 pub so_far_more : (a b c : Builder) (fields : List Field) (field : Field) (deepest deepness : ℕ) (here : Place) (levels index : ℕ) (parts : FieldParts) (f : FieldMeaning) (whole rest rest' : Result Fields FaultKind) →
     FieldsSoFar a b fields deepest whole rest → IsFieldBuilt b c here levels index parts field f → deepness ≡ depth f.type → rest ≡ (rest' >>= λ fs. Ok (field_then parts f fs)) →
@@ -218,10 +211,6 @@ names_count (f ∷ fs) = ap suc (names_count fs)
 pub names_more : (fs : List Field) (f : Field) → names_in (fs ++ f ∷ []) ≡ names_in fs ++ name_of f.name ∷ []
 names_more [] f = refl
 names_more (g ∷ fs) f = rw (names_more fs f) refl
-
-pub has_is : {A : Type 0} (o : Option A) → is_some o ≡ has_some o
-has_is None = refl
-has_is (Some x) = refl
 
 -- a field that is seen besides
 pub itself_seen : (nodes : List Node) (seen : List Seen) (s : Seen) (here : Place) (index : ℕ) (parts : FieldParts) → bytes_now s.name ≡ parts.name → s.place ≡ place_in here index →

@@ -79,10 +79,3 @@ pub record MayAdd (names : Names) (p : Bor (List ℕ) × IntegerType) (ps : List
 unknown_is : (o : Option PokeType) → is_unknown o ≡ true → o ≡ None
 unknown_is None h = refl
 unknown_is (Some t) h = cc
-
-pub may_add_one : (names : Names) (p : Bor (List ℕ) × IntegerType) (ps : List (Bor (List ℕ) × IntegerType)) → may_add names (p ∷ ps) ≡ true → MayAdd names p ps
-may_add_one names p ps h =
-    let a = and_parts _ _ h in
-    let b = and_parts _ _ a.0 in
-    let c = and_parts _ _ b.0 in
-    record { unknown = unknown_is _ c.0; wide = record { some = leb-true _ _ c.1; most = leb-true _ _ b.1 }; rest = a.1 }

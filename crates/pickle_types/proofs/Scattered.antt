@@ -56,10 +56,6 @@ module _ (trees : List Tree) (name : List ℕ) (i : ℕ) (is : i ≡ bucket_of (
       | inr apart ↦ rw (tree_apart (bucket_of (length trees) word) apart) refl
     ])
 
--- among no trees no name has a place
-pub place_nowhere : (trees : List Tree) → length trees ≡ 0 → (word : List ℕ) → place_among trees word ≡ None
-place_nowhere trees none word = ap (place_in word) (slice_get_past trees (bucket_of (length trees) word) (omega arith))
-
 -- among trees without names no name has a place
 pub place_bare : (trees : List Tree) → All IsBare trees → (word : List ℕ) → place_among trees word ≡ None
 place_bare trees bare word = by (slice_get trees (bucket_of (length trees) word)) refl
