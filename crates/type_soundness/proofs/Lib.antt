@@ -1,0 +1,4 @@
+mod Exact
+mod Results
+mod Members
+mod Safe
