@@ -1,3 +1,4 @@
+pub mod FaultNames
 pub mod Bits
 pub mod SpaceView
 pub mod Reading

@@ -1,6 +1,7 @@
 //! A file's bytes.
 
 ghost use Rattle.std.specs.Prelude.{◌≡◌, ℕ, ◌+◌, ◌^◌, ◌<◌, ◌≤◌, None, length, IfOk};
+ghost use Rattle.bit_space.specs.FaultNames.{open_kind};
 ghost use Rattle.bit_space.specs.SpaceView.{unknown, unknown_whole};
 
 use crate::space::{DeviceFault, Space};
@@ -10,16 +11,27 @@ use std::os::unix::fs::{FileExt, FileTypeExt};
 use std::rt::Files;
 use thiserror::Error;
 
-/// Why a file was not opened as a space.
+/// Why a file was not opened as a space. It displays the line that tells it.
 #[derive(Clone, Copy, Debug, PartialEq, Eq, Error)]
+#[error("fault {}", self.name())]
 pub enum OpenFault {
     /// There is no such file, it is not to be read, or it has no length, as a directory, a FIFO, a socket, a terminal or
     /// another device of characters.
-    #[error("fault Open")]
     NotOpened,
     /// It has 2^60 bytes or more.
-    #[error("fault TooLong")]
     TooLong,
+}
+
+impl OpenFault {
+    /// The name by which lines tell it.
+    pub fn name(self) -> &'static str
+        ensures { result.now ≡ open_kind self }
+    {
+        match self {
+            OpenFault::NotOpened => "Open",
+            OpenFault::TooLong => "TooLong",
+        }
+    }
 }
 
 impl From<io::Error> for OpenFault {

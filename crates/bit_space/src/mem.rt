@@ -5,9 +5,11 @@ ghost use Rattle.std.specs.Vec.{vec_len};
 ghost use Rattle.bit_space.specs.SpaceView.{honest, honest_whole};
 
 use crate::space::{DeviceFault, Space};
+use thiserror::Error;
 
-/// There are 2^60 bytes or more.
-#[derive(Clone, Copy, Debug, PartialEq, Eq)]
+/// There are 2^60 bytes or more. It displays the line that tells it.
+#[derive(Clone, Copy, Debug, PartialEq, Eq, Error)]
+#[error("fault TooLong")]
 pub struct TooLong;
 
 /// A space over bytes in memory. It is honest and never fails.

@@ -2,8 +2,11 @@
 
 ghost use Rattle.std.specs.Prelude.{◌≡◌, ◌+◌, ◌<◌, ◌≤◌, ◌↔◌, IsErr, OnOk, OnErr};
 
-/// No step is left.
-#[derive(Clone, Copy, Debug, PartialEq, Eq)]
+use thiserror::Error;
+
+/// No step is left. It displays its name.
+#[derive(Clone, Copy, Debug, PartialEq, Eq, Error)]
+#[error("Limit")]
 pub struct LimitPassed;
 
 /// Counts steps up to a limit, and the values made, which never pass the steps.

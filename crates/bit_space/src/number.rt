@@ -11,17 +11,17 @@ use crate::order::Order;
 use crate::space::{DeviceFault, Space};
 use thiserror::Error;
 
-/// Why a number was not read.
+/// Why a number was not read. It displays its name.
 #[derive(Clone, Copy, Debug, PartialEq, Eq, Error)]
 pub enum BitFault {
     /// The bits are not all inside the space.
-    #[error("fault End")]
+    #[error("End")]
     End,
     /// The space failed.
-    #[error("fault Device")]
+    #[error("Device")]
     Device,
     /// No step was left.
-    #[error("fault Limit")]
+    #[error("Limit")]
     Limit,
 }
 

@@ -9,9 +9,11 @@ use lru::LruCache;
 use std::alloc::{AllocError, Global};
 use std::marker::Model;
 use std::num::NonZeroUsize;
+use thiserror::Error;
 
-/// There was no memory.
-#[derive(Clone, Copy, Debug, PartialEq, Eq)]
+/// There was no memory. It displays the line that tells it.
+#[derive(Clone, Copy, Debug, PartialEq, Eq, Error)]
+#[error("fault Memory")]
 pub struct Memory;
 
 impl From<AllocError> for Memory {

@@ -3,8 +3,11 @@
 ghost use Rattle.std.specs.Prelude.{◌≡◌, ℕ, ◌+◌, ◌^◌, ◌<◌, ◌≤◌, List, Some, length, slice_range, OnOk, OnErr};
 ghost use Rattle.bit_space.specs.SpaceView.{SpaceView, IsWhole, HasRisen, Keeps};
 
-/// A read failed.
-#[derive(Clone, Copy, Debug, PartialEq, Eq)]
+use thiserror::Error;
+
+/// A read failed. It displays the line that tells it.
+#[derive(Clone, Copy, Debug, PartialEq, Eq, Error)]
+#[error("fault Device")]
 pub struct DeviceFault;
 
 /// A run of bytes that are read at their positions.

@@ -6,6 +6,7 @@ ghost use Rattle.command_words.specs.declared.path.PathFault.TheVariants.{Memory
 
 use itoa::Buffer;
 use std::alloc::{AllocError, Global};
+use thiserror::Error;
 
 /// A step from a value to one of its parts.
 #[derive(Debug, Drop, PartialEq, Eq)]
@@ -25,11 +26,13 @@ pub struct Path {
 }
 
 /// Why a word is no path.
-#[derive(Clone, Copy, Debug, Drop, PartialEq, Eq)]
+#[derive(Clone, Copy, Debug, Drop, PartialEq, Eq, Error)]
 pub enum PathFault {
     /// It has not the form of one, or a number in it is 2^64 or more.
+    #[error("not a path")]
     Form,
     /// There was no memory.
+    #[error("fault Memory")]
     Memory,
 }
 

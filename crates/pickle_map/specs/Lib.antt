@@ -1,3 +1,4 @@
+pub mod FaultNames
 pub mod Numbers
 pub mod Values
 pub mod Arithmetic

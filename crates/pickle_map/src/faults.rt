@@ -1,7 +1,14 @@
 //! Why a mapping gives no value.
 
-/// Why a mapping gives no value.
-#[derive(Clone, Copy, Debug, PartialEq, Eq)]
+ghost use Rattle.std.specs.Prelude.{◌≡◌};
+ghost use Rattle.pickle_map.specs.FaultNames.{fault_kind};
+
+use std::fmt::{self, Formatter};
+use thiserror::Error;
+
+/// Why a mapping gives no value. It displays its name.
+#[derive(Clone, Copy, Debug, PartialEq, Eq, Error)]
+#[error("{}", self.name())]
 pub enum MapFaultKind {
     /// The bits of the file end too early.
     End,
@@ -27,9 +34,39 @@ pub enum MapFaultKind {
     Memory,
 }
 
-/// A fault, with the bit position that it is told of.
-#[derive(Clone, Copy, Debug, PartialEq, Eq)]
+impl MapFaultKind {
+    /// The name by which lines tell it: that of its variant.
+    pub fn name(self) -> &'static str
+        ensures { result.now ≡ fault_kind self }
+    {
+        match self {
+            MapFaultKind::End => "End",
+            MapFaultKind::Constraint => "Constraint",
+            MapFaultKind::Bounds => "Bounds",
+            MapFaultKind::NoBits => "NoBits",
+            MapFaultKind::Zero => "Zero",
+            MapFaultKind::Overflow => "Overflow",
+            MapFaultKind::Absent => "Absent",
+            MapFaultKind::Index => "Index",
+            MapFaultKind::Limit => "Limit",
+            MapFaultKind::Device => "Device",
+            MapFaultKind::Memory => "Memory",
+        }
+    }
+}
+
+/// A fault, with the bit position that it is told of. It displays the line that tells it.
+#[derive(Clone, Copy, Debug, PartialEq, Eq, Error)]
+#[error(fmt = show)]
 pub struct MapFault {
     pub kind: MapFaultKind,
     pub at: u128,
+}
+
+// Shows the line of a fault: what failed outside the mapping is at no bit.
+fn show<W: fmt::Write>(kind: &MapFaultKind, at: &u128, f: &mut Formatter<W>) -> fmt::Result {
+    match kind {
+        MapFaultKind::Device | MapFaultKind::Memory => write!(f, "fault {kind}"),
+        _ => write!(f, "fault {kind} at {at}#b"),
+    }
 }

@@ -1,3 +1,4 @@
+pub mod FaultNames
 pub mod Levels
 pub mod Limits
 pub mod Operators

@@ -1,3 +1,4 @@
+pub mod FaultNames
 pub mod Types
 pub mod Sound
 pub mod Table

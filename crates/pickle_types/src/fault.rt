@@ -1,55 +1,76 @@
 //! What is wrong with a pickle's types.
 
 ghost use Rattle.std.specs.Prelude.{◌≡◌};
+ghost use Rattle.pickle_types.specs.FaultNames.{type_kind};
 ghost use Rattle.pickle_types.specs.declared.fault.FaultKind.TheVariants.{Memory};
 
 use std::alloc::{AllocError, AllocFailed};
+use std::fmt::{self, Formatter};
 use thiserror::Error;
 
-/// Which rule a declaration breaks, or that there was no memory. The rules are this project's profile.
+/// Which rule a declaration breaks, or that there was no memory. The rules are this project's profile. It displays its name.
 #[derive(Clone, Copy, PartialEq, Eq, Debug, Error)]
+#[error("{}", self.name())]
 pub enum FaultKind {
     /// A name of a type that is neither predeclared nor declared before.
-    #[error("UnknownType")]
     UnknownType,
     /// A declared name that is predeclared or declared before.
-    #[error("DuplicateType")]
     DuplicateType,
     /// A name that no visible field has, or a selected field that the type hasn't.
-    #[error("UnknownName")]
     UnknownName,
     /// Two fields of one struct, or alternatives of one union, with one name.
-    #[error("DuplicateField")]
     DuplicateField,
     /// Operands, a constraint, condition, label, bound or conversion of a wrong type, or an
     /// `offset<..>` or integral struct of something other than an integer type.
-    #[error("Mismatch")]
     Mismatch,
     /// A width outside 1 to 64 bits, a unit outside 1 to 4,294,967,295 bits, or a number that its type doesn't hold;
     /// the parser gives each number a type that holds it.
-    #[error("Width")]
     Width,
     /// The widths of an integral struct's fields don't add up to its own.
-    #[error("IntegralWidths")]
     IntegralWidths,
     /// A prefix, label, condition, nameless alternative, empty union or kind of field where it may not stand.
-    #[error("NotHere")]
     NotHere,
     /// A type deeper than 64, with the types that it names opened.
-    #[error("TooDeep")]
     TooDeep,
     /// A growth of the table was refused, or it would have more than 2^32 nodes or a union more than 2^16 alternatives.
-    #[error("Memory")]
     Memory,
 }
 
-/// Why a pickle has no table of types.
+impl FaultKind {
+    /// The name by which lines tell it: that of its variant.
+    pub fn name(self) -> &'static str
+        ensures { result.now ≡ type_kind self }
+    {
+        match self {
+            FaultKind::UnknownType => "UnknownType",
+            FaultKind::DuplicateType => "DuplicateType",
+            FaultKind::UnknownName => "UnknownName",
+            FaultKind::DuplicateField => "DuplicateField",
+            FaultKind::Mismatch => "Mismatch",
+            FaultKind::Width => "Width",
+            FaultKind::IntegralWidths => "IntegralWidths",
+            FaultKind::NotHere => "NotHere",
+            FaultKind::TooDeep => "TooDeep",
+            FaultKind::Memory => "Memory",
+        }
+    }
+}
+
+/// Why a pickle has no table of types. It displays the line that tells it.
 #[derive(Clone, Copy, PartialEq, Eq, Debug, Error)]
-#[error("{kind} in type {decl}")]
+#[error(fmt = show)]
 pub struct TypeFault {
     pub kind: FaultKind,
     /// The declaration, counted from 1; 0 with `Memory`.
     pub decl: usize,
+}
+
+// Shows the line of a fault: want of memory is in no declaration.
+fn show<W: fmt::Write>(kind: &FaultKind, decl: &usize, f: &mut Formatter<W>) -> fmt::Result {
+    match kind {
+        FaultKind::Memory => write!(f, "fault {kind}"),
+        _ => write!(f, "refused {kind} in type {decl}"),
+    }
 }
 
 impl From<AllocError> for FaultKind {

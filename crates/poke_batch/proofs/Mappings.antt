@@ -18,7 +18,8 @@ use Rattle.pickle_map.specs.Values.{Value, value_at}
 use Rattle.pickle_map.specs.declared.faults.MapFaultKind.{MapFaultKind}
 use Rattle.pickle_map.specs.declared.faults.MapFaultKind.TheVariants as fault
 use Rattle.poke_batch.specs.Accepted.{IsAccepted}
-use Rattle.poke_batch.specs.FaultLines.{fault_kind, fault_saying}
+use Rattle.pickle_map.specs.FaultNames.{fault_kind}
+use Rattle.poke_batch.specs.FaultLines.{fault_saying}
 use Rattle.command_words.specs.declared.ask.Ask.{Ask}
 use Rattle.poke_batch.specs.declared.status.Status.TheVariants.{Fault}
 use Rattle.poke_batch.specs.Lines.{fault_at_line}

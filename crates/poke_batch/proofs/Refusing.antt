@@ -1,14 +1,22 @@
 -- Laws of refusals.
-use Rattle.std.proofs.Common.{◌≡◌, ◌≢◌, ◌≤◌, ◌∙◌, refl, sym, ap, subst, Bool, true, false, ℕ, List, Ok, length}
+use Rattle.std.proofs.Common.{◌≡◌, ◌≢◌, ◌≤◌, ◌∙◌, refl, sym, ap, subst, Bool, true, false, ℕ, List, Option, Some, Result, Ok, Err, length}
 use Rattle.std.proofs.lemmas.Bool.{false≢true}
 use Rattle.pickle_syntax.specs.Tokens.{Token}
 use Rattle.pickle_syntax.specs.Bytes.{Fails}
 use Rattle.pickle_syntax.specs.Lexing.{lexed}
+use Rattle.pickle_syntax.specs.Limits.{standard}
 use Rattle.pickle_syntax.specs.Pickles.{IsPickle, IsPlaceWithin}
+use Rattle.pickle_syntax.specs.ReadForms.{pickle_at}
+use Rattle.pickle_syntax.specs.Reading.{Fault, Wrong, Deep, Many}
+use Rattle.pickle_syntax.specs.Told.{TellsKind}
 use Rattle.pickle_syntax.specs.declared.parser.fault.ParseFault.{ParseFault}
 use Rattle.pickle_syntax.specs.declared.parser.fault.ParseFault.TheVariants as fault
 use Rattle.pickle_syntax.specs.declared.lexer.fault.LexFaultKind.{LexFaultKind}
 use Rattle.pickle_syntax.specs.declared.lexer.fault.LexFaultKind.TheVariants.{BadByte, Unclosed, BadNumber, TooLong, Memory}
+use Rattle.pickle_types.specs.Built as checking
+use Rattle.pickle_types.specs.Wrong.{TellsPlace}
+use Rattle.pickle_types.specs.declared.fault.FaultKind.{FaultKind}
+use Rattle.pickle_types.specs.declared.fault.FaultKind.TheVariants as types
 use Rattle.poke_batch.specs.declared.accept.Refusal.TheVariants as refusal
 use Rattle.poke_batch.specs.Accepted.{Refuses, no_tokens, IsNoPickle}
 
@@ -20,8 +28,45 @@ tokens_refused pickle BadNumber at other e = no_tokens e
 tokens_refused pickle TooLong at other e = no_tokens e
 tokens_refused pickle Memory at other e = absurd (other refl)
 
-pub no_pickle : (pickle : List ℕ) (tokens : List Token) (spans : List (ℕ × ℕ)) (count : ℕ) → lexed pickle ≡ Ok (tokens, spans) → length tokens ≡ count → (IsPickle tokens → ⊥) → IsNoPickle pickle spans count
-no_pickle pickle tokens spans count cut counted none = record { tokens = tokens; cut = cut; counted = counted; none = none }
+pub no_pickle : (pickle : List ℕ) (tokens : List Token) (spans : List (ℕ × ℕ)) (count : ℕ) (why : Fault) → lexed pickle ≡ Ok (tokens, spans) → length tokens ≡ count
+    → (IsPickle tokens → ⊥) → pickle_at standard tokens ≡ Err why → IsNoPickle pickle spans count why
+no_pickle pickle tokens spans count why cut counted none stops = record { tokens = tokens; cut = cut; counted = counted; none = none; stops = stops }
+
+-- what a fault tells of a reading, by its kind
+pub told_syntax : {A : Type 0} (read : Result A Fault) (f : ParseFault) (token : ℕ) → f ≡ fault.Syntax token → TellsKind read f → read ≡ Err Wrong
+told_syntax read f token e told = subst (λ g. TellsKind read g) e told
+
+pub told_deep : {A : Type 0} (read : Result A Fault) (f : ParseFault) → f ≡ fault.TooDeep → TellsKind read f → read ≡ Err Deep
+told_deep read f e told = subst (λ g. TellsKind read g) e told
+
+pub told_many : {A : Type 0} (read : Result A Fault) (f : ParseFault) → f ≡ fault.TooMany → TellsKind read f → read ≡ Err Many
+told_many read f e told = subst (λ g. TellsKind read g) e told
+
+-- a fault of types, but for want of memory, is the definition's
+pub types_fail : {Y : Type 0} (kind : FaultKind) (given : Result Y FaultKind) → kind ≢ types.Memory → checking.Fails kind given → given ≡ Err kind
+types_fail types.UnknownType given other fails = fails
+types_fail types.DuplicateType given other fails = fails
+types_fail types.UnknownName given other fails = fails
+types_fail types.DuplicateField given other fails = fails
+types_fail types.Mismatch given other fails = fails
+types_fail types.Width given other fails = fails
+types_fail types.IntegralWidths given other fails = fails
+types_fail types.NotHere given other fails = fails
+types_fail types.TooDeep given other fails = fails
+types_fail types.Memory given other fails = absurd (other refl)
+
+-- and so is the declaration that it tells
+pub told_place : (kind : FaultKind) (told : ℕ) (wrong : Option ℕ) → kind ≢ types.Memory → TellsPlace kind told wrong → wrong ≡ Some told
+told_place types.UnknownType told wrong other tells = tells
+told_place types.DuplicateType told wrong other tells = tells
+told_place types.UnknownName told wrong other tells = tells
+told_place types.DuplicateField told wrong other tells = tells
+told_place types.Mismatch told wrong other tells = tells
+told_place types.Width told wrong other tells = tells
+told_place types.IntegralWidths told wrong other tells = tells
+told_place types.NotHere told wrong other tells = tells
+told_place types.TooDeep told wrong other tells = tells
+told_place types.Memory told wrong other tells = absurd (other refl)
 
 abbrev wants_memory : ParseFault → Bool
 wants_memory (fault.Syntax token) = false

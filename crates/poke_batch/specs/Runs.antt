@@ -18,7 +18,7 @@ use Rattle.command_words.specs.declared.ask.Ask.{Ask}
 use Rattle.poke_batch.specs.declared.status.Status.TheVariants.{Fault, Refused, Outside}
 use Rattle.poke_batch.specs.Accepted.{IsAccepted, Refuses, refusal_saying}
 use Rattle.poke_batch.specs.BoundText.{bound_line, bound_text}
-use Rattle.poke_batch.specs.FaultLines.{fault_kind}
+use Rattle.pickle_map.specs.FaultNames.{fault_kind}
 use Rattle.poke_batch.specs.Lines.{refused_line, fault_line, fault_at_line}
 use Rattle.poke_batch.specs.Told.{Saying, Text, Line}
 use Rattle.value_text.specs.Printed.{printed}

@@ -5,8 +5,12 @@ ghost use Rattle.pickle_syntax.specs.Bytes as lexing;
 ghost use Rattle.pickle_syntax.specs.Lexing.{lexed};
 ghost use Rattle.pickle_types.specs.declared.fault.FaultKind.TheVariants as types;
 ghost use Rattle.pickle_syntax.specs.Tree.{DeclarationTree, pickle_tree};
+ghost use Rattle.pickle_types.specs.Built as checking;
+ghost use Rattle.pickle_types.specs.Meaning.{declared};
+ghost use Rattle.pickle_types.specs.Names.{predeclared};
+ghost use Rattle.pickle_types.specs.Wrong.{first_wrong, TellsPlace};
 ghost use Rattle.pickle_types.specs.TypeTable.{types_of, count_of, IsSound, IsWellTyped};
-ghost use Rattle.poke_batch.specs.Accepted.{HasSyntax, IsAccepted, Refuses, refusal_saying, place_of, lex_kind, type_kind};
+ghost use Rattle.poke_batch.specs.Accepted.{HasSyntax, IsAccepted, Refuses, refusal_kind, refusal_saying, place_of};
 ghost use Rattle.poke_batch.specs.Told.{IsSaid};
 
 use crate::status::Status;
@@ -20,16 +24,39 @@ use pickle_types::fault::{FaultKind, TypeFault};
 use pickle_types::type_table::Table;
 use std::alloc::Global;
 use std::io::Write;
+use thiserror::Error;
 
 /// Why bytes are no pickle, at a byte counted from 0, or its types not well formed, in a declaration counted from 1.
-#[derive(Clone, Copy, Debug, PartialEq, Eq)]
+/// It displays the line that tells it.
+#[derive(Clone, Copy, Debug, PartialEq, Eq, Error)]
+#[error("refused {}", self.name())]
 pub enum Refusal {
+    #[error("refused {} at byte {}", self.name(), .1)]
     Tokens(LexFaultKind, usize),
+    #[error("refused {} at byte {}", self.name(), .0)]
     Syntax(usize),
     TooDeep,
     TooMany,
+    #[error("refused {} in type {}", self.name(), .1)]
     Types(FaultKind, usize),
+    #[error("fault {}", self.name())]
     Memory,
+}
+
+impl Refusal {
+    /// The name by which its line tells it: that of the fault from which it comes.
+    pub fn name(self) -> &'static str
+        ensures { result.now ≡ refusal_kind self }
+    {
+        match self {
+            Refusal::Tokens(kind, _) => kind.name(),
+            Refusal::Syntax(at) => ParseFault::Syntax(at).name(),
+            Refusal::TooDeep => ParseFault::TooDeep.name(),
+            Refusal::TooMany => ParseFault::TooMany.name(),
+            Refusal::Types(kind, _) => kind.name(),
+            Refusal::Memory => ParseFault::Memory.name(),
+        }
+    }
 }
 
 /// Reads the syntax of a pickle.
@@ -75,7 +102,8 @@ fn no_tokens(fault: LexFault) -> Refusal
 
 fn ill_typed(fault: TypeFault) -> Refusal
     ensures { (pickle : List ℕ) (declarations : List DeclarationTree) → HasSyntax pickle declarations
-        → (fault.kind ≢ types.Memory → IsWellTyped declarations → ⊥) → Refuses pickle result }
+        → (fault.kind ≢ types.Memory → IsWellTyped declarations → ⊥) → checking.Fails fault.kind (declared predeclared declarations)
+        → TellsPlace fault.kind fault.decl (first_wrong 1 predeclared declarations) → Refuses pickle result }
 {
     if fault.kind == FaultKind::Memory {
         Refusal::Memory
@@ -98,43 +126,13 @@ fn place(tokens: &Tokens<'_>, token: usize, count: usize) -> usize
 pub fn tell_refusal<E: Write>(err: &mut E, refusal: Refusal) -> Status
     ensures { (out : Option (List ℕ)) → IsSaid (refusal_saying refusal) result out out (E.contents err.old) (E.contents err.new) }
 {
+    let name = refusal.name().as_bytes();
     match refusal {
-        Refusal::Tokens(kind, at) => refuse_at(err, kind_name(kind), at),
-        Refusal::Syntax(at) => refuse_at(err, b"Syntax", at),
-        Refusal::TooDeep => refuse(err, b"TooDeep"),
-        Refusal::TooMany => refuse(err, b"TooMany"),
-        Refusal::Types(kind, declaration) => refuse_in(err, type_kind_name(kind), declaration),
-        Refusal::Memory => fail(err, b"Memory"),
-    }
-}
-
-/// The name of a fault of tokens.
-fn kind_name(kind: LexFaultKind) -> &'static [u8]
-    ensures { result.now ≡ lex_kind kind }
-{
-    match kind {
-        LexFaultKind::BadByte => b"BadByte",
-        LexFaultKind::Unclosed => b"Unclosed",
-        LexFaultKind::BadNumber => b"BadNumber",
-        LexFaultKind::TooLong => b"TooLong",
-        LexFaultKind::Memory => b"Memory",
-    }
-}
-
-/// The name of a fault of types.
-fn type_kind_name(kind: FaultKind) -> &'static [u8]
-    ensures { result.now ≡ type_kind kind }
-{
-    match kind {
-        FaultKind::UnknownType => b"UnknownType",
-        FaultKind::DuplicateType => b"DuplicateType",
-        FaultKind::UnknownName => b"UnknownName",
-        FaultKind::DuplicateField => b"DuplicateField",
-        FaultKind::Mismatch => b"Mismatch",
-        FaultKind::Width => b"Width",
-        FaultKind::IntegralWidths => b"IntegralWidths",
-        FaultKind::NotHere => b"NotHere",
-        FaultKind::TooDeep => b"TooDeep",
-        FaultKind::Memory => b"Memory",
+        Refusal::Tokens(_, at) => refuse_at(err, name, at),
+        Refusal::Syntax(at) => refuse_at(err, name, at),
+        Refusal::TooDeep => refuse(err, name),
+        Refusal::TooMany => refuse(err, name),
+        Refusal::Types(_, declaration) => refuse_in(err, name, declaration),
+        Refusal::Memory => fail(err, name),
     }
 }

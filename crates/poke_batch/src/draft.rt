@@ -1,6 +1,6 @@
 //! Texts that are gathered before they are written, so that their length is known before the first byte.
 
-ghost use Rattle.std.specs.Prelude.{◌≡◌, ◌<◌, ◌≤◌, Some, length, IsOk, IfOk, IfErr, OnOk, OnErr};
+ghost use Rattle.std.specs.Prelude.{◌≡◌, ◌<◌, ◌≤◌, Some, length, codes, IsOk, IfOk, IfErr, OnOk, OnErr};
 ghost use Rattle.std.specs.Io.KnownBytes.{Appends};
 ghost use Rattle.pickle_map.specs.Refs.{value_shown};
 ghost use Rattle.value_text.specs.Printed.{printed};
@@ -10,17 +10,32 @@ use pickle_map::ValueRef;
 use std::alloc::Global;
 use std::io;
 use std::io::Write;
+use thiserror::Error;
 use value_text::mode::Mode;
 use value_text::print::print;
 use value_text::write::WriteFault;
 
-/// Why a text isn't gathered.
-#[derive(Clone, Copy, Debug, Drop, PartialEq, Eq)]
+/// Why a text isn't gathered. It displays the name by which its line tells it.
+#[derive(Clone, Copy, Debug, Drop, PartialEq, Eq, Error)]
+#[error("{}", self.name())]
 pub enum DraftFault {
     /// It is longer than it may be.
     TooLong,
     /// There was no memory.
     Memory,
+}
+
+impl DraftFault {
+    /// The name by which its line tells it.
+    pub fn name(self) -> &'static str
+        ensures too_long { self ≡ DraftFault.TooLong → result.now ≡ codes "Output" }
+        ensures memory { self ≡ DraftFault.Memory → result.now ≡ codes "Memory" }
+    {
+        match self {
+            DraftFault::TooLong => "Output",
+            DraftFault::Memory => "Memory",
+        }
+    }
 }
 
 // The bytes of a text from its front, which grow up to a length and no further.

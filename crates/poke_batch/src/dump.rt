@@ -1,7 +1,7 @@
 //! Dumps of bytes, in lines of 16.
 mod line;
 
-ghost use Rattle.std.specs.Prelude.{◌≡◌, ℕ, ◌+◌, ◌-◌, ◌^◌, ◌<◌, ◌≤◌, List, Some, [], if◌then◌else◌, slice_range, take, drop, min, OnOk, OnErr, IfErr};
+ghost use Rattle.std.specs.Prelude.{◌≡◌, ℕ, ◌+◌, ◌-◌, ◌^◌, ◌<◌, ◌≤◌, List, Some, [], if◌then◌else◌, slice_range, take, drop, min, codes, OnOk, OnErr, IfErr};
 ghost use Rattle.std.specs.Io.KnownBytes.{Appends};
 ghost use Rattle.bit_space.specs.SpaceView.{HasRisen, Keeps};
 ghost use Rattle.value_text.specs.Written.{AppendsPart};
@@ -14,15 +14,27 @@ use std::io::Write;
 use thiserror::Error;
 use value_text::write::{WriteFault, put};
 
-/// Why a dump ended early.
+/// Why a dump ended early. It displays the line that tells it.
 #[derive(Clone, Copy, Debug, PartialEq, Eq, Error)]
+#[error("fault {}", self.name())]
 pub enum DumpFault {
     /// A read of the space failed.
-    #[error("fault Device")]
     Device,
     /// The writer gave an error, or took no byte.
-    #[error("fault Write")]
     Write,
+}
+
+impl DumpFault {
+    /// The name by which its line tells it: that of its variant.
+    pub fn name(self) -> &'static str
+        ensures device { self ≡ DumpFault.Device → result.now ≡ codes "Device" }
+        ensures write { self ≡ DumpFault.Write → result.now ≡ codes "Write" }
+    {
+        match self {
+            DumpFault::Device => "Device",
+            DumpFault::Write => WriteFault.name(),
+        }
+    }
 }
 
 impl From<DeviceFault> for DumpFault {

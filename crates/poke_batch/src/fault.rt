@@ -1,7 +1,7 @@
 //! The lines that tell the faults of a mapping.
 
-ghost use Rattle.std.specs.Prelude.{◌≡◌, ℕ, List, Option};
-ghost use Rattle.poke_batch.specs.FaultLines.{fault_kind, fault_saying};
+ghost use Rattle.std.specs.Prelude.{ℕ, List, Option};
+ghost use Rattle.poke_batch.specs.FaultLines.{fault_saying};
 ghost use Rattle.poke_batch.specs.Told.{IsSaid, IsTold};
 ghost use Rattle.poke_batch.specs.Lines.{fault_line};
 ghost use Rattle.poke_batch.specs.declared.status.Status.TheVariants.{Fault};
@@ -17,10 +17,11 @@ use value_text::write::WriteFault;
 pub fn tell_fault<E: Write>(err: &mut E, fault: MapFault) -> Status
     ensures { (out : Option (List ℕ)) → IsSaid (fault_saying fault.kind fault.at) result out out (E.contents err.old) (E.contents err.new) }
 {
+    let name = fault.kind.name().as_bytes();
     match fault.kind {
-        MapFaultKind::Device => fail(err, b"Device"),
-        MapFaultKind::Memory => fail(err, b"Memory"),
-        kind => fault_at(err, kind_name(kind), fault.at),
+        MapFaultKind::Device => fail(err, name),
+        MapFaultKind::Memory => fail(err, name),
+        _ => fault_at(err, name, fault.at),
     }
 }
 
@@ -31,24 +32,5 @@ pub fn tell_plain_fault<E: Write>(err: &mut E, kind: &[u8]) -> Status
     match put_fault(err, kind) {
         Ok(()) => Status::Fault,
         Err(WriteFault) => Status::Outside,
-    }
-}
-
-/// The name of a fault of a mapping.
-fn kind_name(kind: MapFaultKind) -> &'static [u8]
-    ensures { result.now ≡ fault_kind kind }
-{
-    match kind {
-        MapFaultKind::End => b"End",
-        MapFaultKind::Constraint => b"Constraint",
-        MapFaultKind::Bounds => b"Bounds",
-        MapFaultKind::NoBits => b"NoBits",
-        MapFaultKind::Zero => b"Zero",
-        MapFaultKind::Overflow => b"Overflow",
-        MapFaultKind::Absent => b"Absent",
-        MapFaultKind::Index => b"Index",
-        MapFaultKind::Limit => b"Limit",
-        MapFaultKind::Device => b"Device",
-        MapFaultKind::Memory => b"Memory",
     }
 }

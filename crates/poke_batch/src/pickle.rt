@@ -1,4 +1,4 @@
-ghost use Rattle.std.specs.Prelude.{◌≡◌, ◌≤◌, length, IfOk, OnErr};
+ghost use Rattle.std.specs.Prelude.{◌≡◌, ◌≤◌, length, codes, IfOk, OnErr};
 ghost use Rattle.poke_batch.specs.Taken.{GivesFirst, ConsumesUpTo};
 
 use std::alloc::Global;
@@ -9,15 +9,27 @@ use thiserror::Error;
 /// length.
 pub const MOST_BYTES: usize = 1_048_577;
 
-/// Why a pickle was not read.
+/// Why a pickle was not read. It displays the line that tells it.
 #[derive(Clone, Copy, Debug, Drop, PartialEq, Eq, Error)]
+#[error("fault {}", self.name())]
 pub enum PickleFault {
     /// The reader gave an error. It isn't tried again.
-    #[error("fault Read")]
     Read,
     /// There was no memory for the bytes.
-    #[error("fault Memory")]
     Memory,
+}
+
+impl PickleFault {
+    /// The name by which its line tells it: that of its variant.
+    pub fn name(self) -> &'static str
+        ensures read { self ≡ PickleFault.Read → result.now ≡ codes "Read" }
+        ensures memory { self ≡ PickleFault.Memory → result.now ≡ codes "Memory" }
+    {
+        match self {
+            PickleFault::Read => "Read",
+            PickleFault::Memory => "Memory",
+        }
+    }
 }
 
 /// Reads until the reader gives no byte or [`MOST_BYTES`] bytes are there, and gives the bytes read. After a fault they

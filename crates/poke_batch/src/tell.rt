@@ -68,6 +68,6 @@ pub fn answer<E: Write>(written: Result<(), WriteFault>, err: &mut E) -> Status
 {
     match written {
         Ok(()) => Status::Done,
-        Err(WriteFault) => fail(err, b"Write"),
+        Err(fault) => fail(err, fault.name().as_bytes()),
     }
 }

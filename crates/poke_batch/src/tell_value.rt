@@ -100,7 +100,13 @@ fn tell_short<O: Write, E: Write>(
 {
     match gather(alloc, value, ask.mode, most) {
         Ok(text) => answer(put(out, &text), err),
-        Err(DraftFault::TooLong) => fault_at(err, b"Output", u128::from(ask.start)),
-        Err(DraftFault::Memory) => fail(err, b"Memory"),
+        Err(DraftFault::TooLong) => {
+            fault_at(
+                err,
+                DraftFault::TooLong.name().as_bytes(),
+                u128::from(ask.start),
+            )
+        }
+        Err(DraftFault::Memory) => fail(err, DraftFault::Memory.name().as_bytes()),
     }
 }

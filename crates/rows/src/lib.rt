@@ -4,6 +4,8 @@
 #[cfg(test)]
 mod devices;
 #[cfg(test)]
+mod displays;
+#[cfg(test)]
 mod mappings;
 #[cfg(test)]
 mod reads;

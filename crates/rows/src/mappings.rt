@@ -63,7 +63,7 @@ pub fn map_row<S: Space>(
 
 /// A fault, as it is told of a file.
 pub fn fault_text(alloc: Global, fault: MapFault) -> Result<String, AllocError> {
-    format!(in alloc; "fault {:?} at {}#b", fault.kind, fault.at)
+    format!(in alloc; "fault {} at {}#b", fault.kind, fault.at)
 }
 
 /// The text of the value in a store, without its line feed.

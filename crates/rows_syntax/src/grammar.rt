@@ -14,112 +14,112 @@ const PICKLES: &str = r#" ==> types 0
 // nothing ==> types 0
 type A = byte; ==> types 1
 type A = byte; type A = A; ==> types 2
-type A = byte ==> Syntax at byte 13
-type A = byte`20`20`20 ==> Syntax at byte 16
-type A = byte;; ==> Syntax at byte 14
-type A = byte; type ==> Syntax at byte 19
-A = byte; ==> Syntax at byte 0
-type string = byte; ==> Syntax at byte 5
-type A byte; ==> Syntax at byte 7
+type A = byte ==> refused Syntax at byte 13
+type A = byte`20`20`20 ==> refused Syntax at byte 16
+type A = byte;; ==> refused Syntax at byte 14
+type A = byte; type ==> refused Syntax at byte 19
+A = byte; ==> refused Syntax at byte 0
+type string = byte; ==> refused Syntax at byte 5
+type A byte; ==> refused Syntax at byte 7
 type A = byte[]; ==> types 1
 type A = string[3]; ==> types 1
-type A = byte[1 2]; ==> Syntax at byte 16
-type A = byte[1 + ]; ==> Syntax at byte 18
-type A = byte[1; ==> Syntax at byte 15
-type A = byte[][]; ==> Syntax at byte 15
+type A = byte[1 2]; ==> refused Syntax at byte 16
+type A = byte[1 + ]; ==> refused Syntax at byte 18
+type A = byte[1; ==> refused Syntax at byte 15
+type A = byte[][]; ==> refused Syntax at byte 15
 type A = byte[("a")]; ==> types 1
 type A = int<8>; ==> types 1
-type A = int<8; ==> Syntax at byte 14
-type A = int<a>; ==> Syntax at byte 13
+type A = int<8; ==> refused Syntax at byte 14
+type A = int<a>; ==> refused Syntax at byte 13
 type A = uint<0x10>; ==> types 1
 type A = uint<8UB>; ==> types 1
 type A = offset<byte,0b>; ==> types 1
 type A = offset<int<8>,B>; ==> types 1
-type A = offset<byte,c>; ==> Syntax at byte 21
-type A = offset<byte>; ==> Syntax at byte 20
-type A = offset<offset<byte,b>,b>; ==> Syntax at byte 16
+type A = offset<byte,c>; ==> refused Syntax at byte 21
+type A = offset<byte>; ==> refused Syntax at byte 20
+type A = offset<offset<byte,b>,b>; ==> refused Syntax at byte 16
 type A = struct byte { byte a; }; ==> types 1
 type A = struct uint<8> { }; ==> types 1
-type A = struct string { }; ==> Syntax at byte 16
+type A = struct string { }; ==> refused Syntax at byte 16
 type A = pinned struct { }; ==> types 1
-type A = pinned struct byte { }; ==> Syntax at byte 23
-type A = pinned union { }; ==> Syntax at byte 16
+type A = pinned struct byte { }; ==> refused Syntax at byte 23
+type A = pinned union { }; ==> refused Syntax at byte 16
 type A = union { }; ==> types 1
-type A = union byte { }; ==> Syntax at byte 15
-type A = struct { byte a }; ==> Syntax at byte 25
-type A = struct { byte a; ==> Syntax at byte 25
+type A = union byte { }; ==> refused Syntax at byte 15
+type A = struct { byte a }; ==> refused Syntax at byte 25
+type A = struct { byte a; ==> refused Syntax at byte 25
 type A = struct { big byte a; little byte b; byte; struct { } s; }; ==> types 1
-type A = struct { big little byte a; }; ==> Syntax at byte 22
+type A = struct { big little byte a; }; ==> refused Syntax at byte 22
 type A = struct { byte a : 1 @ 2 if 3; }; ==> types 1
 type A = struct { byte : 1 @ 2 if 3; }; ==> types 1
 type A = struct { byte a : a ? 1 : 2 @ 1; }; ==> types 1
-type A = struct { byte a if 3 @ 2; }; ==> Syntax at byte 30
-type A = struct { byte a @ 3 : 2; }; ==> Syntax at byte 29
-type A = struct { byte a b; }; ==> Syntax at byte 25
+type A = struct { byte a if 3 @ 2; }; ==> refused Syntax at byte 30
+type A = struct { byte a @ 3 : 2; }; ==> refused Syntax at byte 29
+type A = struct { byte a b; }; ==> refused Syntax at byte 25
 type A = struct { byte x : a'lengthif 1; }; ==> types 1
-type A = byte[a'lengthx]; ==> Syntax at byte 22
-type A = struct { byte int; byte x if int<3; }; ==> Syntax at byte 38
+type A = byte[a'lengthx]; ==> refused Syntax at byte 22
+type A = struct { byte int; byte x if int<3; }; ==> refused Syntax at byte 38
 type A = struct { byte int; byte x if int <3; }; ==> types 1
 type A = byte[1 as int<8> == 1]; ==> types 1
-type A = byte[1 as int<8>== 1]; ==> Syntax at byte 24
-type A = byte[1 as int<8>>1]; ==> Syntax at byte 24
+type A = byte[1 as int<8>== 1]; ==> refused Syntax at byte 24
+type A = byte[1 as int<8>>1]; ==> refused Syntax at byte 24
 type A = byte[1 as offset<int<8>,8>]; ==> types 1
-type A = byte[1 as string]; ==> Syntax at byte 19
-type A = byte[1 as T[1]]; ==> Syntax at byte 20
-type A = byte[1 as T.f]; ==> Syntax at byte 20
-type A = byte[1 as T # b]; ==> Syntax at byte 21
-type A = byte[as]; ==> Syntax at byte 14"#;
+type A = byte[1 as string]; ==> refused Syntax at byte 19
+type A = byte[1 as T[1]]; ==> refused Syntax at byte 20
+type A = byte[1 as T.f]; ==> refused Syntax at byte 20
+type A = byte[1 as T # b]; ==> refused Syntax at byte 21
+type A = byte[as]; ==> refused Syntax at byte 14"#;
 
 /// Pickles that are as deep as may be, or deeper.
 const DEEP: &str = r#"type A = byte[«0..63 (»1«0..63 )»]; ==> types 1
-type A = byte[«0..64 (»1«0..64 )»]; ==> TooDeep
+type A = byte[«0..64 (»1«0..64 )»]; ==> refused TooDeep
 type A = byte[«0..63 -»1]; ==> types 1
-type A = byte[«0..64 -»1]; ==> TooDeep
+type A = byte[«0..64 -»1]; ==> refused TooDeep
 type A = byte[a«0..63 .f»]; ==> types 1
-type A = byte[a«0..64 .f»]; ==> TooDeep
+type A = byte[a«0..64 .f»]; ==> refused TooDeep
 type A = byte[1«0..63  + 1»]; ==> types 1
-type A = byte[1«0..64  + 1»]; ==> TooDeep
+type A = byte[1«0..64  + 1»]; ==> refused TooDeep
 type A = byte[«0..63 a[»a«0..63 ]»]; ==> types 1
-type A = byte[«0..64 a[»a«0..64 ]»]; ==> TooDeep
+type A = byte[«0..64 a[»a«0..64 ]»]; ==> refused TooDeep
 type A = byte[a«0..63  as offset<int<8>,b>»]; ==> types 1
 type A = byte[«0..63 1 ? 1 : »1]; ==> types 1
-type A = byte[«0..64 1 ? 1 : »1]; ==> TooDeep
+type A = byte[«0..64 1 ? 1 : »1]; ==> refused TooDeep
 type A = struct { byte a : «0..63 (»1«0..63 )» @ (1) if (1); }; ==> types 1
-type A = struct { byte a : (1) @ (1) if «0..64 (»1«0..64 )»; }; ==> TooDeep
+type A = struct { byte a : (1) @ (1) if «0..64 (»1«0..64 )»; }; ==> refused TooDeep
 type A = «0..63 struct { »struct {}«0..63  a; }»; ==> types 1
-type A = «0..64 struct { »struct {}«0..64  a; }»; ==> TooDeep
+type A = «0..64 struct { »struct {}«0..64  a; }»; ==> refused TooDeep
 type A = «0..63 union { »byte«0..63  a; }»; ==> types 1
-type A = «0..64 struct byte { »byte«0..64  a; }»; ==> TooDeep
+type A = «0..64 struct byte { »byte«0..64  a; }»; ==> refused TooDeep
 type A = «0..62 struct { »byte[]«0..62  a; }»; ==> types 1
-type A = «0..63 struct { »byte[]«0..63  a; }»; ==> TooDeep
+type A = «0..63 struct { »byte[]«0..63  a; }»; ==> refused TooDeep
 type A = «0..31 struct { »byte[]«0..31  a; }[]»; ==> types 1
-type A = «0..32 struct { »byte«0..32  a; }[]»; ==> TooDeep
-«0..64 (» ==> Syntax at byte 0
-type A = byte[«0..64 (» ==> Syntax at byte 78
-type A = byte[«0..65 (» ==> TooDeep"#;
+type A = «0..32 struct { »byte«0..32  a; }[]»; ==> refused TooDeep
+«0..64 (» ==> refused Syntax at byte 0
+type A = byte[«0..64 (» ==> refused Syntax at byte 78
+type A = byte[«0..65 (» ==> refused TooDeep"#;
 
 /// Pickles that are as long as may be, or longer.
 const LONG: &str = r#"«0..4096 type A = byte;» ==> types 4096
-«0..4097 type A = byte;» ==> TooMany
+«0..4097 type A = byte;» ==> refused TooMany
 type A = struct {«0..1024  byte;»}; ==> types 1
-type A = struct {«0..1025  byte;»}; ==> TooMany
+type A = struct {«0..1025  byte;»}; ==> refused TooMany
 type A = struct byte {«0..1024  byte;»}; ==> types 1
-type A = struct byte {«0..1025  byte;»}; ==> TooMany
-type A = union {«0..1025  byte;»}; ==> TooMany
-type A = pinned struct {«0..1025  byte;»}; ==> TooMany"#;
+type A = struct byte {«0..1025  byte;»}; ==> refused TooMany
+type A = union {«0..1025  byte;»}; ==> refused TooMany
+type A = pinned struct {«0..1025  byte;»}; ==> refused TooMany"#;
 
 /// Faults behind many tokens.
-const FAR: &str = r#"«0..30 type A = byte;»type B byte; ==> Syntax at byte 427
-type A = struct {«0..100  byte;» byte a b; }; ==> Syntax at byte 625
-«0..100 type A = byte;»type ==> Syntax at byte 1404
-«0..1500 type A = byte;»type B = ; ==> Syntax at byte 21009
-type A = struct {«0..1000  byte;»}; type B = struct {«0..1000  byte;»} x; ==> Syntax at byte 12039
-type A = byte[1«0..40  + 1» 2]; ==> Syntax at byte 176
-type A = byte[(1)«0..62  + 1» )]; ==> Syntax at byte 266
+const FAR: &str = r#"«0..30 type A = byte;»type B byte; ==> refused Syntax at byte 427
+type A = struct {«0..100  byte;» byte a b; }; ==> refused Syntax at byte 625
+«0..100 type A = byte;»type ==> refused Syntax at byte 1404
+«0..1500 type A = byte;»type B = ; ==> refused Syntax at byte 21009
+type A = struct {«0..1000  byte;»}; type B = struct {«0..1000  byte;»} x; ==> refused Syntax at byte 12039
+type A = byte[1«0..40  + 1» 2]; ==> refused Syntax at byte 176
+type A = byte[(1)«0..62  + 1» )]; ==> refused Syntax at byte 266
 «0..30 type A = byte;»type B = byte[«0..63 (»1«0..63 )»]; ==> types 31
-«0..30 type A = byte;»type B = byte[«0..64 (»1«0..64 )»]; ==> TooDeep
+«0..30 type A = byte;»type B = byte[«0..64 (»1«0..64 )»]; ==> refused TooDeep
 type A = struct {«0..1024  byte;»}; type B = struct {«0..1024  byte;»}; ==> types 2
-type A = struct {«0..1024  byte;»}; type B = struct {«0..1025  byte;»}; ==> TooMany"#;
+type A = struct {«0..1024  byte;»}; type B = struct {«0..1025  byte;»}; ==> refused TooMany"#;
 
 /// Bounds of arrays, with all of their nodes in brackets.
 const BOUNDS: &str = r#"10 - 4 - 3 ==> (Subtract (Subtract 10 4) 3)
@@ -150,12 +150,12 @@ fn answer(alloc: Global, pickle: &[u8]) -> Result<String, Fail> {
     let tokens = lex(alloc, pickle)?;
     match parse(alloc, &tokens) {
         Ok(found) => Ok(format!(in alloc; "types {}", found.declarations.len())?),
-        Err(ParseFault::Syntax(token)) => {
+        Err(fault @ ParseFault::Syntax(token)) => {
             let at = match tokens.span(token) {
                 Some((start, _)) => start,
                 None => pickle.len(),
             };
-            Ok(format!(in alloc; "Syntax at byte {at}")?)
+            Ok(format!(in alloc; "refused {} at byte {at}", fault.name())?)
         }
         Err(fault) => Ok(format!(in alloc; "{fault}")?),
     }

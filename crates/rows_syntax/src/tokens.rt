@@ -17,10 +17,10 @@ const NUMBERS: &str = r#"0x1B ==> 27:i32
 1__ ==> 1:i32
 1_0 ==> 10:i32
 1_U ==> 1:u32
-1U_ ==> BadNumber at byte 0
+1U_ ==> refused BadNumber at byte 0
 0x1_ ==> 1:i32
-0x_1 ==> BadNumber at byte 0
-0b_1 ==> BadNumber at byte 0
+0x_1 ==> refused BadNumber at byte 0
+0b_1 ==> refused BadNumber at byte 0
 0b1 ==> 1:i32
 0B1 ==> 1:i32
 0b1B ==> 1:i8
@@ -28,75 +28,75 @@ const NUMBERS: &str = r#"0x1B ==> 27:i32
 0B ==> 0:i8
 0bU ==> 0:u8
 0uB ==> 0:u8
-0bH ==> BadNumber at byte 0
-0b2 ==> BadNumber at byte 0
-0x ==> BadNumber at byte 0
-0o ==> BadNumber at byte 0
-0o8 ==> BadNumber at byte 0
-0xg ==> BadNumber at byte 0
-00x1 ==> BadNumber at byte 0
+0bH ==> refused BadNumber at byte 0
+0b2 ==> refused BadNumber at byte 0
+0x ==> refused BadNumber at byte 0
+0o ==> refused BadNumber at byte 0
+0o8 ==> refused BadNumber at byte 0
+0xg ==> refused BadNumber at byte 0
+00x1 ==> refused BadNumber at byte 0
 007 ==> 7:i32
 5BU 5UB 5bu ==> 5:u8 5:u8 5:u8
 5H 5L 5N 5ul ==> 5:i16 5:i64 5:i4 5:u64
-a 5UU ==> BadNumber at byte 2
-a 5BB ==> BadNumber at byte 2
-a 5BH ==> BadNumber at byte 2
-a 5BUB ==> BadNumber at byte 2
+a 5UU ==> refused BadNumber at byte 2
+a 5BB ==> refused BadNumber at byte 2
+a 5BH ==> refused BadNumber at byte 2
+a 5BUB ==> refused BadNumber at byte 2
 127B ==> 127:i8
-128B ==> BadNumber at byte 0
+128B ==> refused BadNumber at byte 0
 7N 15UN ==> 7:i4 15:u4
-8N ==> BadNumber at byte 0
-32768H ==> BadNumber at byte 0
+8N ==> refused BadNumber at byte 0
+32768H ==> refused BadNumber at byte 0
 2147483647 ==> 2147483647:i32
 0x80000000 ==> 2147483648:i64
 4294967295U ==> 4294967295:u32
 4294967296U ==> 4294967296:u64
 9223372036854775807 ==> 9223372036854775807:i64
-9223372036854775808 ==> BadNumber at byte 0
-0xffffffffffffffff ==> BadNumber at byte 0
+9223372036854775808 ==> refused BadNumber at byte 0
+0xffffffffffffffff ==> refused BadNumber at byte 0
 0xffffffffffffffffU ==> 18446744073709551615:u64
-18446744073709551616U ==> BadNumber at byte 0
-1`c3`a9 ==> BadByte at byte 1"#;
+18446744073709551616U ==> refused BadNumber at byte 0
+1`c3`a9 ==> refused BadByte at byte 1"#;
 
 /// Characters, texts and attributes.
-const TEXTS: &str = r#"''' ==> BadByte at byte 0
-'' ==> BadByte at byte 0
-'\' ==> BadByte at byte 0
-'ab' ==> BadByte at byte 0
-'`0a' ==> BadByte at byte 0
+const TEXTS: &str = r#"''' ==> refused BadByte at byte 0
+'' ==> refused BadByte at byte 0
+'\' ==> refused BadByte at byte 0
+'ab' ==> refused BadByte at byte 0
+'`0a' ==> refused BadByte at byte 0
 '\'' ==> '39'
 '"' ==> '34'
 'a' '\x4F' '\n' ==> '97' '79' '10'
 "" ==> []
 "'" "\'" ==> [39] [39]
 "a\x41\n\t\\\"~" ==> [97, 65, 10, 9, 92, 34, 126]
- "a`09b" ==> BadByte at byte 3
- "a`0db" ==> BadByte at byte 3
- "a`7f" ==> BadByte at byte 3
- "a`0ab" ==> Unclosed at byte 1
- "a ==> Unclosed at byte 1
- "a\`0a" ==> BadByte at byte 3
- "a\ ==> BadByte at byte 3
- "a\x4 ==> BadByte at byte 3
- "a\x4g" ==> BadByte at byte 3
- "a\q`09`0a ==> BadByte at byte 3
- "a`09\q`0a ==> BadByte at byte 3
- "a`0a`09" ==> Unclosed at byte 1
+ "a`09b" ==> refused BadByte at byte 3
+ "a`0db" ==> refused BadByte at byte 3
+ "a`7f" ==> refused BadByte at byte 3
+ "a`0ab" ==> refused Unclosed at byte 1
+ "a ==> refused Unclosed at byte 1
+ "a\`0a" ==> refused BadByte at byte 3
+ "a\ ==> refused BadByte at byte 3
+ "a\x4 ==> refused BadByte at byte 3
+ "a\x4g" ==> refused BadByte at byte 3
+ "a\q`09`0a ==> refused BadByte at byte 3
+ "a`09\q`0a ==> refused BadByte at byte 3
+ "a`0a`09" ==> refused Unclosed at byte 1
 a'lengthx ==> a 'Length x
 a'lengthif 1 ==> a 'Length If 1:i32
 a'size ==> a 'Size
-a'sizE ==> BadByte at byte 1"#;
+a'sizE ==> refused BadByte at byte 1"#;
 
 /// Blanks and comments.
 const BLANKS: &str = r#" ==>
  `09`0a`0c`0d ==>
-a`0b ==> BadByte at byte 1
-a`00 ==> BadByte at byte 1
+a`0b ==> refused BadByte at byte 1
+a`00 ==> refused BadByte at byte 1
 // c`0dbyte ==>
 // c`0abyte ==> byte
 a// ==> a
-/*/ ==> Unclosed at byte 0
-a /* * ==> Unclosed at byte 2
+/*/ ==> refused Unclosed at byte 0
+a /* * ==> refused Unclosed at byte 2
 /**/ ==>
 /* /* */ ==>
 /* /* */ */ ==> Star Slash
@@ -119,16 +119,16 @@ int<8>>1 ==> Int< 8:i32 ShiftRight 1:i32
 <<=&&&=== ==> ShiftLeft Assign AndAnd And EqualEqual Assign"#;
 
 /// Pickles, and what is too long.
-const PICKLES: &str = r#"type A = byte $; ==> BadByte at byte 14
-type A = byte; /* x ==> Unclosed at byte 15
-type A = byte[256UB]; ==> BadNumber at byte 14
-type A = byte[0b2]; ==> BadNumber at byte 14
-type A = byte['ab']; ==> BadByte at byte 14
-type A = struct { string s : s == "a ==> Unclosed at byte 34
+const PICKLES: &str = r#"type A = byte $; ==> refused BadByte at byte 14
+type A = byte; /* x ==> refused Unclosed at byte 15
+type A = byte[256UB]; ==> refused BadNumber at byte 14
+type A = byte[0b2]; ==> refused BadNumber at byte 14
+type A = byte['ab']; ==> refused BadByte at byte 14
+type A = struct { string s : s == "a ==> refused Unclosed at byte 34
 type A = byte[0b]; ==> Type A Assign byte OpenBracket 0:i8 CloseBracket Semicolon
 «0..1048576  » ==>
-«0..1048577  » ==> TooLong at byte 1048576
-«0..1048577 $» ==> TooLong at byte 1048576"#;
+«0..1048577  » ==> refused TooLong at byte 1048576
+«0..1048577 $» ==> refused TooLong at byte 1048576"#;
 
 /// A token in a few letters: a number as `27:i32`, a name as itself.
 fn show(alloc: Global, kind: &Kind) -> Result<String, AllocError> {

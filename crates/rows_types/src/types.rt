@@ -12,23 +12,23 @@ use std::process::Abort;
 use std::test::Fail;
 
 /// Each kind of fault.
-const FAULTS: &str = r#"type A = struct { B x; }; ==> UnknownType in type 1
-type A = byte; type A = bit; ==> DuplicateType in type 2
-type byte = bit; ==> DuplicateType in type 1
-type A = struct { byte x : y; }; ==> UnknownName in type 1
-type A = struct { byte x; bit x; }; ==> DuplicateField in type 1
-type A = struct { byte x : "a"; }; ==> Mismatch in type 1
-type A = uint<65>; ==> Width in type 1
-type A = struct uint<8> { uint<4> a; }; ==> IntegralWidths in type 1
-type A = union { byte; }; ==> NotHere in type 1
-type A = struct { big byte[] x; }; ==> NotHere in type 1
-type A = union {}; ==> NotHere in type 1
-type A = pinned struct { byte a @ 0#B; }; ==> NotHere in type 1
-type A = struct { byte x; byte y : x + 1#B; }; ==> Mismatch in type 1
-type A = struct { byte x : x'length; }; ==> Mismatch in type 1
-type A = union { byte a; byte b : a == 1; }; ==> UnknownName in type 1
-type A = struct { byte n; }; type D = struct { byte k : n == 1; }; ==> UnknownName in type 2
-type A = offset<uint<8>,0>; ==> Width in type 1"#;
+const FAULTS: &str = r#"type A = struct { B x; }; ==> refused UnknownType in type 1
+type A = byte; type A = bit; ==> refused DuplicateType in type 2
+type byte = bit; ==> refused DuplicateType in type 1
+type A = struct { byte x : y; }; ==> refused UnknownName in type 1
+type A = struct { byte x; bit x; }; ==> refused DuplicateField in type 1
+type A = struct { byte x : "a"; }; ==> refused Mismatch in type 1
+type A = uint<65>; ==> refused Width in type 1
+type A = struct uint<8> { uint<4> a; }; ==> refused IntegralWidths in type 1
+type A = union { byte; }; ==> refused NotHere in type 1
+type A = struct { big byte[] x; }; ==> refused NotHere in type 1
+type A = union {}; ==> refused NotHere in type 1
+type A = pinned struct { byte a @ 0#B; }; ==> refused NotHere in type 1
+type A = struct { byte x; byte y : x + 1#B; }; ==> refused Mismatch in type 1
+type A = struct { byte x : x'length; }; ==> refused Mismatch in type 1
+type A = union { byte a; byte b : a == 1; }; ==> refused UnknownName in type 1
+type A = struct { byte n; }; type D = struct { byte k : n == 1; }; ==> refused UnknownName in type 2
+type A = offset<uint<8>,0>; ==> refused Width in type 1"#;
 
 /// What expressions see, and counts.
 const ACCEPTED: &str =
@@ -46,69 +46,70 @@ type E = struct { byte v : v != 0; }; type A = struct { E[] es; byte z; }; ==> t
 
 /// What expressions don't see, and what they can't do.
 const UNSEEN: &str =
-    r#"type A = union { byte a; struct { byte x : a; } b; }; ==> UnknownName in type 1
-type A = union { byte[a] a; }; ==> UnknownName in type 1
-type A = struct { byte[n] n; }; ==> UnknownName in type 1
-type A = struct { byte n if n; }; ==> UnknownName in type 1
-type A = struct { byte n @ n#B; }; ==> UnknownName in type 1
-type A = struct { struct { byte x; }; byte y : x; }; ==> UnknownName in type 1
-type A = struct { byte n : (n ? 1#B : 1#b) == 8#b; }; ==> Mismatch in type 1
-type A = struct { string s : s == ("a"); }; ==> Mismatch in type 1
-type A = struct { string s : "a" == "a"; }; ==> Mismatch in type 1
-type A = struct { string s : s == s; }; ==> Mismatch in type 1
-type A = byte[("a")]; ==> Mismatch in type 1
-type A = struct { byte n : (n + 1)'size == 8#b; }; ==> Mismatch in type 1
-type A = struct { byte n; byte m : n as offset<uint<8>,B>; }; ==> Mismatch in type 1
-type A = struct { struct { byte x; } s; byte y : s.z; }; ==> UnknownName in type 1"#;
+    r#"type A = union { byte a; struct { byte x : a; } b; }; ==> refused UnknownName in type 1
+type A = union { byte[a] a; }; ==> refused UnknownName in type 1
+type A = struct { byte[n] n; }; ==> refused UnknownName in type 1
+type A = struct { byte n if n; }; ==> refused UnknownName in type 1
+type A = struct { byte n @ n#B; }; ==> refused UnknownName in type 1
+type A = struct { struct { byte x; }; byte y : x; }; ==> refused UnknownName in type 1
+type A = struct { byte n : (n ? 1#B : 1#b) == 8#b; }; ==> refused Mismatch in type 1
+type A = struct { string s : s == ("a"); }; ==> refused Mismatch in type 1
+type A = struct { string s : "a" == "a"; }; ==> refused Mismatch in type 1
+type A = struct { string s : s == s; }; ==> refused Mismatch in type 1
+type A = byte[("a")]; ==> refused Mismatch in type 1
+type A = struct { byte n : (n + 1)'size == 8#b; }; ==> refused Mismatch in type 1
+type A = struct { byte n; byte m : n as offset<uint<8>,B>; }; ==> refused Mismatch in type 1
+type A = struct { struct { byte x; } s; byte y : s.z; }; ==> refused UnknownName in type 1"#;
 
 /// Forms that are left out.
-const LEFT_OUT: &str = r#"type A = struct { A[] x; }; ==> UnknownType in type 1
-type A = struct uint<8> {}; ==> IntegralWidths in type 1
-type A = struct uint<8> { little uint<8> a; }; ==> NotHere in type 1
-type A = struct uint<8> { byte[1] a; }; ==> NotHere in type 1
-type A = struct uint<8> { byte a if 1; }; ==> NotHere in type 1
-type A = struct string_ { byte a; }; ==> UnknownType in type 1
-type S = struct { byte a; }; type A = struct { big S x; }; ==> NotHere in type 2
-type A = union { byte a @ 0#B; }; ==> NotHere in type 1
-type A = struct { byte[2] a; byte[2] b : a == b; }; ==> Mismatch in type 1
-type A = struct { struct { byte x; } a; byte b : a; }; ==> Mismatch in type 1
-type A = struct { struct uint<8> { byte x; } a; byte b : a == 1; }; ==> Mismatch in type 1
-type A = struct { string s : s[0] == 1; }; ==> Mismatch in type 1
-type A = struct { string s : s + "a" == "ab"; }; ==> Mismatch in type 1
-type A = struct { byte x : 8#B / 2 == 4#B; }; ==> Mismatch in type 1
-type A = struct { byte x : x @ 1; }; ==> Mismatch in type 1"#;
+const LEFT_OUT: &str = r#"type A = struct { A[] x; }; ==> refused UnknownType in type 1
+type A = struct uint<8> {}; ==> refused IntegralWidths in type 1
+type A = struct uint<8> { little uint<8> a; }; ==> refused NotHere in type 1
+type A = struct uint<8> { byte[1] a; }; ==> refused NotHere in type 1
+type A = struct uint<8> { byte a if 1; }; ==> refused NotHere in type 1
+type A = struct string_ { byte a; }; ==> refused UnknownType in type 1
+type S = struct { byte a; }; type A = struct { big S x; }; ==> refused NotHere in type 2
+type A = union { byte a @ 0#B; }; ==> refused NotHere in type 1
+type A = struct { byte[2] a; byte[2] b : a == b; }; ==> refused Mismatch in type 1
+type A = struct { struct { byte x; } a; byte b : a; }; ==> refused Mismatch in type 1
+type A = struct { struct uint<8> { byte x; } a; byte b : a == 1; }; ==> refused Mismatch in type 1
+type A = struct { string s : s[0] == 1; }; ==> refused Mismatch in type 1
+type A = struct { string s : s + "a" == "ab"; }; ==> refused Mismatch in type 1
+type A = struct { byte x : 8#B / 2 == 4#B; }; ==> refused Mismatch in type 1
+type A = struct { byte x : x @ 1; }; ==> refused Mismatch in type 1"#;
 
 /// Types of types. Opened, the last of the structs would have 2 to the power of 63 fields.
 const CHAINS: &str = r#"type T1 = byte[];«1..63 type T^ = T~[];» ==> types 63
-type T1 = byte[];«1..64 type T^ = T~[];» ==> TooDeep in type 64
+type T1 = byte[];«1..64 type T^ = T~[];» ==> refused TooDeep in type 64
 type T1 = byte[];«1..200 type T^ = T~;» ==> types 200
 type T1 = struct { byte a; byte b; };«1..63 type T^ = struct { T~ a; T~ b; };» ==> types 63"#;
 
 /// Types behind many others, and of many fields.
-const MANY: &str = r#"«0..70 type T~ = byte;»type A = uint<65>; ==> Width in type 71
-«0..100 type T~ = struct { byte x; };»type A = struct { byte x : y; }; ==> UnknownName in type 101
-«0..100 type T~ = byte;»type T99 = bit; ==> DuplicateType in type 101
-«0..4095 type T~ = byte;»type A = B; ==> UnknownType in type 4096
+const MANY: &str = r#"«0..70 type T~ = byte;»type A = uint<65>; ==> refused Width in type 71
+«0..100 type T~ = struct { byte x; };»type A = struct { byte x : y; }; ==> refused UnknownName in type 101
+«0..100 type T~ = byte;»type T99 = bit; ==> refused DuplicateType in type 101
+«0..4095 type T~ = byte;»type A = B; ==> refused UnknownType in type 4096
 type U = union {«0..1024  byte a~;»}; ==> types 1
-type U = union {«0..1023  byte a~;» byte a7; }; ==> DuplicateField in type 1
+type U = union {«0..1023  byte a~;» byte a7; }; ==> refused DuplicateField in type 1
 type A = struct {«0..40 byte f~;» byte x : f0 == f31 && f32 == f39; }; ==> types 1
-type A = struct {«0..40 byte f~;» byte x : f40; }; ==> UnknownName in type 1
+type A = struct {«0..40 byte f~;» byte x : f40; }; ==> refused UnknownName in type 1
 type A = struct {«0..40 byte f~;» struct { offset<byte,B> f3; byte x : f3 == 1#B; } s; byte y : f3 == 1; }; ==> types 1
 type A = struct {«0..40 byte f~;» struct { offset<byte,B> f39; byte x : f39 == 1#B; } s; byte y : f39 == 1; }; ==> types 1
-type A = struct {«0..40 byte f~;» struct { offset<byte,B> f3; byte x : f3 == 1; } s; }; ==> Mismatch in type 1
-type A = struct {«0..40 byte f~;» struct { offset<byte,B> f39; } s; byte y : f39 == 1#B; }; ==> Mismatch in type 1
-type A = struct {«0..40 byte f~;» struct { byte g; } s; byte y : g == 1; }; ==> UnknownName in type 1
+type A = struct {«0..40 byte f~;» struct { offset<byte,B> f3; byte x : f3 == 1; } s; }; ==> refused Mismatch in type 1
+type A = struct {«0..40 byte f~;» struct { offset<byte,B> f39; } s; byte y : f39 == 1#B; }; ==> refused Mismatch in type 1
+type A = struct {«0..40 byte f~;» struct { byte g; } s; byte y : g == 1; }; ==> refused UnknownName in type 1
 type A = struct {«0..40 byte f~;» struct {«0..400 byte g~;» byte x : g399 == f39; } s; byte y : f39 == 1; }; ==> types 1
-type A = struct {«0..400 byte f~;»}; type B = struct {«0..40 byte g~;» byte x : f399; }; ==> UnknownName in type 2"#;
+type A = struct {«0..400 byte f~;»}; type B = struct {«0..40 byte g~;» byte x : f399; }; ==> refused UnknownName in type 2"#;
 
 /// Names that are scattered to one tree, since 31 times A and a is 31 times B and B.
-const ALIKE: &str = r#"type Aa = byte; type BB = bit; type Aa = byte; ==> DuplicateType in type 3
-type Aa = byte; type A = struct { BB x; }; ==> UnknownType in type 2
+const ALIKE: &str =
+    r#"type Aa = byte; type BB = bit; type Aa = byte; ==> refused DuplicateType in type 3
+type Aa = byte; type A = struct { BB x; }; ==> refused UnknownType in type 2
 type Aa = byte; type BB = offset<byte,B>; type A = struct { Aa a; BB b : b == 1#B && a == 1; }; ==> types 3
 type A = struct {«0..40 byte f~;» byte Aa; offset<byte,B> BB : BB == 1#B && Aa == 1; }; ==> types 1
-type A = struct {«0..40 byte f~;» byte Aa; byte x : BB; }; ==> UnknownName in type 1
-type A = struct {«0..40 byte f~;» byte Aa; struct { offset<byte,B> BB : BB == 1#B && Aa == 1; } s; byte x : BB == 1; }; ==> UnknownName in type 1
-type A = struct {«0..40 byte f~;» byte AaAa; byte AaBB; byte BBAa; byte AaBB; }; ==> DuplicateField in type 1"#;
+type A = struct {«0..40 byte f~;» byte Aa; byte x : BB; }; ==> refused UnknownName in type 1
+type A = struct {«0..40 byte f~;» byte Aa; struct { offset<byte,B> BB : BB == 1#B && Aa == 1; } s; byte x : BB == 1; }; ==> refused UnknownName in type 1
+type A = struct {«0..40 byte f~;» byte AaAa; byte AaBB; byte BBAa; byte AaBB; }; ==> refused DuplicateField in type 1"#;
 
 /// Pickles, with the name of a type and a number of bits, and the most steps and slots.
 const BOUNDS: &str =
@@ -136,7 +137,7 @@ fn answer(alloc: Global, text: &[u8]) -> Result<String, Fail> {
     let pickle = parse(alloc, &tokens)?;
     match Table::build(alloc, &pickle) {
         Ok(table) => Ok(format!(in alloc; "types {}", table.len())?),
-        Err(fault) => Ok(format!(in alloc; "{:?} in type {}", fault.kind, fault.decl)?),
+        Err(fault) => Ok(format!(in alloc; "{fault}")?),
     }
 }
 
@@ -204,10 +205,22 @@ fn finds_fields(rt: &impl Abort, alloc: Global, kind: &str, count: u8) -> Result
         let select = format!(in alloc; "}}; type B = struct {{ A a; byte b : a.f{i} == 0; }};")?;
         expect_behind(rt, alloc, &mut fields, &select, "types 2")?;
         let again = format!(in alloc; "bit f{i}; }}; ")?;
-        expect_behind(rt, alloc, &mut fields, &again, "DuplicateField in type 1")?;
+        expect_behind(
+            rt,
+            alloc,
+            &mut fields,
+            &again,
+            "refused DuplicateField in type 1",
+        )?;
     }
     let select = format!(in alloc; "}}; type B = struct {{ A a; byte b : a.f{count} == 0; }};")?;
-    expect_behind(rt, alloc, &mut fields, &select, "UnknownName in type 2")
+    expect_behind(
+        rt,
+        alloc,
+        &mut fields,
+        &select,
+        "refused UnknownName in type 2",
+    )
 }
 
 #[test]

@@ -1,14 +1,23 @@
-ghost use Rattle.std.specs.Prelude.{OnOk, OnErr};
+ghost use Rattle.std.specs.Prelude.{◌≡◌, codes, OnOk, OnErr};
 ghost use Rattle.std.specs.Io.KnownBytes.{Appends};
 ghost use Rattle.value_text.specs.Written.{AppendsPart};
 
 use std::io::Write;
 use thiserror::Error;
 
-/// The writer gave an error, or took no byte of a text that has some left.
+/// The writer gave an error, or took no byte of a text that has some left. It displays the line that tells it.
 #[derive(Clone, Copy, Debug, Drop, PartialEq, Eq, Error)]
-#[error("fault Write")]
+#[error("fault {}", self.name())]
 pub struct WriteFault;
+
+impl WriteFault {
+    /// The name by which its line tells it.
+    pub fn name(self) -> &'static str
+        ensures { result.now ≡ codes "Write" }
+    {
+        "Write"
+    }
+}
 
 /// Writes the bytes of `text`, all of them or, with a fault, some first of them. What the writer took is never offered
 /// to it again. An error of the writer isn't tried again.

@@ -1,37 +1,58 @@
 //! Why bytes could not be cut into tokens.
 
 ghost use Rattle.std.specs.Prelude.{◌≡◌};
+ghost use Rattle.pickle_syntax.specs.FaultNames.{lex_kind};
 ghost use Rattle.pickle_syntax.specs.declared.lexer.fault.LexFaultKind.TheVariants.{Memory};
 
 use std::alloc::{AllocError, AllocFailed};
+use std::fmt::{self, Formatter};
 use thiserror::Error;
 
-/// What is wrong.
+/// What is wrong. It displays its name.
 #[derive(Clone, Copy, Debug, PartialEq, Eq, Error)]
+#[error("{}", self.name())]
 pub enum LexFaultKind {
     /// A byte begins no token, or may not stand in its text or character.
-    #[error("BadByte")]
     BadByte,
     /// A comment or a text has no end.
-    #[error("Unclosed")]
     Unclosed,
     /// A number has no type that holds it, or runs into a letter, a digit or `_`.
-    #[error("BadNumber")]
     BadNumber,
     /// There are more than 1,048,576 bytes.
-    #[error("TooLong")]
     TooLong,
     /// Memory ran out.
-    #[error("Memory")]
     Memory,
 }
 
-/// What is wrong, and the byte at which it is, counted from 0; 0 where memory ran out.
+impl LexFaultKind {
+    /// The name by which lines tell it: that of its variant.
+    pub fn name(self) -> &'static str
+        ensures { result.now ≡ lex_kind self }
+    {
+        match self {
+            LexFaultKind::BadByte => "BadByte",
+            LexFaultKind::Unclosed => "Unclosed",
+            LexFaultKind::BadNumber => "BadNumber",
+            LexFaultKind::TooLong => "TooLong",
+            LexFaultKind::Memory => "Memory",
+        }
+    }
+}
+
+/// What is wrong, and the byte at which it is, counted from 0; 0 where memory ran out. It displays the line that tells it.
 #[derive(Clone, Copy, Debug, PartialEq, Eq, Error)]
-#[error("{kind} at byte {at}")]
+#[error(fmt = show)]
 pub struct LexFault {
     pub kind: LexFaultKind,
     pub at: usize,
+}
+
+// Shows the line of a fault: want of memory is at no byte.
+fn show<W: fmt::Write>(kind: &LexFaultKind, at: &usize, f: &mut Formatter<W>) -> fmt::Result {
+    match kind {
+        LexFaultKind::Memory => write!(f, "fault {kind}"),
+        _ => write!(f, "refused {kind} at byte {at}"),
+    }
 }
 
 impl From<AllocError> for LexFault {

@@ -1,26 +1,40 @@
 //! Why tokens are no pickle.
 
 ghost use Rattle.std.specs.Prelude.{◌≡◌};
+ghost use Rattle.pickle_syntax.specs.FaultNames.{parse_kind};
 ghost use Rattle.pickle_syntax.specs.declared.parser.fault.Stop.TheVariants.{Memory};
 
 use std::alloc::{AllocError, AllocFailed};
 use thiserror::Error;
 
-/// Why tokens were refused.
+/// Why tokens were refused. It displays the line that tells it, with a token in the place of its byte.
 #[derive(Clone, Copy, PartialEq, Eq, Debug, Error)]
+#[error("refused {}", self.name())]
 pub enum ParseFault {
     /// No pickle goes on with this token, counted from 0; where it is their number, the tokens end too early.
-    #[error("Syntax at token {0}")]
+    #[error("refused {} at token {}", self.name(), .0)]
     Syntax(usize),
     /// An expression, or the types inside a type, are nested more than 64 deep.
-    #[error("TooDeep")]
     TooDeep,
     /// More than 1,024 fields in a struct or union, or more than 4,096 declarations.
-    #[error("TooMany")]
     TooMany,
     /// There was no memory for the tree.
-    #[error("Memory")]
+    #[error("fault {}", self.name())]
     Memory,
+}
+
+impl ParseFault {
+    /// The name by which lines tell it: that of its variant.
+    pub fn name(self) -> &'static str
+        ensures { result.now ≡ parse_kind self }
+    {
+        match self {
+            ParseFault::Syntax(_) => "Syntax",
+            ParseFault::TooDeep => "TooDeep",
+            ParseFault::TooMany => "TooMany",
+            ParseFault::Memory => "Memory",
+        }
+    }
 }
 
 /// Why the reading stopped.

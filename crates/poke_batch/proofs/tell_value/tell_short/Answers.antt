@@ -1,4 +1,4 @@
-use Rattle.std.proofs.Common.{◌≤◌, ◌∙◌, codes, length, subst, sym}
+use Rattle.std.proofs.Common.{◌≤◌, ◌∙◌, codes, length, refl, subst, sym}
 use Rattle.pickle_map.specs.Refs.{value_shown}
 use Rattle.poke_batch.specs.declared.status.Status.TheVariants.{Fault, Outside}
 use Rattle.poke_batch.specs.Lines.{fault_line, fault_at_line}
@@ -19,8 +19,13 @@ returns-in-Ok g c =
 pub returns-in-Err-TooLong : goal.returns-in-Err-TooLong
 returns-in-Err-TooLong g c =
     let text = printed c.args.ask.now.mode (value_shown c.args.value) in
+    let named = c.as_bytes.ensures.value ∙ c.name.ensures.too_long refl in
+    let told = rw c.from.ensures at rw named at c.fault_at.ensures in
     line_says _ Fault (fault_at_line (codes "Output") c.args.ask.now.start) _ _ _ _
-    (long_saying c.args.most c.args.ask.now.start text (c.in-Err-TooLong.ensures.err c.in-Err-TooLong.field-0-is)) (rw c.from.ensures at c.fault_at.ensures)
+    (long_saying c.args.most c.args.ask.now.start text (c.in-Err-TooLong.ensures.err c.in-Err-TooLong.field-0-is)) told
 
 pub returns-in-Err-Memory : goal.returns-in-Err-Memory
-returns-in-Err-Memory g c = line_says _ Outside (fault_line (codes "Memory")) _ _ _ _ no_memory_for_it c.fail.ensures
+returns-in-Err-Memory g c =
+    let named = c.as_bytes-in-Err-Memory.ensures.value ∙ c.name-in-Err-Memory.ensures.memory refl in
+    let told = rw named at c.fail.ensures in
+    line_says _ Outside (fault_line (codes "Memory")) _ _ _ _ no_memory_for_it told
