@@ -28,5 +28,7 @@ pub mod Paths
 pub mod Runs
 pub mod RunsUnder
 pub mod Accepted
+pub mod JsonValue
 pub mod Json
+pub mod SmallParts
 pub mod Laws
