@@ -12,6 +12,9 @@ pub mod LineTexts
 pub mod JsonTexts
 pub mod JsonWords
 pub mod JsonValues
+pub mod SmallTypes
+pub mod SmallValues
+pub mod RunLaws
 pub mod Paths
 pub mod LeafTexts
 pub mod LeafLines

@@ -32,3 +32,4 @@ pub mod JsonValue
 pub mod Json
 pub mod SmallParts
 pub mod Laws
+pub mod RunLaws

@@ -22,6 +22,7 @@ pub mod path;
 pub mod pickle;
 pub mod print;
 pub mod run;
+pub mod run_laws;
 pub mod status;
 pub mod tell;
 mod tell_value;
