@@ -26,6 +26,7 @@ pub mod Mappings
 pub mod UnderTerms
 pub mod PathTexts
 pub mod PartsFound
+pub mod PartsKept
 mod LineRows
 mod Refused
 mod ValueTextRows
