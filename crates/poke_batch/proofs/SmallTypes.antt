@@ -1,12 +1,10 @@
 -- The types of a pickle have widths up to 64, units below 2^64, few fields, and names of bytes.
-use Rattle.std.proofs.Common.{◌≡◌, ℕ, suc, ◌+◌, ◌^◌, ◌<◌, ◌≤◌, inl, inr, length, Bool, true, false, List, [], ◌∷◌, ◌++◌, Option, Some, None, Ok, refl, sym, ◌∙◌, subst, arith}
+use Rattle.std.proofs.Common.{◌≡◌, ℕ, ◌+◌, ◌^◌, ◌<◌, ◌≤◌, inl, inr, length, true, List, [], ◌∷◌, ◌++◌, Option, Some, None, refl, sym, ◌∙◌, subst, arith}
 use Rattle.std.specs.Str.{bytes_eq}
 use Rattle.std.proofs.lemmas.Bool.{cases_Bool}
 use Rattle.pickle_syntax.specs.declared.token.Sign.TheVariants as sign
 use Rattle.pickle_syntax.specs.declared.token.Word.TheVariants as word
 use Rattle.pickle_syntax.specs.declared.lexer.bytes.Class.TheVariants as class
-use Rattle.pickle_syntax.specs.declared.tree.ByteOrder.{ByteOrder}
-use Rattle.pickle_syntax.specs.declared.tree.ByteOrder.TheVariants as order
 use Rattle.pickle_syntax.specs.declared.tree.Unit.{Unit as PokeUnit}
 use Rattle.pickle_syntax.specs.Bytes.{is_in}
 use Rattle.pickle_syntax.specs.Tokens.{Token, Reserved, Named, Opens, Numeral, Character, Text, AttributeOf, Mark}
@@ -14,11 +12,11 @@ use Rattle.pickle_syntax.specs.Tree.{Tree, TreeReference, Int, Uint, Called, Fie
 use Rattle.pickle_syntax.specs.Tree as tree
 use Rattle.pickle_syntax.specs.Show.{show_optional, show_part, show_name, show_order, show_pinned, show_parts, show_reference, show_form, show_fields, show_declaration, show_pickle}
 use Rattle.pickle_syntax.specs.Limits.{standard, field_count, IsFormWithin, AreFieldsWithin, AreDeclarationsWithin}
-use Rattle.pickle_syntax.specs.Lexing.{lexed, token_list}
-use Rattle.pickle_syntax.specs.Pieces.{AllIn, IsPiece, Piece, pieces, tokens_in, IsLexed}
+use Rattle.pickle_syntax.specs.Lexing.{token_list}
+use Rattle.pickle_syntax.specs.Pieces.{AllIn, IsPiece, Piece, pieces, tokens_in}
 use Rattle.pickle_syntax.proofs.LexedLaws.{tokens_are}
 use Rattle.pickle_types.specs.declared.check.places.Place.{Place}
-use Rattle.pickle_types.specs.Types.{Term, PokeType, IntegerOf, OffsetOf, StringOf, ArrayOf, StructOf, IntegralOf, UnionOf, Fields, NoFields, FieldThen, Parts, NoParts, PartThen}
+use Rattle.pickle_types.specs.Types.{PokeType, IntegerOf, OffsetOf, StringOf, ArrayOf, StructOf, IntegralOf, UnionOf, Fields, NoFields, FieldThen, Parts, NoParts, PartThen}
 use Rattle.pickle_types.specs.Scopes.{Visible}
 use Rattle.pickle_types.specs.Names.{Names, find_type, predeclared}
 use Rattle.pickle_types.specs.Meaning.{parts_of}
