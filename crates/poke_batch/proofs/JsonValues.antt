@@ -78,9 +78,9 @@ offset_is : (magnitude : ℤ) (unit : ℕ) → unsigned_abs magnitude < 2 ^ 64 �
 unfolding json_offset json_string
 offset_is magnitude unit m u =
     let first : ReadsEntry (codes "\"magnitude\":" ++ signed_decimal magnitude) (codes "magnitude") (whole_number magnitude) =
-        entry_is (string_is (codes "magnitude") magnitude_is) (number_value (number_is magnitude m)) in
+    entry_is (string_is (codes "magnitude") magnitude_is) (number_value (number_is magnitude m)) in
     let second : ReadsEntry (codes "\"unit\":" ++ decimal unit) (codes "unit") (whole_number (pos unit)) =
-        entry_is (string_is (codes "unit") unit_is) (number_value (natural_is unit u)) in
+    entry_is (string_is (codes "unit") unit_is) (number_value (natural_is unit u)) in
     subst (λ t. ReadsValue t (offset_json magnitude unit)) (ap (λ s. codes "{\"magnitude\":" ++ s) (append_assoc (signed_decimal magnitude) (codes ",\"unit\":" ++ decimal unit) (codes "}")))
     (object (one_entry first (last_entry second)))
   where

@@ -12,6 +12,7 @@ pub mod LineTexts
 pub mod JsonTexts
 pub mod JsonWords
 pub mod JsonValues
+pub mod JsonReading
 pub mod SmallTypes
 pub mod SmallValues
 pub mod RunLaws

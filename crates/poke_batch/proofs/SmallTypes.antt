@@ -127,16 +127,19 @@ mutual
   fields_names tree.NoFields h = tt
   fields_names (tree.FieldThen f p rest) h =
       let field = front_of (show_order p.order ++ show_form f ++ show_parts p) (show_fields rest) h in
-      let form = front_of (show_order p.order ++ show_form f) (show_parts p) field in
-      (parts_name p (back_of (show_order p.order ++ show_form f) (show_parts p) field), form_names f (back_of (show_order p.order) (show_form f) form),
-      fields_names rest (back_of (show_order p.order ++ show_form f ++ show_parts p) (show_fields rest) h))
+      let form = front_of (show_order p.order ++ show_form f) (show_parts p) field in (
+        parts_name p (back_of (show_order p.order ++ show_form f) (show_parts p) field),
+        form_names f (back_of (show_order p.order) (show_form f) form),
+        fields_names rest (back_of (show_order p.order ++ show_form f ++ show_parts p) (show_fields rest) h),
+      )
 
 pickle_names : (ds : List DeclarationTree) → AreOfBytes (show_pickle ds) → DeclareNames ds
 pickle_names [] h = tt
 pickle_names (d ∷ ds) h =
-    let declaration = front_of (show_declaration d) (show_pickle ds) h in
-    (form_names d.form (front_of (Reserved word.«Type» ∷ Named d.name ∷ Mark sign.Assign ∷ show_form d.form) (Mark sign.Semicolon ∷ []) declaration).1.1.1,
-    pickle_names ds (back_of (show_declaration d) (show_pickle ds) h))
+    let declaration = front_of (show_declaration d) (show_pickle ds) h in (
+      form_names d.form (front_of (Reserved word.«Type» ∷ Named d.name ∷ Mark sign.Assign ∷ show_form d.form) (Mark sign.Semicolon ∷ []) declaration).1.1.1,
+      pickle_names ds (back_of (show_declaration d) (show_pickle ds) h),
+    )
 
 -- ---- the names of tokens
 

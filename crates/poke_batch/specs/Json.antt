@@ -1,5 +1,5 @@
 -- The grammar of JSON texts (RFC 8259) over ASCII, and the value that each reads as: other characters stand in strings, as escapes.
-use Rattle.std.specs.Prelude.{◌≡◌, ◌≢◌, ◌≤◌, ◌<◌, ◌⊎◌, ◌+◌, ◌*◌, ℕ, ℤ, pos, neg_ℤ, Bool, true, false, length, List, [], ◌∷◌, ◌++◌, codes}
+use Rattle.std.specs.Prelude.{◌≢◌, ◌≤◌, ◌<◌, ◌+◌, ◌*◌, ℕ, ℤ, pos, neg_ℤ, Bool, true, false, length, List, [], ◌∷◌, ◌++◌, codes}
 use Rattle.std.specs.Str.Parse.{digits_value}
 use Rattle.poke_batch.specs.JsonValue.{Json, JsonFalse, JsonTrue, JsonNull, JsonNumber, JsonString, JsonList, JsonObject, Elements, NoElements, ElementThen, Entries, NoEntries, EntryThen}
 
@@ -46,10 +46,14 @@ abbrev pub signed : (negative : Bool) → ℕ → ℤ
 signed false number = pos number
 signed true number = neg_ℤ (pos number)
 
+pub data IsPowerLetter : ℕ → Type 0 where
+  small_letter : IsPowerLetter 101
+  capital_letter : IsPowerLetter 69
+
 -- `e` or `E`, a sign or none, and digits; without them the power is 0
 pub data IsExponent : List ℕ → ℤ → Type 0 where
   no_exponent : IsExponent [] (pos 0)
-  exponent : {letter digit : ℕ} {sign digits : List ℕ} {negative : Bool} → (letter ≡ 101) ⊎ (letter ≡ 69) → IsExponentSign sign negative → IsDigit digit → IsDigits digits
+  exponent : {letter digit : ℕ} {sign digits : List ℕ} {negative : Bool} → IsPowerLetter letter → IsExponentSign sign negative → IsDigit digit → IsDigits digits
       → IsExponent (letter ∷ (sign ++ digit ∷ digits)) (signed negative (digits_value 10 (digit ∷ digits)))
 
 pub data ReadsNumber : List ℕ → Json → Type 0 where

@@ -2,7 +2,7 @@
 use Rattle.std.specs.Prelude.{◌≡◌, ℕ, false, List, [], ◌++◌}
 use Rattle.pickle_map.specs.Values.{Value, label_of, members_of}
 use Rattle.poke_batch.specs.Json.{Reads, IsJson}
-use Rattle.poke_batch.specs.JsonValue.{json_of}
+use Rattle.poke_batch.specs.JsonValue.{Json, json_of}
 use Rattle.poke_batch.specs.JsonText.{json_line}
 use Rattle.poke_batch.specs.PathText.{Leads}
 use Rattle.poke_batch.specs.SmallParts.{HasSmallParts}
@@ -15,6 +15,10 @@ PrintsJson = (value : Value) → HasSmallParts value → IsJson (json_line value
 -- and it reads as the value that was printed
 abbrev pub JsonReadsBack : Type 0
 JsonReadsBack = (value : Value) → HasSmallParts value → Reads (json_line value) (json_of value)
+
+-- a text reads as one value only
+abbrev pub HasOneReading : Type 0
+HasOneReading = (text : List ℕ) (a b : Json) → Reads text a → Reads text b → a ≡ b
 
 -- lines of parts that have no parts, each under the path of steps that lead to its part
 pub data LinesOf (value : Value) : List ℕ → Type 0 where

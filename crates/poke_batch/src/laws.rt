@@ -1,6 +1,6 @@
 //! The laws of the texts of values. These functions do nothing: the contract of each is a law.
 
-ghost use Rattle.poke_batch.specs.Laws.{PrintsJson, JsonReadsBack, LinesNameParts};
+ghost use Rattle.poke_batch.specs.Laws.{PrintsJson, JsonReadsBack, HasOneReading, LinesNameParts};
 
 /// What is printed in JSON, of a value whose numbers are below 2^64 and whose bytes are below 256, is a text of the grammar of RFC 8259.
 pub fn prints_json()
@@ -11,6 +11,11 @@ pub fn prints_json()
 /// offset, a string of a character for each byte, a list for an array, and an object of the present fields for a struct or union.
 pub fn json_reads_back()
     ensures law { JsonReadsBack }
+{}
+
+/// A text reads as one JSON value only.
+pub fn json_has_one_reading()
+    ensures law { HasOneReading }
 {}
 
 /// What is printed of a value over lines are lines of parts that have no parts, each behind a path that leads to its part.
