@@ -9,6 +9,7 @@ pub mod TypesText
 pub mod Runs
 pub mod RunsUnder
 pub mod Accepted
+pub mod RunLaws
 pub use Rattle.value_text.specs.HexDigits
 pub use Rattle.value_text.specs.ValueText
 pub use Rattle.value_text.specs.TreeText
@@ -31,3 +32,5 @@ pub use Rattle.command_words.specs.OffsetWord
 pub use Rattle.command_words.specs.WordText
 pub use Rattle.command_words.specs.Words
 pub use Rattle.command_words.specs.Paths
+pub use Rattle.value_text.specs.JsonValue
+pub use Rattle.value_text.specs.SmallParts

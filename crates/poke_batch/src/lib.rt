@@ -15,6 +15,7 @@ mod lines;
 pub mod part;
 pub mod pickle;
 pub mod run;
+pub mod run_laws;
 pub mod status;
 pub mod tell;
 mod tell_value;

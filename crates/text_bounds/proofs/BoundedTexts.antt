@@ -1,33 +1,21 @@
 -- The bounds on texts.
-use Rattle.std.proofs.Common.{◌≡◌, ℕ, ◌+◌, ◌*◌, ◌≤◌, List, [], ◌++◌, Option, length, codes, Ok, ap, subst, sym, inl, inr, arith, length-append}
-use Rattle.std.specs.Io.KnownBytes.{Appends}
+use Rattle.std.proofs.Common.{ℕ, ◌*◌, ◌≤◌, List, Option, None, length, Ok, refl, ap, inl, inr, arith, length-append}
 use Rattle.bit_space.specs.SpaceView.{SpaceView}
-use Rattle.pickle_types.specs.Types.{PokeType}
-use Rattle.pickle_map.specs.Fits.{Fits}
-use Rattle.pickle_map.specs.Values.{Value, Levels}
 use Rattle.pickle_map.proofs.OnBits.{outcomes_fit}
 use Rattle.poke_batch.specs.declared.accept.Refusal.TheVariants as refusal
 use Rattle.command_words.specs.declared.ask.Ask.{Ask}
-use Rattle.value_text.specs.declared.mode.Mode.{Mode}
 use Rattle.value_text.specs.declared.mode.Mode.TheVariants.{Flat, Tree, Json, Lines}
 use Rattle.poke_batch.specs.declared.status.Status.{Status}
 use Rattle.text_bounds.specs.OutputRoom.{GrowsWithin, OutputIsBounded}
-use Rattle.poke_batch.specs.Printed.{printed}
+use Rattle.value_text.specs.Printed.{printed}
 use Rattle.poke_batch.specs.Runs.{MapsAs, value, stops, device, unknown, refused_map, no_memory}
 use Rattle.text_bounds.specs.TextLaws.{TextsAreBounded, MeantTextsAreBounded, AnyModeIsBounded, OutputsAreBounded}
-use Rattle.text_bounds.specs.TextRoom.{most_text, most_text_in_any}
+use Rattle.text_bounds.specs.TextRoom.{most_text_in_any}
 use Rattle.poke_batch.specs.Told.{Saying, IsSaid, IsWritten}
-use Rattle.poke_batch.specs.ValueText.{value_text}
-use Rattle.poke_batch.specs.JsonText.{json_text}
-use Rattle.text_bounds.proofs.Sizes.{flat_short, tree_short, json_short, all_lines_short}
-use Rattle.text_bounds.proofs.SizesFit.{value_within}
+use Rattle.text_bounds.proofs.BoundedParts.{part_text_bounded}
 
 pub text_bounded : TextsAreBounded
-unfolding most_text
-text_bounded Flat m ty levels s v h = omega (arith, flat_short v, (value_within Flat m ty levels s v h).text, length-append (value_text v) (codes "\n"))
-text_bounded Tree m ty levels s v h = omega (arith, tree_short 0 [] v, (value_within Tree m ty levels s v h).text)
-text_bounded Lines m ty levels s v h = omega (arith, all_lines_short v, (value_within Lines m ty levels s v h).text)
-text_bounded Json m ty levels s v h = omega (arith, json_short v, (value_within Json m ty levels s v h).text, length-append (json_text v) (codes "\n"))
+text_bounded mode m ty levels s v h = part_text_bounded mode m ty levels s v None v h refl
 
 pub meant_text_bounded : MeantTextsAreBounded
 meant_text_bounded mode bytes ty order levels s v k j means =
@@ -40,7 +28,7 @@ any_mode_bounded Tree ty m = omega arith
 any_mode_bounded Json ty m = omega arith
 any_mode_bounded Lines ty m = omega arith
 
-written_within : (text : List ℕ) (status : Status) (out out' err err' : Option (List ℕ)) (most : ℕ) → length text ≤ most → IsWritten text status out out' err err' → GrowsWithin out out' most
+pub written_within : (text : List ℕ) (status : Status) (out out' err err' : Option (List ℕ)) (most : ℕ) → length text ≤ most → IsWritten text status out out' err err' → GrowsWithin out out' most
 written_within text status out out' err err' most le (inl h) = record { taken = text; appends = h.1; few = le }
 written_within text status out out' err err' most le (inr h) =
     let part = h.1 in

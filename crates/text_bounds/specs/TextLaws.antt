@@ -1,5 +1,5 @@
 -- The laws of the bounds on texts.
-use Rattle.std.specs.Prelude.{◌≤◌, ℕ, List, Option, Ok, length}
+use Rattle.std.specs.Prelude.{◌≡◌, ◌≤◌, ℕ, List, Option, Some, Ok, length}
 use Rattle.bit_space.specs.declared.order.Order.{Order}
 use Rattle.bit_space.specs.Bits.{bits_of}
 use Rattle.bit_space.specs.SpaceView.{SpaceView}
@@ -9,16 +9,25 @@ use Rattle.pickle_map.specs.Means.{Means}
 use Rattle.pickle_map.specs.Values.{Value, Levels}
 use Rattle.command_words.specs.declared.ask.Ask.{Ask}
 use Rattle.value_text.specs.declared.mode.Mode.{Mode}
+use Rattle.command_words.specs.declared.path.Path.{Path}
 use Rattle.poke_batch.specs.declared.status.Status.{Status}
+use Rattle.command_words.specs.declared.terms.Terms.{Terms}
 use Rattle.text_bounds.specs.OutputRoom.{OutputIsBounded}
-use Rattle.poke_batch.specs.Printed.{printed}
+use Rattle.value_text.specs.Printed.{printed}
+use Rattle.command_words.specs.Paths.{part_at}
 use Rattle.poke_batch.specs.Runs.{MapsAs}
+use Rattle.poke_batch.specs.RunsUnder.{MapsUnder}
 use Rattle.text_bounds.specs.TextRoom.{most_text, most_text_in_any}
 use Rattle.poke_batch.specs.Told.{Says}
 
 -- a value that fits a type on m bits has a text of at most so many bytes
 abbrev pub TextsAreBounded : Type 0
 TextsAreBounded = (mode : Mode) (m : ℕ) (ty : PokeType) (levels : Levels) (s : ℕ) (v : Value) → Fits m ty levels s v → length (printed mode v) ≤ most_text mode ty m
+
+-- and so has each part of it
+abbrev pub PartTextsAreBounded : Type 0
+PartTextsAreBounded = (mode : Mode) (m : ℕ) (ty : PokeType) (levels : Levels) (s : ℕ) (value : Value) (path : Option Path) (part : Value)
+    → Fits m ty levels s value → part_at path value ≡ Some part → length (printed mode part) ≤ most_text mode ty m
 
 -- and so has a value that a type means on a file's bits
 abbrev pub MeantTextsAreBounded : Type 0
@@ -33,3 +42,8 @@ AnyModeIsBounded = (mode : Mode) (ty : PokeType) (m : ℕ) → most_text mode ty
 abbrev pub OutputsAreBounded : Type 0
 OutputsAreBounded = (pickle : List ℕ) (ask : Ask) (before after : SpaceView) (status : Status) (out out' err err' : Option (List ℕ))
     → Says (MapsAs pickle ask before after) status out out' err err' → OutputIsBounded pickle ask before.len out out'
+
+-- nor does one under terms, where it may be a part that is written
+abbrev pub OutputsUnderTermsAreBounded : Type 0
+OutputsUnderTermsAreBounded = (pickle : List ℕ) (ask : Ask) (terms : Terms) (before after : SpaceView) (status : Status) (out out' err err' : Option (List ℕ))
+    → Says (MapsUnder pickle ask terms before after) status out out' err err' → OutputIsBounded pickle ask before.len out out'

@@ -6,6 +6,7 @@ pub mod LineTexts
 pub mod JsonTexts
 pub mod JsonWords
 pub mod JsonValues
+pub mod JsonReading
 pub mod Paths
 pub mod LeafTexts
 pub mod LeafLines

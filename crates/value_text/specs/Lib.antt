@@ -15,4 +15,6 @@ pub mod PartText
 pub mod Written
 pub mod Gathered
 pub mod Json
+pub mod JsonValue
+pub mod SmallParts
 pub mod Laws

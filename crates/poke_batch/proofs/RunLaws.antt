@@ -1,0 +1,143 @@
+-- The laws of what runs write.
+use Rattle.std.proofs.Common.{◌≡◌, ◌*◌, ℕ, zero, suc, Bool, true, false, List, Option, Some, None, Ok, length, codes, inl, inr, refl, sym, subst}
+use Rattle.std.specs.Prelude.{nat_le, if◌then◌else◌}
+use Rattle.std.specs.Io.KnownBytes.{Appends}
+use Rattle.bit_space.specs.SpaceView.{SpaceView}
+use Rattle.pickle_types.specs.Types.{PokeType}
+use Rattle.pickle_map.specs.Fits.{Fits}
+use Rattle.pickle_map.specs.Values.{Value, Mapped, Members, NoMembers, MemberThen, AbsentThen, member_at, members_of, end_of, no_values}
+use Rattle.poke_batch.specs.declared.accept.Refusal.TheVariants as refusal
+use Rattle.command_words.specs.declared.ask.Ask.{Ask}
+use Rattle.value_text.specs.declared.mode.Mode.TheVariants.{Json}
+use Rattle.command_words.specs.declared.path.Path.{Path}
+use Rattle.poke_batch.specs.declared.status.Status.{Status}
+use Rattle.poke_batch.specs.declared.status.Status.TheVariants.{Done, Fault, Refused, Outside}
+use Rattle.command_words.specs.declared.terms.Terms.{Terms}
+use Rattle.value_text.specs.Json.{Reads}
+use Rattle.value_text.specs.JsonValue.{json_of}
+use Rattle.poke_batch.specs.Lines.{fault_at_line}
+use Rattle.command_words.specs.Paths.{part_at}
+use Rattle.value_text.specs.Printed.{printed}
+use Rattle.poke_batch.specs.RunLaws.{MappedPartsAreSmall, WritesJson, MappedJsonReadsBack, PartJsonReadsBack}
+use Rattle.poke_batch.specs.Runs.{IsAsked, HasAnswer, MapsAs, value, stops, device, unknown, refused_map, no_memory}
+use Rattle.poke_batch.specs.RunsUnder.{text_saying, is_left, part_saying, kept_saying, value_saying, MapsUnder, mapped_under, ended_under, slots_under}
+use Rattle.value_text.specs.SmallParts.{HasSmallParts, AreSmallParts}
+use Rattle.poke_batch.specs.Told.{Saying, Text, Line, IsSaid, IsTold, IsWritten}
+use Rattle.value_text.proofs.JsonValues.{json_reads_back}
+use Rattle.poke_batch.proofs.PartsKept.{same_value, part_keeps}
+use Rattle.poke_batch.proofs.SmallTypes.{accepted_small}
+use Rattle.poke_batch.proofs.SmallValues.{value_small}
+
+pub parts_small : MappedPartsAreSmall
+parts_small pickle name m type levels start mapped asked fits = value_small m type levels start mapped (accepted_small pickle asked.declarations asked.types name type asked.accepted asked.found) fits
+
+not_outside : {status : Status} → status ≡ Done → status ≡ Outside → ⊥
+not_outside done outside = cc
+
+-- where a run is done, a text was written whole, and no line told
+whole_written : (text : List ℕ) (status : Status) (out out' err err' : Option (List ℕ)) → status ≡ Done → IsWritten text status out out' err err' → Appends out out' text
+whole_written text status out out' err err' done (inl h) = h.1
+whole_written text status out out' err err' done (inr h) = absurd (not_outside done h.0)
+
+nothing_told : (line_status : Status) (line : List ℕ) (status : Status) (err err' : Option (List ℕ)) → status ≡ Done → IsTold line_status line status err err' → line_status ≡ Done
+nothing_told line_status line status err err' done (inl h) = cc
+nothing_told line_status line status err err' done (inr h) = absurd (not_outside done h.0)
+
+member_small : (members : Members) (place : ℕ) (part : Value) → AreSmallParts members → member_at members place ≡ Some part → HasSmallParts part
+member_small NoMembers place part h e = cc
+member_small (MemberThen v rest) zero part h e = subst HasSmallParts (same_value v part e) h.0
+member_small (MemberThen v rest) (suc place) part h e = member_small rest place part h.1 e
+member_small (AbsentThen rest) zero part h e = cc
+member_small (AbsentThen rest) (suc place) part h e = member_small rest place part h e
+
+part_small : (path : Option Path) (whole part : Value) → HasSmallParts whole → part_at path whole ≡ Some part → HasSmallParts part
+part_small = part_keeps HasSmallParts one
+  where
+    one : (whole part : Value) (place : ℕ) → HasSmallParts whole → member_at (members_of whole) place ≡ Some part → HasSmallParts part
+    one (Mapped label start end members) part place h e = member_small members place part h.1 e
+
+module _ (pickle : List ℕ) (ask : Ask) (before : SpaceView) (status : Status) (out out' err err' : Option (List ℕ)) (mode : ask.mode ≡ Json) (done : status ≡ Done) where
+  abbrev IsSaidHere : Saying → Type 0
+  IsSaidHere saying = IsSaid saying status out out' err err'
+
+  -- no line is told
+  no_line : {A : Type 0} (line_status : Status) (line : List ℕ) → (line_status ≡ Done → ⊥) → IsSaidHere (Line line_status line) → A
+  no_line line_status line other h = absurd (other (nothing_told line_status line status err err' done h.1))
+
+  module _ (path : Option Path) {type : PokeType} {mapped : Value} (asked : IsAsked pickle ask.name.now type)
+      (means : (bytes : List ℕ) → before.bytes ≡ Some bytes → HasAnswer bytes type ask.order ask.start ask.limit (Ok mapped)) (fits : Fits (8 * before.len) type no_values ask.start mapped) where
+    text_reads : (part : Value) → part_at path mapped ≡ Some part → IsSaidHere (Text (printed ask.mode part)) → WritesJson pickle ask path before out out'
+    text_reads part found h = record {
+      type = type;
+      asked = asked;
+      mapped = mapped;
+      means = means;
+      fits = fits;
+      part = part;
+      found = found;
+      text = printed ask.mode part;
+      written = whole_written (printed ask.mode part) status out out' err err' done h;
+      reads = subst (λ m. Reads (printed m part) (json_of part)) (sym mode) (json_reads_back part (part_small path mapped part small found));
+    }
+      where
+        small : HasSmallParts mapped
+        small = parts_small pickle ask.name.now (8 * before.len) type no_values ask.start mapped asked fits
+
+    kept_reads : (most : Option ℕ) (part : Value) → part_at path mapped ≡ Some part → IsSaidHere (text_saying most ask.start (printed ask.mode part)) → WritesJson pickle ask path before out out'
+    kept_reads None part found h = text_reads part found h
+    kept_reads (Some most) part found h = chosen (nat_le (length (printed ask.mode part)) most) h
+      where
+        chosen : (short : Bool) → IsSaidHere (if short then Text (printed ask.mode part) else Line Fault (fault_at_line (codes "Output") ask.start)) → WritesJson pickle ask path before out out'
+        chosen true h = text_reads part found h
+        chosen false h = no_line Fault _ (λ e. cc) h
+
+    part_reads : (most : Option ℕ) (found : Option Value) → part_at path mapped ≡ found → IsSaidHere (part_saying ask most found) → WritesJson pickle ask path before out out'
+    part_reads most None is h = no_line Fault _ (λ e. cc) h
+    part_reads most (Some part) is h = kept_reads most part is h
+
+  value_reads : (terms : Terms) {type : PokeType} {mapped : Value} → IsAsked pickle ask.name.now type
+      → ((bytes : List ℕ) → before.bytes ≡ Some bytes → HasAnswer bytes type ask.order ask.start ask.limit (Ok mapped)) → Fits (8 * before.len) type no_values ask.start mapped
+      → IsSaidHere (value_saying ask terms (8 * before.len) mapped) → WritesJson pickle ask terms.part before out out'
+  value_reads terms {mapped = mapped} asked means fits h = chosen (is_left terms.whole (end_of mapped) (8 * before.len)) h
+    where
+      chosen : (left : Bool) → IsSaidHere (if left then Line Fault (fault_at_line (codes "Left") (end_of mapped)) else kept_saying ask terms mapped) → WritesJson pickle ask terms.part before out out'
+      chosen true h = no_line Fault _ (λ e. cc) h
+      chosen false h = part_reads terms.part asked means fits terms.most_output (part_at terms.part mapped) refl h
+
+  json_written : (after : SpaceView) (saying : Saying) → MapsAs pickle ask before after saying → IsSaidHere saying → WritesJson pickle ask None before out out'
+  json_written after saying (value {mapped = mapped} asked means fits) h = text_reads None asked means fits mapped refl h
+  json_written after saying (stops asked a b c d) h = no_line Fault _ (λ e. cc) h
+  json_written after saying (device asked a) h = no_line Outside _ (λ e. cc) h
+  json_written after saying (unknown a b) h = no_line Refused _ (λ e. cc) h
+  json_written after saying (refused_map {refusal = refusal.Tokens kind at} a) h = no_line Refused _ (λ e. cc) h
+  json_written after saying (refused_map {refusal = refusal.Syntax at} a) h = no_line Refused _ (λ e. cc) h
+  json_written after saying (refused_map {refusal = refusal.TooDeep} a) h = no_line Refused _ (λ e. cc) h
+  json_written after saying (refused_map {refusal = refusal.TooMany} a) h = no_line Refused _ (λ e. cc) h
+  json_written after saying (refused_map {refusal = refusal.Types kind declaration} a) h = no_line Refused _ (λ e. cc) h
+  json_written after saying (refused_map {refusal = refusal.Memory} a) h = no_line Outside _ (λ e. cc) h
+  json_written after saying no_memory h = no_line Outside _ (λ e. cc) h
+
+  -- no line of a mapping is told with the status of one that is done
+  line_is : (after : SpaceView) (saying : Saying) → MapsAs pickle ask before after saying → (line_status : Status) (line : List ℕ) → saying ≡ Line line_status line → line_status ≡ Done → ⊥
+  line_is after _ (value asked means fits) line_status line is e = cc
+  line_is after _ (stops asked a b c d) line_status line is e = cc
+  line_is after _ (device asked a) line_status line is e = cc
+  line_is after _ (unknown a b) line_status line is e = cc
+  line_is after _ (refused_map {refusal = refusal.Tokens kind at} a) line_status line is e = cc
+  line_is after _ (refused_map {refusal = refusal.Syntax at} a) line_status line is e = cc
+  line_is after _ (refused_map {refusal = refusal.TooDeep} a) line_status line is e = cc
+  line_is after _ (refused_map {refusal = refusal.TooMany} a) line_status line is e = cc
+  line_is after _ (refused_map {refusal = refusal.Types kind declaration} a) line_status line is e = cc
+  line_is after _ (refused_map {refusal = refusal.Memory} a) line_status line is e = cc
+  line_is after _ no_memory line_status line is e = cc
+
+  part_written : (terms : Terms) (after : SpaceView) (saying : Saying) → MapsUnder pickle ask terms before after saying → IsSaidHere saying → WritesJson pickle ask terms.part before out out'
+  part_written terms after saying (mapped_under asked means fits) h = value_reads terms asked means fits h
+  part_written terms after saying (ended_under {status = line_status} {line = line} right) h = no_line line_status line (line_is after (Line line_status line) right line_status line refl) h
+  part_written terms after saying (slots_under asked most few) h = no_line Fault _ (λ e. cc) h
+
+pub mapped_json : MappedJsonReadsBack
+mapped_json pickle ask before after status out out' err err' mode done h = json_written pickle ask before status out out' err err' mode done after h.saying h.right h.said
+
+pub part_json : PartJsonReadsBack
+part_json pickle ask terms before after status out out' err err' mode done h = part_written pickle ask before status out out' err err' mode done terms after h.saying h.right h.said

@@ -1,0 +1,249 @@
+-- The types of a pickle have widths up to 64, units below 2^64, few fields, and names of bytes.
+use Rattle.std.proofs.Common.{◌≡◌, ℕ, ◌+◌, ◌^◌, ◌<◌, ◌≤◌, inl, inr, length, true, List, [], ◌∷◌, ◌++◌, Option, Some, None, refl, sym, ◌∙◌, subst, arith}
+use Rattle.std.specs.Str.{bytes_eq}
+use Rattle.std.proofs.lemmas.Bool.{cases_Bool}
+use Rattle.pickle_syntax.specs.declared.token.Sign.TheVariants as sign
+use Rattle.pickle_syntax.specs.declared.token.Word.TheVariants as word
+use Rattle.pickle_syntax.specs.declared.lexer.bytes.Class.TheVariants as class
+use Rattle.pickle_syntax.specs.declared.tree.Unit.{Unit as PokeUnit}
+use Rattle.pickle_syntax.specs.Bytes.{is_in}
+use Rattle.pickle_syntax.specs.Tokens.{Token, Reserved, Named, Opens, Numeral, Character, Text, AttributeOf, Mark}
+use Rattle.pickle_syntax.specs.Tree.{Tree, TreeReference, Int, Uint, Called, FieldParts, FormTree, Plain, StringForm, OffsetForm, ArrayForm, StructForm, IntegralForm, UnionForm, FieldTrees, DeclarationTree}
+use Rattle.pickle_syntax.specs.Tree as tree
+use Rattle.pickle_syntax.specs.Show.{show_optional, show_part, show_name, show_order, show_pinned, show_parts, show_reference, show_form, show_fields, show_declaration, show_pickle}
+use Rattle.pickle_syntax.specs.Limits.{standard, field_count, IsFormWithin, AreFieldsWithin, AreDeclarationsWithin}
+use Rattle.pickle_syntax.specs.Lexing.{token_list}
+use Rattle.pickle_syntax.specs.Pieces.{AllIn, IsPiece, Piece, pieces, tokens_in}
+use Rattle.pickle_syntax.proofs.LexedLaws.{tokens_are}
+use Rattle.pickle_types.specs.declared.check.places.Place.{Place}
+use Rattle.pickle_types.specs.Types.{PokeType, IntegerOf, OffsetOf, StringOf, ArrayOf, StructOf, IntegralOf, UnionOf, Fields, NoFields, FieldThen, Parts, NoParts, PartThen}
+use Rattle.pickle_types.specs.Scopes.{Visible}
+use Rattle.pickle_types.specs.Names.{Names, find_type, predeclared}
+use Rattle.pickle_types.specs.Meaning.{parts_of}
+use Rattle.pickle_types.specs.WellTyped.{Refers, HasBits, Means, FieldsMean, Declares}
+use Rattle.pickle_map.specs.Means.{field_names, part_names}
+use Rattle.poke_batch.specs.Accepted.{IsAccepted}
+use Rattle.value_text.specs.SmallParts.{AreBytes, IsNameOfBytes, AreNamesOfBytes}
+
+-- ---- types
+
+abbrev mutual
+  pub IsSmallType : PokeType → Type 0
+  IsSmallType (IntegerOf type) = type.width ≤ 64
+  IsSmallType (OffsetOf type unit) = (type.width ≤ 64) × (unit < 2 ^ 64)
+  IsSmallType StringOf = Unit {0}
+  IsSmallType (ArrayOf element bound) = IsSmallType element
+  IsSmallType (StructOf name pinned fields) = (length (field_names fields) ≤ 2 ^ 64) × AreNamesOfBytes (field_names fields) × AreSmallFields fields
+  IsSmallType (IntegralOf name type fields) = (length (part_names fields) ≤ 2 ^ 64) × AreNamesOfBytes (part_names fields) × AreSmallTypes fields
+  IsSmallType (UnionOf name alternatives) = AreNamesOfBytes (part_names alternatives) × AreSmallTypes alternatives
+
+  pub AreSmallFields : Fields → Type 0
+  AreSmallFields NoFields = Unit {0}
+  AreSmallFields (FieldThen name order type constraint label condition rest) = IsSmallType type × AreSmallFields rest
+
+  pub AreSmallTypes : Parts → Type 0
+  AreSmallTypes NoParts = Unit {0}
+  AreSmallTypes (PartThen name order type constraint rest) = IsSmallType type × AreSmallTypes rest
+
+abbrev AreSmallNames : Names → Type 0
+AreSmallNames [] = Unit {0}
+AreSmallNames (d ∷ ds) = IsSmallType d.1 × AreSmallNames ds
+
+found_small : (word : List ℕ) (names : Names) (t : PokeType) → AreSmallNames names → find_type word names ≡ Some t → IsSmallType t
+found_small word [] t h e = cc
+found_small word (d ∷ ds) t h e = elim (cases_Bool (bytes_eq word d.0)) [
+  | inl hit ↦ (let is : Some d.1 ≡ Some t = rw hit at e in subst IsSmallType (some_same d.1 t is) h.0)
+  | inr miss ↦ found_small word ds t h.1 (rw miss at e)
+]
+  where
+    some_same : (x y : PokeType) → Some x ≡ Some y → x ≡ y
+    some_same x y e = cc
+
+one_more_small : (names : Names) (word : List ℕ) (t : PokeType) → AreSmallNames names → IsSmallType t → AreSmallNames (names ++ (word, t) ∷ [])
+one_more_small [] word t h small = (small, tt)
+one_more_small (d ∷ ds) word t h small = (h.0, one_more_small ds word t h.1 small)
+
+-- ---- the names of a form
+
+abbrev mutual
+  HasNames : FormTree → Type 0
+  HasNames (Plain r) = Unit {0}
+  HasNames StringForm = Unit {0}
+  HasNames (OffsetForm r u) = Unit {0}
+  HasNames (ArrayForm e b) = HasNames e
+  HasNames (StructForm p fs) = HaveNames fs
+  HasNames (IntegralForm r fs) = HaveNames fs
+  HasNames (UnionForm fs) = HaveNames fs
+
+  HaveNames : FieldTrees → Type 0
+  HaveNames tree.NoFields = Unit {0}
+  HaveNames (tree.FieldThen f p rest) = IsNameOfBytes p.name × HasNames f × HaveNames rest
+
+abbrev DeclareNames : List DeclarationTree → Type 0
+DeclareNames [] = Unit {0}
+DeclareNames (d ∷ ds) = HasNames d.form × DeclareNames ds
+
+-- a name among tokens is of bytes
+abbrev IsOfBytes : Token → Type 0
+IsOfBytes (Reserved w) = Unit {0}
+IsOfBytes (Named n) = AreBytes n
+IsOfBytes (Opens o) = Unit {0}
+IsOfBytes (Numeral n) = Unit {0}
+IsOfBytes (Character b) = Unit {0}
+IsOfBytes (Text bytes) = Unit {0}
+IsOfBytes (AttributeOf a) = Unit {0}
+IsOfBytes (Mark s) = Unit {0}
+
+abbrev AreOfBytes : List Token → Type 0
+AreOfBytes [] = Unit {0}
+AreOfBytes (t ∷ ts) = IsOfBytes t × AreOfBytes ts
+
+front_of : (a b : List Token) → AreOfBytes (a ++ b) → AreOfBytes a
+front_of [] b h = tt
+front_of (t ∷ a) b h = (h.0, front_of a b h.1)
+
+back_of : (a b : List Token) → AreOfBytes (a ++ b) → AreOfBytes b
+back_of [] b h = h
+back_of (t ∷ a) b h = back_of a b h.1
+
+name_is : (name : Option (List ℕ)) → AreOfBytes (show_name name) → IsNameOfBytes name
+name_is None h = tt
+name_is (Some word) h = h.0
+
+parts_name : (p : FieldParts) → AreOfBytes (show_parts p) → IsNameOfBytes p.name
+parts_name p h = name_is p.name (front_of (show_name p.name) _ (front_of _ (show_part _ p.label) (front_of _ (show_part _ p.condition) (front_of _ (Mark sign.Semicolon ∷ []) h))))
+
+mutual
+  form_names : (f : FormTree) → AreOfBytes (show_form f) → HasNames f
+  form_names (Plain r) h = tt
+  form_names StringForm h = tt
+  form_names (OffsetForm r u) h = tt
+  form_names (ArrayForm e b) h = form_names e (front_of (show_form e) (Mark sign.OpenBracket ∷ show_optional b) (front_of _ (Mark sign.CloseBracket ∷ []) h))
+  form_names (StructForm p fs) h = fields_names fs (back_of (show_pinned p) (Reserved word.Struct ∷ Mark sign.OpenBrace ∷ show_fields fs) (front_of _ (Mark sign.CloseBrace ∷ []) h)).1.1
+  form_names (IntegralForm r fs) h = fields_names fs (back_of (Reserved word.Struct ∷ show_reference r) (Mark sign.OpenBrace ∷ show_fields fs) (front_of (Reserved word.Struct ∷ show_reference r ++ Mark sign.OpenBrace ∷ show_fields fs) (Mark sign.CloseBrace ∷ []) h)).1
+  form_names (UnionForm fs) h = fields_names fs (front_of (Reserved word.Union ∷ Mark sign.OpenBrace ∷ show_fields fs) (Mark sign.CloseBrace ∷ []) h).1.1
+
+  fields_names : (fs : FieldTrees) → AreOfBytes (show_fields fs) → HaveNames fs
+  fields_names tree.NoFields h = tt
+  fields_names (tree.FieldThen f p rest) h =
+      let field = front_of (show_order p.order ++ show_form f ++ show_parts p) (show_fields rest) h in
+      let form = front_of (show_order p.order ++ show_form f) (show_parts p) field in (
+        parts_name p (back_of (show_order p.order ++ show_form f) (show_parts p) field),
+        form_names f (back_of (show_order p.order) (show_form f) form),
+        fields_names rest (back_of (show_order p.order ++ show_form f ++ show_parts p) (show_fields rest) h),
+      )
+
+pickle_names : (ds : List DeclarationTree) → AreOfBytes (show_pickle ds) → DeclareNames ds
+pickle_names [] h = tt
+pickle_names (d ∷ ds) h =
+    let declaration = front_of (show_declaration d) (show_pickle ds) h in (
+      form_names d.form (front_of (Reserved word.«Type» ∷ Named d.name ∷ Mark sign.Assign ∷ show_form d.form) (Mark sign.Semicolon ∷ []) declaration).1.1.1,
+      pickle_names ds (back_of (show_declaration d) (show_pickle ds) h),
+    )
+
+-- ---- the names of tokens
+
+letter_small : (b : ℕ) → is_in class.Letter b ≡ true → b < 2 ^ 8
+letter_small b h = grind (arith, h)
+
+word_small : (b : ℕ) → is_in class.Word b ≡ true → b < 2 ^ 8
+word_small b h = grind (arith, h)
+
+words_small : (bytes : List ℕ) → AllIn class.Word bytes → AreBytes bytes
+words_small [] h = tt
+words_small (b ∷ bytes) h = (word_small b h.0, words_small bytes h.1)
+
+piece_small : (token : Option Token) (bytes rest : List ℕ) → IsPiece token bytes rest → AreOfBytes (token_list token)
+piece_small None bytes rest h = tt
+piece_small (Some (Reserved w)) bytes rest h = (tt, tt)
+piece_small (Some (Named n)) bytes rest h =
+    let word = h.0.1 in
+    (subst AreBytes (sym (h.0.0 ∙ word.2)) (letter_small word.0 word.3, words_small word.1 word.4), tt)
+piece_small (Some (Opens o)) bytes rest h = (tt, tt)
+piece_small (Some (Numeral n)) bytes rest h = (tt, tt)
+piece_small (Some (Character b)) bytes rest h = (tt, tt)
+piece_small (Some (Text values)) bytes rest h = (tt, tt)
+piece_small (Some (AttributeOf a)) bytes rest h = (tt, tt)
+piece_small (Some (Mark s)) bytes rest h = (tt, tt)
+
+joined_small : (a b : List Token) → AreOfBytes a → AreOfBytes b → AreOfBytes (a ++ b)
+joined_small [] b h g = g
+joined_small (t ∷ a) b h g = (h.0, joined_small a b h.1 g)
+
+pieces_small : (ps : List Piece) (bytes rest : List ℕ) → pieces ps bytes rest → AreOfBytes (tokens_in ps)
+pieces_small [] bytes rest h = tt
+pieces_small (p ∷ ps) bytes rest h = joined_small (token_list p.token) (tokens_in ps) (piece_small p.token p.bytes h.0 h.2.is) (pieces_small ps h.0 rest h.3)
+
+-- ---- what forms mean
+
+-- fields of so many trees
+record AreSmall (trees : FieldTrees) (fields : Fields) : Type 0 where
+  count : length (field_names fields) ≡ field_count trees
+  names : AreNamesOfBytes (field_names fields)
+  types : AreSmallFields fields
+
+parts_count : (fields : Fields) → length (part_names (parts_of fields)) ≡ length (field_names fields)
+parts_count NoFields = refl
+parts_count (FieldThen name order type constraint label condition rest) = omega (arith, parts_count rest)
+
+parts_names : (fields : Fields) → AreNamesOfBytes (field_names fields) → AreNamesOfBytes (part_names (parts_of fields))
+parts_names NoFields h = tt
+parts_names (FieldThen name order type constraint label condition rest) h = (h.0, parts_names rest h.1)
+
+parts_types : (fields : Fields) → AreSmallFields fields → AreSmallTypes (parts_of fields)
+parts_types NoFields h = tt
+parts_types (FieldThen name order type constraint label condition rest) h = (h.0, parts_types rest h.1)
+
+bits_small : (u : PokeUnit) (n : ℕ) → HasBits u n → n < 2 ^ 64
+bits_small _ _ HasBits.bit = omega arith
+bits_small _ _ HasBits.byte = omega arith
+bits_small _ _ (HasBits.number some most) = omega (arith, most)
+
+module _ (names : Names) (small : AreSmallNames names) where
+  refers_small : (r : TreeReference) (t : PokeType) → Refers names r t → IsSmallType t
+  refers_small _ _ (Refers.signed some most) = most
+  refers_small _ _ (Refers.unsigned some most) = most
+  refers_small _ _ (Refers.called {word} {t} is) = found_small word names t small is
+
+  mutual
+    form_small : (seen : List Visible) (levels : ℕ) (title : Option (List ℕ)) (form : FormTree) (t : PokeType) → HasNames form → IsFormWithin standard form → Means names seen levels title form t → IsSmallType t
+    form_small seen levels title _ _ named within (Means.plain {r = r} {t = t} refers) = refers_small r t refers
+    form_small seen levels title _ _ named within Means.string = tt
+    form_small seen levels title _ _ named within (Means.offset {r = r} {u = u} {t = t} {n = n} refers bits) = (refers_small r (IntegerOf t) refers, bits_small u n bits)
+    form_small seen levels title _ _ named within (Means.array {element = element} {t = t} is bound) = form_small seen (levels + 1) None element t named within.0 is
+    form_small seen levels title _ _ named within (Means.struct {fields = fields} {fs = fs} are) =
+        let h = fields_small _ seen levels [] fields fs named within.1 are in
+        (omega (arith, h.count, within.0), h.names, h.types)
+    form_small seen levels title _ _ named within (Means.integral {fields = fields} {fs = fs} refers are total) =
+        let h = fields_small _ seen levels [] fields fs named within.1 are in
+        (omega (arith, parts_count fs, h.count, within.0), parts_names fs h.names, parts_types fs h.types)
+    form_small seen levels title _ _ named within (Means.union {form = form} {parts = parts} {rest = rest} {fs = fs} are) =
+        let h = fields_small _ seen levels [] (tree.FieldThen form parts rest) fs named within.1 are in
+        (parts_names fs h.names, parts_types fs h.types)
+
+    fields_small : (here : Place) (seen : List Visible) (levels : ℕ) (before : List (Option (List ℕ))) (trees : FieldTrees) (fs : Fields) → HaveNames trees → AreFieldsWithin standard trees → FieldsMean names here seen levels before trees fs → AreSmall trees fs
+    fields_small here seen levels before _ _ named within FieldsMean.done = record { count = refl; names = tt; types = tt }
+    fields_small here seen levels before _ _ named within (FieldsMean.field {form = form} {rest = rest} {t = t} {fs = fs} is stands fresh label condition constraint are) =
+        let h = fields_small here _ levels _ rest fs named.2 within.2 are in
+        record {
+          count = omega (arith, h.count);
+          names = (named.0, h.names);
+          types = (form_small seen (levels + 1) None form t named.1 within.0 is, h.types);
+        }
+
+declared_small : (names : Names) (ds : List DeclarationTree) (all : Names) → AreSmallNames names → DeclareNames ds → AreDeclarationsWithin standard ds → Declares names ds all → AreSmallNames all
+declared_small names _ _ small named within Declares.none = small
+declared_small names _ all small named within (Declares.more {d = d} {ds = ds} {t = t} fresh is deep rest) =
+    declared_small (names ++ (d.name, t) ∷ []) ds all (one_more_small names d.name t small (form_small names small [] 0 (Some d.name) d.form t named.0 within.0 is)) named.1 within.2 rest
+
+predeclared_small : AreSmallNames predeclared
+predeclared_small = search (arith)
+
+-- each type of an accepted pickle is small
+pub accepted_small : (pickle : List ℕ) (declarations : List DeclarationTree) (types : Names) (name : List ℕ) (type : PokeType) → IsAccepted pickle declarations types → find_type name types ≡ Some type → IsSmallType type
+accepted_small pickle declarations types name type accepted found =
+    let syntax = accepted.syntax in
+    let tokens = (tokens_are pickle (syntax.tokens, syntax.spans)).0 syntax.cut in
+    let small : AreOfBytes syntax.tokens = subst AreOfBytes (sym tokens.1.2) (pieces_small tokens.1.0 pickle [] tokens.1.1) in
+    let named = pickle_names declarations (subst AreOfBytes syntax.parsed.shown small) in
+    found_small name types type (declared_small predeclared declarations types predeclared_small named syntax.parsed.within.1 accepted.declares) found

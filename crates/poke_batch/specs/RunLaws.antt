@@ -1,0 +1,49 @@
+-- The laws of what runs write.
+use Rattle.std.specs.Prelude.{◌≡◌, ◌*◌, ℕ, List, Option, Some, None, Ok}
+use Rattle.std.specs.Io.KnownBytes.{Appends}
+use Rattle.bit_space.specs.SpaceView.{SpaceView}
+use Rattle.pickle_types.specs.Types.{PokeType}
+use Rattle.pickle_map.specs.Fits.{Fits}
+use Rattle.pickle_map.specs.Values.{Value, Levels, no_values}
+use Rattle.command_words.specs.declared.ask.Ask.{Ask}
+use Rattle.value_text.specs.declared.mode.Mode.TheVariants.{Json}
+use Rattle.command_words.specs.declared.path.Path.{Path}
+use Rattle.poke_batch.specs.declared.status.Status.{Status}
+use Rattle.poke_batch.specs.declared.status.Status.TheVariants.{Done}
+use Rattle.command_words.specs.declared.terms.Terms.{Terms}
+use Rattle.value_text.specs.Json.{Reads}
+use Rattle.value_text.specs.JsonValue.{json_of}
+use Rattle.command_words.specs.Paths.{part_at}
+use Rattle.poke_batch.specs.Runs.{IsAsked, HasAnswer, MapsAs}
+use Rattle.poke_batch.specs.RunsUnder.{MapsUnder}
+use Rattle.value_text.specs.SmallParts.{HasSmallParts}
+use Rattle.poke_batch.specs.Told.{Says}
+
+-- a value that fits a type of an accepted pickle has small parts
+abbrev pub MappedPartsAreSmall : Type 0
+MappedPartsAreSmall = (pickle name : List ℕ) (m : ℕ) (type : PokeType) (levels : Levels) (start : ℕ) (value : Value)
+    → IsAsked pickle name type → Fits m type levels start value → HasSmallParts value
+
+-- The bytes that were written are a text in JSON of the part at a path of the value that the type means on the file's bits, where they
+-- are known; over any space of one that fits.
+pub record WritesJson (pickle : List ℕ) (ask : Ask) (path : Option Path) (before : SpaceView) (out out' : Option (List ℕ)) : Type 0 where
+  pub type : PokeType
+  pub asked : IsAsked pickle ask.name.now type
+  pub mapped : Value
+  pub means : (bytes : List ℕ) → before.bytes ≡ Some bytes → HasAnswer bytes type ask.order ask.start ask.limit (Ok mapped)
+  pub fits : Fits (8 * before.len) type no_values ask.start mapped
+  pub part : Value
+  pub found : part_at path mapped ≡ Some part
+  pub text : List ℕ
+  pub written : Appends out out' text
+  pub reads : Reads text (json_of part)
+
+-- a mapping in JSON that is done has written the value that was mapped
+abbrev pub MappedJsonReadsBack : Type 0
+MappedJsonReadsBack = (pickle : List ℕ) (ask : Ask) (before after : SpaceView) (status : Status) (out out' err err' : Option (List ℕ))
+    → ask.mode ≡ Json → status ≡ Done → Says (MapsAs pickle ask before after) status out out' err err' → WritesJson pickle ask None before out out'
+
+-- and under terms the part that they ask for
+abbrev pub PartJsonReadsBack : Type 0
+PartJsonReadsBack = (pickle : List ℕ) (ask : Ask) (terms : Terms) (before after : SpaceView) (status : Status) (out out' err err' : Option (List ℕ))
+    → ask.mode ≡ Json → status ≡ Done → Says (MapsUnder pickle ask terms before after) status out out' err err' → WritesJson pickle ask terms.part before out out'
