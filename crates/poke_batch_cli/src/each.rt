@@ -2,9 +2,9 @@
 ghost use Rattle.pickle_types.specs.TypeTable.{IsSound, IsInTable};
 ghost use Rattle.poke_batch.specs.RunsUnder.{IsStoreOf};
 
-use crate::files::{FileFault, open_space};
+use crate::files::open_space;
 use arrayvec::ArrayVec;
-use bit_space::Memory;
+use bit_space::{Memory, OpenFault};
 use pickle_types::type_table::{Table, TypeId};
 use poke_batch::accept::{accept, tell_refusal};
 use poke_batch::ask::Ask;
@@ -18,9 +18,11 @@ use poke_batch::write::WriteFault;
 use std::fs::File;
 use std::io::{BufRead, BufReader, ErrorKind, Input, Read, Write};
 use std::rt::Files;
+use thiserror::Error;
 
-/// Why a list of files came to no end.
-#[derive(Clone, Copy, Debug, Drop, PartialEq, Eq)]
+/// Why a list of files came to no end. It displays the line that tells it.
+#[derive(Clone, Copy, Debug, Drop, PartialEq, Eq, Error)]
+#[error("fault {}", self.name())]
 enum ListFault {
     /// The list was not opened, or not read.
     Read,
@@ -31,11 +33,12 @@ enum ListFault {
 }
 
 impl ListFault {
-    fn kind(self) -> &'static [u8] {
+    /// The name by which its line tells it.
+    fn name(self) -> &'static str {
         match self {
-            ListFault::Read => b"Read",
-            ListFault::Memory => b"Memory",
-            ListFault::Write => b"Write",
+            ListFault::Read => "Read",
+            ListFault::Memory => "Memory",
+            ListFault::Write => WriteFault.name(),
         }
     }
 }
@@ -71,7 +74,7 @@ pub fn run_each<R: Files<File = File> + Input + AllocGlobal, O: Write, E: Write>
     };
     match run_files(rt, &table, id, ask, terms, files, out) {
         Ok(status) => status,
-        Err(fault) => fail(err, fault.kind()),
+        Err(fault) => fail(err, fault.name().as_bytes()),
     }
 }
 
@@ -185,13 +188,13 @@ fn run_name<R: Files<File = File> + AllocGlobal, O: Write>(
 {
     let opened = match str::from_utf8(name) {
         Ok(path) => open_space(rt, path),
-        Err(_) => Err(FileFault::Open),
+        Err(_) => Err(OpenFault::NotOpened.into()),
     };
     match opened {
         Ok(mut space) => run_file(table, id, ask, terms, kept, name, &mut space, out),
         Err(fault) => {
             let mut line: ArrayVec<u8, 128> = ArrayVec::new();
-            let status = fail(&mut line, fault.kind());
+            let status = fail(&mut line, fault.name().as_bytes());
             put_file_line(out, name, status, line.as_slice())?;
             Ok(status)
         }

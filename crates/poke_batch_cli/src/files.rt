@@ -1,50 +1,53 @@
 //! The files that a job names.
 use bit_space::{FileSpace, Memory, OpenFault, Paged};
+use poke_batch::dump::DumpFault;
 use poke_batch::pickle::{PickleFault, read_pickle};
 use std::fs::File;
 use std::io::Input;
 use std::rt::Files;
+use thiserror::Error;
 
-/// Why a job has no file or no pickle to work on.
-#[derive(Clone, Copy, Debug, Drop, PartialEq, Eq)]
+/// What failed of the files of a job. It displays the line that tells it.
+#[derive(Clone, Copy, Debug, Drop, PartialEq, Eq, Error)]
+#[error("fault {}", self.name())]
 pub enum FileFault {
     /// The pickle was not opened, or not read.
-    Read,
+    Pickle(PickleFault),
     /// The file was not opened.
-    Open,
-    /// The file has 2^60 bytes or more.
-    TooLong,
+    Space(OpenFault),
+    /// The dump of the file ended early.
+    Dump(DumpFault),
     /// There was no memory.
     Memory,
 }
 
 impl FileFault {
-    /// The name that its line tells.
-    pub fn kind(self) -> &'static [u8] {
+    /// The name by which its line tells it.
+    pub fn name(self) -> &'static str {
         match self {
-            FileFault::Read => b"Read",
-            FileFault::Open => b"Open",
-            FileFault::TooLong => b"TooLong",
-            FileFault::Memory => b"Memory",
+            FileFault::Pickle(fault) => fault.name(),
+            FileFault::Space(fault) => fault.name(),
+            FileFault::Dump(fault) => fault.name(),
+            FileFault::Memory => "Memory",
         }
     }
 }
 
 impl From<PickleFault> for FileFault {
     fn from(fault: PickleFault) -> FileFault {
-        match fault {
-            PickleFault::Read => FileFault::Read,
-            PickleFault::Memory => FileFault::Memory,
-        }
+        FileFault::Pickle(fault)
     }
 }
 
 impl From<OpenFault> for FileFault {
     fn from(fault: OpenFault) -> FileFault {
-        match fault {
-            OpenFault::NotOpened => FileFault::Open,
-            OpenFault::TooLong => FileFault::TooLong,
-        }
+        FileFault::Space(fault)
+    }
+}
+
+impl From<DumpFault> for FileFault {
+    fn from(fault: DumpFault) -> FileFault {
+        FileFault::Dump(fault)
     }
 }
 
@@ -64,7 +67,7 @@ pub fn read_pickle_of<R: Files + Input + AllocGlobal>(
     }
     match File::open(rt, path) {
         Ok(mut file) => Ok(read_pickle(rt.alloc(), &mut file)?),
-        Err(_) => Err(FileFault::Read),
+        Err(_) => Err(PickleFault::Read.into()),
     }
 }
 

@@ -3,13 +3,14 @@ use crate::each::run_each;
 use crate::files::{FileFault, open_space, read_pickle_of};
 use pickle_reasons::explanation;
 use poke_batch::ask::Ask;
-use poke_batch::dump::{DumpFault, dump};
+use poke_batch::dump::dump;
 use poke_batch::run::{run_bound, run_check, run_map_under};
 use poke_batch::status::Status;
 use poke_batch::tell::fail;
 use poke_batch::terms::Terms;
 use poke_batch::types::run_types;
 use poke_batch::words::{Asked, Job};
+use poke_batch::write::WriteFault;
 use std::alloc::Global;
 use std::fs::File;
 use std::io::{BufWriter, Input, Write};
@@ -33,7 +34,7 @@ pub fn do_job<R: Files<File = File> + Input + AllocGlobal, O: Write + Drop, E: W
     };
     let status = match run_job(rt, asked, &mut out, err, reason) {
         Ok(status) => status,
-        Err(fault) => fail(err, fault.kind()),
+        Err(fault) => fail(err, fault.name().as_bytes()),
     };
     if out.flush().is_ok() {
         return status;
@@ -43,7 +44,7 @@ pub fn do_job<R: Files<File = File> + Input + AllocGlobal, O: Write + Drop, E: W
     if status == Status::Outside {
         return status;
     }
-    fail(err, b"Write")
+    fail(err, WriteFault.name().as_bytes())
 }
 
 fn run_job<R: Files<File = File> + Input + AllocGlobal, O: Write, E: Write>(
@@ -204,11 +205,8 @@ fn run_job<R: Files<File = File> + Input + AllocGlobal, O: Write, E: Write>(
             file,
         } => {
             let mut space = open_space(rt, file.as_str())?;
-            match dump(&mut space, from, size, ruler, out) {
-                Ok(()) => Ok(Status::Done),
-                Err(DumpFault::Device) => Ok(fail(err, b"Device")),
-                Err(DumpFault::Write) => Ok(fail(err, b"Write")),
-            }
+            dump(&mut space, from, size, ruler, out)?;
+            Ok(Status::Done)
         }
     }
 }
