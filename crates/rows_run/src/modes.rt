@@ -6,6 +6,7 @@ use poke_batch::mode::Mode;
 use poke_batch::run::run_map;
 use poke_batch::status::Status;
 use rows_kit::streams::Halting;
+use serde_json::Value;
 use std::alloc::{AllocError, Global};
 use std::io::Write;
 use std::test::Fail;
@@ -206,5 +207,49 @@ fn writes_a_first_part(rt: HostRuntime) -> Result<(), Fail> {
             assert_eq!(rt; status, if whole { Status::Done } else { Status::Outside });
         }
     }
+    Ok(())
+}
+
+#[test]
+fn another_reader_reads_json(rt: HostRuntime) -> Result<(), Fail> {
+    let alloc = rt.alloc();
+    for block in CASES.split("\n\n") {
+        let case = read_case(alloc, block)?;
+        let value = Value::from_slice(alloc, case.json.as_slice()).map_err(|_| "not read")?;
+        let text = value.to_string(alloc)?;
+        // It sorts keys, and has shorter escapes for some bytes.
+        if !block.contains("\\u00") {
+            assert_eq!(rt; text.len().saturating_add(1), case.json.len(), "{block}");
+        }
+    }
+    Ok(())
+}
+
+#[test]
+fn another_reader_reads_each_shape(rt: HostRuntime) -> Result<(), Fail> {
+    let alloc = rt.alloc();
+    let first = read_case(alloc, CASES.split("\n\n").next().ok_or("no case")?)?;
+    let value = Value::from_slice(alloc, first.json.as_slice()).map_err(|_| "not read")?;
+    assert_eq!(rt; value.pointer("/es/1/v").and_then(Value::as_u64), Some(6));
+    assert_eq!(rt; value.pointer("/z").and_then(Value::as_u64), Some(0));
+    let last = read_case(alloc, CASES.split("\n\n").last().ok_or("no case")?)?;
+    let value = Value::from_slice(alloc, last.json.as_slice()).map_err(|_| "not read")?;
+    assert_eq!(rt; value.pointer("/f").and_then(Value::as_u64), Some(0));
+    assert_eq!(rt;
+        value.pointer("/2").and_then(Value::as_str),
+        Some("\u{8}\u{c}\r\u{7f}\u{ff}\\")
+    );
+    assert_eq!(rt;
+        value
+            .pointer("/e")
+            .and_then(Value::as_array)
+            .map(|e| e.len()),
+        Some(0)
+    );
+    assert_eq!(rt;
+        value.pointer("/s/magnitude").and_then(Value::as_i64),
+        Some(-2)
+    );
+    assert_eq!(rt; value.pointer("/s/unit").and_then(Value::as_u64), Some(4));
     Ok(())
 }
