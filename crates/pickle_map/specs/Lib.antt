@@ -28,6 +28,7 @@ pub mod Shown
 pub mod Stops
 pub mod Framed
 pub mod Refs
+pub mod Known
 pub mod Linked
 pub mod Owners
 pub mod Settles

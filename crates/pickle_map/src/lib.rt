@@ -2,8 +2,9 @@
 #![tactic(auto)]
 
 pub(crate) mod evaluate;
-pub(crate) mod extent;
+pub mod extent;
 pub mod faults;
+pub mod known;
 pub mod laws;
 pub mod mapper;
 mod names;

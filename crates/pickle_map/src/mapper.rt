@@ -15,13 +15,15 @@ ghost use Rattle.pickle_map.specs.declared.store.room.Growth.TheVariants.{Never}
 ghost use Rattle.pickle_map.specs.Slots.{empty};
 ghost use Rattle.pickle_map.specs.Values.{no_values};
 
+pub(crate) mod blame;
 pub(crate) mod clauses;
 pub(crate) mod keep;
 pub(crate) mod number;
 pub(crate) mod read;
-pub(crate) mod stop;
+pub mod stop;
 pub(crate) mod text;
-pub(crate) mod types;
+pub mod types;
+pub mod watch;
 
 use crate::faults::{MapFault, MapFaultKind};
 use crate::store::Store;
@@ -29,6 +31,7 @@ use bit_space::{Meter, Order, Space};
 use pickle_types::type_table::{Table, TypeId};
 use stop::Stop;
 use types::map_type;
+use watch::{Unwatched, Watch};
 
 /// Maps a type from the bit `start` on: the store then holds the value that it has there, or is empty, with the fault
 /// that the type has there or that ended the run. A store keeps its room, and a meter its counts.
@@ -73,6 +76,50 @@ pub fn map<S: Space>(
     ensures bytes { (S.view space.new).bytes ≡ (S.view space.old).bytes }
     ensures failures { (S.view space.old).failures ≤ (S.view space.new).failures }
 {
+    map_watched(table, id, order, start, space, meter, store, &mut Unwatched)
+}
+
+/// What [`map`] does, under a watcher.
+#[inline(always)]
+pub fn map_watched<S: Space, W: Watch>(
+    table: &Table,
+    id: TypeId,
+    order: Order,
+    start: u64,
+    space: &mut S,
+    meter: &mut Meter,
+    store: &mut Store,
+    watch: &mut W,
+) -> Result<(), MapFault>
+    requires sound { IsSound table.now }
+    requires known { IsInTable table.now id }
+    requires empty { store.old ≡ empty store.old.room }
+    // Where the bytes are known: the value that the type means there, in its steps and with its values made.
+    ensures value { (bytes : List ℕ) → (S.view space.old).bytes ≡ Some bytes → OnOk result (Gives (nodes_of table.now) store.new (λ v. Answer (bits_of bytes) (type_named table.now id) order start (meter.old.limit - meter.old.steps) (Ok v) (meter.new.steps - meter.old.steps) (meter.new.made - meter.old.made))) }
+    // Where they are known: the fault that the type means there, or Limit where that takes more steps than are left.
+    ensures fault { (bytes : List ℕ) → (S.view space.old).bytes ≡ Some bytes → IfErr result (λ f. FaultMeans (bits_of bytes) (type_named table.now id) order start (meter.old.limit - meter.old.steps) f.kind f.at (meter.new.steps - meter.old.steps) (meter.new.made - meter.old.made)) }
+    // Whatever the space gives: a value fits its type by the parts that are kept, and each of them was counted.
+    ensures fits { OnOk result (Gives (nodes_of table.now) store.new (λ v. Fits (8 * (S.view space.old).len) (type_named table.now id) no_values start v)) }
+    ensures size { OnOk result (Gives (nodes_of table.now) store.new (λ v. meter.old.made + (value_slots NodeSlot v + value_slots ByteSlot v) ≤ meter.new.made)) }
+    ensures rise { meter.old.steps ≤ meter.new.steps }
+    ensures steps { meter.new.steps ≤ meter.old.steps + cost (type_named table.now id) (8 * (S.view space.old).len) }
+    ensures made { (meter.old.made ≤ meter.new.made) × (meter.new.made + meter.old.steps ≤ meter.old.made + meter.new.steps) }
+    ensures limit { IfErr result (λ f. f.kind ≡ MapFaultKind.Limit → (meter.new.steps ≡ meter.old.limit) × (meter.old.limit < meter.old.steps + cost (type_named table.now id) (8 * (S.view space.old).len))) }
+    ensures memory { IfErr result (λ f. f.kind ≡ MapFaultKind.Memory → store.old.room.least < room (type_named table.now id) (8 * (S.view space.old).len)) }
+    ensures device { IfErr result (λ f. f.kind ≡ MapFaultKind.Device → HasRisen (S.view space.old).failures (S.view space.new).failures) }
+    // A mapping that was broken off counted its steps and values up to the read that failed, or to what had no room.
+    ensures counts { IfErr result (λ f. CountsToThere f.kind (S.view space.old) meter.old meter.new store.old (plan (8 * (S.view space.old).len) (type_named table.now id) order no_values start)) }
+    // What ends a run is told at the mapping's start.
+    ensures place { IfErr result (λ f. EndsRun f.kind → f.at ≡ start) }
+    ensures emptied { OnErr result (store.new ≡ empty store.old.room) }
+    ensures room { store.new.room ≡ store.old.room }
+    // What a store that never grows holds at most.
+    ensures held { OnOk result (store.old.room.growth ≡ Never → (kind : Slot) → slots kind (kept (nodes_of table.now) store.new) ≤ store.old.room.least) }
+    ensures most { meter.new.limit ≡ meter.old.limit }
+    ensures len { (S.view space.new).len ≡ (S.view space.old).len }
+    ensures bytes { (S.view space.new).bytes ≡ (S.view space.old).bytes }
+    ensures failures { (S.view space.old).failures ≤ (S.view space.new).failures }
+{
     match map_type(
         table.nodes(),
         id.node,
@@ -81,6 +128,7 @@ pub fn map<S: Space>(
         space,
         meter,
         store,
+        watch,
     ) {
         Ok(_) => {
             let _fixed = store.never_grows();
@@ -94,7 +142,7 @@ pub fn map<S: Space>(
 }
 
 /// A stop, as the fault of a mapping that began at `start`.
-fn told(stop: Stop, start: u64) -> MapFault
+pub fn told(stop: Stop, start: u64) -> MapFault
     ensures { result ≡ told stop start }
 {
     let (kind, at) = match stop {

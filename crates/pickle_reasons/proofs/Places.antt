@@ -3,7 +3,8 @@ use Rattle.std.proofs.Common.{◌≡◌, ◌≤◌, ℕ, List, [], ◌++◌, len
 use Rattle.pickle_syntax.specs.Tree.{DeclarationTree}
 use Rattle.pickle_types.specs.Names.{Names}
 use Rattle.poke_batch.specs.Accepted.{IsAccepted}
-use Rattle.pickle_reasons.specs.Places.{TellsPlace, Explains, placed, unplaced, place_line, line_behind, column_behind, called_by, shown_behind}
+use Rattle.pickle_reasons.specs.Places.{Explains, placed, unplaced}
+use Rattle.pickle_script.specs.Places.{TellsPlace, place_line, line_behind, column_behind, called_by, shown_behind}
 
 pub tells_place : (pickle called before line_text below text sentence : List ℕ) (at line column : ℕ) → at ≤ length pickle → before ≡ take at pickle
     → line ≡ line_behind before → column ≡ column_behind before → line_text ≡ place_line called line column sentence → text ≡ line_text ++ below

@@ -2,11 +2,12 @@
 
 use crate::nodes::{Node, token_count};
 use crate::probe::Probe;
-use crate::script::{Part, Script};
-use crate::search::{Clause, Purpose};
+use crate::search::Clause;
 use crate::sorts::{Sort, say_sort, sort_of};
-use crate::text::Text;
 use crate::types::{name_of, unknown_type};
+use pickle_script::script::{Part, Script};
+use pickle_script::site::Purpose;
+use pickle_script::text::Text;
 use pickle_syntax::token::Attribute;
 use pickle_syntax::tree::{Clauses, Expression, Field, Form, Pickle, Suffix};
 use pickle_types::fault::FaultKind;

@@ -1,6 +1,6 @@
 //! What may stand at a place of a pickle: the parser is asked.
 
-use crate::text::Text;
+use pickle_script::text::Text;
 use poke_batch::accept::{Refusal, read_syntax};
 use std::alloc::{AllocError, Global};
 

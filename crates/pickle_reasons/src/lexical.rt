@@ -1,8 +1,8 @@
 //! Sentences about bytes that are no tokens.
 
 use crate::note::Note;
-use crate::script::cut;
-use crate::text::Text;
+use pickle_script::script::cut;
+use pickle_script::text::Text;
 use pickle_syntax::lexer::fault::LexFaultKind;
 use std::alloc::{AllocError, Global};
 

@@ -5,7 +5,6 @@ ghost use Rattle.std.specs.Prelude.{IfOk};
 ghost use Rattle.pickle_reasons.specs.Places.{Explains};
 
 mod advice;
-mod anatomy;
 mod clause;
 mod expected;
 mod lexical;
@@ -14,25 +13,22 @@ mod names;
 mod near;
 mod nodes;
 mod note;
-mod place;
 mod probe;
-mod script;
 mod search;
 mod shown;
 mod sorts;
 mod syntax;
-mod text;
 mod type_names;
 mod types;
 
 use crate::lexical::lexical_note;
 use crate::limits::{Limit, limit_note};
 use crate::note::{Note, note_text};
-use crate::script::Script;
 use crate::syntax::syntax_note;
-use crate::text::Text;
 use crate::type_names::no_such_type;
 use crate::types::types_note;
+use pickle_script::script::Script;
+use pickle_script::text::Text;
 use poke_batch::accept::{Refusal, accept};
 use std::alloc::{AllocError, Global};
 

@@ -1,8 +1,8 @@
 //! Sentences about limits of the syntax.
 
 use crate::note::Note;
-use crate::script::{Script, cut};
-use crate::text::Text;
+use pickle_script::script::{Script, cut};
+use pickle_script::text::Text;
 use poke_batch::accept::{Refusal, read_syntax};
 use std::alloc::{AllocError, Global};
 

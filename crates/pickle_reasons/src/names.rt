@@ -3,11 +3,11 @@
 use crate::clause::{Finding, Place};
 use crate::expected::say_list;
 use crate::near::nearest;
-use crate::script::{Part, Script};
 use crate::sorts::Sort;
 use crate::syntax::opening;
-use crate::text::Text;
 use crate::types::is_declared_as;
+use pickle_script::script::{Part, Script};
+use pickle_script::text::Text;
 use std::alloc::{AllocError, Global};
 
 /// The most names that are tried.

@@ -2,7 +2,7 @@
 
 ghost use Rattle.std.specs.Prelude.{◌≤◌};
 
-use crate::script::Part;
+use pickle_script::script::Part;
 use pickle_syntax::tree::{Expression, Reference, Suffix, Target};
 use std::alloc::{AllocError, Global};
 

@@ -1,13 +1,13 @@
 //! A sentence about a place of a pickle, and its text.
 
 ghost use Rattle.std.specs.Prelude.{◌≡◌, IfOk};
-ghost use Rattle.pickle_reasons.specs.Places.{TellsPlace, place_line};
+ghost use Rattle.pickle_script.specs.Places.{TellsPlace, place_line};
 
-use crate::place::{Place, place_behind};
-use crate::script::cut;
 use crate::shown::Shown;
-use crate::text::Text;
 use itoa::Buffer;
+use pickle_script::place::{Place, place_behind};
+use pickle_script::script::cut;
+use pickle_script::text::Text;
 use std::alloc::{AllocError, Global};
 
 /// A sentence about some bytes of a pickle.
@@ -50,10 +50,9 @@ fn place_line(
 ) -> Result<Vec<u8>, AllocError>
     ensures { IfOk result (λ text. text.items ≡ place_line called.now place.line place.column sentence.now) }
 {
-    let text = Text::new(alloc).say(b"  ")?.say(called)?.say(b":")?;
-    let text = text.say_number(place.line)?.say(b":")?;
-    let text = text.say_number(place.column)?.say(b": ")?;
-    Ok(text.say(sentence)?.say(b"\n")?.into_bytes())
+    let text = Text::new(alloc).say(b"  ")?.say_place(called, place)?;
+    let text = text.say(b": ")?.say(sentence)?.say(b"\n")?;
+    Ok(text.into_bytes())
 }
 
 /// The lines below the place: a line of the pickle, the mark, and the help.

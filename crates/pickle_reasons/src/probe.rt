@@ -1,6 +1,6 @@
 //! Questions to the checker of types: whether it refuses a pickle that is made of parts of another.
 
-use crate::text::Text;
+use pickle_script::text::Text;
 use pickle_types::fault::FaultKind;
 use poke_batch::accept::{Refusal, accept};
 use std::alloc::{AllocError, Global};

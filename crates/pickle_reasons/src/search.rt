@@ -1,23 +1,15 @@
 //! Where in a declaration a fault of its types is: the checker is asked about parts of it.
 
-use crate::anatomy::{FieldParts, base, bound, field_parts, fields, opening_brace};
 use crate::probe::Probe;
-use crate::script::{Part, Script, cut};
-use crate::text::Text;
+use pickle_script::anatomy::{FieldParts, base, bound, field_parts, fields, opening_brace};
+use pickle_script::script::{Part, Script, cut};
+use pickle_script::site::Purpose;
+use pickle_script::text::Text;
 use pickle_types::fault::FaultKind;
 use std::alloc::{AllocError, Global};
 
 /// The most types inside a type.
 const MOST_LEVELS: usize = 65;
-
-/// What an expression is for.
-#[derive(Clone, Copy, Debug, PartialEq, Eq)]
-pub enum Purpose {
-    Constraint,
-    Condition,
-    Label,
-    Bound,
-}
 
 /// An expression of a field or an array, and a probe that has a constraint in its place.
 #[derive(Drop)]
@@ -29,7 +21,7 @@ pub struct Clause {
 
 /// A part of a declaration in which a fault is.
 #[derive(Drop)]
-pub enum Site {
+pub enum Located {
     /// A struct or union as a whole.
     Body(Part, Probe),
     /// A type that is no struct or union, without its array suffix, or the integer type of an integral struct.
@@ -40,7 +32,7 @@ pub enum Site {
 }
 
 /// The part of a type in which the fault of a probe is, which is for the whole type.
-pub fn locate(script: &Script<'_>, form: Part, probe: Probe) -> Result<Site, AllocError> {
+pub fn locate(script: &Script<'_>, form: Part, probe: Probe) -> Result<Located, AllocError> {
     let mut form = form;
     let mut probe = probe;
     for _ in 0..MOST_LEVELS {
@@ -52,20 +44,20 @@ pub fn locate(script: &Script<'_>, form: Part, probe: Probe) -> Result<Site, All
                 first: form.first.saturating_add(1),
                 end: brace,
             };
-            return Ok(Site::Base(reference, probe));
+            return Ok(Located::Base(reference, probe));
         }
         let integral = is_integral(script, form, brace);
         if integral && probe.kind == FaultKind::IntegralWidths {
-            return Ok(Site::Body(form, probe));
+            return Ok(Located::Body(form, probe));
         }
         let Some(field) = failing_field(script, form, brace, &probe)? else {
-            return Ok(Site::Body(form, probe));
+            return Ok(Located::Body(form, probe));
         };
         let parts = field_parts(script, field);
         let whole = field_probe(script, form, field, &probe)?;
         let inside = whole.around(b"", b" n__")?;
         if integral && probe.kind == FaultKind::NotHere && is_plain(script, parts.form) {
-            return Ok(Site::Base(parts.form, inside));
+            return Ok(Located::Base(parts.form, inside));
         }
         if !inside.fails(script.slice(parts.form))? {
             return in_field(script, parts, whole);
@@ -73,7 +65,7 @@ pub fn locate(script: &Script<'_>, form: Part, probe: Probe) -> Result<Site, All
         form = parts.form;
         probe = inside;
     }
-    Ok(Site::Body(form, probe))
+    Ok(Located::Body(form, probe))
 }
 
 /// Whether a struct or union with its `{` at `brace` is an integral struct.
@@ -171,15 +163,15 @@ fn fails_up_to(
 }
 
 /// The part of a type without braces in which the fault is.
-fn in_simple(script: &Script<'_>, form: Part, probe: Probe) -> Result<Site, AllocError> {
+fn in_simple(script: &Script<'_>, form: Part, probe: Probe) -> Result<Located, AllocError> {
     if probe.kind == FaultKind::NotHere {
-        return Ok(Site::Base(form, probe));
+        return Ok(Located::Base(form, probe));
     }
     let base = base(script, form);
     if base.end == form.end || probe.fails(script.slice(base))? {
-        return Ok(Site::Base(base, probe));
+        return Ok(Located::Base(base, probe));
     }
-    Ok(Site::Clause(Clause {
+    Ok(Located::Clause(Clause {
         purpose: Purpose::Bound,
         part: bound(script, form),
         probe: probe.around(b"struct { byte n__p : ", b";}")?,
@@ -187,9 +179,9 @@ fn in_simple(script: &Script<'_>, form: Part, probe: Probe) -> Result<Site, Allo
 }
 
 /// The part of a field in which the fault is, which isn't in its type.
-fn in_field(script: &Script<'_>, parts: FieldParts, probe: Probe) -> Result<Site, AllocError> {
+fn in_field(script: &Script<'_>, parts: FieldParts, probe: Probe) -> Result<Located, AllocError> {
     if probe.kind == FaultKind::NotHere || probe.kind == FaultKind::DuplicateField {
-        return Ok(Site::Field(parts, probe));
+        return Ok(Located::Field(parts, probe));
     }
     if has_fault(script, &parts, b"@", parts.label, &probe)? {
         return seen_before(Purpose::Label, parts.label, &probe);
@@ -201,13 +193,13 @@ fn in_field(script: &Script<'_>, parts: FieldParts, probe: Probe) -> Result<Site
         let text = Text::new(probe.alloc)
             .say(named(script, &parts))?
             .say(b" : ")?;
-        return Ok(Site::Clause(Clause {
+        return Ok(Located::Clause(Clause {
             purpose: Purpose::Constraint,
             part: parts.constraint,
             probe: probe.around(text.into_bytes().as_slice(), b"")?,
         }));
     }
-    Ok(Site::Field(parts, probe))
+    Ok(Located::Field(parts, probe))
 }
 
 /// A field's type and name as they are written.
@@ -235,8 +227,8 @@ fn has_fault(
 }
 
 /// An expression that sees only the fields before its own.
-fn seen_before(purpose: Purpose, part: Part, probe: &Probe) -> Result<Site, AllocError> {
-    Ok(Site::Clause(Clause {
+fn seen_before(purpose: Purpose, part: Part, probe: &Probe) -> Result<Located, AllocError> {
+    Ok(Located::Clause(Clause {
         purpose,
         part,
         probe: probe.around(b"struct { byte n__p : ", b";} n__")?,

@@ -1,7 +1,7 @@
 //! What an expression is, in words: the checker is asked.
 
 use crate::probe::Probe;
-use crate::text::Text;
+use pickle_script::text::Text;
 use std::alloc::{AllocError, Global};
 
 /// The longest front of a pickle for which the width of an integer is sought, in bytes.

@@ -4,8 +4,8 @@ use crate::advice::{Around, advice};
 use crate::expected::{Expected, goes_on, say_expected};
 use crate::near::nearest;
 use crate::note::Note;
-use crate::script::{Script, cut};
-use crate::text::Text;
+use pickle_script::script::{Script, cut};
+use pickle_script::text::Text;
 use std::alloc::{AllocError, Global};
 
 /// The words that begin a declaration or a prefix, for which a near one may have been written.

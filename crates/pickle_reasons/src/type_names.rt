@@ -2,9 +2,9 @@
 
 use crate::expected::say_list;
 use crate::near::nearest;
-use crate::script::{Part, Script};
-use crate::text::Text;
 use crate::types::declared_before;
+use pickle_script::script::{Part, Script};
+use pickle_script::text::Text;
 use std::alloc::{AllocError, Global};
 
 /// The most types that are told.

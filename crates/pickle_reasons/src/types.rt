@@ -1,14 +1,14 @@
 //! Sentences about types that the checker refuses.
 
-use crate::anatomy::{FieldParts, declaration};
 use crate::clause::{Finding, clause_finding};
 use crate::near::nearest;
 use crate::note::Note;
-use crate::place::place_behind;
 use crate::probe::Probe;
-use crate::script::{Part, Script, cut};
-use crate::search::{Site, locate};
-use crate::text::Text;
+use crate::search::{Located, locate};
+use pickle_script::anatomy::{FieldParts, declaration};
+use pickle_script::place::place_behind;
+use pickle_script::script::{Part, Script, cut};
+use pickle_script::text::Text;
 use pickle_types::fault::FaultKind;
 use std::alloc::{AllocError, Global};
 
@@ -58,10 +58,10 @@ fn finding(
         back: Vec::from_slice(alloc, b";")?,
     };
     match locate(script, form, probe)? {
-        Site::Body(form, probe) => of_body(alloc, script, name, form, &probe),
-        Site::Base(base, probe) => of_base(alloc, script, base, &probe),
-        Site::Field(parts, probe) => of_field(alloc, script, &parts, &probe),
-        Site::Clause(clause) => clause_finding(alloc, script, &clause),
+        Located::Body(form, probe) => of_body(alloc, script, name, form, &probe),
+        Located::Base(base, probe) => of_base(alloc, script, base, &probe),
+        Located::Field(parts, probe) => of_field(alloc, script, &parts, &probe),
+        Located::Clause(clause) => clause_finding(alloc, script, &clause),
     }
 }
 

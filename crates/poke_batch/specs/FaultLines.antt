@@ -1,5 +1,5 @@
 -- The lines that tell the faults of a mapping.
-use Rattle.std.specs.Prelude.{ℕ, List, codes}
+use Rattle.std.specs.Prelude.{ℕ, codes}
 use Rattle.pickle_map.specs.declared.faults.MapFaultKind.{MapFaultKind}
 use Rattle.pickle_map.specs.declared.faults.MapFaultKind.TheVariants.{Device, Memory}
 use Rattle.pickle_map.specs.FaultNames.{fault_kind}

@@ -5,6 +5,8 @@ use Rattle.poke_batch.specs.declared.status.Status.TheVariants.{Done, Fault, Ref
 use Rattle.poke_batch.specs.Lines.{fault_line}
 use Rattle.poke_batch.specs.Told.{Saying, Says}
 use Rattle.value_text.specs.ValueText.{is_plain, escape_text}
+use Rattle.poke_batch.specs.declared.each.Kept.{Kept}
+use Rattle.std.specs.Io.KnownBytes.{Appends}
 
 -- a byte of a name, as in a string, but for `"` (34), which stands for itself
 abbrev pub name_byte : ℕ → List ℕ
@@ -42,3 +44,7 @@ pub record TellsFile (IsRight : Saying → Type 0) (Takes : Option (List ℕ) �
   pub line : List ℕ
   pub says : Says IsRight status (Some []) (Some text) (Some []) (Some line)
   pub takes : Takes old new (file_line name status (written_of status text line))
+
+-- the line of a file is that of what is kept of its run
+abbrev pub TellsKept : Kept → (name : List ℕ) → Status → (old new : Option (List ℕ)) → Type 0
+TellsKept kept name status old new = Appends old new (file_line name status (written_of status kept.text.items kept.line.items))

@@ -4,7 +4,7 @@ ghost use Rattle.std.specs.Prelude.{◌≡◌, ℕ, List, [], IfOk, OnErr};
 ghost use Rattle.std.specs.Io.KnownBytes.{Appends};
 ghost use Rattle.bit_space.specs.SpaceView.{Keeps};
 ghost use Rattle.pickle_types.specs.TypeTable.{type_named, IsSound, IsInTable};
-ghost use Rattle.poke_batch.specs.FileLine.{TellsFile, written_of};
+ghost use Rattle.poke_batch.specs.FileLine.{TellsFile, TellsKept, written_of};
 ghost use Rattle.poke_batch.specs.Runs.{IsAsked};
 ghost use Rattle.poke_batch.specs.RunsUnder.{MapsUnder, IsStoreOf};
 ghost use Rattle.value_text.specs.Written.{AppendsPart};
@@ -43,6 +43,13 @@ impl Kept {
             line: Vec::new(alloc),
         })
     }
+
+    /// The line of the last run; none where it wrote a text.
+    pub fn line(&self) -> &[u8]
+        ensures { result.now ≡ self.now.line.items }
+    {
+        self.line.as_slice()
+    }
 }
 
 /// Maps a type of a table over a file, and writes the file's line: its name, the status of its run, and what
@@ -65,6 +72,8 @@ pub fn run_file<S: Space, W: Write>(
         → IfOk result (λ status. TellsFile (MapsUnder pickle ask.now terms.now (S.view space.old) (S.view space.new)) Appends name.now status (W.contents w.old) (W.contents w.new)) }
     ensures err { (pickle : List ℕ) → IsAsked pickle ask.now.name.now (type_named table.now id)
         → OnErr result ((status : Status) × TellsFile (MapsUnder pickle ask.now terms.now (S.view space.old) (S.view space.new)) AppendsPart name.now status (W.contents w.old) (W.contents w.new)) }
+    // What is written is what is kept.
+    ensures kept { IfOk result (λ status. TellsKept kept.new name.now status (W.contents w.old) (W.contents w.new)) }
     ensures keeps { Keeps (S.view space.old) (S.view space.new) }
 {
     kept.text.clear();

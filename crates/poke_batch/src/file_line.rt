@@ -39,7 +39,8 @@ fn column(status: Status) -> &'static [u8]
     }
 }
 
-fn put_name<W: Write>(w: &mut W, name: &[u8]) -> Result<(), WriteFault>
+/// Writes the name of a file, escaped as in its line.
+pub fn put_name<W: Write>(w: &mut W, name: &[u8]) -> Result<(), WriteFault>
     ensures ok { OnOk result (Appends (W.contents w.old) (W.contents w.new) (shown_name name.now)) }
     ensures err { OnErr result (AppendsPart (W.contents w.old) (W.contents w.new) (shown_name name.now)) }
 {

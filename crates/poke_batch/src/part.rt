@@ -33,7 +33,8 @@ fn part_of<'a>(value: ValueRef<'a>, steps: &[Step]) -> Option<ValueRef<'a>>
     Some(part)
 }
 
-fn step_to<'a>(value: ValueRef<'a>, step: &Step) -> Option<ValueRef<'a>>
+/// The part that a step leads to, where the value has it.
+pub fn step_to<'a>(value: ValueRef<'a>, step: &Step) -> Option<ValueRef<'a>>
     ensures { option_map value_shown result ≡ step_to step.now (value_shown value.entry) }
 {
     match step {

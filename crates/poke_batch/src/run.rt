@@ -190,8 +190,8 @@ pub fn map_stored<S: Space, O: Write, E: Write>(
     }
 }
 
-// Tells the fault of a mapping that began at a bit. In a store of the most slots want of memory is want of slots.
-fn tell_end<E: Write>(err: &mut E, fault: MapFault, most: Option<u64>, start: u64) -> Status
+/// Tells the fault of a mapping that began at a bit. In a store of the most slots want of memory is want of slots.
+pub fn tell_end<E: Write>(err: &mut E, fault: MapFault, most: Option<u64>, start: u64) -> Status
     ensures { (out : Option (List ℕ)) → IsSaid (end_saying most start fault.kind fault.at) result out out (E.contents err.old) (E.contents err.new) }
 {
     match most {

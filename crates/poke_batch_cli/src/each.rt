@@ -3,18 +3,21 @@ ghost use Rattle.pickle_types.specs.TypeTable.{IsSound, IsInTable};
 ghost use Rattle.poke_batch.specs.RunsUnder.{IsStoreOf};
 
 use crate::files::open_space;
+use crate::jobs::is_mapped;
 use arrayvec::ArrayVec;
-use bit_space::{Memory, OpenFault};
+use bit_space::{Memory, OpenFault, Space};
+use mapping_reasons::reasons_in;
 use pickle_types::type_table::{Table, TypeId};
 use poke_batch::accept::{accept, tell_refusal};
 use poke_batch::ask::Ask;
 use poke_batch::each::{Kept, run_file};
-use poke_batch::file_line::put_file_line;
+use poke_batch::file_line::{put_file_line, put_name};
 use poke_batch::status::Status;
 use poke_batch::tell::{fail, refuse};
 use poke_batch::terms::Terms;
 use poke_batch::words::FileNames;
-use poke_batch::write::WriteFault;
+use poke_batch::write::{WriteFault, put};
+use std::alloc::Global;
 use std::fs::File;
 use std::io::{BufRead, BufReader, ErrorKind, Input, Read, Write};
 use std::rt::Files;
@@ -55,13 +58,34 @@ impl From<WriteFault> for ListFault {
     }
 }
 
+/// Where it goes why files end as they do.
+#[derive(Drop)]
+pub struct WhyFiles<'a, A: Write> {
+    pub aside: &'a mut A,
+    /// The pickle's path.
+    pub path: &'a [u8],
+    /// Whether that is asked.
+    pub asked: bool,
+}
+
+/// What every file is mapped by.
+#[derive(Clone, Copy)]
+struct Typed<'a> {
+    pickle: &'a [u8],
+    table: &'a Table,
+    id: TypeId,
+    ask: &'a Ask<'a>,
+    terms: &'a Terms,
+}
+
 /// Maps a type over one file after the other, and writes a line for each. The status is the greatest of all.
-pub fn run_each<R: Files<File = File> + Input + AllocGlobal, O: Write, E: Write>(
+pub fn run_each<R: Files<File = File> + Input + AllocGlobal, A: Write, O: Write, E: Write>(
     rt: &R,
     pickle: &[u8],
     ask: &Ask<'_>,
     terms: &Terms,
     files: &FileNames,
+    why: &mut WhyFiles<'_, A>,
     out: &mut O,
     err: &mut E,
 ) -> Status {
@@ -72,75 +96,76 @@ pub fn run_each<R: Files<File = File> + Input + AllocGlobal, O: Write, E: Write>
     let Some(id) = table.find(ask.name) else {
         return refuse(err, b"NoSuchType");
     };
-    match run_files(rt, &table, id, ask, terms, files, out) {
+    let typed = Typed {
+        pickle,
+        table: &table,
+        id,
+        ask,
+        terms,
+    };
+    match run_files(rt, typed, files, why, out) {
         Ok(status) => status,
         Err(fault) => fail(err, fault.name().as_bytes()),
     }
 }
 
-fn run_files<R: Files<File = File> + Input + AllocGlobal, O: Write>(
+fn run_files<R: Files<File = File> + Input + AllocGlobal, A: Write, O: Write>(
     rt: &R,
-    table: &Table,
-    id: TypeId,
-    ask: &Ask<'_>,
-    terms: &Terms,
+    typed: Typed<'_>,
     files: &FileNames,
+    why: &mut WhyFiles<'_, A>,
     out: &mut O,
 ) -> Result<Status, ListFault>
-    requires sound { IsSound table.now }
-    requires known { IsInTable table.now id }
+    requires sound { IsSound typed.table.now }
+    requires known { IsInTable typed.table.now typed.id }
 {
     match files {
-        FileNames::Words(names) => run_words(rt, table, id, ask, terms, names.as_slice(), out),
+        FileNames::Words(names) => run_words(rt, typed, names.as_slice(), why, out),
         FileNames::EndedByZero(path) if path.as_str() == "-" => {
-            run_list(rt, table, id, ask, terms, rt.reader(), out)
+            run_list(rt, typed, rt.reader(), why, out)
         }
         FileNames::EndedByZero(path) => match File::open(rt, path.as_str()) {
-            Ok(file) => run_list(rt, table, id, ask, terms, file, out),
+            Ok(file) => run_list(rt, typed, file, why, out),
             Err(_) => Err(ListFault::Read),
         },
     }
 }
 
 // Maps a type over the files that words name.
-fn run_words<R: Files<File = File> + Input + AllocGlobal, O: Write>(
+fn run_words<R: Files<File = File> + Input + AllocGlobal, A: Write, O: Write>(
     rt: &R,
-    table: &Table,
-    id: TypeId,
-    ask: &Ask<'_>,
-    terms: &Terms,
+    typed: Typed<'_>,
     names: &[String],
+    why: &mut WhyFiles<'_, A>,
     out: &mut O,
 ) -> Result<Status, ListFault>
-    requires sound { IsSound table.now }
-    requires known { IsInTable table.now id }
+    requires sound { IsSound typed.table.now }
+    requires known { IsInTable typed.table.now typed.id }
 {
-    let mut kept = Kept::new(rt.alloc(), terms.most_slots)?;
+    let mut kept = Kept::new(rt.alloc(), typed.terms.most_slots)?;
     let mut greatest = Status::Done;
     for name in names {
-        let status = run_name(rt, table, id, ask, terms, &mut kept, name.as_bytes(), out)?;
+        let status = run_name(rt, typed, &mut kept, name.as_bytes(), why, out)?;
         greatest = greater(greatest, status);
     }
     Ok(greatest)
 }
 
 // Maps a type over the files that a list names, each name ended by a byte 0; the last may lack it.
-fn run_list<R: Files<File = File> + Input + AllocGlobal, L: Read + Drop, O: Write>(
+fn run_list<R: Files<File = File> + Input + AllocGlobal, L: Read + Drop, A: Write, O: Write>(
     rt: &R,
-    table: &Table,
-    id: TypeId,
-    ask: &Ask<'_>,
-    terms: &Terms,
+    typed: Typed<'_>,
     list: L,
+    why: &mut WhyFiles<'_, A>,
     out: &mut O,
 ) -> Result<Status, ListFault>
-    requires sound { IsSound table.now }
-    requires known { IsInTable table.now id }
+    requires sound { IsSound typed.table.now }
+    requires known { IsInTable typed.table.now typed.id }
 {
     let Ok(mut list) = BufReader::new(rt.alloc(), list) else {
         return Err(ListFault::Memory);
     };
-    let mut kept = Kept::new(rt.alloc(), terms.most_slots)?;
+    let mut kept = Kept::new(rt.alloc(), typed.terms.most_slots)?;
     let mut name = Vec::new(rt.alloc());
     let mut greatest = Status::Done;
     // (a loop whose end the list decides: no list has as many names)
@@ -148,7 +173,7 @@ fn run_list<R: Files<File = File> + Input + AllocGlobal, L: Read + Drop, O: Writ
         if !read_name(&mut list, &mut name)? {
             break;
         }
-        let status = run_name(rt, table, id, ask, terms, &mut kept, &name, out)?;
+        let status = run_name(rt, typed, &mut kept, &name, why, out)?;
         greatest = greater(greatest, status);
     }
     Ok(greatest)
@@ -171,27 +196,25 @@ fn read_name<L: BufRead>(list: &mut L, name: &mut Vec<u8>) -> Result<bool, ListF
 }
 
 // Maps a type over a file, and writes its line. A file that can't be opened has a line too.
-fn run_name<R: Files<File = File> + AllocGlobal, O: Write>(
+fn run_name<R: Files<File = File> + AllocGlobal, A: Write, O: Write>(
     rt: &R,
-    table: &Table,
-    id: TypeId,
-    ask: &Ask<'_>,
-    terms: &Terms,
+    typed: Typed<'_>,
     kept: &mut Kept,
     name: &[u8],
+    why: &mut WhyFiles<'_, A>,
     out: &mut O,
 ) -> Result<Status, WriteFault>
-    requires sound { IsSound table.now }
-    requires known { IsInTable table.now id }
-    requires store { IsStoreOf terms.now.most_slots kept.old.store }
-    ensures store { IsStoreOf terms.now.most_slots kept.new.store }
+    requires sound { IsSound typed.table.now }
+    requires known { IsInTable typed.table.now typed.id }
+    requires store { IsStoreOf typed.terms.now.most_slots kept.old.store }
+    ensures store { IsStoreOf typed.entry.terms.now.most_slots kept.new.store }
 {
     let opened = match str::from_utf8(name) {
         Ok(path) => open_space(rt, path),
         Err(_) => Err(OpenFault::NotOpened.into()),
     };
     match opened {
-        Ok(mut space) => run_file(table, id, ask, terms, kept, name, &mut space, out),
+        Ok(mut space) => run_space(rt.alloc(), typed, kept, name, &mut space, why, out),
         Err(fault) => {
             let mut line: ArrayVec<u8, 128> = ArrayVec::new();
             let status = fail(&mut line, fault.name().as_bytes());
@@ -199,6 +222,59 @@ fn run_name<R: Files<File = File> + AllocGlobal, O: Write>(
             Ok(status)
         }
     }
+}
+
+// Maps a type over a file that is open, and writes its line; behind it why it ends so, where that is asked.
+fn run_space<S: Space, A: Write, O: Write>(
+    alloc: Global,
+    typed: Typed<'_>,
+    kept: &mut Kept,
+    name: &[u8],
+    space: &mut S,
+    why: &mut WhyFiles<'_, A>,
+    out: &mut O,
+) -> Result<Status, WriteFault>
+    requires sound { IsSound typed.table.now }
+    requires known { IsInTable typed.table.now typed.id }
+    requires store { IsStoreOf typed.terms.now.most_slots kept.old.store }
+    ensures store { IsStoreOf typed.entry.terms.now.most_slots kept.new.store }
+{
+    let Typed {
+        pickle,
+        table,
+        id,
+        ask,
+        terms,
+    } = typed;
+    let status = run_file(table, id, ask, terms, kept, name, space, out)?;
+    if why.asked && is_mapped(status) {
+        let line = kept.line();
+        let path = why.path;
+        if let Ok(lines) = reasons_in(alloc, pickle, path, table, id, ask, terms, space, line) {
+            put_reasons(why.aside, name, lines.as_slice(), out)?;
+        }
+    }
+    Ok(status)
+}
+
+// Writes the lines that tell why a file ends as it does, behind its name and what `out` has of it.
+fn put_reasons<A: Write, O: Write>(
+    aside: &mut A,
+    name: &[u8],
+    lines: &[u8],
+    out: &mut O,
+) -> Result<(), WriteFault> {
+    if lines.is_empty() {
+        return Ok(());
+    }
+    if out.flush().is_err() {
+        return Err(WriteFault);
+    }
+    // The file's status is that of its line, whatever becomes of the reasons for it.
+    let _named = put_name(aside, name);
+    let _told = put(aside, b":\n");
+    let _told = put(aside, lines);
+    Ok(())
 }
 
 fn greater(a: Status, b: Status) -> Status {

@@ -1,6 +1,8 @@
 //! Each job, over its files and a writer for its answer.
-use crate::each::run_each;
+use crate::Line;
+use crate::each::{WhyFiles, run_each};
 use crate::files::{FileFault, open_space, read_pickle_of};
+use mapping_reasons::reasons;
 use pickle_reasons::explanation;
 use poke_batch::ask::Ask;
 use poke_batch::dump::dump;
@@ -20,19 +22,20 @@ use text_bounds::run::run_bound_text;
 /// The bytes of an answer that are gathered before they are written.
 const GATHERED: usize = 65_536;
 
-/// Does a job. Its answer goes to `out`, which has it all before the status is told, its line to `err`, and why it is refused, where
-/// that is asked, to `reason`.
-pub fn do_job<R: Files<File = File> + Input + AllocGlobal, O: Write + Drop, E: Write>(
+/// Does a job. Its answer goes to `out`, which has it all before the status is told, and its line to `err`. Why it ends so, where
+/// that is asked, goes to `reason`; of one file among many to `aside`, behind the file's line.
+pub fn do_job<R: Files<File = File> + Input + AllocGlobal, O: Write + Drop, A: Write>(
     rt: &R,
     asked: Asked,
     out: O,
-    err: &mut E,
+    err: &mut Line,
+    aside: &mut A,
     reason: &mut Vec<u8>,
 ) -> Status {
     let Ok(mut out) = BufWriter::with_capacity(rt.alloc(), GATHERED, out) else {
         return fail(err, b"Memory");
     };
-    let status = match run_job(rt, asked, &mut out, err, reason) {
+    let status = match run_job(rt, asked, &mut out, err, aside, reason) {
         Ok(status) => status,
         Err(fault) => fail(err, fault.name().as_bytes()),
     };
@@ -41,17 +44,19 @@ pub fn do_job<R: Files<File = File> + Input + AllocGlobal, O: Write + Drop, E: W
     }
     // What the writer didn't take isn't offered to it again.
     let (_writer, _rest) = out.into_parts();
+    reason.clear();
     if status == Status::Outside {
         return status;
     }
     fail(err, WriteFault.name().as_bytes())
 }
 
-fn run_job<R: Files<File = File> + Input + AllocGlobal, O: Write, E: Write>(
+fn run_job<R: Files<File = File> + Input + AllocGlobal, O: Write, A: Write>(
     rt: &R,
     asked: Asked,
     out: &mut O,
-    err: &mut E,
+    err: &mut Line,
+    aside: &mut A,
     reason: &mut Vec<u8>,
 ) -> Result<Status, FileFault> {
     let Asked { job, why } = asked;
@@ -121,7 +126,12 @@ fn run_job<R: Files<File = File> + Input + AllocGlobal, O: Write, E: Write>(
                 mode,
             };
             let pickle = read_pickle_of(rt, path.as_str())?;
-            let status = run_each(rt, &pickle, &ask, &terms, &files, out, err);
+            let mut why_files = WhyFiles {
+                aside,
+                path: path.as_bytes(),
+                asked: why,
+            };
+            let status = run_each(rt, &pickle, &ask, &terms, &files, &mut why_files, out, err);
             explain(
                 rt.alloc(),
                 why,
@@ -212,7 +222,7 @@ fn run_job<R: Files<File = File> + Input + AllocGlobal, O: Write, E: Write>(
 }
 
 // Maps a type of a pickle over a file, each at its path.
-fn map_file<R: Files<File = File> + Input + AllocGlobal, O: Write, E: Write>(
+fn map_file<R: Files<File = File> + Input + AllocGlobal, O: Write>(
     rt: &R,
     why: bool,
     path: &str,
@@ -220,7 +230,7 @@ fn map_file<R: Files<File = File> + Input + AllocGlobal, O: Write, E: Write>(
     ask: &Ask<'_>,
     terms: &Terms,
     out: &mut O,
-    err: &mut E,
+    err: &mut Line,
     reason: &mut Vec<u8>,
 ) -> Result<Status, FileFault> {
     let pickle = read_pickle_of(rt, path)?;
@@ -235,7 +245,19 @@ fn map_file<R: Files<File = File> + Input + AllocGlobal, O: Write, E: Write>(
         Some(ask.name),
         reason,
     );
+    if why && is_mapped(status) {
+        let path = path.as_bytes();
+        let line = err.as_slice();
+        if let Ok(lines) = reasons(rt.alloc(), &pickle, path, ask, terms, &mut space, line) {
+            *reason = lines;
+        }
+    }
     Ok(status)
+}
+
+/// Whether a run that ended so mapped its file, and nothing outside the mapping failed.
+pub fn is_mapped(status: Status) -> bool {
+    matches!(status, Status::Done | Status::Fault)
 }
 
 // Tells why a pickle or a name is refused, where that is asked and a run ended so. Nothing is told where there is no memory for it: the

@@ -18,13 +18,20 @@ use std::io::{IsTerminal, Write};
 use std::process::ExitCode;
 
 /// The line that a job tells on standard error. The longest has 62 bytes.
-type Line = ArrayVec<u8, 128>;
+pub type Line = ArrayVec<u8, 128>;
 
 fn main(rt: HostRuntime) -> ExitCode {
     let mut line = Line::new();
     let mut reason = Vec::new(rt.alloc());
     let status = match read_job(&rt) {
-        Ok(asked) => do_job(&rt, asked, rt.stdout(), &mut line, &mut reason),
+        Ok(asked) => do_job(
+            &rt,
+            asked,
+            rt.stdout(),
+            &mut line,
+            &mut rt.stderr(),
+            &mut reason,
+        ),
         Err(fault) => tell_words(fault, &mut rt.stdout(), &mut rt.stderr(), &mut line),
     };
     let told = put(&mut rt.stderr(), line.as_slice());

@@ -2,4 +2,6 @@
 #![tactic(auto)]
 
 #[cfg(test)]
+mod sites;
+#[cfg(test)]
 mod types;

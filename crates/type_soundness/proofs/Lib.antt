@@ -2,3 +2,12 @@ mod Exact
 mod Results
 mod Members
 mod Safe
+mod Levels
+mod Values
+mod Fitting
+mod Trees
+mod WellTyped
+mod Evaluations
+mod Faults
+mod Answered
+mod Rows

@@ -1,3 +1,6 @@
 pub mod Sorts
 pub mod Derivations
+pub mod Evaluated
+pub mod Yielded
 pub mod Laws
+pub mod MappingLaws

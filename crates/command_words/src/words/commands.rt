@@ -26,7 +26,7 @@ Options of map:
   --get PATH       write a part of the value: . or steps of .name, .place, [place] [default: .]
 
 Options of map, each, bound, check and types:
-  --why            tell why the pickle or the type's name is refused: line, column and a sentence [default: not told]
+  --why            tell why a pickle or a type's name is refused, or what stops a mapping [default: not told]
 
 Options of bound:
   --text           print the most bytes of the text too
@@ -305,7 +305,7 @@ fn why<'a>(alloc: Global) -> Arg<'a> {
         .long("why")
         .action(ArgAction::SetTrue)
         .help(
-            "Tell why the pickle or TYPE is refused: line, column and a sentence [default: not told]",
+            "Tell why the pickle or TYPE is refused, or what stops a mapping [default: not told]",
         )
 }
 

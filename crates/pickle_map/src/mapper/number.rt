@@ -17,17 +17,18 @@ ghost use Rattle.pickle_map.specs.Stops.{stop_finish};
 
 use crate::evaluate::ranges::low_digits;
 use crate::faults::MapFaultKind;
-use crate::mapper::clauses::check;
+use crate::mapper::blame::check;
 use crate::mapper::keep::{close_struct, keep_integer, keep_offset};
 use crate::mapper::read::read_digits;
 use crate::mapper::stop::Stop;
+use crate::mapper::watch::Watch;
 use crate::store::Store;
 use bit_space::{Meter, Order, Space};
 use pickle_types::integer::IntegerType;
 use pickle_types::view::{Node, Part, Shape};
 
 /// Maps the type at a place of the table, which is read as one number, from the bit `start` on, and gives the bit behind it.
-pub(crate) fn map_number<S: Space>(
+pub(crate) fn map_number<S: Space, W: Watch>(
     nodes: &[Node],
     at: usize,
     number: IntegerType,
@@ -36,6 +37,7 @@ pub(crate) fn map_number<S: Space>(
     space: &mut S,
     meter: &mut Meter,
     store: &mut Store,
+    watch: &mut W,
 ) -> Result<u64, Stop>
     requires table { IsTable nodes.now }
     requires at { at < length nodes.now }
@@ -57,7 +59,7 @@ pub(crate) fn map_number<S: Space>(
     ensures device { IfErr result (λ stop. stop ≡ Stop.Device → HasRisen (S.view space.old).failures (S.view space.new).failures) }
 {
     let digits = read_digits(space, start, number.width, order, meter)?;
-    place_number(nodes, at, digits, start, meter, store)?;
+    place_number(nodes, at, digits, start, meter, store, watch)?;
     Ok(start + u64::from(number.width))
 }
 
@@ -94,13 +96,14 @@ pub(crate) fn map_integer<S: Space>(
 
 /// Keeps a number as the type at a place of the table, after its own first step.
 #[cycle(placing)]
-fn place_number(
+fn place_number<W: Watch>(
     nodes: &[Node],
     at: usize,
     digits: u64,
     start: u64,
     meter: &mut Meter,
     store: &mut Store,
+    watch: &mut W,
 ) -> Result<(), Stop>
     requires table { IsTable nodes.now }
     requires at { at < length nodes.now }
@@ -126,7 +129,9 @@ fn place_number(
             name: _,
             number,
             fields,
-        } => place_integral(nodes, at, *number, fields, digits, start, meter, store),
+        } => place_integral(
+            nodes, at, *number, fields, digits, start, meter, store, watch,
+        ),
         Shape::String => Err(no_number(start)),
         Shape::Array(..) => Err(no_number(start)),
         Shape::Struct { .. } => Err(no_number(start)),
@@ -198,7 +203,7 @@ fn place_offset(
 
 /// Keeps an integral struct, whose node is at a place of the table.
 #[cycle(placing)]
-fn place_integral(
+fn place_integral<W: Watch>(
     nodes: &[Node],
     at: usize,
     number: IntegerType,
@@ -207,6 +212,7 @@ fn place_integral(
     start: u64,
     meter: &mut Meter,
     store: &mut Store,
+    watch: &mut W,
 ) -> Result<(), Stop>
     requires table { IsTable nodes.now }
     requires at { at < length nodes.now }
@@ -225,11 +231,18 @@ fn place_integral(
     ensures err { IfErr result (λ stop. Works meter.old meter.new store.old (number_plan (IntegralOf (title_at nodes.now at) number (open_parts (type_of nodes.now) fields.now)) digits (kept nodes.now store.old) start) (stop_finish stop)) }
     ensures stays { IfErr result (λ stop. stop ≢ Stop.Device) }
 {
+    watch.open(at);
     store.open_level();
-    match integral_body(nodes, at, number, fields, digits, start, meter, store) {
-        Ok(()) => Ok(()),
+    match integral_body(
+        nodes, at, number, fields, digits, start, meter, store, watch,
+    ) {
+        Ok(()) => {
+            watch.close();
+            Ok(())
+        }
         Err(stop) => {
             store.drop_level();
+            watch.stop(stop);
             Err(stop)
         }
     }
@@ -237,7 +250,7 @@ fn place_integral(
 
 /// Keeps the fields of an integral struct in its level, and closes it.
 #[cycle(placing)]
-fn integral_body(
+fn integral_body<W: Watch>(
     nodes: &[Node],
     at: usize,
     number: IntegerType,
@@ -246,6 +259,7 @@ fn integral_body(
     start: u64,
     meter: &mut Meter,
     store: &mut Store,
+    watch: &mut W,
 ) -> Result<(), Stop>
     requires table { IsTable nodes.now }
     requires at { at < length nodes.now }
@@ -265,7 +279,16 @@ fn integral_body(
     ensures err { IfErr result (λ stop. Works meter.old meter.new store.old (then_ok (digits_plan (open_parts (type_of nodes.now) fields.now) digits number.width (kept nodes.now store.old) start) (closes (struct_value (title_at nodes.now at) (part_names (open_parts (type_of nodes.now) fields.now)) start (start + number.width)))) (stop_finish stop)) }
     ensures stays { IfErr result (λ stop. stop ≢ Stop.Device) }
 {
-    place_fields(nodes, fields, digits, number.width, start, meter, store)?;
+    place_fields(
+        nodes,
+        fields,
+        digits,
+        number.width,
+        start,
+        meter,
+        store,
+        watch,
+    )?;
     close_struct(
         nodes,
         store,
@@ -279,7 +302,7 @@ fn integral_body(
 
 /// Cuts a number of `width` bits into the fields of an integral struct, and keeps them in its level.
 #[cycle(placing)]
-fn place_fields(
+fn place_fields<W: Watch>(
     nodes: &[Node],
     fields: &[Part],
     digits: u64,
@@ -287,6 +310,7 @@ fn place_fields(
     start: u64,
     meter: &mut Meter,
     store: &mut Store,
+    watch: &mut W,
 ) -> Result<(), Stop>
     requires table { IsTable nodes.now }
     requires fields { All (IsPartOf nodes.now (length (levels store.old))) fields.now }
@@ -303,10 +327,11 @@ fn place_fields(
 {
     let mut left = width;
     for part in fields {
+        watch.next();
         meter.tick()?;
         let width = width_at(nodes, part.node);
         let digits = first_digits(digits, left, width);
-        place_part(nodes, part, digits, start, meter, store)?;
+        place_part(nodes, part, digits, start, meter, store, watch)?;
         left = left.saturating_sub(width);
     }
     Ok(())
@@ -314,13 +339,14 @@ fn place_fields(
 
 /// Keeps a field of an integral struct in its level, and checks its constraint.
 #[cycle(placing)]
-fn place_part(
+fn place_part<W: Watch>(
     nodes: &[Node],
     part: &Part,
     digits: u64,
     start: u64,
     meter: &mut Meter,
     store: &mut Store,
+    watch: &mut W,
 ) -> Result<(), Stop>
     requires table { IsTable nodes.now }
     requires part { IsPartOf nodes.now (length (levels store.old)) part.now }
@@ -336,8 +362,15 @@ fn place_part(
     ensures stays { IfErr result (λ stop. stop ≢ Stop.Device) }
 {
     meter.tick()?;
-    place_number(nodes, part.node, digits, start, meter, store)?;
-    check(nodes, &part.constraint, store, u128::from(start), meter)?;
+    place_number(nodes, part.node, digits, start, meter, store, watch)?;
+    check(
+        nodes,
+        &part.constraint,
+        store,
+        u128::from(start),
+        meter,
+        watch,
+    )?;
     Ok(())
 }
 

@@ -20,11 +20,12 @@ ghost use Rattle.pickle_map.specs.Stops.{stop_finish};
 
 use crate::extent::Extent;
 use crate::faults::MapFaultKind;
-use crate::mapper::clauses::{check, find_extent, find_start, is_there};
+use crate::mapper::blame::{check, find_extent, find_start, is_there};
 use crate::mapper::keep::{close_array, close_struct, close_union, keep_absent};
 use crate::mapper::number::{map_integer, map_number};
 use crate::mapper::stop::Stop;
 use crate::mapper::text::map_text;
+use crate::mapper::watch::Watch;
 use crate::store::Store;
 use bit_space::{Meter, Order, Space};
 use pickle_syntax::tree::ByteOrder;
@@ -33,7 +34,7 @@ use pickle_types::view::{Extent as Bound, Field, Node, Part, Resolved, Shape};
 /// Maps the type at a place of the table from the bit `start` on, and gives the bit behind it.
 #[cycle(mapping)]
 #[inline(always)]
-pub(crate) fn map_type<S: Space>(
+pub fn map_type<S: Space, W: Watch>(
     nodes: &[Node],
     at: usize,
     order: Order,
@@ -41,6 +42,7 @@ pub(crate) fn map_type<S: Space>(
     space: &mut S,
     meter: &mut Meter,
     store: &mut Store,
+    watch: &mut W,
 ) -> Result<u64, Stop>
     requires table { IsTable nodes.now }
     requires at { at < length nodes.now }
@@ -61,14 +63,14 @@ pub(crate) fn map_type<S: Space>(
     if u128::from(8 * space.len()) < start {
         return Err(Stop::Fault(MapFaultKind::End, start));
     }
-    map_inside(nodes, at, order, start as u64, space, meter, store)
+    map_inside(nodes, at, order, start as u64, space, meter, store, watch)
 }
 
 /// Maps the type at a place of the table, whose start is inside the file. Most values are integers: those are
 /// mapped without one more call.
 #[cycle(mapping)]
 #[inline(always)]
-fn map_inside<S: Space>(
+fn map_inside<S: Space, W: Watch>(
     nodes: &[Node],
     at: usize,
     order: Order,
@@ -76,6 +78,7 @@ fn map_inside<S: Space>(
     space: &mut S,
     meter: &mut Meter,
     store: &mut Store,
+    watch: &mut W,
 ) -> Result<u64, Stop>
     requires table { IsTable nodes.now }
     requires at { at < length nodes.now }
@@ -96,14 +99,14 @@ fn map_inside<S: Space>(
 {
     match &nodes[at].shape {
         Shape::Integer(number) => map_integer(nodes, *number, order, start, space, meter, store),
-        _ => map_shape(nodes, at, order, start, space, meter, store),
+        _ => map_shape(nodes, at, order, start, space, meter, store, watch),
     }
 }
 
 /// Maps the type at a place of the table by its shape.
 #[cycle(mapping)]
 #[inline(never)]
-fn map_shape<S: Space>(
+fn map_shape<S: Space, W: Watch>(
     nodes: &[Node],
     at: usize,
     order: Order,
@@ -111,6 +114,7 @@ fn map_shape<S: Space>(
     space: &mut S,
     meter: &mut Meter,
     store: &mut Store,
+    watch: &mut W,
 ) -> Result<u64, Stop>
     requires table { IsTable nodes.now }
     requires at { at < length nodes.now }
@@ -131,38 +135,50 @@ fn map_shape<S: Space>(
 {
     match &nodes[at].shape {
         Shape::Integer(number) => {
-            map_number(nodes, at, *number, order, start, space, meter, store)
+            map_number(nodes, at, *number, order, start, space, meter, store, watch)
         }
         Shape::Offset(number, _) => {
-            map_number(nodes, at, *number, order, start, space, meter, store)
+            map_number(nodes, at, *number, order, start, space, meter, store, watch)
         }
         Shape::Integral {
             name: _,
             number,
             fields: _,
-        } => map_number(nodes, at, *number, order, start, space, meter, store),
+        } => map_number(nodes, at, *number, order, start, space, meter, store, watch),
         Shape::String => map_text(nodes, start, space, meter, store),
         Shape::Array(element, bound) => {
-            map_array(nodes, *element, bound, order, start, space, meter, store)
+            map_array(
+                nodes, at, *element, bound, order, start, space, meter, store, watch,
+            )
         }
         Shape::Struct {
             name: _,
             pinned,
             fields,
         } => map_struct(
-            nodes, at, *pinned, fields, order, start, space, meter, store,
+            nodes, at, *pinned, fields, order, start, space, meter, store, watch,
         ),
         Shape::Union {
             name: _,
             alternatives,
-        } => map_union(nodes, at, alternatives, order, start, space, meter, store),
+        } => map_union(
+            nodes,
+            at,
+            alternatives,
+            order,
+            start,
+            space,
+            meter,
+            store,
+            watch,
+        ),
     }
 }
 
 /// Maps a type into the innermost level, and checks the constraint that stands beside it.
 #[cycle(mapping)]
 #[inline(always)]
-fn map_checked<S: Space>(
+fn map_checked<S: Space, W: Watch>(
     nodes: &[Node],
     node: usize,
     constraint: &Option<Box<Resolved>>,
@@ -171,6 +187,7 @@ fn map_checked<S: Space>(
     space: &mut S,
     meter: &mut Meter,
     store: &mut Store,
+    watch: &mut W,
 ) -> Result<u64, Stop>
     requires table { IsTable nodes.now }
     requires at { node < length nodes.now }
@@ -189,15 +206,16 @@ fn map_checked<S: Space>(
     ensures err { IfErr result (λ stop. Runs (S.view space.old) meter.old meter.new store.old (then_ok (plan (8 * (S.view space.old).len) (type_of nodes.now node) order (kept nodes.now store.old) start) (constrained (optional_term constraint.now) (kept nodes.now store.old) start)) (stop_finish stop)) }
     ensures device { IfErr result (λ stop. stop ≡ Stop.Device → HasRisen (S.view space.old).failures (S.view space.new).failures) }
 {
-    let end = map_type(nodes, node, order, start, space, meter, store)?;
-    check(nodes, constraint, store, start, meter)?;
+    let end = map_type(nodes, node, order, start, space, meter, store, watch)?;
+    check(nodes, constraint, store, start, meter, watch)?;
     Ok(end)
 }
 
-/// Maps an array, whose start is inside the file.
+/// Maps the array at a place of the table, whose start is inside the file.
 #[cycle(mapping)]
-fn map_array<S: Space>(
+fn map_array<S: Space, W: Watch>(
     nodes: &[Node],
+    at: usize,
     element: usize,
     bound: &Bound,
     order: Order,
@@ -205,6 +223,7 @@ fn map_array<S: Space>(
     space: &mut S,
     meter: &mut Meter,
     store: &mut Store,
+    watch: &mut W,
 ) -> Result<u64, Stop>
     requires table { IsTable nodes.now }
     requires element { element < length nodes.now }
@@ -225,12 +244,19 @@ fn map_array<S: Space>(
     ensures device { IfErr result (λ stop. stop ≡ Stop.Device → HasRisen (S.view space.old).failures (S.view space.new).failures) }
 {
     meter.tick()?;
-    let extent = find_extent(nodes, bound, store, u128::from(start), meter)?;
+    watch.open(at);
+    let extent = find_extent(nodes, bound, store, u128::from(start), meter, watch)?;
     store.open_level();
-    match array_body(nodes, element, extent, order, start, space, meter, store) {
-        Ok(end) => Ok(end),
+    match array_body(
+        nodes, element, extent, order, start, space, meter, store, watch,
+    ) {
+        Ok(end) => {
+            watch.close();
+            Ok(end)
+        }
         Err(stop) => {
             store.drop_level();
+            watch.stop(stop);
             Err(stop)
         }
     }
@@ -238,7 +264,7 @@ fn map_array<S: Space>(
 
 /// Maps the elements of an array into its level, and closes it.
 #[cycle(mapping)]
-fn array_body<S: Space>(
+fn array_body<S: Space, W: Watch>(
     nodes: &[Node],
     element: usize,
     extent: Extent,
@@ -247,6 +273,7 @@ fn array_body<S: Space>(
     space: &mut S,
     meter: &mut Meter,
     store: &mut Store,
+    watch: &mut W,
 ) -> Result<u64, Stop>
     requires table { IsTable nodes.now }
     requires element { element < length nodes.now }
@@ -267,7 +294,9 @@ fn array_body<S: Space>(
     ensures err { IfErr result (λ stop. Runs (S.view space.old) meter.old meter.new store.old (then_ok (elements_plan (plan (8 * (S.view space.old).len) (type_of nodes.now element) order) (8 * (S.view space.old).len) start extent (count_of (8 * (S.view space.old).len) (least_width (type_of nodes.now element))) 0 (kept nodes.now store.old) start) (array_closes start)) (stop_finish stop)) }
     ensures device { IfErr result (λ stop. stop ≡ Stop.Device → HasRisen (S.view space.old).failures (S.view space.new).failures) }
 {
-    let end = map_elements(nodes, element, extent, order, start, space, meter, store)?;
+    let end = map_elements(
+        nodes, element, extent, order, start, space, meter, store, watch,
+    )?;
     close_array(nodes, store, start, end)?;
     meter.note_made();
     Ok(end)
@@ -275,7 +304,7 @@ fn array_body<S: Space>(
 
 /// Maps elements, one after the other, into their level.
 #[cycle(mapping)]
-fn map_elements<S: Space>(
+fn map_elements<S: Space, W: Watch>(
     nodes: &[Node],
     element: usize,
     extent: Extent,
@@ -284,6 +313,7 @@ fn map_elements<S: Space>(
     space: &mut S,
     meter: &mut Meter,
     store: &mut Store,
+    watch: &mut W,
 ) -> Result<u64, Stop>
     requires table { IsTable nodes.now }
     requires element { element < length nodes.now }
@@ -306,8 +336,9 @@ fn map_elements<S: Space>(
     let mut place = start;
     let mut count = 0;
     while extent.is_due(bits, start, count, place) {
+        watch.next();
         meter.tick()?;
-        match map_inside(nodes, element, order, place, space, meter, store) {
+        match map_inside(nodes, element, order, place, space, meter, store, watch) {
             Ok(end) => {
                 if end == place {
                     return Err(Stop::Fault(MapFaultKind::NoBits, u128::from(place)));
@@ -317,6 +348,7 @@ fn map_elements<S: Space>(
             }
             Err(stop) => {
                 if stop.ends(extent) {
+                    watch.end(stop);
                     return Ok(place);
                 }
                 return Err(stop);
@@ -326,13 +358,15 @@ fn map_elements<S: Space>(
     if extent.is_met(start, place) {
         Ok(place)
     } else {
-        Err(Stop::Fault(MapFaultKind::Bounds, u128::from(start)))
+        let stop = Stop::Fault(MapFaultKind::Bounds, u128::from(start));
+        watch.outgrow(extent, place, stop);
+        Err(stop)
     }
 }
 
 /// Maps a struct, whose start is inside the file.
 #[cycle(mapping)]
-fn map_struct<S: Space>(
+fn map_struct<S: Space, W: Watch>(
     nodes: &[Node],
     at: usize,
     pinned: bool,
@@ -342,6 +376,7 @@ fn map_struct<S: Space>(
     space: &mut S,
     meter: &mut Meter,
     store: &mut Store,
+    watch: &mut W,
 ) -> Result<u64, Stop>
     requires table { IsTable nodes.now }
     requires at { at < length nodes.now }
@@ -363,11 +398,18 @@ fn map_struct<S: Space>(
     ensures device { IfErr result (λ stop. stop ≡ Stop.Device → HasRisen (S.view space.old).failures (S.view space.new).failures) }
 {
     meter.tick()?;
+    watch.open(at);
     store.open_level();
-    match struct_body(nodes, at, pinned, fields, order, start, space, meter, store) {
-        Ok(end) => Ok(end),
+    match struct_body(
+        nodes, at, pinned, fields, order, start, space, meter, store, watch,
+    ) {
+        Ok(end) => {
+            watch.close();
+            Ok(end)
+        }
         Err(stop) => {
             store.drop_level();
+            watch.stop(stop);
             Err(stop)
         }
     }
@@ -375,7 +417,7 @@ fn map_struct<S: Space>(
 
 /// Maps the fields of a struct into its level, and closes it.
 #[cycle(mapping)]
-fn struct_body<S: Space>(
+fn struct_body<S: Space, W: Watch>(
     nodes: &[Node],
     at: usize,
     pinned: bool,
@@ -385,6 +427,7 @@ fn struct_body<S: Space>(
     space: &mut S,
     meter: &mut Meter,
     store: &mut Store,
+    watch: &mut W,
 ) -> Result<u64, Stop>
     requires table { IsTable nodes.now }
     requires at { at < length nodes.now }
@@ -407,7 +450,9 @@ fn struct_body<S: Space>(
     ensures err { IfErr result (λ stop. Runs (S.view space.old) meter.old meter.new store.old (then_ok (fields_plan (8 * (S.view space.old).len) pinned start (open_fields (type_of nodes.now) fields.now) order (kept nodes.now store.old) start start) (struct_closes (title_at nodes.now at) (field_names (open_fields (type_of nodes.now) fields.now)) start)) (stop_finish stop)) }
     ensures device { IfErr result (λ stop. stop ≡ Stop.Device → HasRisen (S.view space.old).failures (S.view space.new).failures) }
 {
-    let end = map_fields(nodes, pinned, fields, order, start, space, meter, store)?;
+    let end = map_fields(
+        nodes, pinned, fields, order, start, space, meter, store, watch,
+    )?;
     close_struct(nodes, store, at as u32, start, end)?;
     meter.note_made();
     Ok(end)
@@ -415,7 +460,7 @@ fn struct_body<S: Space>(
 
 /// Maps fields, one after the other, into their level, and gives their greatest end.
 #[cycle(mapping)]
-fn map_fields<S: Space>(
+fn map_fields<S: Space, W: Watch>(
     nodes: &[Node],
     pinned: bool,
     fields: &[Field],
@@ -424,6 +469,7 @@ fn map_fields<S: Space>(
     space: &mut S,
     meter: &mut Meter,
     store: &mut Store,
+    watch: &mut W,
 ) -> Result<u64, Stop>
     requires table { IsTable nodes.now }
     requires fields { All (IsFieldOf nodes.now (length (levels store.old))) fields.now }
@@ -445,8 +491,9 @@ fn map_fields<S: Space>(
     let mut behind = start;
     let mut top = start;
     for field in fields {
+        watch.next();
         meter.tick()?;
-        if is_there(nodes, &field.condition, store, origin, meter)? {
+        if is_there(nodes, &field.condition, store, origin, meter, watch)? {
             let place = find_start(
                 nodes,
                 pinned,
@@ -455,6 +502,7 @@ fn map_fields<S: Space>(
                 origin,
                 u128::from(behind),
                 meter,
+                watch,
             )?;
             behind = map_checked(
                 nodes,
@@ -465,6 +513,7 @@ fn map_fields<S: Space>(
                 space,
                 meter,
                 store,
+                watch,
             )?;
             top = top.max(behind);
         } else {
@@ -476,7 +525,7 @@ fn map_fields<S: Space>(
 
 /// Maps a union, whose start is inside the file.
 #[cycle(mapping)]
-fn map_union<S: Space>(
+fn map_union<S: Space, W: Watch>(
     nodes: &[Node],
     at: usize,
     alternatives: &[Part],
@@ -485,6 +534,7 @@ fn map_union<S: Space>(
     space: &mut S,
     meter: &mut Meter,
     store: &mut Store,
+    watch: &mut W,
 ) -> Result<u64, Stop>
     requires table { IsTable nodes.now }
     requires at { at < length nodes.now }
@@ -507,11 +557,26 @@ fn map_union<S: Space>(
     ensures device { IfErr result (λ stop. stop ≡ Stop.Device → HasRisen (S.view space.old).failures (S.view space.new).failures) }
 {
     meter.tick()?;
+    watch.open(at);
     store.open_level();
-    match union_body(nodes, at, alternatives, order, start, space, meter, store) {
-        Ok(end) => Ok(end),
+    match union_body(
+        nodes,
+        at,
+        alternatives,
+        order,
+        start,
+        space,
+        meter,
+        store,
+        watch,
+    ) {
+        Ok(end) => {
+            watch.close();
+            Ok(end)
+        }
         Err(stop) => {
             store.drop_level();
+            watch.stop(stop);
             Err(stop)
         }
     }
@@ -519,7 +584,7 @@ fn map_union<S: Space>(
 
 /// Maps an alternative of a union into its level, and closes it.
 #[cycle(mapping)]
-fn union_body<S: Space>(
+fn union_body<S: Space, W: Watch>(
     nodes: &[Node],
     at: usize,
     alternatives: &[Part],
@@ -528,6 +593,7 @@ fn union_body<S: Space>(
     space: &mut S,
     meter: &mut Meter,
     store: &mut Store,
+    watch: &mut W,
 ) -> Result<u64, Stop>
     requires table { IsTable nodes.now }
     requires at { at < length nodes.now }
@@ -552,7 +618,16 @@ fn union_body<S: Space>(
     ensures err { IfErr result (λ stop. Runs (S.view space.old) meter.old meter.new store.old (then_ok (alternatives_plan (8 * (S.view space.old).len) (open_parts (type_of nodes.now) alternatives.now) 0 order (kept nodes.now store.old) start) (union_closes (title_at nodes.now at) (outer_of (kept nodes.now store.old)) start)) (stop_finish stop)) }
     ensures device { IfErr result (λ stop. stop ≡ Stop.Device → HasRisen (S.view space.old).failures (S.view space.new).failures) }
 {
-    let (index, end) = map_alternatives(nodes, alternatives, order, start, space, meter, store)?;
+    let (index, end) = map_alternatives(
+        nodes,
+        alternatives,
+        order,
+        start,
+        space,
+        meter,
+        store,
+        watch,
+    )?;
     close_union(nodes, store, at as u32, index as u16, start, end)?;
     meter.note_made();
     Ok(end)
@@ -560,7 +635,7 @@ fn union_body<S: Space>(
 
 /// Maps the first alternative that fits into its level, and gives its index and its end.
 #[cycle(mapping)]
-fn map_alternatives<S: Space>(
+fn map_alternatives<S: Space, W: Watch>(
     nodes: &[Node],
     alternatives: &[Part],
     order: Order,
@@ -568,6 +643,7 @@ fn map_alternatives<S: Space>(
     space: &mut S,
     meter: &mut Meter,
     store: &mut Store,
+    watch: &mut W,
 ) -> Result<(usize, u64), Stop>
     requires table { IsTable nodes.now }
     requires alternatives { All (IsPartOf nodes.now (length (levels store.old))) alternatives.now }
@@ -587,6 +663,7 @@ fn map_alternatives<S: Space>(
     ensures device { IfErr result (λ stop. stop ≡ Stop.Device → HasRisen (S.view space.old).failures (S.view space.new).failures) }
 {
     for (index, part) in alternatives.iter().enumerate() {
+        watch.next();
         meter.tick()?;
         let prefixed = ordered(part.order, order);
         let origin = u128::from(start);
@@ -599,17 +676,21 @@ fn map_alternatives<S: Space>(
             space,
             meter,
             store,
+            watch,
         ) {
             Ok(end) => return Ok((index, end)),
             Err(stop) => {
                 if !stop.misses() {
                     return Err(stop);
                 }
+                watch.miss(stop);
                 store.clear_level();
             }
         }
     }
-    Err(Stop::Fault(MapFaultKind::Constraint, u128::from(start)))
+    let stop = Stop::Fault(MapFaultKind::Constraint, u128::from(start));
+    watch.refuse(stop);
+    Err(stop)
 }
 
 /// The order of a field: its prefix's, or the one around it.

@@ -11,4 +11,4 @@ returns-in-Ok c = unplaced c.in-Ok.ensures.ok.1
 
 pub returns : goal.returns
 returns c =
-    placed_if c.args.pickle.now c.args.path.now (called_is c.args.path.now (c.as_slice.ensures.value ∙ ap (λ v. v.items) c.into_bytes-called.ensures) c.in_ok-show-in-Err.ensures c.new-in-Err.ensures) (λ v. v.items) c.note_text.result c.note_text.ensures
+    placed_if c.args.pickle.now c.args.path.now (called_is c.args.path.now (c.as_slice.ensures.value ∙ ap (λ v. v.items) c.into_bytes-called.ensures) c.in_ok-show-in-Err.ensures.shown c.new-in-Err.ensures) (λ v. v.items) c.note_text.result c.note_text.ensures

@@ -10,22 +10,22 @@ use Rattle.pickle_map.proofs.Shapes.{parts_bound}
 use Rattle.pickle_map.proofs.mapper.number.+placing.Given as goal
 
 abbrev pub decreases-place_number : goal.decreases-place_number
-decreases-place_number l = 5 * l.at + 4
+decreases-place_number g l = 5 * l.at + 4
 
 abbrev pub decreases-place_integral : goal.decreases-place_integral
-decreases-place_integral l = 5 * parts_bound l.fields.now + 3
+decreases-place_integral g l = 5 * parts_bound l.fields.now + 3
 
 abbrev pub decreases-integral_body : goal.decreases-integral_body
-decreases-integral_body l = 5 * parts_bound l.fields.now + 2
+decreases-integral_body g l = 5 * parts_bound l.fields.now + 2
 
 abbrev pub decreases-place_fields : goal.decreases-place_fields
-decreases-place_fields l = 5 * parts_bound l.fields.now + 1
+decreases-place_fields g l = 5 * parts_bound l.fields.now + 1
 
 abbrev pub decreases-place_part : goal.decreases-place_part
-decreases-place_part l = 5 * l.part.now.node + 5
+decreases-place_part g l = 5 * l.part.now.node + 5
 
 abbrev pub invariant-place_fields-loop-part : goal.invariant-place_fields-loop-part
-invariant-place_fields-loop-part l = record {
+invariant-place_fields-loop-part g l = record {
   limit : l.meter.limit ≡ l.initial.meter.limit;
   room : l.store.room ≡ l.initial.store.room;
   made : l.meter.made + l.initial.meter.steps ≤ l.initial.meter.made + l.meter.steps;

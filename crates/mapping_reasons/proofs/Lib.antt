@@ -1,0 +1,5 @@
+pub mod Portions
+pub mod Leading
+pub mod Laid
+pub mod Meant
+pub mod Told

@@ -1,0 +1,29 @@
+-- How a mapping ended, as what its type has.
+use Rattle.std.proofs.Common.{◌≡◌, ℕ, List, Some, Result, Ok, Err, subst}
+use Rattle.std.specs.Prelude.{IfErr, OnOk}
+use Rattle.bit_space.specs.Bits.{bits_of}
+use Rattle.bit_space.specs.SpaceView.{SpaceView}
+use Rattle.pickle_types.specs.declared.table.Node.{Node}
+use Rattle.pickle_types.specs.Types.{PokeType}
+use Rattle.pickle_map.specs.Answer.{Answer}
+use Rattle.pickle_map.specs.Slots.{Held}
+use Rattle.pickle_map.specs.declared.faults.MapFault.{MapFault}
+use Rattle.pickle_map.specs.Mapped.{Gives, FaultMeans}
+use Rattle.command_words.specs.declared.ask.Ask.{Ask}
+use Rattle.mapping_reasons.specs.Meant.{HasFault, HasValue}
+
+module _ {A : Type 0} (space : SpaceView) (type : PokeType) (ask : Ask) (limit steps made : ℕ) (same : limit ≡ ask.limit) where
+  pub fault_meant : (r : Result A MapFault)
+      → ((bytes : List ℕ) → space.bytes ≡ Some bytes → IfErr r (λ f. FaultMeans (bits_of bytes) type ask.order ask.start limit f.kind f.at steps made))
+      → IfErr r (HasFault space type ask)
+  fault_meant (Ok x) h = tt
+  fault_meant (Err f) h =
+      λ bytes known. record { steps = steps; made = made; means = subst (λ l. FaultMeans (bits_of bytes) type ask.order ask.start l f.kind f.at steps made) same (h bytes known) }
+
+  pub value_meant : (nodes : List Node) (store : Held) (r : Result A MapFault)
+      → ((bytes : List ℕ) → space.bytes ≡ Some bytes → OnOk r (Gives nodes store (λ v. Answer (bits_of bytes) type ask.order ask.start limit (Ok v) steps made)))
+      → OnOk r (HasValue space type ask)
+  value_meant nodes store (Ok x) h =
+      λ bytes known. let g = h bytes known in
+      (g.value, record { steps = steps; made = made; means = subst (λ l. Answer (bits_of bytes) type ask.order ask.start l (Ok g.value) steps made) same g.holds })
+  value_meant nodes store (Err f) h = tt

@@ -1,0 +1,12 @@
+use Rattle.std.proofs.Common.{arith}
+use Rattle.pickle_types.specs.TypeTable.{nodes_of, type_named}
+use Rattle.mapping_reasons.proofs.Meant.{fault_meant, value_meant}
+use Rattle.mapping_reasons.proofs.again.map_again.Goals as goal
+
+pub returns-clause-fault : goal.returns-clause-fault
+returns-clause-fault g c =
+    fault_meant (g.S.Space.view c.args.space.now) (type_named c.args.table.now c.args.id) c.args.ask.now _ _ _ (omega (arith, c.new-meter.ensures.limit, c.new-meter.ensures.steps)) c.map_watched-end.result c.map_watched-end.ensures.fault
+
+pub returns-clause-value : goal.returns-clause-value
+returns-clause-value g c =
+    value_meant (g.S.Space.view c.args.space.now) (type_named c.args.table.now c.args.id) c.args.ask.now _ _ _ (omega (arith, c.new-meter.ensures.limit, c.new-meter.ensures.steps)) (nodes_of c.args.table.now) _ c.map_watched-end.result c.map_watched-end.ensures.value

@@ -1,0 +1,12 @@
+use Rattle.std.proofs.Common.{Some, None, Option}
+use Rattle.std.specs.Prelude.{IfSome}
+use Rattle.pickle_types.specs.Table.{IsTable}
+use Rattle.mapping_reasons.specs.declared.way.Portion.{Portion}
+use Rattle.mapping_reasons.specs.Portions.{IsShapePortion, IsPortion}
+use Rattle.mapping_reasons.proofs.Portions.{if_portion_at}
+use Rattle.mapping_reasons.proofs.way.part_of.Goals as goal
+
+pub returns : goal.returns
+returns c = record {
+  is = λ table. if_portion_at c.args.nodes.now table c.args.step c.in_ok-get.field-0.now c.in_ok-get.ensures.lookup.3.0 c.in_ok-get.ensures.lookup.1 c.portion_in.result c.portion_in.ensures;
+}

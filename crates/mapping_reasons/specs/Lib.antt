@@ -1,0 +1,4 @@
+pub mod Ways
+pub mod Portions
+pub mod Meant
+pub mod Why

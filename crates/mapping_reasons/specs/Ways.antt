@@ -1,0 +1,54 @@
+-- Ways from a type to its parts, in the form in which values of the type are printed over lines.
+use Rattle.std.specs.Prelude.{◌≡◌, ℕ, zero, suc, List, [], ◌∷◌, ◌++◌, Option, Some, None}
+use Rattle.pickle_types.specs.Types.{PokeType, IntegerOf, OffsetOf, StringOf, ArrayOf, StructOf, IntegralOf, UnionOf, Fields, NoFields, FieldThen, Parts, NoParts, PartThen}
+use Rattle.value_text.specs.PathText.{field_step, path_text}
+use Rattle.value_text.specs.TreeText.{in_brackets}
+
+-- a part of a type: its type, and the name of a field or an alternative, where it has one
+pub record TypePart : Type 0 where
+  pub name : Option (List ℕ)
+  pub type : PokeType
+
+-- the field at a place, from 0
+abbrev pub field_at : Fields → (place : ℕ) → Option TypePart
+field_at NoFields place = None
+field_at (FieldThen name order type constraint label condition rest) zero = Some (record { name = name; type = type })
+field_at (FieldThen name order type constraint label condition rest) (suc place) = field_at rest place
+
+-- the alternative, or the field of an integral struct, at a place, from 0
+abbrev pub alternative_at : Parts → (place : ℕ) → Option TypePart
+alternative_at NoParts place = None
+alternative_at (PartThen name order type constraint rest) zero = Some (record { name = name; type = type })
+alternative_at (PartThen name order type constraint rest) (suc place) = alternative_at rest place
+
+-- the part at a place: an element at any, else a field or an alternative; scalars and strings have none
+abbrev pub part_at : PokeType → (place : ℕ) → Option TypePart
+part_at (IntegerOf type) place = None
+part_at (OffsetOf type unit) place = None
+part_at StringOf place = None
+part_at (ArrayOf element bound) place = Some (record { name = None; type = element })
+part_at (StructOf name pinned fields) place = field_at fields place
+part_at (IntegralOf name type fields) place = alternative_at fields place
+part_at (UnionOf name alternatives) place = alternative_at alternatives place
+
+-- the step from a type to its part at a place
+abbrev pub step_text : PokeType → Option (List ℕ) → (place : ℕ) → List ℕ
+step_text (IntegerOf type) name place = field_step name place
+step_text (OffsetOf type unit) name place = field_step name place
+step_text StringOf name place = field_step name place
+step_text (ArrayOf element bound) name place = in_brackets place
+step_text (StructOf title pinned fields) name place = field_step name place
+step_text (IntegralOf title type fields) name place = field_step name place
+step_text (UnionOf title alternatives) name place = field_step name place
+
+-- these steps lead from a type to a part of it
+pub data LeadsTo : PokeType → (steps : List ℕ) → PokeType → Type 0 where
+  here : {type : PokeType} → LeadsTo type [] type
+  further : {type found : PokeType} {part : TypePart} {steps : List ℕ} (place : ℕ) → part_at type place ≡ Some part → LeadsTo part.type steps found
+      → LeadsTo type (step_text type part.name place ++ steps) found
+
+-- a path leads from a type to a part of it
+pub record IsWayTo (type : PokeType) (path : List ℕ) (part : PokeType) : Type 0 where
+  pub steps : List ℕ
+  pub leads : LeadsTo type steps part
+  pub is : path ≡ path_text steps

@@ -1,0 +1,60 @@
+//! A mapping that is watched.
+
+ghost use Rattle.std.specs.Prelude.{ℕ, List, ◌≡◌, Some, IfOk, IfErr, OnOk};
+ghost use Rattle.bit_space.specs.SpaceView.{Keeps};
+ghost use Rattle.pickle_types.specs.TypeTable.{IsSound, IsInTable, type_named};
+ghost use Rattle.mapping_reasons.specs.Meant.{HasFault, HasValue};
+
+use crate::cause::{Ended, Fault};
+use crate::watcher::Told;
+use bit_space::{Meter, Space};
+use pickle_map::mapper::map_watched;
+use pickle_map::{MapFault, Store};
+use pickle_types::type_table::{Table, TypeId};
+use poke_batch::ask::Ask;
+use std::alloc::{AllocError, Global};
+
+/// What was kept of a mapping that is over.
+#[derive(Drop)]
+pub struct Kept {
+    /// The fault of a part that ended it.
+    pub fault: Option<Fault>,
+    /// The last arrays that ended early.
+    pub ended: Vec<Ended>,
+    /// How many arrays ended early.
+    pub ended_count: usize,
+}
+
+/// How a mapping ended, and what was kept of it.
+#[derive(Drop)]
+pub struct Again {
+    pub end: Result<(), MapFault>,
+    pub kept: Kept,
+}
+
+/// Maps a type into a store, which is emptied first.
+pub fn map_again<S: Space>(
+    alloc: Global,
+    table: &Table,
+    id: TypeId,
+    ask: &Ask<'_>,
+    space: &mut S,
+    store: &mut Store,
+) -> Result<Again, AllocError>
+    requires sound { IsSound table.now }
+    requires known { IsInTable table.now id }
+    ensures fault { IfOk result (λ again. IfErr again.end (HasFault (S.view space.old) (type_named table.now id) ask.now)) }
+    ensures value { IfOk result (λ again. OnOk again.end (HasValue (S.view space.old) (type_named table.now id) ask.now)) }
+    ensures keeps { Keeps (S.view space.old) (S.view space.new) }
+{
+    store.clear();
+    let mut told = Told::new(alloc);
+    let mut meter = Meter::new(ask.limit);
+    let end = map_watched(
+        table, id, ask.order, ask.start, space, &mut meter, store, &mut told,
+    );
+    Ok(Again {
+        end,
+        kept: told.into_kept()?,
+    })
+}

@@ -1,0 +1,109 @@
+//! The flat text of values, cut where it is long.
+
+use itoa::Buffer;
+use pickle_map::ValueRef;
+use pickle_map::known::Known;
+use pickle_script::script::cut;
+use pickle_script::text::Text;
+use pickle_types::integer::IntegerType;
+use std::alloc::{AllocError, Global};
+use std::io;
+use std::io::Write;
+use value_text::mode::Mode;
+use value_text::print::print;
+use value_text::print::suffix::{Suffix, suffix_of};
+
+/// The most bytes of a value's text that are shown.
+const MOST_SHOWN: usize = 60;
+
+/// How many bytes of a value's text are laid out: one more than are shown, and its line feed.
+const ROOM: usize = MOST_SHOWN + 2;
+
+/// The bytes of a text from its front.
+#[derive(Drop)]
+struct Front {
+    bytes: Vec<u8>,
+}
+
+impl Write for Front {
+    fn write(&mut self, buf: &[u8]) -> io::Result<usize> {
+        let left = ROOM.saturating_sub(self.bytes.len());
+        let count = left.min(buf.len());
+        self.bytes.extend_from_slice(&buf[..count])?;
+        Ok(count)
+    }
+
+    fn flush(&mut self) -> io::Result<()> {
+        Ok(())
+    }
+}
+
+/// The text, and behind it the flat text of what an expression comes to, cut with `..` where it is long.
+pub fn say_known(alloc: Global, text: Text, known: Known<'_>) -> Result<Text, AllocError> {
+    match known {
+        Known::Integer(number, of) => say_integer(text, of, number),
+        Known::Offset(magnitude, of, unit) => say_offset(text, of, unit, magnitude),
+        Known::Text(_) => text.say(b".."),
+        Known::Value(value) => say_value(alloc, text, value),
+    }
+}
+
+/// The text, and the flat text of a value behind it.
+fn say_value(alloc: Global, text: Text, value: ValueRef<'_>) -> Result<Text, AllocError> {
+    let mut front = Front {
+        bytes: Vec::new(alloc),
+    };
+    let printed = print(value, Mode::Flat, &mut front);
+    if printed.is_err() && front.bytes.len() < ROOM {
+        return Err(AllocError);
+    }
+    let line = match front.bytes.as_slice() {
+        [line @ .., b'\n'] => line,
+        line => line,
+    };
+    if MOST_SHOWN < line.len() {
+        text.say(cut(line, 0, MOST_SHOWN))?.say(b"..")
+    } else {
+        text.say(line)
+    }
+}
+
+/// The text, and a number behind it, as values of its type are printed.
+fn say_integer(text: Text, of: IntegerType, number: i128) -> Result<Text, AllocError> {
+    match suffix_of(of) {
+        Some(suffix) => say_suffix(say_number(text, number)?, suffix),
+        None => {
+            let word: &[u8] = if of.signed { b"(int<" } else { b"(uint<" };
+            let text = text
+                .say(word)?
+                .say_number(usize::from(of.width))?
+                .say(b">) ")?;
+            say_number(text, number)
+        }
+    }
+}
+
+/// The text, and an offset behind it, as values of its type are printed.
+fn say_offset(text: Text, of: IntegerType, unit: u32, magnitude: i128) -> Result<Text, AllocError> {
+    let text = say_integer(text, of, magnitude)?.say(b"#")?;
+    match unit {
+        1 => text.say(b"b"),
+        8 => text.say(b"B"),
+        _ => text.say_number(unit as usize),
+    }
+}
+
+/// The text, and the decimal digits of a number behind it.
+pub fn say_number(text: Text, number: i128) -> Result<Text, AllocError> {
+    let mut digits = Buffer::new();
+    text.say(digits.format(number).as_bytes())
+}
+
+/// The text, and the letters behind it by which a number's type is told.
+fn say_suffix(text: Text, suffix: Suffix) -> Result<Text, AllocError> {
+    let text = if suffix.signed { text } else { text.say(b"U")? };
+    match suffix.letter {
+        Some(letter) => text.say(&[letter]),
+        None => Ok(text),
+    }
+}

@@ -1,0 +1,214 @@
+//! Why a mapping stops, or an array in it: further lines, behind the one that tells the fault.
+#![tactic(auto)]
+
+ghost use Rattle.std.specs.Prelude.{◌≡◌, ◌<◌, ◌++◌, length, IfOk, IsTrue};
+ghost use Rattle.pickle_types.specs.Table.{IsTable, type_of};
+ghost use Rattle.pickle_types.specs.TypeTable.{IsSound, IsInTable, nodes_of, type_named};
+ghost use Rattle.bit_space.specs.SpaceView.{Keeps, SpaceView};
+ghost use Rattle.command_words.specs.declared.ask.Ask.{Ask};
+ghost use Rattle.poke_batch.specs.RunsUnder.{end_saying};
+ghost use Rattle.poke_batch.specs.Told.{Line};
+ghost use Rattle.poke_batch.specs.declared.status.Status.TheVariants.{Fault as Faulty};
+ghost use Rattle.mapping_reasons.specs.Meant.{HasFault, HasValue};
+ghost use Rattle.mapping_reasons.specs.Why.{ExplainsRun, TellsPart, TellsWhy};
+
+mod again;
+mod blame;
+mod cause;
+mod flat;
+mod lines;
+mod missing;
+mod names;
+mod scene;
+mod seen;
+mod trail;
+mod watcher;
+mod way;
+
+use crate::again::{Again, Kept, map_again};
+use crate::cause::Fault;
+use crate::lines::{arrays_text, fault_text};
+use crate::missing::missing_text;
+use crate::scene::Scene;
+use bit_space::Space;
+use pickle_map::mapper::told;
+use pickle_map::{MapFault, ValueRef};
+use pickle_script::script::Script;
+use pickle_script::text::Text;
+use pickle_types::type_table::{Table, TypeId};
+use poke_batch::accept::accept;
+use poke_batch::ask::Ask;
+use poke_batch::run::{store_of, tell_end};
+use poke_batch::status::Status;
+use poke_batch::terms::Terms;
+use std::alloc::{AllocError, Global};
+
+/// The lines that tell why the mapping of a type of a pickle over a file ended with a line, or which arrays ended early where it
+/// ended with none. `path` is the path of the pickle; bytes outside 0x20 to 0x7e of what is shown are escaped.
+///
+/// The type is mapped again. Nothing is told where that doesn't end as the line tells.
+pub fn reasons<S: Space>(
+    alloc: Global,
+    pickle: &[u8],
+    path: &[u8],
+    ask: &Ask<'_>,
+    terms: &Terms,
+    space: &mut S,
+    line: &[u8],
+) -> Result<Vec<u8>, AllocError>
+    ensures why { IfOk result (λ text. ExplainsRun pickle.now (S.view space.old) ask.now terms.now line.now text.items) }
+    ensures keeps { Keeps (S.view space.old) (S.view space.new) }
+{
+    let Ok(table) = accept(alloc, pickle) else {
+        return Ok(Vec::new(alloc));
+    };
+    let Some(id) = table.find(ask.name) else {
+        return Ok(Vec::new(alloc));
+    };
+    let text = reasons_in(alloc, pickle, path, &table, id, ask, terms, space, line)?;
+    Ok(text)
+}
+
+/// What [`reasons`] gives, by the table of the pickle's types.
+pub fn reasons_in<S: Space>(
+    alloc: Global,
+    pickle: &[u8],
+    path: &[u8],
+    table: &Table,
+    id: TypeId,
+    ask: &Ask<'_>,
+    terms: &Terms,
+    space: &mut S,
+    line: &[u8],
+) -> Result<Vec<u8>, AllocError>
+    requires sound { IsSound table.now }
+    requires known { IsInTable table.now id }
+    ensures why { IfOk result (λ text. TellsWhy (S.view space.old) (type_named table.now id) ask.now terms.now line.now text.items) }
+    ensures keeps { Keeps (S.view space.old) (S.view space.new) }
+{
+    let Ok(mut store) = store_of(alloc, terms.most_slots) else {
+        return Err(AllocError);
+    };
+    let Again { end, kept } = map_again(alloc, table, id, ask, space, &mut store)?;
+    let scene = scene_of(alloc, pickle, path, table, id, ask, 8 * space.len())?;
+    let text = match end {
+        Ok(()) => value_reasons(&scene, store.root(table), terms, &kept, line)?,
+        Err(fault) => fault_reasons(&scene, ask, terms, fault, &kept, line)?,
+    };
+    Ok(text)
+}
+
+/// Where reasons are told from.
+fn scene_of<'p, 't>(
+    alloc: Global,
+    pickle: &'p [u8],
+    path: &[u8],
+    table: &'t Table,
+    id: TypeId,
+    ask: &Ask<'_>,
+    bits: u64,
+) -> Result<Scene<'p, 't>, AllocError>
+    ensures nodes { IfOk result (λ scene. scene.nodes.now ≡ nodes_of table.now) }
+    ensures root { IfOk result (λ scene. scene.root ≡ id.node) }
+{
+    let Some(script) = Script::new(alloc, pickle) else {
+        return Err(AllocError);
+    };
+    Ok(Scene {
+        alloc,
+        script,
+        path: Text::new(alloc).show(path)?.into_bytes(),
+        name: Vec::from_slice(alloc, ask.name)?,
+        nodes: table.nodes(),
+        root: id.node,
+        bits,
+    })
+}
+
+/// The lines on a mapping that gave a value, which the run's line tells with what is wrong of it, or not at all.
+fn value_reasons(
+    scene: &Scene<'_, '_>,
+    value: Option<ValueRef<'_>>,
+    terms: &Terms,
+    kept: &Kept,
+    line: &[u8],
+) -> Result<Vec<u8>, AllocError>
+    requires table { IsTable scene.now.nodes.now }
+    requires root { scene.now.root < length scene.now.nodes.now }
+    ensures why { (space : SpaceView) (ask : Ask) → HasValue space (type_of scene.now.nodes.now scene.now.root) ask → IfOk result (λ text. TellsWhy space (type_of scene.now.nodes.now scene.now.root) ask terms.now line.now text.items) }
+{
+    if !is_of_value(line) {
+        return Ok(Vec::new(scene.alloc));
+    }
+    let missing = missing_text(scene.alloc, value, &terms.part, line)?;
+    let text = joined(missing, arrays_text(scene, kept)?)?;
+    Ok(text)
+}
+
+/// The lines on a mapping that stopped, where the run's line tells that.
+fn fault_reasons(
+    scene: &Scene<'_, '_>,
+    ask: &Ask<'_>,
+    terms: &Terms,
+    fault: MapFault,
+    kept: &Kept,
+    line: &[u8],
+) -> Result<Vec<u8>, AllocError>
+    requires table { IsTable scene.now.nodes.now }
+    requires root { scene.now.root < length scene.now.nodes.now }
+    ensures why { (space : SpaceView) → HasFault space (type_of scene.now.nodes.now scene.now.root) ask.now fault → IfOk result (λ text. TellsWhy space (type_of scene.now.nodes.now scene.now.root) ask.now terms.now line.now text.items) }
+{
+    if is_told(scene.alloc, ask, terms, fault, line) {
+        let part = part_text(scene, ask, fault, kept)?;
+        let text = joined(part, arrays_text(scene, kept)?)?;
+        Ok(text)
+    } else {
+        Ok(Vec::new(scene.alloc))
+    }
+}
+
+/// Whether a run that gave a value may end with a line: with none, or with that of a term which the value doesn't meet.
+fn is_of_value(line: &[u8]) -> bool {
+    line.is_empty()
+        || line.starts_with(b"fault Left ")
+        || line.starts_with(b"fault NoSuchPart")
+        || line.starts_with(b"fault Output ")
+}
+
+/// The lines on the part at which a mapping stopped.
+fn part_text(
+    scene: &Scene<'_, '_>,
+    ask: &Ask<'_>,
+    fault: MapFault,
+    kept: &Kept,
+) -> Result<Text, AllocError>
+    requires table { IsTable scene.now.nodes.now }
+    requires root { scene.now.root < length scene.now.nodes.now }
+    ensures part { IfOk result (λ text. TellsPart (type_of scene.now.nodes.now scene.now.root) text.bytes.items) }
+{
+    match &kept.fault {
+        Some(kept) if told(kept.stop, ask.start) == fault => fault_text(scene, kept),
+        Some(_) => Ok(Text::new(scene.alloc)),
+        None => fault_text(scene, &Fault::of_type(scene.alloc, fault)),
+    }
+}
+
+/// Whether a line is the one that tells a fault, with status 1.
+fn is_told(alloc: Global, ask: &Ask<'_>, terms: &Terms, fault: MapFault, line: &[u8]) -> bool
+    ensures { IsTrue result → end_saying terms.now.most_slots ask.now.start fault.kind fault.at ≡ Line Faulty line.now }
+{
+    let mut told_again = Vec::new(alloc);
+    let status = tell_end(&mut told_again, fault, terms.most_slots, ask.start);
+    match status {
+        Status::Fault => told_again.as_slice() == line,
+        Status::Done | Status::Refused | Status::Outside => false,
+    }
+}
+
+fn joined(front: Text, back: Text) -> Result<Vec<u8>, AllocError>
+    ensures { IfOk result (λ text. text.items ≡ front.bytes.items ++ back.bytes.items) }
+{
+    let back = back.into_bytes();
+    let joined = front.say(back.as_slice())?.into_bytes();
+    Ok(joined)
+}

@@ -1,0 +1,73 @@
+//! How far a path leads into a value.
+
+ghost use Rattle.std.specs.Prelude.{IfOk};
+ghost use Rattle.mapping_reasons.specs.Why.{TellsMissing};
+
+use crate::way::say_element;
+use pickle_map::ValueRef;
+use pickle_script::text::Text;
+use poke_batch::part::step_to;
+use poke_batch::path::{Path, Step};
+use std::alloc::{AllocError, Global};
+
+/// The line that tells how far a path leads, where a run ended with NoSuchPart; else none.
+pub fn missing_text(
+    alloc: Global,
+    value: Option<ValueRef<'_>>,
+    path: &Option<Path>,
+    line: &[u8],
+) -> Result<Text, AllocError>
+    ensures { IfOk result (λ text. TellsMissing path.now line.now text.bytes.items) }
+{
+    if let (Some(value), Some(path)) = (value, path) {
+        if line == b"fault NoSuchPart\n".as_slice() {
+            let text = say_missing(alloc, value, path.steps.as_slice())?;
+            return Ok(text);
+        }
+    }
+    Ok(Text::new(alloc))
+}
+
+/// A line on the first part of a path that a value hasn't; none where it has all.
+fn say_missing(alloc: Global, value: ValueRef<'_>, steps: &[Step]) -> Result<Text, AllocError> {
+    let mut part = value;
+    for (count, step) in steps.iter().enumerate() {
+        match step_to(part, step) {
+            Some(next) => part = next,
+            None => return say_first_missing(alloc, steps, count),
+        }
+    }
+    Ok(Text::new(alloc))
+}
+
+/// A line on a path of which so many steps lead to a part, but not the one behind them.
+fn say_first_missing(alloc: Global, steps: &[Step], count: usize) -> Result<Text, AllocError> {
+    let (there, rest) = steps.split_at(count.min(steps.len()));
+    let there = path_text(alloc, there)?;
+    let text = Text::new(alloc).say(b"  ")?;
+    let text = match there.as_slice() {
+        [] => text.say(b".")?,
+        path => text.say(path)?,
+    };
+    let text = text.say(b" is there, ")?.say(there.as_slice())?;
+    match rest.first() {
+        Some(step) => say_step(text, step)?.say(b" isn't\n"),
+        None => Ok(text),
+    }
+}
+
+fn path_text(alloc: Global, steps: &[Step]) -> Result<Vec<u8>, AllocError> {
+    let mut text = Text::new(alloc);
+    for step in steps {
+        text = say_step(text, step)?;
+    }
+    Ok(text.into_bytes())
+}
+
+fn say_step(text: Text, step: &Step) -> Result<Text, AllocError> {
+    match step {
+        Step::Field(name) => text.say(b".")?.say(name.as_slice()),
+        Step::Place(place) => text.say(b".")?.say_number(*place as usize),
+        Step::Element(place) => say_element(text, *place),
+    }
+}

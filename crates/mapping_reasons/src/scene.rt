@@ -1,0 +1,121 @@
+//! Where reasons are told from: a type of a pickle, and a file.
+
+ghost use Rattle.std.specs.Prelude.{◌<◌, length, IfOk, IfSome};
+ghost use Rattle.pickle_types.specs.Table.{IsTable, type_of};
+ghost use Rattle.mapping_reasons.specs.Ways.{IsWayTo};
+
+use crate::way::{Found, Way};
+use itoa::Buffer;
+use pickle_map::mapper::stop::Stop;
+use pickle_script::excerpt::excerpt;
+use pickle_script::script::Script;
+use pickle_script::site::{Purpose, Site};
+use pickle_script::text::Text;
+use pickle_types::view::Node;
+use std::alloc::{AllocError, Global};
+
+/// A type of a pickle, and the file over which it was mapped.
+#[derive(Drop)]
+pub struct Scene<'p, 't> {
+    pub alloc: Global,
+    pub script: Script<'p>,
+    /// The pickle's path, as it is shown.
+    pub path: Vec<u8>,
+    /// The type's name.
+    pub name: Vec<u8>,
+    pub nodes: &'t [Node],
+    /// The type's place in the table.
+    pub root: usize,
+    /// How many bits the file has.
+    pub bits: u64,
+}
+
+impl<'p, 't> Scene<'p, 't> {
+    /// The part of the type to which a way leads, with its path; none where there is no such part.
+    pub fn find(&self, way: &Way) -> Result<Option<Found>, AllocError>
+        requires table { IsTable self.now.nodes.now }
+        requires root { self.now.root < length self.now.nodes.now }
+        ensures way { IfOk result (λ found. IfSome found (λ part. IsWayTo (type_of self.now.nodes.now self.now.root) part.path.items (type_of self.now.nodes.now part.node))) }
+    {
+        way.find(self.alloc, self.nodes, self.root)
+    }
+
+    /// Where a part stands in the pickle; none of a type that is predeclared.
+    pub fn site(&self, way: &Way) -> Result<Option<Site>, AllocError> {
+        let steps = way.to_site(self.alloc, self.nodes)?;
+        match Site::of_type(&self.script, self.name.as_slice()) {
+            Some(site) => Ok(site.along(&self.script, steps.as_slice())),
+            None => Ok(None),
+        }
+    }
+
+    /// The text, and behind it what a part is: its type, the type that declares it, and its place in the pickle.
+    pub fn say_part(&self, text: Text, way: &Way) -> Result<Text, AllocError> {
+        let Some(site) = self.site(way)? else {
+            return say_kind(text, self.name.as_slice());
+        };
+        let kind = site.type_text(self.alloc, &self.script)?;
+        let text = say_kind(text, kind.as_slice())?;
+        let text = match site.owner(&self.script) {
+            Some(owner) => text.say(b" of ")?.say(owner)?,
+            None => text,
+        };
+        self.say_site(text, site)
+    }
+
+    /// The text, and behind it a stop, the path of the part that has it, and that one's place in the pickle.
+    pub fn say_stop(
+        &self,
+        text: Text,
+        stop: Stop,
+        way: &Way,
+        found: &Found,
+    ) -> Result<Text, AllocError> {
+        let text = match stop {
+            Stop::Fault(kind, at) => say_bit(text.say(kind.name().as_bytes())?.say(b" at ")?, at)?,
+            Stop::Limit => text.say(b"Limit")?,
+            Stop::Device => text.say(b"Device")?,
+            Stop::Memory => text.say(b"Memory")?,
+        };
+        let text = text.say(b" in ")?.say(found.path.as_slice())?;
+        match self.site(way)? {
+            Some(site) => self.say_site(text, site),
+            None => Ok(text),
+        }
+    }
+
+    /// The text, and behind it an expression of a part as it stands in the pickle, in backquotes; nothing where it has none.
+    pub fn say_clause(&self, text: Text, way: &Way, purpose: Purpose) -> Result<Text, AllocError> {
+        let Some(site) = self.site(way)? else {
+            return Ok(text);
+        };
+        let Some(part) = site.clause(&self.script, purpose) else {
+            return Ok(text);
+        };
+        let written = excerpt(self.alloc, &self.script, part)?;
+        text.say(b" `")?.say(written.as_slice())?.say(b"`")
+    }
+
+    /// The text, and a place in the pickle behind it.
+    fn say_site(&self, text: Text, site: Site) -> Result<Text, AllocError> {
+        let place = site.place(&self.script);
+        let text = text.say(b" (")?.say(self.path.as_slice())?.say(b":")?;
+        let text = text.say_number(place.line)?.say(b":")?;
+        text.say_number(place.column)?.say(b")")
+    }
+}
+
+/// The text, and a sort of values behind it, with its article.
+fn say_kind(text: Text, kind: &[u8]) -> Result<Text, AllocError> {
+    let article: &[u8] = match kind {
+        [b'a' | b'e' | b'i' | b'o' | b'A' | b'E' | b'I' | b'O', ..] => b"an ",
+        _ => b"a ",
+    };
+    text.say(article)?.say(kind)
+}
+
+/// The text, and a bit of the file behind it.
+pub fn say_bit(text: Text, bit: u128) -> Result<Text, AllocError> {
+    let mut digits = Buffer::new();
+    text.say(digits.format(bit).as_bytes())?.say(b"#b")
+}

@@ -1,0 +1,95 @@
+//! The arrays, structs and unions that a walk is in, from the outermost on.
+
+use crate::way::{Step, Way};
+use std::alloc::{AllocError, Global};
+
+/// An array, struct, union or integral struct that the walk is in.
+#[derive(Clone, Copy)]
+pub struct Level {
+    /// Its place in the table.
+    pub node: usize,
+    /// How many of its parts have begun; the last of them is under way.
+    pub begun: usize,
+    /// How many arrays had ended early when that one began.
+    pub ended: usize,
+}
+
+/// The levels that a walk is in, from the outermost on.
+#[derive(Drop)]
+pub struct Trail {
+    levels: Vec<Level>,
+}
+
+impl Trail {
+    pub fn new(alloc: Global) -> Trail {
+        Trail {
+            levels: Vec::new(alloc),
+        }
+    }
+
+    /// How many levels there are.
+    pub fn depth(&self) -> usize {
+        self.levels.len()
+    }
+
+    /// A level, counted from the innermost.
+    pub fn level(&self, above: usize) -> Option<Level> {
+        let from_outermost = self.levels.len().checked_sub(above)?.checked_sub(1)?;
+        self.levels.get(from_outermost).copied()
+    }
+
+    /// The levels, from the outermost on.
+    pub fn levels(&self) -> &[Level] {
+        self.levels.as_slice()
+    }
+
+    /// Goes into what stands at a place of the table.
+    pub fn open(&mut self, node: usize) -> Result<(), AllocError> {
+        self.levels.push(Level {
+            node,
+            begun: 0,
+            ended: 0,
+        })?;
+        Ok(())
+    }
+
+    /// Goes on to the next part of the innermost level, when so many arrays had ended early.
+    pub fn next(&mut self, ended: usize) {
+        if let Some(level) = self.levels.as_mut_slice().last_mut() {
+            level.begun = level.begun.saturating_add(1);
+            level.ended = ended;
+        }
+    }
+
+    /// Leaves the innermost level.
+    pub fn leave(&mut self) {
+        let _left = self.levels.pop();
+    }
+
+    /// The way to the part that is under way; to the innermost level itself, where none of its parts has begun.
+    pub fn way(&self, alloc: Global) -> Result<Way, AllocError> {
+        way_along(alloc, self.levels.as_slice())
+    }
+
+    /// The way to the innermost level itself.
+    pub fn way_to_innermost(&self, alloc: Global) -> Result<Way, AllocError> {
+        match self.levels.as_slice() {
+            [outer @ .., _] => way_along(alloc, outer),
+            [] => Ok(Way::new(alloc)),
+        }
+    }
+}
+
+/// The way through levels, to the part of the last that is under way.
+fn way_along(alloc: Global, levels: &[Level]) -> Result<Way, AllocError> {
+    let mut way = Way::new(alloc);
+    for level in levels {
+        if let Some(place) = level.begun.checked_sub(1) {
+            way.go(Step {
+                node: level.node,
+                place,
+            })?;
+        }
+    }
+    Ok(way)
+}

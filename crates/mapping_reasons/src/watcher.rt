@@ -1,0 +1,309 @@
+//! What a watcher keeps of a mapping on its way: the part that has a fault, and the arrays that ended early.
+
+ghost use Rattle.std.specs.Prelude.{◌≤◌};
+ghost use Rattle.std.specs.Vec.{vec_len};
+ghost use Rattle.pickle_types.specs.Sound.{IsSoundTerm};
+ghost use Rattle.pickle_types.specs.Table.{term_of};
+
+use crate::again::Kept;
+use crate::blame::blamed;
+use crate::cause::{Cause, Ended, Fault, Miss, Misses};
+use crate::seen::Seen;
+use crate::trail::Trail;
+use pickle_map::Store;
+use pickle_map::extent::Extent;
+use pickle_map::mapper::stop::Stop;
+use pickle_map::mapper::watch::{Clause, Watch};
+use pickle_types::view::{Extent as Bound, Node, Resolved, Shape};
+use std::alloc::{AllocError, Global};
+
+/// The most arrays that ended early which are told.
+pub const MOST_ENDED: usize = 16;
+
+/// The most alternatives of a union which are told.
+pub const MOST_MISSES: usize = 16;
+
+/// What is kept of a mapping on its way.
+///
+/// The trail is whole when the first of `stop`, `end`, `miss` and `refuse` is called behind a fault: so that one keeps the
+/// way to the part, and those that follow find it kept.
+#[derive(Drop)]
+pub struct Told {
+    alloc: Global,
+    trail: Trail,
+    /// The fault that is under way.
+    fault: Option<Fault>,
+    /// The misses of the unions that the walk is in, outermost first.
+    misses: Vec<Miss>,
+    /// The last arrays that ended early.
+    ended: Vec<Ended>,
+    /// How many arrays have ended early.
+    ended_count: usize,
+    /// Whether there was no memory for something of these.
+    starved: bool,
+}
+
+impl Told {
+    pub fn new(alloc: Global) -> Told {
+        Told {
+            alloc,
+            trail: Trail::new(alloc),
+            fault: None,
+            misses: Vec::new(alloc),
+            ended: Vec::new(alloc),
+            ended_count: 0,
+            starved: false,
+        }
+    }
+
+    /// What was kept, where there was memory for it.
+    pub fn into_kept(self) -> Result<Kept, AllocError> {
+        let Told {
+            alloc: _,
+            trail: _,
+            fault,
+            misses: _,
+            ended,
+            ended_count,
+            starved,
+        } = self;
+        if starved {
+            return Err(AllocError);
+        }
+        Ok(Kept {
+            fault,
+            ended,
+            ended_count,
+        })
+    }
+
+    fn note(&mut self, kept: Result<(), AllocError>) {
+        if kept.is_err() {
+            self.starved = true;
+        }
+    }
+
+    /// Leaves the innermost level, whose misses are of no use any more.
+    fn leave(&mut self) {
+        let kept = self.misses_above(self.trail.depth());
+        self.misses.truncate(kept);
+        self.trail.leave();
+    }
+
+    /// How many misses are of unions around the level at a depth.
+    fn misses_above(&self, depth: usize) -> usize
+        ensures { result ≤ vec_len self.now.misses }
+    {
+        let above = self.misses.iter().filter(|miss| miss.depth < depth);
+        above.count().min(self.misses.len())
+    }
+
+    /// Keeps the fault of the part that is under way, unless one is kept.
+    fn keep(&mut self, stop: Stop) -> Result<(), AllocError> {
+        if self.fault.is_none() {
+            self.fault = Some(Fault {
+                way: self.trail.way(self.alloc)?,
+                stop,
+                cause: Cause::Plain,
+            });
+        }
+        Ok(())
+    }
+
+    /// The fault of the part that is under way, which is kept no longer.
+    fn take(&mut self, stop: Stop) -> Result<Fault, AllocError> {
+        self.keep(stop)?;
+        match self.fault.take() {
+            Some(fault) => Ok(fault),
+            None => Err(AllocError),
+        }
+    }
+
+    fn keep_blamed(
+        &mut self,
+        clause: Clause,
+        e: &Resolved,
+        table: &[Node],
+        store: &Store,
+        stop: Stop,
+    ) -> Result<(), AllocError>
+        requires { IsSoundTerm (term_of e.now) }
+    {
+        let way = self.trail.way(self.alloc)?;
+        let cause = if self.is_caught(table, stop) {
+            Cause::Plain
+        } else {
+            let seen = Seen::new(self.alloc, table, store, &self.trail, clause);
+            match blamed(seen, clause, e, stop)? {
+                Some(blamed) => Cause::Expression(blamed),
+                None => Cause::Plain,
+            }
+        };
+        self.fault = Some(Fault { way, stop, cause });
+        Ok(())
+    }
+
+    /// Whether a fault is only a miss of a union, or the end of an array, that the walk is in.
+    fn is_caught(&self, table: &[Node], stop: Stop) -> bool {
+        self.trail
+            .levels()
+            .iter()
+            .any(|level| catches(table, level.node, stop))
+    }
+
+    fn keep_outgrown(&mut self, extent: Extent, end: u64, stop: Stop) -> Result<(), AllocError> {
+        self.fault = Some(Fault {
+            way: self.trail.way_to_innermost(self.alloc)?,
+            stop,
+            cause: Cause::Outgrown(extent, end),
+        });
+        Ok(())
+    }
+
+    fn keep_ended(&mut self, stop: Stop) -> Result<(), AllocError> {
+        let fault = self.take(stop)?;
+        let begun = match self.trail.level(0) {
+            Some(level) => level.begun,
+            None => 0,
+        };
+        let ended = Ended {
+            number: self.ended_count,
+            array: self.trail.way_to_innermost(self.alloc)?,
+            count: begun.saturating_sub(1),
+            way: fault.way,
+            stop: fault.stop,
+        };
+        if MOST_ENDED <= self.ended.len() {
+            let _first = self.ended.remove(0);
+        }
+        self.ended.push(ended)?;
+        self.ended_count = self.ended_count.saturating_add(1);
+        Ok(())
+    }
+
+    fn keep_miss(&mut self, stop: Stop) -> Result<(), AllocError> {
+        let Fault { way, stop, cause } = self.take(stop)?;
+        if let Some(level) = self.trail.level(0) {
+            self.forget_ended(level.ended);
+        }
+        let depth = self.trail.depth();
+        self.add_miss(Miss {
+            depth,
+            of: depth,
+            inside: 0,
+            way,
+            stop,
+        })?;
+        match cause {
+            Cause::NoneFits(misses) => self.add_inner(depth, misses.told),
+            _ => Ok(()),
+        }
+    }
+
+    /// Adds the misses of a union that is an alternative of the innermost one, or in it.
+    fn add_inner(&mut self, depth: usize, misses: Vec<Miss>) -> Result<(), AllocError> {
+        for miss in misses {
+            let inside = miss.inside.saturating_add(1);
+            self.add_miss(Miss {
+                depth,
+                inside,
+                ..miss
+            })?;
+        }
+        Ok(())
+    }
+
+    /// Adds a miss to those of the innermost union, where it is one of the first.
+    fn add_miss(&mut self, miss: Miss) -> Result<(), AllocError> {
+        let depth = miss.depth;
+        let told = self.misses.iter().filter(|it| it.depth == depth).count();
+        if told < MOST_MISSES {
+            self.misses.push(miss)?;
+        }
+        Ok(())
+    }
+
+    /// Forgets the arrays that ended early in an alternative that missed, before which so many had.
+    fn forget_ended(&mut self, count: usize) {
+        let kept = self
+            .ended
+            .iter()
+            .take_while(|ended| ended.number < count)
+            .count();
+        self.ended.truncate(kept);
+        self.ended_count = count;
+    }
+
+    fn keep_refused(&mut self, stop: Stop) -> Result<(), AllocError> {
+        let kept = self.misses_above(self.trail.depth());
+        let told = self.misses.split_off(kept)?;
+        let count = match self.trail.level(0) {
+            Some(level) => level.begun,
+            None => 0,
+        };
+        self.fault = Some(Fault {
+            way: self.trail.way_to_innermost(self.alloc)?,
+            stop,
+            cause: Cause::NoneFits(Misses { told, count }),
+        });
+        Ok(())
+    }
+}
+
+/// Whether what stands at a place of the table goes on behind a part of it that stops so.
+fn catches(table: &[Node], at: usize, stop: Stop) -> bool {
+    match table.get(at) {
+        Some(node) => match &node.shape {
+            Shape::Union { .. } => stop.misses(),
+            Shape::Array(_, Bound::Unbounded) => stop.ends(Extent::Open),
+            _ => false,
+        },
+        None => false,
+    }
+}
+
+impl Watch for Told {
+    fn open(&mut self, at: usize) {
+        let opened = self.trail.open(at);
+        self.note(opened);
+    }
+
+    fn next(&mut self) {
+        self.trail.next(self.ended_count);
+    }
+
+    fn close(&mut self) {
+        self.leave();
+    }
+
+    fn stop(&mut self, stop: Stop) {
+        let kept = self.keep(stop);
+        self.note(kept);
+        self.leave();
+    }
+
+    fn blame(&mut self, clause: Clause, e: &Resolved, table: &[Node], store: &Store, stop: Stop) {
+        let kept = self.keep_blamed(clause, e, table, store, stop);
+        self.note(kept);
+    }
+
+    fn outgrow(&mut self, extent: Extent, end: u64, stop: Stop) {
+        let kept = self.keep_outgrown(extent, end, stop);
+        self.note(kept);
+    }
+
+    fn end(&mut self, stop: Stop) {
+        let kept = self.keep_ended(stop);
+        self.note(kept);
+    }
+
+    fn miss(&mut self, stop: Stop) {
+        let kept = self.keep_miss(stop);
+        self.note(kept);
+    }
+
+    fn refuse(&mut self, stop: Stop) {
+        let kept = self.keep_refused(stop);
+        self.note(kept);
+    }
+}

@@ -1,0 +1,245 @@
+//! Ways from a type to its parts.
+
+ghost use Rattle.std.specs.Prelude.{◌≡◌, ℕ, ◌<◌, ◌++◌, length, IfOk, IfSome};
+ghost use Rattle.std.specs.Option.{option_map};
+ghost use Rattle.pickle_types.specs.Table.{IsTable, type_of, name_of};
+ghost use Rattle.value_text.specs.PathText.{field_step, path_text};
+ghost use Rattle.value_text.specs.TreeText.{in_brackets};
+ghost use Rattle.mapping_reasons.specs.Ways.{IsWayTo, LeadsTo};
+ghost use Rattle.mapping_reasons.specs.Portions.{IsPortion, IsShapePortion, IsFieldPortion, IsPartPortion, joint_text, joint_name};
+
+use pickle_script::site;
+use pickle_script::text::Text;
+use pickle_types::view::{Field, Name, Node, Part, Shape};
+use std::alloc::{AllocError, Global};
+
+/// A step from an array, struct, union or integral struct to one of its parts.
+#[derive(Clone, Copy, Debug, PartialEq, Eq)]
+pub struct Step {
+    /// The place in the table of what the step goes from.
+    pub node: usize,
+    /// The place of the part: of a field or alternative among the declared ones, of an element in its array, from 0.
+    pub place: usize,
+}
+
+/// The steps from a type to a part of it; none lead to the type itself.
+#[derive(Drop)]
+pub struct Way {
+    steps: Vec<Step>,
+}
+
+/// How a part is found in what it is a part of.
+#[derive(Clone, Copy)]
+pub enum Joint<'n> {
+    Element,
+    /// A field or an alternative.
+    Named(&'n [u8]),
+    Nameless,
+}
+
+/// A part of an array, struct, union or integral struct.
+#[derive(Clone, Copy)]
+pub struct Portion<'n> {
+    pub joint: Joint<'n>,
+    /// The place of its type in the table.
+    pub node: usize,
+}
+
+/// A part of a type, and the path to it.
+#[derive(Drop)]
+pub struct Found {
+    pub path: Vec<u8>,
+    /// The place of its type in the table.
+    pub node: usize,
+}
+
+/// A part of a type, and the steps to it.
+#[derive(Drop)]
+struct Walked {
+    text: Text,
+    node: usize,
+}
+
+impl Way {
+    /// The way to the type itself.
+    pub fn new(alloc: Global) -> Way {
+        Way {
+            steps: Vec::new(alloc),
+        }
+    }
+
+    /// Goes on by a step.
+    pub fn go(&mut self, step: Step) -> Result<(), AllocError> {
+        self.steps.push(step)?;
+        Ok(())
+    }
+
+    /// The steps by which its site is found in the pickle.
+    pub fn to_site(&self, alloc: Global, nodes: &[Node]) -> Result<Vec<site::Step>, AllocError> {
+        let mut steps = Vec::new(alloc);
+        for step in self.steps.as_slice() {
+            steps.push(site_step(nodes, *step))?;
+        }
+        Ok(steps)
+    }
+
+    /// The part to which it leads from the type at a place of the table, with the path in the form in which values are printed
+    /// over lines; none where that type has no such part.
+    pub fn find(
+        &self,
+        alloc: Global,
+        nodes: &[Node],
+        root: usize,
+    ) -> Result<Option<Found>, AllocError>
+        requires table { IsTable nodes.now }
+        requires root { root < length nodes.now }
+        ensures way { IfOk result (λ found. IfSome found (λ part. IsWayTo (type_of nodes.now root) part.path.items (type_of nodes.now part.node))) }
+    {
+        match walk(alloc, nodes, root, self.steps.as_slice())? {
+            Some(walked) => Ok(Some(Found {
+                path: whole_path(alloc, walked.text.into_bytes())?,
+                node: walked.node,
+            })),
+            None => Ok(None),
+        }
+    }
+
+    /// The text, and behind it the step of a number, counted from 1.
+    pub fn say_nth(&self, text: Text, nodes: &[Node], number: usize) -> Result<Text, AllocError> {
+        let Some(place) = number.checked_sub(1) else {
+            return Ok(text);
+        };
+        let Some(step) = self.steps.as_slice().get(place) else {
+            return Ok(text);
+        };
+        match part_of(nodes, *step) {
+            Some(part) => say_joint(text, part.joint, step.place),
+            None => Ok(text),
+        }
+    }
+}
+
+/// The path of steps: a dot where there are none.
+fn whole_path(alloc: Global, steps: Vec<u8>) -> Result<Vec<u8>, AllocError>
+    ensures { IfOk result (λ path. path.items ≡ path_text steps.items) }
+{
+    if steps.is_empty() {
+        Vec::from_slice(alloc, b".")
+    } else {
+        Ok(steps)
+    }
+}
+
+/// Goes along steps from the type at a place of the table; none where it has no such part.
+fn walk(
+    alloc: Global,
+    nodes: &[Node],
+    root: usize,
+    steps: &[Step],
+) -> Result<Option<Walked>, AllocError>
+    requires table { IsTable nodes.now }
+    requires root { root < length nodes.now }
+    ensures way { IfOk result (λ walked. IfSome walked (λ part. LeadsTo (type_of nodes.now root) part.text.bytes.items (type_of nodes.now part.node))) }
+{
+    let mut text = Text::new(alloc);
+    let mut node = root;
+    for step in steps {
+        if step.node != node {
+            return Ok(None);
+        }
+        match part_of(nodes, *step) {
+            Some(part) => {
+                text = say_joint(text, part.joint, step.place)?;
+                node = part.node;
+            }
+            None => return Ok(None),
+        }
+    }
+    Ok(Some(Walked { text, node }))
+}
+
+/// What a step leads to; none where there is no such part.
+pub fn part_of(nodes: &[Node], step: Step) -> Option<Portion<'_>>
+    ensures is { IsTable nodes.now → IfSome result (IsPortion nodes.now step) }
+{
+    portion_in(&nodes.get(step.node)?.shape, step.place)
+}
+
+fn portion_in(shape: &Shape, place: usize) -> Option<Portion<'_>>
+    ensures { IfSome result (IsShapePortion shape.now place) }
+{
+    match shape {
+        Shape::Array(element, _) => Some(Portion {
+            joint: Joint::Element,
+            node: *element,
+        }),
+        Shape::Struct { fields, .. } => field_at(fields, place),
+        Shape::Integral { fields, .. } => portion_at(fields, place),
+        Shape::Union { alternatives, .. } => portion_at(alternatives, place),
+        Shape::Integer(_) | Shape::Offset(_, _) | Shape::String => None,
+    }
+}
+
+fn field_at(fields: &[Field], place: usize) -> Option<Portion<'_>>
+    ensures { IfSome result (IsFieldPortion fields.now place) }
+{
+    let field = fields.get(place)?;
+    Some(Portion {
+        joint: joint_of(&field.name),
+        node: field.node,
+    })
+}
+
+fn portion_at(parts: &[Part], place: usize) -> Option<Portion<'_>>
+    ensures { IfSome result (IsPartPortion parts.now place) }
+{
+    let part = parts.get(place)?;
+    Some(Portion {
+        joint: joint_of(&part.name),
+        node: part.node,
+    })
+}
+
+fn joint_of(name: &Option<Name>) -> Joint<'_>
+    ensures name { joint_name result ≡ name_of name.now }
+    ensures step { (place : ℕ) → joint_text result place ≡ field_step (name_of name.now) place }
+{
+    match name {
+        Some(name) => Joint::Named(name.as_slice()),
+        None => Joint::Nameless,
+    }
+}
+
+/// Whether an array stands at a place of the table.
+fn is_array(nodes: &[Node], at: usize) -> bool {
+    match nodes.get(at) {
+        Some(node) => matches!(node.shape, Shape::Array(_, _)),
+        None => false,
+    }
+}
+
+fn site_step(nodes: &[Node], step: Step) -> site::Step {
+    if is_array(nodes, step.node) {
+        site::Step::Element
+    } else {
+        site::Step::Field(step.place)
+    }
+}
+
+/// The text, and a step behind it: `.name`, `.place` to a nameless field, `[place]` to an element.
+fn say_joint(text: Text, joint: Joint<'_>, place: usize) -> Result<Text, AllocError>
+    ensures { IfOk result (λ said. said.bytes.items ≡ text.bytes.items ++ joint_text joint.entry place) }
+{
+    match joint {
+        Joint::Element => say_element(text, place as u64),
+        Joint::Named(name) => text.say(b".")?.say(name),
+        Joint::Nameless => text.say(b".")?.say_number(place),
+    }
+}
+
+/// The text, and the step to an element behind it.
+pub fn say_element(text: Text, place: u64) -> Result<Text, AllocError>
+    ensures { IfOk result (λ said. said.bytes.items ≡ text.bytes.items ++ in_brackets place) }
+{
+    text.say(b"[")?.say_number(place as usize)?.say(b"]")
+}

@@ -1,0 +1,142 @@
+//! Clauses of the types under a watcher, which is told of each that stops the mapping.
+
+ghost use Rattle.std.specs.Prelude.{◌≡◌, ◌<◌, ◌≤◌, ◌^◌};
+ghost use Rattle.pickle_types.specs.Table.{optional_term, bound_of};
+ghost use Rattle.pickle_types.specs.Sound.{IsSoundClause, IsSoundBound};
+ghost use Rattle.pickle_map.specs.Clauses.{constraint, condition, field_start, extent_of, clause_steps, label_steps, bound_steps};
+ghost use Rattle.pickle_map.specs.Settles.{Settles};
+ghost use Rattle.pickle_map.specs.Shown.{kept};
+
+use crate::extent::Extent;
+use crate::mapper::clauses;
+use crate::mapper::stop::Stop;
+use crate::mapper::watch::{Clause, Watch};
+use crate::store::Store;
+use bit_space::Meter;
+use pickle_types::view::{Extent as Bound, Node, Resolved};
+
+/// Checks a constraint, and blames it where it stops.
+#[inline(always)]
+pub fn check<W: Watch>(
+    table: &[Node],
+    clause: &Option<Box<Resolved>>,
+    store: &Store,
+    place: u128,
+    meter: &mut Meter,
+    watch: &mut W,
+) -> Result<(), Stop>
+    requires sound { IsSoundClause (optional_term clause.now) }
+    ensures limit { meter.new.limit ≡ meter.old.limit }
+    ensures made { meter.new.made ≡ meter.old.made }
+    ensures steps { meter.old.steps ≤ meter.new.steps }
+    ensures is { Settles meter.old.limit meter.old.steps meter.new.steps result (constraint (optional_term clause.now) (kept table.now store.now) place) (clause_steps (optional_term clause.now) (kept table.now store.now)) }
+{
+    let checked = clauses::check(table, clause, store, place, meter);
+    if let Err(stop) = checked {
+        blame_clause(table, Clause::Constraint, clause, store, stop, watch);
+    }
+    checked
+}
+
+/// Whether a field of a struct is there, by its condition, which is blamed where it stops.
+#[inline(always)]
+pub fn is_there<W: Watch>(
+    table: &[Node],
+    clause: &Option<Box<Resolved>>,
+    store: &Store,
+    start: u128,
+    meter: &mut Meter,
+    watch: &mut W,
+) -> Result<bool, Stop>
+    requires sound { IsSoundClause (optional_term clause.now) }
+    ensures limit { meter.new.limit ≡ meter.old.limit }
+    ensures made { meter.new.made ≡ meter.old.made }
+    ensures steps { meter.old.steps ≤ meter.new.steps }
+    ensures is { Settles meter.old.limit meter.old.steps meter.new.steps result (condition (optional_term clause.now) (kept table.now store.now) start) (clause_steps (optional_term clause.now) (kept table.now store.now)) }
+{
+    let there = clauses::is_there(table, clause, store, start, meter);
+    if let Err(stop) = there {
+        blame_clause(table, Clause::Condition, clause, store, stop, watch);
+    }
+    there
+}
+
+/// The bit where a field of a struct starts. Its label is blamed where it stops.
+#[inline(always)]
+pub fn find_start<W: Watch>(
+    table: &[Node],
+    pinned: bool,
+    label: &Option<Box<Resolved>>,
+    store: &Store,
+    start: u128,
+    behind: u128,
+    meter: &mut Meter,
+    watch: &mut W,
+) -> Result<u128, Stop>
+    requires sound { IsSoundClause (optional_term label.now) }
+    requires start { start < 2 ^ 127 }
+    ensures limit { meter.new.limit ≡ meter.old.limit }
+    ensures made { meter.new.made ≡ meter.old.made }
+    ensures steps { meter.old.steps ≤ meter.new.steps }
+    ensures is { Settles meter.old.limit meter.old.steps meter.new.steps result (field_start pinned (optional_term label.now) (kept table.now store.now) start behind) (label_steps pinned (optional_term label.now) (kept table.now store.now)) }
+{
+    let found = clauses::find_start(table, pinned, label, store, start, behind, meter);
+    if let Err(stop) = found {
+        blame_clause(table, Clause::Label, label, store, stop, watch);
+    }
+    found
+}
+
+/// How far the innermost array goes. Its bound is blamed where it stops, and the array stops with it.
+#[inline(always)]
+pub fn find_extent<W: Watch>(
+    table: &[Node],
+    bound: &Bound,
+    store: &Store,
+    start: u128,
+    meter: &mut Meter,
+    watch: &mut W,
+) -> Result<Extent, Stop>
+    requires sound { IsSoundBound (bound_of bound.now) }
+    ensures limit { meter.new.limit ≡ meter.old.limit }
+    ensures made { meter.new.made ≡ meter.old.made }
+    ensures steps { meter.old.steps ≤ meter.new.steps }
+    ensures is { Settles meter.old.limit meter.old.steps meter.new.steps result (extent_of (bound_of bound.now) (kept table.now store.now) start) (bound_steps (bound_of bound.now) (kept table.now store.now)) }
+{
+    let extent = clauses::find_extent(table, bound, store, start, meter);
+    if let Err(stop) = extent {
+        blame_bound(table, bound, store, stop, watch);
+        watch.stop(stop);
+    }
+    extent
+}
+
+/// Blames a clause of a type that may have one.
+#[inline(always)]
+fn blame_clause<W: Watch>(
+    table: &[Node],
+    clause: Clause,
+    e: &Option<Box<Resolved>>,
+    store: &Store,
+    stop: Stop,
+    watch: &mut W,
+)
+    requires { IsSoundClause (optional_term e.now) }
+{
+    match e {
+        None => (),
+        Some(e) => watch.blame(clause, e, table, store, stop),
+    }
+}
+
+/// Blames the bound of an array.
+#[inline(always)]
+fn blame_bound<W: Watch>(table: &[Node], bound: &Bound, store: &Store, stop: Stop, watch: &mut W)
+    requires { IsSoundBound (bound_of bound.now) }
+{
+    match bound {
+        Bound::Unbounded => (),
+        Bound::Count(e) => watch.blame(Clause::Count, e, table, store, stop),
+        Bound::Size(e) => watch.blame(Clause::Size, e, table, store, stop),
+    }
+}

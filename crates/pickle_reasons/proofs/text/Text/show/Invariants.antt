@@ -1,7 +1,0 @@
--- The text is what it was, with the bytes so far shown behind it.
-use Rattle.std.proofs.Common.{◌≡◌, take, fold}
-use Rattle.pickle_reasons.specs.Places.{shown_behind}
-use Rattle.pickle_reasons.proofs.text.Text.show.Given as goal
-
-abbrev pub invariant-loop-byte : goal.invariant-loop-byte
-invariant-loop-byte l = l.text.bytes.items ≡ fold shown_behind l.initial.text.bytes.items (take l.byte-index l.bytes)

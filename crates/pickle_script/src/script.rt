@@ -1,0 +1,144 @@
+//! A pickle's bytes with their tokens.
+
+use pickle_syntax::lexer::{Tokens, lex};
+use pickle_syntax::token::{Kind, Word};
+use std::alloc::{AllocError, Global};
+
+/// Some tokens in a row: the first, counted from 0, and the one behind the last.
+#[derive(Clone, Copy, Debug, Drop, PartialEq, Eq)]
+pub struct Part {
+    pub first: usize,
+    pub end: usize,
+}
+
+impl Part {
+    /// One token.
+    pub fn single(token: usize) -> Part {
+        Part {
+            first: token,
+            end: token.saturating_add(1),
+        }
+    }
+}
+
+/// A pickle's bytes with their tokens.
+#[derive(Drop)]
+pub struct Script<'t> {
+    pub bytes: &'t [u8],
+    tokens: Tokens<'t>,
+    /// The tokens behind each `type`: the names that are declared.
+    names: Vec<usize>,
+}
+
+/// The bytes from one place to another; none where there are no such places.
+pub fn cut(bytes: &[u8], from: usize, to: usize) -> &[u8] {
+    match bytes.get(from..to) {
+        Some(part) => part,
+        None => &[],
+    }
+}
+
+impl<'t> Script<'t> {
+    /// The tokens of bytes; none where they have no tokens.
+    pub fn new(alloc: Global, bytes: &'t [u8]) -> Option<Script<'t>> {
+        let tokens = lex(alloc, bytes).ok()?;
+        let names = declared_names(alloc, tokens.kinds()).ok()?;
+        Some(Script {
+            bytes,
+            tokens,
+            names,
+        })
+    }
+
+    /// How many declarations there are.
+    pub fn declarations(&self) -> usize {
+        self.names.len()
+    }
+
+    /// The token by which a name is declared, behind `type`.
+    pub fn declared(&self, name: &[u8]) -> Option<usize> {
+        self.names
+            .iter()
+            .copied()
+            .find(|token| self.text(*token) == name)
+    }
+
+    /// How many tokens there are.
+    pub fn len(&self) -> usize {
+        self.tokens.len()
+    }
+
+    /// The place of a token's first byte; behind the last token the pickle's end.
+    pub fn first(&self, token: usize) -> usize {
+        match self.tokens.span(token) {
+            Some((first, _)) => first,
+            None => self.bytes.len(),
+        }
+    }
+
+    /// The place behind a token's last byte; behind the last token the pickle's end.
+    pub fn behind(&self, token: usize) -> usize {
+        match self.tokens.span(token) {
+            Some((_, behind)) => behind,
+            None => self.bytes.len(),
+        }
+    }
+
+    /// A token as it is written; nothing behind the last token.
+    pub fn text(&self, token: usize) -> &'t [u8] {
+        cut(self.bytes, self.first(token), self.behind(token))
+    }
+
+    /// The token before another as it is written; nothing before the first.
+    pub fn text_before(&self, token: usize) -> &'t [u8] {
+        match token.checked_sub(1) {
+            Some(before) => self.text(before),
+            None => &[],
+        }
+    }
+
+    /// Whether a token is a name, and no reserved word.
+    pub fn is_name(&self, token: usize) -> bool {
+        matches!(self.tokens.kinds().get(token), Some(Kind::Name(_)))
+    }
+
+    /// Whether a token is a number.
+    pub fn is_number(&self, token: usize) -> bool {
+        matches!(self.tokens.kinds().get(token), Some(Kind::Number(_)))
+    }
+
+    /// The place of the first byte of some tokens, and the one behind their last.
+    pub fn bounds(&self, part: Part) -> (usize, usize) {
+        match part.end.checked_sub(1) {
+            Some(last) if part.first <= last => (self.first(part.first), self.behind(last)),
+            _ => (self.first(part.first), self.first(part.first)),
+        }
+    }
+
+    /// Some tokens as they are written, with what stands between them.
+    pub fn slice(&self, part: Part) -> &'t [u8] {
+        let (first, behind) = self.bounds(part);
+        cut(self.bytes, first, behind)
+    }
+
+    /// The first token that begins at a byte or behind it.
+    pub fn token_at(&self, byte: usize) -> usize {
+        for token in 0..self.tokens.len() {
+            if byte <= self.first(token) {
+                return token;
+            }
+        }
+        self.tokens.len()
+    }
+}
+
+/// The places behind each `type`.
+fn declared_names(alloc: Global, kinds: &[Kind<'_>]) -> Result<Vec<usize>, AllocError> {
+    let mut names = Vec::new(alloc);
+    for (place, kind) in kinds.iter().enumerate() {
+        if matches!(kind, Kind::Word(Word::Type)) {
+            names.push(place.saturating_add(1))?;
+        }
+    }
+    Ok(names)
+}
