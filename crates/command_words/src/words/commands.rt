@@ -304,9 +304,7 @@ fn why<'a>(alloc: Global) -> Arg<'a> {
     Arg::new(alloc, "why")
         .long("why")
         .action(ArgAction::SetTrue)
-        .help(
-            "Tell why the pickle or TYPE is refused, or what stops a mapping [default: not told]",
-        )
+        .help("Tell why the pickle or TYPE is refused, or what stops a mapping [default: not told]")
 }
 
 fn pickle<'a>(alloc: Global) -> Arg<'a> {
