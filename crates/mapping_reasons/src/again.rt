@@ -2,7 +2,7 @@
 
 ghost use Rattle.std.specs.Prelude.{ℕ, List, ◌≡◌, Some, IfOk, IfErr, OnOk};
 ghost use Rattle.bit_space.specs.SpaceView.{Keeps};
-ghost use Rattle.pickle_types.specs.TypeTable.{IsSound, IsInTable, type_named};
+ghost use Rattle.pickle_types.specs.TypeTable.{IsInTable, type_named};
 ghost use Rattle.mapping_reasons.specs.Meant.{HasFault, HasValue};
 
 use crate::cause::{Ended, Fault};
@@ -41,7 +41,6 @@ pub fn map_again<S: Space>(
     space: &mut S,
     store: &mut Store,
 ) -> Result<Again, AllocError>
-    requires sound { IsSound table.now }
     requires known { IsInTable table.now id }
     ensures fault { IfOk result (λ again. IfErr again.end (HasFault (S.view space.old) (type_named table.now id) ask.now)) }
     ensures value { IfOk result (λ again. OnOk again.end (HasValue (S.view space.old) (type_named table.now id) ask.now)) }

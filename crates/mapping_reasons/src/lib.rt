@@ -3,7 +3,7 @@
 
 ghost use Rattle.std.specs.Prelude.{◌≡◌, ◌<◌, ◌++◌, length, IfOk, IsTrue};
 ghost use Rattle.pickle_types.specs.Table.{IsTable, type_of};
-ghost use Rattle.pickle_types.specs.TypeTable.{IsSound, IsInTable, nodes_of, type_named};
+ghost use Rattle.pickle_types.specs.TypeTable.{IsInTable, nodes_of, type_named};
 ghost use Rattle.bit_space.specs.SpaceView.{Keeps, SpaceView};
 ghost use Rattle.command_words.specs.declared.ask.Ask.{Ask};
 ghost use Rattle.poke_batch.specs.RunsUnder.{end_saying};
@@ -81,7 +81,6 @@ pub fn reasons_in<S: Space>(
     space: &mut S,
     line: &[u8],
 ) -> Result<Vec<u8>, AllocError>
-    requires sound { IsSound table.now }
     requires known { IsInTable table.now id }
     ensures why { IfOk result (λ text. TellsWhy (S.view space.old) (type_named table.now id) ask.now terms.now line.now text.items) }
     ensures keeps { Keeps (S.view space.old) (S.view space.new) }

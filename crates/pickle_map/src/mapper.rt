@@ -4,7 +4,7 @@ ghost use Rattle.std.specs.Prelude.{◌≡◌, ℕ, ◌+◌, ◌-◌, ◌*◌, �
 ghost use Rattle.bit_space.specs.Bits.{bits_of};
 ghost use Rattle.bit_space.specs.SpaceView.{HasRisen};
 ghost use Rattle.pickle_types.specs.Bounds.{cost, room};
-ghost use Rattle.pickle_types.specs.TypeTable.{nodes_of, type_named, IsSound, IsInTable};
+ghost use Rattle.pickle_types.specs.TypeTable.{nodes_of, type_named, IsInTable};
 ghost use Rattle.pickle_map.specs.Answer.{Answer};
 ghost use Rattle.pickle_map.specs.Fits.{Fits};
 ghost use Rattle.pickle_map.specs.Mapping.{plan};
@@ -47,7 +47,6 @@ pub fn map<S: Space>(
     meter: &mut Meter,
     store: &mut Store,
 ) -> Result<(), MapFault>
-    requires sound { IsSound table.now }
     requires known { IsInTable table.now id }
     requires empty { store.old ≡ empty store.old.room }
     // Where the bytes are known: the value that the type means there, in its steps and with its values made.
@@ -91,7 +90,6 @@ pub fn map_watched<S: Space, W: Watch>(
     store: &mut Store,
     watch: &mut W,
 ) -> Result<(), MapFault>
-    requires sound { IsSound table.now }
     requires known { IsInTable table.now id }
     requires empty { store.old ≡ empty store.old.room }
     // Where the bytes are known: the value that the type means there, in its steps and with its values made.

@@ -14,6 +14,7 @@ pub mod Meaning
 pub mod Wrong
 pub mod WellTyped
 pub mod Built
+pub mod Props
 pub mod Building
 pub mod Holds
 pub mod TypeTable

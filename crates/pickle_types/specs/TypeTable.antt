@@ -5,10 +5,10 @@ use Rattle.pickle_types.specs.declared.table.Node.{Node}
 use Rattle.pickle_types.specs.declared.type_table.Table.{Table}
 use Rattle.pickle_types.specs.declared.type_table.TypeId.{TypeId}
 use Rattle.pickle_types.specs.Types.{PokeType}
-use Rattle.pickle_types.specs.Table.{type_of, IsTable}
+use Rattle.pickle_types.specs.Table.{type_of}
 use Rattle.pickle_types.specs.Names.{Names, predeclared}
 use Rattle.pickle_types.specs.WellTyped.{Declares}
-use Rattle.pickle_types.specs.Built.{names_of, AreNamed}
+use Rattle.pickle_types.specs.Built.{names_of}
 
 abbrev pub nodes_of : Table → List Node
 nodes_of t = t.nodes.items
@@ -32,11 +32,6 @@ type_named t id = type_of t.nodes.items id.node
 -- the id is one of this table
 abbrev pub IsInTable : Table → TypeId → Type 0
 IsInTable t id = id.node < length t.nodes.items
-
--- the nodes are a table's, and each name has a node
-pub record IsSound (t : Table) : Type 0 where
-  pub table : IsTable t.nodes.items
-  pub named : AreNamed t.nodes.items t.names.items
 
 -- what was found is the type of that name, where there is one
 abbrev pub IsTypeFound : Table → Option TypeId → Option PokeType → Type 0

@@ -2,7 +2,7 @@
 
 ghost use Rattle.std.specs.Prelude.{◌≡◌, ℕ, ◌<◌, length, map, IfOk};
 ghost use Rattle.pickle_types.specs.Table.{IsTable};
-ghost use Rattle.pickle_types.specs.TypeTable.{types_of, IsSound};
+ghost use Rattle.pickle_types.specs.TypeTable.{types_of};
 ghost use Rattle.pickle_types.specs.Built.{named_of};
 ghost use Rattle.pickle_types.specs.Holds.{AreKnown, HoldsWidth};
 ghost use Rattle.pickle_types.specs.DeclaredTypes.{shape_kind, declared_in, held_width, told_of, told_as};
@@ -39,7 +39,6 @@ pub struct DeclaredType<'t> {
 impl Table {
     /// What is told of each declared type, in the order of the declarations. While it runs it takes 80 bytes of memory more for each.
     pub fn declared_types(&self, alloc: Global) -> Result<Vec<DeclaredType<'_>>, AllocError>
-        requires sound { IsSound self.now }
         ensures { IfOk result (λ told. map told_of told.items ≡ map told_as (declared_in (types_of self.now))) }
     {
         let known = known_bounds(alloc, &self.nodes, &self.roots, 0, self.nodes.len())?;

@@ -2,7 +2,7 @@
 
 ghost use Rattle.std.specs.Prelude.{◌≤◌, length, IfOk};
 ghost use Rattle.pickle_types.specs.Table.{IsTable};
-ghost use Rattle.pickle_types.specs.TypeTable.{type_named, IsSound, IsInTable};
+ghost use Rattle.pickle_types.specs.TypeTable.{type_named, IsInTable};
 ghost use Rattle.pickle_types.specs.Holds.{AreBounds, AreKnown};
 
 use crate::bounds::{Bounds, shape_bounds};
@@ -37,7 +37,6 @@ impl Table {
     /// The least width of a type, in bits, and the bounds that `step_bound` and `slot_bound` tell for so many bits, all at once. It
     /// takes 80 bytes of memory for each declared type before this one, and little stack where those calls take 320 KiB.
     pub fn bounds(&self, alloc: Global, id: TypeId, bits: u64) -> Result<Bounds, AllocError>
-        requires sound { IsSound self.now }
         requires known { IsInTable self.now id }
         ensures { IfOk result (λ bounds. AreBounds bounds (type_named self.now id) bits) }
     {

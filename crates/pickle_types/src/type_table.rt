@@ -4,15 +4,15 @@ ghost use Rattle.std.specs.Prelude.{◌≡◌, ◌≢◌, ◌+◌, ◌^◌, ◌<
 ghost use Rattle.pickle_syntax.specs.Tree.{declaration_tree, pickle_tree};
 ghost use Rattle.pickle_types.specs.Types;
 ghost use Rattle.pickle_types.specs.Types.{IntegerOf};
-ghost use Rattle.pickle_types.specs.Table.{type_of, IsWidth};
+ghost use Rattle.pickle_types.specs.Table.{type_of, IsWidth, IsTable};
 ghost use Rattle.pickle_types.specs.Bounds.{IsBound, cost, room};
 ghost use Rattle.pickle_types.specs.Names.{predeclared, find_type};
 ghost use Rattle.pickle_types.specs.Meaning.{declared_type, declared};
 ghost use Rattle.pickle_types.specs.WellTyped.{Declares};
-ghost use Rattle.pickle_types.specs.Built.{Fails};
+ghost use Rattle.pickle_types.specs.Built.{Fails, AreNamed};
+ghost use Rattle.pickle_types.specs.Props.{IsTable-prop, AreNamed-prop};
 ghost use Rattle.pickle_types.specs.Wrong.{first_wrong, TellsPlace};
 ghost use Rattle.pickle_types.specs.Building.{known_types, IsReady, AddsType, named_types, may_add};
-ghost use Rattle.pickle_types.specs.TypeTable.{type_named, types_of, count_of, IsSound, IsInTable, IsTypeFound, IsWellTyped};
 
 use crate::bounds::type_bounds;
 use crate::check::nodes::Nodes;
@@ -156,13 +156,17 @@ pub struct Table {
     pub(crate) roots: Vec<usize>,
     pub(crate) names: Vec<Named>,
     declared: usize,
+    // The nodes are a table's, and each name has a node.
+    pub ghost sound: { IsTable nodes.items } by { IsTable-prop nodes.items },
+    pub ghost named: { AreNamed nodes.items names.items } by { AreNamed-prop nodes.items names.items },
 }
 
 impl Table {
+    ghost use Rattle.pickle_types.specs.TypeTable.{type_named, types_of, count_of, IsInTable, IsTypeFound, IsWellTyped};
+
     /// The types that a pickle declares, where it is well typed and no type is deeper than 64.
     /// A table has at most 2^32 nodes and a union 2^16 alternatives; beyond either the answer is `Memory`.
     pub fn build(alloc: Global, pickle: &Pickle<'_>) -> Result<Table, TypeFault>
-        ensures sound { IfOk result IsSound }
         ensures ok { IfOk result (λ table. Declares predeclared (pickle_tree pickle.now) (types_of table)) }
         ensures len { IfOk result (λ table. count_of table ≡ length (pickle_tree pickle.now)) }
         // Memory is answered only where a growth was refused or the table is full; any other kind only where the pickle isn't well typed.
@@ -191,7 +195,7 @@ impl Table {
     /// The type of a declared or predeclared name, after a look at each name before it.
     pub fn find(&self, name: &[u8]) -> Option<TypeId>
         ensures found { IsTypeFound self.now result (find_type name.now (types_of self.now)) }
-        ensures inside { IsSound self.now → IfSome result (IsInTable self.now) }
+        ensures inside { IfSome result (IsInTable self.now) }
     {
         match find_listed(&self.names, name) {
             Some(declared) => Some(TypeId {
@@ -203,7 +207,6 @@ impl Table {
 
     /// The most steps of a mapping of a type over so many bits, discarded attempts included; None from 2^128 on.
     pub fn step_bound(&self, id: TypeId, bits: u64) -> Option<u128>
-        requires sound { IsSound self.now }
         requires known { IsInTable self.now id }
         ensures { IsBound result (cost (type_named self.now id) bits) }
     {
@@ -212,7 +215,6 @@ impl Table {
 
     /// The most slots of each kind that a mapping of a type over so many bits takes; None from 2^128 on.
     pub fn slot_bound(&self, id: TypeId, bits: u64) -> Option<u128>
-        requires sound { IsSound self.now }
         requires known { IsInTable self.now id }
         ensures { IsBound result (room (type_named self.now id) bits) }
     {

@@ -9,7 +9,7 @@ ghost use Rattle.pickle_types.specs.Built as checking;
 ghost use Rattle.pickle_types.specs.Meaning.{declared};
 ghost use Rattle.pickle_types.specs.Names.{predeclared};
 ghost use Rattle.pickle_types.specs.Wrong.{first_wrong, TellsPlace};
-ghost use Rattle.pickle_types.specs.TypeTable.{types_of, count_of, IsSound, IsWellTyped};
+ghost use Rattle.pickle_types.specs.TypeTable.{types_of, count_of, IsWellTyped};
 ghost use Rattle.poke_batch.specs.Accepted.{HasSyntax, IsAccepted, Refuses, refusal_kind, refusal_saying, place_of};
 ghost use Rattle.poke_batch.specs.Told.{IsSaid};
 
@@ -79,7 +79,6 @@ pub fn read_syntax(alloc: Global, pickle: &[u8]) -> Result<Pickle<'_>, Refusal>
 
 /// Reads a pickle, and checks its types.
 pub fn accept(alloc: Global, pickle: &[u8]) -> Result<Table, Refusal>
-    ensures sound { IfOk result IsSound }
     ensures ok { IfOk result (λ table. (declarations : List DeclarationTree) × IsAccepted pickle.now declarations (types_of table) × (count_of table ≡ length declarations)) }
     ensures err { IfErr result (λ refusal. Refuses pickle.now refusal) }
 {

@@ -3,7 +3,7 @@
 ghost use Rattle.std.specs.Prelude.{◌≡◌, ℕ, List, [], IfOk, OnErr};
 ghost use Rattle.std.specs.Io.KnownBytes.{Appends};
 ghost use Rattle.bit_space.specs.SpaceView.{Keeps};
-ghost use Rattle.pickle_types.specs.TypeTable.{type_named, IsSound, IsInTable};
+ghost use Rattle.pickle_types.specs.TypeTable.{type_named, IsInTable};
 ghost use Rattle.poke_batch.specs.FileLine.{TellsFile, TellsKept, written_of};
 ghost use Rattle.poke_batch.specs.Runs.{IsAsked};
 ghost use Rattle.poke_batch.specs.RunsUnder.{MapsUnder, IsStoreOf};
@@ -64,7 +64,6 @@ pub fn run_file<S: Space, W: Write>(
     space: &mut S,
     w: &mut W,
 ) -> Result<Status, WriteFault>
-    requires sound { IsSound table.now }
     requires known { IsInTable table.now id }
     requires store { IsStoreOf terms.now.most_slots kept.old.store }
     ensures store { IsStoreOf terms.now.most_slots kept.new.store }

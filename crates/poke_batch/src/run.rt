@@ -3,7 +3,7 @@
 ghost use Rattle.std.specs.Prelude.{◌≡◌, ℕ, ◌*◌, ◌≤◌, List, Some, IsSome, OnOk, OnErr, IfOk, Option};
 ghost use Rattle.std.specs.Io.KnownBytes.{Appends};
 ghost use Rattle.bit_space.specs.SpaceView.{Keeps};
-ghost use Rattle.pickle_types.specs.TypeTable.{nodes_of, type_named, IsSound, IsInTable};
+ghost use Rattle.pickle_types.specs.TypeTable.{nodes_of, type_named, IsInTable};
 ghost use Rattle.pickle_map.specs.Shown.{kept};
 ghost use Rattle.pickle_map.specs.Values.{Value, value_at, start_of, end_of};
 ghost use Rattle.poke_batch.specs.Told.{Says, IsSaid};
@@ -137,7 +137,6 @@ fn map_new<S: Space, O: Write, E: Write>(
     out: &mut O,
     err: &mut E,
 ) -> Status
-    requires sound { IsSound table.now }
     requires known { IsInTable table.now id }
     ensures says { (pickle : List ℕ) → IsAsked pickle ask.now.name.now (type_named table.now id)
         → Says (MapsUnder pickle ask.now terms.now (S.view space.old) (S.view space.new)) result
@@ -172,7 +171,6 @@ pub fn map_stored<S: Space, O: Write, E: Write>(
     out: &mut O,
     err: &mut E,
 ) -> Status
-    requires sound { IsSound table.now }
     requires known { IsInTable table.now id }
     requires store { IsStoreOf terms.now.most_slots store.old }
     ensures store { IsStoreOf terms.now.most_slots store.new }

@@ -1,5 +1,5 @@
 //! A type mapped over many files, whose names stand in the words or in a list.
-ghost use Rattle.pickle_types.specs.TypeTable.{IsSound, IsInTable};
+ghost use Rattle.pickle_types.specs.TypeTable.{IsInTable};
 ghost use Rattle.poke_batch.specs.RunsUnder.{IsStoreOf};
 
 use crate::files::open_space;
@@ -116,7 +116,6 @@ fn run_files<R: Files<File = File> + Input + AllocGlobal, A: Write, O: Write>(
     why: &mut WhyFiles<'_, A>,
     out: &mut O,
 ) -> Result<Status, ListFault>
-    requires sound { IsSound typed.table.now }
     requires known { IsInTable typed.table.now typed.id }
 {
     match files {
@@ -139,7 +138,6 @@ fn run_words<R: Files<File = File> + Input + AllocGlobal, A: Write, O: Write>(
     why: &mut WhyFiles<'_, A>,
     out: &mut O,
 ) -> Result<Status, ListFault>
-    requires sound { IsSound typed.table.now }
     requires known { IsInTable typed.table.now typed.id }
 {
     let mut kept = Kept::new(rt.alloc(), typed.terms.most_slots)?;
@@ -159,7 +157,6 @@ fn run_list<R: Files<File = File> + Input + AllocGlobal, L: Read + Drop, A: Writ
     why: &mut WhyFiles<'_, A>,
     out: &mut O,
 ) -> Result<Status, ListFault>
-    requires sound { IsSound typed.table.now }
     requires known { IsInTable typed.table.now typed.id }
 {
     let Ok(mut list) = BufReader::new(rt.alloc(), list) else {
@@ -204,7 +201,6 @@ fn run_name<R: Files<File = File> + AllocGlobal, A: Write, O: Write>(
     why: &mut WhyFiles<'_, A>,
     out: &mut O,
 ) -> Result<Status, WriteFault>
-    requires sound { IsSound typed.table.now }
     requires known { IsInTable typed.table.now typed.id }
     requires store { IsStoreOf typed.terms.now.most_slots kept.old.store }
     ensures store { IsStoreOf typed.entry.terms.now.most_slots kept.new.store }
@@ -234,7 +230,6 @@ fn run_space<S: Space, A: Write, O: Write>(
     why: &mut WhyFiles<'_, A>,
     out: &mut O,
 ) -> Result<Status, WriteFault>
-    requires sound { IsSound typed.table.now }
     requires known { IsInTable typed.table.now typed.id }
     requires store { IsStoreOf typed.terms.now.most_slots kept.old.store }
     ensures store { IsStoreOf typed.entry.terms.now.most_slots kept.new.store }

@@ -2,7 +2,7 @@
 
 ghost use Rattle.std.specs.Prelude.{◌≡◌, IfOk};
 ghost use Rattle.pickle_map.specs.Slots.{empty};
-ghost use Rattle.pickle_types.specs.TypeTable.{IsSound, IsInTable};
+ghost use Rattle.pickle_types.specs.TypeTable.{IsInTable};
 
 use crate::devices::Failing;
 use crate::tables::{Row, all_rows, large, read_rows};
@@ -23,9 +23,7 @@ use std::test::Fail;
 pub const LIMIT: u64 = 1_000_000_000;
 
 /// The types of a pickle.
-pub fn table_of(alloc: Global, pickle: &str) -> Result<Table, Fail>
-    ensures sound { IfOk result IsSound }
-{
+pub fn table_of(alloc: Global, pickle: &str) -> Result<Table, Fail> {
     match accept(alloc, pickle.as_bytes()) {
         Ok(table) => Ok(table),
         Err(refusal) => Err(Fail::from(refusal)),
@@ -34,7 +32,7 @@ pub fn table_of(alloc: Global, pickle: &str) -> Result<Table, Fail>
 
 /// The type that a row asks for.
 pub fn type_of(table: &Table, row: &Row<'_>) -> Result<TypeId, Fail>
-    ensures inside { IsSound table.now → IfOk result (IsInTable table.now) }
+    ensures inside { IfOk result (IsInTable table.now) }
 {
     match table.find(row.name.as_bytes()) {
         Some(id) => Ok(id),
@@ -51,7 +49,6 @@ pub fn map_row<S: Space>(
     meter: &mut Meter,
     store: &mut Store,
 ) -> Result<String, Fail>
-    requires sound { IsSound table.now }
     requires empty { store.old ≡ empty store.old.room }
 {
     let id = type_of(table, row)?;
@@ -95,7 +92,6 @@ pub fn expect_mapped<S: Space>(
     space: &mut S,
     store: &mut Store,
 ) -> Result<(), Fail>
-    requires sound { IsSound table.now }
     requires empty { store.old ≡ empty store.old.room }
 {
     let mut meter = Meter::new(LIMIT);
@@ -178,9 +174,7 @@ fn writes_values_and_faults(rt: HostRuntime) -> Result<(), Fail> {
 }
 
 // The slots that a row can fill, by its bound.
-fn slots_of(table: &Table, row: &Row<'_>) -> Result<usize, Fail>
-    requires sound { IsSound table.now }
-{
+fn slots_of(table: &Table, row: &Row<'_>) -> Result<usize, Fail> {
     let id = type_of(table, row)?;
     let bits = (row.bytes.len() as u64).saturating_mul(8);
     let slots = table.slot_bound(id, bits).ok_or("no bound")?;
@@ -188,9 +182,7 @@ fn slots_of(table: &Table, row: &Row<'_>) -> Result<usize, Fail>
 }
 
 // Maps a row from memory, from pages, and twice into a store that has the room of its bound.
-fn expect_values(rt: &impl Abort, alloc: Global, table: &Table, row: &Row<'_>) -> Result<(), Fail>
-    requires sound { IsSound table.now }
-{
+fn expect_values(rt: &impl Abort, alloc: Global, table: &Table, row: &Row<'_>) -> Result<(), Fail> {
     let mut space = space_of(alloc, row)?;
     let mut first = Store::new(alloc);
     expect_mapped(rt, alloc, table, row, &mut space, &mut first)?;
@@ -205,9 +197,7 @@ fn expect_values(rt: &impl Abort, alloc: Global, table: &Table, row: &Row<'_>) -
 }
 
 // Under a limit below its steps, a row takes just so many; under a limit of its steps it comes to its end.
-fn expect_limits(rt: &impl Abort, alloc: Global, table: &Table, row: &Row<'_>) -> Result<(), Fail>
-    requires sound { IsSound table.now }
-{
+fn expect_limits(rt: &impl Abort, alloc: Global, table: &Table, row: &Row<'_>) -> Result<(), Fail> {
     let told = format!(in alloc; "fault Limit at {}#b", row.start)?;
     let mut space = space_of(alloc, row)?;
     for limit in 0..row.steps {

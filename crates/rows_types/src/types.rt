@@ -1,8 +1,5 @@
 //! Rows of types. Behind the arrow stands what comes of a pickle.
 
-ghost use Rattle.std.specs.Prelude.{IfOk};
-ghost use Rattle.pickle_types.specs.TypeTable.{IsSound};
-
 use pickle_syntax::lexer::lex;
 use pickle_syntax::parser::parse;
 use pickle_types::type_table::Table;
@@ -123,9 +120,7 @@ type T1 = struct { byte a; byte b; };«1..63 type T^ = struct { T~ a; T~ b; };»
 type T1 = byte[];«1..4 type T^ = T~[];» ==> T4 1099511627776 None None"#;
 
 /// The types of a pickle.
-fn table_of(alloc: Global, text: &[u8]) -> Result<Table, Fail>
-    ensures { IfOk result IsSound }
-{
+fn table_of(alloc: Global, text: &[u8]) -> Result<Table, Fail> {
     let tokens = lex(alloc, text)?;
     let pickle = parse(alloc, &tokens)?;
     Ok(Table::build(alloc, &pickle)?)

@@ -2,7 +2,7 @@
 
 ghost use Rattle.std.specs.Prelude.{◌≡◌, IfOk, OnErr};
 ghost use Rattle.pickle_map.specs.Slots.{empty};
-ghost use Rattle.pickle_types.specs.TypeTable.{IsSound, IsInTable};
+ghost use Rattle.pickle_types.specs.TypeTable.{IsInTable};
 
 use crate::ended::Ended;
 use crate::samples::Sample;
@@ -21,7 +21,7 @@ pub type Written = ArrayVec<u8, 1200>;
 
 /// The types of a pickle, and its type T.
 pub fn types_of(alloc: Global, pickle: &[u8]) -> Result<(Table, TypeId), Ended>
-    ensures { IfOk result (λ types. IsSound types.0 × IsInTable types.0 types.1) }
+    ensures { IfOk result (λ types. IsInTable types.0 types.1) }
 {
     let table = accept(alloc, pickle)?;
     match table.find(b"T") {
@@ -55,7 +55,6 @@ pub fn map_type(
     space: &mut MemSpace,
     store: &mut Store,
 ) -> Result<(), MapFault>
-    requires sound { IsSound table.now }
     requires known { IsInTable table.now id }
     requires empty { store.old ≡ empty store.old.room }
     ensures { OnErr result (store.new ≡ empty store.old.room) }
@@ -81,7 +80,6 @@ pub fn is_mapped(
     store: &mut Store,
     sample: Sample<'_>,
 ) -> bool
-    requires sound { IsSound table.now }
     requires known { IsInTable table.now id }
     requires empty { store.old ≡ empty store.old.room }
 {

@@ -1,7 +1,7 @@
 //! The most bytes of the text of a value, by its type and the bits of the file alone.
 ghost use Rattle.std.specs.Prelude.{IfOk};
 ghost use Rattle.pickle_types.specs.Bounds.{IsBound};
-ghost use Rattle.pickle_types.specs.TypeTable.{type_named, IsSound, IsInTable};
+ghost use Rattle.pickle_types.specs.TypeTable.{type_named, IsInTable};
 ghost use Rattle.text_bounds.specs.TextRoom.{most_text, most_text_in_any, most_text_for};
 
 use crate::nodes::type_size;
@@ -21,7 +21,6 @@ pub fn most_text(
     bits: u64,
     mode: Mode,
 ) -> Result<Option<u128>, AllocError>
-    requires sound { IsSound table.now }
     requires known { IsInTable table.now id }
     ensures { IfOk result (λ most. IsBound most (most_text mode (type_named table.now id) bits)) }
 {
@@ -37,7 +36,6 @@ pub fn most_text_in_any(
     id: TypeId,
     bits: u64,
 ) -> Result<Option<u128>, AllocError>
-    requires sound { IsSound table.now }
     requires known { IsInTable table.now id }
     ensures { IfOk result (λ most. IsBound most (most_text_in_any (type_named table.now id) bits)) }
 {
@@ -57,7 +55,6 @@ pub fn most_text_for(
     bits: u64,
     mode: Option<Mode>,
 ) -> Result<Option<u128>, AllocError>
-    requires sound { IsSound table.now }
     requires known { IsInTable table.now id }
     ensures { IfOk result (λ most. IsBound most (most_text_for mode (type_named table.now id) bits)) }
 {

@@ -2,7 +2,7 @@
 ghost use Rattle.std.specs.Prelude.{ℕ, List, IfOk};
 ghost use Rattle.pickle_types.specs.Bounds.{cost, room, IsBound};
 ghost use Rattle.text_bounds.specs.TextRoom.{most_text_for};
-ghost use Rattle.pickle_types.specs.TypeTable.{type_named, IsSound, IsInTable};
+ghost use Rattle.pickle_types.specs.TypeTable.{type_named, IsInTable};
 ghost use Rattle.poke_batch.specs.Runs.{IsAsked};
 ghost use Rattle.text_bounds.specs.TextRuns.{TextBoundsAs};
 ghost use Rattle.poke_batch.specs.Told.{Says};
@@ -56,7 +56,6 @@ fn all_bounds(
     bits: u64,
     mode: Option<Mode>,
 ) -> Result<AllBounds, AllocError>
-    requires sound { IsSound table.now }
     requires known { IsInTable table.now id }
     ensures steps { IfOk result (λ all. IsBound all.steps (cost (type_named table.now id) bits)) }
     ensures slots { IfOk result (λ all. IsBound all.slots (room (type_named table.now id) bits)) }
@@ -81,7 +80,6 @@ fn bound_found<O: Write, E: Write>(
     out: &mut O,
     err: &mut E,
 ) -> Status
-    requires sound { IsSound table.now }
     requires known { IsInTable table.now id }
     ensures { (pickle name : List ℕ) → IsAsked pickle name (type_named table.now id)
         → Says (TextBoundsAs pickle name bits mode) result

@@ -14,7 +14,7 @@ pub map_type-requires-clause-open : goal.map_type-requires-clause-open
 map_type-requires-clause-open g c =
     let none = ap levels c.requires.empty ∙ none-open c.args.store.now.room in
     let one = ap length none in
-    let deep = c.requires.sound.table.deep c.args.id.node c.requires.known in
+    let deep = c.args.table.now.sound.deep c.args.id.node c.requires.known in
     rw c.nodes.ensures (omega (arith, one, deep))
 
 pub returns-in-Err-clause-rise : goal.returns-in-Err-clause-rise

@@ -6,7 +6,7 @@ use Rattle.pickle_types.proofs.type_table.Table.declared_types.Goals as goal
 
 pub tell-requires-clause-inside : goal.tell-requires-clause-inside
 tell-requires-clause-inside c =
-    rw c.deref-in-loop-place.ensures.value (named_inside c.args.self.now.nodes.items c.args.self.now.names.items c.loop-place.place c.index-named.result.now c.requires.sound.named (omega arith) c.index-named.ensures)
+    rw c.deref-in-loop-place.ensures.value (named_inside c.args.self.now.nodes.items c.args.self.now.names.items c.loop-place.place c.index-named.result.now c.args.self.now.named (omega arith) c.index-named.ensures)
 
 pub returns : goal.returns
 returns c =
