@@ -6,12 +6,7 @@ use Rattle.std.proofs.Math.Nat.{pow-succ', mul-add-div_right, mul-le-mul_left}
 use Rattle.std.proofs.lemmas.List.{length-append, take-append-drop, drop-drop, append_assoc, append-nil, drop_at, drop-take, take-take, length-drop, length-take-le}
 use Rattle.std.proofs.Math.Seq.{take-append-add}
 use Rattle.std.proofs.lemmas.Grind.{common_steps}
-use Rattle.bit_space.specs.Bits.{binary, bits_of, numeral_onto, numeral}
-
--- each is 0 or 1
-abbrev pub AreDigits : List ℕ → Type 0
-AreDigits [] = Unit {0}
-AreDigits (d ∷ ds) = (d < 2) × AreDigits ds
+use Rattle.bit_space.specs.Bits.{binary, bits_of, AreDigits, numeral_onto, numeral}
 
 pub digits_both : (xs ys : List ℕ) → AreDigits xs → AreDigits ys → AreDigits (xs ++ ys)
 digits_both [] ys h g = g

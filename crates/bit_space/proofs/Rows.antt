@@ -2,7 +2,7 @@
 use Rattle.std.proofs.Common.{◌≡◌, [], ◌∷◌, take, refl}
 use Rattle.std.specs.Prelude.{pos, negsuc, slice_range}
 use Rattle.bit_space.specs.declared.order.Order.TheVariants.{Big, Little}
-use Rattle.bit_space.specs.Bits.{binary, bits_of, numeral_onto, groups_from, digits, number, signed_numeral, signed_number}
+use Rattle.bit_space.specs.Bits.{binary, bits_of, numeral_onto, groups_from, digits, number, twos_complement}
 
 -- the bits 0011 0100 0001, in either order
 big_of_12 : number Big (take 12 (bits_of (0x34 ∷ 0x12 ∷ []))) ≡ 833
@@ -26,18 +26,18 @@ short_group : digits Little (1 ∷ 0 ∷ 0 ∷ 0 ∷ 0 ∷ 0 ∷ 0 ∷ 0 ∷ 1 �
 unfolding groups_from digits
 short_group = refl
 
-minus_two : signed_number Big (bits_of (0xff ∷ 0xfe ∷ [])) ≡ negsuc 1
-unfolding binary bits_of numeral_onto digits signed_numeral signed_number
+minus_two : twos_complement 16 (number Big (bits_of (0xff ∷ 0xfe ∷ []))) ≡ negsuc 1
+unfolding binary bits_of numeral_onto digits number
 minus_two = refl
 
-minus_two_little : signed_number Little (bits_of (0xfe ∷ 0xff ∷ [])) ≡ negsuc 1
-unfolding binary bits_of numeral_onto groups_from digits signed_numeral signed_number
+minus_two_little : twos_complement 16 (number Little (bits_of (0xfe ∷ 0xff ∷ []))) ≡ negsuc 1
+unfolding binary bits_of numeral_onto groups_from digits number
 minus_two_little = refl
 
-largest_of_4 : signed_number Big (0 ∷ 1 ∷ 1 ∷ 1 ∷ []) ≡ pos 7
-unfolding numeral_onto digits signed_numeral signed_number
+largest_of_4 : twos_complement 4 (number Big (0 ∷ 1 ∷ 1 ∷ 1 ∷ [])) ≡ pos 7
+unfolding numeral_onto digits number
 largest_of_4 = refl
 
-least_of_1 : signed_number Little (1 ∷ []) ≡ negsuc 0
-unfolding numeral_onto groups_from digits signed_numeral signed_number
+least_of_1 : twos_complement 1 (number Little (1 ∷ [])) ≡ negsuc 0
+unfolding numeral_onto groups_from digits number
 least_of_1 = refl

@@ -1,16 +1,16 @@
 -- The digits of a number in either order, and its sign.
-use Rattle.std.proofs.Common.{◌≡◌, ℕ, zero, suc, ◌+◌, ◌*◌, ◌^◌, ◌<◌, Bool, true, false, List, [], ◌∷◌, length, take, drop, reverse, Some, refl, sym, ap, ◌∙◌, arith}
-use Rattle.std.specs.Prelude.{nat_le, nat_lt, if◌then◌else◌, pos, ◌-ℤ◌}
+use Rattle.std.proofs.Common.{◌≡◌, ◌↔◌, ℕ, zero, suc, ◌+◌, ◌-◌, ◌*◌, ◌^◌, ◌<◌, ◌<ℤ◌, Bool, true, false, List, [], ◌∷◌, length, take, drop, reverse, Some, refl, sym, ap, ◌∙◌, arith}
+use Rattle.std.specs.Prelude.{nat_le, if◌then◌else◌, pos, ◌-ℤ◌}
 use Rattle.std.specs.List.{concat}
-use Rattle.std.proofs.lemmas.Bool.{lt-ltb, le-ltb}
+use Rattle.std.proofs.lemmas.Bool.{lt-leb, le-leb}
 use Rattle.std.proofs.lemmas.Int.{ints}
 use Rattle.std.proofs.lemmas.List.{append-nil, length-append, take-append-drop}
 use Rattle.std.proofs.Math.Nat.{pow-succ'}
 use Rattle.bit_space.specs.declared.order.Order.{Order}
 use Rattle.bit_space.specs.declared.order.Order.TheVariants.{Big, Little}
-use Rattle.bit_space.specs.Bits.{numeral_onto, numeral, groups_from, digits, number, signed_numeral, signed_number, with_sign}
+use Rattle.bit_space.specs.Bits.{AreDigits, numeral_onto, numeral, groups_from, digits, number, signed_numeral, twos_complement}
 use Rattle.bit_space.specs.SpaceView.{SpaceView, known_bits, IsWhole}
-use Rattle.bit_space.proofs.Digits.{AreDigits, digits_both, digits_front, digits_back, numeral_below, onto_numeral, bits_of_digits, length-bits_of}
+use Rattle.bit_space.proofs.Digits.{digits_both, digits_front, digits_back, numeral_below, onto_numeral, bits_of_digits, length-bits_of}
 use Rattle.bit_space.proofs.Turned.{last_in_front}
 use Rattle.bit_space.proofs.Windows.{known_bytes}
 
@@ -50,28 +50,45 @@ pub number_of_bits_below : (order : Order) (bits : List ℕ) → AreDigits bits 
 unfolding number
 number_of_bits_below order bits h = rw (sym (length-digits order bits)) (numeral_below (digits order bits) (digits_digits order bits h))
 
-sign_plus : (n p q m : ℕ) → q ≡ 2 * p → n < p → m ≡ n → pos n -ℤ pos (0 * p) ≡ (if nat_lt (2 * m) q then pos m else pos m -ℤ pos q)
-sign_plus n p q m e h f =
-    let t : nat_lt (2 * m) q ≡ true = lt-ltb (2 * m) q (omega arith) in
+-- ---- two's complement
+
+sign_plus : (n p q m : ℕ) → n < p → m ≡ n → (if nat_le p m then pos m -ℤ pos q else pos m) ≡ pos n -ℤ pos (0 * p)
+sign_plus n p q m h f =
+    let t : nat_le p m ≡ false = lt-leb p m (omega (arith, h, f)) in
     rw (t, f) (omega (arith, ints))
 
 same_difference : (n k m q : ℕ) → m + k ≡ n + q → pos n -ℤ pos k ≡ pos m -ℤ pos q
 same_difference n k m q e = omega (arith, ints)
 
-sign_minus : (n p q m : ℕ) → q ≡ 2 * p → m ≡ p + n → pos n -ℤ pos (1 * p) ≡ (if nat_lt (2 * m) q then pos m else pos m -ℤ pos q)
+sign_minus : (n p q m : ℕ) → q ≡ 2 * p → m ≡ p + n → (if nat_le p m then pos m -ℤ pos q else pos m) ≡ pos n -ℤ pos (1 * p)
 sign_minus n p q m e f =
-    let t : nat_lt (2 * m) q ≡ false = le-ltb (2 * m) q (omega arith) in
-    rw t (same_difference n (1 * p) m q (omega arith))
+    let t : nat_le p m ≡ true = le-leb p m (omega (arith, f)) in
+    rw t (same_difference m q n (1 * p) (omega (arith, e, f)))
 
 -- the sign from the number without one
-pub signed_from : (xs : List ℕ) → AreDigits xs → signed_numeral xs ≡ with_sign (length xs) (numeral xs)
+pub signed_from : (xs : List ℕ) → AreDigits xs → twos_complement (length xs) (numeral xs) ≡ signed_numeral xs
 unfolding signed_numeral numeral_onto
 signed_from [] h = refl
-signed_from (zero ∷ xs) h = sign_plus (numeral xs) (2 ^ length xs) (2 ^ suc (length xs)) (numeral (0 ∷ xs)) (pow-succ' 2 (length xs)) (numeral_below xs h.1) refl
+signed_from (zero ∷ xs) h =
+    let w : suc (length xs) - 1 ≡ length xs = omega arith in
+    rw w (sign_plus (numeral xs) (2 ^ length xs) (2 ^ suc (length xs)) (numeral (0 ∷ xs)) (numeral_below xs h.1) refl)
 signed_from (suc zero ∷ xs) h =
-    sign_minus (numeral xs) (2 ^ length xs) (2 ^ suc (length xs)) (numeral (1 ∷ xs)) (pow-succ' 2 (length xs)) (onto_numeral 1 xs ∙ omega arith)
+    let w : suc (length xs) - 1 ≡ length xs = omega arith in
+    rw w (sign_minus (numeral xs) (2 ^ length xs) (2 ^ suc (length xs)) (numeral (1 ∷ xs)) (pow-succ' 2 (length xs)) (onto_numeral 1 xs ∙ omega arith))
 signed_from (suc (suc d) ∷ xs) h = absurd (omega (arith, h.0))
 
-pub signed_is : (order : Order) (bits : List ℕ) → AreDigits bits → signed_number order bits ≡ with_sign (length bits) (number order bits)
-unfolding signed_number number
-signed_is order bits h = rw (sym (length-digits order bits)) (signed_from (digits order bits) (digits_digits order bits h))
+pub first_digit_signs : (order : Order) (bits : List ℕ) → AreDigits bits → twos_complement (length bits) (number order bits) ≡ signed_numeral (digits order bits)
+unfolding number
+first_digit_signs order bits h = rw (sym (length-digits order bits)) (signed_from (digits order bits) (digits_digits order bits h))
+
+not_below : (n p : ℕ) → (pos n -ℤ pos (0 * p)) <ℤ pos 0 → ⊥
+not_below n p h = omega (arith, ints, h)
+
+below : (n p : ℕ) → n < p → (pos n -ℤ pos (1 * p)) <ℤ pos 0
+below n p h = omega (arith, ints, h)
+
+pub negative_starts_with_one : (first : ℕ) (rest : List ℕ) → AreDigits (first ∷ rest) → (signed_numeral (first ∷ rest) <ℤ pos 0) ↔ (first ≡ 1)
+unfolding signed_numeral
+negative_starts_with_one zero rest h = (λ less. absurd (not_below (numeral rest) (2 ^ length rest) less), λ e. absurd (omega (arith, e)))
+negative_starts_with_one (suc zero) rest h = (λ less. refl, λ e. below (numeral rest) (2 ^ length rest) (numeral_below rest h.1))
+negative_starts_with_one (suc (suc d)) rest h = absurd (omega (arith, h.0))

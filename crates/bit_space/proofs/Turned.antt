@@ -12,8 +12,8 @@ use Rattle.std.proofs.Math.Pow.{pow_mono}
 use Rattle.std.proofs.Math.Nat.{mod-eq_of_lt}
 use Rattle.bit_space.specs.declared.order.Order.{Order}
 use Rattle.bit_space.specs.declared.order.Order.TheVariants.{Big, Little}
-use Rattle.bit_space.specs.Bits.{binary, numeral, groups_from, digits, number}
-use Rattle.bit_space.proofs.Digits.{AreDigits, digits_front, digits_back, numeral_below, numeral_both, binary_digits, length-binary, numeral_binary}
+use Rattle.bit_space.specs.Bits.{binary, AreDigits, numeral, groups_from, digits, number}
+use Rattle.bit_space.proofs.Digits.{digits_front, digits_back, numeral_below, numeral_both, binary_digits, length-binary, numeral_binary}
 
 -- `value`, followed by the last `count` groups of 8 bits of `rest`, the last one first
 unfoldable pub turned : ℕ → ℕ → ℕ → ℕ

@@ -5,9 +5,9 @@ use Rattle.std.proofs.lemmas.Nat.{one_shl, and_mask}
 use Rattle.std.proofs.lemmas.List.{length-take-le, length-drop, take_all, take_more}
 use Rattle.std.proofs.Math.Pow.{pow_mono}
 use Rattle.bit_space.specs.declared.order.Order.{Order}
-use Rattle.bit_space.specs.Bits.{binary, bits_of, numeral, numeral_onto, number}
+use Rattle.bit_space.specs.Bits.{binary, bits_of, AreDigits, numeral, numeral_onto, number}
 use Rattle.bit_space.specs.Reading.{MayRead}
-use Rattle.bit_space.proofs.Digits.{AreDigits, digits_front, digits_back, bits_of_digits, length-bits_of, bits_of-range, range_of_range, numeral_below, numeral_byte, numeral_range, binary_numeral_at}
+use Rattle.bit_space.proofs.Digits.{digits_front, digits_back, bits_of_digits, length-bits_of, bits_of-range, range_of_range, numeral_below, numeral_byte, numeral_range, binary_numeral_at}
 use Rattle.bit_space.proofs.Turned.{number_below}
 
 pub length-range : (xs : List ℕ) (i n : ℕ) → i + n ≤ length xs → length (slice_range xs i (i + n)) ≡ n

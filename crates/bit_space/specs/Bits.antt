@@ -1,5 +1,5 @@
 -- The bits of bytes, and the numbers that bits stand for.
-use Rattle.std.specs.Prelude.{ℕ, zero, suc, ◌+◌, ◌*◌, ◌/◌, ◌%◌, ◌^◌, List, [], ◌∷◌, ◌++◌, length, take, drop, reverse, if◌then◌else◌, nat_le, nat_lt, ℤ, pos, ◌-ℤ◌}
+use Rattle.std.specs.Prelude.{ℕ, zero, suc, ◌+◌, ◌-◌, ◌*◌, ◌/◌, ◌%◌, ◌^◌, ◌<◌, List, [], ◌∷◌, ◌++◌, length, take, drop, reverse, if◌then◌else◌, nat_le, ℤ, pos, ◌-ℤ◌}
 use Rattle.std.specs.List.{concat}
 use Rattle.bit_space.specs.declared.order.Order.{Order}
 use Rattle.bit_space.specs.declared.order.Order.TheVariants.{Big, Little}
@@ -13,6 +13,11 @@ binary (suc width) n = n / 2 ^ width % 2 ∷ binary width n
 unfoldable pub bits_of : List ℕ → List ℕ
 bits_of [] = []
 bits_of (byte ∷ bytes) = binary 8 byte ++ bits_of bytes
+
+-- each is 0 or 1
+abbrev pub AreDigits : List ℕ → Type 0
+AreDigits [] = Unit {0}
+AreDigits (d ∷ ds) = (d < 2) × AreDigits ds
 
 -- what a numeral comes to, after digits that came to n
 unfoldable pub numeral_onto : ℕ → List ℕ → ℕ
@@ -42,15 +47,11 @@ digits Little bits = concat (reverse (groups bits))
 unfoldable pub number : Order → List ℕ → ℕ
 number order bits = numeral (digits order bits)
 
--- the number with a sign that binary digits stand for: two's complement
+-- the number with a sign that binary digits stand for: what those behind the first come to, less the first at its place
 unfoldable pub signed_numeral : List ℕ → ℤ
 signed_numeral [] = pos 0
 signed_numeral (sign ∷ rest) = pos (numeral rest) -ℤ pos (sign * 2 ^ length rest)
 
--- the number with a sign that bits stand for in an order
-unfoldable pub signed_number : Order → List ℕ → ℤ
-signed_number order bits = signed_numeral (digits order bits)
-
--- the number with a sign of so many bits that has these digits as a number without one
-abbrev pub with_sign : ℕ → ℕ → ℤ
-with_sign width n = if nat_lt (2 * n) (2 ^ width) then pos n else pos n -ℤ pos (2 ^ width)
+-- two's complement: the number with a sign that has the digits of n, which is below 2 ^ width
+abbrev pub twos_complement : (width n : ℕ) → ℤ
+twos_complement width n = if nat_le (2 ^ (width - 1)) n then pos n -ℤ pos (2 ^ width) else pos n

@@ -1,5 +1,6 @@
 pub mod FaultNames
 pub mod Bits
+pub mod Laws
 pub mod SpaceView
 pub mod Reading
 pub mod Pages

@@ -3,6 +3,7 @@
 //! Bytes at positions, counted reads, and the numbers that bits stand for.
 
 mod file;
+pub mod laws;
 mod mem;
 mod meter;
 mod number;

@@ -5,8 +5,9 @@ use Rattle.pickle_syntax.specs.declared.tree.Infix.TheVariants.{LogicalOr, Logic
 use Rattle.pickle_types.specs.declared.table.Node.{Node}
 use Rattle.pickle_types.specs.declared.integer.IntegerType.{IntegerType}
 use Rattle.pickle_types.specs.Types.{Term, Name, Between}
+use Rattle.pickle_types.specs.Operators.{common}
 use Rattle.pickle_map.specs.declared.faults.MapFaultKind.{MapFaultKind}
-use Rattle.pickle_map.specs.Arithmetic.{Computed, common, converted, on_common, on_integers, combined, truth, signed_type}
+use Rattle.pickle_map.specs.Arithmetic.{Computed, converted, on_common, on_integers, combined, truth, signed_type}
 use Rattle.pickle_map.specs.Comes.{ComesTo, is_comparison}
 use Rattle.pickle_map.specs.Evaluation.{Operand, Plain, AtPath, operand_label, Evaluation, evaluation, and_operand, unless_settled, settled, truth_of, between, literal_length, with_steps, gives}
 use Rattle.pickle_map.specs.Tree as tree

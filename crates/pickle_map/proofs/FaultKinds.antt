@@ -12,11 +12,12 @@ use Rattle.pickle_types.specs.declared.integer.IntegerType.{IntegerType}
 use Rattle.pickle_types.specs.Types.{Term, Number, Text, Name, Bracket, Before, Between, Choice, Index, Select, AttributeOf, ToInteger, ToOffset, InUnit, Bound, Unbounded, ByCount, BySize, PokeType, IntegerOf, OffsetOf, StringOf, ArrayOf, StructOf, IntegralOf, UnionOf, Fields, NoFields, FieldThen, Parts, NoParts, PartThen}
 use Rattle.pickle_types.specs.Bounds.{least_width}
 use Rattle.pickle_types.specs.Bounds as bounds
+use Rattle.pickle_types.specs.Operators.{common, greatest_divisor}
 use Rattle.pickle_map.specs.declared.extent.Extent.{Extent}
 use Rattle.pickle_map.specs.declared.faults.MapFaultKind.{MapFaultKind}
 use Rattle.pickle_map.specs.declared.faults.MapFaultKind.TheVariants as fault
 use Rattle.pickle_map.specs.Values.{Label, IntegerLabel, OffsetLabel, TextLabel, ArrayLabel, Value, Mapped, end_of, member_count, member_at, Naming, Levels, value_at, pushed, opened}
-use Rattle.pickle_map.specs.Arithmetic.{Computed, common, converted, is_zero, brought, as_integer, as_offset, brought_integer, brought_offset, bits_in, greatest_common_divisor, prefixed, shifted_left, shifted_right, on_common, on_integers, on_bits, on_scaled, on_texts, combined, to_integer, to_offset, in_unit}
+use Rattle.pickle_map.specs.Arithmetic.{Computed, converted, is_zero, brought, as_integer, as_offset, brought_integer, brought_offset, bits_in, prefixed, shifted_left, shifted_right, on_common, on_integers, on_bits, on_scaled, on_texts, combined, to_integer, to_offset, in_unit}
 use Rattle.pickle_map.specs.Evaluation.{Operand, AtPath, operand_label, Evaluation, gives, present, leads_to, on_outcome, and_operand, truth_of, settled, unless_settled, chosen, number_only, as_common, selected, element, attribute_of, evaluation}
 use Rattle.pickle_map.specs.Clauses.{FaultAt, told_at, kind_at, satisfied, constraint, condition, not_negative, behind_start, field_start, count_of, size_of, extent_of, is_due, is_met, ends_before, misses}
 use Rattle.pickle_map.specs.FaultKinds.{IsMeant, OfFault}
@@ -116,7 +117,7 @@ unfolding combined
 combined_kind op (IntegerLabel x t) (IntegerLabel y u) = integers_kind op x t y u
 combined_kind op (IntegerLabel x t) (OffsetLabel y u n) = scaled_kind op (common t u) n x y
 combined_kind op (OffsetLabel x t m) (IntegerLabel y u) = scaled_kind op (common t u) m x y
-combined_kind op (OffsetLabel x t m) (OffsetLabel y u n) = bits_kind op (common t u) (greatest_common_divisor m n) (bits_in x m) (bits_in y n)
+combined_kind op (OffsetLabel x t m) (OffsetLabel y u n) = bits_kind op (common t u) (greatest_divisor m n) (bits_in x m) (bits_in y n)
 combined_kind op (TextLabel x) (TextLabel y) = texts_kind op x y
 combined_kind op x y = tt
 

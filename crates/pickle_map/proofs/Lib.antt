@@ -1,7 +1,6 @@
 pub mod Moduli
 pub mod Signed
 pub mod Digits
-pub mod Divisors
 mod Rows
 mod Refused
 mod Basics

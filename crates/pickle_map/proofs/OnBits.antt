@@ -3,8 +3,8 @@ use Rattle.std.proofs.Common.{◌≡◌, ℕ, ◌+◌, ◌-◌, ◌<◌, ◌≤�
 use Rattle.std.specs.Prelude.{slice_range}
 use Rattle.std.proofs.Math.Nat.{pow-le-pow_right}
 use Rattle.bit_space.specs.declared.order.Order.{Order}
-use Rattle.bit_space.specs.Bits.{bits_of, number}
-use Rattle.bit_space.proofs.Digits.{AreDigits, digits_front, digits_back, bits_of_digits}
+use Rattle.bit_space.specs.Bits.{bits_of, AreDigits, number}
+use Rattle.bit_space.proofs.Digits.{digits_front, digits_back, bits_of_digits}
 use Rattle.bit_space.proofs.Signs.{number_of_bits_below}
 use Rattle.pickle_types.specs.Types.{PokeType}
 use Rattle.pickle_types.specs.Bounds.{cost}

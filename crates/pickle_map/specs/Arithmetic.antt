@@ -1,11 +1,13 @@
 -- What operators compute, on integers of a type, on offsets and on texts.
-use Rattle.std.specs.Prelude.{ℕ, zero, suc, ◌+◌, ◌-◌, ◌%◌, ◌^◌, max, Bool, true, false, not, ◌&&◌, ◌||◌, if◌then◌else◌, nat_lt, nat_le, List, Result, Ok, Err, ℤ, pos, negsuc, ◌+ℤ◌, ◌-ℤ◌, ◌*ℤ◌, neg_ℤ, int_lt, int_le, int_div, int_rem, bit_and, bit_or, bit_xor, bytes_eq}
+use Rattle.std.specs.Prelude.{ℕ, zero, suc, ◌-◌, ◌%◌, ◌^◌, Bool, true, false, not, ◌&&◌, ◌||◌, if◌then◌else◌, nat_lt, List, Result, Ok, Err, ℤ, pos, negsuc, ◌+ℤ◌, ◌-ℤ◌, ◌*ℤ◌, neg_ℤ, int_lt, int_le, int_div, int_rem, bit_and, bit_or, bit_xor, bytes_eq}
 use lib.Signed.{shr_z}
+use Rattle.bit_space.specs.Bits.{twos_complement}
 use Rattle.pickle_syntax.specs.declared.tree.Prefix.{Prefix}
 use Rattle.pickle_syntax.specs.declared.tree.Prefix.TheVariants.{Plus, Minus, Complement, Not}
 use Rattle.pickle_syntax.specs.declared.tree.Infix.{Infix}
 use Rattle.pickle_syntax.specs.declared.tree.Infix.TheVariants.{LogicalOr, LogicalAnd, BitOr, BitXor, BitAnd, Equal, NotEqual, Less, LessEqual, Greater, GreaterEqual, ShiftLeft, ShiftRight, Add, Subtract, Multiply, Divide, Remainder}
 use Rattle.pickle_types.specs.declared.integer.IntegerType.{IntegerType}
+use Rattle.pickle_types.specs.Operators.{common, greatest_divisor}
 use Rattle.pickle_map.specs.declared.faults.MapFaultKind.{MapFaultKind}
 use Rattle.pickle_map.specs.declared.faults.MapFaultKind.TheVariants as fault
 use Rattle.pickle_map.specs.Values.{Label, IntegerLabel, OffsetLabel, TextLabel}
@@ -20,18 +22,14 @@ signed_type width = record { width = width; signed = true }
 abbrev pub unsigned_type : ℕ → IntegerType
 unsigned_type width = record { width = width; signed = false }
 
--- the common type of two integers: the greater width, unsigned if either is
-abbrev pub common : IntegerType → IntegerType → IntegerType
-common t u = record { width = max t.width u.width; signed = t.signed && u.signed }
-
 -- z modulo 2 ^ width, from 0 on
 unfoldable pub modulo : ℕ → ℤ → ℕ
 modulo width (pos n) = n % 2 ^ width
 modulo width (negsuc n) = 2 ^ width - 1 - n % 2 ^ width
 
--- the number of a type whose binary digits are those of n, which is below 2 ^ width: two's complement
+-- the number of a type whose binary digits are those of n, which is below 2 ^ width
 unfoldable pub with_sign : IntegerType → ℕ → ℤ
-with_sign type n = if type.signed && nat_le (2 ^ (type.width - 1)) n then pos n -ℤ pos (2 ^ type.width) else pos n
+with_sign type n = if type.signed then twos_complement type.width n else pos n
 
 -- z modulo 2 ^ width into the range of the type
 unfoldable pub converted : IntegerType → ℤ → ℤ
@@ -75,16 +73,6 @@ int_eq x y = int_le x y && int_le y x
 -- the exact bits of an offset
 abbrev pub bits_in : ℤ → ℕ → ℤ
 bits_in magnitude unit = magnitude *ℤ pos unit
-
--- Euclid's algorithm, in at most n steps
-unfoldable pub divisor_within : ℕ → ℕ → ℕ → ℕ
-divisor_within zero a b = a
-divisor_within (suc n) a zero = a
-divisor_within (suc n) a (suc b) = divisor_within n (suc b) (a % suc b)
-
--- the greatest common divisor
-unfoldable pub greatest_common_divisor : ℕ → ℕ → ℕ
-greatest_common_divisor a b = divisor_within (b + 1) a b
 
 -- no well typed expression comes to this
 abbrev pub wrong_sort : Computed
@@ -171,7 +159,7 @@ unfoldable pub combined : Infix → Label → Label → Computed
 combined op (IntegerLabel x t) (IntegerLabel y u) = on_integers op x t y u
 combined op (IntegerLabel x t) (OffsetLabel y u n) = on_scaled op (common t u) n x y
 combined op (OffsetLabel x t m) (IntegerLabel y u) = on_scaled op (common t u) m x y
-combined op (OffsetLabel x t m) (OffsetLabel y u n) = on_bits op (common t u) (greatest_common_divisor m n) (bits_in x m) (bits_in y n)
+combined op (OffsetLabel x t m) (OffsetLabel y u n) = on_bits op (common t u) (greatest_divisor m n) (bits_in x m) (bits_in y n)
 combined op (TextLabel x) (TextLabel y) = on_texts op x y
 combined op x y = wrong_sort
 

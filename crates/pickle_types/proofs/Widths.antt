@@ -25,7 +25,7 @@ divisor_some zero a b h = h
 divisor_some (suc n) a zero h = h
 divisor_some (suc n) a (suc b) h = divisor_some n (suc b) (a % suc b) (omega arith)
 
-greatest_some : (a b : ℕ) → 1 ≤ a → 1 ≤ greatest_divisor a b
+pub greatest_some : (a b : ℕ) → 1 ≤ a → 1 ≤ greatest_divisor a b
 unfolding greatest_divisor
 greatest_some a b h = divisor_some (suc b) a b h
 

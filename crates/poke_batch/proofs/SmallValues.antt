@@ -1,6 +1,6 @@
 -- The values that fit small types have small parts.
 use Rattle.std.proofs.Common.{◌≡◌, ℕ, zero, suc, ◌+◌, ◌-◌, ◌^◌, ◌<◌, ◌≤◌, inl, inr, length, Bool, true, false, pos, negsuc, List, [], ◌∷◌, ◌++◌, Option, Some, None, refl, sym, ap, subst, arith, pow_mono}
-use Rattle.std.specs.Prelude.{unsigned_abs, nat_le, ◌-ℤ◌, ◌&&◌, if◌then◌else◌}
+use Rattle.std.specs.Prelude.{unsigned_abs, nat_le, ◌-ℤ◌, if◌then◌else◌}
 use Rattle.std.proofs.lemmas.Bool.{leb-true, lt-ltb}
 use Rattle.pickle_types.specs.declared.integer.IntegerType.{IntegerType}
 use Rattle.pickle_types.specs.Types.{PokeType, IntegerOf, OffsetOf, StringOf, ArrayOf, StructOf, IntegralOf, UnionOf, Fields, NoFields, FieldThen, Parts, NoParts, PartThen}
@@ -24,7 +24,7 @@ signed_small type n wide lt = chosen type.signed (nat_le (2 ^ (type.width - 1)) 
         let one : suc k - suc n ≡ suc k - n - 1 = omega arith in
         rw (lt-ltb n (suc k) lt) (ap negsuc one)
 
-    chosen : (b c : Bool) → nat_le (2 ^ (type.width - 1)) n ≡ c → unsigned_abs (if b && c then pos n -ℤ pos (2 ^ type.width) else pos n) < 2 ^ 64
+    chosen : (b c : Bool) → nat_le (2 ^ (type.width - 1)) n ≡ c → unsigned_abs (if b then (if c then pos n -ℤ pos (2 ^ type.width) else pos n) else pos n) < 2 ^ 64
     chosen true true e =
         let some : 1 ≤ 2 ^ (type.width - 1) = pow_mono {i = 0} {j = type.width - 1} (omega arith) in
         let le = leb-true (2 ^ (type.width - 1)) n e in

@@ -1,6 +1,6 @@
 -- A greater number has no shorter text.
 use Rattle.std.proofs.Common.{◌≡◌, ℕ, zero, suc, ◌+◌, ◌-◌, ◌*◌, ◌/◌, ◌%◌, ◌^◌, ◌<◌, ◌≤◌, Bool, true, false, List, [], ◌∷◌, ◌++◌, Option, Some, None, length, ℤ, pos, negsuc, decimal, codes, refl, sym, ap, subst, arith, length-append}
-use Rattle.std.specs.Prelude.{if◌then◌else◌, nat_le, nat_eq, ◌-ℤ◌, ◌&&◌}
+use Rattle.std.specs.Prelude.{if◌then◌else◌, nat_le, nat_eq, ◌-ℤ◌}
 use Rattle.std.specs.Fmt.{signed_decimal, digits, digits_onto, digit_glyph}
 use Rattle.std.proofs.Math.Nat.{two-pow-succ}
 use Rattle.std.proofs.lemmas.Bool.{leb-true, leb-false, eqb-true, eqb-false, lt-ltb}
@@ -54,7 +54,7 @@ unfolding with_sign
 number_longest type n lt = chosen type.signed (nat_le (2 ^ (type.width - 1)) n) refl
   where
     chosen : (b c : Bool) → nat_le (2 ^ (type.width - 1)) n ≡ c
-        → length (signed_decimal (if b && c then pos n -ℤ pos (2 ^ type.width) else pos n)) ≤ length (signed_decimal (if b then negsuc (2 ^ (type.width - 1) - 1) else pos (2 ^ type.width - 1)))
+        → length (signed_decimal (if b then (if c then pos n -ℤ pos (2 ^ type.width) else pos n) else pos n)) ≤ length (signed_decimal (if b then negsuc (2 ^ (type.width - 1) - 1) else pos (2 ^ type.width - 1)))
     chosen true true e =
         let most = upper_half type.width n (leb-true (2 ^ (type.width - 1)) n e) lt in
         let h = decimal_longer (suc (2 ^ type.width - n - 1)) (suc (2 ^ (type.width - 1) - 1)) most in

@@ -1,8 +1,8 @@
 -- What operators compute of operands of their sorts is of the sort that their rule tells, or Zero, Overflow or Index.
-use Rattle.std.proofs.Common.{◌≡◌, ℕ, zero, suc, ◌<◌, ◌%◌, Bool, true, false, List, Option, Some, Result, Ok, Err, ℤ, pos, negsuc, refl, arith}
+use Rattle.std.proofs.Common.{◌≡◌, ℕ, Bool, true, false, List, Option, Some, Result, Ok, Err, ℤ, pos, negsuc, refl}
 use Rattle.std.specs.Prelude.{if◌then◌else◌, nat_lt}
 use Rattle.std.specs.Int.{IsGcd}
-use Rattle.std.proofs.lemmas.Nat.Gcd.{IsGcd-from_zero, IsGcd-from_mod, same_from_IsGcd}
+use Rattle.std.proofs.lemmas.Nat.Gcd.{same_from_IsGcd}
 use Rattle.std.proofs.lemmas.Option.{none-some}
 use Rattle.pickle_syntax.specs.declared.tree.Prefix.{Prefix}
 use Rattle.pickle_syntax.specs.declared.tree.Infix.{Infix}
@@ -10,12 +10,14 @@ use Rattle.pickle_syntax.specs.declared.tree.Infix.TheVariants.{Multiply, Divide
 use Rattle.pickle_types.specs.declared.integer.IntegerType.{IntegerType}
 use Rattle.pickle_types.specs.Types.{PokeType, IntegerOf, OffsetOf, StringOf}
 use Rattle.pickle_types.specs.Expressions.{Sort, TextLiteral, Typed}
+use Rattle.pickle_types.specs.Operators.{common, greatest_divisor}
 use Rattle.pickle_types.specs.Operators as types
 use Rattle.pickle_types.specs.WellTyped.{IsArithmetic, IsLogical, IsShift, IsEquality, IsComparison, IsOffsetSum, InfixRule, IsSign, PrefixRule, ChoiceRule}
+use Rattle.pickle_types.proofs.Rules.{greatest_divisor_is}
 use Rattle.pickle_map.specs.declared.faults.MapFaultKind.{MapFaultKind}
 use Rattle.pickle_map.specs.declared.faults.MapFaultKind.TheVariants as fault
 use Rattle.pickle_map.specs.Values.{IntegerLabel, OffsetLabel, TextLabel}
-use Rattle.pickle_map.specs.Arithmetic.{Computed, common, converted, is_zero, brought, as_integer, as_offset, brought_integer, brought_offset, bits_in, divisor_within, greatest_common_divisor, truth, prefixed, shifted_left, shifted_right, on_common, on_integers, on_bits, on_scaled, on_texts, combined, to_integer, to_offset, in_unit}
+use Rattle.pickle_map.specs.Arithmetic.{Computed, converted, is_zero, brought, as_integer, as_offset, brought_integer, brought_offset, bits_in, truth, prefixed, shifted_left, shifted_right, on_common, on_integers, on_bits, on_scaled, on_texts, combined, to_integer, to_offset, in_unit}
 use Rattle.pickle_map.specs.Evaluation.{Operand, AtPath, Plain, operand_label, truth_of, settled, number_only, as_common}
 use Rattle.type_soundness.specs.Sorts.{IsOfType, IsNumberOf, IsOfSort, MayFault, IsOutcome}
 use Rattle.type_soundness.specs.Derivations.{IsProper, computed}
@@ -116,7 +118,7 @@ unfolding shifted_right
 right_is x type (pos n) = result_if (IntegerOf type) (nat_lt n type.width) (Ok _) (Err fault.Index) (_, refl) tt
 right_is x type (negsuc n) = tt
 
-arithmetic_is : {op : Infix} → IsArithmetic op → (x : ℤ) (t : IntegerType) (y : ℤ) (u : IntegerType) → IsResult (IntegerOf (types.common t u)) (on_integers op x t y u)
+arithmetic_is : {op : Infix} → IsArithmetic op → (x : ℤ) (t : IntegerType) (y : ℤ) (u : IntegerType) → IsResult (IntegerOf (common t u)) (on_integers op x t y u)
 unfolding on_integers on_common
 arithmetic_is IsArithmetic.add x t y u = integer_is (common t u) _
 arithmetic_is IsArithmetic.subtract x t y u = integer_is (common t u) _
@@ -174,17 +176,8 @@ scaled_is : (type : IntegerType) (unit : ℕ) (x y : ℤ) → IsResult (OffsetOf
 unfolding on_scaled
 scaled_is t n x y = offset_is t n _
 
-divisor_is : (n a b : ℕ) → b < n → IsGcd a b (divisor_within n a b)
-unfolding divisor_within
-divisor_is zero a b lt = absurd (omega arith)
-divisor_is (suc n) a zero lt = IsGcd-from_zero a 0 refl
-divisor_is (suc n) a (suc b) lt =
-    let less : a % suc b < n = omega arith in
-    IsGcd-from_mod a (suc b) _ (divisor_is n (suc b) (a % suc b) less)
-
-common_divisor_is : (m n g : ℕ) → IsGcd m n g → greatest_common_divisor m n ≡ g
-unfolding greatest_common_divisor
-common_divisor_is m n g h = same_from_IsGcd m n _ g (divisor_is _ m n (omega arith)) h
+common_divisor_is : (m n g : ℕ) → IsGcd m n g → greatest_divisor m n ≡ g
+common_divisor_is m n g h = same_from_IsGcd m n _ g (greatest_divisor_is m n) h
 
 pub infix_is : {op : Infix} {s t : Sort} {r : PokeType} → InfixRule op s t r → (x y : Operand) → IsOfSort s x → IsOfSort t y → IsResult r (combined op (operand_label x) (operand_label y))
 unfolding combined

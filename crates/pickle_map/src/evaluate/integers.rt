@@ -3,7 +3,8 @@
 ghost use Rattle.std.specs.Prelude.{◌≡◌, ℕ, ◌<◌, ◌≤◌, ◌^◌, IfOk, Ok, Err, ℤ, pos, ◌*ℤ◌, bit_and, bit_or, bit_xor, not};
 ghost use Rattle.pickle_types.specs.Table.{IsWidth};
 ghost use Rattle.pickle_types.specs.Sound.{IsSmall};
-ghost use Rattle.pickle_map.specs.Arithmetic.{common, on_common, on_integers, shifted_left, shifted_right, truth, is_zero, converted, bit_by_bit, brought_integer, modulo, with_sign};
+ghost use Rattle.pickle_types.specs.Operators.{common};
+ghost use Rattle.pickle_map.specs.Arithmetic.{on_common, on_integers, shifted_left, shifted_right, truth, is_zero, converted, bit_by_bit, brought_integer, modulo, with_sign};
 ghost use Rattle.pickle_map.specs.Scalars.{IsScalar, IsShift, computed_of, scalar_label};
 ghost use Rattle.pickle_map.specs.Values.{IntegerLabel};
 

@@ -3,7 +3,8 @@
 ghost use Rattle.std.specs.Prelude.{◌≡◌, ℕ, ◌+◌, ◌<◌, ◌≤◌, ◌^◌, IfOk, Ok, Err, ℤ, pos, ◌*ℤ◌, false, ◌&&◌, int_div, int_rem, unsigned_abs};
 ghost use Rattle.pickle_types.specs.Table.{IsWidth};
 ghost use Rattle.pickle_types.specs.Sound.{IsSmall};
-ghost use Rattle.pickle_map.specs.Arithmetic.{prefixed, is_zero, to_integer, to_offset, in_unit, combined, bits_in, brought_offset, greatest_common_divisor, divisor_within, on_bits, on_scaled, common};
+ghost use Rattle.pickle_types.specs.Operators.{common};
+ghost use Rattle.pickle_map.specs.Arithmetic.{prefixed, is_zero, to_integer, to_offset, in_unit, combined, bits_in, brought_offset, on_bits, on_scaled};
 ghost use Rattle.pickle_map.specs.Ranges.{IsBits, IsWide};
 ghost use Rattle.pickle_map.specs.Scalars.{IsScalar, computed_of, scalar_label};
 
@@ -11,6 +12,7 @@ use crate::evaluate::integers::{Scalar, brought_integer, common, is_true, on_int
 use crate::evaluate::ranges::{brought, converted, low_digits};
 use crate::faults::MapFaultKind;
 use pickle_syntax::tree::{Infix, Prefix};
+use pickle_types::check::operators::greatest_divisor;
 use pickle_types::integer::IntegerType;
 
 /// An offset whose magnitude is brought to a type.
@@ -117,20 +119,6 @@ fn left_over(x: i128, y: i128) -> i128
     ensures wide { IsWide result }
 {
     x % y
-}
-
-/// The greatest common divisor, by Euclid's algorithm.
-#[tactic(auto, using(crate::proofs::Divisors::divisor_done, crate::proofs::Divisors::divisor_more))]
-fn greatest_divisor(a: u32, b: u32) -> u32
-    requires { 0 < a }
-    ensures is { (n : ℕ) → b < n → result ≡ divisor_within n a b }
-    ensures some { 0 < result }
-{
-    if b == 0 {
-        a
-    } else {
-        greatest_divisor(b, a % b)
-    }
 }
 
 /// An operator on the exact bits of two offsets.
@@ -242,7 +230,7 @@ fn scaled(
 }
 
 /// An operator on two integers or offsets.
-#[tactic(auto, unfolding(crate::specs::Arithmetic::combined, crate::specs::Arithmetic::on_scaled, crate::specs::Arithmetic::greatest_common_divisor))]
+#[tactic(auto, unfolding(crate::specs::Arithmetic::combined, crate::specs::Arithmetic::on_scaled))]
 pub fn combined(op: Infix, a: Scalar, b: Scalar) -> Result<Scalar, MapFaultKind>
     requires left { IsScalar a }
     requires right { IsScalar b }

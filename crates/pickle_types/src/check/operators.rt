@@ -1,6 +1,6 @@
 //! What operators make of the types of their operands.
 
-ghost use Rattle.std.specs.Prelude.{◌≡◌, IfSome};
+ghost use Rattle.std.specs.Prelude.{◌≡◌, ◌<◌, IfSome};
 ghost use Rattle.pickle_types.specs.Sound.{IsWidth, IsSoundScalar, IsSoundOperand};
 ghost use Rattle.pickle_types.specs.Operators.{common, greatest_divisor, arithmetic, sum, product, quotient, shift, logic, comparison, between_numbers, between, before_number, before, number_in, integer_in, integer_operand, chosen, choice, same_type};
 
@@ -41,9 +41,10 @@ fn common(a: IntegerType, b: IntegerType) -> IntegerType
     }
 }
 
-/// The greatest number of bits that divides both units.
+/// The greatest number of bits that divides both units, by Euclid's algorithm.
 pub fn greatest_divisor(a: u32, b: u32) -> u32
-    ensures { result ≡ greatest_divisor a b }
+    ensures is { result ≡ greatest_divisor a b }
+    ensures some { 0 < a → 0 < result }
 {
     let mut x = a;
     let mut y = b;

@@ -2,7 +2,8 @@ use Rattle.std.proofs.Common.{rules, ◌∙◌, ap, to_z, of_z}
 use Rattle.std.proofs.lemmas.Int.{to_z-of_z}
 use mir.Syntax.{w128}
 use mir.Val.{SFits}
-use Rattle.pickle_map.specs.Arithmetic.{common, converted, on_common}
+use Rattle.pickle_types.specs.Operators.{common}
+use Rattle.pickle_map.specs.Arithmetic.{converted, on_common}
 use Rattle.pickle_map.proofs.Signed.{small_fits}
 use Rattle.pickle_map.proofs.Comparisons.{common_order}
 use Rattle.pickle_map.proofs.evaluate.comparison.compared.Goals as goal
