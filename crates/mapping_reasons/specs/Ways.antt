@@ -33,13 +33,13 @@ part_at (UnionOf name alternatives) place = alternative_at alternatives place
 
 -- the step from a type to its part at a place
 abbrev pub step_text : PokeType → Option (List ℕ) → (place : ℕ) → List ℕ
-step_text (IntegerOf type) name place = field_step name place
-step_text (OffsetOf type unit) name place = field_step name place
+step_text (IntegerOf _) name place = field_step name place
+step_text (OffsetOf _ _) name place = field_step name place
 step_text StringOf name place = field_step name place
-step_text (ArrayOf element bound) name place = in_brackets place
-step_text (StructOf title pinned fields) name place = field_step name place
-step_text (IntegralOf title type fields) name place = field_step name place
-step_text (UnionOf title alternatives) name place = field_step name place
+step_text (ArrayOf _ _) name place = in_brackets place
+step_text (StructOf _ _ _) name place = field_step name place
+step_text (IntegralOf _ _ _) name place = field_step name place
+step_text (UnionOf _ _) name place = field_step name place
 
 -- these steps lead from a type to a part of it
 pub data LeadsTo : PokeType → (steps : List ℕ) → PokeType → Type 0 where
