@@ -1,14 +1,10 @@
 -- Paths to the parts of a value.
 use Rattle.std.specs.Prelude.{◌≡◌, ℕ, zero, suc, ◌+◌, Bool, true, false, List, [], ◌∷◌, ◌++◌, Option, Some, None, if◌then◌else◌, codes, decimal}
 use Rattle.std.specs.Str.{bytes_eq}
-use Rattle.pickle_map.specs.Values.{Naming, Label, IntegerLabel, OffsetLabel, TextLabel, ArrayLabel, StructLabel, UnionLabel, Value, label_of, members_of, member_at, member_count}
-use Rattle.pickle_map.specs.Labels.{member_name}
 use Rattle.command_words.specs.declared.path.Path.{Path}
 use Rattle.command_words.specs.declared.path.Step.{Step}
 use Rattle.command_words.specs.declared.path.Step.TheVariants.{Field, Place, Element}
-use Rattle.value_text.specs.TreeText.{in_brackets}
-
--- ---- the text of a path
+use Rattle.text_forms.specs.Brackets.{in_brackets}
 
 abbrev pub step_text : Step → List ℕ
 step_text (Field name) = codes "." ++ name.items
@@ -23,57 +19,3 @@ steps_text (step ∷ steps) = step_text step ++ steps_text steps
 abbrev pub path_text : List Step → List ℕ
 path_text [] = codes "."
 path_text (step ∷ steps) = steps_text (step ∷ steps)
-
--- ---- where a path leads
-
-abbrev pub is_array : Label → Bool
-is_array (IntegerLabel number type) = false
-is_array (OffsetLabel magnitude type unit) = false
-is_array (TextLabel bytes) = false
-is_array ArrayLabel = true
-is_array (StructLabel name fields) = false
-is_array (UnionLabel name index alternative) = false
-
-abbrev pub is_named : (name : List ℕ) → Naming → Bool
-is_named name None = false
-is_named name (Some its) = bytes_eq its name
-
-abbrev pub is_nameless : Naming → Bool
-is_nameless None = true
-is_nameless (Some its) = false
-
--- the first of so many places, from one on, whose member has this name
-abbrev pub place_named : (name : List ℕ) → Label → (count place : ℕ) → Option ℕ
-place_named name label zero place = None
-place_named name label (suc count) place = if is_named name (member_name label place) then Some place else place_named name label count (place + 1)
-
-abbrev pub member_if : Bool → Option Value → Option Value
-member_if true found = found
-member_if false found = None
-
-abbrev pub member_there : Value → Option ℕ → Option Value
-member_there value None = None
-member_there value (Some place) = member_at (members_of value) place
-
--- the part that a step leads to: the field or alternative of a name, a nameless one at its place, the element at a place
-abbrev pub step_to : Step → Value → Option Value
-step_to (Field name) value = member_there value (place_named name.items (label_of value) (member_count (members_of value)) 0)
-step_to (Place place) value = member_if (if is_array (label_of value) then false else is_nameless (member_name (label_of value) place)) (member_at (members_of value) place)
-step_to (Element place) value = member_if (is_array (label_of value)) (member_at (members_of value) place)
-
-abbrev pub step_from : Step → Option Value → Option Value
-step_from step None = None
-step_from step (Some value) = step_to step value
-
--- the part that steps lead to, one after the other
-abbrev pub part_from : List Step → Option Value → Option Value
-part_from [] found = found
-part_from (step ∷ steps) found = part_from steps (step_from step found)
-
-abbrev pub part_of : List Step → Value → Option Value
-part_of steps value = part_from steps (Some value)
-
--- the part that is asked for, where one is: else the value itself
-abbrev pub part_at : Option Path → Value → Option Value
-part_at None value = Some value
-part_at (Some path) value = part_of path.steps.items value

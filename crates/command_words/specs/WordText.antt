@@ -1,7 +1,7 @@
 -- How a word of the command line is shown where the words are wrong.
 use Rattle.std.specs.Prelude.{ℕ, ◌/◌, ◌%◌, ◌&&◌, List, [], ◌∷◌, ◌++◌, ◌==◌, nat_le, if◌then◌else◌, codes}
 use Rattle.std.specs.List.{flat_map}
-use Rattle.value_text.specs.HexDigits.{hex_digit}
+use Rattle.text_forms.specs.HexDigits.{hex_digit}
 
 abbrev pub digits_text : ℕ → List ℕ
 digits_text byte = codes "\\x" ++ hex_digit (byte / 16) ∷ hex_digit (byte % 16) ∷ []

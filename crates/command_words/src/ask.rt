@@ -1,5 +1,5 @@
 use bit_space::Order;
-use value_text::mode::Mode;
+use text_forms::mode::Mode;
 
 /// What is asked of a pickle.
 #[derive(Clone, Copy, Debug)]

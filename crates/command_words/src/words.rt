@@ -18,8 +18,8 @@ use clap::error::ErrorKind;
 use commands::{DEFAULT_LIMIT, PROGRAM, program};
 use shown::{shown_word, shown_words};
 use std::alloc::{AllocError, Global};
+use text_forms::mode::Mode;
 use thiserror::Error;
-use value_text::mode::Mode;
 
 /// What is told where words are wrong, but not as they are shown.
 const WRONG_WORD: &str = "error: a word has bytes that aren't printed\n";

@@ -7,7 +7,7 @@ use Rattle.pickle_types.specs.declared.table.Node.{Node}
 use Rattle.pickle_types.specs.Types.{PokeType}
 use Rattle.pickle_types.specs.Table.{open_shape, open_fields, open_parts, type_of, NamesBelow, FieldsBelow, PartsBelow}
 use Rattle.value_text.specs.PathText.{field_step}
-use Rattle.value_text.specs.TreeText.{in_brackets}
+use Rattle.text_forms.specs.Brackets.{in_brackets}
 use Rattle.mapping_reasons.specs.declared.way.Joint.{Joint}
 use Rattle.mapping_reasons.specs.declared.way.Joint.TheVariants.{Element, Named, Nameless}
 use Rattle.mapping_reasons.specs.declared.way.Portion.{Portion}

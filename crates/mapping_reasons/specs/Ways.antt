@@ -2,7 +2,7 @@
 use Rattle.std.specs.Prelude.{◌≡◌, ℕ, zero, suc, List, [], ◌∷◌, ◌++◌, Option, Some, None}
 use Rattle.pickle_types.specs.Types.{PokeType, IntegerOf, OffsetOf, StringOf, ArrayOf, StructOf, IntegralOf, UnionOf, Fields, NoFields, FieldThen, Parts, NoParts, PartThen}
 use Rattle.value_text.specs.PathText.{field_step, path_text}
-use Rattle.value_text.specs.TreeText.{in_brackets}
+use Rattle.text_forms.specs.Brackets.{in_brackets}
 
 -- a part of a type: its type, and the name of a field or an alternative, where it has one
 pub record TypePart : Type 0 where

@@ -9,7 +9,7 @@ use pickle_map::Store;
 use pickle_map::known::{Known, known_value};
 use pickle_map::mapper::watch::Clause;
 use pickle_script::text::Text;
-use pickle_syntax::token::Attribute;
+use pickle_tree::tree::Attribute;
 use pickle_types::view::{Node, Resolved, Shape};
 use std::alloc::{AllocError, Global};
 

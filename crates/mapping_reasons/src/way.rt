@@ -4,7 +4,7 @@ ghost use Rattle.std.specs.Prelude.{◌≡◌, ℕ, ◌<◌, ◌++◌, length, I
 ghost use Rattle.std.specs.Option.{option_map};
 ghost use Rattle.pickle_types.specs.Table.{IsTable, type_of, name_of};
 ghost use Rattle.value_text.specs.PathText.{field_step, path_text};
-ghost use Rattle.value_text.specs.TreeText.{in_brackets};
+ghost use Rattle.text_forms.specs.Brackets.{in_brackets};
 ghost use Rattle.mapping_reasons.specs.Ways.{IsWayTo, LeadsTo};
 ghost use Rattle.mapping_reasons.specs.Portions.{IsPortion, IsShapePortion, IsFieldPortion, IsPartPortion, joint_text, joint_name};
 

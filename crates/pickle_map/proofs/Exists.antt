@@ -2,7 +2,7 @@
 use Rattle.std.proofs.Common.{◌≡◌, ℕ, zero, suc, ◌+◌, ◌-◌, ◌<◌, ◌≤◌, max, Bool, true, false, List, length, Option, Some, None, Result, Ok, Err, refl, arith}
 use Rattle.bit_space.specs.declared.order.Order.{Order}
 use Rattle.bit_space.specs.declared.order.Order.TheVariants.{Big}
-use Rattle.pickle_syntax.specs.declared.tree.ByteOrder.{ByteOrder}
+use Rattle.pickle_tree.specs.declared.tree.ByteOrder.{ByteOrder}
 use Rattle.pickle_types.specs.declared.integer.IntegerType.{IntegerType}
 use Rattle.pickle_types.specs.Types.{Term, Bound, PokeType, IntegerOf, OffsetOf, StringOf, ArrayOf, StructOf, IntegralOf, UnionOf, Fields, NoFields, FieldThen, Parts, NoParts, PartThen}
 use Rattle.pickle_types.specs.Bounds.{least_width}

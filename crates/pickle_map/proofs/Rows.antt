@@ -3,10 +3,10 @@ use Rattle.std.proofs.Common.{◌≡◌, true, false, [], ◌∷◌, Some, None,
 use Rattle.std.specs.Prelude.{pos, negsuc}
 use Rattle.bit_space.specs.declared.order.Order.TheVariants.{Big, Little}
 use Rattle.bit_space.specs.Bits.{bits_of, binary, number, digits, numeral_onto, groups_from}
-use Rattle.pickle_syntax.specs.declared.token.Attribute.TheVariants.{Length, Size}
-use Rattle.pickle_syntax.specs.declared.tree.ByteOrder.TheVariants as prefix
-use Rattle.pickle_syntax.specs.declared.tree.Prefix.TheVariants.{Plus, Minus, Complement, Not}
-use Rattle.pickle_syntax.specs.declared.tree.Infix.TheVariants.{LogicalOr, LogicalAnd, BitOr, BitXor, BitAnd, Equal, NotEqual, Less, LessEqual, Greater, GreaterEqual, ShiftLeft, ShiftRight, Add, Subtract, Multiply, Divide, Remainder}
+use Rattle.pickle_tree.specs.declared.tree.Attribute.TheVariants.{Length, Size}
+use Rattle.pickle_tree.specs.declared.tree.ByteOrder.TheVariants as prefix
+use Rattle.pickle_tree.specs.declared.tree.Prefix.TheVariants.{Plus, Minus, Complement, Not}
+use Rattle.pickle_tree.specs.declared.tree.Infix.TheVariants.{LogicalOr, LogicalAnd, BitOr, BitXor, BitAnd, Equal, NotEqual, Less, LessEqual, Greater, GreaterEqual, ShiftLeft, ShiftRight, Add, Subtract, Multiply, Divide, Remainder}
 use Rattle.pickle_types.specs.Types.{Number, Text, Name, Bracket, Before, Between, Choice, Index, Select, AttributeOf, ToInteger, ToOffset, InUnit, Unbounded, ByCount, BySize, IntegerOf, OffsetOf, StringOf, ArrayOf, StructOf, IntegralOf, UnionOf, NoFields, FieldThen, NoParts, PartThen}
 use Rattle.pickle_types.specs.Bounds.{least_width, cost, room}
 use Rattle.pickle_types.specs.Operators.{divisor_in, greatest_divisor}

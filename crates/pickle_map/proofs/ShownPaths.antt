@@ -4,7 +4,7 @@ use Rattle.std.specs.Prelude.{slice_get, unwrap_or, nat_eq, nat_lt, if◌then◌
 use Rattle.std.specs.Option.{option_map}
 use Rattle.pickle_types.specs.declared.table.Node.{Node}
 use Rattle.pickle_types.specs.declared.integer.IntegerType.{IntegerType}
-use Rattle.pickle_syntax.specs.declared.token.Attribute.TheVariants.{Length}
+use Rattle.pickle_tree.specs.declared.tree.Attribute.TheVariants.{Length}
 use Rattle.pickle_map.specs.declared.faults.MapFaultKind.{MapFaultKind}
 use Rattle.pickle_map.specs.declared.faults.MapFaultKind.TheVariants as fault
 use Rattle.pickle_map.specs.declared.value.Kind.TheVariants as kind

@@ -2,7 +2,7 @@
 use Rattle.std.proofs.Common.{◌≡◌, ℕ, ◌+◌, ◌≤◌, max, length, Bool, true, false, List, Option, Some, None, Result, Ok, Err, refl, sym, ap, subst, arith}
 use Rattle.std.specs.Prelude.{◌||◌, if◌then◌else◌, ℤ, pos, negsuc}
 use Rattle.bit_space.specs.declared.order.Order.{Order}
-use Rattle.pickle_syntax.specs.declared.tree.ByteOrder.{ByteOrder}
+use Rattle.pickle_tree.specs.declared.tree.ByteOrder.{ByteOrder}
 use Rattle.pickle_types.specs.declared.integer.IntegerType.{IntegerType}
 use Rattle.pickle_types.specs.Types.{Term, PokeType, IntegerOf, OffsetOf, StringOf, ArrayOf, StructOf, IntegralOf, UnionOf, Fields, Parts, NoParts, PartThen}
 use Rattle.pickle_types.specs.Bounds.{least_width, sum_of_widths, greatest_width, least_of_widths, has_label, where_present, is_some}

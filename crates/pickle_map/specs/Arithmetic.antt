@@ -2,10 +2,10 @@
 use Rattle.std.specs.Prelude.{ℕ, zero, suc, ◌-◌, ◌%◌, ◌^◌, Bool, true, false, not, ◌&&◌, ◌||◌, if◌then◌else◌, nat_lt, List, Result, Ok, Err, ℤ, pos, negsuc, ◌+ℤ◌, ◌-ℤ◌, ◌*ℤ◌, neg_ℤ, int_lt, int_le, int_div, int_rem, bit_and, bit_or, bit_xor, bytes_eq}
 use lib.Signed.{shr_z}
 use Rattle.bit_space.specs.Bits.{twos_complement}
-use Rattle.pickle_syntax.specs.declared.tree.Prefix.{Prefix}
-use Rattle.pickle_syntax.specs.declared.tree.Prefix.TheVariants.{Plus, Minus, Complement, Not}
-use Rattle.pickle_syntax.specs.declared.tree.Infix.{Infix}
-use Rattle.pickle_syntax.specs.declared.tree.Infix.TheVariants.{LogicalOr, LogicalAnd, BitOr, BitXor, BitAnd, Equal, NotEqual, Less, LessEqual, Greater, GreaterEqual, ShiftLeft, ShiftRight, Add, Subtract, Multiply, Divide, Remainder}
+use Rattle.pickle_tree.specs.declared.tree.Prefix.{Prefix}
+use Rattle.pickle_tree.specs.declared.tree.Prefix.TheVariants.{Plus, Minus, Complement, Not}
+use Rattle.pickle_tree.specs.declared.tree.Infix.{Infix}
+use Rattle.pickle_tree.specs.declared.tree.Infix.TheVariants.{LogicalOr, LogicalAnd, BitOr, BitXor, BitAnd, Equal, NotEqual, Less, LessEqual, Greater, GreaterEqual, ShiftLeft, ShiftRight, Add, Subtract, Multiply, Divide, Remainder}
 use Rattle.pickle_types.specs.declared.integer.IntegerType.{IntegerType}
 use Rattle.pickle_types.specs.Operators.{common, greatest_divisor}
 use Rattle.pickle_map.specs.declared.faults.MapFaultKind.{MapFaultKind}

@@ -10,8 +10,8 @@ use Rattle.pickle_map.specs.declared.evaluate.content.Content.{Content}
 use Rattle.pickle_map.specs.Contents.{IsHeld}
 use Rattle.pickle_map.specs.declared.faults.MapFaultKind.{MapFaultKind}
 use Rattle.pickle_map.specs.Evaluation.{Operand, operand_label, Evaluation, evaluation, and_operand, unless_settled, settled, truth_of, between, literal_length, chosen, gives, as_common, element, leads_to}
-use Rattle.pickle_syntax.specs.declared.tree.Infix.{Infix}
-use Rattle.pickle_syntax.specs.declared.tree.Infix.TheVariants.{Equal, NotEqual, Less, LessEqual, Greater, GreaterEqual}
+use Rattle.pickle_tree.specs.declared.tree.Infix.{Infix}
+use Rattle.pickle_tree.specs.declared.tree.Infix.TheVariants.{Equal, NotEqual, Less, LessEqual, Greater, GreaterEqual}
 use Rattle.pickle_types.specs.declared.integer.IntegerType.{IntegerType}
 use Rattle.pickle_types.specs.Types.{Term, Before, Select, AttributeOf, ToInteger, ToOffset, InUnit}
 use Rattle.pickle_map.specs.Values.{Label, Levels}

@@ -1,6 +1,6 @@
 -- Texts that begin with a place.
 use Rattle.std.proofs.Common.{◌≡◌, ◌≤◌, ℕ, List, [], ◌++◌, length, take, fold, Result, Ok, Err, IfOk, subst}
-use Rattle.pickle_syntax.specs.Tree.{DeclarationTree}
+use Rattle.pickle_tree.specs.Tree.{DeclarationTree}
 use Rattle.pickle_types.specs.Names.{Names}
 use Rattle.poke_batch.specs.Accepted.{IsAccepted}
 use Rattle.pickle_reasons.specs.Places.{Explains, placed, unplaced}

@@ -1,6 +1,6 @@
 -- What is told of a pickle that is refused.
 use Rattle.std.specs.Prelude.{ℕ, List}
-use Rattle.pickle_syntax.specs.Tree.{DeclarationTree}
+use Rattle.pickle_tree.specs.Tree.{DeclarationTree}
 use Rattle.pickle_types.specs.Names.{Names}
 use Rattle.pickle_script.specs.Places.{TellsPlace, called_by}
 use Rattle.poke_batch.specs.Accepted.{IsAccepted}

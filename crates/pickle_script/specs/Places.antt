@@ -1,6 +1,6 @@
 -- Lines and columns of a pickle, and the text that tells a place in it.
 use Rattle.std.specs.Prelude.{◌≡◌, ◌≤◌, ◌+◌, ◌/◌, ◌%◌, ◌==◌, ◌&&◌, nat_le, if◌then◌else◌, ℕ, List, [], ◌∷◌, ◌++◌, length, take, count_by, fold, codes, decimal, All}
-use Rattle.value_text.specs.HexDigits.{hex_digit}
+use Rattle.text_forms.specs.HexDigits.{hex_digit}
 
 -- the line of the place behind some bytes, counted from 1: a line feed ends a line
 abbrev pub line_behind : List ℕ → ℕ

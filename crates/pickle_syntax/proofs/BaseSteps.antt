@@ -6,12 +6,12 @@ use Rattle.std.proofs.Math.Seq.{take-length}
 use Rattle.pickle_syntax.specs.declared.token.Word.{Word}
 use Rattle.pickle_syntax.specs.declared.token.Kind.{Kind}
 use Rattle.pickle_syntax.specs.declared.token.Kind.TheVariants as kind
-use Rattle.pickle_syntax.specs.declared.tree.Field.{Field}
-use Rattle.pickle_syntax.specs.declared.tree.Form.TheVariants as form
-use Rattle.pickle_syntax.specs.declared.tree.Form.TheOpen.{Form-F}
-use Rattle.pickle_syntax.specs.declared.tree.Form.TheFolds.{fold-roll-Form}
+use Rattle.pickle_tree.specs.declared.tree.Field.{Field}
+use Rattle.pickle_tree.specs.declared.tree.Form.TheVariants as form
+use Rattle.pickle_tree.specs.declared.tree.Form.TheOpen.{Form-F}
+use Rattle.pickle_tree.specs.declared.tree.Form.TheFolds.{fold-roll-Form}
 use Rattle.pickle_syntax.specs.Tokens.{tokens_of}
-use Rattle.pickle_syntax.specs.Tree.{FormTree, FieldTree, StringForm, UnionForm, form_step, field_step, form_tree, fields_tree}
+use Rattle.pickle_tree.specs.Tree.{FormTree, FieldTree, StringForm, UnionForm, form_step, field_step, form_tree, fields_tree}
 use Rattle.pickle_syntax.specs.Limits.{Limits}
 use Rattle.pickle_syntax.specs.Reading.{Wrong, reference_at, target_at}
 use Rattle.pickle_syntax.specs.ReadForms.{FormReader, word_form, base_at}

@@ -1,9 +1,9 @@
 -- Steps over the declarations.
 use Rattle.std.proofs.Common.{◌≡◌, ℕ, zero, suc, ◌-◌, ◌<◌, List, [], ◌∷◌, ◌++◌, true, false, map, refl, sym, ap, arith, append_assoc, Result, Ok, Err}
 use Rattle.std.proofs.lemmas.List.{append-nil, map_push}
-use Rattle.pickle_syntax.specs.declared.tree.Declaration.{Declaration}
+use Rattle.pickle_tree.specs.declared.tree.Declaration.{Declaration}
 use Rattle.pickle_syntax.specs.Tokens.{Token}
-use Rattle.pickle_syntax.specs.Tree.{DeclarationTree, declaration_tree}
+use Rattle.pickle_tree.specs.Tree.{DeclarationTree, declaration_tree}
 use Rattle.pickle_syntax.specs.Limits.{Limits}
 use Rattle.pickle_syntax.specs.Reading.{Fault, Many}
 use Rattle.pickle_syntax.specs.ReadForms.{declaration_at, with_declaration, is_over, declarations_at}

@@ -5,8 +5,8 @@ use Rattle.pickle_syntax.specs.declared.token.Sign.TheVariants as sign
 use Rattle.pickle_syntax.specs.declared.parser.operators.Next.TheVariants as next
 use Rattle.pickle_syntax.specs.Tokens.{Token, Reserved, Named, Numeral, Mark}
 use Rattle.pickle_syntax.specs.Tokens as token
-use Rattle.pickle_syntax.specs.Tree.{Select, InUnit, Convert, Tree, Literal, Name, Bracket, Before, Between, Choice, Index, After}
-use Rattle.pickle_syntax.specs.Tree as tree
+use Rattle.pickle_tree.specs.Tree.{Select, InUnit, Convert, Tree, Literal, Name, Bracket, Before, Between, Choice, Index, After}
+use Rattle.pickle_tree.specs.Tree as tree
 use Rattle.pickle_syntax.specs.Show.{show, show_unit, show_target, prefix_sign, infix_sign}
 use Rattle.pickle_syntax.specs.Levels.{level, level_of, IsWellBracketed}
 use Rattle.pickle_syntax.specs.Limits.{depth}

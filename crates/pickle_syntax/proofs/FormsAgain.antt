@@ -4,15 +4,15 @@ use Rattle.std.proofs.lemmas.Bool.{le-ltb}
 use Rattle.pickle_syntax.specs.declared.token.Word.TheVariants as word
 use Rattle.pickle_syntax.specs.declared.token.Sign.{Sign}
 use Rattle.pickle_syntax.specs.declared.token.Sign.TheVariants as sign
-use Rattle.pickle_syntax.specs.declared.tree.Prefix.{Prefix}
-use Rattle.pickle_syntax.specs.declared.tree.Prefix.TheVariants as prefix
-use Rattle.pickle_syntax.specs.declared.tree.Unit.{Unit as OffsetUnit}
-use Rattle.pickle_syntax.specs.declared.tree.ByteOrder.{ByteOrder}
-use Rattle.pickle_syntax.specs.declared.tree.ByteOrder.TheVariants as order
+use Rattle.pickle_tree.specs.declared.tree.Prefix.{Prefix}
+use Rattle.pickle_tree.specs.declared.tree.Prefix.TheVariants as prefix
+use Rattle.pickle_tree.specs.declared.tree.Unit.{Unit as OffsetUnit}
+use Rattle.pickle_tree.specs.declared.tree.ByteOrder.{ByteOrder}
+use Rattle.pickle_tree.specs.declared.tree.ByteOrder.TheVariants as order
 use Rattle.pickle_syntax.specs.declared.parser.operators.Next.TheVariants as next
 use Rattle.pickle_syntax.specs.Tokens.{Token, Reserved, Mark}
-use Rattle.pickle_syntax.specs.Tree.{TreeReference, Int, Uint, Called, ToReference, ToOffset, Literal, Name, Bracket, Before, Between, Choice, Index, After, Tree, FormTree, Plain, StringForm, OffsetForm, ArrayForm, StructForm, IntegralForm, UnionForm, FieldTrees, NoFields, FieldThen, FieldParts, FieldTree, DeclarationTree}
-use Rattle.pickle_syntax.specs.Tree as tree
+use Rattle.pickle_tree.specs.Tree.{TreeReference, Int, Uint, Called, ToReference, ToOffset, Literal, Name, Bracket, Before, Between, Choice, Index, After, Tree, FormTree, Plain, StringForm, OffsetForm, ArrayForm, StructForm, IntegralForm, UnionForm, FieldTrees, NoFields, FieldThen, FieldParts, FieldTree, DeclarationTree}
+use Rattle.pickle_tree.specs.Tree as tree
 use Rattle.pickle_syntax.specs.Show.{prefix_sign, infix_sign, show_suffix, show, show_optional, show_part, show_name, show_order, show_form, show_fields, show_declaration, show_pickle}
 use Rattle.pickle_syntax.specs.Levels.{IsWellBracketed, IsOptionalWellBracketed, ArePartsWellBracketed, IsBase, IsFormWellBracketed, AreFieldsWellBracketed, IsPickleWellBracketed}
 use Rattle.pickle_syntax.specs.Limits.{Limits, depth, form_depth, fields_depth, field_count, IsOptionalWithin, ArePartsWithin, IsFormWithin, AreFieldsWithin, AreDeclarationsWithin, IsPickleWithin}

@@ -10,11 +10,11 @@ use Rattle.pickle_syntax.specs.declared.token.Opener.{Opener}
 use Rattle.pickle_syntax.specs.declared.token.Opener.TheVariants as opener
 use Rattle.pickle_syntax.specs.declared.token.Sign.{Sign}
 use Rattle.pickle_syntax.specs.declared.token.Sign.TheVariants as sign
-use Rattle.pickle_syntax.specs.declared.token.Number.{Number}
-use Rattle.pickle_syntax.specs.declared.tree.Unit.{Unit as OffsetUnit}
-use Rattle.pickle_syntax.specs.declared.tree.Unit.TheVariants as unit
+use Rattle.pickle_tree.specs.declared.tree.Number.{Number}
+use Rattle.pickle_tree.specs.declared.tree.Unit.{Unit as OffsetUnit}
+use Rattle.pickle_tree.specs.declared.tree.Unit.TheVariants as unit
 use Rattle.pickle_syntax.specs.Tokens.{Token, Reserved, Named, Opens, Numeral, Mark}
-use Rattle.pickle_syntax.specs.Tree.{TreeReference, Int, Uint, Called, TreeTarget, ToReference, ToOffset}
+use Rattle.pickle_tree.specs.Tree.{TreeReference, Int, Uint, Called, TreeTarget, ToReference, ToOffset}
 use Rattle.pickle_syntax.specs.Show.{show_reference, show_unit, show_target}
 use Rattle.pickle_syntax.specs.Reading.{Fault, Wrong, ◌>>=◌, Read, rest_if, after_sign, after_word, needed, expect, name_at, width_at, sized_at, reference_at, unit_named, named_unit, unit_at, offset_at, target_at}
 use Rattle.pickle_syntax.proofs.Results.{Outcome, value, fault, then}

@@ -9,7 +9,7 @@ use Rattle.std.proofs.lemmas.Bool.{eqb-true, ne_eqb, lt-ltb, ltb-true, cases_Boo
 use Rattle.pickle_syntax.specs.declared.lexer.bytes.Class.TheVariants as class
 use Rattle.pickle_syntax.specs.declared.lexer.fault.LexFaultKind.TheVariants.{BadNumber}
 use Rattle.pickle_syntax.specs.declared.lexer.numbers.Suffix as code
-use Rattle.pickle_syntax.specs.declared.token.Number.{Number}
+use Rattle.pickle_tree.specs.declared.tree.Number.{Number}
 use Rattle.pickle_syntax.specs.Bytes.{Fault, digit_of, is_in}
 use Rattle.pickle_syntax.specs.Numbers.{Read, base_of, start_of, value_after, width_of, is_sign, suffix_of, suffix_at, has_value, typed, checked, digits_at, number_at}
 use Rattle.pickle_syntax.specs.Pieces.{AllIn, begins, Suffix, NoSuffix, SignLetter, WidthLetter, SignAndWidth, WidthAndSign, suffix_bytes, suffix_signed, suffix_width, width_for, IsSuffix, IsPrefix, Decimal, Hexadecimal, Octal, Binary, IsNumber}

@@ -4,18 +4,18 @@ use Rattle.std.proofs.lemmas.Bool.{lt-leb, and_left}
 use Rattle.pickle_syntax.specs.declared.token.Word.TheVariants as word
 use Rattle.pickle_syntax.specs.declared.token.Sign.{Sign}
 use Rattle.pickle_syntax.specs.declared.token.Sign.TheVariants as sign
-use Rattle.pickle_syntax.specs.declared.tree.Prefix.{Prefix}
-use Rattle.pickle_syntax.specs.declared.tree.Prefix.TheVariants as prefix
-use Rattle.pickle_syntax.specs.declared.tree.Infix.{Infix}
-use Rattle.pickle_syntax.specs.declared.tree.Infix.TheVariants as infix_op
+use Rattle.pickle_tree.specs.declared.tree.Prefix.{Prefix}
+use Rattle.pickle_tree.specs.declared.tree.Prefix.TheVariants as prefix
+use Rattle.pickle_tree.specs.declared.tree.Infix.{Infix}
+use Rattle.pickle_tree.specs.declared.tree.Infix.TheVariants as infix_op
 use Rattle.pickle_syntax.specs.declared.parser.operators.Start.{Start}
 use Rattle.pickle_syntax.specs.declared.parser.operators.Start.TheVariants as start
 use Rattle.pickle_syntax.specs.declared.parser.operators.Next.{Next}
 use Rattle.pickle_syntax.specs.declared.parser.operators.Next.TheVariants as next
 use Rattle.pickle_syntax.specs.Tokens.{Token, Reserved, Mark}
 use Rattle.pickle_syntax.specs.Tokens as token
-use Rattle.pickle_syntax.specs.Tree.{Select, InUnit, Convert, Tree, Literal, Name, Bracket, Before, Between, Choice, Index, After}
-use Rattle.pickle_syntax.specs.Tree as tree
+use Rattle.pickle_tree.specs.Tree.{Select, InUnit, Convert, Tree, Literal, Name, Bracket, Before, Between, Choice, Index, After}
+use Rattle.pickle_tree.specs.Tree as tree
 use Rattle.pickle_syntax.specs.Show.{prefix_sign, infix_sign}
 use Rattle.pickle_syntax.specs.Levels.{level, level_of, IsWellBracketed}
 use Rattle.pickle_syntax.specs.Limits.{depth}

@@ -1,7 +1,7 @@
 -- What an answer of the parser says of the tokens.
 use Rattle.std.proofs.Common.{◌≡◌, ◌≢◌, ℕ, ◌+◌, ◌<◌, ◌≤◌, Option, Some, None, List, [], ◌∷◌, ◌++◌, length, refl, sym, ap, ◌∙◌, arith, Result, Ok, Err, length-append}
 use Rattle.std.proofs.lemmas.List.{length-map}
-use Rattle.pickle_syntax.specs.declared.tree.Pickle.{Pickle}
+use Rattle.pickle_tree.specs.declared.tree.Pickle.{Pickle}
 use Rattle.pickle_syntax.specs.declared.token.Kind.{Kind}
 use Rattle.pickle_syntax.specs.declared.token.Word.TheVariants as word
 use Rattle.pickle_syntax.specs.declared.token.Sign.TheVariants as sign
@@ -9,7 +9,7 @@ use Rattle.pickle_syntax.specs.declared.parser.fault.Stop.{Stop}
 use Rattle.pickle_syntax.specs.declared.parser.fault.Stop.TheVariants as stop
 use Rattle.pickle_syntax.specs.declared.parser.fault.ParseFault.TheVariants.{Memory, TooDeep, TooMany}
 use Rattle.pickle_syntax.specs.Tokens.{Token, Reserved, Mark, token_of, tokens_of}
-use Rattle.pickle_syntax.specs.Tree.{DeclarationTree, pickle_tree, Tree, FormTree, Plain, StringForm, OffsetForm, ArrayForm, StructForm, IntegralForm, UnionForm, FieldTrees, NoFields, FieldThen, FieldParts}
+use Rattle.pickle_tree.specs.Tree.{DeclarationTree, pickle_tree, Tree, FormTree, Plain, StringForm, OffsetForm, ArrayForm, StructForm, IntegralForm, UnionForm, FieldTrees, NoFields, FieldThen, FieldParts}
 use Rattle.pickle_syntax.specs.Show.{show_reference, show_optional, show_part, show_name, show_order, show_pinned, show_parts, show_form, show_fields, show_declaration, show_pickle}
 use Rattle.pickle_syntax.specs.Levels.{IsPickleWellBracketed}
 use Rattle.pickle_syntax.specs.Limits.{Limits, standard, field_count, IsOptionalWithin, ArePartsWithin, IsFormWithin, AreFieldsWithin, AreDeclarationsWithin}

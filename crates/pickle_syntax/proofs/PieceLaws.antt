@@ -6,7 +6,7 @@ use Rattle.pickle_syntax.specs.declared.lexer.bytes.Class.TheVariants as class
 use Rattle.pickle_syntax.specs.declared.lexer.fault.LexFaultKind.TheVariants.{BadNumber}
 use Rattle.pickle_syntax.specs.declared.token.Sign.{Sign}
 use Rattle.pickle_syntax.specs.declared.token.Sign.TheVariants as sign
-use Rattle.pickle_syntax.specs.declared.token.Number.{Number}
+use Rattle.pickle_tree.specs.declared.tree.Number.{Number}
 use Rattle.pickle_syntax.specs.Tokens.{Token, Reserved, Named, Opens, Numeral, Mark}
 use Rattle.pickle_syntax.specs.Tokens as token
 use Rattle.pickle_syntax.specs.Bytes.{Fault, ◌>>=◌, digit_of, starts}

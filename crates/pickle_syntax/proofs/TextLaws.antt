@@ -7,8 +7,8 @@ use Rattle.std.proofs.lemmas.Bool.{eqb-true}
 use Rattle.pickle_syntax.specs.declared.lexer.texts.Part.{Part}
 use Rattle.pickle_syntax.specs.declared.lexer.texts.Part.TheVariants.{Closes, Byte, Bad, Breaks}
 use Rattle.pickle_syntax.specs.declared.lexer.fault.LexFaultKind.TheVariants.{BadByte, Unclosed}
-use Rattle.pickle_syntax.specs.declared.token.Attribute.{Attribute}
-use Rattle.pickle_syntax.specs.declared.token.Attribute.TheVariants as attribute
+use Rattle.pickle_tree.specs.declared.tree.Attribute.{Attribute}
+use Rattle.pickle_tree.specs.declared.tree.Attribute.TheVariants as attribute
 use Rattle.pickle_syntax.specs.Tokens.{Token, AttributeOf}
 use Rattle.pickle_syntax.specs.Tokens as token
 use Rattle.pickle_syntax.specs.Bytes.{Fault, ◌>>=◌}

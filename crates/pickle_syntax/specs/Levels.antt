@@ -1,9 +1,9 @@
 -- How tightly each operator binds, and the trees in which each operand binds as tightly as its place asks.
 use Rattle.std.specs.Prelude.{ℕ, ◌+◌, ◌≤◌, ⊤, Option, Some, None, List, [], ◌∷◌}
-use Rattle.pickle_syntax.specs.declared.tree.Infix.{Infix}
-use Rattle.pickle_syntax.specs.declared.tree.Infix.TheVariants as infix_op
-use Rattle.pickle_syntax.specs.Tree.{TreeSuffix, Select, InUnit, Convert, Tree, Literal, Name, Bracket, Before, Between, Choice, Index, After, FormTree, Plain, StringForm, OffsetForm, ArrayForm, StructForm, IntegralForm, UnionForm, FieldTrees, NoFields, FieldThen, FieldParts, DeclarationTree}
-use Rattle.pickle_syntax.specs.Tree as tree
+use Rattle.pickle_tree.specs.declared.tree.Infix.{Infix}
+use Rattle.pickle_tree.specs.declared.tree.Infix.TheVariants as infix_op
+use Rattle.pickle_tree.specs.Tree.{TreeSuffix, Select, InUnit, Convert, Tree, Literal, Name, Bracket, Before, Between, Choice, Index, After, FormTree, Plain, StringForm, OffsetForm, ArrayForm, StructForm, IntegralForm, UnionForm, FieldTrees, NoFields, FieldThen, FieldParts, DeclarationTree}
+use Rattle.pickle_tree.specs.Tree as tree
 
 -- an operator between two operands; all of these group to the left
 abbrev pub level : Infix → ℕ

@@ -17,4 +17,3 @@ pub mod Texts
 pub mod Numbers
 pub mod Lexing
 pub mod Pieces
-pub mod Tree

@@ -1,7 +1,7 @@
 -- How deep and how long the parts of a pickle may be.
 use Rattle.std.specs.Prelude.{ℕ, ◌+◌, ◌≤◌, ⊤, max, Option, Some, None, List, [], ◌∷◌, length}
-use Rattle.pickle_syntax.specs.Tree.{Tree, Literal, Name, Bracket, Before, Between, Choice, Index, After, FormTree, Plain, StringForm, OffsetForm, ArrayForm, StructForm, IntegralForm, UnionForm, FieldTrees, NoFields, FieldThen, FieldParts, DeclarationTree}
-use Rattle.pickle_syntax.specs.Tree as tree
+use Rattle.pickle_tree.specs.Tree.{Tree, Literal, Name, Bracket, Before, Between, Choice, Index, After, FormTree, Plain, StringForm, OffsetForm, ArrayForm, StructForm, IntegralForm, UnionForm, FieldTrees, NoFields, FieldThen, FieldParts, DeclarationTree}
+use Rattle.pickle_tree.specs.Tree as tree
 
 pub record Limits : Type 0 where
   -- how deep an expression may be, its brackets counted

@@ -6,7 +6,7 @@ use Rattle.pickle_syntax.specs.declared.lexer.bytes.Class.TheVariants as class
 use Rattle.pickle_syntax.specs.declared.lexer.fault.LexFaultKind.TheVariants.{BadNumber}
 use Rattle.pickle_syntax.specs.declared.lexer.numbers.Suffix.{Suffix}
 use Rattle.pickle_syntax.specs.declared.lexer.numbers.Found.{Found}
-use Rattle.pickle_syntax.specs.declared.token.Number.{Number}
+use Rattle.pickle_tree.specs.declared.tree.Number.{Number}
 
 -- the base that a prefix before a digit names, or 10
 abbrev pub base_of : List ℕ → ℕ

@@ -4,14 +4,14 @@ use Rattle.pickle_syntax.specs.declared.token.Word.{Word}
 use Rattle.pickle_syntax.specs.declared.token.Word.TheVariants as word
 use Rattle.pickle_syntax.specs.declared.token.Sign.{Sign}
 use Rattle.pickle_syntax.specs.declared.token.Sign.TheVariants as sign
-use Rattle.pickle_syntax.specs.declared.tree.Prefix.TheVariants as prefix
-use Rattle.pickle_syntax.specs.declared.tree.Infix.TheVariants as infix_op
+use Rattle.pickle_tree.specs.declared.tree.Prefix.TheVariants as prefix
+use Rattle.pickle_tree.specs.declared.tree.Infix.TheVariants as infix_op
 use Rattle.pickle_syntax.specs.declared.parser.operators.Start.{Start}
 use Rattle.pickle_syntax.specs.declared.parser.operators.Start.TheVariants as start
 use Rattle.pickle_syntax.specs.declared.parser.operators.Next.{Next}
 use Rattle.pickle_syntax.specs.declared.parser.operators.Next.TheVariants as next
 use Rattle.pickle_syntax.specs.Tokens.{Token, Reserved, Mark, AttributeOf}
-use Rattle.pickle_syntax.specs.Tree.{Tree}
+use Rattle.pickle_tree.specs.Tree.{Tree}
 use Rattle.pickle_syntax.specs.Levels.{level, level_of}
 
 abbrev pub start_of : Sign → Start

@@ -6,7 +6,7 @@ use Rattle.pickle_syntax.specs.declared.parser.fault.Stop.TheVariants as stop
 use Rattle.pickle_syntax.specs.declared.parser.fault.ParseFault.{ParseFault}
 use Rattle.pickle_syntax.specs.declared.parser.fault.ParseFault.TheVariants as fault
 use Rattle.pickle_syntax.specs.Tokens.{Token, Mark}
-use Rattle.pickle_syntax.specs.Tree.{DeclarationTree}
+use Rattle.pickle_tree.specs.Tree.{DeclarationTree}
 use Rattle.pickle_syntax.specs.Show.{show_pickle}
 use Rattle.pickle_syntax.specs.Levels.{IsPickleWellBracketed}
 use Rattle.pickle_syntax.specs.Limits.{standard, IsPickleWithin}

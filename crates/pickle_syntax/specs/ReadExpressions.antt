@@ -7,8 +7,8 @@ use Rattle.pickle_syntax.specs.declared.parser.operators.Next.{Next}
 use Rattle.pickle_syntax.specs.declared.parser.operators.Next.TheVariants as next
 use Rattle.pickle_syntax.specs.Tokens.{Token, Reserved, Named, Opens, Numeral, Mark}
 use Rattle.pickle_syntax.specs.Tokens as token
-use Rattle.pickle_syntax.specs.Tree.{Select, InUnit, Convert, Tree, Literal, Name, Bracket, Before, Between, Choice, Index, After}
-use Rattle.pickle_syntax.specs.Tree as tree
+use Rattle.pickle_tree.specs.Tree.{Select, InUnit, Convert, Tree, Literal, Name, Bracket, Before, Between, Choice, Index, After}
+use Rattle.pickle_tree.specs.Tree as tree
 use Rattle.pickle_syntax.specs.Levels.{level}
 use Rattle.pickle_syntax.specs.Limits.{depth}
 use Rattle.pickle_syntax.specs.Operators.{start_of, next_of, goes_on}

@@ -9,14 +9,14 @@ use Rattle.pickle_syntax.specs.declared.token.Opener.{Opener}
 use Rattle.pickle_syntax.specs.declared.token.Opener.TheVariants as opener
 use Rattle.pickle_syntax.specs.declared.token.Sign.{Sign}
 use Rattle.pickle_syntax.specs.declared.token.Sign.TheVariants as sign
-use Rattle.pickle_syntax.specs.declared.token.Number.{Number}
+use Rattle.pickle_tree.specs.declared.tree.Number.{Number}
 use Rattle.pickle_syntax.specs.declared.token.Kind.{Kind}
-use Rattle.pickle_syntax.specs.declared.tree.Unit.{Unit}
-use Rattle.pickle_syntax.specs.declared.tree.Unit.TheVariants as unit
+use Rattle.pickle_tree.specs.declared.tree.Unit.{Unit}
+use Rattle.pickle_tree.specs.declared.tree.Unit.TheVariants as unit
 use Rattle.pickle_syntax.specs.declared.parser.fault.Stop.{Stop}
 use Rattle.pickle_syntax.specs.declared.parser.fault.Stop.TheVariants as stop
 use Rattle.pickle_syntax.specs.Tokens.{Token, Reserved, Named, Opens, Numeral, Mark, tokens_of}
-use Rattle.pickle_syntax.specs.Tree.{TreeReference, Int, Uint, Called, TreeTarget, ToReference, ToOffset}
+use Rattle.pickle_tree.specs.Tree.{TreeReference, Int, Uint, Called, TreeTarget, ToReference, ToOffset}
 
 -- why nothing is read: no tree begins so, it is too deep, or it has too many parts
 pub data Fault : Type 0 where

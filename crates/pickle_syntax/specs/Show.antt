@@ -4,18 +4,18 @@ use Rattle.pickle_syntax.specs.declared.token.Word.TheVariants as word
 use Rattle.pickle_syntax.specs.declared.token.Opener.TheVariants as opener
 use Rattle.pickle_syntax.specs.declared.token.Sign.{Sign}
 use Rattle.pickle_syntax.specs.declared.token.Sign.TheVariants as sign
-use Rattle.pickle_syntax.specs.declared.tree.Prefix.{Prefix}
-use Rattle.pickle_syntax.specs.declared.tree.Prefix.TheVariants as prefix
-use Rattle.pickle_syntax.specs.declared.tree.Infix.{Infix}
-use Rattle.pickle_syntax.specs.declared.tree.Infix.TheVariants as infix_op
-use Rattle.pickle_syntax.specs.declared.tree.Unit.{Unit}
-use Rattle.pickle_syntax.specs.declared.tree.Unit.TheVariants as unit
-use Rattle.pickle_syntax.specs.declared.tree.ByteOrder.{ByteOrder}
-use Rattle.pickle_syntax.specs.declared.tree.ByteOrder.TheVariants as order
+use Rattle.pickle_tree.specs.declared.tree.Prefix.{Prefix}
+use Rattle.pickle_tree.specs.declared.tree.Prefix.TheVariants as prefix
+use Rattle.pickle_tree.specs.declared.tree.Infix.{Infix}
+use Rattle.pickle_tree.specs.declared.tree.Infix.TheVariants as infix_op
+use Rattle.pickle_tree.specs.declared.tree.Unit.{Unit}
+use Rattle.pickle_tree.specs.declared.tree.Unit.TheVariants as unit
+use Rattle.pickle_tree.specs.declared.tree.ByteOrder.{ByteOrder}
+use Rattle.pickle_tree.specs.declared.tree.ByteOrder.TheVariants as order
 use Rattle.pickle_syntax.specs.Tokens.{Token, Reserved, Named, Opens, Numeral, Mark}
 use Rattle.pickle_syntax.specs.Tokens as token
-use Rattle.pickle_syntax.specs.Tree.{TreeReference, Int, Uint, Called, TreeTarget, ToReference, ToOffset, TreeSuffix, Select, InUnit, Convert, Tree, Literal, Name, Bracket, Before, Between, Choice, Index, After, FormTree, Plain, StringForm, OffsetForm, ArrayForm, StructForm, IntegralForm, UnionForm, FieldTrees, NoFields, FieldThen, FieldParts, DeclarationTree}
-use Rattle.pickle_syntax.specs.Tree as tree
+use Rattle.pickle_tree.specs.Tree.{TreeReference, Int, Uint, Called, TreeTarget, ToReference, ToOffset, TreeSuffix, Select, InUnit, Convert, Tree, Literal, Name, Bracket, Before, Between, Choice, Index, After, FormTree, Plain, StringForm, OffsetForm, ArrayForm, StructForm, IntegralForm, UnionForm, FieldTrees, NoFields, FieldThen, FieldParts, DeclarationTree}
+use Rattle.pickle_tree.specs.Tree as tree
 
 -- ---- expressions
 

@@ -7,7 +7,7 @@ use Rattle.pickle_syntax.specs.Tokens as token
 use Rattle.pickle_syntax.specs.declared.lexer.fault.LexFaultKind.TheVariants.{BadByte, Unclosed}
 use Rattle.pickle_syntax.specs.declared.lexer.texts.Part.{Part}
 use Rattle.pickle_syntax.specs.declared.lexer.texts.Part.TheVariants.{Closes, Byte, Bad, Breaks}
-use Rattle.pickle_syntax.specs.declared.token.Attribute.{Attribute}
+use Rattle.pickle_tree.specs.declared.tree.Attribute.{Attribute}
 
 -- two hexadecimal digits: the byte that they write
 abbrev pub hex_pair : List ℕ → Part

@@ -2,9 +2,9 @@
 use Rattle.std.specs.Prelude.{ℕ, List, map}
 use Rattle.pickle_syntax.specs.declared.token.Word.{Word}
 use Rattle.pickle_syntax.specs.declared.token.Opener.{Opener}
-use Rattle.pickle_syntax.specs.declared.token.Attribute.{Attribute}
+use Rattle.pickle_tree.specs.declared.tree.Attribute.{Attribute}
 use Rattle.pickle_syntax.specs.declared.token.Sign.{Sign}
-use Rattle.pickle_syntax.specs.declared.token.Number.{Number}
+use Rattle.pickle_tree.specs.declared.tree.Number.{Number}
 use Rattle.pickle_syntax.specs.declared.token.Kind.{Kind}
 use Rattle.pickle_syntax.specs.declared.token.Kind.TheVariants as kind
 

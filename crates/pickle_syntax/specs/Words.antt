@@ -8,8 +8,8 @@ use Rattle.pickle_syntax.specs.declared.token.Word.{Word}
 use Rattle.pickle_syntax.specs.declared.token.Word.TheVariants as word
 use Rattle.pickle_syntax.specs.declared.token.Opener.{Opener}
 use Rattle.pickle_syntax.specs.declared.token.Opener.TheVariants as opener
-use Rattle.pickle_syntax.specs.declared.token.Attribute.{Attribute}
-use Rattle.pickle_syntax.specs.declared.token.Attribute.TheVariants as attribute
+use Rattle.pickle_tree.specs.declared.tree.Attribute.{Attribute}
+use Rattle.pickle_tree.specs.declared.tree.Attribute.TheVariants as attribute
 use Rattle.pickle_syntax.specs.Tokens.{Token, Reserved, Named, Opens, token_of}
 use Rattle.pickle_syntax.specs.Bytes.{is_in}
 

@@ -4,4 +4,5 @@
 pub mod lexer;
 pub mod parser;
 pub mod token;
-pub mod tree;
+
+pub use pickle_tree::tree;

@@ -1,5 +1,7 @@
 //! What the lexer finds.
 
+pub use pickle_tree::tree::{Attribute, Number};
+
 /// A reserved word.
 #[derive(Clone, Copy, PartialEq, Eq, Debug)]
 pub enum Word {
@@ -23,15 +25,6 @@ pub enum Opener {
     Uint,
     /// `offset<`
     Offset,
-}
-
-/// An attribute of a value.
-#[derive(Clone, Copy, PartialEq, Eq, Debug)]
-pub enum Attribute {
-    /// `'length`
-    Length,
-    /// `'size`
-    Size,
 }
 
 /// A sign.
@@ -71,14 +64,6 @@ pub enum Sign {
     ShiftRight,
     AndAnd,
     OrOr,
-}
-
-/// The value of a number, and its type: a width in bits and whether it has a sign.
-#[derive(Clone, Copy, PartialEq, Eq, Debug)]
-pub struct Number {
-    pub value: u64,
-    pub width: u8,
-    pub signed: bool,
 }
 
 /// A token, without its place. A name is a part of the pickle.

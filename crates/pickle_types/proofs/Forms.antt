@@ -1,10 +1,10 @@
 -- Forms that have no parts, as trees.
 use Rattle.std.proofs.Common.{◌≡◌, rules, ap, sym, ◌∙◌, Box, Global}
-use Rattle.pickle_syntax.specs.declared.tree.Unit.{Unit as PokeUnit}
-use Rattle.pickle_syntax.specs.declared.tree.Reference.{Reference}
-use Rattle.pickle_syntax.specs.declared.tree.Form.{the_lemmas}
-use Rattle.pickle_syntax.specs.declared.tree.Form.TheVariants as form
-use Rattle.pickle_syntax.specs.Tree.{Plain, StringForm, OffsetForm, reference_tree, form_tree}
+use Rattle.pickle_tree.specs.declared.tree.Unit.{Unit as PokeUnit}
+use Rattle.pickle_tree.specs.declared.tree.Reference.{Reference}
+use Rattle.pickle_tree.specs.declared.tree.Form.{the_lemmas}
+use Rattle.pickle_tree.specs.declared.tree.Form.TheVariants as form
+use Rattle.pickle_tree.specs.Tree.{Plain, StringForm, OffsetForm, reference_tree, form_tree}
 
 pub reference_form : (r : Reference) → form_tree (form.Reference r) ≡ Plain (reference_tree r)
 reference_form r = ap form_tree (sym (form.rolls-Reference r)) ∙ search (rules, the_lemmas)

@@ -1,7 +1,7 @@
 -- What a fault of the definitions says of the rules.
 use Rattle.std.proofs.Common.{List, refl}
 use Rattle.std.specs.Prelude.{◌≢◌}
-use Rattle.pickle_syntax.specs.Tree.{DeclarationTree}
+use Rattle.pickle_tree.specs.Tree.{DeclarationTree}
 use Rattle.pickle_types.specs.declared.fault.FaultKind.{FaultKind}
 use Rattle.pickle_types.specs.declared.fault.FaultKind.TheVariants.{Memory}
 use Rattle.pickle_types.specs.Names.{predeclared}

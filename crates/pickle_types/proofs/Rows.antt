@@ -1,13 +1,13 @@
 -- What the definitions say of small pickles.
 use Rattle.std.proofs.Common.{◌≡◌, ℕ, ◌^◌, List, [], ◌∷◌, Option, Some, None, Result, Ok, Err, true, false, refl, sym, ap, ◌∙◌, ◌+◌, ◌<◌, length, arith}
 use Rattle.std.specs.Prelude.{codes}
-use Rattle.pickle_syntax.specs.declared.token.Number.{Number}
-use Rattle.pickle_syntax.specs.declared.token.Attribute.TheVariants.{Length}
-use Rattle.pickle_syntax.specs.declared.tree.ByteOrder.TheVariants.{Big}
-use Rattle.pickle_syntax.specs.declared.tree.Infix.TheVariants.{Equal, NotEqual, Add}
-use Rattle.pickle_syntax.specs.declared.tree.Unit.TheVariants.{Byte, Bits}
-use Rattle.pickle_syntax.specs.Tree.{Tree, TreeReference, Int, Uint, Called, FieldParts, FormTree, Plain, StringForm, OffsetForm, ArrayForm, StructForm, IntegralForm, UnionForm, FieldTrees, DeclarationTree}
-use Rattle.pickle_syntax.specs.Tree as tree
+use Rattle.pickle_tree.specs.declared.tree.Number.{Number}
+use Rattle.pickle_tree.specs.declared.tree.Attribute.TheVariants.{Length}
+use Rattle.pickle_tree.specs.declared.tree.ByteOrder.TheVariants.{Big}
+use Rattle.pickle_tree.specs.declared.tree.Infix.TheVariants.{Equal, NotEqual, Add}
+use Rattle.pickle_tree.specs.declared.tree.Unit.TheVariants.{Byte, Bits}
+use Rattle.pickle_tree.specs.Tree.{Tree, TreeReference, Int, Uint, Called, FieldParts, FormTree, Plain, StringForm, OffsetForm, ArrayForm, StructForm, IntegralForm, UnionForm, FieldTrees, DeclarationTree}
+use Rattle.pickle_tree.specs.Tree as tree
 use Rattle.pickle_types.specs.declared.fault.FaultKind.{FaultKind}
 use Rattle.pickle_types.specs.declared.fault.FaultKind.TheVariants.{UnknownType, DuplicateType, UnknownName, DuplicateField, Mismatch, Width, IntegralWidths, NotHere}
 use Rattle.pickle_types.specs.Types.{PokeType, depth}

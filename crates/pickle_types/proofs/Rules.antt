@@ -4,16 +4,16 @@ use Rattle.std.specs.Prelude.{IfOk, nat_le, nat_eq, ◌&&◌, if◌then◌else�
 use Rattle.std.specs.Int.{IsGcd}
 use Rattle.std.proofs.lemmas.Bool.{and_parts, leb-true, le-leb, ltb-true, lt-ltb, eq-eqb}
 use Rattle.std.proofs.lemmas.Nat.Gcd.{IsGcd-from_zero, IsGcd-from_mod, same_from_IsGcd}
-use Rattle.pickle_syntax.specs.declared.token.Number.{Number as Numeral}
-use Rattle.pickle_syntax.specs.declared.token.Attribute.TheVariants.{Length, Size}
-use Rattle.pickle_syntax.specs.declared.tree.Prefix.{Prefix}
-use Rattle.pickle_syntax.specs.declared.tree.Prefix.TheVariants.{Plus, Minus, Complement, Not}
-use Rattle.pickle_syntax.specs.declared.tree.Infix.{Infix}
-use Rattle.pickle_syntax.specs.declared.tree.Infix.TheVariants.{LogicalOr, LogicalAnd, BitOr, BitXor, BitAnd, Equal, NotEqual, Less, LessEqual, Greater, GreaterEqual, ShiftLeft, ShiftRight, Add, Subtract, Multiply, Divide, Remainder}
-use Rattle.pickle_syntax.specs.declared.tree.Unit.{Unit as PokeUnit}
-use Rattle.pickle_syntax.specs.declared.tree.Unit.TheVariants as unit
-use Rattle.pickle_syntax.specs.Tree.{Tree, TreeReference, Int, Uint, Called, TreeTarget, ToReference, TreeSuffix}
-use Rattle.pickle_syntax.specs.Tree as tree
+use Rattle.pickle_tree.specs.declared.tree.Number.{Number as Numeral}
+use Rattle.pickle_tree.specs.declared.tree.Attribute.TheVariants.{Length, Size}
+use Rattle.pickle_tree.specs.declared.tree.Prefix.{Prefix}
+use Rattle.pickle_tree.specs.declared.tree.Prefix.TheVariants.{Plus, Minus, Complement, Not}
+use Rattle.pickle_tree.specs.declared.tree.Infix.{Infix}
+use Rattle.pickle_tree.specs.declared.tree.Infix.TheVariants.{LogicalOr, LogicalAnd, BitOr, BitXor, BitAnd, Equal, NotEqual, Less, LessEqual, Greater, GreaterEqual, ShiftLeft, ShiftRight, Add, Subtract, Multiply, Divide, Remainder}
+use Rattle.pickle_tree.specs.declared.tree.Unit.{Unit as PokeUnit}
+use Rattle.pickle_tree.specs.declared.tree.Unit.TheVariants as unit
+use Rattle.pickle_tree.specs.Tree.{Tree, TreeReference, Int, Uint, Called, TreeTarget, ToReference, TreeSuffix}
+use Rattle.pickle_tree.specs.Tree as tree
 use Rattle.pickle_types.specs.declared.integer.IntegerType.{IntegerType}
 use Rattle.pickle_types.specs.declared.fault.FaultKind.{FaultKind}
 use Rattle.pickle_types.specs.declared.fault.FaultKind.TheVariants.{UnknownType, UnknownName, Mismatch, Width}

@@ -1,6 +1,6 @@
 -- The first wrong declaration, found as the declarations are gone through.
 use Rattle.std.proofs.Common.{◌≡◌, ℕ, ◌+◌, List, [], ◌∷◌, ◌++◌, Option, Some, Ok, refl}
-use Rattle.pickle_syntax.specs.Tree.{DeclarationTree}
+use Rattle.pickle_tree.specs.Tree.{DeclarationTree}
 use Rattle.pickle_types.specs.declared.fault.FaultKind.{FaultKind}
 use Rattle.pickle_types.specs.declared.fault.FaultKind.TheVariants.{Memory}
 use Rattle.pickle_types.specs.Types.{PokeType}

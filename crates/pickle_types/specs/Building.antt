@@ -1,7 +1,7 @@
 -- What a builder of types has built.
 use Rattle.std.specs.Prelude.{◌≡◌, ℕ, ◌+◌, ◌<◌, length, List, [], ◌∷◌, ◌++◌, take, Option, Some, None, Result, Ok, Err, Bool, true, false, ◌&&◌, nat_le}
 use denote.Bor.{Bor}
-use Rattle.pickle_syntax.specs.Tree.{FieldParts}
+use Rattle.pickle_tree.specs.Tree.{FieldParts}
 use Rattle.pickle_types.specs.declared.integer.IntegerType.{IntegerType}
 use Rattle.pickle_types.specs.declared.fault.FaultKind.{FaultKind}
 use Rattle.pickle_types.specs.declared.table.Field.{Field}

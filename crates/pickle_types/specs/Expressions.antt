@@ -1,13 +1,13 @@
 -- The type of an expression, with its names resolved; or what is wrong with it.
 use Rattle.std.specs.Prelude.{ℕ, ◌+◌, ◌-◌, ◌^◌, List, Option, Some, None, Result, Ok, Err, Bool, true, false, ◌&&◌, nat_le, nat_lt, if◌then◌else◌}
-use Rattle.pickle_syntax.specs.declared.token.Number.{Number as Numeral}
-use Rattle.pickle_syntax.specs.declared.token.Attribute.TheVariants.{Length, Size}
-use Rattle.pickle_syntax.specs.declared.tree.Prefix.{Prefix}
-use Rattle.pickle_syntax.specs.declared.tree.Infix.{Infix}
-use Rattle.pickle_syntax.specs.declared.tree.Unit.{Unit as PokeUnit}
-use Rattle.pickle_syntax.specs.declared.tree.Unit.TheVariants as unit
-use Rattle.pickle_syntax.specs.Tree.{Tree, TreeReference, Int, Uint, Called, TreeTarget, ToReference, TreeSuffix}
-use Rattle.pickle_syntax.specs.Tree as tree
+use Rattle.pickle_tree.specs.declared.tree.Number.{Number as Numeral}
+use Rattle.pickle_tree.specs.declared.tree.Attribute.TheVariants.{Length, Size}
+use Rattle.pickle_tree.specs.declared.tree.Prefix.{Prefix}
+use Rattle.pickle_tree.specs.declared.tree.Infix.{Infix}
+use Rattle.pickle_tree.specs.declared.tree.Unit.{Unit as PokeUnit}
+use Rattle.pickle_tree.specs.declared.tree.Unit.TheVariants as unit
+use Rattle.pickle_tree.specs.Tree.{Tree, TreeReference, Int, Uint, Called, TreeTarget, ToReference, TreeSuffix}
+use Rattle.pickle_tree.specs.Tree as tree
 use Rattle.pickle_types.specs.declared.integer.IntegerType.{IntegerType}
 use Rattle.pickle_types.specs.declared.fault.FaultKind.{FaultKind}
 use Rattle.pickle_types.specs.declared.fault.FaultKind.TheVariants.{UnknownType, UnknownName, Mismatch, Width}

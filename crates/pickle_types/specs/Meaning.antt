@@ -1,8 +1,8 @@
 -- The type that a form means, and the types that a pickle declares; or what is wrong with them.
 use Rattle.std.specs.Prelude.{ℕ, zero, suc, ◌+◌, length, List, [], ◌∷◌, ◌++◌, Option, Some, None, Result, Ok, Err, Bool, true, false, ◌&&◌, ◌||◌, nat_le, nat_eq, if◌then◌else◌}
-use Rattle.pickle_syntax.specs.declared.tree.Unit.{Unit as PokeUnit}
-use Rattle.pickle_syntax.specs.Tree.{Tree, TreeReference, Int, Uint, Called, FieldParts, FormTree, Plain, StringForm, OffsetForm, ArrayForm, StructForm, IntegralForm, UnionForm, FieldTrees, DeclarationTree}
-use Rattle.pickle_syntax.specs.Tree as tree
+use Rattle.pickle_tree.specs.declared.tree.Unit.{Unit as PokeUnit}
+use Rattle.pickle_tree.specs.Tree.{Tree, TreeReference, Int, Uint, Called, FieldParts, FormTree, Plain, StringForm, OffsetForm, ArrayForm, StructForm, IntegralForm, UnionForm, FieldTrees, DeclarationTree}
+use Rattle.pickle_tree.specs.Tree as tree
 use Rattle.pickle_types.specs.declared.integer.IntegerType.{IntegerType}
 use Rattle.pickle_types.specs.declared.fault.FaultKind.{FaultKind}
 use Rattle.pickle_types.specs.declared.fault.FaultKind.TheVariants.{UnknownType, DuplicateType, DuplicateField, Mismatch, IntegralWidths, NotHere, TooDeep}

@@ -1,9 +1,9 @@
 -- What operators make of the types of their operands.
 use Rattle.std.specs.Prelude.{ℕ, zero, suc, ◌%◌, max, Bool, true, false, ◌&&◌, nat_eq, if◌then◌else◌, Option, Some, None}
-use Rattle.pickle_syntax.specs.declared.tree.Prefix.{Prefix}
-use Rattle.pickle_syntax.specs.declared.tree.Prefix.TheVariants as prefix
-use Rattle.pickle_syntax.specs.declared.tree.Infix.{Infix}
-use Rattle.pickle_syntax.specs.declared.tree.Infix.TheVariants as operator
+use Rattle.pickle_tree.specs.declared.tree.Prefix.{Prefix}
+use Rattle.pickle_tree.specs.declared.tree.Prefix.TheVariants as prefix
+use Rattle.pickle_tree.specs.declared.tree.Infix.{Infix}
+use Rattle.pickle_tree.specs.declared.tree.Infix.TheVariants as operator
 use Rattle.pickle_types.specs.declared.integer.IntegerType.{IntegerType}
 use Rattle.pickle_types.specs.declared.check.operators.Scalar.{Scalar}
 use Rattle.pickle_types.specs.declared.check.operators.Scalar.TheVariants.{Integer, Offset}

@@ -1,6 +1,6 @@
 -- What a table of types holds.
 use Rattle.std.specs.Prelude.{◌≡◌, ℕ, ◌<◌, length, List, Option, Some, None}
-use Rattle.pickle_syntax.specs.Tree.{DeclarationTree}
+use Rattle.pickle_tree.specs.Tree.{DeclarationTree}
 use Rattle.pickle_types.specs.declared.table.Node.{Node}
 use Rattle.pickle_types.specs.declared.type_table.Table.{Table}
 use Rattle.pickle_types.specs.declared.type_table.TypeId.{TypeId}

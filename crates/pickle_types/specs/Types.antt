@@ -1,9 +1,9 @@
 -- Types as finite trees: named types are opened, and each name in an expression is replaced by what it means.
 use Rattle.std.specs.Prelude.{ℕ, ◌+◌, max, length, Bool, List, Option, Some, None}
-use Rattle.pickle_syntax.specs.declared.token.Attribute.{Attribute}
-use Rattle.pickle_syntax.specs.declared.tree.Prefix.{Prefix}
-use Rattle.pickle_syntax.specs.declared.tree.Infix.{Infix}
-use Rattle.pickle_syntax.specs.declared.tree.ByteOrder.{ByteOrder}
+use Rattle.pickle_tree.specs.declared.tree.Attribute.{Attribute}
+use Rattle.pickle_tree.specs.declared.tree.Prefix.{Prefix}
+use Rattle.pickle_tree.specs.declared.tree.Infix.{Infix}
+use Rattle.pickle_tree.specs.declared.tree.ByteOrder.{ByteOrder}
 use Rattle.pickle_types.specs.declared.integer.IntegerType.{IntegerType}
 
 -- An expression with its names resolved. A name is an open level, counted from the innermost, and a place in it;

@@ -1,6 +1,6 @@
 -- Which declaration of a pickle is wrong first, counted from 1.
 use Rattle.std.specs.Prelude.{◌≡◌, ℕ, ◌+◌, List, [], ◌∷◌, ◌++◌, Option, Some, None, Result, Ok, Err}
-use Rattle.pickle_syntax.specs.Tree.{DeclarationTree}
+use Rattle.pickle_tree.specs.Tree.{DeclarationTree}
 use Rattle.pickle_types.specs.declared.fault.FaultKind.{FaultKind}
 use Rattle.pickle_types.specs.declared.fault.FaultKind.TheVariants.{Memory}
 use Rattle.pickle_types.specs.Types.{PokeType}

@@ -2,7 +2,7 @@
 
 ghost use Rattle.std.specs.Int.{IsGcd};
 ghost use Rattle.std.specs.Prelude.{◌≡◌, ℕ, List, Ok};
-ghost use Rattle.pickle_syntax.specs.Tree.{DeclarationTree};
+ghost use Rattle.pickle_tree.specs.Tree.{DeclarationTree};
 ghost use Rattle.pickle_types.specs.Names.{Names};
 ghost use Rattle.pickle_types.specs.Meaning.{declared};
 ghost use Rattle.pickle_types.specs.Operators.{greatest_divisor};

@@ -2,8 +2,7 @@
 
 use crate::integer::IntegerType;
 use crate::name::Name;
-use pickle_syntax::token::Attribute;
-use pickle_syntax::tree::{ByteOrder, Infix, Prefix};
+use pickle_tree::tree::{Attribute, ByteOrder, Infix, Prefix};
 
 /// How many nodes a table has at most: a store of mapped values tells them by 32 bits.
 /// No pickle of 1 MiB comes near it.

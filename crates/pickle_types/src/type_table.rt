@@ -1,7 +1,7 @@
 //! The types of a pickle, found by their names.
 
 ghost use Rattle.std.specs.Prelude.{◌≡◌, ◌≢◌, ◌+◌, ◌^◌, ◌<◌, ◌≤◌, ℕ, List, [], ◌∷◌, ◌++◌, length, map, None, Some, Ok, IfOk, IfErr, IfSome, OnOk, IsTrue, ◌↔◌};
-ghost use Rattle.pickle_syntax.specs.Tree.{declaration_tree, pickle_tree};
+ghost use Rattle.pickle_tree.specs.Tree.{declaration_tree, pickle_tree};
 ghost use Rattle.pickle_types.specs.Types;
 ghost use Rattle.pickle_types.specs.Types.{IntegerOf};
 ghost use Rattle.pickle_types.specs.Table.{type_of, IsWidth, IsTable};
@@ -23,7 +23,7 @@ use crate::names::{Declared, Named, Names, find_listed, find_name};
 use crate::predeclared::PREDECLARED;
 use crate::scopes::Scopes;
 use crate::table::{Node, Shape};
-use pickle_syntax::tree::{Declaration, Pickle};
+use pickle_tree::tree::{Declaration, Pickle};
 use std::alloc::Global;
 
 impl<'n> Builder<'n> {

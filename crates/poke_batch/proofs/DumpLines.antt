@@ -15,7 +15,7 @@ use Rattle.std.proofs.lemmas.Int.Digits.{digits_of_step, length-digits_of-le, nu
 use Rattle.std.proofs.lemmas.Nat.{shr-shr, and_mask, pow-add, div_below}
 use Rattle.std.proofs.Math.Nat.{pow-suc, pow-le-pow_right, one-le-pow, div-one, min-eq_left, min-eq_right}
 use Rattle.poke_batch.specs.DumpText.{place_text, gap, column, columns, shown, line_text, lines_text}
-use Rattle.value_text.specs.HexDigits.{hex_digit}
+use Rattle.text_forms.specs.HexDigits.{hex_digit}
 
 -- the last `count` hexadecimal digits of n
 unfoldable pub hex_digits : ℕ → ℕ → List ℕ

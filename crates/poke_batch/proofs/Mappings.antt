@@ -4,7 +4,7 @@ use Rattle.std.proofs.lemmas.Option.{same_Some}
 use Rattle.bit_space.specs.declared.order.Order.{Order}
 use Rattle.bit_space.specs.Bits.{bits_of}
 use Rattle.bit_space.specs.SpaceView.{SpaceView, HasRisen}
-use Rattle.pickle_syntax.specs.Tree.{DeclarationTree}
+use Rattle.pickle_tree.specs.Tree.{DeclarationTree}
 use Rattle.pickle_types.specs.declared.table.Node.{Node}
 use Rattle.pickle_types.specs.Bounds.{cost}
 use Rattle.pickle_types.specs.Names.{Names, find_type}

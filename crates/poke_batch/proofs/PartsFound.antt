@@ -3,7 +3,7 @@ use Rattle.std.proofs.Common.{◌≡◌, ◌∙◌, ℕ, zero, suc, ◌+◌, ◌
 use Rattle.pickle_map.specs.Labels.{member_name}
 use Rattle.pickle_map.specs.Values.{Label, Value}
 use Rattle.command_words.specs.declared.path.Step.{Step}
-use Rattle.command_words.specs.Paths.{is_named, place_named, step_to, part_from, part_of}
+use Rattle.poke_batch.specs.PathParts.{is_named, place_named, step_to, part_from, part_of}
 
 named_first : (name : List ℕ) (label : Label) (more place : ℕ) → is_named name (member_name label place) ≡ true
     → place_named name label (suc more) place ≡ Some place

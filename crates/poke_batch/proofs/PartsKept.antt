@@ -4,7 +4,7 @@ use Rattle.pickle_map.specs.Values.{Value, member_at, members_of}
 use Rattle.command_words.specs.declared.path.Path.{Path}
 use Rattle.command_words.specs.declared.path.Step.{Step}
 use Rattle.command_words.specs.declared.path.Step.TheVariants.{Field, Place, Element}
-use Rattle.command_words.specs.Paths.{member_if, member_there, step_to, part_from, part_at}
+use Rattle.poke_batch.specs.PathParts.{member_if, member_there, step_to, part_from, part_at}
 
 pub same_value : (value part : Value) → Some value ≡ Some part → value ≡ part
 same_value value part e = cc

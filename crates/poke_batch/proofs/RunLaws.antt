@@ -8,7 +8,7 @@ use Rattle.pickle_map.specs.Fits.{Fits}
 use Rattle.pickle_map.specs.Values.{Value, Mapped, Members, NoMembers, MemberThen, AbsentThen, member_at, members_of, end_of, no_values}
 use Rattle.poke_batch.specs.declared.accept.Refusal.TheVariants as refusal
 use Rattle.command_words.specs.declared.ask.Ask.{Ask}
-use Rattle.value_text.specs.declared.mode.Mode.TheVariants.{Json}
+use Rattle.text_forms.specs.declared.mode.Mode.TheVariants.{Json}
 use Rattle.command_words.specs.declared.path.Path.{Path}
 use Rattle.poke_batch.specs.declared.status.Status.{Status}
 use Rattle.poke_batch.specs.declared.status.Status.TheVariants.{Done, Fault, Refused, Outside}
@@ -16,7 +16,7 @@ use Rattle.command_words.specs.declared.terms.Terms.{Terms}
 use Rattle.value_text.specs.Json.{Reads}
 use Rattle.value_text.specs.JsonValue.{json_of}
 use Rattle.poke_batch.specs.Lines.{fault_at_line}
-use Rattle.command_words.specs.Paths.{part_at}
+use Rattle.poke_batch.specs.PathParts.{part_at}
 use Rattle.value_text.specs.Printed.{printed}
 use Rattle.poke_batch.specs.RunLaws.{MappedPartsAreSmall, WritesJson, MappedJsonReadsBack, PartJsonReadsBack}
 use Rattle.poke_batch.specs.Runs.{IsAsked, HasAnswer, MapsAs, value, stops, device, unknown, refused_map, no_memory}

@@ -8,7 +8,7 @@ use Rattle.poke_batch.specs.declared.status.Status.TheVariants.{Done, Outside}
 use Rattle.value_text.specs.declared.write.WriteFault.{WriteFault}
 use Rattle.poke_batch.specs.Lines.{fault_line}
 use Rattle.value_text.specs.Written.{AppendsPart}
-use Rattle.pickle_syntax.specs.Tree.{DeclarationTree}
+use Rattle.pickle_tree.specs.Tree.{DeclarationTree}
 use Rattle.pickle_types.specs.Names.{Names}
 use Rattle.poke_batch.specs.Accepted.{IsAccepted}
 use Rattle.poke_batch.specs.Runs.{ChecksAs, accepted, types_text}

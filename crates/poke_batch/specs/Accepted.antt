@@ -1,7 +1,7 @@
 -- When bytes are a pickle whose types are well formed, and how they are refused.
 use Rattle.std.specs.Prelude.{◌≡◌, ◌≢◌, ℕ, ◌≤◌, List, Option, Some, None, Ok, Err, length, slice_get, codes}
 use Rattle.pickle_syntax.specs.Tokens.{Token}
-use Rattle.pickle_syntax.specs.Tree.{DeclarationTree}
+use Rattle.pickle_tree.specs.Tree.{DeclarationTree}
 use Rattle.pickle_syntax.specs.Lexing.{lexed}
 use Rattle.pickle_syntax.specs.Limits.{standard}
 use Rattle.pickle_syntax.specs.Pickles.{IsPickle, IsPickleOf}

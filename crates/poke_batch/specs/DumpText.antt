@@ -2,7 +2,7 @@
 use Rattle.std.specs.Prelude.{ℕ, ◌+◌, ◌-◌, ◌*◌, ◌/◌, ◌%◌, Bool, List, [], ◌∷◌, ◌++◌, Option, None, Some, ◌==◌, ◌&&◌, nat_le, length, take, drop, map, replicate, slice_get, if◌then◌else◌, codes}
 use Rattle.std.specs.List.{flat_map, range_with_len}
 use Rattle.std.specs.Int.Digits.{digits_of}
-use Rattle.value_text.specs.HexDigits.{hex_digit}
+use Rattle.text_forms.specs.HexDigits.{hex_digit}
 
 -- hexadecimal digits of a place, after the zeros that make them eight, if they are fewer
 unfoldable pub place_text : ℕ → List ℕ

@@ -10,7 +10,7 @@ pub mod Runs
 pub mod RunsUnder
 pub mod Accepted
 pub mod RunLaws
-pub use Rattle.value_text.specs.HexDigits
+pub use Rattle.text_forms.specs.HexDigits
 pub use Rattle.value_text.specs.ValueText
 pub use Rattle.value_text.specs.TreeText
 pub use Rattle.value_text.specs.LineText
@@ -32,5 +32,6 @@ pub use Rattle.command_words.specs.OffsetWord
 pub use Rattle.command_words.specs.WordText
 pub use Rattle.command_words.specs.Words
 pub use Rattle.command_words.specs.Paths
+pub mod PathParts
 pub use Rattle.value_text.specs.JsonValue
 pub use Rattle.value_text.specs.SmallParts

@@ -6,14 +6,14 @@ use Rattle.pickle_types.specs.Types.{PokeType}
 use Rattle.pickle_map.specs.Fits.{Fits}
 use Rattle.pickle_map.specs.Values.{Value, Levels, no_values}
 use Rattle.command_words.specs.declared.ask.Ask.{Ask}
-use Rattle.value_text.specs.declared.mode.Mode.TheVariants.{Json}
+use Rattle.text_forms.specs.declared.mode.Mode.TheVariants.{Json}
 use Rattle.command_words.specs.declared.path.Path.{Path}
 use Rattle.poke_batch.specs.declared.status.Status.{Status}
 use Rattle.poke_batch.specs.declared.status.Status.TheVariants.{Done}
 use Rattle.command_words.specs.declared.terms.Terms.{Terms}
 use Rattle.value_text.specs.Json.{Reads}
 use Rattle.value_text.specs.JsonValue.{json_of}
-use Rattle.command_words.specs.Paths.{part_at}
+use Rattle.poke_batch.specs.PathParts.{part_at}
 use Rattle.poke_batch.specs.Runs.{IsAsked, HasAnswer, MapsAs}
 use Rattle.poke_batch.specs.RunsUnder.{MapsUnder}
 use Rattle.value_text.specs.SmallParts.{HasSmallParts}

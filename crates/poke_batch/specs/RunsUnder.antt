@@ -15,7 +15,7 @@ use Rattle.poke_batch.specs.declared.status.Status.{Status}
 use Rattle.poke_batch.specs.declared.status.Status.TheVariants.{Fault, Outside}
 use Rattle.command_words.specs.declared.terms.Terms.{Terms}
 use Rattle.poke_batch.specs.Lines.{fault_line, fault_at_line}
-use Rattle.command_words.specs.Paths.{part_at}
+use Rattle.poke_batch.specs.PathParts.{part_at}
 use Rattle.value_text.specs.Printed.{printed}
 use Rattle.poke_batch.specs.Runs.{HasAnswer, IsAsked, MapsAs}
 use Rattle.poke_batch.specs.Told.{Saying, Text, Line}

@@ -1,7 +1,7 @@
 -- What a run has to say of the types that a pickle declares.
 use Rattle.std.specs.Prelude.{ℕ, List, ◌++◌, Option, Some, None, codes, decimal, map}
 use Rattle.std.specs.List.{flat_map}
-use Rattle.pickle_syntax.specs.Tree.{DeclarationTree}
+use Rattle.pickle_tree.specs.Tree.{DeclarationTree}
 use Rattle.pickle_types.specs.Names.{Names}
 use Rattle.pickle_types.specs.DeclaredTypes.{Told, told_of, told_as, declared_in}
 use Rattle.pickle_types.specs.declared.declared_types.DeclaredType.{DeclaredType}

@@ -11,7 +11,7 @@ use Rattle.poke_batch.specs.declared.status.Status.{Status}
 use Rattle.poke_batch.specs.declared.status.Status.TheVariants.{Fault}
 use Rattle.command_words.specs.declared.terms.Terms.{Terms}
 use Rattle.poke_batch.specs.Lines.{fault_at_line}
-use Rattle.command_words.specs.Paths.{part_at}
+use Rattle.poke_batch.specs.PathParts.{part_at}
 use Rattle.value_text.specs.Printed.{printed}
 use Rattle.poke_batch.specs.Runs.{IsAsked}
 use Rattle.poke_batch.specs.RunsUnder.{text_saying, is_left, part_saying, kept_saying, value_saying, MapsUnder, mapped_under, ended_under, slots_under}

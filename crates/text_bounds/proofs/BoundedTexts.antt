@@ -4,7 +4,7 @@ use Rattle.bit_space.specs.SpaceView.{SpaceView}
 use Rattle.pickle_map.proofs.OnBits.{outcomes_fit}
 use Rattle.poke_batch.specs.declared.accept.Refusal.TheVariants as refusal
 use Rattle.command_words.specs.declared.ask.Ask.{Ask}
-use Rattle.value_text.specs.declared.mode.Mode.TheVariants.{Flat, Tree, Json, Lines}
+use Rattle.text_forms.specs.declared.mode.Mode.TheVariants.{Flat, Tree, Json, Lines}
 use Rattle.poke_batch.specs.declared.status.Status.{Status}
 use Rattle.text_bounds.specs.OutputRoom.{GrowsWithin, OutputIsBounded}
 use Rattle.value_text.specs.Printed.{printed}

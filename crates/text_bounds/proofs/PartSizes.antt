@@ -1,10 +1,10 @@
 -- A part of a value is no larger than the value.
 use Rattle.std.proofs.Common.{◌≡◌, ℕ, zero, suc, ◌+◌, ◌-◌, ◌≤◌, Option, Some, ap, arith}
 use Rattle.pickle_map.specs.Values.{Label, Value, Mapped, Members, NoMembers, MemberThen, AbsentThen, member_at, member_count, members_of}
-use Rattle.value_text.specs.declared.mode.Mode.{Mode}
-use Rattle.value_text.specs.declared.mode.Mode.TheVariants.{Flat, Tree, Json, Lines}
+use Rattle.text_forms.specs.declared.mode.Mode.{Mode}
+use Rattle.text_forms.specs.declared.mode.Mode.TheVariants.{Flat, Tree, Json, Lines}
 use Rattle.command_words.specs.declared.path.Path.{Path}
-use Rattle.command_words.specs.Paths.{part_at}
+use Rattle.poke_batch.specs.PathParts.{part_at}
 use Rattle.poke_batch.proofs.PartsKept.{part_keeps}
 use Rattle.text_bounds.specs.TextRoom.{joined, line_room}
 use Rattle.text_bounds.proofs.Sizes.{own_room, size_in, members_in}

@@ -7,10 +7,11 @@ use Rattle.pickle_map.specs.declared.value.Kind.{Kind}
 use Rattle.pickle_map.specs.declared.value.Kind.TheVariants.{Integer, Offset, Text, Array, Struct, Union}
 use Rattle.pickle_map.specs.Values.{Naming, Label, IntegerLabel, OffsetLabel, TextLabel, ArrayLabel, StructLabel, UnionLabel, Value, Mapped, Members, NoMembers, MemberThen, AbsentThen, member_count, start_of, end_of}
 use Rattle.pickle_map.specs.Labels.{kind_of, member_name}
-use Rattle.value_text.specs.declared.mode.Mode.{Mode}
-use Rattle.value_text.specs.declared.mode.Mode.TheVariants.{Flat, Tree, Json, Lines}
+use Rattle.text_forms.specs.declared.mode.Mode.{Mode}
+use Rattle.text_forms.specs.declared.mode.Mode.TheVariants.{Flat, Tree, Json, Lines}
 use Rattle.poke_batch.specs.ValueText.{integer_text, offset_text, string_text, title_text, name_text, comma, value_text, members_text}
-use Rattle.poke_batch.specs.TreeText.{in_brackets, indent_text, prefix_text, head_text, line_text, has_parts, lines_text, parts_text}
+use Rattle.text_forms.specs.Brackets.{in_brackets}
+use Rattle.poke_batch.specs.TreeText.{indent_text, prefix_text, head_text, line_text, has_parts, lines_text, parts_text}
 use Rattle.poke_batch.specs.JsonText.{json_string, json_offset, key_text, key_before, no_key, json_text, json_members}
 use Rattle.poke_batch.specs.PathText.{field_step, step_text, path_text}
 use Rattle.poke_batch.specs.LinesText.{bits_cell, place_cells, text_cell, leaf_line, any_present, is_parted, leaves_text, branches_text, part_lines}

@@ -15,11 +15,11 @@ use Rattle.pickle_map.specs.Arithmetic.{with_sign}
 use Rattle.pickle_map.specs.Means.{field_names, part_names, integer_value, offset_value, array_value, struct_value, Taken, union_value}
 use Rattle.pickle_map.specs.Fits.{ElementsFit, no_more_fit, one_more_fits, FitsNumber, DigitsFit, Fits, FieldsFit, AlternativeFits}
 use Rattle.pickle_map.proofs.Fitting.{fits_wide, fits_inside}
-use Rattle.value_text.specs.declared.mode.Mode.{Mode}
-use Rattle.value_text.specs.declared.mode.Mode.TheVariants.{Flat, Tree, Json, Lines}
+use Rattle.text_forms.specs.declared.mode.Mode.{Mode}
+use Rattle.text_forms.specs.declared.mode.Mode.TheVariants.{Flat, Tree, Json, Lines}
 use Rattle.poke_batch.specs.ValueText.{spelled_byte, spelled, escape_text, is_plain, string_text}
 use Rattle.poke_batch.specs.JsonText.{json_escape, json_string}
-use Rattle.poke_batch.specs.TreeText.{in_brackets}
+use Rattle.text_forms.specs.Brackets.{in_brackets}
 use Rattle.text_bounds.specs.TextRoom
 use Rattle.text_bounds.specs.TextRoom.{Size, integer_room, offset_room, string_room, array_room, titled_room, line_room, element_before, element_moves, field_before, field_moves, joined, with_parts, moved, no_size, both, greater, repeated, array_size, size_of, fields_size, parts_size, greatest_size}
 use Rattle.text_bounds.proofs.NumberLengths.{decimal_longer, number_longest, integer_longest, offset_longest, json_offset_longest}

@@ -12,13 +12,13 @@ use Rattle.pickle_types.specs.declared.table.Shape.{Shape}
 use Rattle.pickle_types.specs.declared.table.Shape.TheVariants as shape
 use Rattle.pickle_types.specs.declared.table.Node.{Node}
 use Rattle.pickle_types.specs.Sound.{IsWidth}
-use Rattle.pickle_syntax.specs.declared.tree.ByteOrder.{ByteOrder}
+use Rattle.pickle_tree.specs.declared.tree.ByteOrder.{ByteOrder}
 use Rattle.pickle_types.specs.Bounds.{least_width, least_of_widths}
 use Rattle.pickle_types.specs.Holds.{HoldsWidth, is_none}
 use Rattle.pickle_types.specs.Types.{Term, Parts, PokeType, FieldThen, NoFields, PartThen, NoParts}
 use Rattle.pickle_types.specs.Table.{type_of, open_shape, open_fields, open_parts, name_of, optional_term, IsTable, NamesBelow}
 use Rattle.pickle_types.proofs.Tables.{opens, node_at}
-use Rattle.value_text.specs.declared.mode.Mode.{Mode}
+use Rattle.text_forms.specs.declared.mode.Mode.{Mode}
 use Rattle.text_bounds.specs.declared.fields.NodeSize.{NodeSize}
 use Rattle.text_bounds.specs.declared.fields.FieldSizes.{FieldSizes}
 use Rattle.text_bounds.specs.declared.fields.PartSizes.{PartSizes}

@@ -4,7 +4,7 @@ use Rattle.std.specs.Fmt.{digits}
 use Rattle.pickle_types.specs.declared.integer.IntegerType.{IntegerType}
 use Rattle.pickle_types.specs.Types.{PokeType, IntegerOf, OffsetOf, StringOf, ArrayOf, StructOf, IntegralOf, UnionOf, Unbounded, FieldThen, NoFields, PartThen, NoParts}
 use Rattle.pickle_types.specs.Bounds.{least_width}
-use Rattle.value_text.specs.declared.mode.Mode.TheVariants.{Flat, Tree, Json, Lines}
+use Rattle.text_forms.specs.declared.mode.Mode.TheVariants.{Flat, Tree, Json, Lines}
 use Rattle.poke_batch.specs.ValueText.{integer_text, offset_text}
 use Rattle.poke_batch.specs.JsonText.{json_offset, json_string}
 use Rattle.text_bounds.specs.TextRoom.{size_of, most_text}

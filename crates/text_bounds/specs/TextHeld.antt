@@ -5,7 +5,7 @@ use Rattle.pickle_types.specs.Types.{PokeType, Fields, Parts}
 use Rattle.pickle_types.specs.Table.{type_of}
 use Rattle.pickle_types.specs.Bounds.{IsBound, least_width, sum_of_widths, greatest_width, has_label, least_of_widths}
 use Rattle.pickle_types.specs.Holds.{HoldsWidth, is_none}
-use Rattle.value_text.specs.declared.mode.Mode.{Mode}
+use Rattle.text_forms.specs.declared.mode.Mode.{Mode}
 use Rattle.text_bounds.specs.declared.size.TextSize.{TextSize}
 use Rattle.text_bounds.specs.declared.fields.NodeSize.{NodeSize}
 use Rattle.text_bounds.specs.declared.fields.FieldSizes.{FieldSizes}

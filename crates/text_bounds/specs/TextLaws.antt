@@ -8,13 +8,13 @@ use Rattle.pickle_map.specs.Fits.{Fits}
 use Rattle.pickle_map.specs.Means.{Means}
 use Rattle.pickle_map.specs.Values.{Value, Levels}
 use Rattle.command_words.specs.declared.ask.Ask.{Ask}
-use Rattle.value_text.specs.declared.mode.Mode.{Mode}
+use Rattle.text_forms.specs.declared.mode.Mode.{Mode}
 use Rattle.command_words.specs.declared.path.Path.{Path}
 use Rattle.poke_batch.specs.declared.status.Status.{Status}
 use Rattle.command_words.specs.declared.terms.Terms.{Terms}
 use Rattle.text_bounds.specs.OutputRoom.{OutputIsBounded}
 use Rattle.value_text.specs.Printed.{printed}
-use Rattle.command_words.specs.Paths.{part_at}
+use Rattle.poke_batch.specs.PathParts.{part_at}
 use Rattle.poke_batch.specs.Runs.{MapsAs}
 use Rattle.poke_batch.specs.RunsUnder.{MapsUnder}
 use Rattle.text_bounds.specs.TextRoom.{most_text, most_text_in_any}

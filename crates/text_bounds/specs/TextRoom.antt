@@ -5,10 +5,10 @@ use Rattle.pickle_types.specs.declared.integer.IntegerType.{IntegerType}
 use Rattle.pickle_types.specs.Types.{PokeType, IntegerOf, OffsetOf, StringOf, ArrayOf, StructOf, IntegralOf, UnionOf, Fields, NoFields, FieldThen, Parts, NoParts, PartThen}
 use Rattle.pickle_types.specs.Bounds.{least_width, count_of}
 use Rattle.pickle_map.specs.Values.{Naming}
-use Rattle.value_text.specs.declared.mode.Mode.{Mode}
-use Rattle.value_text.specs.declared.mode.Mode.TheVariants.{Flat, Tree, Json, Lines}
+use Rattle.text_forms.specs.declared.mode.Mode.{Mode}
+use Rattle.text_forms.specs.declared.mode.Mode.TheVariants.{Flat, Tree, Json, Lines}
 use Rattle.poke_batch.specs.ValueText.{integer_text, offset_text, title_text, name_text}
-use Rattle.poke_batch.specs.TreeText.{in_brackets}
+use Rattle.text_forms.specs.Brackets.{in_brackets}
 use Rattle.poke_batch.specs.JsonText.{json_offset, key_text}
 use Rattle.poke_batch.specs.PathText.{field_step}
 

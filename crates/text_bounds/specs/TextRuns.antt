@@ -1,11 +1,11 @@
 -- What a run has to say of the bounds of a type, that of its texts included.
 use Rattle.std.specs.Prelude.{◌≡◌, ℕ, List, Option, Some, None, codes}
-use Rattle.pickle_syntax.specs.Tree.{DeclarationTree}
+use Rattle.pickle_tree.specs.Tree.{DeclarationTree}
 use Rattle.pickle_types.specs.Types.{PokeType}
 use Rattle.pickle_types.specs.Names.{Names, find_type}
 use Rattle.pickle_types.specs.Bounds.{cost, room, IsBound}
 use Rattle.poke_batch.specs.declared.accept.Refusal.{Refusal}
-use Rattle.value_text.specs.declared.mode.Mode.{Mode}
+use Rattle.text_forms.specs.declared.mode.Mode.{Mode}
 use Rattle.poke_batch.specs.declared.status.Status.TheVariants.{Refused}
 use Rattle.poke_batch.specs.Accepted.{IsAccepted, Refuses, refusal_saying}
 use Rattle.poke_batch.specs.BoundText.{bound_text_and}

@@ -7,7 +7,7 @@ ghost use Rattle.poke_batch.specs.Suffixes.{suffix_text};
 ghost use Rattle.poke_batch.specs.PathText.{field_step};
 ghost use Rattle.poke_batch.specs.JsonText.{json_escape, json_offset, key_text};
 ghost use Rattle.poke_batch.specs.ValueText.{spelled, spelled_byte, integer_text, typed_text, suffix_of, unit_text, title_text, name_text};
-ghost use Rattle.poke_batch.specs.TreeText.{in_brackets};
+ghost use Rattle.text_forms.specs.Brackets.{in_brackets};
 ghost use Rattle.text_bounds.specs.TextRoom.{longest_number, integer_room, offset_room, string_room, array_room, titled_room, line_room, element_before, element_moves, field_before, field_moves, end_room};
 
 use itoa::Buffer;

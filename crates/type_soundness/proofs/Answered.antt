@@ -1,7 +1,7 @@
 -- The faults that `map` gives of a type that was found in a table come by no fallback.
 use Rattle.std.proofs.Common.{ℕ, List, [], Result, Ok, Err}
 use Rattle.bit_space.specs.declared.order.Order.{Order}
-use Rattle.pickle_syntax.specs.Tree.{Called, FormTree, Plain, DeclarationTree}
+use Rattle.pickle_tree.specs.Tree.{Called, FormTree, Plain, DeclarationTree}
 use Rattle.pickle_types.specs.declared.type_table.Table.{Table}
 use Rattle.pickle_types.specs.declared.type_table.TypeId.{TypeId}
 use Rattle.pickle_types.specs.Types.{PokeType}

@@ -1,7 +1,7 @@
 -- Each expression of a well typed pickle that a mapping evaluates is safely evaluated.
 use Rattle.std.proofs.Common.{◌≡◌, ℕ, ◌+◌, List, [], length, Bool, Option, Some, None, refl}
 use Rattle.bit_space.specs.declared.order.Order.{Order}
-use Rattle.pickle_syntax.specs.Tree.{Tree, FormTree, FieldTrees, DeclarationTree}
+use Rattle.pickle_tree.specs.Tree.{Tree, FormTree, FieldTrees, DeclarationTree}
 use Rattle.pickle_types.specs.Types.{Term, ByCount, BySize, PokeType, IntegerOf, OffsetOf, Fields, Parts}
 use Rattle.pickle_types.specs.Scopes.{Visible, sees}
 use Rattle.pickle_types.specs.Expressions.{Sort, Typed}

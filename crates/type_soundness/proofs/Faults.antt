@@ -2,8 +2,8 @@
 use Rattle.std.proofs.Common.{◌≡◌, ℕ, ◌+◌, ◌≤◌, List, [], length, Bool, true, false, Option, Some, None, Result, Ok, Err, ℤ, pos, negsuc, refl, sym, ap, ◌∙◌, subst}
 use Rattle.std.proofs.lemmas.Option.{none-some}
 use Rattle.bit_space.specs.declared.order.Order.{Order}
-use Rattle.pickle_syntax.specs.Tree.{Tree, Called, FormTree, Plain, ArrayForm, StructForm, IntegralForm, UnionForm, FieldTrees, DeclarationTree}
-use Rattle.pickle_syntax.specs.Tree as tree
+use Rattle.pickle_tree.specs.Tree.{Tree, Called, FormTree, Plain, ArrayForm, StructForm, IntegralForm, UnionForm, FieldTrees, DeclarationTree}
+use Rattle.pickle_tree.specs.Tree as tree
 use Rattle.pickle_types.specs.declared.integer.IntegerType.{IntegerType}
 use Rattle.pickle_types.specs.Types.{Term, Bound, Unbounded, ByCount, BySize, PokeType, IntegerOf, OffsetOf, ArrayOf, Fields, FieldThen, Parts, PartThen}
 use Rattle.pickle_types.specs.Scopes.{Visible, sees}

@@ -2,8 +2,8 @@
 use Rattle.std.proofs.Common.{◌≡◌, ℕ, false, [], Some, Err, refl, sym, subst, arith}
 use Rattle.std.proofs.lemmas.Option.{none-some}
 use Rattle.bit_space.specs.declared.order.Order.TheVariants.{Big}
-use Rattle.pickle_syntax.specs.Tree.{Uint, FormTree, Plain, ArrayForm}
-use Rattle.pickle_syntax.specs.Tree as tree
+use Rattle.pickle_tree.specs.Tree.{Uint, FormTree, Plain, ArrayForm}
+use Rattle.pickle_tree.specs.Tree as tree
 use Rattle.pickle_types.specs.Types.{Text, ByCount, PokeType, IntegerOf, ArrayOf}
 use Rattle.pickle_types.specs.Operators.{whole}
 use Rattle.pickle_map.specs.declared.faults.MapFaultKind.{MapFaultKind}

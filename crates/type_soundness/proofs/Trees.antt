@@ -1,7 +1,7 @@
 -- Types whose expressions are well typed, along the tree of the type and the form that means it.
 use Rattle.std.proofs.Common.{◌≡◌, ℕ, ◌+◌, Bool, List, [], Option, Some, None, sym, ◌∙◌, subst}
-use Rattle.pickle_syntax.specs.Tree.{Tree, TreeReference, Called, FieldParts, FormTree, Plain, StringForm, OffsetForm, ArrayForm, StructForm, IntegralForm, UnionForm, FieldTrees, DeclarationTree}
-use Rattle.pickle_syntax.specs.Tree as tree
+use Rattle.pickle_tree.specs.Tree.{Tree, TreeReference, Called, FieldParts, FormTree, Plain, StringForm, OffsetForm, ArrayForm, StructForm, IntegralForm, UnionForm, FieldTrees, DeclarationTree}
+use Rattle.pickle_tree.specs.Tree as tree
 use Rattle.pickle_types.specs.declared.integer.IntegerType.{IntegerType}
 use Rattle.pickle_types.specs.Types.{Term, Bound, Unbounded, ByCount, BySize, PokeType, IntegerOf, OffsetOf, StringOf, ArrayOf, StructOf, IntegralOf, UnionOf, Fields, NoFields, FieldThen, Parts, NoParts, PartThen}
 use Rattle.pickle_types.specs.Scopes.{Visible, sees}

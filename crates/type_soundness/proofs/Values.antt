@@ -1,7 +1,7 @@
 -- What a type means is a value of the type.
 use Rattle.std.proofs.Common.{◌≡◌, ℕ, ◌+◌, List, [], ◌∷◌, ◌++◌, Option, Some, None, Bool, Result, Ok, Err, refl, sym, ◌∙◌, subst, inl, inr, append-nil}
 use Rattle.bit_space.specs.declared.order.Order.{Order}
-use Rattle.pickle_syntax.specs.declared.tree.ByteOrder.{ByteOrder}
+use Rattle.pickle_tree.specs.declared.tree.ByteOrder.{ByteOrder}
 use Rattle.pickle_types.specs.Types.{Term, Bound, PokeType, ArrayOf, Fields, NoFields, FieldThen, Parts, NoParts, PartThen}
 use Rattle.pickle_map.specs.declared.extent.Extent.{Extent}
 use Rattle.pickle_map.specs.Values.{Naming, Value, NoMembers, MemberThen, Levels, pushed, opened, top_of, gathered}

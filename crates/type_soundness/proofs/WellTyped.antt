@@ -4,7 +4,7 @@ use Rattle.std.specs.Prelude.{if◌then◌else◌}
 use Rattle.std.specs.Str.{bytes_eq}
 use Rattle.std.proofs.lemmas.Option.{none-some}
 use Rattle.std.proofs.lemmas.Slice.Eq.{bytes_eq-Decides}
-use Rattle.pickle_syntax.specs.Tree.{Tree, TreeReference, Called, FormTree, Plain, FieldTrees, DeclarationTree}
+use Rattle.pickle_tree.specs.Tree.{Tree, TreeReference, Called, FormTree, Plain, FieldTrees, DeclarationTree}
 use Rattle.pickle_types.specs.declared.check.places.Place.{Place}
 use Rattle.pickle_types.specs.declared.check.places.Place.TheVariants as place
 use Rattle.pickle_types.specs.Types.{Term, Bound, PokeType, IntegerOf, OffsetOf, StringOf, ArrayOf, StructOf, IntegralOf, UnionOf, Fields, NoFields}

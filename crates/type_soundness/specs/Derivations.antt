@@ -1,9 +1,9 @@
 -- What expressions come to by rules that have no case for a value of a wrong sort, or for a place that isn't there.
 use Rattle.std.specs.Prelude.{◌≡◌, ℕ, ◌+◌, ◌-◌, ◌<◌, ◌≤◌, Bool, true, false, ◌&&◌, if◌then◌else◌, List, Option, Some, None, Result, Ok, Err, ℤ, pos, negsuc, slice_get}
-use Rattle.pickle_syntax.specs.declared.token.Attribute.TheVariants.{Length, Size}
-use Rattle.pickle_syntax.specs.declared.tree.Prefix.{Prefix}
-use Rattle.pickle_syntax.specs.declared.tree.Infix.{Infix}
-use Rattle.pickle_syntax.specs.declared.token.Attribute.{Attribute}
+use Rattle.pickle_tree.specs.declared.tree.Attribute.TheVariants.{Length, Size}
+use Rattle.pickle_tree.specs.declared.tree.Prefix.{Prefix}
+use Rattle.pickle_tree.specs.declared.tree.Infix.{Infix}
+use Rattle.pickle_tree.specs.declared.tree.Attribute.{Attribute}
 use Rattle.pickle_types.specs.declared.integer.IntegerType.{IntegerType}
 use Rattle.pickle_types.specs.Types.{Term, Number, Text, Name, Bracket, Before, Between, Choice, Index, Select, AttributeOf, ToInteger, ToOffset, InUnit}
 use Rattle.pickle_map.specs.declared.faults.MapFaultKind.{MapFaultKind}

@@ -1,6 +1,6 @@
 -- The laws of the type rules and the evaluation.
 use Rattle.std.specs.Prelude.{◌≡◌, ℕ, List, Result}
-use Rattle.pickle_syntax.specs.Tree.{Tree}
+use Rattle.pickle_tree.specs.Tree.{Tree}
 use Rattle.pickle_types.specs.Types.{Term}
 use Rattle.pickle_types.specs.Scopes.{Visible}
 use Rattle.pickle_types.specs.Names.{Names}

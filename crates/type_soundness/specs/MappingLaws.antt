@@ -1,7 +1,7 @@
 -- The laws of the type rules and the meaning of a mapping.
 use Rattle.std.specs.Prelude.{◌≡◌, ℕ, ◌-◌, List, [], Option, Some, Ok, Err, slice_get}
 use Rattle.bit_space.specs.declared.order.Order.{Order}
-use Rattle.pickle_syntax.specs.Tree.{Tree, Called, FormTree, Plain, DeclarationTree}
+use Rattle.pickle_tree.specs.Tree.{Tree, Called, FormTree, Plain, DeclarationTree}
 use Rattle.pickle_types.specs.declared.integer.IntegerType.{IntegerType}
 use Rattle.pickle_types.specs.declared.type_table.Table.{Table}
 use Rattle.pickle_types.specs.declared.type_table.TypeId.{TypeId}

@@ -3,7 +3,7 @@ use Rattle.std.specs.Prelude.{ℕ, ℤ, suc, ◌/◌, ◌%◌, Bool, true, false
 use Rattle.std.specs.Fmt.{signed_decimal}
 use Rattle.pickle_map.specs.Values.{Naming, Label, IntegerLabel, OffsetLabel, TextLabel, ArrayLabel, StructLabel, UnionLabel, Value, Mapped, Members, NoMembers, MemberThen, AbsentThen}
 use Rattle.pickle_map.specs.Labels.{member_name}
-use Rattle.value_text.specs.HexDigits.{hex_digit}
+use Rattle.text_forms.specs.HexDigits.{hex_digit}
 use Rattle.value_text.specs.ValueText.{spelled, comma}
 
 -- a byte that doesn't stand for itself, as the character of its number: a short form for these four, else `\u00` and two digits

@@ -1,4 +1,3 @@
-pub mod HexDigits
 pub mod ValueText
 pub mod TreeText
 pub mod LineText

@@ -2,7 +2,7 @@
 use Rattle.std.specs.Prelude.{◌≡◌, ℕ, List, [], ◌∷◌, ◌++◌, Some, None, codes, decimal}
 use Rattle.pickle_map.specs.Values.{Naming, Label, ArrayLabel, Value, label_of, members_of, member_at}
 use Rattle.pickle_map.specs.Labels.{member_name}
-use Rattle.value_text.specs.TreeText.{in_brackets}
+use Rattle.text_forms.specs.Brackets.{in_brackets}
 
 -- the step to a field or an alternative: its name, or where it has none its place among the declared fields, from 0
 abbrev pub field_step : Naming → (place : ℕ) → List ℕ

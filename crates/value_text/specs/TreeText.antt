@@ -4,14 +4,12 @@ use Rattle.pickle_map.specs.declared.value.Kind.{Kind}
 use Rattle.pickle_map.specs.declared.value.Kind.TheVariants.{Integer, Offset, Text, Array, Struct, Union}
 use Rattle.pickle_map.specs.Values.{Label, IntegerLabel, OffsetLabel, TextLabel, ArrayLabel, StructLabel, UnionLabel, Value, Mapped, Members, NoMembers, MemberThen, AbsentThen, member_count}
 use Rattle.pickle_map.specs.Labels.{kind_of, member_name}
+use Rattle.text_forms.specs.Brackets.{in_brackets}
 use Rattle.value_text.specs.ValueText.{integer_text, offset_text, string_text, title_text, name_text}
 
 -- two blanks for each level
 abbrev pub indent_text : (level : ℕ) → List ℕ
 indent_text level = replicate (2 * level) 32
-
-abbrev pub in_brackets : ℕ → List ℕ
-in_brackets number = codes "[" ++ (decimal number ++ codes "]")
 
 -- what stands before a part: the place of an element, the name of a field or an alternative if it has one
 abbrev pub prefix_text : Label → (place : ℕ) → List ℕ

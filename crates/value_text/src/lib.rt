@@ -3,8 +3,8 @@
 //! All output goes through one loop over the writer, [`write::put`].
 #![tactic(auto)]
 
-pub mod hex;
 pub mod laws;
-pub mod mode;
 pub mod print;
 pub mod write;
+
+pub use text_forms::{hex, mode};

@@ -3,7 +3,7 @@ ghost use Rattle.std.specs.Prelude.{◌≡◌, ◌++◌, IfOk, OnOk, string_byte
 ghost use Rattle.command_words.specs.WordText.{word_byte, word_text, digits_text};
 
 use std::alloc::{AllocError, Global};
-use value_text::hex::hex_digit;
+use text_forms::hex::hex_digit;
 
 /// Words, each with an escape for each byte that isn't printed.
 pub fn shown_words(alloc: Global, words: &[String]) -> Result<Vec<String>, AllocError> {

@@ -15,7 +15,7 @@ ghost use Rattle.pickle_map.specs.Values.{IntegerLabel};
 use crate::evaluate::integers::{Scalar, common};
 use crate::evaluate::ranges::converted;
 use crate::store::Store;
-use pickle_syntax::tree::Infix;
+use pickle_tree::tree::Infix;
 use pickle_types::integer::IntegerType;
 use pickle_types::view::Resolved;
 

@@ -16,7 +16,7 @@ use crate::evaluate::offsets;
 use crate::evaluate::operand::Operand;
 use crate::faults::MapFaultKind;
 use crate::value::Kind;
-use pickle_syntax::tree::{Infix, Prefix};
+use pickle_tree::tree::{Infix, Prefix};
 use pickle_types::integer::IntegerType;
 
 /// What operators see of an operand: an integer or offset, a text, or none of these.

@@ -26,8 +26,7 @@ use crate::faults::MapFaultKind;
 use crate::store::Store;
 use crate::value::Kind;
 use bit_space::{LimitPassed, Meter};
-use pickle_syntax::token::Attribute;
-use pickle_syntax::tree::Infix;
+use pickle_tree::tree::{Attribute, Infix};
 use pickle_types::integer::IntegerType;
 use pickle_types::view::{Node, Resolved};
 

@@ -10,7 +10,7 @@ ghost use Rattle.pickle_map.specs.Values.{IntegerLabel};
 
 use crate::evaluate::ranges::{brought, converted, low_digits, modulo, with_sign};
 use crate::faults::MapFaultKind;
-use pickle_syntax::tree::Infix;
+use pickle_tree::tree::Infix;
 use pickle_types::integer::IntegerType;
 
 /// An integer, or an offset with its unit in bits, in the range of its type.

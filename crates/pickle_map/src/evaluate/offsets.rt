@@ -11,7 +11,7 @@ ghost use Rattle.pickle_map.specs.Scalars.{IsScalar, computed_of, scalar_label};
 use crate::evaluate::integers::{Scalar, brought_integer, common, is_true, on_integers, truth};
 use crate::evaluate::ranges::{brought, converted, low_digits};
 use crate::faults::MapFaultKind;
-use pickle_syntax::tree::{Infix, Prefix};
+use pickle_tree::tree::{Infix, Prefix};
 use pickle_types::check::operators::greatest_divisor;
 use pickle_types::integer::IntegerType;
 

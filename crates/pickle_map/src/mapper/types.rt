@@ -28,7 +28,7 @@ use crate::mapper::text::map_text;
 use crate::mapper::watch::Watch;
 use crate::store::Store;
 use bit_space::{Meter, Order, Space};
-use pickle_syntax::tree::ByteOrder;
+use pickle_tree::tree::ByteOrder;
 use pickle_types::view::{Extent as Bound, Field, Node, Part, Resolved, Shape};
 
 /// Maps the type at a place of the table from the bit `start` on, and gives the bit behind it.

@@ -2,7 +2,7 @@
 
 ghost use Rattle.std.specs.Prelude.{◌≡◌, ◌+◌, ◌<◌, ◌≤◌, drop, IfOk, IfErr};
 ghost use Rattle.pickle_syntax.specs.Tokens.{tokens_of};
-ghost use Rattle.pickle_syntax.specs.Tree.{expression_tree, suffix_tree, After};
+ghost use Rattle.pickle_tree.specs.Tree.{expression_tree, suffix_tree, After};
 ghost use Rattle.pickle_syntax.specs.declared.parser.fault.Stop.TheVariants.{Memory};
 ghost use Rattle.pickle_syntax.specs.declared.parser.operators.Start.TheVariants as start;
 ghost use Rattle.pickle_syntax.specs.declared.parser.operators.Next.TheVariants as next;

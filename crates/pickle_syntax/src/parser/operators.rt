@@ -2,7 +2,7 @@
 
 ghost use Rattle.std.specs.Prelude.{◌≡◌, ◌&&◌, nat_le};
 ghost use Rattle.pickle_syntax.specs.Tokens.{tokens_of};
-ghost use Rattle.pickle_syntax.specs.Tree.{expression_tree, suffix_tree};
+ghost use Rattle.pickle_tree.specs.Tree.{expression_tree, suffix_tree};
 ghost use Rattle.pickle_syntax.specs.Levels.{level, level_of, level_of_suffix};
 ghost use Rattle.pickle_syntax.specs.Operators.{start_of, next_of, sign_next, own_of, left_of};
 

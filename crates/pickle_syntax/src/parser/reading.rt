@@ -2,7 +2,7 @@
 
 ghost use Rattle.std.specs.Prelude.{◌≡◌};
 ghost use Rattle.pickle_syntax.specs.Tokens.{tokens_of};
-ghost use Rattle.pickle_syntax.specs.Tree.{reference_tree, target_tree};
+ghost use Rattle.pickle_tree.specs.Tree.{reference_tree, target_tree};
 ghost use Rattle.pickle_syntax.specs.Reading.{Gives, IsRest, after_sign, after_word, needed, expect, name_at, width_at, reference_at, unit_named, unit_at, offset_at, target_at};
 
 use crate::parser::fault::Stop;

@@ -1,7 +1,7 @@
 //! The types of expressions.
 
 ghost use Rattle.std.specs.Prelude.{◌≡◌, ℕ, ◌<◌, ◌≤◌, List, length, Ok, IfOk, IfErr};
-ghost use Rattle.pickle_syntax.specs.Tree.{expression_tree, suffix_tree, target_tree};
+ghost use Rattle.pickle_tree.specs.Tree.{expression_tree, suffix_tree, target_tree};
 ghost use Rattle.pickle_types.specs.Sound.{IsWidth};
 ghost use Rattle.pickle_types.specs.Table.{term_of, type_of, IsTable};
 ghost use Rattle.pickle_types.specs.Expressions.{is_held, number_meant, character_meant, text_meant, resolved, bracketed, prefixed, infixed, selected, indexed, suffixed, selection, length_of, size_of, in_unit, conversion, is_path, integer_or_wrong, typed};
@@ -17,8 +17,7 @@ use crate::integer::IntegerType;
 use crate::names::Names;
 use crate::scopes::Scopes;
 use crate::table::Resolved;
-use pickle_syntax::token::{Attribute, Number};
-use pickle_syntax::tree::{Expression, Infix, Prefix, Suffix, Target, Unit};
+use pickle_tree::tree::{Attribute, Expression, Infix, Number, Prefix, Suffix, Target, Unit};
 use std::alloc::Global;
 
 /// Whether the number's type has a width from 1 to 64 bits, and holds its value.

@@ -1,7 +1,7 @@
 //! Fields of structs and alternatives of unions.
 
 ghost use Rattle.std.specs.Prelude.{◌≡◌, ◌+◌, ◌*◌, ◌<◌, ◌≤◌, ℕ, List, length, map, Ok, IfOk, IfErr, OnErr};
-ghost use Rattle.pickle_syntax.specs.Tree.{optional_bytes, boxed_tree, borrowed_tree, field_tree, form_tree};
+ghost use Rattle.pickle_tree.specs.Tree.{optional_bytes, boxed_tree, borrowed_tree, field_tree, form_tree};
 ghost use Rattle.pickle_types.specs.Types.{PokeType};
 ghost use Rattle.pickle_types.specs.Table.{name_of, optional_term, open_fields, open_parts, type_of, FieldsBelow, PartsBelow, IsTable};
 ghost use Rattle.pickle_types.specs.Meaning.{has_name, fresh, may_stand, if_here, struct_place, place_in, parts_of, total_width};
@@ -14,8 +14,8 @@ use crate::check::sorts::width_of;
 use crate::fault::FaultKind;
 use crate::name::Name;
 use crate::table::{Field, Part};
-use pickle_syntax::tree;
-use pickle_syntax::tree::{ByteOrder, Clauses, Expression, Form};
+use pickle_tree::tree;
+use pickle_tree::tree::{ByteOrder, Clauses, Expression, Form};
 use std::alloc::Global;
 
 /// The type of a field as it is written.

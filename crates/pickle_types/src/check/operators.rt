@@ -5,7 +5,7 @@ ghost use Rattle.pickle_types.specs.Sound.{IsWidth, IsSoundScalar, IsSoundOperan
 ghost use Rattle.pickle_types.specs.Operators.{common, greatest_divisor, arithmetic, sum, product, quotient, shift, logic, comparison, between_numbers, between, before_number, before, number_in, integer_in, integer_operand, chosen, choice, same_type};
 
 use crate::integer::IntegerType;
-use pickle_syntax::tree::{Infix, Prefix};
+use pickle_tree::tree::{Infix, Prefix};
 
 /// The type of a number: an integer's, or an offset's magnitude and unit in bits.
 #[derive(Clone, Copy, PartialEq, Eq, Debug)]

@@ -1,7 +1,7 @@
 //! Types that are named by references and units.
 
 ghost use Rattle.std.specs.Prelude.{◌≡◌, ◌<◌, ◌≤◌, ℕ, List, length, Ok, IfOk, IfErr};
-ghost use Rattle.pickle_syntax.specs.Tree.{reference_tree, target_tree};
+ghost use Rattle.pickle_tree.specs.Tree.{reference_tree, target_tree};
 ghost use Rattle.pickle_types.specs.Table.{IsTable, IsWidth};
 ghost use Rattle.pickle_types.specs.Expressions.{in_range, operand_referred, integer_referred, unit_bits, offset_referred, target_type};
 ghost use Rattle.pickle_types.specs.Sound.{IsSoundScalar, IsSoundOperand};
@@ -13,7 +13,7 @@ use crate::check::sorts::node_operand;
 use crate::fault::FaultKind;
 use crate::integer::IntegerType;
 use crate::names::{Names, find_name};
-use pickle_syntax::tree::{Reference, Target, Unit};
+use pickle_tree::tree::{Reference, Target, Unit};
 
 /// An integer type of a width from 1 to 64 bits.
 pub fn in_range(signed: bool, width: u64) -> Result<IntegerType, FaultKind>

@@ -1,7 +1,7 @@
 //! The types of forms, as nodes of a table.
 
 ghost use Rattle.std.specs.Prelude.{◌≡◌, ◌+◌, ◌<◌, ◌≤◌, ℕ, List, [], ◌∷◌, ◌++◌, length, true, false, Ok, None, IfOk, IfErr, IfSome, OnOk, All};
-ghost use Rattle.pickle_syntax.specs.Tree.{reference_tree, boxed_tree, borrowed_tree, form_tree, field_tree, fields_tree, ArrayForm, StructForm, IntegralForm, UnionForm, OffsetForm};
+ghost use Rattle.pickle_tree.specs.Tree.{reference_tree, boxed_tree, borrowed_tree, form_tree, field_tree, fields_tree, ArrayForm, StructForm, IntegralForm, UnionForm, OffsetForm};
 ghost use Rattle.pickle_types.specs.Types;
 ghost use Rattle.pickle_types.specs.Sound.{IsSoundClause, IsSoundBound};
 ghost use Rattle.pickle_types.specs.Table.{optional_term, bound_of, type_of, open_shape, IsTable, NamesBelow, IsSoundField, IsSoundShape};
@@ -26,8 +26,8 @@ use crate::names::{Names, find_name};
 use crate::places_by_name::PlacesByName;
 use crate::scopes::{Scopes, Seen};
 use crate::table::{Extent, Field, MOST_ALTERNATIVES, MOST_NODES, Node, Resolved, Shape};
-use pickle_syntax::tree;
-use pickle_syntax::tree::{Expression, Form, Reference, Unit};
+use pickle_tree::tree;
+use pickle_tree::tree::{Expression, Form, Reference, Unit};
 use std::alloc::Global;
 
 /// A node, and how deep its type is.

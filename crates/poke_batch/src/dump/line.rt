@@ -1,7 +1,7 @@
 //! A line of a dump.
 ghost use Rattle.std.specs.Prelude.{◌≡◌, ℕ, ◌+◌, ◌-◌, ◌*◌, ◌^◌, ◌<◌, ◌≤◌, [], ◌∷◌, ◌++◌, length, map, max, take};
 ghost use Rattle.poke_batch.specs.DumpText.{place_text, gap, column, columns, shown, line_text};
-ghost use Rattle.value_text.specs.HexDigits.{hex_digit};
+ghost use Rattle.text_forms.specs.HexDigits.{hex_digit};
 
 use value_text::hex::hex_digit;
 

@@ -5,7 +5,7 @@ ghost use Rattle.std.specs.Io.KnownBytes.{Appends};
 ghost use Rattle.value_text.specs.Written.{AppendsPart};
 ghost use Rattle.value_text.specs.Gathered.{Gathers};
 ghost use Rattle.value_text.specs.Suffixes.{suffix_text};
-ghost use Rattle.value_text.specs.TreeText.{in_brackets};
+ghost use Rattle.text_forms.specs.Brackets.{in_brackets};
 ghost use Rattle.value_text.specs.ValueText.{comma};
 ghost use Rattle.value_text.specs.JsonText.{place_key};
 ghost use Rattle.value_text.specs.JsonParts.{plain_key};

@@ -6,7 +6,8 @@ ghost use Rattle.pickle_map.specs.Refs.{value_shown, rank_of};
 ghost use Rattle.value_text.specs.Written.{AppendsPart};
 ghost use Rattle.value_text.specs.Gathered.{Gathers};
 ghost use Rattle.value_text.specs.ValueText.{name_text};
-ghost use Rattle.value_text.specs.TreeText.{tree_text, indent_text, in_brackets, prefix_text, has_parts};
+ghost use Rattle.text_forms.specs.Brackets.{in_brackets};
+ghost use Rattle.value_text.specs.TreeText.{tree_text, indent_text, prefix_text, has_parts};
 ghost use Rattle.value_text.specs.LineText.{head_of, start_text, rest_text, below_text, all_parts_text, part_text};
 
 use super::line::Line;

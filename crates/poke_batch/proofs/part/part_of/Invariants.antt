@@ -1,6 +1,6 @@
 use Rattle.std.proofs.Common.{◌≡◌, drop}
 use Rattle.pickle_map.specs.Refs.{value_shown}
-use Rattle.command_words.specs.Paths.{part_of}
+use Rattle.poke_batch.specs.PathParts.{part_of}
 use Rattle.poke_batch.proofs.part.part_of.Given as goal
 
 abbrev pub invariant-loop-step : goal.invariant-loop-step

@@ -1,7 +1,7 @@
 use Rattle.std.proofs.Common.{◌≡◌, ◌-◌}
 use Rattle.pickle_map.specs.Refs.{value_shown}
 use Rattle.pickle_map.specs.Values.{label_of, members_of, member_count}
-use Rattle.command_words.specs.Paths.{place_named}
+use Rattle.poke_batch.specs.PathParts.{place_named}
 use Rattle.poke_batch.proofs.part.place_named.Given as goal
 
 abbrev pub invariant-loop-place : goal.invariant-loop-place

@@ -2,7 +2,7 @@ use Rattle.std.proofs.Common.{codes, sym}
 use Rattle.pickle_map.specs.Refs.{value_shown}
 use Rattle.poke_batch.specs.declared.status.Status.TheVariants.{Fault}
 use Rattle.poke_batch.specs.Lines.{fault_line}
-use Rattle.command_words.specs.Paths.{part_at}
+use Rattle.poke_batch.specs.PathParts.{part_at}
 use Rattle.poke_batch.proofs.Sayings.{line_says}
 use Rattle.poke_batch.proofs.UnderTerms.{no_part_saying}
 use Rattle.poke_batch.proofs.tell_value.tell_kept.Goals as goal

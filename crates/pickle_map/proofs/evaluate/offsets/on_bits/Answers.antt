@@ -1,7 +1,7 @@
 use Rattle.std.proofs.Common.{◌∙◌, to_z, of_z, ap}
 use Rattle.std.proofs.lemmas.Int.{to_z-of_z}
 use mir.Syntax.{w128}
-use Rattle.pickle_syntax.specs.declared.tree.Infix.TheVariants.{Divide}
+use Rattle.pickle_tree.specs.declared.tree.Infix.TheVariants.{Divide}
 use Rattle.pickle_map.specs.Arithmetic.{on_bits}
 use Rattle.pickle_map.proofs.evaluate.offsets.on_bits.Goals as goal
 

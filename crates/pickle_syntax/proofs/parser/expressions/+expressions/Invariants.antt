@@ -1,6 +1,6 @@
 use Rattle.std.proofs.Common.{◌+◌, ◌*◌, ◌≡◌, ◌≤◌}
 use Rattle.pickle_syntax.specs.Tokens.{tokens_of}
-use Rattle.pickle_syntax.specs.Tree.{expression_tree}
+use Rattle.pickle_tree.specs.Tree.{expression_tree}
 use Rattle.pickle_syntax.specs.ReadExpressions.{expression_at, chain}
 use Rattle.pickle_syntax.proofs.parser.expressions.+expressions.Given as goal
 

@@ -1,6 +1,6 @@
 use Rattle.std.proofs.Common.{codes}
 use Rattle.std.proofs.lemmas.Result.{err_from_is_err_and}
-use Rattle.value_text.specs.TreeText.{in_brackets}
+use Rattle.text_forms.specs.Brackets.{in_brackets}
 use Rattle.value_text.proofs.Gathered.{gathers_next, cut_first, cut_next}
 use Rattle.value_text.proofs.print.tree.put_place.Goals as goal
 

@@ -3,7 +3,7 @@ use Rattle.std.proofs.lemmas.Bool.{eqb-false}
 use Rattle.std.proofs.lemmas.List.{drop_all, take_all}
 use Rattle.std.proofs.lemmas.List.Elements.{All-append}
 use Rattle.std.proofs.lemmas.Result.{err_from_is_err_and}
-use Rattle.pickle_syntax.specs.Tree.{Plain, StringForm, OffsetForm, reference_tree, boxed_tree, form_tree, fields_tree}
+use Rattle.pickle_tree.specs.Tree.{Plain, StringForm, OffsetForm, reference_tree, boxed_tree, form_tree, fields_tree}
 use Rattle.pickle_types.specs.declared.check.types.Builder.{Builder}
 use Rattle.pickle_types.specs.Types.{depth}
 use Rattle.pickle_types.specs.Table.{type_of, IsSoundField}

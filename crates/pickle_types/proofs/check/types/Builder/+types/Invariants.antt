@@ -1,6 +1,6 @@
 use Rattle.std.proofs.Common.{◌≡◌, ◌+◌, ◌*◌, ◌≤◌, [], length, drop, take}
 use Rattle.std.specs.Prelude.{All}
-use Rattle.pickle_syntax.specs.Tree.{fields_tree}
+use Rattle.pickle_tree.specs.Tree.{fields_tree}
 use Rattle.pickle_types.specs.Table.{IsSoundField}
 use Rattle.pickle_types.specs.Meaning.{fields_meaning}
 use Rattle.pickle_types.specs.Built.{AreBelow, names_in}

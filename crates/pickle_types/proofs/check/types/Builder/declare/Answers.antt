@@ -1,6 +1,6 @@
 use Rattle.std.proofs.Common.{sym, ◌∙◌}
 use Rattle.std.proofs.lemmas.Result.{err_from_is_err_and}
-use Rattle.pickle_syntax.specs.Tree.{declaration_tree}
+use Rattle.pickle_tree.specs.Tree.{declaration_tree}
 use Rattle.pickle_types.specs.Building.{known_types}
 use Rattle.pickle_types.proofs.Declarations.{declared_twice, declared_once, duplicate, new_type}
 use Rattle.pickle_types.proofs.check.types.Builder.declare.Goals as goal

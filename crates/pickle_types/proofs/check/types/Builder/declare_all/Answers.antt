@@ -1,7 +1,7 @@
 use Rattle.std.proofs.Common.{◌+◌, List, map, drop, sym, ap, ◌∙◌, arith}
 use Rattle.std.proofs.lemmas.List.{drop_all}
-use Rattle.pickle_syntax.specs.declared.tree.Declaration.{Declaration}
-use Rattle.pickle_syntax.specs.Tree.{declaration_tree}
+use Rattle.pickle_tree.specs.declared.tree.Declaration.{Declaration}
+use Rattle.pickle_tree.specs.Tree.{declaration_tree}
 use Rattle.pickle_types.specs.Names.{Names}
 use Rattle.pickle_types.specs.Meaning.{declared}
 use Rattle.pickle_types.specs.Wrong.{first_wrong}

@@ -1,5 +1,5 @@
 use Rattle.std.proofs.Common.{◌≡◌, ◌+◌, map, drop}
-use Rattle.pickle_syntax.specs.Tree.{declaration_tree}
+use Rattle.pickle_tree.specs.Tree.{declaration_tree}
 use Rattle.pickle_types.specs.Meaning.{declared}
 use Rattle.pickle_types.specs.Wrong.{first_wrong}
 use Rattle.pickle_types.specs.Building.{known_types, IsReady}

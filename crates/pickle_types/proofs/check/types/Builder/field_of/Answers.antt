@@ -1,6 +1,6 @@
 use Rattle.std.proofs.Common.{◌≡◌, ◌∙◌, Ok, length, refl}
 use Rattle.std.proofs.lemmas.Result.{err_from_is_err_and}
-use Rattle.pickle_syntax.specs.Tree.{field_tree}
+use Rattle.pickle_tree.specs.Tree.{field_tree}
 use Rattle.pickle_types.specs.declared.scopes.Seen.{Seen}
 use Rattle.pickle_types.specs.declared.table.Field.{Field}
 use Rattle.pickle_types.specs.Table.{type_of, optional_term}

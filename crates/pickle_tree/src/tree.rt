@@ -1,6 +1,21 @@
 //! The syntax tree of a pickle.
 
-use crate::token::{Attribute, Number};
+/// An attribute of a value.
+#[derive(Clone, Copy, PartialEq, Eq, Debug)]
+pub enum Attribute {
+    /// `'length`
+    Length,
+    /// `'size`
+    Size,
+}
+
+/// The value of a number, and its type: a width in bits and whether it has a sign.
+#[derive(Clone, Copy, PartialEq, Eq, Debug)]
+pub struct Number {
+    pub value: u64,
+    pub width: u8,
+    pub signed: bool,
+}
 
 /// An operator before its operand.
 #[derive(Clone, Copy, PartialEq, Eq, Debug)]

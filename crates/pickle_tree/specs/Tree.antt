@@ -2,27 +2,27 @@
 use Rattle.std.specs.Prelude.{ℕ, Bool, List, [], ◌∷◌, map, Option, Some, None, Box}
 use Rattle.std.specs.declared.alloc.Global.{Global}
 use denote.Bor.{Bor}
-use Rattle.pickle_syntax.specs.declared.token.Attribute.{Attribute}
-use Rattle.pickle_syntax.specs.declared.token.Number.{Number}
-use Rattle.pickle_syntax.specs.declared.tree.Prefix.{Prefix}
-use Rattle.pickle_syntax.specs.declared.tree.Infix.{Infix}
-use Rattle.pickle_syntax.specs.declared.tree.Unit.{Unit}
-use Rattle.pickle_syntax.specs.declared.tree.ByteOrder.{ByteOrder}
-use Rattle.pickle_syntax.specs.declared.tree.Reference.{Reference}
-use Rattle.pickle_syntax.specs.declared.tree.Reference.TheVariants as reference
-use Rattle.pickle_syntax.specs.declared.tree.Target.{Target}
-use Rattle.pickle_syntax.specs.declared.tree.Target.TheVariants as target
-use Rattle.pickle_syntax.specs.declared.tree.Suffix.{Suffix}
-use Rattle.pickle_syntax.specs.declared.tree.Suffix.TheVariants as suffix
-use Rattle.pickle_syntax.specs.declared.tree.Expression.{Expression}
-use Rattle.pickle_syntax.specs.declared.tree.Expression.TheVariants as expression
-use Rattle.pickle_syntax.specs.declared.tree.Clauses.{Clauses}
-use Rattle.pickle_syntax.specs.declared.tree.Clauses.TheVariants as clauses
-use Rattle.pickle_syntax.specs.declared.tree.Form.{Form, fold-Form}
-use Rattle.pickle_syntax.specs.declared.tree.Form.TheOpen.{Form-F, Field-F}
-use Rattle.pickle_syntax.specs.declared.tree.Field.{Field, fold-Field}
-use Rattle.pickle_syntax.specs.declared.tree.Declaration.{Declaration}
-use Rattle.pickle_syntax.specs.declared.tree.Pickle.{Pickle}
+use Rattle.pickle_tree.specs.declared.tree.Attribute.{Attribute}
+use Rattle.pickle_tree.specs.declared.tree.Number.{Number}
+use Rattle.pickle_tree.specs.declared.tree.Prefix.{Prefix}
+use Rattle.pickle_tree.specs.declared.tree.Infix.{Infix}
+use Rattle.pickle_tree.specs.declared.tree.Unit.{Unit}
+use Rattle.pickle_tree.specs.declared.tree.ByteOrder.{ByteOrder}
+use Rattle.pickle_tree.specs.declared.tree.Reference.{Reference}
+use Rattle.pickle_tree.specs.declared.tree.Reference.TheVariants as reference
+use Rattle.pickle_tree.specs.declared.tree.Target.{Target}
+use Rattle.pickle_tree.specs.declared.tree.Target.TheVariants as target
+use Rattle.pickle_tree.specs.declared.tree.Suffix.{Suffix}
+use Rattle.pickle_tree.specs.declared.tree.Suffix.TheVariants as suffix
+use Rattle.pickle_tree.specs.declared.tree.Expression.{Expression}
+use Rattle.pickle_tree.specs.declared.tree.Expression.TheVariants as expression
+use Rattle.pickle_tree.specs.declared.tree.Clauses.{Clauses}
+use Rattle.pickle_tree.specs.declared.tree.Clauses.TheVariants as clauses
+use Rattle.pickle_tree.specs.declared.tree.Form.{Form, fold-Form}
+use Rattle.pickle_tree.specs.declared.tree.Form.TheOpen.{Form-F, Field-F}
+use Rattle.pickle_tree.specs.declared.tree.Field.{Field, fold-Field}
+use Rattle.pickle_tree.specs.declared.tree.Declaration.{Declaration}
+use Rattle.pickle_tree.specs.declared.tree.Pickle.{Pickle}
 
 -- an integer type as it is written, or a name
 pub data TreeReference : Type 0 where

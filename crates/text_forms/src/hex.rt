@@ -1,6 +1,6 @@
 //! Hexadecimal digits.
 ghost use Rattle.std.specs.Prelude.{◌≡◌, ◌<◌};
-ghost use Rattle.value_text.specs.HexDigits.{hex_digit};
+ghost use Rattle.text_forms.specs.HexDigits.{hex_digit};
 
 static DIGITS: [u8; 16] = *b"0123456789abcdef";
 

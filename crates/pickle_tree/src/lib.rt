@@ -1,0 +1,4 @@
+//! The syntax tree of a pickle.
+#![tactic(auto)]
+
+pub mod tree;
