@@ -21,6 +21,7 @@ pub mod Laws
 pub mod Tree
 pub mod Levels
 pub mod Links
+pub mod Packed
 pub mod Slots
 pub mod Kinds
 pub mod Labels
@@ -30,6 +31,8 @@ pub mod Framed
 pub mod Refs
 pub mod Known
 pub mod Linked
+pub mod Lent
+pub mod Row
 pub mod Owners
 pub mod Settles
 pub mod Mappable

@@ -3,12 +3,12 @@ use Rattle.std.specs.Prelude.{ℕ}
 use Rattle.pickle_map.specs.declared.stored.StoredValue.{StoredValue}
 use Rattle.pickle_map.specs.declared.value.ValueRef.{ValueRef}
 use Rattle.pickle_map.specs.Tree as tree
-use Rattle.pickle_map.specs.Slots.{value_at}
+use Rattle.pickle_map.specs.Lent.{place_value, place_rank}
 use Rattle.pickle_map.specs.Values.{Value}
 use Rattle.pickle_map.specs.Shown.{shown}
 
 abbrev pub value_of : StoredValue → tree.Value
-value_of r = value_at r.store.now.slots r.node
+value_of r = place_value r.store.now.slots r.place
 
 -- the same with the names of its type
 abbrev pub value_shown : ValueRef → Value
@@ -16,7 +16,7 @@ value_shown r = shown r.nodes.now (value_of r.stored)
 
 -- a number that falls from a value to each of its members
 abbrev pub stored_rank : StoredValue → ℕ
-stored_rank r = r.node
+stored_rank r = place_rank r.place
 
 abbrev pub rank_of : ValueRef → ℕ
 rank_of r = stored_rank r.stored

@@ -20,6 +20,7 @@ pub(crate) mod clauses;
 pub(crate) mod keep;
 pub(crate) mod number;
 pub(crate) mod read;
+pub(crate) mod row;
 pub mod stop;
 pub(crate) mod text;
 pub mod types;

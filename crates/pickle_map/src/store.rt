@@ -4,10 +4,13 @@ ghost use Rattle.pickle_map.specs.declared.store.room.Growth.TheVariants.{Never}
 ghost use Rattle.pickle_map.specs.Slots.{empty, growing, fixed, marks_of, innermost, levels};
 
 mod append;
+mod bytes;
 mod cut;
+mod element;
 mod place;
 mod read;
 pub(crate) mod room;
+pub(crate) mod row;
 mod scope;
 pub(crate) mod slots;
 mod text;

@@ -23,6 +23,7 @@ use crate::faults::MapFaultKind;
 use crate::mapper::blame::{check, find_extent, find_start, is_there};
 use crate::mapper::keep::{close_array, close_struct, close_union, keep_absent};
 use crate::mapper::number::{map_integer, map_number};
+use crate::mapper::row::{packed_as, row_body};
 use crate::mapper::stop::Stop;
 use crate::mapper::text::map_text;
 use crate::mapper::watch::Watch;
@@ -247,9 +248,15 @@ fn map_array<S: Space, W: Watch>(
     watch.open(at);
     let extent = find_extent(nodes, bound, store, u128::from(start), meter, watch)?;
     store.open_level();
-    match array_body(
-        nodes, element, extent, order, start, space, meter, store, watch,
-    ) {
+    let mapped = match packed_as(nodes, element, store) {
+        Some(shape) => row_body(
+            nodes, element, shape, extent, order, start, space, meter, store, watch,
+        ),
+        None => array_body(
+            nodes, element, extent, order, start, space, meter, store, watch,
+        ),
+    };
+    match mapped {
         Ok(end) => {
             watch.close();
             Ok(end)

@@ -13,7 +13,7 @@ impl Store {
         ensures room { self.new.room ≡ self.old.room }
         ensures depth { length (levels self.new) ≡ length (levels self.old) + 1 }
         ensures slots { self.new.slots ≡ self.old.slots }
-        ensures sound { AreLevels self.new.frames self.new.slots }
+        ensures sound { AreLevels self.new.room self.new.frames self.new.slots }
     {
         let marks = self.marks();
         self.frames.push(marks);

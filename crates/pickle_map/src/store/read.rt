@@ -4,13 +4,14 @@ ghost use Rattle.pickle_types.specs.Sound.{IsSmall};
 ghost use Rattle.pickle_map.specs.Kinds.{kind_of};
 ghost use Rattle.pickle_map.specs.Tree.{label, start, size, parts, part_at, number_of, signed_of, width_of, unit_of, bytes_of, type_of, taken_of};
 ghost use Rattle.pickle_map.specs.Levels.{part_in};
-ghost use Rattle.pickle_map.specs.Slots.{levels, marks_at, level_end, value_at, number_in, first_link, family_at, family_links, first_byte, text_bytes, links_of, IsContent, IsFamily, IsTextRow, IsRead};
+ghost use Rattle.pickle_map.specs.Slots.{levels, marks_at, level_end, value_at, number_in, first_link, family_at, family_links, first_byte, text_bytes, links_of, IsContent, IsFamily, IsByteRow, IsRead};
 ghost use Rattle.pickle_map.specs.Linked.{links_from};
+ghost use Rattle.pickle_map.specs.Lent.{place_value, place_rank, IsPlace};
 ghost use Rattle.pickle_map.specs.Scalars.{scalar_label, scalar_in, IsScalar};
 
 use crate::evaluate::integers::Scalar;
 use crate::store::Store;
-use crate::store::slots::{Link, Marks, Node, Shape};
+use crate::store::slots::{Link, Node, Place, Shape};
 use crate::value::Kind;
 use pickle_types::integer::IntegerType;
 
@@ -30,7 +31,7 @@ impl Store {
     ghost use Rattle.pickle_map.specs.Refs.{value_of};
 
     // The node at a place, and what its value has of it.
-    fn node_at(&self, at: usize) -> Node
+    pub(super) fn node_at(&self, at: usize) -> Node
         requires { at < length self.now.slots.nodes }
         ensures { IsRead self.now.slots at result }
     {
@@ -50,9 +51,9 @@ impl Store {
         &self.links[first..self.families[family].end]
     }
 
-    // The bytes of a text.
-    fn text(&self, text: usize) -> &[u8]
-        requires { IsTextRow self.now.slots text }
+    // The bytes of a text, or of packed numbers.
+    pub(super) fn text(&self, text: usize) -> &[u8]
+        requires { IsByteRow self.now.slots text }
         ensures { result.now ≡ text_bytes self.now.slots.texts self.now.slots.bytes text }
     {
         let first = if text == 0 { 0 } else { self.texts[text - 1] };
@@ -61,11 +62,12 @@ impl Store {
 
     // The links of a node.
     fn links_at(&self, node: &Node) -> &[Link]
-        requires { IsContent self.now.slots node.now.shape node.now.content }
+        requires { IsContent self.now.slots node.now.shape node.now.start node.now.content }
         ensures { result.now ≡ links_of self.now.slots node.now.shape node.now.content }
     {
         match node.shape {
             Shape::Integer { .. } | Shape::Offset { .. } | Shape::Text => &[],
+            Shape::Integers { .. } | Shape::Offsets { .. } => &[],
             Shape::Array | Shape::Struct { .. } | Shape::Union { .. } => self.family(
                 node.content as usize,
             ),
@@ -80,7 +82,7 @@ impl Store {
             Shape::Integer { .. } => Kind::Integer,
             Shape::Offset { .. } => Kind::Offset,
             Shape::Text => Kind::Text,
-            Shape::Array => Kind::Array,
+            Shape::Integers { .. } | Shape::Offsets { .. } | Shape::Array => Kind::Array,
             Shape::Struct { .. } => Kind::Struct,
             Shape::Union { .. } => Kind::Union,
         }
@@ -169,6 +171,9 @@ impl Store {
             Shape::Integer { width, .. } => u64::from(width),
             Shape::Offset { width, .. } => u64::from(width),
             Shape::Text => 8 * (self.text(node.content as usize).len() as u64 + 1),
+            Shape::Integers { width, .. } | Shape::Offsets { width, .. } => {
+                u64::from(width) * self.count_packed(width, node.content as usize) as u64
+            }
             Shape::Array | Shape::Struct { .. } | Shape::Union { .. } =>
                 self.families[node.content as usize].size,
         }
@@ -207,30 +212,50 @@ impl Store {
         requires links { links.now ≡ links_from self.now.slots at }
         ensures { result ≡ length (parts (value_at self.now.slots at)) }
     {
-        // Only the proof needs the node.
-        let _node = self.nodes[at];
-        links.len()
-    }
-
-    // The part at a place of a value whose links these are.
-    pub(crate) fn linked(&self, at: usize, links: &[Link], i: usize) -> Option<usize>
-        requires node { at < length self.now.slots.nodes }
-        requires links { links.now ≡ links_from self.now.slots at }
-        ensures part { option_map (value_at self.now.slots) result ≡ part_at (value_at self.now.slots at) i }
-        ensures below { IfSome result (λ j. j < at) }
-    {
-        // Only the proof needs the node.
-        let _node = self.nodes[at];
-        match links.get(i) {
-            Some(link) => link.target(),
-            None => None,
+        let node = self.node_at(at);
+        match node.shape {
+            Shape::Integers { width, .. } | Shape::Offsets { width, .. } => {
+                self.count_packed(width, node.content as usize)
+            }
+            _ => links.len(),
         }
     }
 
-    pub(crate) fn child_at(&self, at: usize, i: usize) -> Option<usize>
+    // The part at a place of a value whose links these are.
+    pub(crate) fn linked(&self, at: usize, links: &[Link], i: usize) -> Option<Place>
+        requires node { at < length self.now.slots.nodes }
+        requires links { links.now ≡ links_from self.now.slots at }
+        ensures part { option_map (place_value self.now.slots) result ≡ part_at (value_at self.now.slots at) i }
+        ensures is { IfSome result (IsPlace self.now.slots) }
+        ensures below { IfSome result (λ p. place_rank p ≤ at) }
+    {
+        let node = self.node_at(at);
+        match node.shape {
+            Shape::Integers { width, .. } | Shape::Offsets { width, .. } => {
+                if i < self.count_packed(width, node.content as usize) {
+                    Some(Place::Element {
+                        array: at,
+                        index: i,
+                    })
+                } else {
+                    None
+                }
+            }
+            _ => match links.get(i) {
+                Some(link) => match link.target() {
+                    Some(node) => Some(Place::Node(node)),
+                    None => None,
+                },
+                None => None,
+            },
+        }
+    }
+
+    pub(crate) fn child_at(&self, at: usize, i: usize) -> Option<Place>
         requires { at < length self.now.slots.nodes }
-        ensures part { option_map (value_at self.now.slots) result ≡ part_at (value_at self.now.slots at) i }
-        ensures below { IfSome result (λ j. j < at) }
+        ensures part { option_map (place_value self.now.slots) result ≡ part_at (value_at self.now.slots at) i }
+        ensures is { IfSome result (IsPlace self.now.slots) }
+        ensures below { IfSome result (λ p. place_rank p ≤ at) }
     {
         self.linked(at, self.links_from(at), i)
     }
@@ -260,7 +285,7 @@ impl Store {
                     unit,
                 ))
             }
-            Shape::Text | Shape::Array | Shape::Struct { .. } | Shape::Union { .. } => None,
+            _ => None,
         }
     }
 }

@@ -1,6 +1,7 @@
 //! The room of a store.
 ghost use Rattle.std.specs.Prelude.{◌≡◌, ◌+◌, ◌<◌, ◌≤◌, OnOk, OnErr, vec_len, vec_capacity};
 ghost use Rattle.pickle_map.specs.declared.store.room.Growth.TheVariants.{Never};
+ghost use Rattle.pickle_map.specs.Slots.{packs};
 
 use bit_space::Memory;
 
@@ -21,6 +22,17 @@ pub(crate) struct Room {
 }
 
 impl Room {
+    /// Whether arrays of numbers are packed: where no room is asked for beforehand. Else each element has a slot of its own, so that
+    /// the slots are those that a mapping is told to take.
+    pub(crate) fn packs(self) -> bool
+        ensures { result ≡ packs self }
+    {
+        match self.growth {
+            Growth::Free => self.least == 0,
+            Growth::Never => false,
+        }
+    }
+
     /// Makes room for so many items more, where there is less. Nothing is asked for where the room doesn't grow.
     #[inline(always)]
     pub(crate) fn reserve<T>(self, to: &mut Vec<T>, more: usize) -> Result<(), Memory>

@@ -6,7 +6,7 @@ ghost use Rattle.pickle_map.specs.Values.{value_at as shown_at};
 ghost use Rattle.pickle_map.specs.Shown.{kept};
 
 use crate::store::Store;
-use crate::store::slots::{Link, Marks};
+use crate::store::slots::{Link, Marks, Place};
 use crate::stored::StoredValue;
 use crate::value::ValueRef;
 use pickle_types::type_table::Table;
@@ -73,7 +73,7 @@ impl Store {
         ensures { option_map value_of result ≡ part_in (levels self.now) level i }
     {
         match self.part_at(level, i) {
-            Some(node) => Some(StoredValue::new(self, node)),
+            Some(node) => Some(StoredValue::new(self, Place::Node(node))),
             None => None,
         }
     }

@@ -11,6 +11,10 @@ pub(crate) enum Shape {
     Offset { width: u8, signed: bool, unit: u32 },
     /// The content is the place of the text among the texts.
     Text,
+    /// An array of integers, packed: the content is the place of their bytes among the texts.
+    Integers { width: u8, signed: bool },
+    /// An array of offsets, packed likewise.
+    Offsets { width: u8, signed: bool, unit: u32 },
     /// The content of an array, a struct or a union is the place of its family.
     Array,
     /// A struct of the type at the index `of`.
@@ -19,13 +23,22 @@ pub(crate) enum Shape {
     Union { taken: u16, of: u32 },
 }
 
-/// One value of the store, in 24 bytes. A byte array takes a node for each of its bytes, so what a leaf doesn't need stands elsewhere:
-/// the size and the parts of an array, a struct or a union in a family, the end of a text in a list of ends.
+/// One value of the store, in 24 bytes. What a leaf doesn't need stands elsewhere: the size and the parts of an array, a struct or a
+/// union in a family, the end of a text, or of packed numbers, in a list of ends.
 #[derive(Clone, Copy)]
 pub(crate) struct Node {
     pub(crate) start: u64,
     pub(crate) content: u64,
     pub(crate) shape: Shape,
+}
+
+/// Where a value is kept.
+#[derive(Clone, Copy)]
+pub(crate) enum Place {
+    /// At a node.
+    Node(usize),
+    /// Packed: as the element at a place of the array at a node.
+    Element { array: usize, index: usize },
 }
 
 /// The parts of an array, a struct or a union: the links from the end of the family before it up to `end`. The size is in bits.
@@ -39,6 +52,20 @@ pub(crate) struct Family {
 #[derive(Clone, Copy)]
 pub(crate) struct Link {
     node: usize,
+}
+
+impl Shape {
+    ghost use Rattle.pickle_map.specs.Slots.{element_width};
+
+    /// How many bits an element of an array of packed numbers takes, else 0.
+    pub(crate) fn element_width(self) -> u8
+        ensures { result ≡ element_width self }
+    {
+        match self {
+            Shape::Integers { width, .. } | Shape::Offsets { width, .. } => width,
+            _ => 0,
+        }
+    }
 }
 
 impl Model for Link {

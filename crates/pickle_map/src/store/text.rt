@@ -1,66 +1,14 @@
 ghost use Rattle.std.specs.Prelude.{◌≡◌, ℕ, ◌+◌, ◌≤◌, ◌++◌, ◌∷◌, [], Some, List, length, max, ◌-◌, IsTrue, ◌↔◌, IsOk, OnOk, OnErr, vec_len, vec_capacity};
 ghost use Rattle.pickle_map.specs.Tree.{text_value};
 ghost use Rattle.pickle_map.specs.Levels.{Levels, pushed, text_level, FitsIn};
-ghost use Rattle.pickle_map.specs.Slots.{levels, with_text, with_byte, IsShort, HasNoNode, IsWriting, IsText, TakesByte, GoesOn};
+ghost use Rattle.pickle_map.specs.Slots.{levels, with_more, IsShort, HasNoNode, IsWriting, IsText, TakesByte};
+ghost use Rattle.pickle_map.specs.declared.store.slots.Shape.TheVariants as shape;
 
 use crate::store::Store;
-use crate::store::append::append;
-use crate::store::slots::{Link, Node, Shape};
+use crate::store::slots::Shape;
 use bit_space::Memory;
 
 impl Store {
-    // Places a text that begins at the bit `start`.
-    #[inline(never)]
-    fn place_text(&mut self, start: u64, bytes: &[u8]) -> Result<(), Memory>
-        requires short { IsShort (length bytes.now) }
-        ensures slots { OnOk result (self.new ≡ record self.old { slots = with_text bytes.now start self.old.slots }) }
-        ensures levels { OnOk result (levels self.new ≡ pushed (levels self.old) (Some (text_value bytes.now start))) }
-        ensures err { OnErr result (self.new ≡ self.old) }
-        ensures room { self.new.room ≡ self.old.room }
-        ensures depth { length (levels self.new) ≡ length (levels self.old) }
-        ensures succeeds { FitsIn self.old.room (pushed (levels self.old) (Some (text_value bytes.now start))) → IsOk result }
-    {
-        let index = self.nodes.len();
-        let content = self.texts.len() as u64;
-        let end = self.bytes.len() + bytes.len();
-        self.room.reserve(&mut self.nodes, 1)?;
-        self.room.reserve(&mut self.pending, 1)?;
-        self.room.reserve(&mut self.texts, 1)?;
-        self.room.reserve(&mut self.bytes, bytes.len())?;
-        append(&mut self.bytes, bytes, self.room);
-        self.texts.push_reserved(end);
-        self.pending.push_reserved(Link::to(index));
-        self.nodes.push_reserved(Node {
-            start,
-            content,
-            shape: Shape::Text,
-        });
-        Ok(())
-    }
-
-    // Places a byte more of a text that has some.
-    #[inline(always)]
-    fn append_byte(&mut self, byte: u8) -> Result<(), Memory>
-        requires { GoesOn self.old }
-        ensures slots { OnOk result (self.new ≡ record self.old { slots = with_byte byte self.old.slots }) }
-        ensures err { OnErr result (self.new ≡ self.old) }
-        ensures depth { length (levels self.new) ≡ length (levels self.old) }
-        ensures succeeds { length self.old.slots.bytes + 1 ≤ self.old.room.least → IsOk result }
-    {
-        self.room.reserve(&mut self.bytes, 1)?;
-        self.bytes.push_reserved(byte);
-        let last = self.texts.len() - 1;
-        self.texts[last] = self.bytes.len();
-        Ok(())
-    }
-
-    // Whether the innermost open value has no node yet.
-    fn has_no_node(&self) -> bool
-        ensures { IsTrue result ↔ HasNoNode self.now }
-    {
-        self.nodes.len() == self.innermost().nodes
-    }
-
     /// Opens a text, which has no bytes yet. As many as 64 values may be open.
     pub(crate) fn open_text(&mut self)
         requires { length (levels self.old) ≤ 64 }
@@ -85,9 +33,9 @@ impl Store {
         ensures succeeds { (bytes : List ℕ) (outer : Levels) → IsWriting self.old bytes start outer → FitsIn self.old.room (text_level (bytes ++ byte ∷ []) start outer) → IsOk result }
     {
         if first {
-            self.place_text(start, &[byte])
+            self.place_bytes(Shape::Text, start, &[byte])
         } else {
-            self.append_byte(byte)
+            self.append_bytes(Shape::Text, &[byte])
         }
     }
 
@@ -101,7 +49,7 @@ impl Store {
         ensures succeeds { (bytes : List ℕ) (outer : Levels) → IsWriting self.old bytes start outer → FitsIn self.old.room (pushed outer (Some (text_value bytes start))) → IsOk result }
     {
         if self.has_no_node() {
-            self.place_text(start, &[])
+            self.place_bytes(Shape::Text, start, &[])
         } else {
             Ok(())
         }

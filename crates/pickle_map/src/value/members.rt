@@ -2,7 +2,7 @@
 
 ghost use Rattle.std.specs.Prelude.{◌≡◌, ◌<◌, IfSome};
 ghost use Rattle.std.specs.Option.{option_map};
-ghost use Rattle.pickle_map.specs.Linked.{links_from};
+ghost use Rattle.pickle_map.specs.Lent.{place_links};
 ghost use Rattle.pickle_map.specs.Values.{members_of, member_count, member_at};
 
 use crate::store::slots::Link;
@@ -13,7 +13,7 @@ use crate::value::ValueRef;
 pub struct Members<'a> {
     value: ValueRef<'a>,
     links: &'a [Link],
-    ghost own: { links.now ≡ links_from value.stored.store.now.slots value.stored.node },
+    ghost own: { links.now ≡ place_links value.stored.store.now.slots value.stored.place },
 }
 
 #[tactic(auto, using(crate::proofs::ShownLabels::shown_reads))]

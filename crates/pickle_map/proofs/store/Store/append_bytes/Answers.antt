@@ -3,7 +3,7 @@ use Rattle.pickle_map.specs.Slots.{Slots, Held, GoesOn}
 use Rattle.pickle_map.specs.contracts.store.Store.{the_view}
 use Rattle.pickle_map.proofs.Writing.{byte-frames, byte-placed}
 use Rattle.pickle_map.proofs.Held.{depth-same}
-use Rattle.pickle_map.proofs.store.Store.append_byte.Goals as goal
+use Rattle.pickle_map.proofs.store.Store.append_bytes.Goals as goal
 
 pub invariant_of-self-2 : goal.invariant_of-self-2
 invariant_of-self-2 c =

@@ -4,7 +4,7 @@ use Rattle.pickle_map.specs.contracts.store.Store.{the_view}
 use Rattle.pickle_map.proofs.Held.{texts-few}
 use Rattle.pickle_map.proofs.Writing.{text-frames, text-levels, text-room}
 use Rattle.pickle_map.proofs.Held.{depth-same}
-use Rattle.pickle_map.proofs.store.Store.place_text.Goals as goal
+use Rattle.pickle_map.proofs.store.Store.place_bytes.Goals as goal
 
 pub returns-in_err-reserve-clause-succeeds : goal.returns-in_err-reserve-clause-succeeds
 returns-in_err-reserve-clause-succeeds c =

@@ -1,0 +1,46 @@
+-- Arrays of numbers that a store packs, while they are mapped.
+use Rattle.std.specs.Prelude.{◌≡◌, ℕ, ◌+◌, ◌*◌, length, List, ◌∷◌, Result, Ok, true}
+use Rattle.pickle_types.specs.Types.{PokeType, IntegerOf, OffsetOf}
+use Rattle.pickle_types.specs.declared.table.Node.{Node}
+use Rattle.bit_space.specs.declared.meter.Meter.{Meter}
+use Rattle.bit_space.specs.SpaceView.{SpaceView}
+use Rattle.pickle_map.specs.declared.store.room.Room.{Room}
+use Rattle.pickle_map.specs.declared.store.slots.Shape.{Shape}
+use Rattle.pickle_map.specs.declared.store.slots.Shape.TheVariants.{Integer, Offset, Text, Integers, Offsets, Array, Struct, Union}
+use Rattle.pickle_map.specs.Clauses.{FaultAt}
+use Rattle.pickle_map.specs.Framed.{Runs}
+use Rattle.pickle_map.specs.Follows.{Done}
+use Rattle.pickle_map.specs.Levels as stored
+use Rattle.pickle_map.specs.Means.{Opened}
+use Rattle.pickle_map.specs.Plan.{Plan}
+use Rattle.pickle_map.specs.Shown.{shown_level, shown_levels}
+use Rattle.pickle_map.specs.Slots.{Held, IsPacked, IsPacking, elements, element_width, packs}
+use Rattle.pickle_map.specs.Values.{Levels}
+
+-- what an array of elements of a type is packed as
+abbrev pub IsArrayOf : Shape → PokeType → Type 0
+IsArrayOf (Integer w g) ty = ⊥
+IsArrayOf (Offset w g u) ty = ⊥
+IsArrayOf Text ty = ⊥
+IsArrayOf (Integers w g) ty = ty ≡ IntegerOf (record { width = w; signed = g })
+IsArrayOf (Offsets w g u) ty = ty ≡ OffsetOf (record { width = w; signed = g }) u
+IsArrayOf Array ty = ⊥
+IsArrayOf (Struct t) ty = ⊥
+IsArrayOf (Union t i) ty = ⊥
+
+-- a store packs the elements of an array of that type so
+pub record PacksAs (shape : Shape) (ty : PokeType) (room : Room) : Type 0 where
+  pub packed : IsPacked shape
+  pub is : IsArrayOf shape ty
+  pub packs : packs room ≡ true
+
+-- the levels in which these elements stand, from the bit `start` on, inside others
+abbrev pub row_levels : List Node → Shape → List ℕ → (start : ℕ) → stored.Levels → Levels
+row_levels nodes shape numbers start outer = shown_level nodes (elements shape start numbers) ∷ shown_levels nodes outer
+
+-- an array of packed numbers whose elements are mapped, by the plan of its elements
+pub record Packs (nodes : List Node) (space : SpaceView) (meter meter' : Meter) (store store' : Held) (shape : Shape) (start : ℕ) (outer : stored.Levels) (p : Plan (Result Opened FaultAt)) (end : ℕ) : Type 0 where
+  pub numbers : List ℕ
+  pub packing : IsPacking store' shape numbers start outer
+  pub ends : end ≡ start + element_width shape * length numbers
+  pub runs : Runs space meter meter' store p (Done (Ok (row_levels nodes shape numbers start outer, end)))

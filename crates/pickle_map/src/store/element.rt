@@ -1,0 +1,85 @@
+//! The elements of arrays of packed numbers.
+ghost use Rattle.std.specs.Prelude.{◌≡◌, ◌<◌, ◌≤◌, Some, length, slice_index};
+ghost use Rattle.pickle_map.specs.Tree.{label, start};
+ghost use Rattle.pickle_map.specs.Lent.{place_value, IsPlace};
+ghost use Rattle.pickle_map.specs.Packed.{bytes_number};
+ghost use Rattle.pickle_map.specs.Scalars.{scalar_label, scalar_in, IsScalar};
+ghost use Rattle.pickle_map.specs.Slots.{row_numbers, IsByteRow, AreNumbers};
+ghost use Rattle.pickle_map.specs.declared.store.slots.Place.TheVariants.{Element};
+
+use crate::evaluate::integers::Scalar;
+use crate::evaluate::ranges::with_sign;
+use crate::store::Store;
+use crate::store::row::bytes_for;
+use crate::store::slots::Shape;
+use pickle_types::integer::IntegerType;
+
+// The number that bytes are, the lowest first.
+fn bytes_number(bytes: &[u8]) -> u64
+    requires { length bytes.now ≤ 8 }
+    ensures { result ≡ bytes_number bytes.now }
+{
+    let mut number = 0;
+    for byte in bytes.iter().rev() {
+        number = number << 8 | u64::from(*byte);
+    }
+    number
+}
+
+impl Store {
+    // How many packed numbers of `width` bits each there are.
+    pub(super) fn count_packed(&self, width: u8, row: usize) -> usize
+        requires row { IsByteRow self.now.slots row }
+        requires width { 1 ≤ width }
+        ensures { result ≡ length (row_numbers self.now.slots width row) }
+    {
+        self.text(row).len() / bytes_for(width)
+    }
+
+    // The packed number at a place.
+    fn packed_number(&self, width: u8, row: usize, i: usize) -> u64
+        requires row { IsByteRow self.now.slots row }
+        requires width { (1 ≤ width) × (width ≤ 64) }
+        requires within { i < length (row_numbers self.now.slots width row) }
+        ensures { result ≡ slice_index (row_numbers self.now.slots width row) i }
+    {
+        let size = bytes_for(width);
+        bytes_number(&self.text(row)[i * size..(i + 1) * size])
+    }
+
+    /// The element at a place of the array of packed numbers at a node.
+    pub(crate) fn element_at(&self, array: usize, index: usize) -> Scalar
+        requires { IsPlace self.now.slots (Element array index) }
+        ensures is { Some (scalar_label result) ≡ scalar_in (label (place_value self.now.slots (Element array index))) }
+        ensures scalar { IsScalar result }
+    {
+        let node = self.node_at(array);
+        let row = node.content as usize;
+        match node.shape {
+            Shape::Offsets {
+                width,
+                signed,
+                unit,
+            } => {
+                let number = IntegerType { width, signed };
+                let digits = self.packed_number(width, row, index);
+                Scalar::Offset(with_sign(number, digits), number, unit)
+            }
+            Shape::Integers { width, signed } => {
+                let number = IntegerType { width, signed };
+                let digits = self.packed_number(width, row, index);
+                Scalar::Integer(with_sign(number, digits), number)
+            }
+            _ => unreachable!(),
+        }
+    }
+
+    /// The bit at which an element of the array of packed numbers at a node starts.
+    pub(crate) fn element_start(&self, array: usize, index: usize) -> u64
+        requires { IsPlace self.now.slots (Element array index) }
+        ensures { result ≡ start (place_value self.now.slots (Element array index)) }
+    {
+        let node = self.node_at(array);
+        node.start + u64::from(node.shape.element_width()) * index as u64
+    }
+}
