@@ -1,6 +1,7 @@
 pub mod Moduli
 pub mod Signed
 pub mod Digits
+pub mod Packed
 mod Rows
 mod Refused
 mod Basics
