@@ -1,6 +1,7 @@
 -- What lists of values take, and their open values' levels.
 use Rattle.std.proofs.Common.{◌≡◌, ◌+◌, ◌≤◌, List, [], ◌∷◌, ◌++◌, Option, Some, None, length, take, drop, refl, sym, ◌∙◌, ap, subst, arith, zero-add}
 use Rattle.std.proofs.lemmas.List.{append-nil, length-take, drop-append-le, drop_at, take_all, take-take, take-append-drop}
+use Rattle.pickle_map.specs.declared.store.room.Room.{Room}
 use Rattle.pickle_map.specs.declared.store.slots.Marks.{Marks}
 use Rattle.pickle_map.specs.Tree.{Value, parts_of}
 use Rattle.pickle_map.specs.Levels.{extended, nodes_in_parts, links_in_parts, bytes_in_parts, level_nodes, level_links, level_bytes}
@@ -64,8 +65,8 @@ within-length : {A : Type 0} (xs ys : List A) → take (length xs) ys ≡ xs →
 within-length xs ys e = omega (arith, ap length e, length-take (length xs) ys)
 
 -- what is kept is within what was added to
-pub Adds-within : (s u : Slots) (vs : List (Option Value)) → Adds s u vs → IsWithin (marks_of s) u
-Adds-within s u vs h = record {
+pub Adds-within : (room : Room) (s u : Slots) (vs : List (Option Value)) → Adds room s u vs → IsWithin (marks_of s) u
+Adds-within room s u vs h = record {
   nodes = within-length s.nodes u.nodes (ap (λ (x : Slots). x.nodes) h.rest);
   families = within-length s.families u.families (ap (λ (x : Slots). x.families) h.rest);
   links = within-length s.links u.links (ap (λ (x : Slots). x.links) h.rest);
@@ -84,72 +85,72 @@ within-more k s u h g = record {
   bytes = omega (arith, h.bytes, g.bytes);
 }
 
-level-more : (k : Marks) (s u : Slots) (vs : List (Option Value)) → IsWithin k s → Adds s u vs → level_of k u ≡ level_of k s ++ vs
-level-more k s u vs w h = ap (drop k.pending) h.stack ∙ drop-append-le k.pending (stack s) vs (omega (arith, w.pending, length-stack s))
+level-more : (room : Room) (k : Marks) (s u : Slots) (vs : List (Option Value)) → IsWithin k s → Adds room s u vs → level_of k u ≡ level_of k s ++ vs
+level-more room k s u vs w h = ap (drop k.pending) h.stack ∙ drop-append-le k.pending (stack s) vs (omega (arith, w.pending, length-stack s))
 
-IsLevel-more : (k : Marks) (s u : Slots) (vs : List (Option Value)) → IsLevel k s → Adds s u vs → IsLevel k u
-IsLevel-more k s u vs h g =
-    let e = level-more k s u vs h.within g in
+IsLevel-more : (room : Room) (k : Marks) (s u : Slots) (vs : List (Option Value)) → IsLevel room k s → Adds room s u vs → IsLevel room k u
+IsLevel-more room k s u vs h g =
+    let e = level-more room k s u vs h.within g in
     record {
-      within = within-more k s u h.within (Adds-within s u vs g);
-      nodes = omega (arith, h.nodes, g.nodes, ap level_nodes e, level_nodes-append (level_of k s) vs);
-      links = omega (arith, h.links, g.links, ap level_links e, level_links-append (level_of k s) vs);
-      bytes = omega (arith, h.bytes, g.bytes, ap level_bytes e, level_bytes-append (level_of k s) vs);
+      within = within-more k s u h.within (Adds-within room s u vs g);
+      nodes = λ counted. omega (arith, h.nodes counted, g.nodes counted, ap level_nodes e, level_nodes-append (level_of k s) vs);
+      links = λ counted. omega (arith, h.links counted, g.links counted, ap level_links e, level_links-append (level_of k s) vs);
+      bytes = λ counted. omega (arith, h.bytes counted, g.bytes counted, ap level_bytes e, level_bytes-append (level_of k s) vs);
     }
 
-cut-more : (k : Marks) (s u : Slots) (vs : List (Option Value)) → IsWithin k s → Adds s u vs → cut_to k u ≡ cut_to k s
-cut-more k s u vs w h =
+cut-more : (room : Room) (k : Marks) (s u : Slots) (vs : List (Option Value)) → IsWithin k s → Adds room s u vs → cut_to k u ≡ cut_to k s
+cut-more room k s u vs w h =
     let w' : IsWithin k (cut_to (marks_of s) u) = subst (λ x. IsWithin k x) (sym h.rest) w in
     sym (cut-cut k (marks_of s) u w') ∙ ap (cut_to k) h.rest
 
 -- values are added to the innermost open value
-pub levels-more : (ks : List Marks) (s u : Slots) (vs : List (Option Value)) → AreLevels ks s → Adds s u vs → AreLevels ks u
-levels-more [] s u vs h g = (g.sound, IsLevel-more root_marks s u vs h.1 g)
-levels-more (k ∷ ks) s u vs h g = (g.sound, (IsLevel-more k s u vs h.1.0 g, subst (λ x. AreLevels ks x) (sym (cut-more k s u vs h.1.0.within g)) h.1.1))
+pub levels-more : (room : Room) (ks : List Marks) (s u : Slots) (vs : List (Option Value)) → AreLevels room ks s → Adds room s u vs → AreLevels room ks u
+levels-more room [] s u vs h g = (g.sound, IsLevel-more room root_marks s u vs h.1 g)
+levels-more room (k ∷ ks) s u vs h g = (g.sound, (IsLevel-more room k s u vs h.1.0 g, subst (λ x. AreLevels room ks x) (sym (cut-more room k s u vs h.1.0.within g)) h.1.1))
 
-pub levels_at-more : (ks : List Marks) (s u : Slots) (vs : List (Option Value)) → AreLevels ks s → Adds s u vs → levels_at ks u ≡ extended (levels_at ks s) vs
-levels_at-more [] s u vs h g = ap (λ top. top ∷ []) (level-more root_marks s u vs h.1.within g)
-levels_at-more (k ∷ ks) s u vs h g =
-    let e = level-more k s u vs h.1.0.within g in
-    let r = cut-more k s u vs h.1.0.within g in
+pub levels_at-more : (room : Room) (ks : List Marks) (s u : Slots) (vs : List (Option Value)) → AreLevels room ks s → Adds room s u vs → levels_at ks u ≡ extended (levels_at ks s) vs
+levels_at-more room [] s u vs h g = ap (λ top. top ∷ []) (level-more room root_marks s u vs h.1.within g)
+levels_at-more room (k ∷ ks) s u vs h g =
+    let e = level-more room k s u vs h.1.0.within g in
+    let r = cut-more room k s u vs h.1.0.within g in
     ap (λ top. top ∷ levels_at ks (cut_to k u)) e ∙ ap (λ x. (level_of k s ++ vs) ∷ levels_at ks x) r
 
 -- a level above all that a store holds
-level-above : (s u : Slots) (vs : List (Option Value)) → Adds s u vs → level_of (marks_of s) u ≡ vs
-level-above s u vs h = ap (drop (length s.pending)) h.stack ∙ drop_at (stack s) vs (length s.pending) (length-stack s)
+level-above : (room : Room) (s u : Slots) (vs : List (Option Value)) → Adds room s u vs → level_of (marks_of s) u ≡ vs
+level-above room s u vs h = ap (drop (length s.pending)) h.stack ∙ drop_at (stack s) vs (length s.pending) (length-stack s)
 
-pub levels-above : (ks : List Marks) (s u : Slots) (vs : List (Option Value)) → AreLevels ks s → Adds s u vs → AreLevels (marks_of s ∷ ks) u
-levels-above ks s u vs h g =
-    let e = level-above s u vs g in (
+pub levels-above : (room : Room) (ks : List Marks) (s u : Slots) (vs : List (Option Value)) → AreLevels room ks s → Adds room s u vs → AreLevels room (marks_of s ∷ ks) u
+levels-above room ks s u vs h g =
+    let e = level-above room s u vs g in (
       g.sound,
       (
         record {
-          within = Adds-within s u vs g;
-          nodes = omega (arith, g.nodes, ap level_nodes e);
-          links = omega (arith, g.links, ap level_links e);
-          bytes = omega (arith, g.bytes, ap level_bytes e);
+          within = Adds-within room s u vs g;
+          nodes = λ counted. omega (arith, g.nodes counted, ap level_nodes e);
+          links = λ counted. omega (arith, g.links counted, ap level_links e);
+          bytes = λ counted. omega (arith, g.bytes counted, ap level_bytes e);
         },
-        subst (λ x. AreLevels ks x) (sym g.rest) h,
+        subst (λ x. AreLevels room ks x) (sym g.rest) h,
       ),
     )
 
-pub levels_at-above : (ks : List Marks) (s u : Slots) (vs : List (Option Value)) → Adds s u vs → levels_at (marks_of s ∷ ks) u ≡ vs ∷ levels_at ks s
-levels_at-above ks s u vs g =
-    ap (λ top. top ∷ levels_at ks (cut_to (marks_of s) u)) (level-above s u vs g) ∙ ap (λ x. vs ∷ levels_at ks x) g.rest
+pub levels_at-above : (room : Room) (ks : List Marks) (s u : Slots) (vs : List (Option Value)) → Adds room s u vs → levels_at (marks_of s ∷ ks) u ≡ vs ∷ levels_at ks s
+levels_at-above room ks s u vs g =
+    ap (λ top. top ∷ levels_at ks (cut_to (marks_of s) u)) (level-above room s u vs g) ∙ ap (λ x. vs ∷ levels_at ks x) g.rest
 
-pub levels-sound : (ks : List Marks) (s : Slots) → AreLevels ks s → IsSound s
-levels-sound [] s h = h.0
-levels-sound (k ∷ ks) s h = h.0
+pub levels-sound : (room : Room) (ks : List Marks) (s : Slots) → AreLevels room ks s → IsSound s
+levels-sound room [] s h = h.0
+levels-sound room (k ∷ ks) s h = h.0
 
 -- nothing is added
-pub Adds-none : (s : Slots) → IsSound s → Adds s s []
-Adds-none s h = record {
+pub Adds-none : (room : Room) (s : Slots) → IsSound s → Adds room s s []
+Adds-none room s h = record {
   sound = h;
   rest = cut-all s;
   stack = sym (append-nil (stack s));
-  nodes = omega arith;
-  links = omega arith;
-  bytes = omega arith;
+  nodes = λ counted. omega arith;
+  links = λ counted. omega arith;
+  bytes = λ counted. omega arith;
 }
 
 pub marks-cut : (k : Marks) (s : Slots) → IsWithin k s → marks_of (cut_to k s) ≡ k
@@ -164,15 +165,15 @@ marks-cut k s w =
     cc
 
 -- an open value is what was added since it was opened
-pub Adds-level : (k : Marks) (ks : List Marks) (s : Slots) → AreLevels (k ∷ ks) s → Adds (cut_to k s) s (level_of k s)
-Adds-level k ks s h =
+pub Adds-level : (room : Room) (k : Marks) (ks : List Marks) (s : Slots) → AreLevels room (k ∷ ks) s → Adds room (cut_to k s) s (level_of k s)
+Adds-level room k ks s h =
     let w = h.1.0.within in
     let m = marks-cut k s w in
     record {
       sound = h.0;
       rest = ap (λ (j : Marks). cut_to j s) m;
-      stack = sym (ap (λ vs. vs ++ level_of k s) (stack-cut k s (levels-sound ks (cut_to k s) h.1.1)) ∙ take-append-drop k.pending (stack s));
-      nodes = omega (arith, h.1.0.nodes, ap (λ (j : Marks). j.nodes) m);
-      links = omega (arith, h.1.0.links, ap (λ (j : Marks). j.links) m);
-      bytes = omega (arith, h.1.0.bytes, ap (λ (j : Marks). j.bytes) m);
+      stack = sym (ap (λ vs. vs ++ level_of k s) (stack-cut k s (levels-sound room ks (cut_to k s) h.1.1)) ∙ take-append-drop k.pending (stack s));
+      nodes = λ counted. omega (arith, h.1.0.nodes counted, ap (λ (j : Marks). j.nodes) m);
+      links = λ counted. omega (arith, h.1.0.links counted, ap (λ (j : Marks). j.links) m);
+      bytes = λ counted. omega (arith, h.1.0.bytes counted, ap (λ (j : Marks). j.bytes) m);
     }

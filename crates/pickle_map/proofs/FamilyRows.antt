@@ -1,12 +1,13 @@
 -- Rows of links and bytes, and what stays of them as a store grows.
-use Rattle.std.proofs.Common.{◌≡◌, ℕ, zero, suc, ◌+◌, ◌-◌, ◌*◌, ◌<◌, ◌≤◌, List, [], ◌∷◌, ◌++◌, Option, Some, length, take, drop, refl, ◌∙◌, ap, arith}
+use Rattle.std.proofs.Common.{◌≡◌, ℕ, zero, suc, ◌+◌, ◌-◌, ◌*◌, ◌<◌, ◌≤◌, List, [], ◌∷◌, ◌++◌, Option, Some, length, take, drop, map, refl, sym, ◌∙◌, ap, subst, arith}
 use Rattle.std.specs.Prelude.{slice_get, slice_index}
 use Rattle.std.proofs.lemmas.List.{length-append, length-drop, take-append-le, drop-append-le, drop_at, take_all, get_or_append_left}
 use Rattle.pickle_map.specs.declared.store.slots.Family.{Family}
 use Rattle.pickle_map.specs.declared.store.slots.Shape.{Shape}
-use Rattle.pickle_map.specs.declared.store.slots.Shape.TheVariants.{Integer, Offset, Text, Array, Struct, Union}
-use Rattle.pickle_map.specs.Tree.{TextLabel}
-use Rattle.pickle_map.specs.Slots.{Slots, part, family_at, first_link, family_links, first_byte, text_bytes, label_in, size_in, links_of, IsFamily, IsTextRow, IsContent}
+use Rattle.pickle_map.specs.declared.store.slots.Shape.TheVariants.{Integer, Offset, Text, Integers, Offsets, Array, Struct, Union}
+use Rattle.pickle_map.specs.Packed.{numbers_in}
+use Rattle.pickle_map.specs.Tree.{Value, TextLabel}
+use Rattle.pickle_map.specs.Slots.{Slots, part, family_at, first_link, family_links, first_byte, text_bytes, row_numbers, elements, label_in, size_in, links_of, opened, parts_in, IsFamily, IsShort, IsByteRow, IsTextRow, AreNumbers, IsContent}
 
 pub slice_get-append : {A : Type 0} (xs ys : List A) (i : ℕ) → i < length xs → slice_get (xs ++ ys) i ≡ slice_get xs i
 slice_get-append [] ys i h = absurd (omega arith)
@@ -52,20 +53,48 @@ IsFamily-grow s u c g h =
     let b = first_link-grow s.families g.more_families c (omega (arith, h.0)) in
     rw (g.families, g.links) (omega (arith, h.0, length-append s.families g.more_families), rw (f, b) (record { ordered = h.1.ordered; within = omega (arith, h.1.within, length-append s.links g.more_links) }))
 
+-- where bytes begin and end
+end-grow : (s u : Slots) (c : ℕ) → Grows s u → c < length s.texts → slice_index u.texts c ≡ slice_index s.texts c
+end-grow s u c g h = rw g.texts (get_or_append_left s.texts g.more_texts 0 c h)
+
+begin-grow : (s u : Slots) (c : ℕ) → Grows s u → c < length s.texts → first_byte u.texts c ≡ first_byte s.texts c
+begin-grow s u c g h = rw g.texts (first_byte-grow s.texts g.more_texts c (omega arith))
+
+pub IsByteRow-grow : (s u : Slots) (c : ℕ) → Grows s u → IsByteRow s c → IsByteRow u c
+IsByteRow-grow s u c g h =
+    let f = end-grow s u c g h.0 in
+    let b = begin-grow s u c g h.0 in (
+      omega (arith, h.0, ap length g.texts, length-append s.texts g.more_texts),
+      record { ordered = omega (arith, f, b, h.1.ordered); within = omega (arith, f, h.1.within, ap length g.bytes, length-append s.bytes g.more_bytes) },
+    )
+
+pub text_bytes-grow : (s u : Slots) (c : ℕ) → Grows s u → IsByteRow s c → text_bytes u.texts u.bytes c ≡ text_bytes s.texts s.bytes c
+text_bytes-grow s u c g h =
+    let f = end-grow s u c g h.0 in
+    let b = begin-grow s u c g h.0 in
+    rw (f, b, g.bytes) (part-append (first_byte s.texts c) _ s.bytes g.more_bytes (omega (arith, h.1.ordered, h.1.within)))
+
+pub row_numbers-grow : (s u : Slots) (w c : ℕ) → Grows s u → IsByteRow s c → row_numbers u w c ≡ row_numbers s w c
+row_numbers-grow s u w c g h = ap (numbers_in w) (text_bytes-grow s u c g h)
+
 IsTextRow-grow : (s u : Slots) (c : ℕ) → Grows s u → IsTextRow s c → IsTextRow u c
 IsTextRow-grow s u c g h =
-    let f : slice_index (s.texts ++ g.more_texts) c ≡ slice_index s.texts c = get_or_append_left s.texts g.more_texts 0 c h.0 in
-    let b = first_byte-grow s.texts g.more_texts c (omega (arith, h.0)) in
-    let row = h.1.0 in
-    rw (g.texts, g.bytes) (omega (arith, h.0, length-append s.texts g.more_texts), rw (f, b) (record { ordered = row.ordered; within = omega (arith, row.within, length-append s.bytes g.more_bytes) }, h.1.1))
+    let f = end-grow s u c g h.0.0 in
+    let b = begin-grow s u c g h.0.0 in
+    (IsByteRow-grow s u c g h.0, rw (f, b) h.1)
 
-pub IsContent-grow : (s u : Slots) (shape : Shape) (c : ℕ) → Grows s u → IsContent s shape c → IsContent u shape c
-IsContent-grow s u (Integer w x) c g h = h
-IsContent-grow s u (Offset w x y) c g h = h
-IsContent-grow s u Text c g h = IsTextRow-grow s u c g h
-IsContent-grow s u Array c g h = IsFamily-grow s u c g h
-IsContent-grow s u (Struct t) c g h = IsFamily-grow s u c g h
-IsContent-grow s u (Union i t) c g h = IsFamily-grow s u c g h
+AreNumbers-grow : (s u : Slots) (w start c : ℕ) → Grows s u → IsByteRow s c → AreNumbers w (row_numbers s w c) start → AreNumbers w (row_numbers u w c) start
+AreNumbers-grow s u w start c g h a = subst (λ ns. AreNumbers w ns start) (sym (row_numbers-grow s u w c g h)) a
+
+pub IsContent-grow : (s u : Slots) (shape : Shape) (start c : ℕ) → Grows s u → IsContent s shape start c → IsContent u shape start c
+IsContent-grow s u (Integer w x) start c g h = h
+IsContent-grow s u (Offset w x y) start c g h = h
+IsContent-grow s u Text start c g h = IsTextRow-grow s u c g h
+IsContent-grow s u (Integers w x) start c g h = (IsByteRow-grow s u c g h.0, AreNumbers-grow s u w start c g h.0 h.1)
+IsContent-grow s u (Offsets w x y) start c g h = (IsByteRow-grow s u c g h.0, (AreNumbers-grow s u w start c g h.0 h.1.0, h.1.1))
+IsContent-grow s u Array start c g h = IsFamily-grow s u c g h
+IsContent-grow s u (Struct t) start c g h = IsFamily-grow s u c g h
+IsContent-grow s u (Union i t) start c g h = IsFamily-grow s u c g h
 
 family_links-grow : (s u : Slots) (c : ℕ) → Grows s u → IsFamily s c → family_links u.families u.links c ≡ family_links s.families s.links c
 family_links-grow s u c g h =
@@ -76,38 +105,49 @@ family_links-grow s u c g h =
 family_size-grow : (s u : Slots) (c : ℕ) → Grows s u → IsFamily s c → (family_at u.families c).size ≡ (family_at s.families c).size
 family_size-grow s u c g h = rw g.families (ap (λ (f : Family). f.size) (family_at-grow s.families g.more_families c h.0))
 
-text_bytes-grow : (s u : Slots) (c : ℕ) → Grows s u → IsTextRow s c → text_bytes u.texts u.bytes c ≡ text_bytes s.texts s.bytes c
-text_bytes-grow s u c g h =
-    let f : slice_index (s.texts ++ g.more_texts) c ≡ slice_index s.texts c = get_or_append_left s.texts g.more_texts 0 c h.0 in
-    let b = first_byte-grow s.texts g.more_texts c (omega (arith, h.0)) in
-    rw (g.texts, g.bytes, f, b) (part-append (first_byte s.texts c) _ s.bytes g.more_bytes (omega (arith, h.1.0.ordered, h.1.0.within)))
+pub links_of-grow : (s u : Slots) (shape : Shape) (start c : ℕ) → Grows s u → IsContent s shape start c → links_of u shape c ≡ links_of s shape c
+links_of-grow s u (Integer w x) start c g h = refl
+links_of-grow s u (Offset w x y) start c g h = refl
+links_of-grow s u Text start c g h = refl
+links_of-grow s u (Integers w x) start c g h = refl
+links_of-grow s u (Offsets w x y) start c g h = refl
+links_of-grow s u Array start c g h = family_links-grow s u c g h
+links_of-grow s u (Struct t) start c g h = family_links-grow s u c g h
+links_of-grow s u (Union i t) start c g h = family_links-grow s u c g h
 
-pub links_of-grow : (s u : Slots) (shape : Shape) (c : ℕ) → Grows s u → IsContent s shape c → links_of u shape c ≡ links_of s shape c
-links_of-grow s u (Integer w x) c g h = refl
-links_of-grow s u (Offset w x y) c g h = refl
-links_of-grow s u Text c g h = refl
-links_of-grow s u Array c g h = family_links-grow s u c g h
-links_of-grow s u (Struct t) c g h = family_links-grow s u c g h
-links_of-grow s u (Union i t) c g h = family_links-grow s u c g h
+-- the parts of a value don't change as rows are added
+pub parts_in-grow : (s u : Slots) (ts : List Value) (shape : Shape) (start c : ℕ) → Grows s u → IsContent s shape start c → parts_in u ts shape start c ≡ parts_in s ts shape start c
+parts_in-grow s u ts (Integer w x) start c g h = refl
+parts_in-grow s u ts (Offset w x y) start c g h = refl
+parts_in-grow s u ts Text start c g h = refl
+parts_in-grow s u ts (Integers w x) start c g h = ap (elements (Integers w x) start) (row_numbers-grow s u w c g h.0)
+parts_in-grow s u ts (Offsets w x y) start c g h = ap (elements (Offsets w x y) start) (row_numbers-grow s u w c g h.0)
+parts_in-grow s u ts Array start c g h = ap (map (opened ts)) (family_links-grow s u c g h)
+parts_in-grow s u ts (Struct t) start c g h = ap (map (opened ts)) (family_links-grow s u c g h)
+parts_in-grow s u ts (Union i t) start c g h = ap (map (opened ts)) (family_links-grow s u c g h)
 
-pub label_in-grow : (s u : Slots) (shape : Shape) (c : ℕ) → Grows s u → IsContent s shape c → label_in u shape c ≡ label_in s shape c
-label_in-grow s u (Integer w x) c g h = refl
-label_in-grow s u (Offset w x y) c g h = refl
-label_in-grow s u Text c g h = ap TextLabel (text_bytes-grow s u c g h)
-label_in-grow s u Array c g h = refl
-label_in-grow s u (Struct t) c g h = refl
-label_in-grow s u (Union i t) c g h = refl
+pub label_in-grow : (s u : Slots) (shape : Shape) (start c : ℕ) → Grows s u → IsContent s shape start c → label_in u shape c ≡ label_in s shape c
+label_in-grow s u (Integer w x) start c g h = refl
+label_in-grow s u (Offset w x y) start c g h = refl
+label_in-grow s u Text start c g h = ap TextLabel (text_bytes-grow s u c g h.0)
+label_in-grow s u (Integers w x) start c g h = refl
+label_in-grow s u (Offsets w x y) start c g h = refl
+label_in-grow s u Array start c g h = refl
+label_in-grow s u (Struct t) start c g h = refl
+label_in-grow s u (Union i t) start c g h = refl
 
-text_size-grow : (s u : Slots) (c : ℕ) → Grows s u → IsTextRow s c → 8 * (slice_index u.texts c - first_byte u.texts c + 1) ≡ 8 * (slice_index s.texts c - first_byte s.texts c + 1)
+text_size-grow : (s u : Slots) (c : ℕ) → Grows s u → IsByteRow s c → 8 * (slice_index u.texts c - first_byte u.texts c + 1) ≡ 8 * (slice_index s.texts c - first_byte s.texts c + 1)
 text_size-grow s u c g h =
-    let f : slice_index (s.texts ++ g.more_texts) c ≡ slice_index s.texts c = get_or_append_left s.texts g.more_texts 0 c h.0 in
-    let b = first_byte-grow s.texts g.more_texts c (omega (arith, h.0)) in
-    rw (g.texts, f, b) refl
+    let f = end-grow s u c g h.0 in
+    let b = begin-grow s u c g h.0 in
+    rw (f, b) refl
 
-pub size_in-grow : (s u : Slots) (shape : Shape) (c : ℕ) → Grows s u → IsContent s shape c → size_in u shape c ≡ size_in s shape c
-size_in-grow s u (Integer w x) c g h = refl
-size_in-grow s u (Offset w x y) c g h = refl
-size_in-grow s u Text c g h = text_size-grow s u c g h
-size_in-grow s u Array c g h = family_size-grow s u c g h
-size_in-grow s u (Struct t) c g h = family_size-grow s u c g h
-size_in-grow s u (Union i t) c g h = family_size-grow s u c g h
+pub size_in-grow : (s u : Slots) (shape : Shape) (start c : ℕ) → Grows s u → IsContent s shape start c → size_in u shape c ≡ size_in s shape c
+size_in-grow s u (Integer w x) start c g h = refl
+size_in-grow s u (Offset w x y) start c g h = refl
+size_in-grow s u Text start c g h = text_size-grow s u c g h.0
+size_in-grow s u (Integers w x) start c g h = ap (λ (ns : List ℕ). w * length ns) (row_numbers-grow s u w c g h.0)
+size_in-grow s u (Offsets w x y) start c g h = ap (λ (ns : List ℕ). w * length ns) (row_numbers-grow s u w c g h.0)
+size_in-grow s u Array start c g h = family_size-grow s u c g h
+size_in-grow s u (Struct t) start c g h = family_size-grow s u c g h
+size_in-grow s u (Union i t) start c g h = family_size-grow s u c g h

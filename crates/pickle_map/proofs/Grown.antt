@@ -4,9 +4,11 @@ use Rattle.std.specs.Prelude.{slice_get}
 use Rattle.std.proofs.lemmas.List.{append_assoc, append-nil, length_push, map-append, take-map, length-map, take-append-drop}
 use Rattle.pickle_map.specs.declared.store.slots.Node.{Node}
 use Rattle.pickle_map.specs.declared.store.slots.Marks.{Marks}
+use Rattle.pickle_map.specs.declared.store.slots.Shape.{Shape}
+use Rattle.pickle_map.specs.declared.store.slots.Shape.TheVariants.{Integer, Offset, Text, Integers, Offsets, Array, Struct, Union}
 use Rattle.pickle_map.specs.Tree.{Value, Tree, parts_of}
-use Rattle.pickle_map.specs.Slots.{Slots, opened, label_in, size_in, links_of, tree_of, trees_from, trees, stack, LinksBelow, IsNodeAt, AreNodesFrom, IsSound, cut_to}
-use Rattle.pickle_map.proofs.FamilyRows.{Grows, slice_get-append, slice_get-push, IsContent-grow, links_of-grow, label_in-grow, size_in-grow}
+use Rattle.pickle_map.specs.Slots.{Slots, opened, label_in, size_in, links_of, parts_in, IsContent, tree_of, trees_from, trees, stack, LinksBelow, IsNodeAt, AreNodesFrom, IsSound, cut_to}
+use Rattle.pickle_map.proofs.FamilyRows.{Grows, slice_get-append, slice_get-push, IsContent-grow, links_of-grow, parts_in-grow, label_in-grow, size_in-grow}
 
 pub LinksBelow-weaker : (j k : ℕ) (ls : List (Option ℕ)) → j ≤ k → LinksBelow j ls → LinksBelow k ls
 LinksBelow-weaker j k [] p h = tt
@@ -35,12 +37,23 @@ opened-grow ts us [] h = refl
 opened-grow ts us (None ∷ ls) h = ap (λ os. None ∷ os) (opened-grow ts us ls h)
 opened-grow ts us (Some i ∷ ls) h = let e = slice_get-append ts us i h.0 in let r = opened-grow ts us ls h.1 in cc
 
+-- the parts of a value are the same among more values
+pub parts_in-more : (s : Slots) (ts us : List Value) (shape : Shape) (start c : ℕ) → LinksBelow (length ts) (links_of s shape c) → parts_in s (ts ++ us) shape start c ≡ parts_in s ts shape start c
+parts_in-more s ts us (Integer w g) start c h = refl
+parts_in-more s ts us (Offset w g u) start c h = refl
+parts_in-more s ts us Text start c h = refl
+parts_in-more s ts us (Integers w g) start c h = refl
+parts_in-more s ts us (Offsets w g u) start c h = refl
+parts_in-more s ts us Array start c h = opened-grow ts us _ h
+parts_in-more s ts us (Struct t) start c h = opened-grow ts us _ h
+parts_in-more s ts us (Union i t) start c h = opened-grow ts us _ h
+
 -- a node's value does not change as rows are added
 tree_of-grow : (s u : Slots) (ts : List Value) (i : ℕ) (n : Node) → Grows s u → IsNodeAt s i n → tree_of u ts n ≡ tree_of s ts n
 tree_of-grow s u ts i n g h =
-    let l = label_in-grow s u n.shape n.content g h.content in
-    let z = size_in-grow s u n.shape n.content g h.content in
-    let p = links_of-grow s u n.shape n.content g h.content in cc
+    let l = label_in-grow s u n.shape n.start n.content g h.content in
+    let z = size_in-grow s u n.shape n.start n.content g h.content in
+    let p = parts_in-grow s u ts n.shape n.start n.content g h.content in cc
 
 pub trees_from-grow : (s u : Slots) (ts : List Value) (i : ℕ) (ns : List Node) → Grows s u → AreNodesFrom s i ns → trees_from u ts ns ≡ trees_from s ts ns
 trees_from-grow s u ts i [] g h = refl
@@ -66,8 +79,8 @@ trees_from-more s ts (n ∷ ns) =
 
 IsNodeAt-grow : (s u : Slots) (i : ℕ) (n : Node) → Grows s u → IsNodeAt s i n → IsNodeAt u i n
 IsNodeAt-grow s u i n g h = record {
-  content = IsContent-grow s u n.shape n.content g h.content;
-  below = rw (links_of-grow s u n.shape n.content g h.content) h.below;
+  content = IsContent-grow s u n.shape n.start n.content g h.content;
+  below = rw (links_of-grow s u n.shape n.start n.content g h.content) h.below;
 }
 
 pub AreNodes-grow : (s u : Slots) (i : ℕ) (ns : List Node) → Grows s u → AreNodesFrom s i ns → AreNodesFrom u i ns
@@ -89,9 +102,9 @@ get-trees_from s ts (m ∷ ns) zero n h g =
     let f = trees_from s (ts ++ t ∷ []) ns in
     let e : f ≡ ts ++ t ∷ r.0 = r.1 ∙ append_assoc ts (t ∷ []) r.0 in
     let at : slice_get f (length ts) ≡ Some t = rw e (slice_get-push ts t r.0) in
-    let same : tree_of s f m ≡ t =
-    ap (λ us. Tree (label_in s m.shape m.content) m.start (size_in s m.shape m.content) (parts_of (map (opened us) (links_of s m.shape m.content)))) e
-    ∙ ap (λ os. Tree (label_in s m.shape m.content) m.start (size_in s m.shape m.content) (parts_of os)) (opened-grow ts (t ∷ r.0) (links_of s m.shape m.content) h.0.below) in
+    let own : parts_in s f m.shape m.start m.content ≡ parts_in s ts m.shape m.start m.content =
+    ap (λ us. parts_in s us m.shape m.start m.content) e ∙ parts_in-more s ts (t ∷ r.0) m.shape m.start m.content h.0.below in
+    let same : tree_of s f m ≡ t = ap (λ os. Tree (label_in s m.shape m.content) m.start (size_in s m.shape m.content) (parts_of os)) own in
     let is : m ≡ n = cc in
     rw add-zero (subst (λ x. slice_get f (length ts) ≡ Some (tree_of s f x)) is (at ∙ ap Some (sym same)))
 get-trees_from s ts (m ∷ ns) (suc k) n h g =

@@ -1,34 +1,38 @@
 -- What a placed value adds to a store.
 use Rattle.std.proofs.Common.{◌≡◌, ℕ, ◌+◌, ◌-◌, ◌≤◌, List, [], ◌∷◌, ◌++◌, Some, None, length, take, drop, map, refl, sym, ◌∙◌, ap, arith, add-one}
-use Rattle.std.specs.Prelude.{slice_index}
 use Rattle.std.proofs.lemmas.List.{append-nil, length-append, length-take, length-drop, length_push, take-append-le, take_at, take_all, map-append, drop-map}
 use Rattle.std.proofs.Math.Seq.{get_or-append_seam}
+use Rattle.pickle_map.specs.declared.store.room.Room.{Room}
 use Rattle.pickle_map.specs.declared.store.slots.Node.{Node}
 use Rattle.pickle_map.specs.declared.store.slots.Family.{Family}
 use Rattle.pickle_map.specs.declared.store.slots.Marks.{Marks}
 use Rattle.pickle_map.specs.declared.store.slots.Shape.{Shape}
-use Rattle.pickle_map.specs.declared.store.slots.Shape.TheVariants.{Integer, Offset, Text, Array, Struct, Union}
-use Rattle.pickle_map.specs.Tree.{Value, Tree, parts_of, bytes_of, text_value}
+use Rattle.pickle_map.specs.declared.store.slots.Shape.TheVariants.{Integer, Offset, Text, Integers, Offsets, Array, Struct, Union}
+use Rattle.pickle_map.specs.Tree.{Value, Tree, parts_of, bytes_of}
 use Rattle.pickle_map.specs.Levels.{level_nodes, level_links, level_bytes}
-use Rattle.pickle_map.specs.Slots.{Slots, opened, family_at, first_link, family_links, first_byte, links_of, tree_of, trees, trees_from, stack, LinksBelow, IsFamily, IsShort, IsContent, IsSound, cut_to, marks_of, level_of, IsLevel, Adds, with_leaf, with_family, with_text, with_absent, IsComposite, composite_label, IsNumber, number_value}
-use Rattle.pickle_map.proofs.FamilyRows.{Grows, part-all, first_link-grow, first_byte-grow}
+use Rattle.pickle_map.specs.Slots.{Slots, opened, family_at, first_link, family_links, links_of, tree_of, trees, trees_from, stack, LinksBelow, IsFamily, IsContent, IsSound, cut_to, marks_of, level_of, IsLevel, Adds, with_leaf, with_family, with_absent, IsComposite, composite_label, IsNumber, number_value}
+use Rattle.pickle_map.proofs.FamilyRows.{Grows, part-all, first_link-grow}
 use Rattle.pickle_map.proofs.Grown.{NewNode, AreNodes-grow, trees_from-grow, nodes-new, pending-new, stack-new, stack-cut, length-stack, LinksBelow-append, LinksBelow-drop}
 use Rattle.pickle_map.proofs.Counted.{nodes_in_parts-of, links_in_parts-of, bytes_in_parts-of, marks-cut}
 
 -- numbers
 
-number-content : (s : Slots) (shape : Shape) (c : ℕ) → IsNumber shape → IsContent s shape c
-number-content s (Integer w g) c h = h
-number-content s (Offset w g u) c h = h
-number-content s Text c h = absurd h
-number-content s Array c h = absurd h
-number-content s (Struct t) c h = absurd h
-number-content s (Union i t) c h = absurd h
+number-content : (s : Slots) (shape : Shape) (start c : ℕ) → IsNumber shape → IsContent s shape start c
+number-content s (Integer w g) start c h = h
+number-content s (Offset w g u) start c h = h
+number-content s Text start c h = absurd h
+number-content s (Integers w g) start c h = absurd h
+number-content s (Offsets w g u) start c h = absurd h
+number-content s Array start c h = absurd h
+number-content s (Struct t) start c h = absurd h
+number-content s (Union i t) start c h = absurd h
 
 number-links : (s : Slots) (shape : Shape) (c i : ℕ) → IsNumber shape → LinksBelow i (links_of s shape c)
 number-links s (Integer w g) c i h = tt
 number-links s (Offset w g u) c i h = tt
 number-links s Text c i h = absurd h
+number-links s (Integers w g) c i h = absurd h
+number-links s (Offsets w g u) c i h = absurd h
 number-links s Array c i h = absurd h
 number-links s (Struct t) c i h = absurd h
 number-links s (Union j t) c i h = absurd h
@@ -37,6 +41,8 @@ number-tree : (s : Slots) (ts : List Value) (shape : Shape) (start c : ℕ) → 
 number-tree s ts (Integer w g) start c h = refl
 number-tree s ts (Offset w g u) start c h = refl
 number-tree s ts Text start c h = absurd h
+number-tree s ts (Integers w g) start c h = absurd h
+number-tree s ts (Offsets w g u) start c h = absurd h
 number-tree s ts Array start c h = absurd h
 number-tree s ts (Struct t) start c h = absurd h
 number-tree s ts (Union i t) start c h = absurd h
@@ -45,15 +51,17 @@ pub number-nodes : (shape : Shape) (start c : ℕ) → IsNumber shape → (level
 number-nodes (Integer w g) start c h = (refl, (refl, refl))
 number-nodes (Offset w g u) start c h = (refl, (refl, refl))
 number-nodes Text start c h = absurd h
+number-nodes (Integers w g) start c h = absurd h
+number-nodes (Offsets w g u) start c h = absurd h
 number-nodes Array start c h = absurd h
 number-nodes (Struct t) start c h = absurd h
 number-nodes (Union i t) start c h = absurd h
 
 -- a node behind all pending ones
-pending-last : (s : Slots) → s.pending ++ Some (length s.nodes) ∷ [] ≡ take (length s.pending) s.pending ++ Some (length s.nodes) ∷ []
+pub pending-last : (s : Slots) → s.pending ++ Some (length s.nodes) ∷ [] ≡ take (length s.pending) s.pending ++ Some (length s.nodes) ∷ []
 pending-last s = ap (λ ps. ps ++ Some (length s.nodes) ∷ []) (sym (take_all (length s.pending) s.pending (omega arith)))
 
-stack-last : (s u : Slots) (n : Node) → IsSound s → NewNode s u n → u.pending ≡ s.pending ++ Some (length s.nodes) ∷ [] → stack u ≡ stack s ++ Some (tree_of u (trees s) n) ∷ []
+pub stack-last : (s u : Slots) (n : Node) → IsSound s → NewNode s u n → u.pending ≡ s.pending ++ Some (length s.nodes) ∷ [] → stack u ≡ stack s ++ Some (tree_of u (trees s) n) ∷ []
 stack-last s u n h g e =
     stack-new s u n (length s.pending) h g (e ∙ pending-last s)
     ∙ ap (λ os. os ++ Some (tree_of u (trees s) n) ∷ []) (take_all (length s.pending) (stack s) (omega (arith, length-stack s)))
@@ -71,7 +79,7 @@ leaf-new shape start c s number = record {
     bytes = sym (append-nil s.bytes);
   };
   nodes = refl;
-  is = record { content = number-content (with_leaf shape start c s) shape c number; below = number-links (with_leaf shape start c s) shape c (length s.nodes) number };
+  is = record { content = number-content (with_leaf shape start c s) shape start c number; below = number-links (with_leaf shape start c s) shape c (length s.nodes) number };
 }
 
 leaf-rest : (shape : Shape) (start c : ℕ) (s : Slots) → cut_to (marks_of s) (with_leaf shape start c s) ≡ s
@@ -87,8 +95,8 @@ leaf-rest shape start c s =
     cc
 
 -- a number adds its value
-pub number-adds : (shape : Shape) (start c : ℕ) (s : Slots) → IsNumber shape → IsSound s → Adds s (with_leaf shape start c s) (Some (number_value shape start c) ∷ [])
-number-adds shape start c s number sound =
+pub number-adds : (room : Room) (shape : Shape) (start c : ℕ) (s : Slots) → IsNumber shape → IsSound s → Adds room s (with_leaf shape start c s) (Some (number_value shape start c) ∷ [])
+number-adds room shape start c s number sound =
     let u = with_leaf shape start c s in
     let n : Node = record { start = start; content = c; shape = shape } in
     let new = leaf-new shape start c s number in
@@ -105,101 +113,29 @@ number-adds shape start c s number sound =
       };
       rest = leaf-rest shape start c s;
       stack = stack-last s u n sound new refl ∙ ap (λ t. stack s ++ Some t ∷ []) (number-tree u (trees s) shape start c number);
-      nodes = omega (arith, count, takes.0);
-      links = omega (arith, takes.1.0);
-      bytes = omega (arith, takes.1.1);
-    }
-
--- texts
-
-text-row : (bytes : List ℕ) (start : ℕ) (s : Slots) → IsSound s → (first_byte (with_text bytes start s).texts (length s.texts) ≡ length s.bytes) × (slice_index (with_text bytes start s).texts (length s.texts) ≡ length s.bytes + length bytes)
-text-row bytes start s sound = (
-  first_byte-grow s.texts ((length s.bytes + length bytes) ∷ []) (length s.texts) (omega arith) ∙ sound.bytes,
-  get_or-append_seam s.texts (length s.bytes + length bytes) [] 0,
-)
-
-text-new : (bytes : List ℕ) (start : ℕ) (s : Slots) → IsSound s → IsShort (length bytes) → NewNode s (with_text bytes start s) (record { start = start; content = length s.texts; shape = Text })
-text-new bytes start s sound short =
-    let row = text-row bytes start s sound in
-    let count : (length s.bytes + length bytes) - length s.bytes ≡ length bytes = omega arith in
-    record {
-      grows = record {
-        more_families = [];
-        more_links = [];
-        more_texts = (length s.bytes + length bytes) ∷ [];
-        more_bytes = bytes;
-        families = sym (append-nil s.families);
-        links = sym (append-nil s.links);
-        texts = refl;
-        bytes = refl;
-      };
-      nodes = refl;
-      is = record {
-        content = (omega (arith, length_push s.texts (length s.bytes + length bytes)), (record { ordered = omega (arith, row.0, row.1); within = omega (arith, row.1, length-append s.bytes bytes) }, rw (row.0, row.1, count) short));
-        below = tt;
-      };
-    }
-
-text-rest : (bytes : List ℕ) (start : ℕ) (s : Slots) → cut_to (marks_of s) (with_text bytes start s) ≡ s
-text-rest bytes start s =
-    let n : Node = record { start = start; content = length s.texts; shape = Text } in
-    let nodes = take_at s.nodes (n ∷ []) (length s.nodes) refl in
-    let families = take_all (length s.families) s.families (omega arith) in
-    let links = take_all (length s.links) s.links (omega arith) in
-    let pending = take_at s.pending (Some (length s.nodes) ∷ []) (length s.pending) refl in
-    let texts = take_at s.texts ((length s.bytes + length bytes) ∷ []) (length s.texts) refl in
-    let all = take_at s.bytes bytes (length s.bytes) refl in
-    let eta : record { nodes = s.nodes; families = s.families; links = s.links; pending = s.pending; texts = s.texts; bytes = s.bytes } ≡ s = refl in
-    cc
-
-text-tree : (bytes : List ℕ) (start : ℕ) (s : Slots) (ts : List Value) → IsSound s → tree_of (with_text bytes start s) ts (record { start = start; content = length s.texts; shape = Text }) ≡ text_value bytes start
-text-tree bytes start s ts sound =
-    let row = text-row bytes start s sound in
-    let count : (length s.bytes + length bytes) - length s.bytes ≡ length bytes = omega arith in
-    let all = part-all (length bytes) s.bytes bytes refl in
-    rw (row.0, row.1, count, all) refl
-
-text-tiles : (bytes : List ℕ) (start : ℕ) (s : Slots) → IsSound s → first_byte (with_text bytes start s).texts (length (with_text bytes start s).texts) ≡ length (with_text bytes start s).bytes
-text-tiles bytes start s sound =
-    ap (first_byte (with_text bytes start s).texts) (length_push s.texts (length s.bytes + length bytes) ∙ add-one (length s.texts))
-    ∙ (text-row bytes start s sound).1 ∙ sym (length-append s.bytes bytes)
-
-pub text-adds : (bytes : List ℕ) (start : ℕ) (s : Slots) → IsSound s → IsShort (length bytes) → Adds s (with_text bytes start s) (Some (text_value bytes start) ∷ [])
-text-adds bytes start s sound short =
-    let u = with_text bytes start s in
-    let n : Node = record { start = start; content = length s.texts; shape = Text } in
-    let new = text-new bytes start s sound short in
-    let count = length_push s.nodes n in
-    record {
-      sound = record {
-        nodes = nodes-new s u n sound new;
-        pending = pending-new s u n (length s.pending) sound new (pending-last s);
-        links = sound.links;
-        bytes = text-tiles bytes start s sound;
-        families = omega (arith, sound.families, count);
-        texts = omega (arith, sound.texts, count, length_push s.texts (length s.bytes + length bytes));
-      };
-      rest = text-rest bytes start s;
-      stack = stack-last s u n sound new refl ∙ ap (λ t. stack s ++ Some t ∷ []) (text-tree bytes start s (trees s) sound);
-      nodes = omega (arith, count);
-      links = omega arith;
-      bytes = omega (arith, length-append s.bytes bytes);
+      nodes = λ counted. omega (arith, count, takes.0);
+      links = λ counted. omega (arith, takes.1.0);
+      bytes = λ counted. omega (arith, takes.1.1);
     }
 
 -- arrays, structs and unions
 
-family-content : (s : Slots) (shape : Shape) (c : ℕ) → IsComposite shape → IsFamily s c → IsContent s shape c
-family-content s (Integer w g) c h f = absurd h
-family-content s (Offset w g u) c h f = absurd h
-family-content s Text c h f = absurd h
-family-content s Array c h f = f
-family-content s (Struct t) c h f = f
-family-content s (Union i t) c h f = f
+family-content : (s : Slots) (shape : Shape) (start c : ℕ) → IsComposite shape → IsFamily s c → IsContent s shape start c
+family-content s (Integer w g) start c h f = absurd h
+family-content s (Offset w g u) start c h f = absurd h
+family-content s Text start c h f = absurd h
+family-content s (Integers w g) start c h f = absurd h
+family-content s (Offsets w g u) start c h f = absurd h
+family-content s Array start c h f = f
+family-content s (Struct t) start c h f = f
+family-content s (Union i t) start c h f = f
 
 family-links : (s : Slots) (shape : Shape) (c : ℕ) → IsComposite shape → links_of s shape c ≡ family_links s.families s.links c
 family-links s (Integer w g) c h = absurd h
 family-links s (Offset w g u) c h = absurd h
 family-links s Text c h = absurd h
+family-links s (Integers w g) c h = absurd h
+family-links s (Offsets w g u) c h = absurd h
 family-links s Array c h = refl
 family-links s (Struct t) c h = refl
 family-links s (Union i t) c h = refl
@@ -208,6 +144,8 @@ family-tree : (s : Slots) (ts : List Value) (shape : Shape) (start c : ℕ) → 
 family-tree s ts (Integer w g) start c h = absurd h
 family-tree s ts (Offset w g u) start c h = absurd h
 family-tree s ts Text start c h = absurd h
+family-tree s ts (Integers w g) start c h = absurd h
+family-tree s ts (Offsets w g u) start c h = absurd h
 family-tree s ts Array start c h = refl
 family-tree s ts (Struct t) start c h = refl
 family-tree s ts (Union i t) start c h = refl
@@ -216,6 +154,8 @@ no-bytes : (shape : Shape) → IsComposite shape → bytes_of (composite_label s
 no-bytes (Integer w g) h = absurd h
 no-bytes (Offset w g u) h = absurd h
 no-bytes Text h = absurd h
+no-bytes (Integers w g) h = absurd h
+no-bytes (Offsets w g u) h = absurd h
 no-bytes Array h = refl
 no-bytes (Struct t) h = refl
 no-bytes (Union i t) h = refl
@@ -251,7 +191,7 @@ module _ (shape : Shape) (start size mark : ℕ) (s : Slots) (composite : IsComp
         };
         nodes = refl;
         is = record {
-          content = family-content u shape (length s.families) composite (
+          content = family-content u shape start (length s.families) composite (
             omega (arith, length_push s.families (record { end = length s.links + (length s.pending - mark); size = size })),
             record {
               ordered = omega (arith, family-first, ap (λ (f : Family). f.end) family-end);
@@ -291,9 +231,9 @@ module _ (shape : Shape) (start size mark : ℕ) (s : Slots) (composite : IsComp
       stack-new s u n mark sound family-new refl ∙ ap (λ t. take mark (stack s) ++ Some t ∷ []) is
 
 -- the parts of an open value become one value in their place
-pub family-adds : (shape : Shape) (start size : ℕ) (k : Marks) (s : Slots) → IsComposite shape → IsSound s → IsLevel k s → IsSound (cut_to k s) →
-    Adds (cut_to k s) (with_family shape start size k.pending s) (Some (Tree (composite_label shape) start size (parts_of (level_of k s))) ∷ [])
-family-adds shape start size k s composite sound is below =
+pub family-adds : (room : Room) (shape : Shape) (start size : ℕ) (k : Marks) (s : Slots) → IsComposite shape → IsSound s → IsLevel room k s → IsSound (cut_to k s) →
+    Adds room (cut_to k s) (with_family shape start size k.pending s) (Some (Tree (composite_label shape) start size (parts_of (level_of k s))) ∷ [])
+family-adds room shape start size k s composite sound is below =
     let u = with_family shape start size k.pending s in
     let n : Node = record { start = start; content = length s.families; shape = shape } in
     let f : Family = record { end = length s.links + (length s.pending - k.pending); size = size } in
@@ -311,9 +251,9 @@ family-adds shape start size k s composite sound is below =
       sound = family-sound shape start size k.pending s composite sound w.pending;
       rest = ap (λ (j : Marks). cut_to j u) m ∙ left;
       stack = family-stack shape start size k.pending s composite sound w.pending ∙ ap (λ os. os ++ Some (Tree (composite_label shape) start size (parts_of level)) ∷ []) (sym (stack-cut k s below));
-      nodes = omega (arith, count, is.nodes, ap (λ (j : Marks). j.nodes) m, nodes_in_parts-of level);
-      links = omega (arith, is.links, ap (λ (j : Marks). j.links) m, links_in_parts-of level, wide, length-append s.links (drop k.pending s.pending), length-drop k.pending s.pending);
-      bytes = omega (arith, is.bytes, ap (λ (j : Marks). j.bytes) m, bytes_in_parts-of level, ap length (no-bytes shape composite));
+      nodes = λ counted. omega (arith, count, is.nodes counted, ap (λ (j : Marks). j.nodes) m, nodes_in_parts-of level);
+      links = λ counted. omega (arith, is.links counted, ap (λ (j : Marks). j.links) m, links_in_parts-of level, wide, length-append s.links (drop k.pending s.pending), length-drop k.pending s.pending);
+      bytes = λ counted. omega (arith, is.bytes counted, ap (λ (j : Marks). j.bytes) m, bytes_in_parts-of level, ap length (no-bytes shape composite));
     }
 
 -- a field that is not there
@@ -346,8 +286,8 @@ absent-stack s sound =
     let e : trees_from (with_absent s) [] s.nodes ≡ trees_from s [] s.nodes = trees_from-grow s (with_absent s) [] 0 s.nodes (absent-same s) sound.nodes in
     ap (λ ts. map (opened ts) (s.pending ++ None ∷ [])) e ∙ map-append (opened (trees s)) s.pending (None ∷ [])
 
-pub absent-adds : (s : Slots) → IsSound s → Adds s (with_absent s) (None ∷ [])
-absent-adds s sound = record {
+pub absent-adds : (room : Room) (s : Slots) → IsSound s → Adds room s (with_absent s) (None ∷ [])
+absent-adds room s sound = record {
   sound = record {
     nodes = AreNodes-grow s (with_absent s) 0 s.nodes (absent-same s) sound.nodes;
     pending = LinksBelow-append (length s.nodes) s.pending (None ∷ []) sound.pending tt;
@@ -358,7 +298,7 @@ absent-adds s sound = record {
   };
   rest = absent-rest s;
   stack = absent-stack s sound;
-  nodes = omega arith;
-  links = omega arith;
-  bytes = omega arith;
+  nodes = λ counted. omega arith;
+  links = λ counted. omega arith;
+  bytes = λ counted. omega arith;
 }

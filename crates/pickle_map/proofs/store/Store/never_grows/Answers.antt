@@ -7,7 +7,7 @@ pub returns-in-Never-clause-fits : goal.returns-in-Never-clause-fits
 returns-in-Never-clause-fits c =
     rw (← c.self.view_is) (λ e.
     let f = c.self.invariant.fixed e in
-    held-fits (the_view c.self.inside) c.self.invariant.levels (record {
+    held-fits (the_view c.self.inside) e c.self.invariant.levels (record {
       nodes = omega (arith, f.nodes, c.self.inside.nodes.ok.0, c.self.inside.nodes.ok.1);
       links = omega (arith, f.links, c.self.inside.links.ok.0, c.self.inside.links.ok.1);
       pending = omega (arith, f.pending, c.self.inside.pending.ok.0, c.self.inside.pending.ok.1);
