@@ -16,6 +16,7 @@ pub mod FamilyRows
 pub mod Grown
 pub mod Counted
 pub mod Placed
+pub mod PlacedBytes
 pub mod Empty
 pub mod Fits
 pub mod Held
