@@ -1,8 +1,11 @@
 -- Calls that follow the plan of an array whose elements are packed.
 use Rattle.std.proofs.Common.{◌≡◌, ℕ, zero, suc, ◌+◌, ◌*◌, ◌^◌, ◌<◌, ◌≤◌, max, true, false, List, [], ◌∷◌, ◌++◌, length, Some, None, Result, Ok, refl, sym, ap, subst, ◌∙◌, arith}
+use Rattle.std.specs.Prelude.{IsTrue, nat_eq, ◌↔◌}
 use Rattle.std.proofs.lemmas.Bool.{false≢true}
 use Rattle.std.proofs.lemmas.List.{map-append}
 use Rattle.bit_space.specs.declared.order.Order.{Order}
+use Rattle.bit_space.specs.Reading.{MayRead}
+use Rattle.bit_space.specs.SpaceView.{SpaceView}
 use Rattle.pickle_types.specs.declared.table.Node.{Node}
 use Rattle.pickle_types.specs.Types.{PokeType}
 use Rattle.pickle_types.specs.Bounds.{least_width}
@@ -11,18 +14,23 @@ use Rattle.pickle_map.specs.declared.store.room.Growth.TheVariants.{Free, Never}
 use Rattle.pickle_map.specs.declared.store.room.Room.{Room}
 use Rattle.pickle_map.specs.declared.store.slots.Shape.{Shape}
 use Rattle.pickle_map.specs.declared.store.slots.Shape.TheVariants.{Integer, Offset, Text, Integers, Offsets, Array, Struct, Union}
+use Rattle.pickle_map.specs.declared.mapper.stop.Stop.{Stop}
+use Rattle.pickle_map.specs.Follows.{World, Done, NoRoom, Follows}
+use Rattle.pickle_map.specs.Framed.{ReadStops}
 use Rattle.pickle_map.specs.Levels as stored
+use Rattle.pickle_map.specs.Stops.{stop_finish}
 use Rattle.pickle_map.specs.Means.{array_value}
 use Rattle.pickle_map.specs.Mapping.{plan, read_plan, number_plan, makes}
-use Rattle.pickle_map.specs.Room.{Exceeds, PendingSlot, slots, level_slots, member_slots}
+use Rattle.pickle_map.specs.Room.{Exceeds, PendingSlot, slots, level_slots}
 use Rattle.pickle_map.specs.Row.{IsArrayOf, row_levels}
-use Rattle.pickle_map.specs.Shown.{shown, shown_member, shown_level, shown_levels, kept}
-use Rattle.pickle_map.specs.Slots.{Held, levels, packs_as, packs, IsPacked, IsPacking, element_width, element_value, elements, row_value}
+use Rattle.pickle_map.specs.Shown.{shown, shown_parts, shown_member, shown_level, shown_levels, kept}
+use Rattle.pickle_map.specs.Slots.{Held, HasNoNode, AreLevels, levels, packs_as, packs, IsPacked, IsPacking, element_width, element_value, elements, row_value}
 use Rattle.pickle_map.specs.Tree as tree
-use Rattle.pickle_map.specs.Values.{Value, Mapped, ArrayLabel, Levels, pushed, outer_of}
+use Rattle.pickle_map.specs.Values.{Value, Mapped, ArrayLabel, Levels, end_of, pushed, outer_of}
 use Rattle.pickle_map.proofs.Mapping.{number_is}
-use Rattle.pickle_map.proofs.Placing.{reading}
-use Rattle.pickle_map.proofs.ShownLevels.{shown_outer, shown_pushed, shown_gathered}
+use Rattle.pickle_map.proofs.Placing.{reading, read_stops, read_goes}
+use Rattle.pickle_map.proofs.ShownLevels.{shown_outer, shown_gathered}
+use Rattle.pickle_map.proofs.Walks.{follow_done, follow_made, follow_no_room}
 
 -- packed numbers have bits
 pub some_bits : (shape : Shape) → IsPacked shape → (1 ≤ element_width shape) × (element_width shape ≤ 64)
@@ -61,7 +69,7 @@ element_is nodes (Struct t) m ty order levels s h inside = absurd h
 element_is nodes (Union t i) m ty order levels s h inside = absurd h
 
 -- where an element ends
-pub element_end : (nodes : List Node) (shape : Shape) (s n : ℕ) → IsPacked shape → Rattle.pickle_map.specs.Values.end_of (shown nodes (element_value shape s n)) ≡ s + element_width shape
+pub element_end : (nodes : List Node) (shape : Shape) (s n : ℕ) → IsPacked shape → end_of (shown nodes (element_value shape s n)) ≡ s + element_width shape
 element_end nodes (Integer w g) s n h = absurd h
 element_end nodes (Offset w g u) s n h = absurd h
 element_end nodes Text s n h = absurd h
@@ -88,7 +96,7 @@ row_more nodes shape ns n start place outer e =
 pub row_closed : (nodes : List Node) (shape : Shape) (ns : List ℕ) (start end : ℕ) (outer : stored.Levels) → end ≡ start + element_width shape * length ns →
     shown nodes (row_value shape ns start) ≡ array_value start end (row_levels nodes shape ns start outer)
 row_closed nodes shape ns start end outer e =
-    ap (λ x. Mapped ArrayLabel start x (Rattle.pickle_map.specs.Shown.shown_parts nodes (tree.parts_of (elements shape start ns)))) (sym e)
+    ap (λ x. Mapped ArrayLabel start x (shown_parts nodes (tree.parts_of (elements shape start ns)))) (sym e)
     ∙ ap (Mapped ArrayLabel start end) (shown_gathered nodes (elements shape start ns))
 
 -- a store that packs is asked for no room
@@ -110,3 +118,56 @@ packs_no_more room levels v h =
     let none = least_none room.growth room.least h in
     let some = some_pending levels v in
     (PendingSlot, omega (arith, none, some))
+
+-- an element that is read and kept, or not
+module _ {world : World} {limit : ℕ} (nodes : List Node) (shape : Shape) (m : ℕ) (ty : PokeType) (order : Order) (levels : Levels) (s : ℕ) (are : IsArrayOf shape ty) (inside : s ≤ m) {k j k1 j1 : ℕ} where
+  pub element_stops : (before after : SpaceView) {limit' : ℕ} (stop : Stop) → limit' ≡ limit → m ≡ 8 * before.len → ReadStops stop s (s + element_width shape) before after limit' k k1 → j1 ≡ j →
+      Follows world limit (plan m ty order levels s) k j k1 j1 (stop_finish stop)
+  element_stops before after stop el em h ej =
+      rw (element_is nodes shape m ty order levels s are inside) (read_stops m s s (element_width shape) order _ before after stop el em h ej)
+
+  module _ {limit1 : ℕ} (n : ℕ) (el : limit1 ≡ limit) (ek : k1 ≡ k + 1) (ej : j1 ≡ j) (fits : s + element_width shape ≤ m) (may : MayRead world.known order s (element_width shape) n) where
+    pub element_no_room : packs world.room ≡ true → Follows world limit (plan m ty order levels s) k j k1 j1 NoRoom
+    element_no_room packing =
+        rw (element_is nodes shape m ty order levels s are inside)
+        (read_goes m s s (element_width shape) order _ n el ek ej fits may (follow_no_room (packs_no_more world.room levels (shown nodes (element_value shape s n)) packing)))
+
+    pub element_goes : {k2 j2 : ℕ} → k2 ≡ k1 → j2 ≡ j1 + 1 → Follows world limit (plan m ty order levels s) k j k2 j2 (Done (Ok (shown nodes (element_value shape s n))))
+    element_goes ek2 ej2 =
+        rw (element_is nodes shape m ty order levels s are inside)
+        (read_goes m s s (element_width shape) order _ n el ek ej fits may (follow_made {limit' = limit1} refl ek2 ej2 follow_done))
+
+-- B's
+pub packing-outer : (h : Held) (shape : Shape) (numbers : List ℕ) (start : ℕ) (outer : stored.Levels) → IsPacking h shape numbers start outer → stored.outer_of (levels h) ≡ outer
+packing-outer = ?
+
+pub packing-fresh : (h : Held) (shape : Shape) (numbers : List ℕ) (start : ℕ) (outer : stored.Levels) → IsPacking h shape numbers start outer → HasNoNode h → IsPacked shape → numbers ≡ []
+packing-fresh = ?
+
+pub packing-stale : (h : Held) (shape : Shape) (numbers : List ℕ) (start : ℕ) (outer : stored.Levels) → IsPacking h shape numbers start outer → numbers ≡ [] → HasNoNode h
+packing-stale = ?
+
+pub packing-empty : (h : Held) (shape : Shape) (start : ℕ) (outer : stored.Levels) → IsPacking h shape [] start outer → levels h ≡ [] ∷ outer
+packing-empty = ?
+
+pub row-opened : (n : Held) (shape : Shape) (start : ℕ) (outer : stored.Levels) → IsPacked shape → packs n.room ≡ true → start < 2 ^ 64 → AreLevels n.room n.frames n.slots → levels n ≡ [] ∷ outer → IsPacking n shape [] start outer
+row-opened = ?
+
+-- the levels around an array under way
+pub around_row : (nodes : List Node) (store : Held) (shape : Shape) (numbers : List ℕ) (start : ℕ) (outer : stored.Levels) → IsPacking store shape numbers start outer → outer_of (kept nodes store) ≡ shown_levels nodes outer
+unfolding kept
+around_row nodes store shape numbers start outer w =
+    sym (shown_outer nodes (levels store)) ∙ ap (shown_levels nodes) (packing-outer store shape numbers start outer w)
+
+-- an array that has no elements yet
+pub row_fresh : (nodes : List Node) (store : Held) (shape : Shape) (start : ℕ) (outer : stored.Levels) → IsPacking store shape [] start outer → kept nodes store ≡ row_levels nodes shape [] start outer
+unfolding kept
+row_fresh nodes store shape start outer w = ap (shown_levels nodes) (packing-empty store shape start outer w)
+
+-- the first number is placed where there is no node
+pub first_is : (h : Held) (shape : Shape) (numbers : List ℕ) (start : ℕ) (outer : stored.Levels) (count : ℕ) → IsPacking h shape numbers start outer → IsPacked shape → count ≡ length numbers → IsTrue (nat_eq count 0) ↔ HasNoNode h
+first_is h shape [] start outer count w are e = (λ t. packing-stale h shape [] start outer w refl, λ none. rw e tt)
+first_is h shape (x ∷ numbers) start outer count w are e = (λ t. absurd (some (rw e at t)), λ none. absurd (omega (arith, ap length (packing-fresh h shape (x ∷ numbers) start outer w none are))))
+  where
+    some : IsTrue (nat_eq (length (x ∷ numbers)) 0) → ⊥
+    some t = absurd t
