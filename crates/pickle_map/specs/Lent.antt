@@ -1,8 +1,11 @@
 -- The values that a store lends: those of its nodes, and the elements of its arrays of packed numbers.
 use Rattle.std.specs.Prelude.{ℕ, zero, suc, ◌+◌, ◌*◌, ◌<◌, length, List, [], Option, Some, None, slice_get, slice_index}
+use Rattle.std.specs.Coded.{×_prop, le_prop}
 use Rattle.pickle_map.specs.declared.store.slots.Node.{Node}
 use Rattle.pickle_map.specs.declared.store.slots.Place.{Place}
 use Rattle.pickle_map.specs.declared.store.slots.Place.TheVariants as place
+use Rattle.pickle_map.specs.declared.store.slots.Shape.{Shape}
+use Rattle.pickle_map.specs.declared.store.slots.Shape.TheVariants.{Integer, Offset, Text, Integers, Offsets, Array, Struct, Union}
 use Rattle.pickle_map.specs.Tree.{Value, Tree, ArrayLabel, End}
 use Rattle.pickle_map.specs.Slots.{Slots, value_at, row_numbers, IsPacked, element_width, element_value}
 use Rattle.pickle_map.specs.Linked.{links_from}
@@ -37,3 +40,22 @@ place_links s (place.Element array index) = []
 abbrev pub place_rank : Place → ℕ
 place_rank (place.Node at) = suc at
 place_rank (place.Element array index) = 0
+
+-- that a place is there has one proof at most
+IsPacked-prop : (shape : Shape) → IsProp (IsPacked shape)
+IsPacked-prop (Integer w g) = λ x y. absurd x
+IsPacked-prop (Offset w g u) = λ x y. absurd x
+IsPacked-prop Text = λ x y. absurd x
+IsPacked-prop (Integers w g) = ×_prop le_prop le_prop
+IsPacked-prop (Offsets w g u) = λ x y i. (le_prop x.0 y.0 i, le_prop x.1 y.1 i, le_prop x.2 y.2 i)
+IsPacked-prop Array = λ x y. absurd x
+IsPacked-prop (Struct t) = λ x y. absurd x
+IsPacked-prop (Union i t) = λ x y. absurd x
+
+HasElement-prop : (s : Slots) (n : Option Node) (i : ℕ) → IsProp (HasElement s n i)
+HasElement-prop s None i = λ x y. absurd x
+HasElement-prop s (Some n) i = ×_prop (IsPacked-prop n.shape) le_prop
+
+pub IsPlace-prop : (s : Slots) (place : Place) → IsProp (IsPlace s place)
+IsPlace-prop s (place.Node at) = le_prop
+IsPlace-prop s (place.Element array index) = HasElement-prop s (slice_get s.nodes array) index
