@@ -22,6 +22,7 @@ pub mod Fits
 pub mod Held
 pub mod Frames
 pub mod Writing
+pub mod PackedRows
 pub mod ShownLevels
 pub mod Keeping
 mod Costs
