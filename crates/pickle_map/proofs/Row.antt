@@ -166,8 +166,13 @@ row_fresh nodes store shape start outer w = ap (shown_levels nodes) (packing-emp
 
 -- the first number is placed where there is no node
 pub first_is : (h : Held) (shape : Shape) (numbers : List ℕ) (start : ℕ) (outer : stored.Levels) (count : ℕ) → IsPacking h shape numbers start outer → IsPacked shape → count ≡ length numbers → IsTrue (nat_eq count 0) ↔ HasNoNode h
-first_is h shape [] start outer count w are e = (λ t. packing-stale h shape [] start outer w refl, λ none. rw e tt)
-first_is h shape (x ∷ numbers) start outer count w are e = (λ t. absurd (some (rw e at t)), λ none. absurd (omega (arith, ap length (packing-fresh h shape (x ∷ numbers) start outer w none are))))
+first_is h shape [] start outer count w are e = (λ t. packing-stale h shape [] start outer w refl, λ none. none_is count e)
   where
-    some : IsTrue (nat_eq (length (x ∷ numbers)) 0) → ⊥
-    some t = absurd t
+    none_is : (count : ℕ) → count ≡ 0 → IsTrue (nat_eq count 0)
+    none_is zero e = refl
+    none_is (suc count) e = absurd (omega (arith, e))
+first_is h shape (x ∷ numbers) start outer count w are e = (λ t. absurd (some_are count (omega (arith, e)) t), λ none. absurd (omega (arith, ap length (packing-fresh h shape (x ∷ numbers) start outer w none are))))
+  where
+    some_are : (count : ℕ) → 0 < count → IsTrue (nat_eq count 0) → ⊥
+    some_are zero lt t = omega (arith, lt)
+    some_are (suc count) lt t = false≢true t
