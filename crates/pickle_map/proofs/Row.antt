@@ -1,7 +1,7 @@
 -- Calls that follow the plan of an array whose elements are packed.
 use Rattle.std.proofs.Common.{◌≡◌, ℕ, zero, suc, ◌+◌, ◌*◌, ◌^◌, ◌<◌, ◌≤◌, max, true, false, List, [], ◌∷◌, ◌++◌, length, Some, None, Result, Ok, refl, sym, ap, subst, ◌∙◌, arith}
 use Rattle.std.specs.Prelude.{IsTrue, nat_eq, ◌↔◌}
-use Rattle.std.proofs.lemmas.Bool.{false≢true}
+use Rattle.std.proofs.lemmas.Bool.{false≢true, ne_eqb}
 use Rattle.std.proofs.lemmas.List.{map-append}
 use Rattle.bit_space.specs.declared.order.Order.{Order}
 use Rattle.bit_space.specs.Reading.{MayRead}
@@ -28,6 +28,7 @@ use Rattle.pickle_map.specs.Slots.{Held, HasNoNode, AreLevels, levels, packs_as,
 use Rattle.pickle_map.specs.Tree as tree
 use Rattle.pickle_map.specs.Values.{Value, Mapped, ArrayLabel, Levels, end_of, pushed, outer_of}
 use Rattle.pickle_map.proofs.Mapping.{number_is}
+use Rattle.pickle_map.proofs.PackedRows.{packing-outer, packing-empty, packing-fresh, packing-stale}
 use Rattle.pickle_map.proofs.Placing.{reading, read_stops, read_goes}
 use Rattle.pickle_map.proofs.ShownLevels.{shown_outer, shown_gathered}
 use Rattle.pickle_map.proofs.Walks.{follow_done, follow_made, follow_no_room}
@@ -137,22 +138,6 @@ module _ {world : World} {limit : ℕ} (nodes : List Node) (shape : Shape) (m : 
         rw (element_is nodes shape m ty order levels s are inside)
         (read_goes m s s (element_width shape) order _ n el ek ej fits may (follow_made {limit' = limit1} refl ek2 ej2 follow_done))
 
--- B's
-pub packing-outer : (h : Held) (shape : Shape) (numbers : List ℕ) (start : ℕ) (outer : stored.Levels) → IsPacking h shape numbers start outer → stored.outer_of (levels h) ≡ outer
-packing-outer = ?
-
-pub packing-fresh : (h : Held) (shape : Shape) (numbers : List ℕ) (start : ℕ) (outer : stored.Levels) → IsPacking h shape numbers start outer → HasNoNode h → IsPacked shape → numbers ≡ []
-packing-fresh = ?
-
-pub packing-stale : (h : Held) (shape : Shape) (numbers : List ℕ) (start : ℕ) (outer : stored.Levels) → IsPacking h shape numbers start outer → numbers ≡ [] → HasNoNode h
-packing-stale = ?
-
-pub packing-empty : (h : Held) (shape : Shape) (start : ℕ) (outer : stored.Levels) → IsPacking h shape [] start outer → levels h ≡ [] ∷ outer
-packing-empty = ?
-
-pub row-opened : (n : Held) (shape : Shape) (start : ℕ) (outer : stored.Levels) → IsPacked shape → packs n.room ≡ true → start < 2 ^ 64 → AreLevels n.room n.frames n.slots → levels n ≡ [] ∷ outer → IsPacking n shape [] start outer
-row-opened = ?
-
 -- the levels around an array under way
 pub around_row : (nodes : List Node) (store : Held) (shape : Shape) (numbers : List ℕ) (start : ℕ) (outer : stored.Levels) → IsPacking store shape numbers start outer → outer_of (kept nodes store) ≡ shown_levels nodes outer
 unfolding kept
@@ -174,5 +159,4 @@ first_is h shape [] start outer count w are e = (λ t. packing-stale h shape [] 
 first_is h shape (x ∷ numbers) start outer count w are e = (λ t. absurd (some_are count (omega (arith, e)) t), λ none. absurd (omega (arith, ap length (packing-fresh h shape (x ∷ numbers) start outer w none are))))
   where
     some_are : (count : ℕ) → 0 < count → IsTrue (nat_eq count 0) → ⊥
-    some_are zero lt t = omega (arith, lt)
-    some_are (suc count) lt t = false≢true t
+    some_are count lt t = false≢true (sym (ne_eqb count 0 (λ e. omega (arith, lt, e))) ∙ t)

@@ -1,8 +1,9 @@
-use Rattle.std.proofs.Common.{rules, ◌+◌, ◌*◌, ◌≤◌, max, [], ◌∷◌, ◌++◌, length, refl, sym, ap, ◌∙◌, arith}
+use Rattle.std.proofs.Common.{rules, ◌≡◌, ◌+◌, ◌*◌, ◌≤◌, max, [], ◌∷◌, ◌++◌, length, refl, sym, ap, ◌∙◌, arith}
 use Rattle.std.proofs.lemmas.List.{length_push}
 use Rattle.std.proofs.lemmas.Result.{err_from_is_err_and}
-use Rattle.pickle_types.specs.Bounds.{least_width}
+use Rattle.pickle_types.specs.Bounds.{least_width, count_of}
 use Rattle.pickle_types.specs.Table.{type_of}
+use Rattle.pickle_map.specs.declared.mapper.stop.Stop.TheVariants.{Memory}
 use Rattle.pickle_map.specs.Levels as stored
 use Rattle.pickle_map.specs.Mapping.{plan}
 use Rattle.pickle_map.specs.Row.{row_levels}
@@ -28,7 +29,7 @@ loop-shape-init g c =
       inside = search rules;
       depth = search rules;
       counted = search rules;
-      so_far = ([], _, omega (arith, few), omega arith, refl, c.requires.packing, rw fresh follow_here);
+      so_far = ([], count_of (8 * (g.S.Space.view c.args.space.now).len) (least_width (type_of c.args.nodes.now c.args.element)), omega (arith, few), omega arith, refl, c.requires.packing, rw fresh follow_here);
     }
 
 pub returns-in_err-tick-clause-outer : goal.returns-in_err-tick-clause-outer
@@ -73,7 +74,7 @@ returns-in_err-push_packed-in-Ok-clause-err g c =
     let packs = rw (← i.room) at c.requires.shape.packs in
     let h = element_no_room c.args.nodes.now c.args.shape (8 * (g.S.Space.view c.args.space.now).len) (type_of c.args.nodes.now c.args.element) c.args.order (row_levels c.args.nodes.now c.args.shape i.so_far.0 c.args.start (stored.outer_of (levels c.args.store.now))) c.loop-shape.place c.requires.shape.is i.inside c.in-Ok.digits r.limit r.steps r.made fits may packs in
     let h = in_world (g.S.Space.view c.args.space.now) (g.S.Space.view c.loop-shape.space) c.args.store.now c.loop-shape.store i.bytes i.room h in
-    rw (p.1, p.2) (follow_on i.so_far.6 (elements_stop _ _ _ _ _ _ _ (max 1 (least_width (type_of c.args.nodes.now c.args.element))) _ i.so_far.2 i.inside due (e.limit ∙ i.limit) e.ok e.made _ refl h))
+    rw (p.1, p.2) (follow_on i.so_far.6 (elements_stop _ _ _ _ _ _ _ (max 1 (least_width (type_of c.args.nodes.now c.args.element))) _ i.so_far.2 i.inside due (e.limit ∙ i.limit) e.ok e.made Memory refl h))
 
 pub loop-shape-preserved : goal.loop-shape-preserved
 loop-shape-preserved g c =
@@ -122,7 +123,7 @@ returns-then-ends-clause-ok g c =
     let due = sym c.is_due.ensures ∙ c.loop-shape-test.true in
     let due = rw c.len-bits.ensures at due in
     let stops = rw c.element_width-width.ensures at r.err in
-    let h = element_stops c.args.nodes.now c.args.shape (8 * (g.S.Space.view c.args.space.now).len) (type_of c.args.nodes.now c.args.element) c.args.order (row_levels c.args.nodes.now c.args.shape i.so_far.0 c.args.start (stored.outer_of (levels c.args.store.now))) c.loop-shape.place c.requires.shape.is i.inside _ _ _ r.limit (ap (λ l. 8 * l) (sym i.len)) stops r.made in
+    let h = element_stops c.args.nodes.now c.args.shape (8 * (g.S.Space.view c.args.space.now).len) (type_of c.args.nodes.now c.args.element) c.args.order (row_levels c.args.nodes.now c.args.shape i.so_far.0 c.args.start (stored.outer_of (levels c.args.store.now))) c.loop-shape.place c.requires.shape.is i.inside _ _ _ refl (ap (λ l. 8 * l) (sym i.len)) stops r.made in
     let ends = sym c.ends.ensures ∙ c.if-ends.true in
     record {
       numbers = i.so_far.0;
@@ -153,7 +154,7 @@ returns-in-Err-clause-err g c =
     let due = sym c.is_due.ensures ∙ c.loop-shape-test.true in
     let due = rw c.len-bits.ensures at due in
     let stops = rw c.element_width-width.ensures at r.err in
-    let h = element_stops c.args.nodes.now c.args.shape (8 * (g.S.Space.view c.args.space.now).len) (type_of c.args.nodes.now c.args.element) c.args.order (row_levels c.args.nodes.now c.args.shape i.so_far.0 c.args.start (stored.outer_of (levels c.args.store.now))) c.loop-shape.place c.requires.shape.is i.inside _ _ _ r.limit (ap (λ l. 8 * l) (sym i.len)) stops r.made in
+    let h = element_stops c.args.nodes.now c.args.shape (8 * (g.S.Space.view c.args.space.now).len) (type_of c.args.nodes.now c.args.element) c.args.order (row_levels c.args.nodes.now c.args.shape i.so_far.0 c.args.start (stored.outer_of (levels c.args.store.now))) c.loop-shape.place c.requires.shape.is i.inside _ _ _ refl (ap (λ l. 8 * l) (sym i.len)) stops r.made in
     let ends = sym c.ends.ensures ∙ c.if-ends.false in
     follow_on i.so_far.6 (elements_stop _ _ _ _ _ _ _ (max 1 (least_width (type_of c.args.nodes.now c.args.element))) _ i.so_far.2 i.inside due (e.limit ∙ i.limit) e.ok e.made _ ends h)
 
