@@ -30,7 +30,7 @@ use Rattle.pickle_map.specs.Values.{Value, Mapped, ArrayLabel, Levels, end_of, p
 use Rattle.pickle_map.proofs.Mapping.{number_is}
 use Rattle.pickle_map.proofs.PackedRows.{packing-outer, packing-empty, packing-fresh, packing-stale}
 use Rattle.pickle_map.proofs.Placing.{reading, read_stops, read_goes}
-use Rattle.pickle_map.proofs.ShownLevels.{shown_outer, shown_gathered}
+use Rattle.pickle_map.proofs.ShownLevels.{shown_outer, shown_pushed, shown_gathered}
 use Rattle.pickle_map.proofs.Walks.{follow_done, follow_made, follow_no_room}
 
 -- packed numbers have bits
@@ -94,7 +94,7 @@ row_more nodes shape ns n start place outer e =
     ∙ ap (λ r. r ∷ shown_levels nodes outer) (map-append (shown_member nodes) (elements shape start ns) (Some (element_value shape place n) ∷ []))
 
 -- the array of them
-pub row_closed : (nodes : List Node) (shape : Shape) (ns : List ℕ) (start end : ℕ) (outer : stored.Levels) → end ≡ start + element_width shape * length ns →
+row_closed : (nodes : List Node) (shape : Shape) (ns : List ℕ) (start end : ℕ) (outer : stored.Levels) → end ≡ start + element_width shape * length ns →
     shown nodes (row_value shape ns start) ≡ array_value start end (row_levels nodes shape ns start outer)
 row_closed nodes shape ns start end outer e =
     ap (λ x. Mapped ArrayLabel start x (shown_parts nodes (tree.parts_of (elements shape start ns)))) (sym e)
@@ -160,3 +160,13 @@ first_is h shape (x ∷ numbers) start outer count w are e = (λ t. absurd (some
   where
     some_are : (count : ℕ) → 0 < count → IsTrue (nat_eq count 0) → ⊥
     some_are count lt t = false≢true (sym (ne_eqb count 0 (λ e. omega (arith, lt, e))) ∙ t)
+
+-- an array that is closed
+pub row_kept : (nodes : List Node) (old new : Held) (shape : Shape) (numbers : List ℕ) (start end : ℕ) (outer : stored.Levels) → IsPacking old shape [] start outer → end ≡ start + element_width shape * length numbers →
+    levels new ≡ stored.pushed outer (Some (row_value shape numbers start)) → kept nodes new ≡ pushed (outer_of (kept nodes old)) (Some (array_value start end (row_levels nodes shape numbers start outer)))
+unfolding kept
+row_kept nodes old new shape numbers start end outer w ends is =
+    ap (shown_levels nodes) is
+    ∙ shown_pushed nodes outer (Some (row_value shape numbers start))
+    ∙ ap (λ ls. pushed ls (Some (shown nodes (row_value shape numbers start)))) (sym (around_row nodes old shape [] start outer w))
+    ∙ ap (λ v. pushed (outer_of (shown_levels nodes (levels old))) (Some v)) (row_closed nodes shape numbers start end outer ends)

@@ -1,5 +1,4 @@
 use Rattle.std.proofs.Common.{sym, ◌∙◌}
-use Rattle.pickle_map.proofs.Row.{some_bits, first_is}
 use Rattle.pickle_map.proofs.Shapes.{opened_as, below_as}
 use Rattle.pickle_map.proofs.mapper.row.packed_as.Goals as goal
 
