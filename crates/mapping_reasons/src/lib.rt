@@ -56,10 +56,8 @@ pub fn reasons<S: Space>(
     space: &mut S,
     line: &[u8],
 ) -> Result<Vec<u8>, AllocError>
-    ensures why {
-        let run = run_of (S.view space.old) ask.now terms.now line.now in
-        IfOk result (λ text. ExplainsRun pickle.now run text.items)
-    }
+    ensures why { let run = run_of (S.view space.old) ask.now terms.now line.now in
+        IfOk result (λ text. ExplainsRun pickle.now run text.items) }
     ensures keeps { Keeps (S.view space.old) (S.view space.new) }
 {
     let Ok(table) = accept(alloc, pickle) else {
@@ -85,10 +83,8 @@ pub fn reasons_in<S: Space>(
     line: &[u8],
 ) -> Result<Vec<u8>, AllocError>
     requires known { IsInTable table.now id }
-    ensures why {
-        let run = run_of (S.view space.old) ask.now terms.now line.now in
-        IfOk result (λ text. TellsWhy run (type_named table.now id) text.items)
-    }
+    ensures why { let run = run_of (S.view space.old) ask.now terms.now line.now in
+        IfOk result (λ text. TellsWhy run (type_named table.now id) text.items) }
     ensures keeps { Keeps (S.view space.old) (S.view space.new) }
 {
     let Ok(mut store) = store_of(alloc, terms.most_slots) else {
