@@ -46,6 +46,7 @@ pub record Run : Type 0 where
   pub terms : Terms
   pub line : List ℕ
 
+-- the run that has these
 abbrev pub run_of : SpaceView → Ask → Terms → (line : List ℕ) → Run
 run_of space ask terms line = record { space = space; ask = ask; terms = terms; line = line }
 
