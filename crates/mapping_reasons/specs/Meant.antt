@@ -22,4 +22,5 @@ HasFault space type ask fault = (bytes : List ℕ) → space.bytes ≡ Some byte
 
 -- a value that a type means on the bytes of a space, where these are known
 abbrev pub HasValue : SpaceView → PokeType → Ask → Type 0
-HasValue space type ask = (bytes : List ℕ) → space.bytes ≡ Some bytes → (value : Value) × HasAnswer bytes type ask.order ask.start ask.limit (Ok value)
+HasValue space type ask = (bytes : List ℕ) → space.bytes ≡ Some bytes
+    → (value : Value) × HasAnswer bytes type ask.order ask.start ask.limit (Ok value)

@@ -1,5 +1,6 @@
 -- What is told of why a mapping stops.
-use Rattle.std.specs.Prelude.{◌≡◌, ℕ, List, [], ◌++◌, Option, Some, codes}
+use Rattle.std.specs.Prelude.{◌≡◌, ℕ, List, [], ◌++◌, Option, Some, Result, Vec, IfOk, codes}
+use Rattle.std.specs.declared.alloc.Global.{Global}
 use Rattle.bit_space.specs.SpaceView.{SpaceView}
 use Rattle.pickle_types.specs.Types.{PokeType}
 use Rattle.pickle_map.specs.declared.faults.MapFault.{MapFault}
@@ -30,25 +31,44 @@ pub data TellsArray (type : PokeType) : List ℕ → Type 0 where
 pub data TellsArrays (type : PokeType) : List ℕ → Type 0 where
   no_more : TellsArrays type []
   one_more : {lines line : List ℕ} → TellsArrays type lines → TellsArray type line → TellsArrays type (lines ++ line)
-  uncounted : {lines : List ℕ} (count : List ℕ) → TellsArrays type lines → TellsArrays type (lines ++ (codes "  " ++ (count ++ codes " ended early before these\n")))
+  uncounted : {lines : List ℕ} (count : List ℕ) → TellsArrays type lines
+      → TellsArrays type (lines ++ (codes "  " ++ (count ++ codes " ended early before these\n")))
 
 -- how far the path leads to the part that is asked for, of a run that ended with NoSuchPart; or nothing
 pub data TellsMissing (part : Option Path) (line : List ℕ) : List ℕ → Type 0 where
   none_missing : TellsMissing part line []
   tells_missing : {path : Path} (missing : List ℕ) → part ≡ Some path → line ≡ fault_line (codes "NoSuchPart") → TellsMissing part line missing
 
+-- a run that is over: the file, what was asked of it, under which terms, and the line that the run ended with
+pub record Run : Type 0 where
+  pub space : SpaceView
+  pub ask : Ask
+  pub terms : Terms
+  pub line : List ℕ
+
+-- the run that has these
+abbrev pub run_of : SpaceView → Ask → Terms → (line : List ℕ) → Run
+run_of space ask terms line = record { space = space; ask = ask; terms = terms; line = line }
+
 -- What is told of a run that ended with a line, or with none: of a fault the part and the arrays, of a value the arrays. The line
 -- is the one that tells the fault which the type has on the file's bits.
-pub data TellsWhy (space : SpaceView) (type : PokeType) (ask : Ask) (terms : Terms) (line : List ℕ) : List ℕ → Type 0 where
-  nothing : TellsWhy space type ask terms line []
-  of_fault : {fault : MapFault} {part arrays : List ℕ} → HasFault space type ask fault
-      → end_saying terms.most_slots ask.start fault.kind fault.at ≡ Line Fault line
-      → TellsPart type part → TellsArrays type arrays → TellsWhy space type ask terms line (part ++ arrays)
-  of_value : {missing arrays : List ℕ} → HasValue space type ask
-      → TellsMissing terms.part line missing → TellsArrays type arrays → TellsWhy space type ask terms line (missing ++ arrays)
+pub data TellsWhy (run : Run) (type : PokeType) : List ℕ → Type 0 where
+  nothing : TellsWhy run type []
+  of_fault : {fault : MapFault} {part arrays : List ℕ} → HasFault run.space type run.ask fault
+      → end_saying run.terms.most_slots run.ask.start fault.kind fault.at ≡ Line Fault run.line
+      → TellsPart type part → TellsArrays type arrays → TellsWhy run type (part ++ arrays)
+  of_value : {missing arrays : List ℕ} → HasValue run.space type run.ask
+      → TellsMissing run.terms.part run.line missing → TellsArrays type arrays → TellsWhy run type (missing ++ arrays)
+
+-- what was made is told of the run, where its type has this fault on the file's bytes
+abbrev pub TellsOfFault : {E : Type 0} → Run → PokeType → MapFault → Result (Vec ℕ Global) E → Type 0
+TellsOfFault run type fault made = HasFault run.space type run.ask fault → IfOk made (λ text. TellsWhy run type text.items)
+
+-- the same, where its type has a value there
+abbrev pub TellsOfValue : {E : Type 0} → Run → PokeType → Result (Vec ℕ Global) E → Type 0
+TellsOfValue run type made = HasValue run.space type run.ask → IfOk made (λ text. TellsWhy run type text.items)
 
 -- What is told of a run by its pickle: nothing, or as above of the type of the name that is asked for.
-pub data ExplainsRun (pickle : List ℕ) (space : SpaceView) (ask : Ask) (terms : Terms) (line : List ℕ) : List ℕ → Type 0 where
-  untold : ExplainsRun pickle space ask terms line []
-  explains : {type : PokeType} {text : List ℕ} → IsAsked pickle ask.name.now type → TellsWhy space type ask terms line text
-      → ExplainsRun pickle space ask terms line text
+pub data ExplainsRun (pickle : List ℕ) (run : Run) : List ℕ → Type 0 where
+  untold : ExplainsRun pickle run []
+  explains : {type : PokeType} {text : List ℕ} → IsAsked pickle run.ask.name.now type → TellsWhy run type text → ExplainsRun pickle run text

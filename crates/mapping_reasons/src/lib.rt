@@ -2,15 +2,15 @@
 #![tactic(auto)]
 
 ghost use Rattle.std.specs.Prelude.{◌≡◌, ◌<◌, ◌++◌, length, IfOk, IsTrue};
-ghost use Rattle.pickle_types.specs.Table.{IsTable, type_of};
+ghost use Rattle.pickle_types.specs.Table.{IsTable};
 ghost use Rattle.pickle_types.specs.TypeTable.{IsInTable, nodes_of, type_named};
 ghost use Rattle.bit_space.specs.SpaceView.{Keeps, SpaceView};
 ghost use Rattle.command_words.specs.declared.ask.Ask.{Ask};
 ghost use Rattle.poke_batch.specs.RunsUnder.{end_saying};
 ghost use Rattle.poke_batch.specs.Told.{Line};
 ghost use Rattle.poke_batch.specs.declared.status.Status.TheVariants.{Fault as Faulty};
-ghost use Rattle.mapping_reasons.specs.Meant.{HasFault, HasValue};
-ghost use Rattle.mapping_reasons.specs.Why.{ExplainsRun, TellsPart, TellsWhy};
+ghost use Rattle.mapping_reasons.specs.Found.{scene_type};
+ghost use Rattle.mapping_reasons.specs.Why.{run_of, ExplainsRun, TellsOfFault, TellsOfValue, TellsPart, TellsWhy};
 
 mod again;
 mod blame;
@@ -56,7 +56,8 @@ pub fn reasons<S: Space>(
     space: &mut S,
     line: &[u8],
 ) -> Result<Vec<u8>, AllocError>
-    ensures why { IfOk result (λ text. ExplainsRun pickle.now (S.view space.old) ask.now terms.now line.now text.items) }
+    ensures why { let run = run_of (S.view space.old) ask.now terms.now line.now in
+        IfOk result (λ text. ExplainsRun pickle.now run text.items) }
     ensures keeps { Keeps (S.view space.old) (S.view space.new) }
 {
     let Ok(table) = accept(alloc, pickle) else {
@@ -82,7 +83,8 @@ pub fn reasons_in<S: Space>(
     line: &[u8],
 ) -> Result<Vec<u8>, AllocError>
     requires known { IsInTable table.now id }
-    ensures why { IfOk result (λ text. TellsWhy (S.view space.old) (type_named table.now id) ask.now terms.now line.now text.items) }
+    ensures why { let run = run_of (S.view space.old) ask.now terms.now line.now in
+        IfOk result (λ text. TellsWhy run (type_named table.now id) text.items) }
     ensures keeps { Keeps (S.view space.old) (S.view space.new) }
 {
     let Ok(mut store) = store_of(alloc, terms.most_slots) else {
@@ -134,7 +136,7 @@ fn value_reasons(
 ) -> Result<Vec<u8>, AllocError>
     requires table { IsTable scene.now.nodes.now }
     requires root { scene.now.root < length scene.now.nodes.now }
-    ensures why { (space : SpaceView) (ask : Ask) → HasValue space (type_of scene.now.nodes.now scene.now.root) ask → IfOk result (λ text. TellsWhy space (type_of scene.now.nodes.now scene.now.root) ask terms.now line.now text.items) }
+    ensures why { (space : SpaceView) (ask : Ask) → TellsOfValue (run_of space ask terms.now line.now) (scene_type scene.now) result }
 {
     if !is_of_value(line) {
         return Ok(Vec::new(scene.alloc));
@@ -155,7 +157,7 @@ fn fault_reasons(
 ) -> Result<Vec<u8>, AllocError>
     requires table { IsTable scene.now.nodes.now }
     requires root { scene.now.root < length scene.now.nodes.now }
-    ensures why { (space : SpaceView) → HasFault space (type_of scene.now.nodes.now scene.now.root) ask.now fault → IfOk result (λ text. TellsWhy space (type_of scene.now.nodes.now scene.now.root) ask.now terms.now line.now text.items) }
+    ensures why { (space : SpaceView) → TellsOfFault (run_of space ask.now terms.now line.now) (scene_type scene.now) fault result }
 {
     if is_told(scene.alloc, ask, terms, fault, line) {
         let part = part_text(scene, ask, fault, kept)?;
@@ -183,7 +185,7 @@ fn part_text(
 ) -> Result<Text, AllocError>
     requires table { IsTable scene.now.nodes.now }
     requires root { scene.now.root < length scene.now.nodes.now }
-    ensures part { IfOk result (λ text. TellsPart (type_of scene.now.nodes.now scene.now.root) text.bytes.items) }
+    ensures part { IfOk result (λ text. TellsPart (scene_type scene.now) text.bytes.items) }
 {
     match &kept.fault {
         Some(kept) if told(kept.stop, ask.start) == fault => fault_text(scene, kept),

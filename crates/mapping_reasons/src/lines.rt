@@ -1,7 +1,8 @@
 //! The lines that tell why a mapping stops.
 
 ghost use Rattle.std.specs.Prelude.{◌≡◌, ◌<◌, ◌++◌, length, codes, IfOk};
-ghost use Rattle.pickle_types.specs.Table.{IsTable, type_of};
+ghost use Rattle.pickle_types.specs.Table.{IsTable};
+ghost use Rattle.mapping_reasons.specs.Found.{scene_type};
 ghost use Rattle.mapping_reasons.specs.Why.{TellsPart, TellsArray, TellsArrays};
 
 use crate::again::Kept;
@@ -22,7 +23,7 @@ use std::alloc::{AllocError, Global};
 pub fn fault_text(scene: &Scene<'_, '_>, fault: &Fault) -> Result<Text, AllocError>
     requires table { IsTable scene.now.nodes.now }
     requires root { scene.now.root < length scene.now.nodes.now }
-    ensures part { IfOk result (λ text. TellsPart (type_of scene.now.nodes.now scene.now.root) text.bytes.items) }
+    ensures part { IfOk result (λ text. TellsPart (scene_type scene.now) text.bytes.items) }
 {
     let Some(found) = scene.find(&fault.way)? else {
         return Ok(Text::new(scene.alloc));
@@ -215,7 +216,7 @@ fn say_miss(scene: &Scene<'_, '_>, text: Text, miss: &Miss) -> Result<Text, Allo
 pub fn arrays_text(scene: &Scene<'_, '_>, kept: &Kept) -> Result<Text, AllocError>
     requires table { IsTable scene.now.nodes.now }
     requires root { scene.now.root < length scene.now.nodes.now }
-    ensures arrays { IfOk result (λ text. TellsArrays (type_of scene.now.nodes.now scene.now.root) text.bytes.items) }
+    ensures arrays { IfOk result (λ text. TellsArrays (scene_type scene.now) text.bytes.items) }
 {
     let mut text = Text::new(scene.alloc);
     for ended in kept.ended.as_slice() {
@@ -257,7 +258,7 @@ fn array_count(scene: &Scene<'_, '_>, count: usize) -> Result<Vec<u8>, AllocErro
 fn array_line(scene: &Scene<'_, '_>, ended: &Ended) -> Result<Text, AllocError>
     requires table { IsTable scene.now.nodes.now }
     requires root { scene.now.root < length scene.now.nodes.now }
-    ensures array { IfOk result (λ text. TellsArray (type_of scene.now.nodes.now scene.now.root) text.bytes.items) }
+    ensures array { IfOk result (λ text. TellsArray (scene_type scene.now) text.bytes.items) }
 {
     let Some(array) = scene.find(&ended.array)? else {
         return Ok(Text::new(scene.alloc));

@@ -1,8 +1,8 @@
 //! Where reasons are told from: a type of a pickle, and a file.
 
 ghost use Rattle.std.specs.Prelude.{◌<◌, length, IfOk, IfSome};
-ghost use Rattle.pickle_types.specs.Table.{IsTable, type_of};
-ghost use Rattle.mapping_reasons.specs.Ways.{IsWayTo};
+ghost use Rattle.pickle_types.specs.Table.{IsTable};
+ghost use Rattle.mapping_reasons.specs.Found.{IsPartOf};
 
 use crate::way::{Found, Way};
 use itoa::Buffer;
@@ -35,7 +35,7 @@ impl<'p, 't> Scene<'p, 't> {
     pub fn find(&self, way: &Way) -> Result<Option<Found>, AllocError>
         requires table { IsTable self.now.nodes.now }
         requires root { self.now.root < length self.now.nodes.now }
-        ensures way { IfOk result (λ found. IfSome found (λ part. IsWayTo (type_of self.now.nodes.now self.now.root) part.path.items (type_of self.now.nodes.now part.node))) }
+        ensures way { IfOk result (λ found. IfSome found (IsPartOf self.now.nodes.now self.now.root)) }
     {
         way.find(self.alloc, self.nodes, self.root)
     }

@@ -2,10 +2,10 @@
 
 ghost use Rattle.std.specs.Prelude.{◌≡◌, ℕ, ◌<◌, ◌++◌, length, IfOk, IfSome};
 ghost use Rattle.std.specs.Option.{option_map};
-ghost use Rattle.pickle_types.specs.Table.{IsTable, type_of, name_of};
+ghost use Rattle.pickle_types.specs.Table.{IsTable, name_of};
 ghost use Rattle.value_text.specs.PathText.{field_step, path_text};
 ghost use Rattle.text_forms.specs.Brackets.{in_brackets};
-ghost use Rattle.mapping_reasons.specs.Ways.{IsWayTo, LeadsTo};
+ghost use Rattle.mapping_reasons.specs.Found.{IsPartOf, IsReachedFrom};
 ghost use Rattle.mapping_reasons.specs.Portions.{IsPortion, IsShapePortion, IsFieldPortion, IsPartPortion, joint_text, joint_name};
 
 use pickle_script::site;
@@ -93,7 +93,7 @@ impl Way {
     ) -> Result<Option<Found>, AllocError>
         requires table { IsTable nodes.now }
         requires root { root < length nodes.now }
-        ensures way { IfOk result (λ found. IfSome found (λ part. IsWayTo (type_of nodes.now root) part.path.items (type_of nodes.now part.node))) }
+        ensures way { IfOk result (λ found. IfSome found (IsPartOf nodes.now root)) }
     {
         match walk(alloc, nodes, root, self.steps.as_slice())? {
             Some(walked) => Ok(Some(Found {
@@ -139,7 +139,7 @@ fn walk(
 ) -> Result<Option<Walked>, AllocError>
     requires table { IsTable nodes.now }
     requires root { root < length nodes.now }
-    ensures way { IfOk result (λ walked. IfSome walked (λ part. LeadsTo (type_of nodes.now root) part.text.bytes.items (type_of nodes.now part.node))) }
+    ensures way { IfOk result (λ walked. IfSome walked (IsReachedFrom nodes.now root)) }
 {
     let mut text = Text::new(alloc);
     let mut node = root;
