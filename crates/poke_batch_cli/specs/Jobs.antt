@@ -1,5 +1,4 @@
 -- What jobs do.
-use Rattle.std.specs.Prelude.{Unit}
 use Rattle.command_words.specs.declared.words.Job.{Job}
 use Rattle.command_words.specs.declared.words.Job.TheVariants.{Map, MapUnder, Each, Bound, BoundText, Check, Types, Dump}
 
