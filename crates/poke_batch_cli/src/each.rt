@@ -3,7 +3,7 @@ ghost use Rattle.pickle_types.specs.TypeTable.{IsInTable};
 ghost use Rattle.poke_batch.specs.RunsUnder.{IsStoreOf};
 
 use crate::files::open_space;
-use crate::jobs::is_mapped;
+use crate::mappings::is_mapped;
 use arrayvec::ArrayVec;
 use bit_space::{Memory, OpenFault, Space};
 use mapping_reasons::reasons_in;

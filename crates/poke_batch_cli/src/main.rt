@@ -5,6 +5,9 @@ mod each;
 mod files;
 mod given;
 mod jobs;
+mod mappings;
+mod pickles;
+mod why;
 
 use arrayvec::ArrayVec;
 use given::given_words;

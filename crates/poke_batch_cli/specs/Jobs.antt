@@ -1,0 +1,14 @@
+-- What jobs do.
+use Rattle.command_words.specs.declared.words.Job.{Job}
+use Rattle.command_words.specs.declared.words.Job.TheVariants.{Map, MapUnder, Each, Bound, BoundText, Check, Types, Dump}
+
+-- a job that maps a type
+abbrev pub Maps : Job → Type 0
+Maps (Map at order limit mode pickle type file) = Unit {0}
+Maps (MapUnder at order limit mode terms pickle type file) = Unit {0}
+Maps (Each at order limit mode terms pickle type files) = Unit {0}
+Maps (Bound pickle type bits) = ⊥
+Maps (BoundText pickle type bits mode) = ⊥
+Maps (Check pickle) = ⊥
+Maps (Types pickle) = ⊥
+Maps (Dump from size ruler file) = ⊥
