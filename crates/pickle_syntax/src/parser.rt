@@ -7,7 +7,7 @@ ghost use Rattle.pickle_syntax.specs.Show.{show, show_pickle};
 ghost use Rattle.pickle_syntax.specs.Levels.{IsWellBracketed, IsPickleWellBracketed};
 ghost use Rattle.pickle_syntax.specs.Limits.{standard};
 ghost use Rattle.pickle_syntax.specs.ReadForms.{pickle_at};
-ghost use Rattle.pickle_syntax.specs.Told.{TellsKind};
+ghost use Rattle.pickle_syntax.specs.Told.{Tells};
 ghost use Rattle.pickle_syntax.specs.Pickles.{IsPickle, IsPickleOf, semicolons, fault_of, IsPlaceWithin};
 ghost use Rattle.pickle_syntax.specs.declared.parser.fault.ParseFault.TheVariants.{Memory, TooDeep, TooMany};
 
@@ -46,7 +46,7 @@ fn fault_of(stop: Stop, count: usize) -> ParseFault
 pub fn parse<'t>(alloc: Global, tokens: &Tokens<'t>) -> Result<Pickle<'t>, ParseFault>
     ensures found { IfOk result (λ p. IsPickleOf (tokens_of tokens.now.kinds.items) (pickle_tree p)) }
     ensures refused { IfErr result (λ f. f ≢ Memory → IsPickle (tokens_of tokens.now.kinds.items) → ⊥) }
-    ensures kind { IfErr result (TellsKind (pickle_at standard (tokens_of tokens.now.kinds.items))) }
+    ensures told { IfErr result (Tells (length tokens.now.kinds.items) (pickle_at standard (tokens_of tokens.now.kinds.items))) }
     ensures place { IfErr result (λ f. IsPlaceWithin (length tokens.now.kinds.items) f) }
     ensures deep { IfErr result (λ f. f ≡ TooDeep → 64 < length tokens.now.kinds.items) }
     ensures many { IfErr result (λ f. f ≡ TooMany → 1024 ≤ semicolons (tokens_of tokens.now.kinds.items)) }
