@@ -42,7 +42,7 @@ fn fault_of(stop: Stop, count: usize) -> ParseFault
 /// 1,024 fields of a struct or union and 4,096 declarations.
 ///
 /// `Syntax`, `TooDeep` and `TooMany` come only where the tokens are no pickle, and each only where the reading of the tokens stops
-/// for that reason. Which token `Syntax` names is not promised: it is the first at which no pickle can go on.
+/// for that reason. `Syntax` names the token at which it stops, or their number where they end too early.
 pub fn parse<'t>(alloc: Global, tokens: &Tokens<'t>) -> Result<Pickle<'t>, ParseFault>
     ensures found { IfOk result (λ p. IsPickleOf (tokens_of tokens.now.kinds.items) (pickle_tree p)) }
     ensures refused { IfErr result (λ f. f ≢ Memory → IsPickle (tokens_of tokens.now.kinds.items) → ⊥) }
