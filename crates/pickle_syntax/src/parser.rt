@@ -1,12 +1,13 @@
 //! Pickles from their tokens.
 
-ghost use Rattle.std.specs.Prelude.{◌≡◌, ◌≢◌, ◌<◌, ◌≤◌, List, length, IfOk, IfErr};
-ghost use Rattle.pickle_syntax.specs.Tokens.{tokens_of};
+ghost use Rattle.std.specs.Prelude.{◌≡◌, ◌≢◌, ◌<◌, ◌≤◌, ◌+◌, ◌++◌, ◌∷◌, List, Err, length, IfOk, IfErr};
+ghost use Rattle.pickle_syntax.specs.Tokens.{Token, tokens_of};
 ghost use Rattle.pickle_tree.specs.Tree.{Tree, DeclarationTree, pickle_tree};
 ghost use Rattle.pickle_syntax.specs.Show.{show, show_pickle};
 ghost use Rattle.pickle_syntax.specs.Levels.{IsWellBracketed, IsPickleWellBracketed};
 ghost use Rattle.pickle_syntax.specs.Limits.{standard};
 ghost use Rattle.pickle_syntax.specs.ReadForms.{pickle_at};
+ghost use Rattle.pickle_syntax.specs.Reading.{Wrong};
 ghost use Rattle.pickle_syntax.specs.Told.{Tells};
 ghost use Rattle.pickle_syntax.specs.Pickles.{IsPickle, IsPickleOf, semicolons, fault_of, IsPlaceWithin};
 ghost use Rattle.pickle_syntax.specs.declared.parser.fault.ParseFault.TheVariants.{Memory, TooDeep, TooMany};
@@ -66,4 +67,11 @@ pub fn one_expression()
 /// Two well bracketed pickles that show the same tokens are equal.
 pub fn one_tree()
     ensures { (ds es : List DeclarationTree) → IsPickleWellBracketed ds → IsPickleWellBracketed es → show_pickle ds ≡ show_pickle es → ds ≡ es }
+{}
+
+/// What stands behind the token that `Syntax` tells doesn't matter: with anything else behind it the reading stops there too, and so
+/// no pickle begins with the tokens up to that one and it.
+pub fn no_pickle_goes_on()
+    ensures { (front rest more : List Token) (token : Token) → pickle_at standard (front ++ token ∷ rest) ≡ Err (Wrong (length rest + 1))
+        → pickle_at standard (front ++ token ∷ more) ≡ Err (Wrong (length more + 1)) }
 {}
