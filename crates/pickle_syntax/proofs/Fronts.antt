@@ -1,5 +1,5 @@
 -- Which token the reading stops at is decided by the tokens up to it.
-use Rattle.std.proofs.Common.{◌≡◌, ℕ, zero, suc, ◌+◌, ◌≤◌, ◌⊎◌, inl, inr, Bool, true, false, cond, ltb, Option, Some, None, List, [], ◌∷◌, ◌++◌, drop, length, refl, sym, ap, subst, ◌∙◌, arith, Result, Ok, Err, length-append}
+use Rattle.std.proofs.Common.{◌≡◌, ℕ, zero, suc, ◌+◌, ◌≤◌, ◌⊎◌, inl, inr, Bool, true, false, cond, ltb, Option, Some, None, List, [], ◌∷◌, ◌++◌, length, refl, sym, ap, subst, ◌∙◌, arith, Result, Ok, Err, length-append}
 use denote.Enum.Bare.{sameb}
 use Rattle.pickle_syntax.specs.contracts.token.Sign as sign_contract
 use Rattle.pickle_syntax.specs.contracts.token.Word as word_contract
@@ -23,9 +23,9 @@ use Rattle.pickle_tree.specs.Tree as tree
 use Rattle.pickle_syntax.specs.Levels.{level}
 use Rattle.pickle_syntax.specs.Limits.{Limits, depth, form_depth}
 use Rattle.pickle_syntax.specs.Operators.{start_of, next_of, goes_on}
-use Rattle.pickle_syntax.specs.ReadExpressions.{Reader, operand_by, operand_at, step_at, chain, expression_at}
-use Rattle.pickle_syntax.specs.ReadForms.{present_at, present_if, part_at, condition_at, bound_by, bound_at, FormReader, order_at, optional_name_at, field_at, with_field, unless_closed, fields_at, braced_at, target_form, struct_by, struct_at, pinned_at, word_form, base_at, suffix_by, suffix_at, form_at, declaration_at, with_declaration, declarations_at, pickle_at}
-use Rattle.pickle_syntax.specs.Reading.{Fault, Wrong, Deep, Many, ◌>>=◌, Read, rest_if, after_sign, after_word, needed, expect, name_at, width_at, sized_at, reference_at, unit_named, named_unit, unit_at, offset_at, target_at}
+use Rattle.pickle_syntax.specs.ReadExpressions.{Reader, operand_at, step_at, chain, expression_at}
+use Rattle.pickle_syntax.specs.ReadForms.{present_at, present_if, part_at, condition_at, bound_by, bound_at, FormReader, order_at, optional_name_at, field_at, with_field, unless_closed, fields_at, braced_at, target_form, struct_by, struct_at, pinned_at, base_at, suffix_by, suffix_at, form_at, declaration_at, with_declaration, declarations_at, pickle_at}
+use Rattle.pickle_syntax.specs.Reading.{Fault, Wrong, Deep, Many, ◌>>=◌, Read, after_sign, after_word, needed, expect, name_at, width_at, reference_at, unit_named, unit_at, offset_at, target_at}
 
 -- no more than so many tokens are left
 abbrev Within : {A : Type 0} → ℕ → Read A → Type 0

@@ -32,7 +32,7 @@ pickle_refused toks f e = let law = declarations_law standard 4096 1024 toks (om
 pub left_within : (toks : List Token) (left : ℕ) → pickle_at standard toks ≡ Err (Wrong left) → left ≤ length toks
 left_within toks left e = pickle_refused toks (Wrong left) e
 
-never_pickle : (toks : List Token) (f : Fault) → pickle_at standard toks ≡ Err f → IsPickle toks → ⊥
+pub never_pickle : (toks : List Token) (f : Fault) → pickle_at standard toks ≡ Err f → IsPickle toks → ⊥
 never_pickle toks f e x =
     let is = x.1 in
     let read : pickle_at standard toks ≡ Ok x.0 = ap (pickle_at standard) is.shown ∙ pickle_again standard x.0 is.bracketed is.within in

@@ -1,12 +1,15 @@
 -- What a refusal of tokens tells.
-use Rattle.std.specs.Prelude.{ℕ, ◌-◌, ◌≡◌, ⊤, Result, Err}
+use Rattle.std.specs.Prelude.{◌-◌, ◌≡◌, ⊤, List, length, Err}
 use Rattle.pickle_syntax.specs.declared.parser.fault.ParseFault.{ParseFault}
 use Rattle.pickle_syntax.specs.declared.parser.fault.ParseFault.TheVariants as fault
-use Rattle.pickle_syntax.specs.Reading.{Fault, Wrong, Deep, Many}
+use Rattle.pickle_syntax.specs.Tokens.{Token}
+use Rattle.pickle_syntax.specs.Limits.{standard}
+use Rattle.pickle_syntax.specs.Reading.{Wrong, Deep, Many}
+use Rattle.pickle_syntax.specs.ReadForms.{pickle_at}
 
--- a fault, over so many tokens, is that with which the reading stops; nothing is said of want of memory
-abbrev pub Tells : {A : Type 0} → ℕ → Result A Fault → ParseFault → Type 0
-Tells count read fault.Memory = ⊤
-Tells count read (fault.Syntax token) = read ≡ Err (Wrong (count - token))
-Tells count read fault.TooDeep = read ≡ Err Deep
-Tells count read fault.TooMany = read ≡ Err Many
+-- the reading of the tokens stops with this fault, and at its token; nothing is said of want of memory
+abbrev pub Tells : List Token → ParseFault → Type 0
+Tells tokens fault.Memory = ⊤
+Tells tokens (fault.Syntax token) = pickle_at standard tokens ≡ Err (Wrong (length tokens - token))
+Tells tokens fault.TooDeep = pickle_at standard tokens ≡ Err Deep
+Tells tokens fault.TooMany = pickle_at standard tokens ≡ Err Many

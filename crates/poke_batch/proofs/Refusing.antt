@@ -32,15 +32,15 @@ pub no_pickle : (pickle : List ℕ) (tokens : List Token) (spans : List (ℕ × 
     → (IsPickle tokens → ⊥) → pickle_at standard tokens ≡ Err why → IsNoPickle pickle spans count why
 no_pickle pickle tokens spans count why cut counted none stops = record { tokens = tokens; cut = cut; counted = counted; none = none; stops = stops }
 
--- what a fault tells of a reading
-pub told_syntax : {A : Type 0} (read : Result A Fault) (f : ParseFault) (token count count' : ℕ) → f ≡ fault.Syntax token → Tells count read f → count' ≡ count → read ≡ Err (Wrong (count' - token))
-told_syntax read f token count count' e told same = subst (λ n. read ≡ Err (Wrong (n - token))) (sym same) (subst (Tells count read) e told)
+-- what a fault tells of the reading of tokens
+pub told_syntax : (tokens : List Token) (f : ParseFault) (token : ℕ) → f ≡ fault.Syntax token → Tells tokens f → pickle_at standard tokens ≡ Err (Wrong (length tokens - token))
+told_syntax tokens f token e told = subst (Tells tokens) e told
 
-pub told_deep : {A : Type 0} (read : Result A Fault) (f : ParseFault) (count : ℕ) → f ≡ fault.TooDeep → Tells count read f → read ≡ Err Deep
-told_deep read f count e told = subst (Tells count read) e told
+pub told_deep : (tokens : List Token) (f : ParseFault) → f ≡ fault.TooDeep → Tells tokens f → pickle_at standard tokens ≡ Err Deep
+told_deep tokens f e told = subst (Tells tokens) e told
 
-pub told_many : {A : Type 0} (read : Result A Fault) (f : ParseFault) (count : ℕ) → f ≡ fault.TooMany → Tells count read f → read ≡ Err Many
-told_many read f count e told = subst (Tells count read) e told
+pub told_many : (tokens : List Token) (f : ParseFault) → f ≡ fault.TooMany → Tells tokens f → pickle_at standard tokens ≡ Err Many
+told_many tokens f e told = subst (Tells tokens) e told
 
 -- a fault of types, but for want of memory, is the definition's
 pub types_fail : {Y : Type 0} (kind : FaultKind) (given : Result Y FaultKind) → kind ≢ types.Memory → checking.Fails kind given → given ≡ Err kind
