@@ -17,7 +17,7 @@ use Rattle.pickle_syntax.specs.Reading.{Wrong, reference_at, target_at}
 use Rattle.pickle_syntax.specs.ReadForms.{FormReader, word_form, base_at}
 
 module _ (limits : Limits) (sub : FormReader) where
-  pub base_none : (kinds : List Kind) → length kinds < 1 → base_at limits sub (tokens_of kinds) ≡ Err Wrong
+  pub base_none : (kinds : List Kind) → length kinds < 1 → base_at limits sub (tokens_of kinds) ≡ Err (Wrong 0)
   unfolding base_at target_at reference_at
   base_none [] h = refl
   base_none (k ∷ ks) h = absurd (omega arith)

@@ -19,7 +19,7 @@ use Rattle.pickle_syntax.specs.Operators.{start_of, next_of, own_of, left_of, go
 use Rattle.pickle_syntax.specs.Reading.{Fault, Wrong, Deep, Many, ◌>>=◌, expect, name_at, unit_at, target_at}
 use Rattle.pickle_syntax.specs.ReadExpressions.{Reader, operand_by, operand_at, step_at, chain, expression_at}
 use Rattle.pickle_syntax.proofs.Results.{Outcome, value, fault, then, either}
-use Rattle.pickle_syntax.proofs.FrontFacts.{IsWrong, wrong_only, expect_law, name_law, unit_law, target_law}
+use Rattle.pickle_syntax.proofs.FrontFacts.{IsWrong, wrong_only, shorter, expect_law, name_law, unit_law, target_law}
 use Rattle.pickle_syntax.proofs.OperatorFacts.{StartIs, start_is, FrontIs, front_is, level_middle, depth_pos}
 
 suffix_long : (s : TreeSuffix) → 1 ≤ length (show_suffix s)
@@ -57,23 +57,23 @@ pub record Reads (room least : ℕ) (toks : List Token) (x : Tree × List Token)
   pub high : least ≤ level_of x.0
   pub low : depth x.0 ≤ room
 
--- only what is deep is too deep
+-- only what is deep is too deep, and what is wrong stands among the tokens or behind the last
 abbrev pub Refused : ℕ → List Token → Fault → Type 0
-Refused room toks Wrong = Unit {0}
+Refused room toks (Wrong left) = left ≤ length toks
 Refused room toks Deep = room < length toks
 Refused room toks Many = ⊥
 
-refused_more : (room more : ℕ) (rest toks : List Token) → (room < length rest → more < length toks) → (f : Fault) → Refused room rest f → Refused more toks f
-refused_more room more rest toks h Wrong r = tt
-refused_more room more rest toks h Deep r = h r
-refused_more room more rest toks h Many r = absurd r
+refused_more : (room more : ℕ) (rest toks : List Token) → length rest ≤ length toks → (room < length rest → more < length toks) → (f : Fault) → Refused room rest f → Refused more toks f
+refused_more room more rest toks less h (Wrong left) r = omega (arith, less, r)
+refused_more room more rest toks less h Deep r = h r
+refused_more room more rest toks less h Many r = absurd r
 
-refused_wrong : (room : ℕ) (toks : List Token) (f : Fault) → IsWrong f → Refused room toks f
-refused_wrong room toks = wrong_only (Refused room toks) tt
+refused_wrong : (room : ℕ) (rest toks : List Token) → length rest ≤ length toks → (f : Fault) → IsWrong rest f → Refused room toks f
+refused_wrong room rest toks less = wrong_only rest (Refused room toks) (λ left w. omega (arith, less, w))
 
 -- a fault after the first part of the tokens
 refused_later : (room more : ℕ) (toks front rest : List Token) → toks ≡ front ++ rest → more ≤ room + length front → (f : Fault) → Refused room rest f → Refused more toks f
-refused_later room more toks front rest e h = refused_more room more rest toks (λ r. rw e (omega (arith, length-append front rest)))
+refused_later room more toks front rest e h = refused_more room more rest toks (shorter front rest toks e) (λ r. rw e (omega (arith, length-append front rest)))
 
 abbrev HasLaw : Reader → ℕ → Type 0
 HasLaw sub room = (least : ℕ) (toks : List Token) → 1 ≤ least → least ≤ 13 → Outcome (Reads room least toks) (Refused room toks) (sub least toks)
@@ -92,16 +92,16 @@ module _ (sub : Reader) (room : ℕ) (law : HasLaw sub room) where
       let low = inner.low in
       let shown = shown_closed [] (show e.0) (Mark s ∷ rest) rest e.1 after (Mark sign.OpenParen) (Mark sign.CloseParen) (ap (λ (m : Sign). Mark m ∷ rest) is) inner.shown close in
       value _ _ (Bracket e.0, after) (record { shown = shown; fine = inner.fine; high = omega arith; low = omega arith }))
-      (refused_wrong (room + 1) (Mark s ∷ rest)))
-      (refused_more room (room + 1) rest (Mark s ∷ rest) (λ h. omega arith))
+      (refused_wrong (room + 1) e.1 (Mark s ∷ rest) (omega (arith, shorter (show e.0) e.1 rest inner.shown))))
+      (refused_more room (room + 1) rest (Mark s ∷ rest) (omega arith) (λ h. omega arith))
   operand_by_law s rest (start.Prefix op) is =
       then (sub 13 rest) (λ e. Ok (Before op e.0, e.1)) (law 13 rest (omega arith) (omega arith))
       (λ e _ inner.
       let low = inner.low in
       let shown : Mark s ∷ rest ≡ show (Before op e.0) ++ e.1 = ap (λ (m : Sign). Mark m ∷ rest) is ∙ ap (λ (l : List Token). Mark (prefix_sign op) ∷ l) inner.shown in
       value _ _ (Before op e.0, e.1) (record { shown = shown; fine = (inner.fine, inner.high); high = omega arith; low = omega arith }))
-      (refused_more room (room + 1) rest (Mark s ∷ rest) (λ h. omega arith))
-  operand_by_law s rest start.Nothing is = fault _ _ Wrong tt
+      (refused_more room (room + 1) rest (Mark s ∷ rest) (omega arith) (λ h. omega arith))
+  operand_by_law s rest start.Nothing is = fault _ _ (Wrong _) (omega arith)
 
   operand_law : (toks : List Token) → Outcome (Reads (room + 1) 13 toks) (Refused (room + 1) toks) (operand_at sub toks)
   unfolding operand_at
@@ -110,8 +110,8 @@ module _ (sub : Reader) (room : ℕ) (law : HasLaw sub room) where
   operand_law (token.Text bytes ∷ rest) = value _ _ (tree.Text bytes, rest) (record { shown = refl; fine = tt; high = omega arith; low = omega arith })
   operand_law (Named n ∷ rest) = value _ _ (Name n, rest) (record { shown = refl; fine = tt; high = omega arith; low = omega arith })
   operand_law (Mark s ∷ rest) = operand_by_law s rest (start_of s) (start_is s)
-  operand_law [] = fault _ _ Wrong tt
-  operand_law (_ ∷ rest) = fault _ _ Wrong tt
+  operand_law [] = fault _ _ (Wrong _) (omega arith)
+  operand_law (_ ∷ rest) = fault _ _ (Wrong _) (omega arith)
 
   step_law : (least : ℕ) (left : Tree) (toks : List Token) (n : Next) → IsWellBracketed left → depth left ≤ room → least ≤ own_of n → left_of n ≤ level_of left → FrontIs n toks → Outcome (Steps (room + 1) least left (show left ++ toks)) (Refused room (drop 1 toks)) (step_at sub left (drop 1 toks) n)
   unfolding step_at
@@ -134,7 +134,7 @@ module _ (sub : Reader) (room : ℕ) (law : HasLaw sub room) where
       let shown = shown_three (show left) (show x.0) (show y.0) toks (drop 1 toks) x.1 after y.1 (Mark sign.Question) (Mark sign.Colon) front first.shown colon second.shown in
       value _ _ (Choice left x.0 y.0, y.1) (record { read = record { shown = shown; fine = (fine, first.fine, second.fine, high); high = own; low = omega arith }; deeper = omega arith }))
       (refused_later room room (drop 1 toks) (show x.0 ++ Mark sign.Colon ∷ []) after (first.shown ∙ ap (λ (l : List Token). show x.0 ++ l) colon ∙ sym (append_assoc (show x.0) (Mark sign.Colon ∷ []) after)) (omega arith)))
-      (refused_wrong room (drop 1 toks)))
+      (refused_wrong room x.1 (drop 1 toks) (shorter (show x.0) x.1 (drop 1 toks) first.shown)))
       (λ d w. w)
   step_law least left toks next.Index fine low own high front =
       then (sub 1 (drop 1 toks)) (λ i. expect sign.CloseBracket i.1 >>= λ after. Ok (Index left i.0, after)) (law 1 (drop 1 toks) (omega arith) (omega arith))
@@ -143,20 +143,20 @@ module _ (sub : Reader) (room : ℕ) (law : HasLaw sub room) where
       let low2 = index.low in
       let shown = shown_closed (show left) (show i.0) toks (drop 1 toks) i.1 after (Mark sign.OpenBracket) (Mark sign.CloseBracket) front index.shown close in
       value _ _ (Index left i.0, after) (record { read = record { shown = shown; fine = (fine, index.fine, high); high = own; low = omega arith }; deeper = omega arith }))
-      (refused_wrong room (drop 1 toks)))
+      (refused_wrong room i.1 (drop 1 toks) (shorter (show i.0) i.1 (drop 1 toks) index.shown)))
       (λ d w. w)
   step_law least left toks next.Select fine low own high front =
       then (name_at (drop 1 toks)) (λ n. Ok (After left (Select n.0), n.1)) (name_law (drop 1 toks))
       (λ n _ e.
       let shown = shown_two (show left) (Named n.0 ∷ []) toks (drop 1 toks) n.1 (Mark sign.Dot) front e in
       value _ _ (After left (Select n.0), n.1) (record { read = record { shown = shown; fine = (fine, high); high = own; low = omega arith }; deeper = omega arith }))
-      (refused_wrong room (drop 1 toks))
+      (refused_wrong room (drop 1 toks) (drop 1 toks) (omega arith))
   step_law least left toks next.Unit fine low own high front =
       then (unit_at (drop 1 toks)) (λ u. Ok (After left (InUnit u.0), u.1)) (unit_law (drop 1 toks))
       (λ u _ e.
       let shown = shown_two (show left) (show_unit u.0 ∷ []) toks (drop 1 toks) u.1 (Mark sign.Hash) front e in
       value _ _ (After left (InUnit u.0), u.1) (record { read = record { shown = shown; fine = (fine, high); high = own; low = omega arith }; deeper = omega arith }))
-      (refused_wrong room (drop 1 toks))
+      (refused_wrong room (drop 1 toks) (drop 1 toks) (omega arith))
   step_law least left toks (next.Attribute a) fine low own high front =
       let shown = shown_two (show left) [] toks (drop 1 toks) (drop 1 toks) (token.AttributeOf a) front refl in
       value _ _ (After left (tree.AttributeOf a), drop 1 toks) (record { read = record { shown = shown; fine = (fine, high); high = own; low = omega arith }; deeper = omega arith })
@@ -165,8 +165,8 @@ module _ (sub : Reader) (room : ℕ) (law : HasLaw sub room) where
       (λ t _ e.
       let shown = shown_two (show left) (show_target t.0) toks (drop 1 toks) t.1 (Reserved word.As) front e in
       value _ _ (After left (Convert t.0), t.1) (record { read = record { shown = shown; fine = (fine, high); high = own; low = omega arith }; deeper = omega arith }))
-      (refused_wrong room (drop 1 toks))
-  step_law least left toks next.Nothing fine low own high front = fault _ _ Wrong tt
+      (refused_wrong room (drop 1 toks) (drop 1 toks) (omega arith))
+  step_law least left toks next.Nothing fine low own high front = fault _ _ (Wrong _) (omega arith)
 
   some_token : (toks : List Token) → 1 ≤ own_of (next_of toks) → 1 ≤ length toks
   some_token [] h = absurd (omega arith)
@@ -194,12 +194,12 @@ module _ (sub : Reader) (room : ℕ) (law : HasLaw sub room) where
       let deeper = one.deeper in
       let more = chain_law n least x.0 x.1 pos r.fine r.high r.low (omega arith) in
       subst (λ (l : List Token). Outcome (Reads (room + 1) least l) (Refused (room + 1) l) (chain sub room n least x.0 x.1)) (sym r.shown) more)
-      (refused_more room (room + 1) (drop 1 toks) (show left ++ toks) (λ h. omega (arith, length-drop 1 toks, length-append (show left) toks, depth_shown left, depth_pos left)))))
+      (refused_more room (room + 1) (drop 1 toks) (show left ++ toks) (omega (arith, length-drop 1 toks, length-append (show left) toks)) (λ h. omega (arith, length-drop 1 toks, length-append (show left) toks, depth_shown left, depth_pos left)))))
       (λ p. value _ _ (left, toks) (record { shown = refl; fine = fine; high = high; low = low }))
 
 pub expression_law : (room least : ℕ) (toks : List Token) → 1 ≤ least → least ≤ 13 → Outcome (Reads room least toks) (Refused room toks) (expression_at room least toks)
 unfolding expression_at
-expression_law zero least [] pos most = fault _ _ Wrong tt
+expression_law zero least [] pos most = fault _ _ (Wrong _) (omega arith)
 expression_law zero least (t ∷ toks) pos most = fault _ _ Deep (omega arith)
 expression_law (suc room) least toks pos most =
     let is : room + 1 ≡ suc room = omega arith in

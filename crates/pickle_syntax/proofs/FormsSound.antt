@@ -33,43 +33,47 @@ record Later (rest toks : List Token) : Type 0 where
 later : (front rest toks : List Token) → toks ≡ front ++ rest → Later rest toks
 later front rest toks e = rw e (record { shorter = omega (arith, length-append front rest); fewer = omega (arith, semicolons-append front rest) })
 
+same : (toks : List Token) → Later toks toks
+same toks = later [] toks toks refl
+
 later_still : (last rest toks : List Token) → Later last rest → Later rest toks → Later last toks
 later_still last rest toks a b =
     let a1 = a.shorter in let a2 = a.fewer in let b1 = b.shorter in let b2 = b.fewer in
     record { shorter = omega arith; fewer = omega arith }
 
--- a refusal of types: deep ones have more tokens than the room, and too many parts as many semicolons
+-- a refusal of types: what is wrong stands among the tokens or behind the last, deep ones have more tokens than the room, and too many
+-- parts as many semicolons
 abbrev pub IsRefused : ℕ → ℕ → List Token → Fault → Type 0
-IsRefused many room toks Wrong = Unit {0}
+IsRefused many room toks (Wrong left) = left ≤ length toks
 IsRefused many room toks Deep = room < length toks
 IsRefused many room toks Many = many ≤ semicolons toks
 
 refused_later : (many room : ℕ) (rest toks : List Token) → Later rest toks → (f : Fault) → IsRefused many room rest f → IsRefused many room toks f
-refused_later many room rest toks l Wrong r = tt
+refused_later many room rest toks l (Wrong left) r = let h = l.shorter in omega arith
 refused_later many room rest toks l Deep r = let h = l.shorter in omega arith
 refused_later many room rest toks l Many r = let h = l.fewer in omega arith
 
 refused_fewer : (few many room : ℕ) (toks : List Token) → few ≤ many → (f : Fault) → IsRefused many room toks f → IsRefused few room toks f
-refused_fewer few many room toks h Wrong r = tt
+refused_fewer few many room toks h (Wrong left) r = r
 refused_fewer few many room toks h Deep r = r
 refused_fewer few many room toks h Many r = omega arith
 
 -- one token more
 refused_inside : (many room : ℕ) (t : Token) (rest : List Token) → (f : Fault) → IsRefused many room rest f → IsRefused many (room + 1) (t ∷ rest) f
-refused_inside many room t rest Wrong r = tt
+refused_inside many room t rest (Wrong left) r = omega arith
 refused_inside many room t rest Deep r = omega arith
 refused_inside many room t rest Many r = let l = later (t ∷ []) rest (t ∷ rest) refl in let h = l.fewer in omega arith
 
 refused_expression : (many room most : ℕ) (rest toks : List Token) → room ≤ most → Later rest toks → (f : Fault) → Refused most rest f → IsRefused many room toks f
-refused_expression many room most rest toks enough l Wrong r = tt
+refused_expression many room most rest toks enough l (Wrong left) r = let h = l.shorter in omega arith
 refused_expression many room most rest toks enough l Deep r = let h = l.shorter in omega arith
 refused_expression many room most rest toks enough l Many r = absurd r
 
-refused_wrong : (many room : ℕ) (toks : List Token) (f : Fault) → IsWrong f → IsRefused many room toks f
-refused_wrong many room toks = wrong_only (IsRefused many room toks) tt
+refused_wrong : (many room : ℕ) (rest toks : List Token) → Later rest toks → (f : Fault) → IsWrong rest f → IsRefused many room toks f
+refused_wrong many room rest toks l = wrong_only rest (IsRefused many room toks) (λ left w. let h = l.shorter in omega (arith, w))
 
-expression_wrong : (most : ℕ) (toks : List Token) (f : Fault) → IsWrong f → Refused most toks f
-expression_wrong most toks = wrong_only (Refused most toks) tt
+expression_wrong : (most : ℕ) (rest toks : List Token) → Later rest toks → (f : Fault) → IsWrong rest f → Refused most toks f
+expression_wrong most rest toks l = wrong_only rest (Refused most toks) (λ left w. let h = l.shorter in omega (arith, w))
 
 -- ---- expressions that may be absent
 
@@ -79,7 +83,7 @@ record ReadsOptional (shows : Option Tree → List Token) (most : ℕ) (toks : L
   low : IsOptionalWithin most x.0
 
 expression_later : (most : ℕ) (rest toks : List Token) → Later rest toks → (f : Fault) → Refused most rest f → Refused most toks f
-expression_later most rest toks l Wrong r = tt
+expression_later most rest toks l (Wrong left) r = let h = l.shorter in omega arith
 expression_later most rest toks l Deep r = let h = l.shorter in omega arith
 expression_later most rest toks l Many r = absurd r
 
@@ -125,7 +129,7 @@ bound_law most toks = by (after_sign sign.CloseBracket toks) refl
         then (present_at most toks) (λ e. expect sign.CloseBracket e.1 >>= λ after. Ok (e.0, after)) (present_law most show_optional toks [] toks refl (λ e. refl))
         (λ e _ r. then (expect sign.CloseBracket e.1) (λ after. Ok (e.0, after)) (expect_law sign.CloseBracket e.1)
         (λ after _ close. value _ _ (e.0, after) (record { shown = r.shown ∙ ap (λ (l : List Token). show_optional e.0 ++ l) close; fine = r.fine; low = r.low }))
-        (expression_wrong most toks))
+        (expression_wrong most e.1 toks (later (show_optional e.0) e.1 toks r.shown)))
         (λ d w. w)
 
 -- ---- fields
@@ -159,11 +163,11 @@ array_joins all f toks rest b after e g h = rw (e, g, h) (simp append_assoc)
 declaration_joins : (toks : List Token) (n : List ℕ) (assign f r after : List Token) → toks ≡ (Reserved word.Type ∷ Named n ∷ Mark sign.Assign ∷ []) ++ assign → assign ≡ f ++ r → r ≡ Mark sign.Semicolon ∷ after → toks ≡ (Reserved word.Type ∷ Named n ∷ Mark sign.Assign ∷ f ++ Mark sign.Semicolon ∷ []) ++ after
 declaration_joins toks n assign f r after e g h = rw (e, g, h) (simp append_assoc)
 
-word_law : (w : Word) (toks : List Token) → Outcome (λ rest. toks ≡ Reserved w ∷ rest) IsWrong (needed (after_word w toks))
+word_law : (w : Word) (toks : List Token) → Outcome (λ rest. toks ≡ Reserved w ∷ rest) (IsWrong toks) (needed (after_word w toks) toks)
 word_law w toks = by (after_word w toks) refl
   where
-    by : (o : Option (List Token)) → after_word w toks ≡ o → Outcome (λ rest. toks ≡ Reserved w ∷ rest) IsWrong (needed o)
-    by None is = fault _ _ Wrong refl
+    by : (o : Option (List Token)) → after_word w toks ≡ o → Outcome (λ rest. toks ≡ Reserved w ∷ rest) (IsWrong toks) (needed o toks)
+    by None is = fault _ _ (Wrong _) (omega arith)
     by (Some rest) is = value _ _ rest (after_word_is w toks rest is)
 
 -- a type is no deeper than its tokens are many
@@ -233,7 +237,7 @@ module _ (limits : Limits) where
   with_field_law room n many more toks f (Err d) enough one o = fault _ _ d (by d (o.bad d refl))
     where
       by : (d : Fault) → IsRefused many room f.1 d → IsRefused more room toks d
-      by Wrong r = tt
+      by (Wrong left) r = rw one.shown (omega (arith, length-append (before_end f.0) (Mark sign.Semicolon ∷ f.1)))
       by Deep r = rw one.shown (omega (arith, length-append (before_end f.0) (Mark sign.Semicolon ∷ f.1)))
       by Many r = rw one.shown (omega (arith, semicolons-append (before_end f.0) (Mark sign.Semicolon ∷ f.1)))
 
@@ -259,6 +263,7 @@ module _ (limits : Limits) where
         let l5 = later_still l.1 c.1 toks (later (show_part (Mark sign.At) l.0) l.1 c.1 label.shown) l4 in
         then (condition_at most l.1) (λ k. expect sign.Semicolon k.1 >>= λ after. Ok (record { form = f.0; parts = record { order = (order_at toks).0; name = (optional_name_at f.1).0; constraint = c.0; label = l.0; condition = k.0 } }, after)) (condition_law most l.1)
         (λ k _ condition.
+        let l6 = later_still k.1 l.1 toks (later (show_part (Reserved word.If) k.0) k.1 l.1 condition.shown) l5 in
         then (expect sign.Semicolon k.1) (λ after. Ok (record { form = f.0; parts = record { order = (order_at toks).0; name = (optional_name_at f.1).0; constraint = c.0; label = l.0; condition = k.0 } }, after)) (expect_law sign.Semicolon k.1)
         (λ after _ end. value _ _ (record { form = f.0; parts = record { order = (order_at toks).0; name = (optional_name_at f.1).0; constraint = c.0; label = l.0; condition = k.0 } }, after) (record {
           shown = field_joins toks (show_order (order_at toks).0) r1 (show_form f.0) f.1 (show_name (optional_name_at f.1).0) r3 (show_part (Mark sign.Colon) c.0) c.1 (show_part (Mark sign.At) l.0) l.1 (show_part (Reserved word.If) k.0) k.1 after e1 form.shown e3 constraint.shown label.shown condition.shown end;
@@ -266,7 +271,7 @@ module _ (limits : Limits) where
           within = (form.within, (constraint.low, label.low, condition.low));
           low = form.low;
         }))
-        (refused_wrong many room toks))
+        (refused_wrong many room k.1 toks l6))
         (refused_expression many room most l.1 toks enough l5))
         (refused_expression many room most c.1 toks enough l4))
         (refused_expression many room most r3 toks enough l3))
@@ -296,7 +301,7 @@ module _ (limits : Limits) where
         then_all (fields_at limits sub limits.fields after) (fields_law limits.fields after (omega arith))
         (λ x r. record { inside = after; opens = open_brace; fields = r })
         (refused_later limits.fields room after toks (later (Mark sign.OpenBrace ∷ []) after toks open_brace)))
-        (refused_wrong limits.fields room toks)
+        (refused_wrong limits.fields room toks toks (same toks))
 
     struct_law : (toks : List Token) → Outcome (ReadsBase (room + 1) (Reserved word.Struct ∷ toks)) (IsRefused limits.fields (room + 1) (Reserved word.Struct ∷ toks)) (struct_at limits sub toks)
     unfolding struct_at
@@ -322,12 +327,12 @@ module _ (limits : Limits) where
             let shown = braced_joins (Reserved word.Struct ∷ toks) (Reserved word.Struct ∷ show_reference r.0) b.inside (show_fields fs.0) fs.1 begins f.shown in
             value _ _ (IntegralForm r.0 fs.0, fs.1) (record { read = record { shown = shown; fine = f.fine; within = (f.few, f.within); low = omega arith }; base = tt }))
             (λ d w. refused_inside limits.fields room (Reserved word.Struct) toks d (refused_later limits.fields room r.1 toks (later (show_reference r.0) r.1 toks reference) d w)))
-            (refused_wrong limits.fields (room + 1) (Reserved word.Struct ∷ toks))
+            (refused_wrong limits.fields (room + 1) toks (Reserved word.Struct ∷ toks) (later (Reserved word.Struct ∷ []) toks (Reserved word.Struct ∷ toks) refl))
 
     pinned_law : (toks : List Token) → Outcome (ReadsBase (room + 1) (Reserved word.Pinned ∷ toks)) (IsRefused limits.fields (room + 1) (Reserved word.Pinned ∷ toks)) (pinned_at limits sub toks)
     unfolding pinned_at
     pinned_law toks =
-        then (needed (after_word word.Struct toks)) (λ after. braced_at limits sub after >>= λ fs. Ok (StructForm true fs.0, fs.1)) (word_law word.Struct toks)
+        then (needed (after_word word.Struct toks) toks) (λ after. braced_at limits sub after >>= λ fs. Ok (StructForm true fs.0, fs.1)) (word_law word.Struct toks)
         (λ after _ is.
         then (braced_at limits sub after) (λ fs. Ok (StructForm true fs.0, fs.1)) (braced_law after)
         (λ fs _ b.
@@ -337,7 +342,7 @@ module _ (limits : Limits) where
         let shown = braced_joins (Reserved word.Pinned ∷ toks) (Reserved word.Pinned ∷ Reserved word.Struct ∷ []) b.inside (show_fields fs.0) fs.1 begins f.shown in
         value _ _ (StructForm true fs.0, fs.1) (record { read = record { shown = shown; fine = f.fine; within = (f.few, f.within); low = omega arith }; base = tt }))
         (λ d w. refused_inside limits.fields room (Reserved word.Pinned) toks d (refused_later limits.fields room after toks (later (Reserved word.Struct ∷ []) after toks is) d w)))
-        (refused_wrong limits.fields (room + 1) (Reserved word.Pinned ∷ toks))
+        (refused_wrong limits.fields (room + 1) toks (Reserved word.Pinned ∷ toks) (later (Reserved word.Pinned ∷ []) toks (Reserved word.Pinned ∷ toks) refl))
 
     union_law : (toks : List Token) → Outcome (ReadsBase (room + 1) (Reserved word.Union ∷ toks)) (IsRefused limits.fields (room + 1) (Reserved word.Union ∷ toks)) (braced_at limits sub toks >>= λ fs. Ok (UnionForm fs.0, fs.1))
     union_law toks =
@@ -354,13 +359,13 @@ module _ (limits : Limits) where
     word_form_law word.Struct rest = struct_law rest
     word_form_law word.Pinned rest = pinned_law rest
     word_form_law word.Union rest = union_law rest
-    word_form_law _ rest = fault _ _ Wrong tt
+    word_form_law _ rest = fault _ _ (Wrong _) (omega arith)
 
     plain_law : (toks : List Token) → Outcome (ReadsBase (room + 1) toks) (IsRefused limits.fields (room + 1) toks) (target_at toks >>= λ t. Ok (target_form t.0, t.1))
     plain_law toks =
         then (target_at toks) (λ t. Ok (target_form t.0, t.1)) (target_law toks)
         (λ t _ e. value _ _ (target_form t.0, t.1) (by t.0 t.1 e))
-        (refused_wrong limits.fields (room + 1) toks)
+        (refused_wrong limits.fields (room + 1) toks toks (same toks))
       where
         by : (t : TreeTarget) (rest : List Token) → toks ≡ show_target t ++ rest → ReadsBase (room + 1) toks (target_form t, rest)
         by (ToReference r) rest e = record { read = record { shown = e; fine = tt; within = tt; low = omega arith }; base = tt }
@@ -395,7 +400,7 @@ module _ (limits : Limits) where
 
   form_law : (room : ℕ) (toks : List Token) → room ≤ limits.expression_depth → Outcome (ReadsForm room toks) (IsRefused limits.fields room toks) (form_at limits room toks)
   unfolding form_at
-  form_law zero [] enough = fault _ _ Wrong tt
+  form_law zero [] enough = fault _ _ (Wrong _) (omega arith)
   form_law zero (t ∷ toks) enough = fault _ _ Deep (omega arith)
   form_law (suc room) toks enough =
       let is : room + 1 ≡ suc room = omega arith in
@@ -417,19 +422,22 @@ module _ (limits : Limits) where
   declaration_law toks enough =
       let many = limits.fields in
       let room = limits.form_depth in
-      then (needed (after_word word.Type toks)) (λ start. name_at start >>= λ name. expect sign.Assign name.1 >>= λ assign. form_at limits limits.form_depth assign >>= λ f. expect sign.Semicolon f.1 >>= λ after. Ok (record { name = name.0; form = f.0 }, after)) (word_law word.Type toks)
-      (λ start _ e1. then (name_at start) (λ name. expect sign.Assign name.1 >>= λ assign. form_at limits limits.form_depth assign >>= λ f. expect sign.Semicolon f.1 >>= λ after. Ok (record { name = name.0; form = f.0 }, after)) (name_law start)
+      then (needed (after_word word.Type toks) toks) (λ start. name_at start >>= λ name. expect sign.Assign name.1 >>= λ assign. form_at limits limits.form_depth assign >>= λ f. expect sign.Semicolon f.1 >>= λ after. Ok (record { name = name.0; form = f.0 }, after)) (word_law word.Type toks)
+      (λ start _ e1.
+      let first = later (Reserved word.Type ∷ []) start toks e1 in
+      then (name_at start) (λ name. expect sign.Assign name.1 >>= λ assign. form_at limits limits.form_depth assign >>= λ f. expect sign.Semicolon f.1 >>= λ after. Ok (record { name = name.0; form = f.0 }, after)) (name_law start)
       (λ name _ e2. then (expect sign.Assign name.1) (λ assign. form_at limits limits.form_depth assign >>= λ f. expect sign.Semicolon f.1 >>= λ after. Ok (record { name = name.0; form = f.0 }, after)) (expect_law sign.Assign name.1)
       (λ assign _ e3.
       let front : toks ≡ (Reserved word.Type ∷ Named name.0 ∷ Mark sign.Assign ∷ []) ++ assign = e1 ∙ ap (λ (l : List Token). Reserved word.Type ∷ l) (e2 ∙ ap (λ (l : List Token). Named name.0 ∷ l) e3) in
+      let last = later (Reserved word.Type ∷ Named name.0 ∷ Mark sign.Assign ∷ []) assign toks front in
       then (form_at limits limits.form_depth assign) (λ f. expect sign.Semicolon f.1 >>= λ after. Ok (record { name = name.0; form = f.0 }, after)) (form_law limits.form_depth assign enough)
       (λ f _ form. then (expect sign.Semicolon f.1) (λ after. Ok (record { name = name.0; form = f.0 }, after)) (expect_law sign.Semicolon f.1)
       (λ after _ end. value _ _ (record { name = name.0; form = f.0 }, after) (record { shown = declaration_joins toks name.0 assign (show_form f.0) f.1 after front form.shown end; fine = form.fine; within = form.within; low = form.low }))
-      (refused_wrong many room toks))
-      (refused_later many room assign toks (later (Reserved word.Type ∷ Named name.0 ∷ Mark sign.Assign ∷ []) assign toks front)))
-      (refused_wrong many room toks))
-      (refused_wrong many room toks))
-      (refused_wrong many room toks)
+      (refused_wrong many room f.1 toks (later_still f.1 assign toks (later (show_form f.0) f.1 assign form.shown) last)))
+      (refused_later many room assign toks last))
+      (refused_wrong many room name.1 toks (later_still name.1 start toks (later (Named name.0 ∷ []) name.1 start e2) first)))
+      (refused_wrong many room start toks first))
+      (refused_wrong many room toks toks (same toks))
 
   pub record ReadsDeclarations (n : ℕ) (toks : List Token) (ds : List DeclarationTree) : Type 0 where
     pub shown : toks ≡ show_pickle ds
@@ -453,7 +461,7 @@ module _ (limits : Limits) where
       e = one.shown ∙ append_assoc (Reserved word.Type ∷ Named d.0.name ∷ Mark sign.Assign ∷ show_form d.0.form) (Mark sign.Semicolon ∷ []) d.1
 
       by : (f : Fault) → IsRefused many limits.form_depth d.1 f → IsRefused more limits.form_depth toks f
-      by Wrong r = tt
+      by (Wrong left) r = rw e (omega (arith, length-append (Reserved word.Type ∷ Named d.0.name ∷ Mark sign.Assign ∷ show_form d.0.form) (Mark sign.Semicolon ∷ d.1)))
       by Deep r = rw e (omega (arith, length-append (Reserved word.Type ∷ Named d.0.name ∷ Mark sign.Assign ∷ show_form d.0.form) (Mark sign.Semicolon ∷ d.1)))
       by Many r = rw e (omega (arith, semicolons-append (Reserved word.Type ∷ Named d.0.name ∷ Mark sign.Assign ∷ show_form d.0.form) (Mark sign.Semicolon ∷ d.1)))
 

@@ -1,5 +1,5 @@
 -- What stands at the front of the tokens is what was read, and is read again.
-use Rattle.std.proofs.Common.{◌≡◌, ℕ, Bool, true, false, Option, Some, None, List, [], ◌∷◌, ◌++◌, cond, refl, sym, ap, subst, ◌∙◌, Ok, append_assoc, rules, ◌⊎◌, inl, inr}
+use Rattle.std.proofs.Common.{◌≡◌, ℕ, ◌≤◌, Bool, true, false, Option, Some, None, List, [], ◌∷◌, ◌++◌, length, cond, refl, ap, ◌∙◌, arith, Ok, append_assoc, length-append, rules, ◌⊎◌, inl, inr}
 use Rattle.std.proofs.lemmas.Bool.{eqb-true}
 use Rattle.std.specs.Prelude.{◌==◌}
 use denote.Enum.Bare.{sameb, same_true}
@@ -16,18 +16,28 @@ use Rattle.pickle_tree.specs.declared.tree.Unit.TheVariants as unit
 use Rattle.pickle_syntax.specs.Tokens.{Token, Reserved, Named, Opens, Numeral, Mark}
 use Rattle.pickle_tree.specs.Tree.{TreeReference, Int, Uint, Called, TreeTarget, ToReference, ToOffset}
 use Rattle.pickle_syntax.specs.Show.{show_reference, show_unit, show_target}
-use Rattle.pickle_syntax.specs.Reading.{Fault, Wrong, ◌>>=◌, Read, rest_if, after_sign, after_word, needed, expect, name_at, width_at, sized_at, reference_at, unit_named, named_unit, unit_at, offset_at, target_at}
+use Rattle.pickle_syntax.specs.Reading.{Fault, Wrong, Deep, Many, ◌>>=◌, Read, rest_if, after_sign, after_word, needed, expect, name_at, width_at, sized_at, reference_at, unit_named, named_unit, unit_at, offset_at, target_at}
 use Rattle.pickle_syntax.proofs.Results.{Outcome, value, fault, then}
 
 pub some_is : {A : Type 0} (x y : A) → let o : Option A = Some x in let p : Option A = Some y in o ≡ p → x ≡ y
 some_is x y e = cc
 
--- only a wrong front is refused here
-abbrev pub IsWrong : Fault → Type 0
-IsWrong f = f ≡ Wrong
+-- only a wrong front is refused here, at one of these tokens or behind the last
+abbrev pub IsWrong : List Token → Fault → Type 0
+IsWrong toks (Wrong left) = left ≤ length toks
+IsWrong toks Deep = ⊥
+IsWrong toks Many = ⊥
 
-pub wrong_only : (Bad : Fault → Type 0) → Bad Wrong → (f : Fault) → IsWrong f → Bad f
-wrong_only Bad h f e = subst Bad (sym e) h
+pub wrong_only : (toks : List Token) (Bad : Fault → Type 0) → ((left : ℕ) → left ≤ length toks → Bad (Wrong left)) → (f : Fault) → IsWrong toks f → Bad f
+wrong_only toks Bad h (Wrong left) w = h left w
+wrong_only toks Bad h Deep w = absurd w
+wrong_only toks Bad h Many w = absurd w
+
+pub wrong_later : (rest toks : List Token) → length rest ≤ length toks → (f : Fault) → IsWrong rest f → IsWrong toks f
+wrong_later rest toks h = wrong_only rest (IsWrong toks) (λ left w. omega (arith, h, w))
+
+pub shorter : (front rest toks : List Token) → toks ≡ front ++ rest → length rest ≤ length toks
+shorter front rest toks e = rw e (omega (arith, length-append front rest))
 
 pub after_sign_is : (s : Sign) (toks rest : List Token) → after_sign s toks ≡ Some rest → toks ≡ Mark s ∷ rest
 unfolding after_sign
@@ -49,43 +59,43 @@ after_word_is w (Reserved v ∷ toks) rest e = by (sameb word_contract.the_type 
 after_word_is w [] rest e = absurd cc
 after_word_is w (_ ∷ toks) rest e = absurd cc
 
-pub expect_law : (s : Sign) (toks : List Token) → Outcome (λ rest. toks ≡ Mark s ∷ rest) IsWrong (expect s toks)
+pub expect_law : (s : Sign) (toks : List Token) → Outcome (λ rest. toks ≡ Mark s ∷ rest) (IsWrong toks) (expect s toks)
 unfolding expect
 expect_law s toks = by (after_sign s toks) refl
   where
-    by : (o : Option (List Token)) → after_sign s toks ≡ o → Outcome (λ rest. toks ≡ Mark s ∷ rest) IsWrong (needed o)
-    by None is = fault _ _ Wrong refl
+    by : (o : Option (List Token)) → after_sign s toks ≡ o → Outcome (λ rest. toks ≡ Mark s ∷ rest) (IsWrong toks) (needed o toks)
+    by None is = fault _ _ (Wrong _) (omega arith)
     by (Some rest) is = value _ _ rest (after_sign_is s toks rest is)
 
-pub name_law : (toks : List Token) → Outcome (λ (x : List ℕ × List Token). toks ≡ Named x.0 ∷ x.1) IsWrong (name_at toks)
+pub name_law : (toks : List Token) → Outcome (λ (x : List ℕ × List Token). toks ≡ Named x.0 ∷ x.1) (IsWrong toks) (name_at toks)
 unfolding name_at
 name_law (Named n ∷ rest) = value _ _ (n, rest) refl
-name_law [] = fault _ _ Wrong refl
-name_law (_ ∷ rest) = fault _ _ Wrong refl
+name_law [] = fault _ _ (Wrong _) (omega arith)
+name_law (_ ∷ rest) = fault _ _ (Wrong _) (omega arith)
 
-width_law : (toks : List Token) → Outcome (λ (x : Number × List Token). toks ≡ Numeral x.0 ∷ Mark sign.Greater ∷ x.1) IsWrong (width_at toks)
+width_law : (toks : List Token) → Outcome (λ (x : Number × List Token). toks ≡ Numeral x.0 ∷ Mark sign.Greater ∷ x.1) (IsWrong toks) (width_at toks)
 unfolding width_at
 width_law (Numeral n ∷ rest) =
-    then (expect sign.Greater rest) (λ after. Ok (n, after)) (expect_law sign.Greater rest) (λ after _ e. value _ _ (n, after) (ap (λ (l : List Token). Numeral n ∷ l) e)) (λ d w. w)
-width_law [] = fault _ _ Wrong refl
-width_law (_ ∷ rest) = fault _ _ Wrong refl
+    then (expect sign.Greater rest) (λ after. Ok (n, after)) (expect_law sign.Greater rest) (λ after _ e. value _ _ (n, after) (ap (λ (l : List Token). Numeral n ∷ l) e)) (wrong_later rest (Numeral n ∷ rest) (omega arith))
+width_law [] = fault _ _ (Wrong _) (omega arith)
+width_law (_ ∷ rest) = fault _ _ (Wrong _) (omega arith)
 
 abbrev ShowsReference : List Token → TreeReference × List Token → Type 0
 ShowsReference toks x = toks ≡ show_reference x.0 ++ x.1
 
-sized_law : (o : Opener) (rest : List Token) → Outcome (ShowsReference (Opens o ∷ rest)) IsWrong (sized_at o rest)
+sized_law : (o : Opener) (rest : List Token) → Outcome (ShowsReference (Opens o ∷ rest)) (IsWrong (Opens o ∷ rest)) (sized_at o rest)
 sized_law opener.Int rest =
-    then (width_at rest) (λ n. Ok (Int n.0, n.1)) (width_law rest) (λ n _ e. value _ _ (Int n.0, n.1) (ap (λ (l : List Token). Opens opener.Int ∷ l) e)) (λ d w. w)
+    then (width_at rest) (λ n. Ok (Int n.0, n.1)) (width_law rest) (λ n _ e. value _ _ (Int n.0, n.1) (ap (λ (l : List Token). Opens opener.Int ∷ l) e)) (wrong_later rest (Opens opener.Int ∷ rest) (omega arith))
 sized_law opener.Uint rest =
-    then (width_at rest) (λ n. Ok (Uint n.0, n.1)) (width_law rest) (λ n _ e. value _ _ (Uint n.0, n.1) (ap (λ (l : List Token). Opens opener.Uint ∷ l) e)) (λ d w. w)
-sized_law opener.Offset rest = fault _ _ Wrong refl
+    then (width_at rest) (λ n. Ok (Uint n.0, n.1)) (width_law rest) (λ n _ e. value _ _ (Uint n.0, n.1) (ap (λ (l : List Token). Opens opener.Uint ∷ l) e)) (wrong_later rest (Opens opener.Uint ∷ rest) (omega arith))
+sized_law opener.Offset rest = fault _ _ (Wrong _) (omega arith)
 
-pub reference_law : (toks : List Token) → Outcome (ShowsReference toks) IsWrong (reference_at toks)
+pub reference_law : (toks : List Token) → Outcome (ShowsReference toks) (IsWrong toks) (reference_at toks)
 unfolding reference_at
 reference_law (Named n ∷ rest) = value _ _ (Called n, rest) refl
 reference_law (Opens o ∷ rest) = sized_law o rest
-reference_law [] = fault _ _ Wrong refl
-reference_law (_ ∷ rest) = fault _ _ Wrong refl
+reference_law [] = fault _ _ (Wrong _) (omega arith)
+reference_law (_ ∷ rest) = fault _ _ (Wrong _) (omega arith)
 
 chosen : {A : Type 0} (b : Bool) (x y z : A) → cond b x y ≡ z → ((b ≡ true) × (x ≡ z)) ⊎ ((b ≡ false) × (y ≡ z))
 chosen true x y z e = inl (refl, e)
@@ -107,16 +117,16 @@ unit_named_is (c ∷ []) u e =
     by c d v u shown is same = ap (λ (n : ℕ). Named (n ∷ [])) is ∙ shown ∙ ap show_unit same
 unit_named_is (c ∷ d ∷ n) u e = absurd cc
 
-pub unit_law : (toks : List Token) → Outcome (λ (x : OffsetUnit × List Token). toks ≡ show_unit x.0 ∷ x.1) IsWrong (unit_at toks)
+pub unit_law : (toks : List Token) → Outcome (λ (x : OffsetUnit × List Token). toks ≡ show_unit x.0 ∷ x.1) (IsWrong toks) (unit_at toks)
 unfolding unit_at
 unit_law (Named n ∷ rest) = by (unit_named n) refl
   where
-    by : (o : Option OffsetUnit) → unit_named n ≡ o → Outcome (λ (x : OffsetUnit × List Token). Named n ∷ rest ≡ show_unit x.0 ∷ x.1) IsWrong (named_unit o rest)
-    by None is = fault _ _ Wrong refl
+    by : (o : Option OffsetUnit) → unit_named n ≡ o → Outcome (λ (x : OffsetUnit × List Token). Named n ∷ rest ≡ show_unit x.0 ∷ x.1) (IsWrong (Named n ∷ rest)) (named_unit o rest)
+    by None is = fault _ _ (Wrong _) (omega arith)
     by (Some u) is = value _ _ (u, rest) (ap (λ (t : Token). t ∷ rest) (unit_named_is n u is))
 unit_law (Numeral n ∷ rest) = value _ _ (unit.Bits n, rest) refl
-unit_law [] = fault _ _ Wrong refl
-unit_law (_ ∷ rest) = fault _ _ Wrong refl
+unit_law [] = fault _ _ (Wrong _) (omega arith)
+unit_law (_ ∷ rest) = fault _ _ (Wrong _) (omega arith)
 
 offset_joins : (toks r comma mid last after : List Token) (u : Token) → toks ≡ r ++ comma → comma ≡ Mark sign.Comma ∷ mid → mid ≡ u ∷ last → last ≡ Mark sign.Greater ∷ after → Opens opener.Offset ∷ toks ≡ (Opens opener.Offset ∷ r ++ Mark sign.Comma ∷ u ∷ Mark sign.Greater ∷ []) ++ after
 offset_joins toks r comma mid last after u e f g h = rw (e, f, g, h) (simp append_assoc)
@@ -124,7 +134,7 @@ offset_joins toks r comma mid last after u e f g h = rw (e, f, g, h) (simp appen
 abbrev ShowsTarget : List Token → TreeTarget × List Token → Type 0
 ShowsTarget toks x = toks ≡ show_target x.0 ++ x.1
 
-offset_law : (toks : List Token) → Outcome (ShowsTarget (Opens opener.Offset ∷ toks)) IsWrong (offset_at toks)
+offset_law : (toks : List Token) → Outcome (ShowsTarget (Opens opener.Offset ∷ toks)) (IsWrong (Opens opener.Offset ∷ toks)) (offset_at toks)
 unfolding offset_at
 offset_law toks =
     then (reference_at toks) (λ r. expect sign.Comma r.1 >>= λ comma. unit_at comma >>= λ u. expect sign.Greater u.1 >>= λ after. Ok (ToOffset r.0 u.0, after)) (reference_law toks)
@@ -132,15 +142,15 @@ offset_law toks =
     (λ comma _ f. then (unit_at comma) (λ u. expect sign.Greater u.1 >>= λ after. Ok (ToOffset r.0 u.0, after)) (unit_law comma)
     (λ u _ g. then (expect sign.Greater u.1) (λ after. Ok (ToOffset r.0 u.0, after)) (expect_law sign.Greater u.1)
     (λ after _ h. value _ _ (ToOffset r.0 u.0, after) (offset_joins toks (show_reference r.0) r.1 comma u.1 after (show_unit u.0) e f g h))
-    (λ d w. w))
-    (λ d w. w))
-    (λ d w. w))
-    (λ d w. w)
+    (wrong_later u.1 (Opens opener.Offset ∷ toks) (omega (arith, shorter (show_reference r.0) r.1 toks e, shorter (Mark sign.Comma ∷ []) comma r.1 f, shorter (show_unit u.0 ∷ []) u.1 comma g))))
+    (wrong_later comma (Opens opener.Offset ∷ toks) (omega (arith, shorter (show_reference r.0) r.1 toks e, shorter (Mark sign.Comma ∷ []) comma r.1 f))))
+    (wrong_later r.1 (Opens opener.Offset ∷ toks) (omega (arith, shorter (show_reference r.0) r.1 toks e))))
+    (wrong_later toks (Opens opener.Offset ∷ toks) (omega arith))
 
-plain_law : (toks : List Token) → Outcome (ShowsTarget toks) IsWrong (reference_at toks >>= λ r. Ok (ToReference r.0, r.1))
+plain_law : (toks : List Token) → Outcome (ShowsTarget toks) (IsWrong toks) (reference_at toks >>= λ r. Ok (ToReference r.0, r.1))
 plain_law toks = then (reference_at toks) (λ r. Ok (ToReference r.0, r.1)) (reference_law toks) (λ r _ e. value _ _ (ToReference r.0, r.1) e) (λ d w. w)
 
-pub target_law : (toks : List Token) → Outcome (ShowsTarget toks) IsWrong (target_at toks)
+pub target_law : (toks : List Token) → Outcome (ShowsTarget toks) (IsWrong toks) (target_at toks)
 unfolding target_at
 target_law (Opens opener.Offset ∷ rest) = offset_law rest
 target_law [] = plain_law []

@@ -7,6 +7,7 @@ pub mod FieldSteps
 pub mod FormsAgain
 pub mod FormsSound
 pub mod FrontFacts
+pub mod Fronts
 pub mod OperatorFacts
 pub mod Results
 pub mod Blanks

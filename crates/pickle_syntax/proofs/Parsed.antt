@@ -13,7 +13,7 @@ use Rattle.pickle_tree.specs.Tree.{DeclarationTree, pickle_tree, Tree, FormTree,
 use Rattle.pickle_syntax.specs.Show.{show_reference, show_optional, show_part, show_name, show_order, show_pinned, show_parts, show_form, show_fields, show_declaration, show_pickle}
 use Rattle.pickle_syntax.specs.Levels.{IsPickleWellBracketed}
 use Rattle.pickle_syntax.specs.Limits.{Limits, standard, field_count, IsOptionalWithin, ArePartsWithin, IsFormWithin, AreFieldsWithin, AreDeclarationsWithin}
-use Rattle.pickle_syntax.specs.Pickles.{IsPickle, IsPickleOf, semicolons, fault_of, IsPlaceWithin}
+use Rattle.pickle_syntax.specs.Pickles.{IsPickle, IsPickleOf, semicolons, fault_of}
 use Rattle.pickle_syntax.specs.Reading.{Fault, Wrong, Deep, Many, Fails}
 use Rattle.pickle_syntax.specs.ReadForms.{pickle_at}
 use Rattle.pickle_syntax.proofs.ExpressionsSound.{depth_shown}
@@ -29,7 +29,10 @@ pickle_sound toks ds e =
 pickle_refused : (toks : List Token) (f : Fault) → pickle_at standard toks ≡ Err f → IsRefused 1024 64 toks f
 pickle_refused toks f e = let law = declarations_law standard 4096 1024 toks (omega arith) (omega arith) (omega arith) in law.bad f e
 
-never_pickle : (toks : List Token) (f : Fault) → pickle_at standard toks ≡ Err f → IsPickle toks → ⊥
+pub left_within : (toks : List Token) (left : ℕ) → pickle_at standard toks ≡ Err (Wrong left) → left ≤ length toks
+left_within toks left e = pickle_refused toks (Wrong left) e
+
+pub never_pickle : (toks : List Token) (f : Fault) → pickle_at standard toks ≡ Err f → IsPickle toks → ⊥
 never_pickle toks f e x =
     let is = x.1 in
     let read : pickle_at standard toks ≡ Ok x.0 = ap (pickle_at standard) is.shown ∙ pickle_again standard x.0 is.bracketed is.within in
@@ -39,7 +42,7 @@ pub is_found : (toks : List Token) (p : Pickle) → pickle_at standard toks ≡ 
 is_found toks p e = pickle_sound toks (pickle_tree p) e
 
 pub is_refused : (toks : List Token) (s : Stop) (count : ℕ) → Fails s (pickle_at standard toks) → fault_of s count ≢ Memory → IsPickle toks → ⊥
-is_refused toks (stop.Syntax left) count e h x = never_pickle toks Wrong e x
+is_refused toks (stop.Syntax left) count e h x = never_pickle toks (Wrong left) e x
 is_refused toks stop.TooDeep count e h x = never_pickle toks Deep e x
 is_refused toks stop.TooMany count e h x = never_pickle toks Many e x
 is_refused toks stop.Memory count e h x = h refl

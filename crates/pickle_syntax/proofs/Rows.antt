@@ -1,19 +1,15 @@
 -- Rows of small pickles: their tokens and places, the tokens that a tree shows, and what is refused.
-use Rattle.std.proofs.Common.{◌≡◌, ◌+◌, ◌<◌, ◌≤◌, ℕ, Bool, true, false, Option, Some, None, Result, Ok, Err, List, [], ◌∷◌, length, refl, sym, ap, ◌∙◌, arith}
+use Rattle.std.proofs.Common.{◌≡◌, ◌+◌, ◌<◌, ℕ, true, Result, Ok, Err, List, [], ◌∷◌, refl, sym, ap, ◌∙◌, arith}
 use Rattle.std.specs.Prelude.{codes}
-use Rattle.pickle_tree.specs.declared.tree.Number.{Number}
-use Rattle.pickle_syntax.specs.declared.token.Sign.{Sign}
 use Rattle.pickle_syntax.specs.declared.token.Sign.TheVariants as sign
 use Rattle.pickle_syntax.specs.declared.token.Word.TheVariants as word
-use Rattle.pickle_syntax.specs.declared.lexer.fault.LexFaultKind.TheVariants.{BadByte, Unclosed, BadNumber}
+use Rattle.pickle_syntax.specs.declared.lexer.fault.LexFaultKind.TheVariants.{BadByte, Unclosed}
 use Rattle.pickle_tree.specs.declared.tree.Infix.TheVariants as infix_op
-use Rattle.pickle_syntax.specs.Tokens.{Token, Reserved, Named, Numeral, Mark}
-use Rattle.pickle_tree.specs.Tree.{Tree, Literal, Between, FormTree, Plain, Called, ArrayForm, StructForm, FieldTrees, NoFields, FieldThen, FieldParts, DeclarationTree}
+use Rattle.pickle_syntax.specs.Tokens.{Token, Reserved, Named, Mark}
+use Rattle.pickle_tree.specs.Tree.{Tree, Literal, Between, Plain, Called, DeclarationTree}
 use Rattle.pickle_syntax.specs.Bytes.{Fault}
-use Rattle.pickle_syntax.specs.Blanks.{block_len, slash_piece}
-use Rattle.pickle_syntax.specs.Numbers.{value_after, suffix_of, number_at}
 use Rattle.pickle_syntax.specs.Signs.{double_sign, single_sign, sign_piece}
-use Rattle.pickle_syntax.specs.Texts.{part_at, text_from, apostrophe_piece}
+use Rattle.pickle_syntax.specs.Texts.{part_at, text_from}
 use Rattle.pickle_syntax.specs.Words.{reserved_word, opener_at, attribute_at, word_piece}
 use Rattle.pickle_syntax.specs.Lexing.{piece_at, lexed_from, lexed}
 use Rattle.pickle_syntax.specs.Pieces.{IsLexFault}

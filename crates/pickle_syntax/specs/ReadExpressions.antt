@@ -1,5 +1,5 @@
 -- Reading an expression, as a function on lists.
-use Rattle.std.specs.Prelude.{ℕ, zero, suc, ◌+◌, nat_lt, if◌then◌else◌, List, [], ◌∷◌, drop, Ok, Err}
+use Rattle.std.specs.Prelude.{ℕ, zero, suc, ◌+◌, nat_lt, if◌then◌else◌, List, [], ◌∷◌, length, drop, Ok, Err}
 use Rattle.pickle_syntax.specs.declared.token.Sign.TheVariants as sign
 use Rattle.pickle_syntax.specs.declared.parser.operators.Start.{Start}
 use Rattle.pickle_syntax.specs.declared.parser.operators.Start.TheVariants as start
@@ -26,7 +26,7 @@ operand_by sub rest start.Bracket = do
 operand_by sub rest (start.Prefix op) = do
   e ← sub 13 rest
   Ok (Before op e.0, e.1)
-operand_by sub rest start.Nothing = Err Wrong
+operand_by sub rest start.Nothing = Err (Wrong (length rest + 1))
 
 unfoldable pub operand_at : Reader → List Token → Read Tree
 operand_at sub (Numeral n ∷ rest) = Ok (Literal n, rest)
@@ -34,7 +34,7 @@ operand_at sub (token.Character b ∷ rest) = Ok (tree.Character b, rest)
 operand_at sub (token.Text bytes ∷ rest) = Ok (tree.Text bytes, rest)
 operand_at sub (Named n ∷ rest) = Ok (Name n, rest)
 operand_at sub (Mark s ∷ rest) = operand_by sub rest (start_of s)
-operand_at sub _ = Err Wrong
+operand_at sub tokens = Err (Wrong (length tokens))
 
 -- an operator after an operand, with what follows it
 unfoldable pub step_at : Reader → Tree → List Token → Next → Read Tree
@@ -60,7 +60,7 @@ step_at sub left rest (next.Attribute a) = Ok (After left (tree.AttributeOf a), 
 step_at sub left rest next.Convert = do
   t ← target_at rest
   Ok (After left (Convert t.0), t.1)
-step_at sub left rest next.Nothing = Err Wrong
+step_at sub left rest next.Nothing = Err (Wrong (length rest))
 
 -- at most so many operators after an operand, each over those before it
 unfoldable pub chain : Reader → ℕ → ℕ → ℕ → Tree → List Token → Read Tree
@@ -72,6 +72,6 @@ chain sub room (suc n) least left tokens =
 
 -- an expression of at least this level, no deeper than the first number
 unfoldable pub expression_at : ℕ → Reader
-expression_at zero least [] = Err Wrong
+expression_at zero least [] = Err (Wrong 0)
 expression_at zero least (t ∷ rest) = Err Deep
 expression_at (suc room) least tokens = operand_at (expression_at room) tokens >>= λ x. chain (expression_at room) room room least x.0 x.1

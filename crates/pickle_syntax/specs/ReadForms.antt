@@ -1,5 +1,5 @@
 -- Reading types, fields and pickles, as functions on lists.
-use Rattle.std.specs.Prelude.{ℕ, zero, suc, Bool, true, false, nat_lt, if◌then◌else◌, Option, Some, None, List, [], ◌∷◌, Result, Ok, Err}
+use Rattle.std.specs.Prelude.{ℕ, zero, suc, ◌+◌, Bool, true, false, nat_lt, if◌then◌else◌, Option, Some, None, List, [], ◌∷◌, length, Result, Ok, Err}
 use Rattle.pickle_syntax.specs.declared.token.Word.{Word}
 use Rattle.pickle_syntax.specs.declared.token.Word.TheVariants as word
 use Rattle.pickle_syntax.specs.declared.token.Sign.{Sign}
@@ -104,7 +104,7 @@ struct_at limits sub tokens = struct_by limits sub (after_sign sign.OpenBrace to
 -- what follows `pinned`
 unfoldable pub pinned_at : Limits → FormReader → List Token → Read FormTree
 pinned_at limits sub tokens = do
-  after ← needed (after_word word.Struct tokens)
+  after ← needed (after_word word.Struct tokens) tokens
   fs ← braced_at limits sub after
   Ok (StructForm true fs.0, fs.1)
 
@@ -115,7 +115,7 @@ word_form limits sub rest word.Pinned = pinned_at limits sub rest
 word_form limits sub rest word.Union = do
   fs ← braced_at limits sub rest
   Ok (UnionForm fs.0, fs.1)
-word_form limits sub rest _ = Err Wrong
+word_form limits sub rest _ = Err (Wrong (length rest + 1))
 
 -- a type without an array suffix
 unfoldable pub base_at : Limits → FormReader → List Token → Read FormTree
@@ -135,7 +135,7 @@ suffix_at limits room f tokens = suffix_by limits room f (after_sign sign.OpenBr
 
 -- a type, no deeper than the number
 unfoldable pub form_at : Limits → ℕ → FormReader
-form_at limits zero [] = Err Wrong
+form_at limits zero [] = Err (Wrong 0)
 form_at limits zero (t ∷ rest) = Err Deep
 form_at limits (suc room) tokens = base_at limits (form_at limits room) tokens >>= λ f. suffix_at limits room f.0 f.1
 
@@ -143,7 +143,7 @@ form_at limits (suc room) tokens = base_at limits (form_at limits room) tokens >
 
 unfoldable pub declaration_at : Limits → List Token → Read DeclarationTree
 declaration_at limits tokens = do
-  start ← needed (after_word word.Type tokens)
+  start ← needed (after_word word.Type tokens) tokens
   name ← name_at start
   assign ← expect sign.Assign name.1
   f ← form_at limits limits.form_depth assign

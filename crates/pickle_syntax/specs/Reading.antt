@@ -1,5 +1,5 @@
 -- Reading from the front of the tokens, as functions on lists.
-use Rattle.std.specs.Prelude.{ℕ, ◌≡◌, ◌==◌, ⊤, Bool, true, false, if◌then◌else◌, Option, Some, None, List, [], ◌∷◌, Result, Ok, Err}
+use Rattle.std.specs.Prelude.{ℕ, ◌+◌, ◌≡◌, ◌==◌, ⊤, Bool, true, false, if◌then◌else◌, Option, Some, None, List, [], ◌∷◌, length, Result, Ok, Err}
 use denote.Bor.{Bor}
 use denote.Enum.Bare.{sameb}
 use Rattle.pickle_syntax.specs.contracts.token.Sign as sign_contract
@@ -18,9 +18,10 @@ use Rattle.pickle_syntax.specs.declared.parser.fault.Stop.TheVariants as stop
 use Rattle.pickle_syntax.specs.Tokens.{Token, Reserved, Named, Opens, Numeral, Mark, tokens_of}
 use Rattle.pickle_tree.specs.Tree.{TreeReference, Int, Uint, Called, TreeTarget, ToReference, ToOffset}
 
--- why nothing is read: no tree begins so, it is too deep, or it has too many parts
+-- why nothing is read: no tree goes on with the token with which so many are left (0: the tokens end too early), it is too deep,
+-- or it has too many parts
 pub data Fault : Type 0 where
-  Wrong : Fault
+  Wrong : (left : ℕ) → Fault
   Deep : Fault
   Many : Fault
 
@@ -35,7 +36,7 @@ Read A = Result (A × List Token) Fault
 
 abbrev pub Fails : {Y : Type 0} → Stop → Result Y Fault → Type 0
 Fails stop.Memory read = ⊤
-Fails (stop.Syntax left) read = read ≡ Err Wrong
+Fails (stop.Syntax left) read = read ≡ Err (Wrong left)
 Fails stop.TooDeep read = read ≡ Err Deep
 Fails stop.TooMany read = read ≡ Err Many
 
@@ -62,31 +63,32 @@ unfoldable pub after_word : Word → List Token → Option (List Token)
 after_word w (Reserved v ∷ rest) = rest_if (sameb word_contract.the_type v w) rest
 after_word w _ = None
 
-abbrev pub needed : Option (List Token) → Result (List Token) Fault
-needed None = Err Wrong
-needed (Some rest) = Ok rest
+-- what follows, where these tokens begin as they have to
+abbrev pub needed : Option (List Token) → List Token → Result (List Token) Fault
+needed None tokens = Err (Wrong (length tokens))
+needed (Some rest) tokens = Ok rest
 
 unfoldable pub expect : Sign → List Token → Result (List Token) Fault
-expect s tokens = needed (after_sign s tokens)
+expect s tokens = needed (after_sign s tokens) tokens
 
 unfoldable pub name_at : List Token → Read (List ℕ)
 name_at (Named n ∷ rest) = Ok (n, rest)
-name_at _ = Err Wrong
+name_at tokens = Err (Wrong (length tokens))
 
 -- a number and `>`
 unfoldable pub width_at : List Token → Read Number
 width_at (Numeral n ∷ rest) = expect sign.Greater rest >>= λ after. Ok (n, after)
-width_at _ = Err Wrong
+width_at tokens = Err (Wrong (length tokens))
 
 abbrev pub sized_at : Opener → List Token → Read TreeReference
 sized_at opener.Int rest = width_at rest >>= λ n. Ok (Int n.0, n.1)
 sized_at opener.Uint rest = width_at rest >>= λ n. Ok (Uint n.0, n.1)
-sized_at opener.Offset rest = Err Wrong
+sized_at opener.Offset rest = Err (Wrong (length rest + 1))
 
 unfoldable pub reference_at : List Token → Read TreeReference
 reference_at (Named n ∷ rest) = Ok (Called n, rest)
 reference_at (Opens o ∷ rest) = sized_at o rest
-reference_at _ = Err Wrong
+reference_at tokens = Err (Wrong (length tokens))
 
 -- the units `b` and `B`
 abbrev pub unit_named : List ℕ → Option Unit
@@ -94,13 +96,13 @@ unit_named (c ∷ []) = if c == 98 then Some unit.Bit else if c == 66 then Some 
 unit_named _ = None
 
 abbrev pub named_unit : Option Unit → List Token → Read Unit
-named_unit None rest = Err Wrong
+named_unit None rest = Err (Wrong (length rest + 1))
 named_unit (Some u) rest = Ok (u, rest)
 
 unfoldable pub unit_at : List Token → Read Unit
 unit_at (Named n ∷ rest) = named_unit (unit_named n) rest
 unit_at (Numeral n ∷ rest) = Ok (unit.Bits n, rest)
-unit_at _ = Err Wrong
+unit_at tokens = Err (Wrong (length tokens))
 
 -- what follows `offset<`
 unfoldable pub offset_at : List Token → Read TreeTarget

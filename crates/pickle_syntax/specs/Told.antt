@@ -1,12 +1,15 @@
 -- What a refusal of tokens tells.
-use Rattle.std.specs.Prelude.{◌≡◌, ⊤, List, Result, Err}
+use Rattle.std.specs.Prelude.{◌-◌, ◌≡◌, ⊤, List, length, Err}
 use Rattle.pickle_syntax.specs.declared.parser.fault.ParseFault.{ParseFault}
 use Rattle.pickle_syntax.specs.declared.parser.fault.ParseFault.TheVariants as fault
-use Rattle.pickle_syntax.specs.Reading.{Fault, Wrong, Deep, Many}
+use Rattle.pickle_syntax.specs.Tokens.{Token}
+use Rattle.pickle_syntax.specs.Limits.{standard}
+use Rattle.pickle_syntax.specs.Reading.{Wrong, Deep, Many}
+use Rattle.pickle_syntax.specs.ReadForms.{pickle_at}
 
--- the kind of a fault is that with which the reading stops; nothing is said of want of memory
-abbrev pub TellsKind : {A : Type 0} → Result A Fault → ParseFault → Type 0
-TellsKind read fault.Memory = ⊤
-TellsKind read (fault.Syntax token) = read ≡ Err Wrong
-TellsKind read fault.TooDeep = read ≡ Err Deep
-TellsKind read fault.TooMany = read ≡ Err Many
+-- the reading of the tokens stops with this fault, and at its token; nothing is said of want of memory
+abbrev pub Tells : List Token → ParseFault → Type 0
+Tells tokens fault.Memory = ⊤
+Tells tokens (fault.Syntax token) = pickle_at standard tokens ≡ Err (Wrong (length tokens - token))
+Tells tokens fault.TooDeep = pickle_at standard tokens ≡ Err Deep
+Tells tokens fault.TooMany = pickle_at standard tokens ≡ Err Many

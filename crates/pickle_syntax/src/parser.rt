@@ -1,15 +1,13 @@
 //! Pickles from their tokens.
 
-ghost use Rattle.std.specs.Prelude.{◌≡◌, ◌≢◌, ◌<◌, ◌≤◌, List, length, IfOk, IfErr};
-ghost use Rattle.pickle_syntax.specs.Tokens.{tokens_of};
+ghost use Rattle.std.specs.Prelude.{◌≡◌, ◌≢◌, ◌<◌, ◌≤◌, ◌++◌, ◌∷◌, List, length, IfOk, IfErr};
+ghost use Rattle.pickle_syntax.specs.Tokens.{Token, tokens_of};
 ghost use Rattle.pickle_tree.specs.Tree.{Tree, DeclarationTree, pickle_tree};
 ghost use Rattle.pickle_syntax.specs.Show.{show, show_pickle};
 ghost use Rattle.pickle_syntax.specs.Levels.{IsWellBracketed, IsPickleWellBracketed};
-ghost use Rattle.pickle_syntax.specs.Limits.{standard};
-ghost use Rattle.pickle_syntax.specs.ReadForms.{pickle_at};
-ghost use Rattle.pickle_syntax.specs.Told.{TellsKind};
+ghost use Rattle.pickle_syntax.specs.Told.{Tells};
 ghost use Rattle.pickle_syntax.specs.Pickles.{IsPickle, IsPickleOf, semicolons, fault_of, IsPlaceWithin};
-ghost use Rattle.pickle_syntax.specs.declared.parser.fault.ParseFault.TheVariants.{Memory, TooDeep, TooMany};
+ghost use Rattle.pickle_syntax.specs.declared.parser.fault.ParseFault.TheVariants.{Syntax, Memory, TooDeep, TooMany};
 
 mod expressions;
 pub mod fault;
@@ -42,11 +40,12 @@ fn fault_of(stop: Stop, count: usize) -> ParseFault
 /// 1,024 fields of a struct or union and 4,096 declarations.
 ///
 /// `Syntax`, `TooDeep` and `TooMany` come only where the tokens are no pickle, and each only where the reading of the tokens stops
-/// for that reason. Which token `Syntax` names is not promised: it is the first at which no pickle can go on.
+/// for that reason. `Syntax` names the token at which it stops, with which no pickle goes on (`no_pickle_goes_on`), or the tokens'
+/// number where they end too early.
 pub fn parse<'t>(alloc: Global, tokens: &Tokens<'t>) -> Result<Pickle<'t>, ParseFault>
     ensures found { IfOk result (λ p. IsPickleOf (tokens_of tokens.now.kinds.items) (pickle_tree p)) }
     ensures refused { IfErr result (λ f. f ≢ Memory → IsPickle (tokens_of tokens.now.kinds.items) → ⊥) }
-    ensures kind { IfErr result (TellsKind (pickle_at standard (tokens_of tokens.now.kinds.items))) }
+    ensures told { IfErr result (Tells (tokens_of tokens.now.kinds.items)) }
     ensures place { IfErr result (λ f. IsPlaceWithin (length tokens.now.kinds.items) f) }
     ensures deep { IfErr result (λ f. f ≡ TooDeep → 64 < length tokens.now.kinds.items) }
     ensures many { IfErr result (λ f. f ≡ TooMany → 1024 ≤ semicolons (tokens_of tokens.now.kinds.items)) }
@@ -66,4 +65,13 @@ pub fn one_expression()
 /// Two well bracketed pickles that show the same tokens are equal.
 pub fn one_tree()
     ensures { (ds es : List DeclarationTree) → IsPickleWellBracketed ds → IsPickleWellBracketed es → show_pickle ds ≡ show_pickle es → ds ≡ es }
+{}
+
+/// Where `Syntax` names a token, with anything else behind it that token is named too: so no pickle begins with the tokens up to it
+/// and with it.
+pub fn no_pickle_goes_on()
+    ensures same { (front rest more : List Token) (token : Token) → Tells (front ++ token ∷ rest) (Syntax (length front))
+        → Tells (front ++ token ∷ more) (Syntax (length front)) }
+    ensures none { (front rest more : List Token) (token : Token) → Tells (front ++ token ∷ rest) (Syntax (length front))
+        → IsPickle (front ++ token ∷ more) → ⊥ }
 {}

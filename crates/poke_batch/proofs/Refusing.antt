@@ -1,5 +1,5 @@
 -- Laws of refusals.
-use Rattle.std.proofs.Common.{◌≡◌, ◌≢◌, ◌≤◌, ◌∙◌, refl, sym, ap, subst, Bool, true, false, ℕ, List, Option, Some, Result, Ok, Err, length}
+use Rattle.std.proofs.Common.{◌≡◌, ◌≢◌, ◌-◌, ◌≤◌, ◌∙◌, refl, sym, ap, subst, Bool, true, false, ℕ, List, Option, Some, Result, Ok, Err, length}
 use Rattle.std.proofs.lemmas.Bool.{false≢true}
 use Rattle.pickle_syntax.specs.Tokens.{Token}
 use Rattle.pickle_syntax.specs.Bytes.{Fails}
@@ -8,7 +8,7 @@ use Rattle.pickle_syntax.specs.Limits.{standard}
 use Rattle.pickle_syntax.specs.Pickles.{IsPickle, IsPlaceWithin}
 use Rattle.pickle_syntax.specs.ReadForms.{pickle_at}
 use Rattle.pickle_syntax.specs.Reading.{Fault, Wrong, Deep, Many}
-use Rattle.pickle_syntax.specs.Told.{TellsKind}
+use Rattle.pickle_syntax.specs.Told.{Tells}
 use Rattle.pickle_syntax.specs.declared.parser.fault.ParseFault.{ParseFault}
 use Rattle.pickle_syntax.specs.declared.parser.fault.ParseFault.TheVariants as fault
 use Rattle.pickle_syntax.specs.declared.lexer.fault.LexFaultKind.{LexFaultKind}
@@ -32,15 +32,15 @@ pub no_pickle : (pickle : List ℕ) (tokens : List Token) (spans : List (ℕ × 
     → (IsPickle tokens → ⊥) → pickle_at standard tokens ≡ Err why → IsNoPickle pickle spans count why
 no_pickle pickle tokens spans count why cut counted none stops = record { tokens = tokens; cut = cut; counted = counted; none = none; stops = stops }
 
--- what a fault tells of a reading, by its kind
-pub told_syntax : {A : Type 0} (read : Result A Fault) (f : ParseFault) (token : ℕ) → f ≡ fault.Syntax token → TellsKind read f → read ≡ Err Wrong
-told_syntax read f token e told = subst (λ g. TellsKind read g) e told
+-- what a fault tells of the reading of tokens
+pub told_syntax : (tokens : List Token) (f : ParseFault) (token : ℕ) → f ≡ fault.Syntax token → Tells tokens f → pickle_at standard tokens ≡ Err (Wrong (length tokens - token))
+told_syntax tokens f token e told = subst (Tells tokens) e told
 
-pub told_deep : {A : Type 0} (read : Result A Fault) (f : ParseFault) → f ≡ fault.TooDeep → TellsKind read f → read ≡ Err Deep
-told_deep read f e told = subst (λ g. TellsKind read g) e told
+pub told_deep : (tokens : List Token) (f : ParseFault) → f ≡ fault.TooDeep → Tells tokens f → pickle_at standard tokens ≡ Err Deep
+told_deep tokens f e told = subst (Tells tokens) e told
 
-pub told_many : {A : Type 0} (read : Result A Fault) (f : ParseFault) → f ≡ fault.TooMany → TellsKind read f → read ≡ Err Many
-told_many read f e told = subst (λ g. TellsKind read g) e told
+pub told_many : (tokens : List Token) (f : ParseFault) → f ≡ fault.TooMany → Tells tokens f → pickle_at standard tokens ≡ Err Many
+told_many tokens f e told = subst (Tells tokens) e told
 
 -- a fault of types, but for want of memory, is the definition's
 pub types_fail : {Y : Type 0} (kind : FaultKind) (given : Result Y FaultKind) → kind ≢ types.Memory → checking.Fails kind given → given ≡ Err kind

@@ -1,5 +1,5 @@
 -- When bytes are a pickle whose types are well formed, and how they are refused.
-use Rattle.std.specs.Prelude.{◌≡◌, ◌≢◌, ℕ, ◌≤◌, List, Option, Some, None, Ok, Err, length, slice_get, codes}
+use Rattle.std.specs.Prelude.{◌≡◌, ◌≢◌, ℕ, ◌-◌, ◌≤◌, List, Option, Some, None, Ok, Err, length, slice_get, codes}
 use Rattle.pickle_syntax.specs.Tokens.{Token}
 use Rattle.pickle_tree.specs.Tree.{DeclarationTree}
 use Rattle.pickle_syntax.specs.Lexing.{lexed}
@@ -38,7 +38,7 @@ start_in (Some span) count = span.0
 abbrev pub place_of : List (ℕ × ℕ) → (token count : ℕ) → ℕ
 place_of spans token count = start_in (slice_get spans token) count
 
--- the tokens of the bytes are no pickle, and why their reading stops
+-- the tokens of the bytes are no pickle, and why and where their reading stops
 pub record IsNoPickle (pickle : List ℕ) (spans : List (ℕ × ℕ)) (count : ℕ) (why : Fault) : Type 0 where
   pub tokens : List Token
   pub cut : lexed pickle ≡ Ok (tokens, spans)
@@ -60,7 +60,7 @@ pub record IsAccepted (pickle : List ℕ) (declarations : List DeclarationTree) 
 -- why the bytes are no pickle, or its types not well formed; want of memory says nothing of them
 pub data Refuses (pickle : List ℕ) : Refusal → Type 0 where
   no_tokens : {kind : LexFaultKind} {at : ℕ} → lexed pickle ≡ Err (kind, at) → Refuses pickle (refusal.Tokens kind at)
-  no_syntax : {spans : List (ℕ × ℕ)} {count token at : ℕ} → IsNoPickle pickle spans count Wrong → token ≤ count → at ≡ place_of spans token (length pickle) → Refuses pickle (refusal.Syntax at)
+  no_syntax : {spans : List (ℕ × ℕ)} {count token at : ℕ} → IsNoPickle pickle spans count (Wrong (count - token)) → token ≤ count → at ≡ place_of spans token (length pickle) → Refuses pickle (refusal.Syntax at)
   too_deep : {spans : List (ℕ × ℕ)} {count : ℕ} → IsNoPickle pickle spans count Deep → Refuses pickle refusal.TooDeep
   too_many : {spans : List (ℕ × ℕ)} {count : ℕ} → IsNoPickle pickle spans count Many → Refuses pickle refusal.TooMany
   ill_typed : {declarations : List DeclarationTree} {kind : FaultKind} {declaration : ℕ} → HasSyntax pickle declarations → IsIllTyped declarations kind declaration → kind ≢ types.Memory → Refuses pickle (refusal.Types kind declaration)

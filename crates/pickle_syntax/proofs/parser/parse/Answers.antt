@@ -1,6 +1,6 @@
 use Rattle.std.proofs.Common.{sym}
 use Rattle.pickle_syntax.specs.Tokens.{tokens_of}
-use Rattle.pickle_syntax.proofs.Telling.{tells_kind}
+use Rattle.pickle_syntax.proofs.Telling.{tells}
 use Rattle.pickle_syntax.proofs.Parsed.{is_found, is_refused, is_deep, is_many}
 use Rattle.pickle_syntax.proofs.parser.parse.Goals as goal
 
@@ -16,5 +16,5 @@ returns-in-Err-clause-deep c = rw (c.fault_of.ensures, sym c.kinds-kinds.ensures
 pub returns-in-Err-clause-many : goal.returns-in-Err-clause-many
 returns-in-Err-clause-many c = rw (c.fault_of.ensures, sym c.kinds-kinds.ensures) (is_many (tokens_of c.kinds-kinds.result.now) c.in-Err.stop _ c.in-Err.ensures)
 
-pub returns-in-Err-clause-kind : goal.returns-in-Err-clause-kind
-returns-in-Err-clause-kind c = rw (c.fault_of.ensures, sym c.kinds-kinds.ensures) (tells_kind c.in-Err.stop _ _ c.in-Err.ensures)
+pub returns-in-Err-clause-told : goal.returns-in-Err-clause-told
+returns-in-Err-clause-told c = rw (c.fault_of.ensures, sym c.kinds-kinds.ensures) (tells c.in-Err.stop c.kinds-kinds.result.now c.in-Err.ensures)
