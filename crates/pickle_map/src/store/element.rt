@@ -48,7 +48,8 @@ impl Store {
             return u64::from(bytes[i]);
         }
         let size = bytes_for(width);
-        bytes_number(&bytes[i * size..(i + 1) * size])
+        let first = i * size;
+        bytes_number(&bytes[first..first + size])
     }
 
     /// The element at a place of the array of packed numbers at a node.
