@@ -69,7 +69,8 @@ read-node s i n h g =
       below = λ k. below-found i ls k (slice_get ls k) is.below refl;
     }
 
-child-found : (s : Slots) (k : ℕ) (ls : List (Option ℕ)) (o : Option (Option ℕ)) → k ≤ length s.nodes → IfSome (unwrap_or o None) (λ j. j < k) → option_map (value_at s) (unwrap_or o None) ≡ unwrap_or (option_map (opened (trees s)) o) None
+-- what a link below a node leads to
+pub child-found : (s : Slots) (k : ℕ) (ls : List (Option ℕ)) (o : Option (Option ℕ)) → k ≤ length s.nodes → IfSome (unwrap_or o None) (λ j. j < k) → option_map (value_at s) (unwrap_or o None) ≡ unwrap_or (option_map (opened (trees s)) o) None
 child-found s k ls None p h = refl
 child-found s k ls (Some l) p h = sym (opened-value s l (IfSome-weaker l k (length s.nodes) p h))
 
