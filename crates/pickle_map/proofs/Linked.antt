@@ -11,7 +11,7 @@ use Rattle.pickle_map.specs.declared.store.slots.Shape.TheVariants.{Integer, Off
 use Rattle.pickle_map.specs.Slots.{Slots, opened, links_of, parts_in, trees, value_at, row_numbers, elements, element_value, element_width, IsPacked, IsContent, IsRead}
 use Rattle.pickle_map.specs.Tree.{Value, parts, part_at}
 use Rattle.pickle_map.specs.Linked.{node_links, links_from}
-use Rattle.pickle_map.specs.Lent.{place_value, numbers_of, element_in, HasElement}
+use Rattle.pickle_map.specs.Lent.{place_value, numbers_of, element_in, packed_count, element_count, IsPlace}
 use Rattle.pickle_map.proofs.Found.{child-found}
 use Rattle.pickle_map.proofs.Lent.{length-elements, elements-at}
 
@@ -61,27 +61,28 @@ are_links s at n links got r has is =
     subst (AreLinks s at) (sym is) (subst (λ o. AreLinks s at (node_links s o)) (sym got) are)
 
 -- packed numbers of that many bits each
-pub record IsRowShape (shape : Shape) (w : ℕ) : Type 0 where
+pub record IsRowShape (s : Slots) (shape : Shape) (c w : ℕ) : Type 0 where
   pub packed : IsPacked shape
   pub width : element_width shape ≡ w
+  pub count : packed_count s shape c ≡ length (row_numbers s w c)
 
 pub row_shape : (s : Slots) (shape : Shape) (start c w : ℕ) → ((g : Bool) × (shape ≡ Integers w g)) ⊎ ((g : Bool) × (u : ℕ) × (shape ≡ Offsets w g u)) →
-    IsContent s shape start c → IsRowShape shape w
+    IsContent s shape start c → IsRowShape s shape c w
 row_shape s shape start c w (inl (g, e)) h =
     let own : IsContent s (Integers w g) start c = subst (λ x. IsContent s x start c) e h in
-    subst (λ x. IsRowShape x w) (sym e) (record { packed = (own.1.some, own.1.most); width = refl })
+    subst (λ x. IsRowShape s x c w) (sym e) (record { packed = (own.1.some, own.1.most); width = refl; count = refl })
 row_shape s shape start c w (inr (g, u, e)) h =
     let own : IsContent s (Offsets w g u) start c = subst (λ x. IsContent s x start c) e h in
-    subst (λ x. IsRowShape x w) (sym e) (record { packed = (own.1.0.some, own.1.0.most, own.1.1); width = refl })
+    subst (λ x. IsRowShape s x c w) (sym e) (record { packed = (own.1.0.some, own.1.0.most, own.1.1); width = refl; count = refl })
 
 -- an array of packed numbers has its elements as parts
-pub row-count : (s : Slots) (at : ℕ) (n : Node) (w : ℕ) → IsRead s at n → IsRowShape n.shape w → length (parts (value_at s at)) ≡ length (row_numbers s w n.content)
+pub row-count : (s : Slots) (at : ℕ) (n : Node) (w : ℕ) → IsRead s at n → IsRowShape s n.shape n.content w → length (parts (value_at s at)) ≡ length (row_numbers s w n.content)
 row-count s at n w r is =
     ap length (r.parts ∙ packed-parts s (trees s) n.shape n.start n.content is.packed)
     ∙ length-elements n.shape n.start (numbers_of s n)
     ∙ ap (λ k. length (row_numbers s k n.content)) is.width
 
-pub row-part : (s : Slots) (at : ℕ) (n : Node) (w i : ℕ) → slice_get s.nodes at ≡ Some n → IsRead s at n → IsRowShape n.shape w → i < length (row_numbers s w n.content) →
+pub row-part : (s : Slots) (at : ℕ) (n : Node) (w i : ℕ) → slice_get s.nodes at ≡ Some n → IsRead s at n → IsRowShape s n.shape n.content w → i < length (row_numbers s w n.content) →
     part_at (value_at s at) i ≡ Some (place_value s (place.Element at i))
 row-part s at n w i got r is p =
     let own : parts (value_at s at) ≡ elements n.shape n.start (numbers_of s n) = r.parts ∙ packed-parts s (trees s) n.shape n.start n.content is.packed in
@@ -90,12 +91,11 @@ row-part s at n w i got r is p =
     ∙ ap (λ o. unwrap_or o None) (elements-at n.shape n.start (numbers_of s n) i within)
     ∙ ap (λ o. Some (element_in s o i)) (sym got)
 
-pub row-past : (s : Slots) (at : ℕ) (n : Node) (w i : ℕ) → IsRead s at n → IsRowShape n.shape w → length (row_numbers s w n.content) ≤ i → part_at (value_at s at) i ≡ None
+pub row-past : (s : Slots) (at : ℕ) (n : Node) (w i : ℕ) → IsRead s at n → IsRowShape s n.shape n.content w → length (row_numbers s w n.content) ≤ i → part_at (value_at s at) i ≡ None
 row-past s at n w i r is past =
     let count = row-count s at n w r is in
     ap (λ o. unwrap_or o None) (slice_get_past (parts (value_at s at)) i (omega (arith, count, past)))
 
-pub has_element : (s : Slots) (at : ℕ) (n : Node) (w i : ℕ) → slice_get s.nodes at ≡ Some n → IsRowShape n.shape w → i < length (row_numbers s w n.content) → HasElement s (slice_get s.nodes at) i
-has_element s at n w i got is p =
-    let within : i < length (numbers_of s n) = subst (λ k. i < length (row_numbers s k n.content)) (sym is.width) p in
-    subst (λ o. HasElement s o i) (sym got) (is.packed, within)
+pub has_element : (s : Slots) (at : ℕ) (n : Node) (w i : ℕ) → slice_get s.nodes at ≡ Some n → IsRowShape s n.shape n.content w → i < length (row_numbers s w n.content) →
+    IsPlace s (place.Element at i)
+has_element s at n w i got is p = subst (λ o. i < element_count s o) (sym got) (omega (arith, p, is.count))
