@@ -7,7 +7,7 @@ use Rattle.pickle_map.specs.declared.store.slots.Shape.{Shape}
 use Rattle.pickle_map.specs.declared.store.slots.Shape.TheVariants.{Integer, Offset, Text, Integers, Offsets, Array, Struct, Union}
 use Rattle.pickle_map.specs.Packed.{numbers_in}
 use Rattle.pickle_map.specs.Tree.{Value, TextLabel}
-use Rattle.pickle_map.specs.Slots.{Slots, part, family_at, first_link, family_links, first_byte, text_bytes, row_numbers, elements, label_in, size_in, links_of, opened, parts_in, IsFamily, IsShort, IsByteRow, IsTextRow, AreNumbers, IsContent}
+use Rattle.pickle_map.specs.Slots.{Slots, part, family_at, first_link, family_links, first_byte, text_bytes, row_numbers, elements, label_in, size_in, links_of, opened, parts_in, IsFamily, IsByteRow, IsTextRow, AreNumbers, IsContent}
 
 pub slice_get-append : {A : Type 0} (xs ys : List A) (i : ℕ) → i < length xs → slice_get (xs ++ ys) i ≡ slice_get xs i
 slice_get-append [] ys i h = absurd (omega arith)

@@ -7,7 +7,7 @@ use Rattle.pickle_map.specs.declared.store.slots.Marks.{Marks}
 use Rattle.pickle_map.specs.declared.store.slots.Shape.{Shape}
 use Rattle.pickle_map.specs.declared.store.slots.Shape.TheVariants.{Integer, Offset, Text, Integers, Offsets, Array, Struct, Union}
 use Rattle.pickle_map.specs.Tree.{Value, Tree, parts_of}
-use Rattle.pickle_map.specs.Slots.{Slots, opened, label_in, size_in, links_of, parts_in, IsContent, tree_of, trees_from, trees, stack, LinksBelow, IsNodeAt, AreNodesFrom, IsSound, cut_to}
+use Rattle.pickle_map.specs.Slots.{Slots, opened, label_in, size_in, links_of, parts_in, tree_of, trees_from, trees, stack, LinksBelow, IsNodeAt, AreNodesFrom, IsSound, cut_to}
 use Rattle.pickle_map.proofs.FamilyRows.{Grows, slice_get-append, slice_get-push, IsContent-grow, links_of-grow, parts_in-grow, label_in-grow, size_in-grow}
 
 pub LinksBelow-weaker : (j k : ℕ) (ls : List (Option ℕ)) → j ≤ k → LinksBelow j ls → LinksBelow k ls
