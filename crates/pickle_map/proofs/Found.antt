@@ -2,11 +2,10 @@
 use Rattle.std.proofs.Common.{◌≡◌, ℕ, zero, suc, ◌+◌, ◌<◌, ◌≤◌, List, [], ◌∷◌, Option, Some, None, length, map, refl, sym, ◌∙◌, ap, subst, arith, zero-add}
 use Rattle.std.specs.Prelude.{slice_get, unwrap_or, IfSome}
 use Rattle.std.specs.Option.{option_map}
-use Rattle.std.proofs.lemmas.List.{length-map}
-use Rattle.std.proofs.lemmas.Option.{slice_get-get_or, get_or_from_slice_get, slice_get_within, slice_get-map}
+use Rattle.std.proofs.lemmas.Option.{slice_get-get_or, get_or_from_slice_get, slice_get-map}
 use Rattle.pickle_map.specs.declared.store.slots.Node.{Node}
 use Rattle.pickle_map.specs.Tree.{Value, Tree, ArrayLabel, End, parts_of, options_of, label, start, size, parts}
-use Rattle.pickle_map.specs.Slots.{Slots, opened, links_of, tree_of, trees, value_at, LinksBelow, IsRead, IsNodeAt, AreNodesFrom, IsSound}
+use Rattle.pickle_map.specs.Slots.{Slots, opened, links_of, parts_in, tree_of, trees, value_at, LinksBelow, IsRead, IsNodeAt, AreNodesFrom, IsSound}
 use Rattle.pickle_map.proofs.Grown.{get-trees_from, length-trees}
 
 pub options-parts : (os : List (Option Value)) → options_of (parts_of os) ≡ os
@@ -49,34 +48,31 @@ IfSome-weaker : (l : Option ℕ) (i k : ℕ) → i ≤ k → IfSome l (λ j. j <
 IfSome-weaker None i k p h = tt
 IfSome-weaker (Some j) i k p h = omega arith
 
-parts-at : (s : Slots) (i : ℕ) (n : Node) → IsSound s → slice_get s.nodes i ≡ Some n → parts (value_at s i) ≡ map (opened (trees s)) (links_of s n.shape n.content)
-parts-at s i n h g = ap parts (value-at s i n h g) ∙ options-parts (map (opened (trees s)) (links_of s n.shape n.content))
+parts-at : (s : Slots) (i : ℕ) (n : Node) → IsSound s → slice_get s.nodes i ≡ Some n → parts (value_at s i) ≡ parts_in s (trees s) n.shape n.start n.content
+parts-at s i n h g = ap parts (value-at s i n h g) ∙ options-parts (parts_in s (trees s) n.shape n.start n.content)
 
 below-found : (k : ℕ) (ls : List (Option ℕ)) (i : ℕ) (o : Option (Option ℕ)) → LinksBelow k ls → slice_get ls i ≡ o → IfSome (unwrap_or o None) (λ j. j < k)
 below-found k ls i None h g = tt
 below-found k ls i (Some l) h g = LinksBelow-at k ls i l h g
-
-child-found : (s : Slots) (k : ℕ) (ls : List (Option ℕ)) (o : Option (Option ℕ)) → k ≤ length s.nodes → IfSome (unwrap_or o None) (λ j. j < k) → option_map (value_at s) (unwrap_or o None) ≡ unwrap_or (option_map (opened (trees s)) o) None
-child-found s k ls None p h = refl
-child-found s k ls (Some l) p h = sym (opened-value s l (IfSome-weaker l k (length s.nodes) p h))
 
 pub read-node : (s : Slots) (i : ℕ) (n : Node) → IsSound s → slice_get s.nodes i ≡ Some n → IsRead s i n
 read-node s i n h g =
     let v = value-at s i n h g in
     let is = node_sound s i n h g in
     let ls = links_of s n.shape n.content in
-    let within : i < length s.nodes = slice_get_within s.nodes i n g in
     record {
       label = ap label v;
       start = ap start v;
       size = ap size v;
-      count = ap length (parts-at s i n h g) ∙ length-map ls (opened (trees s));
+      parts = parts-at s i n h g;
       content = is.content;
-      child = λ k.
-          child-found s i ls (slice_get ls k) (omega (arith, within)) (below-found i ls k (slice_get ls k) is.below refl)
-          ∙ sym (ap (λ os. unwrap_or (slice_get os k) None) (parts-at s i n h g) ∙ ap (λ o. unwrap_or o None) (slice_get-map (opened (trees s)) ls k));
       below = λ k. below-found i ls k (slice_get ls k) is.below refl;
     }
+
+-- what a link below a node leads to
+pub child-found : (s : Slots) (k : ℕ) (ls : List (Option ℕ)) (o : Option (Option ℕ)) → k ≤ length s.nodes → IfSome (unwrap_or o None) (λ j. j < k) → option_map (value_at s) (unwrap_or o None) ≡ unwrap_or (option_map (opened (trees s)) o) None
+child-found s k ls None p h = refl
+child-found s k ls (Some l) p h = sym (opened-value s l (IfSome-weaker l k (length s.nodes) p h))
 
 -- links that stand for values of the store
 pub links-read : (s : Slots) (ls : List (Option ℕ)) (i : ℕ) → LinksBelow (length s.nodes) ls → option_map (value_at s) (unwrap_or (slice_get ls i) None) ≡ unwrap_or (slice_get (map (opened (trees s)) ls) i) None

@@ -29,6 +29,7 @@ mod Costs
 mod Makes
 pub mod Walks
 pub mod Found
+pub mod Lent
 pub mod Linked
 pub mod ShownPaths
 pub mod ShownLabels

@@ -2,7 +2,7 @@ ghost use Rattle.std.specs.Prelude.{◌≡◌, ◌<◌, length, IfSome};
 ghost use Rattle.std.specs.Option.{option_map};
 ghost use Rattle.pickle_map.specs.Kinds.{kind_of};
 ghost use Rattle.pickle_map.specs.Tree.{label, start, size, parts, part_at, number_of, signed_of, width_of, unit_of, bytes_of, type_of, taken_of};
-ghost use Rattle.pickle_map.specs.Lent.{place_value, place_links, place_rank, IsPlace, IsPlace-prop};
+ghost use Rattle.pickle_map.specs.Lent.{place_value, place_links, place_rank, IsPlace};
 ghost use Rattle.pickle_map.specs.Scalars.{scalar_label, scalar_in, IsScalar};
 
 use crate::evaluate::integers::Scalar;
@@ -15,7 +15,7 @@ use crate::value::Kind;
 pub struct StoredValue<'a> {
     store: &'a Store,
     place: Place,
-    ghost in_range: { IsPlace store.now.slots place } by { IsPlace-prop store.now.slots place },
+    ghost in_range: { IsPlace store.now.slots place },
 }
 
 impl<'a> StoredValue<'a> {

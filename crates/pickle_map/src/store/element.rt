@@ -20,8 +20,8 @@ fn bytes_number(bytes: &[u8]) -> u64
     ensures { result ≡ bytes_number bytes.now }
 {
     let mut number = 0;
-    for byte in bytes.iter().rev() {
-        number = number << 8 | u64::from(*byte);
+    for i in 0..bytes.len() {
+        number = number * 256 + u64::from(bytes[bytes.len() - 1 - i]);
     }
     number
 }
@@ -43,8 +43,13 @@ impl Store {
         requires within { i < length (row_numbers self.now.slots width row) }
         ensures { result ≡ slice_index (row_numbers self.now.slots width row) i }
     {
+        let bytes = self.text(row);
+        if width <= 8 {
+            return u64::from(bytes[i]);
+        }
         let size = bytes_for(width);
-        bytes_number(&self.text(row)[i * size..(i + 1) * size])
+        let first = i * size;
+        bytes_number(&bytes[first..first + size])
     }
 
     /// The element at a place of the array of packed numbers at a node.

@@ -1,4 +1,4 @@
-ghost use Rattle.std.specs.Prelude.{◌≡◌, ◌+◌, ◌-◌, ◌<◌, ◌≤◌, [], length, slice_get, slice_index, unwrap_or, IfSome};
+ghost use Rattle.std.specs.Prelude.{◌≡◌, ◌+◌, ◌-◌, ◌<◌, ◌≤◌, [], Some, length, slice_get, slice_index, unwrap_or, IfSome};
 ghost use Rattle.std.specs.Option.{option_map};
 ghost use Rattle.pickle_types.specs.Sound.{IsSmall};
 ghost use Rattle.pickle_map.specs.Kinds.{kind_of};
@@ -33,7 +33,8 @@ impl Store {
     // The node at a place, and what its value has of it.
     pub(super) fn node_at(&self, at: usize) -> Node
         requires { at < length self.now.slots.nodes }
-        ensures { IsRead self.now.slots at result }
+        ensures is { slice_get self.now.slots.nodes at ≡ Some result }
+        ensures read { IsRead self.now.slots at result }
     {
         self.nodes[at]
     }

@@ -1,17 +1,15 @@
-use Rattle.std.proofs.Common.{rules, ◌≡◌, Some, ap, sym, ◌∙◌, subst}
-use Rattle.std.specs.Prelude.{slice_get}
-use Rattle.std.proofs.lemmas.Option.{slice_get-get_or}
-use Rattle.pickle_map.specs.contracts.store.Store.{the_view}
-use Rattle.pickle_map.specs.Linked.{links_from}
-use Rattle.pickle_map.proofs.Counted.{levels-sound}
-use Rattle.pickle_map.proofs.Linked.{AreLinks, are_links}
+use Rattle.std.proofs.Common.{sym, ◌∙◌}
+use Rattle.pickle_map.proofs.Linked.{are_links, row_shape, row-count}
 use Rattle.pickle_map.proofs.store.Store.count_linked.Goals as goal
 
-pub returns : goal.returns
-returns c =
-    let h = the_view c.self.inside in
-    let n = c.index-node.result.now in
-    let got : slice_get h.slots.nodes c.args.at ≡ Some n = slice_get-get_or h.slots.nodes c.args.at n (search rules) ∙ ap Some (sym c.index-node.ensures) in
-    let own = subst (λ v. c.args.links.now ≡ links_from v.slots c.args.at) (sym c.self.view_is) c.requires.links in
-    let links = subst (λ v. AreLinks v.slots c.args.at c.args.links.now) c.self.view_is (are_links h.slots c.args.at n c.args.links.now (levels-sound h.frames h.slots c.self.invariant.levels) got own) in
+pub returns-in_default : goal.returns-in_default
+returns-in_default c =
+    let links = are_links c.args.self.now.slots c.args.at c.node_at-node.result c.args.links.now c.node_at-node.ensures.is c.node_at-node.ensures.read (record { not_integers = c.in_default.not-Integers; not_offsets = c.in_default.not-Offsets }) c.requires.links in
     links.count
+
+pub returns-in-Integers : goal.returns-in-Integers
+returns-in-Integers c =
+    let s = c.args.self.now.slots in
+    let n = c.node_at-node.result in
+    let read = c.node_at-node.ensures.read in
+    c.count_packed.ensures ∙ sym (row-count s c.args.at n c.in-Integers.width read (row_shape s n.shape n.start n.content c.in-Integers.width c.in-Integers.is read.content))
