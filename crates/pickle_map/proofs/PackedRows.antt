@@ -1,6 +1,7 @@
 -- Arrays of packed numbers under way.
-use Rattle.std.proofs.Common.{◌≡◌, ℕ, ◌+◌, ◌*◌, ◌^◌, ◌<◌, ◌≤◌, true, List, [], ◌∷◌, ◌++◌, Some, Result, Ok, Err, OnOk, length, refl, sym, ◌∙◌, ap, subst, arith}
+use Rattle.std.proofs.Common.{◌≡◌, ℕ, ◌+◌, ◌*◌, ◌^◌, ◌<◌, ◌≤◌, true, List, [], ◌∷◌, ◌++◌, Some, Result, Ok, Err, OnOk, length, take, refl, sym, ◌∙◌, ap, subst, arith}
 use Rattle.std.specs.Prelude.{All}
+use Rattle.std.specs.Int.{to_le_bytes, w64}
 use Rattle.std.proofs.Math.Nat.{mul-zero, mul-le-mul_left}
 use Rattle.std.proofs.lemmas.List.{append-nil, length_push}
 use Rattle.std.proofs.lemmas.List.Elements.{All-push}
@@ -10,7 +11,7 @@ use Rattle.pickle_map.specs.declared.store.slots.Shape.TheVariants.{Integer, Off
 use Rattle.pickle_map.specs.Packed.{bytes_for, number_bytes, packed, numbers_in}
 use Rattle.pickle_map.specs.Levels.{Levels, top_of, outer_of, extended, pushed}
 use Rattle.pickle_map.specs.Slots.{Held, packs, levels, AreLevels, IsPacked, element_width, row_value, AreNumbers, with_bytes, with_more, AreBytes, bytes_value, MayKeep, HasNoNode, IsFilling, IsPacking, IsRowOf, TakesNumber, GoesOn}
-use Rattle.pickle_map.proofs.Packed.{length-number_bytes, packed-push, numbers_in-packed, packed-none, bytes_for-some}
+use Rattle.pickle_map.proofs.Packed.{length-number_bytes, le_bytes-take, packed-push, numbers_in-packed, packed-none, bytes_for-some, bytes_for-most}
 use Rattle.pickle_map.proofs.Writing.{filling-levels, filling-empty, filling-outer, fresh-empty, empty-fresh, stale-some, fresh-filling, stale-filling, stale-goes_on, opened-filling}
 
 -- the bytes of an array of packed numbers
@@ -109,3 +110,61 @@ one-are shape digits count start p small short =
     let below : All (λ n. n < 2 ^ element_width shape) (digits ∷ []) = All-push (λ n. n < 2 ^ element_width shape) [] digits (λ k d h. absurd (omega arith)) small in
     let one : start + element_width shape * 1 < 2 ^ 64 = omega (arith, mul-le-mul_left (element_width shape) (let o : 1 ≤ count + 1 = omega arith in o)) in
     subst (λ bs. AreBytes shape bs start) (append-nil own) (row-are shape (digits ∷ []) start p below one)
+
+-- the lowest bytes of the digits
+pub own-bytes : (shape : Shape) (width digits count : ℕ) (bytes : List ℕ) → IsPacked shape → width ≡ element_width shape → count ≡ bytes_for width → bytes ≡ to_le_bytes w64 digits →
+    take count bytes ≡ number_bytes (bytes_for (element_width shape)) digits
+own-bytes shape width digits count bytes p same counts is =
+    let counted : count ≡ bytes_for (element_width shape) = counts ∙ ap (λ w. bytes_for w) same in
+    rw (counted, is) (le_bytes-take (bytes_for (element_width shape)) digits (bytes_for-most (element_width shape) (row-width shape p).1))
+
+-- the clauses of the calls
+module _ {T E : Type 0} (r : Result T E) (h n : Held) (shape : Shape) (width digits start : ℕ) (own : List ℕ) (p : IsPacked shape) (same : width ≡ element_width shape) (small : digits < 2 ^ width) (is : own ≡ number_bytes (bytes_for (element_width shape)) digits) where
+  pub fresh-packs : HasNoNode h → OnOk r (n ≡ record h { slots = with_bytes shape own start h.slots }) →
+      OnOk r ((numbers : List ℕ) (outer : Levels) → IsPacking h shape numbers start outer → start + width * (length numbers + 1) < 2 ^ 64 → IsPacking n shape (numbers ++ digits ∷ []) start outer)
+  fresh-packs fresh e = elim r as (λ r. OnOk r (n ≡ record h { slots = with_bytes shape own start h.slots }) → OnOk r ((numbers : List ℕ) (outer : Levels) → IsPacking h shape numbers start outer → start + width * (length numbers + 1) < 2 ^ 64 → IsPacking n shape (numbers ++ digits ∷ []) start outer)) [
+    | Ok x ↦ λ e numbers outer w short.
+        let short : start + element_width shape * (length numbers + 1) < 2 ^ 64 = subst (λ m. start + m * (length numbers + 1) < 2 ^ 64) same short in
+        let small : digits < 2 ^ element_width shape = subst (λ m. digits < 2 ^ m) same small in
+        let bytes = number_bytes (bytes_for (element_width shape)) digits in
+        let some : 0 < length bytes = omega (arith, length-number_bytes (bytes_for (element_width shape)) digits, bytes_for-some (element_width shape) (row-width shape p).0) in
+        let e : n ≡ record h { slots = with_bytes shape bytes start h.slots } = subst (λ bs. n ≡ record h { slots = with_bytes shape bs start h.slots }) is e in
+        more-packing h shape digits numbers start outer w p small short n
+        (subst (λ u. IsFilling u shape (row_bytes shape numbers ++ bytes) start outer) (sym e)
+        (fresh-filling h shape bytes (row_bytes shape numbers) start outer w.filling fresh some (one-are shape digits (length numbers) start p small short)))
+    | Err x ↦ λ e. tt
+  ] e
+
+  pub stale-packs : (HasNoNode h → ⊥) → OnOk r (n ≡ record h { slots = with_more own h.slots }) →
+      OnOk r ((numbers : List ℕ) (outer : Levels) → IsPacking h shape numbers start outer → start + width * (length numbers + 1) < 2 ^ 64 → IsPacking n shape (numbers ++ digits ∷ []) start outer)
+  stale-packs stale e = elim r as (λ r. OnOk r (n ≡ record h { slots = with_more own h.slots }) → OnOk r ((numbers : List ℕ) (outer : Levels) → IsPacking h shape numbers start outer → start + width * (length numbers + 1) < 2 ^ 64 → IsPacking n shape (numbers ++ digits ∷ []) start outer)) [
+    | Ok x ↦ λ e numbers outer w short.
+        let short : start + element_width shape * (length numbers + 1) < 2 ^ 64 = subst (λ m. start + m * (length numbers + 1) < 2 ^ 64) same short in
+        let small : digits < 2 ^ element_width shape = subst (λ m. digits < 2 ^ m) same small in
+        let bytes = number_bytes (bytes_for (element_width shape)) digits in
+        let e : n ≡ record h { slots = with_more bytes h.slots } = subst (λ bs. n ≡ record h { slots = with_more bs h.slots }) is e in
+        more-packing h shape digits numbers start outer w p small short n
+        (subst (λ u. IsFilling u shape (row_bytes shape numbers ++ bytes) start outer) (sym e)
+        (stale-filling h shape bytes (row_bytes shape numbers) start outer w.filling stale (more-are h shape digits numbers start outer w p small short)))
+    | Err x ↦ λ e. tt
+  ] e
+
+-- the array is closed
+pub settled-row : {T E : Type 0} (r : Result T E) (h n : Held) (shape : Shape) (start : ℕ) → IsPacked shape → HasNoNode h → OnOk r (levels n ≡ pushed (levels h) (Some (bytes_value shape [] start))) →
+    OnOk r ((numbers : List ℕ) (outer : Levels) → IsPacking h shape numbers start outer → levels n ≡ (Some (row_value shape numbers start) ∷ []) ∷ outer)
+settled-row (Ok x) h n shape start p fresh e = λ numbers outer w.
+    let none = packing-fresh h shape numbers start outer w fresh p in
+    let w' : IsPacking h shape [] start outer = subst (λ ns. IsPacking h shape ns start outer) none w in
+    e ∙ ap (λ ls. pushed ls (Some (bytes_value shape [] start))) (packing-empty h shape start outer w')
+    ∙ ap (λ v. (Some v ∷ []) ∷ outer) (row-is shape [] start p w'.below)
+    ∙ ap (λ ns. (Some (row_value shape ns start) ∷ []) ∷ outer) (sym none)
+settled-row (Err x) h n shape start p fresh e = tt
+
+pub stale-row_levels : (h : Held) (shape : Shape) (numbers : List ℕ) (start : ℕ) (outer : Levels) → IsPacking h shape numbers start outer → IsPacked shape → (HasNoNode h → ⊥) → levels h ≡ (Some (row_value shape numbers start) ∷ []) ∷ outer
+stale-row_levels h shape numbers start outer w p stale =
+    filling-levels h shape (row_bytes shape numbers) start outer w.filling (stale-some h shape (row_bytes shape numbers) start outer w.filling stale)
+    ∙ ap (λ v. (Some v ∷ []) ∷ outer) (row-is shape numbers start p w.below)
+
+-- the levels of an array that is lifted
+pub lifted-row : (shape : Shape) (numbers : List ℕ) (start : ℕ) (outer ls : Levels) → ls ≡ (Some (row_value shape numbers start) ∷ []) ∷ outer → extended (outer_of ls) (top_of ls) ≡ pushed outer (Some (row_value shape numbers start))
+lifted-row shape numbers start outer ls e = ap (λ l. extended (outer_of l) (top_of l)) e
