@@ -53,7 +53,9 @@ impl<'a> StoredValue<'a> {
     {
         match self.place {
             Place::Node(at) => self.store.size_at(at),
-            Place::Element { array, index } => u64::from(self.store.element_at(array, index).number_type().width),
+            Place::Element { array, index } => u64::from(
+                self.store.element_at(array, index).number_type().width,
+            ),
         }
     }
 
@@ -73,7 +75,11 @@ impl<'a> StoredValue<'a> {
     {
         match self.place {
             Place::Node(at) => self.store.signed_at(at),
-            Place::Element { array, index } => self.store.element_at(array, index).number_type().signed,
+            Place::Element { array, index } => self
+                .store
+                .element_at(array, index)
+                .number_type()
+                .signed,
         }
     }
 
@@ -94,7 +100,11 @@ impl<'a> StoredValue<'a> {
     {
         match self.place {
             Place::Node(at) => self.store.width_at(at),
-            Place::Element { array, index } => self.store.element_at(array, index).number_type().width,
+            Place::Element { array, index } => self
+                .store
+                .element_at(array, index)
+                .number_type()
+                .width,
         }
     }
 
