@@ -1,6 +1,7 @@
 pub mod Moduli
 pub mod Signed
 pub mod Digits
+pub mod Packed
 mod Rows
 mod Refused
 mod Basics
@@ -15,11 +16,13 @@ pub mod FamilyRows
 pub mod Grown
 pub mod Counted
 pub mod Placed
+pub mod PlacedBytes
 pub mod Empty
 pub mod Fits
 pub mod Held
 pub mod Frames
 pub mod Writing
+pub mod PackedRows
 pub mod ShownLevels
 pub mod Keeping
 mod Costs

@@ -1,41 +1,47 @@
--- Texts, and a text under way.
-use Rattle.std.proofs.Common.{◌≡◌, ℕ, ◌+◌, ◌-◌, ◌<◌, ◌≤◌, List, [], ◌∷◌, ◌++◌, Some, Result, Ok, Err, OnOk, length, take, refl, sym, ◌∙◌, ap, subst, arith, lit<}
-use Rattle.std.specs.Prelude.{slice_set}
+-- Values that are made of bytes, under way: texts and arrays of packed numbers.
+use Rattle.std.proofs.Common.{◌≡◌, ℕ, ◌+◌, ◌-◌, ◌*◌, ◌^◌, ◌<◌, ◌≤◌, true, List, [], ◌∷◌, ◌++◌, Some, Result, Ok, Err, OnOk, length, take, refl, sym, ◌∙◌, ap, subst, arith, lit<}
+use Rattle.std.specs.Prelude.{All, slice_set}
 use Rattle.std.proofs.Math.Seq.{take-length}
 use Rattle.std.proofs.lemmas.List.{append_assoc, length-append, length_push, length-set, take_at, take_more_set}
+use Rattle.std.proofs.lemmas.List.Elements.{All-push}
 use Rattle.pickle_map.specs.declared.store.room.Room.{Room}
-use Rattle.pickle_map.specs.declared.store.slots.Shape.TheVariants.{Text}
+use Rattle.pickle_map.specs.declared.store.slots.Node.{Node}
+use Rattle.pickle_map.specs.declared.store.slots.Shape.{Shape}
+use Rattle.pickle_map.specs.declared.store.slots.Shape.TheVariants.{Integer, Offset, Text, Integers, Offsets, Array, Struct, Union}
+use Rattle.pickle_map.specs.Packed.{bytes_for, number_bytes, packed, numbers_in}
 use Rattle.pickle_map.specs.Tree.{text_value}
-use Rattle.pickle_map.specs.Levels.{Levels, top_of, outer_of, extended, pushed, text_level, level_nodes, FitsIn}
-use Rattle.pickle_map.specs.Slots.{Slots, Held, levels, innermost, level_of, AreLevels, levels_at, Adds, IsShort, with_text, with_byte, written, HasRoom, HasNoNode, IsWriting, GoesOn}
+use Rattle.pickle_map.specs.Levels.{Levels, top_of, outer_of, extended, pushed, text_level, FitsIn}
+use Rattle.pickle_map.specs.Slots.{Slots, Held, packs, levels, innermost, AreLevels, levels_at, Adds, IsShort, IsPacked, element_width, row_value, AreNumbers, with_bytes, with_more, AreBytes, bytes_value, MayKeep, written, HasRoom, HasNoNode, IsFilling, IsWriting, IsPacking, GoesOn}
+use Rattle.pickle_map.proofs.Packed.{length-number_bytes, packed-push, numbers_in-packed, packed-none, bytes_for-some}
 use Rattle.pickle_map.proofs.Counted.{levels-more, levels_at-more, levels-sound}
-use Rattle.pickle_map.proofs.Placed.{text-adds}
-use Rattle.pickle_map.proofs.Fits.{room-more, room-byte, innermost-level, total_nodes-extended, total_links-extended, total_pending-extended, total_bytes-extended}
+use Rattle.pickle_map.proofs.PlacedBytes.{bytes-adds, bytes-takes}
+use Rattle.pickle_map.proofs.Fits.{room-more, room-byte, counted-pushed, innermost-level, total_nodes-extended, total_links-extended, total_pending-extended, total_bytes-extended}
 
--- a text that is placed
-module _ (h : Held) (bytes : List ℕ) (start : ℕ) (all : AreLevels h.frames h.slots) (short : IsShort (length bytes)) where
-  adds-here : Adds h.slots (with_text bytes start h.slots) (Some (text_value bytes start) ∷ [])
-  adds-here = text-adds bytes start h.slots (levels-sound h.frames h.slots all) short
+-- a value of bytes that is placed
+module _ (h : Held) (shape : Shape) (bytes : List ℕ) (start : ℕ) (all : AreLevels h.room h.frames h.slots) (are : AreBytes shape bytes start) (may : MayKeep h.room shape) where
+  adds-here : Adds h.room h.slots (with_bytes shape bytes start h.slots) (Some (bytes_value shape bytes start) ∷ [])
+  adds-here = bytes-adds h.room shape bytes start h.slots (levels-sound h.room h.frames h.slots all) are may
 
-  pub text-frames : AreLevels h.frames (with_text bytes start h.slots)
-  text-frames = levels-more h.frames h.slots (with_text bytes start h.slots) (Some (text_value bytes start) ∷ []) all adds-here
+  pub bytes-frames : AreLevels h.room h.frames (with_bytes shape bytes start h.slots)
+  bytes-frames = levels-more h.room h.frames h.slots (with_bytes shape bytes start h.slots) (Some (bytes_value shape bytes start) ∷ []) all adds-here
 
-  pub text-levels : levels (record { slots = with_text bytes start h.slots; frames = h.frames; room = h.room }) ≡ pushed (levels h) (Some (text_value bytes start))
+  pub bytes-levels : levels (record { slots = with_bytes shape bytes start h.slots; frames = h.frames; room = h.room }) ≡ pushed (levels h) (Some (bytes_value shape bytes start))
   unfolding levels
-  text-levels = levels_at-more h.frames h.slots (with_text bytes start h.slots) (Some (text_value bytes start) ∷ []) all adds-here
+  bytes-levels = levels_at-more h.room h.frames h.slots (with_bytes shape bytes start h.slots) (Some (bytes_value shape bytes start) ∷ []) all adds-here
 
-  pub text-room : FitsIn h.room (pushed (levels h) (Some (text_value bytes start))) → HasRoom h.room h.slots 1 0 1 (length bytes)
+  pub bytes-room : FitsIn h.room (pushed (levels h) (Some (bytes_value shape bytes start))) → HasRoom h.room h.slots 1 0 1 (length bytes)
   unfolding levels
-  text-room fits =
-      let r = room-more h.frames h.slots h.room (Some (text_value bytes start) ∷ []) all fits in
+  bytes-room fits =
+      let r = room-more h.frames h.slots h.room (Some (bytes_value shape bytes start)) all fits in
+      let t = bytes-takes h.room shape bytes start are may (counted-pushed h.room (levels h) (Some (bytes_value shape bytes start)) fits) in
       record {
-        nodes = omega (arith, r.nodes);
-        links = omega (arith, r.links);
+        nodes = omega (arith, r.nodes, t.nodes);
+        links = omega (arith, r.links, t.links);
         pending = r.pending;
-        bytes = omega (arith, r.bytes);
+        bytes = omega (arith, r.bytes, t.bytes);
       }
 
--- the end of the last text, written anew
+-- the end of the last bytes, written anew
 last-set : (ends : List ℕ) (end : ℕ) → 0 < length ends → slice_set ends (length ends - 1) end ≡ take (length ends - 1) ends ++ end ∷ []
 last-set ends end some =
     let last : (length ends - 1) + 1 ≡ length ends = omega arith in
@@ -44,115 +50,166 @@ last-set ends end some =
     ∙ ap (λ n. take n (slice_set ends (length ends - 1) end)) all
     ∙ take_more_set ends (length ends - 1) end (omega arith)
 
--- a byte more
-with_byte-text : (byte start : ℕ) (bytes : List ℕ) (s : Slots) → with_byte byte (with_text bytes start s) ≡ with_text (bytes ++ byte ∷ []) start s
-with_byte-text byte start bytes s =
-    let all = append_assoc s.bytes bytes (byte ∷ []) in
+-- more bytes
+with_more-bytes : (more : List ℕ) (shape : Shape) (start : ℕ) (bytes : List ℕ) (s : Slots) → with_more more (with_bytes shape bytes start s) ≡ with_bytes shape (bytes ++ more) start s
+with_more-bytes more shape start bytes s =
+    let all = append_assoc s.bytes bytes more in
     let ends : take (length (s.texts ++ (length s.bytes + length bytes) ∷ []) - 1) (s.texts ++ (length s.bytes + length bytes) ∷ []) ≡ s.texts =
     take_at s.texts ((length s.bytes + length bytes) ∷ []) _ (omega (arith, length_push s.texts (length s.bytes + length bytes))) in
-    let count : length ((s.bytes ++ bytes) ++ byte ∷ []) ≡ length s.bytes + length (bytes ++ byte ∷ []) = ap length all ∙ length-append s.bytes (bytes ++ byte ∷ []) in
+    let count : length ((s.bytes ++ bytes) ++ more) ≡ length s.bytes + length (bytes ++ more) = ap length all ∙ length-append s.bytes (bytes ++ more) in
     cc
 
-written-some : (bytes : List ℕ) (start : ℕ) (s : Slots) → 0 < length bytes → written bytes start s ≡ with_text bytes start s
-written-some [] start s some = absurd (omega arith)
-written-some (b ∷ bytes) start s some = refl
+written-some : (shape : Shape) (bytes : List ℕ) (start : ℕ) (s : Slots) → 0 < length bytes → written shape bytes start s ≡ with_bytes shape bytes start s
+written-some shape [] start s some = absurd (omega arith)
+written-some shape (b ∷ bytes) start s some = refl
+
+-- what the slots of a value under way hold
+module _ (h : Held) (shape : Shape) (bytes : List ℕ) (start : ℕ) (outer : Levels) (w : IsFilling h shape bytes start outer) (some : 0 < length bytes) where
+  filling-slots : h.slots ≡ with_bytes shape bytes start w.before
+  filling-slots = w.is ∙ written-some shape bytes start w.before some
+
+  filling-adds : Adds h.room w.before (with_bytes shape bytes start w.before) (Some (bytes_value shape bytes start) ∷ [])
+  filling-adds = bytes-adds h.room shape bytes start w.before (levels-sound h.room h.frames w.before w.own) w.are w.may
+
+  filling-frames : AreLevels h.room h.frames h.slots
+  filling-frames =
+      subst (λ x. AreLevels h.room h.frames x) (sym filling-slots)
+      (levels-more h.room h.frames w.before (with_bytes shape bytes start w.before) (Some (bytes_value shape bytes start) ∷ []) w.own filling-adds)
+
+  pub filling-levels : levels h ≡ (Some (bytes_value shape bytes start) ∷ []) ∷ outer
+  unfolding levels
+  filling-levels =
+      ap (levels_at h.frames) filling-slots
+      ∙ levels_at-more h.room h.frames w.before (with_bytes shape bytes start w.before) (Some (bytes_value shape bytes start) ∷ []) w.own filling-adds
+      ∙ ap (λ ls. extended ls (Some (bytes_value shape bytes start) ∷ [])) w.above
+
+  filling-some : 0 < length h.slots.texts
+  filling-some = omega (arith, ap (λ (x : Slots). length x.texts) filling-slots, length_push w.before.texts (length w.before.bytes + length bytes))
+
+  more-slots : (more : List ℕ) → with_more more h.slots ≡ with_bytes shape (bytes ++ more) start w.before
+  more-slots more = ap (with_more more) filling-slots ∙ with_more-bytes more shape start bytes w.before
+
+  pub more-frames : (more : List ℕ) → AreBytes shape (bytes ++ more) start → AreLevels h.room h.frames (with_more more h.slots)
+  more-frames more are =
+      let longer = bytes ++ more in
+      subst (λ x. AreLevels h.room h.frames x) (sym (more-slots more))
+      (levels-more h.room h.frames w.before (with_bytes shape longer start w.before) (Some (bytes_value shape longer start) ∷ []) w.own
+      (bytes-adds h.room shape longer start w.before (levels-sound h.room h.frames w.before w.own) are w.may))
+
+-- more bytes of a value that has some, whose end is written anew
+pub more-placed : (h : Held) (shape : Shape) (more : List ℕ) (count end : ℕ) (bytes : List ℕ) → GoesOn h shape more → count ≡ length h.slots.texts → bytes ≡ h.slots.bytes ++ more → end ≡ length bytes →
+    record h.slots { texts = slice_set h.slots.texts (count - 1) end; bytes = bytes } ≡ with_more more h.slots
+more-placed h shape more count end bytes g all is last =
+    rw (last, is, all) (ap (λ ends. record h.slots { texts = ends; bytes = h.slots.bytes ++ more })
+    (last-set h.slots.texts (length (h.slots.bytes ++ more)) (filling-some h shape g.bytes g.start g.outer g.filling g.some)))
+
+-- what is known of a value under way
+pub filling-all : (h : Held) (shape : Shape) (bytes : List ℕ) (start : ℕ) (outer : Levels) → IsFilling h shape bytes start outer → AreLevels h.room h.frames h.slots
+filling-all h shape [] start outer w = subst (λ x. AreLevels h.room h.frames x) (sym w.is) w.own
+filling-all h shape (b ∷ bytes) start outer w = filling-frames h shape (b ∷ bytes) start outer w (omega arith)
+
+pub filling-empty : (h : Held) (shape : Shape) (start : ℕ) (outer : Levels) → IsFilling h shape [] start outer → levels h ≡ [] ∷ outer
+unfolding levels
+filling-empty h shape start outer w = ap (levels_at h.frames) w.is ∙ w.above
+
+-- it stands inside the outer levels
+pub filling-outer : (h : Held) (shape : Shape) (bytes : List ℕ) (start : ℕ) (outer : Levels) → IsFilling h shape bytes start outer → outer_of (levels h) ≡ outer
+filling-outer h shape [] start outer w = ap outer_of (filling-empty h shape start outer w)
+filling-outer h shape (b ∷ bytes) start outer w = ap outer_of (filling-levels h shape (b ∷ bytes) start outer w (omega arith))
+
+-- without bytes it has no node
+pub fresh-empty : (h : Held) (shape : Shape) (bytes : List ℕ) (start : ℕ) (outer : Levels) → IsFilling h shape bytes start outer → HasNoNode h → bytes ≡ []
+fresh-empty h shape [] start outer w e = refl
+fresh-empty h shape (b ∷ bytes) start outer w e =
+    let n : Node = record { start = start; content = length w.before.texts; shape = shape } in
+    absurd (omega (arith, e, w.none, ap (λ (x : Slots). length x.nodes) w.is, length_push w.before.nodes n))
+
+pub empty-fresh : (h : Held) (shape : Shape) (start : ℕ) (outer : Levels) → IsFilling h shape [] start outer → HasNoNode h
+empty-fresh h shape start outer w = ap (λ (x : Slots). length x.nodes) w.is ∙ w.none
+
+pub stale-some : (h : Held) (shape : Shape) (bytes : List ℕ) (start : ℕ) (outer : Levels) → IsFilling h shape bytes start outer → (HasNoNode h → ⊥) → 0 < length bytes
+stale-some h shape [] start outer w n = absurd (n (empty-fresh h shape start outer w))
+stale-some h shape (b ∷ bytes) start outer w n = omega arith
+
+-- more bytes of a value that is fresh, or not
+module _ (h : Held) (shape : Shape) (more bytes : List ℕ) (start : ℕ) (outer : Levels) (w : IsFilling h shape bytes start outer) where
+  pub fresh-filling : HasNoNode h → 0 < length more → AreBytes shape more start →
+      IsFilling (record { slots = with_bytes shape more start h.slots; frames = h.frames; room = h.room }) shape (bytes ++ more) start outer
+  fresh-filling e some are =
+      let none = fresh-empty h shape bytes start outer w e in
+      let w' : IsFilling h shape [] start outer = subst (λ bs. IsFilling h shape bs start outer) none w in
+      let u : IsFilling (record { slots = with_bytes shape more start h.slots; frames = h.frames; room = h.room }) shape ([] ++ more) start outer = record {
+        before = w'.before;
+        is = ap (with_bytes shape more start) w'.is ∙ sym (written-some shape more start w'.before some);
+        own = w'.own;
+        above = w'.above;
+        none = w'.none;
+        are = are;
+        may = w'.may;
+      } in
+      subst (λ bs. IsFilling (record { slots = with_bytes shape more start h.slots; frames = h.frames; room = h.room }) shape (bs ++ more) start outer) (sym none) u
+
+  pub stale-filling : (HasNoNode h → ⊥) → AreBytes shape (bytes ++ more) start → IsFilling (record { slots = with_more more h.slots; frames = h.frames; room = h.room }) shape (bytes ++ more) start outer
+  stale-filling n are =
+      let some = stale-some h shape bytes start outer w n in
+      let longer : 0 < length (bytes ++ more) = omega (arith, length-append bytes more) in
+      record {
+        before = w.before;
+        is = more-slots h shape bytes start outer w some more ∙ sym (written-some shape (bytes ++ more) start w.before longer);
+        own = w.own;
+        above = w.above;
+        none = w.none;
+        are = are;
+        may = w.may;
+      }
+
+  -- what the call for more bytes asks for
+  pub stale-goes_on : (HasNoNode h → ⊥) → AreBytes shape (bytes ++ more) start → GoesOn h shape more
+  stale-goes_on n are = record { bytes = bytes; start = start; outer = outer; filling = w; some = stale-some h shape bytes start outer w n; are = are }
+
+-- a value that is opened
+pub opened-filling : (n : Held) (shape : Shape) (start : ℕ) (outer : Levels) → AreBytes shape [] start → MayKeep n.room shape → HasNoNode n → AreLevels n.room n.frames n.slots → levels n ≡ [] ∷ outer → IsFilling n shape [] start outer
+unfolding levels
+opened-filling n shape start outer are may fresh all e = record { before = n.slots; is = refl; own = all; above = e; none = fresh; are = are; may = may }
+
+-- texts
+
+pub writing-levels : (h : Held) (bytes : List ℕ) (start : ℕ) (outer : Levels) → IsWriting h bytes start outer → 0 < length bytes → levels h ≡ text_level bytes start outer
+writing-levels h bytes start outer w some = filling-levels h Text bytes start outer w some
+
+pub writing-outer : (h : Held) (bytes : List ℕ) (start : ℕ) (outer : Levels) → IsWriting h bytes start outer → outer_of (levels h) ≡ outer
+writing-outer h bytes start outer w = filling-outer h Text bytes start outer w
+
+pub opened-writing : (h n : Held) (start : ℕ) → HasNoNode n → AreLevels n.room n.frames n.slots → levels n ≡ [] ∷ levels h → IsWriting n [] start (levels h)
+opened-writing h n start fresh all e = opened-filling n Text start (levels h) (lit< tt) tt fresh all e
 
 short-push : (bytes : List ℕ) (byte : ℕ) → IsShort (length bytes + 1) → IsShort (length (bytes ++ byte ∷ []))
 short-push bytes byte short = subst (λ n. IsShort n) (sym (length_push bytes byte)) short
 
-module _ (h : Held) (byte : ℕ) (bytes : List ℕ) (start : ℕ) (outer : Levels) (w : IsWriting h bytes start outer) (some : 0 < length bytes) where
-  pub byte-slots : with_byte byte h.slots ≡ with_text (bytes ++ byte ∷ []) start w.before
-  byte-slots = ap (with_byte byte) (w.is ∙ written-some bytes start w.before some) ∙ with_byte-text byte start bytes w.before
-
-  pub byte-frames : IsShort (length bytes + 1) → AreLevels h.frames (with_byte byte h.slots)
-  byte-frames short =
-      let more = bytes ++ byte ∷ [] in
-      subst (λ x. AreLevels h.frames x) (sym byte-slots)
-      (levels-more h.frames w.before (with_text more start w.before) (Some (text_value more start) ∷ []) w.own (text-adds more start w.before (levels-sound h.frames w.before w.own) (short-push bytes byte short)))
-
-  writing-some : 0 < length h.slots.texts
-  writing-some = omega (arith, ap (λ (x : Slots). length x.texts) (w.is ∙ written-some bytes start w.before some), length_push w.before.texts (length w.before.bytes + length bytes))
-
--- a byte more of a text that has some, whose end is written anew
-pub byte-placed : (h : Held) (byte count end : ℕ) (bytes : List ℕ) → GoesOn h → count ≡ length h.slots.texts → bytes ≡ h.slots.bytes ++ byte ∷ [] → end ≡ length bytes →
-    record h.slots { texts = slice_set h.slots.texts (count - 1) end; bytes = bytes } ≡ with_byte byte h.slots
-byte-placed h byte count end bytes g all more last =
-    rw (last, more, all) (ap (λ ends. record h.slots { texts = ends; bytes = h.slots.bytes ++ byte ∷ [] }) (last-set h.slots.texts (length (h.slots.bytes ++ byte ∷ [])) (writing-some h byte g.bytes g.start g.outer g.writing g.some)))
-
--- what is known of a text under way
-pub writing-all : (h : Held) (bytes : List ℕ) (start : ℕ) (outer : Levels) → IsWriting h bytes start outer → AreLevels h.frames h.slots
-writing-all h [] start outer w = subst (λ x. AreLevels h.frames x) (sym w.is) w.own
-writing-all h (b ∷ bytes) start outer w =
-    subst (λ x. AreLevels h.frames x) (sym w.is)
-    (levels-more h.frames w.before (with_text (b ∷ bytes) start w.before) (Some (text_value (b ∷ bytes) start) ∷ []) w.own (text-adds (b ∷ bytes) start w.before (levels-sound h.frames w.before w.own) w.short))
-
-pub writing-levels : (h : Held) (bytes : List ℕ) (start : ℕ) (outer : Levels) → IsWriting h bytes start outer → 0 < length bytes → levels h ≡ text_level bytes start outer
-unfolding levels
-writing-levels h bytes start outer w some =
-    ap (levels_at h.frames) (w.is ∙ written-some bytes start w.before some)
-    ∙ levels_at-more h.frames w.before (with_text bytes start w.before) (Some (text_value bytes start) ∷ []) w.own (text-adds bytes start w.before (levels-sound h.frames w.before w.own) w.short)
-    ∙ ap (λ ls. extended ls (Some (text_value bytes start) ∷ [])) w.above
-
-writing-empty : (h : Held) (start : ℕ) (outer : Levels) → IsWriting h [] start outer → levels h ≡ [] ∷ outer
-unfolding levels
-writing-empty h start outer w = ap (levels_at h.frames) w.is ∙ w.above
-
--- a text without bytes has no node
-fresh-empty : (h : Held) (bytes : List ℕ) (start : ℕ) (outer : Levels) → IsWriting h bytes start outer → HasNoNode h → bytes ≡ []
-fresh-empty h [] start outer w e = refl
-fresh-empty h (b ∷ bytes) start outer w e =
-    let within = (innermost-level h.frames w.before w.own).is.within.nodes in
-    let more = ap (λ (x : Slots). length x.nodes) w.is in
-    absurd (omega (arith, e, within, more, length_push w.before.nodes (record { start = start; content = length w.before.texts; shape = Text })))
-
-stale-some : (h : Held) (bytes : List ℕ) (start : ℕ) (outer : Levels) → IsWriting h bytes start outer → (HasNoNode h → ⊥) → 0 < length bytes
-stale-some h [] start outer w n =
-    let i = innermost-level h.frames w.before w.own in
-    let none : level_of (innermost h.frames) w.before ≡ [] = sym i.top ∙ ap top_of w.above in
-    let same = ap (λ (x : Slots). length x.nodes) w.is in
-    absurd (n (omega (arith, same, i.is.nodes, ap level_nodes none)))
-stale-some h (b ∷ bytes) start outer w n = omega arith
-
--- a byte more of a text that is fresh, or not
+-- a byte more of a text
 module _ (h : Held) (byte : ℕ) (bytes : List ℕ) (start : ℕ) (outer : Levels) (w : IsWriting h bytes start outer) where
   pub fresh-levels : HasNoNode h → pushed (levels h) (Some (text_value (byte ∷ []) start)) ≡ text_level (bytes ++ byte ∷ []) start outer
   fresh-levels e =
-      let none = fresh-empty h bytes start outer w e in
-      let w' : IsWriting h [] start outer = subst (λ bs. IsWriting h bs start outer) none w in
-      ap (λ ls. pushed ls (Some (text_value (byte ∷ []) start))) (writing-empty h start outer w') ∙ ap (λ bs. text_level (bs ++ byte ∷ []) start outer) (sym none)
-
-  pub fresh-writing : HasNoNode h → IsWriting (record { slots = with_text (byte ∷ []) start h.slots; frames = h.frames; room = h.room }) (bytes ++ byte ∷ []) start outer
-  fresh-writing e =
-      let none = fresh-empty h bytes start outer w e in
-      let w' : IsWriting h [] start outer = subst (λ bs. IsWriting h bs start outer) none w in
-      let u : IsWriting (record { slots = with_text (byte ∷ []) start h.slots; frames = h.frames; room = h.room }) ([] ++ byte ∷ []) start outer = record { before = w'.before; is = ap (with_text (byte ∷ []) start) w'.is; own = w'.own; above = w'.above; short = lit< tt } in
-      subst (λ bs. IsWriting (record { slots = with_text (byte ∷ []) start h.slots; frames = h.frames; room = h.room }) (bs ++ byte ∷ []) start outer) (sym none) u
-
-  pub stale-writing : (HasNoNode h → ⊥) → IsShort (length bytes + 1) → IsWriting (record { slots = with_byte byte h.slots; frames = h.frames; room = h.room }) (bytes ++ byte ∷ []) start outer
-  stale-writing n short =
-      let some = stale-some h bytes start outer w n in
-      let more : 0 < length (bytes ++ byte ∷ []) = omega (arith, length_push bytes byte) in
-      record {
-        before = w.before;
-        is = byte-slots h byte bytes start outer w some ∙ sym (written-some (bytes ++ byte ∷ []) start w.before more);
-        own = w.own;
-        above = w.above;
-        short = short-push bytes byte short;
-      }
+      let none = fresh-empty h Text bytes start outer w e in
+      let w' : IsWriting h [] start outer = subst (λ bs. IsFilling h Text bs start outer) none w in
+      ap (λ ls. pushed ls (Some (text_value (byte ∷ []) start))) (filling-empty h Text start outer w') ∙ ap (λ bs. text_level (bs ++ byte ∷ []) start outer) (sym none)
 
   pub stale-room : (HasNoNode h → ⊥) → FitsIn h.room (text_level (bytes ++ byte ∷ []) start outer) → length h.slots.bytes + 1 ≤ h.room.least
   unfolding levels
-  stale-room n fits = room-byte h.frames h.slots h.room start byte bytes outer (writing-all h bytes start outer w) (writing-levels h bytes start outer w (stale-some h bytes start outer w n)) fits
+  stale-room n fits = room-byte h.frames h.slots h.room start byte bytes outer (filling-all h Text bytes start outer w) (writing-levels h bytes start outer w (stale-some h Text bytes start outer w n)) fits
+
+  pub stale-byte : (HasNoNode h → ⊥) → IsShort (length bytes + 1) → GoesOn h Text (byte ∷ [])
+  stale-byte n short = stale-goes_on h Text (byte ∷ []) bytes start outer w n (short-push bytes byte short)
 
 -- the text is closed
 pub close-stale : (h : Held) (bytes : List ℕ) (start : ℕ) (outer : Levels) → IsWriting h bytes start outer → (HasNoNode h → ⊥) → levels h ≡ text_level bytes start outer
-close-stale h bytes start outer w n = writing-levels h bytes start outer w (stale-some h bytes start outer w n)
+close-stale h bytes start outer w n = writing-levels h bytes start outer w (stale-some h Text bytes start outer w n)
 
 pub close-fresh : (h : Held) (bytes : List ℕ) (start : ℕ) (outer : Levels) → IsWriting h bytes start outer → HasNoNode h → pushed (levels h) (Some (text_value [] start)) ≡ text_level bytes start outer
 close-fresh h bytes start outer w e =
-    let none = fresh-empty h bytes start outer w e in
-    let w' : IsWriting h [] start outer = subst (λ bs. IsWriting h bs start outer) none w in
-    ap (λ ls. pushed ls (Some (text_value [] start))) (writing-empty h start outer w') ∙ ap (λ bs. text_level bs start outer) (sym none)
+    let none = fresh-empty h Text bytes start outer w e in
+    let w' : IsWriting h [] start outer = subst (λ bs. IsFilling h Text bs start outer) none w in
+    ap (λ ls. pushed ls (Some (text_value [] start))) (filling-empty h Text start outer w') ∙ ap (λ bs. text_level bs start outer) (sym none)
 
 -- a text takes the same in its own level and in the one around it
 pub fits-closed : (room : Room) (bytes : List ℕ) (start : ℕ) (outer : Levels) → FitsIn room (pushed outer (Some (text_value bytes start))) → FitsIn room (text_level bytes start outer)
@@ -171,26 +228,23 @@ pub fresh-clause : {T E : Type 0} (r : Result T E) (h n : Held) (byte start : �
 fresh-clause (Ok x) h n byte start fresh e = λ bytes outer w short. e ∙ fresh-levels h byte bytes start outer w fresh
 fresh-clause (Err x) h n byte start fresh e = tt
 
-pub fresh-writes : {T E : Type 0} (r : Result T E) (h n : Held) (byte start : ℕ) → HasNoNode h → OnOk r (n ≡ record h { slots = with_text (byte ∷ []) start h.slots }) →
+pub fresh-writes : {T E : Type 0} (r : Result T E) (h n : Held) (byte start : ℕ) → HasNoNode h → OnOk r (n ≡ record h { slots = with_bytes Text (byte ∷ []) start h.slots }) →
     OnOk r ((bytes : List ℕ) (outer : Levels) → IsWriting h bytes start outer → IsShort (length bytes + 1) → IsWriting n (bytes ++ byte ∷ []) start outer)
-fresh-writes (Ok x) h n byte start fresh e = λ bytes outer w short. subst (λ u. IsWriting u (bytes ++ byte ∷ []) start outer) (sym e) (fresh-writing h byte bytes start outer w fresh)
+fresh-writes (Ok x) h n byte start fresh e = λ bytes outer w short.
+    subst (λ u. IsFilling u Text (bytes ++ byte ∷ []) start outer) (sym e) (fresh-filling h Text (byte ∷ []) bytes start outer w fresh (omega arith) (lit< tt))
 fresh-writes (Err x) h n byte start fresh e = tt
 
-pub stale-writes : {T E : Type 0} (r : Result T E) (h n : Held) (byte start : ℕ) → (HasNoNode h → ⊥) → OnOk r (n ≡ record h { slots = with_byte byte h.slots }) →
+pub stale-writes : {T E : Type 0} (r : Result T E) (h n : Held) (byte start : ℕ) → (HasNoNode h → ⊥) → OnOk r (n ≡ record h { slots = with_more (byte ∷ []) h.slots }) →
     OnOk r ((bytes : List ℕ) (outer : Levels) → IsWriting h bytes start outer → IsShort (length bytes + 1) → IsWriting n (bytes ++ byte ∷ []) start outer)
-stale-writes (Ok x) h n byte start stale e = λ bytes outer w short. subst (λ u. IsWriting u (bytes ++ byte ∷ []) start outer) (sym e) (stale-writing h byte bytes start outer w stale short)
+stale-writes (Ok x) h n byte start stale e = λ bytes outer w short.
+    subst (λ u. IsFilling u Text (bytes ++ byte ∷ []) start outer) (sym e) (stale-filling h Text (byte ∷ []) bytes start outer w stale (short-push bytes byte short))
 stale-writes (Err x) h n byte start stale e = tt
 
-pub stale-clause : {T E : Type 0} (r : Result T E) (h n : Held) (byte start : ℕ) → (HasNoNode h → ⊥) → OnOk r (n ≡ record h { slots = with_byte byte h.slots }) →
+pub stale-clause : {T E : Type 0} (r : Result T E) (h n : Held) (byte start : ℕ) → (HasNoNode h → ⊥) → OnOk r (n ≡ record h { slots = with_more (byte ∷ []) h.slots }) →
     OnOk r ((bytes : List ℕ) (outer : Levels) → IsWriting h bytes start outer → IsShort (length bytes + 1) → levels n ≡ text_level (bytes ++ byte ∷ []) start outer)
 stale-clause (Ok x) h n byte start stale e = λ bytes outer w short.
-    ap levels e ∙ writing-levels _ _ _ _ (stale-writing h byte bytes start outer w stale short) (omega (arith, length_push bytes byte))
+    ap levels e ∙ writing-levels _ _ _ _ (stale-filling h Text (byte ∷ []) bytes start outer w stale (short-push bytes byte short)) (omega (arith, length_push bytes byte))
 stale-clause (Err x) h n byte start stale e = tt
-
--- a text that is opened
-pub opened-writing : (h n : Held) (start : ℕ) → n.slots ≡ h.slots → AreLevels n.frames n.slots → levels n ≡ [] ∷ levels h → IsWriting n [] start (levels h)
-unfolding levels
-opened-writing h n start same all e = record { before = n.slots; is = refl; own = all; above = e; short = lit< tt }
 
 -- the levels of a text that is lifted
 pub lifted-text : (bytes : List ℕ) (start : ℕ) (outer ls : Levels) → ls ≡ text_level bytes start outer → extended (outer_of ls) (top_of ls) ≡ pushed outer (Some (text_value bytes start))
@@ -200,8 +254,3 @@ pub settled-clause : {T E : Type 0} (r : Result T E) (h n : Held) (start : ℕ) 
     OnOk r ((bytes : List ℕ) (outer : Levels) → IsWriting h bytes start outer → levels n ≡ text_level bytes start outer)
 settled-clause (Ok x) h n start fresh e = λ bytes outer w. e ∙ close-fresh h bytes start outer w fresh
 settled-clause (Err x) h n start fresh e = tt
-
--- a text under way stands inside the outer levels
-pub writing-outer : (h : Held) (bytes : List ℕ) (start : ℕ) (outer : Levels) → IsWriting h bytes start outer → outer_of (levels h) ≡ outer
-writing-outer h [] start outer w = ap outer_of (writing-empty h start outer w)
-writing-outer h (b ∷ bytes) start outer w = ap outer_of (writing-levels h (b ∷ bytes) start outer w (omega arith))

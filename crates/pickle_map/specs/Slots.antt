@@ -453,6 +453,7 @@ pub record IsFilling (h : Held) (shape : Shape) (bytes : List ℕ) (start : ℕ)
   pub is : h.slots ≡ written shape bytes start before
   pub own : AreLevels h.room h.frames before
   pub above : levels_at h.frames before ≡ [] ∷ outer
+  pub none : length before.nodes ≡ (innermost h.frames).nodes
   pub are : AreBytes shape bytes start
   pub may : MayKeep h.room shape
 
@@ -461,8 +462,9 @@ abbrev pub IsWriting : Held → List ℕ → (start : ℕ) → Levels → Type 0
 IsWriting h bytes start outer = IsFilling h Text bytes start outer
 
 -- the innermost open value is an array of packed numbers under way, of these so far
-abbrev pub IsPacking : Held → Shape → List ℕ → (start : ℕ) → Levels → Type 0
-IsPacking h shape numbers start outer = IsFilling h shape (packed (bytes_for (element_width shape)) numbers) start outer
+pub record IsPacking (h : Held) (shape : Shape) (numbers : List ℕ) (start : ℕ) (outer : Levels) : Type 0 where
+  pub filling : IsFilling h shape (packed (bytes_for (element_width shape)) numbers) start outer
+  pub below : All (λ n. n < 2 ^ element_width shape) numbers
 
 -- the innermost open value has no node yet
 abbrev pub HasNoNode : Held → Type 0

@@ -1,6 +1,6 @@
 ghost use Rattle.std.specs.Prelude.{◌≡◌, ◌+◌, ◌-◌, ◌<◌, ◌≤◌, ◌∷◌, [], length, max, take};
 ghost use Rattle.pickle_map.specs.Levels.{outer_of, top_of, extended};
-ghost use Rattle.pickle_map.specs.Slots.{Held, levels, cut_to, innermost, marks_of, AreLevels};
+ghost use Rattle.pickle_map.specs.Slots.{Held, levels, cut_to, innermost, marks_of, HasNoNode, AreLevels};
 
 use crate::store::Store;
 use crate::store::slots::Marks;
@@ -14,6 +14,7 @@ impl Store {
         ensures depth { length (levels self.new) ≡ length (levels self.old) + 1 }
         ensures slots { self.new.slots ≡ self.old.slots }
         ensures sound { AreLevels self.new.room self.new.frames self.new.slots }
+        ensures fresh { HasNoNode self.new }
     {
         let marks = self.marks();
         self.frames.push(marks);

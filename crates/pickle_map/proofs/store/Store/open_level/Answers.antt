@@ -1,4 +1,4 @@
-use Rattle.std.proofs.Common.{rules, ◌≡◌, ◌≤◌, ◌∷◌, ◌∙◌, ap, arith, length, reverse, lit<}
+use Rattle.std.proofs.Common.{refl, rules, ◌≡◌, ◌≤◌, ◌∷◌, ◌∙◌, ap, arith, length, reverse, lit<}
 use Rattle.std.proofs.lemmas.List.{length-reverse}
 use Rattle.pickle_map.specs.Slots.{levels, marks_of}
 use Rattle.pickle_map.specs.contracts.store.Store.{the_view}
@@ -42,3 +42,9 @@ pub returns-clause-depth : goal.returns-clause-depth
 returns-clause-depth c =
     let e : reverse c.push.new.self.items ≡ c.marks-marks.result ∷ (the_view c.self.inside).frames = ap reverse c.push.ensures.items ∙ reverse-push c.self.inside.frames.items c.marks-marks.result in
     rw (← c.self.view_is) (depth-open (the_view c.self.inside) _ c.marks-marks.result e)
+
+pub returns-clause-fresh : goal.returns-clause-fresh
+returns-clause-fresh c =
+    let m : c.marks-marks.result ≡ marks_of (the_view c.self.inside).slots = search rules in
+    let e : reverse c.push.new.self.items ≡ marks_of (the_view c.self.inside).slots ∷ (the_view c.self.inside).frames = ap reverse c.push.ensures.items ∙ reverse-push c.self.inside.frames.items c.marks-marks.result ∙ ap (λ k. k ∷ (the_view c.self.inside).frames) m in
+    rw e refl

@@ -1,43 +1,48 @@
-use Rattle.std.proofs.Common.{refl, rules, ◌≡◌, arith}
-use Rattle.pickle_map.specs.Slots.{Slots, with_text}
+use Rattle.std.proofs.Common.{refl, rules, ◌≡◌, subst, sym, arith}
+use Rattle.pickle_map.specs.Slots.{Slots, Held, MayKeep, with_bytes}
 use Rattle.pickle_map.specs.contracts.store.Store.{the_view}
 use Rattle.pickle_map.proofs.Held.{texts-few}
-use Rattle.pickle_map.proofs.Writing.{text-frames, text-levels, text-room}
+use Rattle.pickle_map.proofs.Writing.{bytes-frames, bytes-levels, bytes-room}
 use Rattle.pickle_map.proofs.Held.{depth-same}
 use Rattle.pickle_map.proofs.store.Store.place_bytes.Goals as goal
 
 pub returns-in_err-reserve-clause-succeeds : goal.returns-in_err-reserve-clause-succeeds
 returns-in_err-reserve-clause-succeeds c =
+    let may : MayKeep (the_view c.self.inside).room c.args.shape = subst (λ (h : Held). MayKeep h.room c.args.shape) (sym c.self.view_is) c.requires.may in
     rw (← c.self.view_is) (λ fits.
-    let r = text-room (the_view c.self.inside) c.args.bytes.now c.args.start c.self.invariant.levels c.requires.short fits in
+    let r = bytes-room (the_view c.self.inside) c.args.shape c.args.bytes.now c.args.start c.self.invariant.levels c.requires.are may fits in
     absurd (omega (arith, r.nodes, c.in_err-reserve.ensures.full)))
 
 pub returns-in_err-reserve-2-clause-succeeds : goal.returns-in_err-reserve-2-clause-succeeds
 returns-in_err-reserve-2-clause-succeeds c =
+    let may : MayKeep (the_view c.self.inside).room c.args.shape = subst (λ (h : Held). MayKeep h.room c.args.shape) (sym c.self.view_is) c.requires.may in
     rw (← c.self.view_is) (λ fits.
-    let r = text-room (the_view c.self.inside) c.args.bytes.now c.args.start c.self.invariant.levels c.requires.short fits in
+    let r = bytes-room (the_view c.self.inside) c.args.shape c.args.bytes.now c.args.start c.self.invariant.levels c.requires.are may fits in
     absurd (omega (arith, r.pending, c.in_err-reserve-2.ensures.full)))
 
 pub returns-in_err-reserve-3-clause-succeeds : goal.returns-in_err-reserve-3-clause-succeeds
 returns-in_err-reserve-3-clause-succeeds c =
+    let may : MayKeep (the_view c.self.inside).room c.args.shape = subst (λ (h : Held). MayKeep h.room c.args.shape) (sym c.self.view_is) c.requires.may in
     rw (← c.self.view_is) (λ fits.
-    let r = text-room (the_view c.self.inside) c.args.bytes.now c.args.start c.self.invariant.levels c.requires.short fits in
+    let r = bytes-room (the_view c.self.inside) c.args.shape c.args.bytes.now c.args.start c.self.invariant.levels c.requires.are may fits in
     let few = texts-few (the_view c.self.inside) c.self.invariant.levels in
     absurd (omega (arith, r.nodes, few, c.in_err-reserve-3.ensures.full)))
 
 pub returns-in_err-reserve-4-clause-succeeds : goal.returns-in_err-reserve-4-clause-succeeds
 returns-in_err-reserve-4-clause-succeeds c =
+    let may : MayKeep (the_view c.self.inside).room c.args.shape = subst (λ (h : Held). MayKeep h.room c.args.shape) (sym c.self.view_is) c.requires.may in
     rw (← c.self.view_is) (λ fits.
-    let r = text-room (the_view c.self.inside) c.args.bytes.now c.args.start c.self.invariant.levels c.requires.short fits in
+    let r = bytes-room (the_view c.self.inside) c.args.shape c.args.bytes.now c.args.start c.self.invariant.levels c.requires.are may fits in
     absurd (omega (arith, r.bytes, c.in_err-reserve-4.ensures.full)))
 
 pub invariant_of-self-2 : goal.invariant_of-self-2
 invariant_of-self-2 c =
+    let may : MayKeep (the_view c.self.inside).room c.args.shape = subst (λ (h : Held). MayKeep h.room c.args.shape) (sym c.self.view_is) c.requires.may in
     let s = (the_view c.self.inside).slots in
     let t : Slots = record { nodes = c.push_reserved-3.new.self.items; families = s.families; links = s.links; pending = c.push_reserved-2.new.self.items; texts = c.push_reserved.new.self.items; bytes = c.append.new.to.items } in
-    let e : t ≡ with_text c.args.bytes.now c.args.start s = search rules in
+    let e : t ≡ with_bytes c.args.shape c.args.bytes.now c.args.start s = search rules in
     record {
-      levels = rw e (text-frames (the_view c.self.inside) c.args.bytes.now c.args.start c.self.invariant.levels c.requires.short);
+      levels = rw e (bytes-frames (the_view c.self.inside) c.args.shape c.args.bytes.now c.args.start c.self.invariant.levels c.requires.are may);
       nodes = search rules;
       families = search rules;
       links = search rules;
@@ -56,10 +61,11 @@ invariant_of-self-2 c =
 
 pub returns-clause-levels : goal.returns-clause-levels
 returns-clause-levels c =
+    let may : MayKeep (the_view c.self.inside).room c.args.shape = subst (λ (h : Held). MayKeep h.room c.args.shape) (sym c.self.view_is) c.requires.may in
     let s = (the_view c.self.inside).slots in
     let t : Slots = record { nodes = c.push_reserved-3.new.self.items; families = s.families; links = s.links; pending = c.push_reserved-2.new.self.items; texts = c.push_reserved.new.self.items; bytes = c.append.new.to.items } in
-    let e : t ≡ with_text c.args.bytes.now c.args.start s = search rules in
-    rw (← c.self.view_is) (rw e (text-levels (the_view c.self.inside) c.args.bytes.now c.args.start c.self.invariant.levels c.requires.short))
+    let e : t ≡ with_bytes c.args.shape c.args.bytes.now c.args.start s = search rules in
+    rw (← c.self.view_is) (rw e (bytes-levels (the_view c.self.inside) c.args.shape c.args.bytes.now c.args.start c.self.invariant.levels c.requires.are may))
 
 pub returns-clause-depth : goal.returns-clause-depth
 returns-clause-depth c = rw (← c.self.view_is) (depth-same _ _ refl)
