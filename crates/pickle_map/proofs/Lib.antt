@@ -51,4 +51,5 @@ pub mod Clauses
 pub mod Placing
 pub mod Texts
 pub mod Mapping
+pub mod Row
 pub mod Stopped

@@ -1,0 +1,33 @@
+use Rattle.std.proofs.Common.{◌≡◌, ℕ, ◌+◌, ◌-◌, ◌*◌, ◌≤◌, ◌<◌, max, List, length}
+use Rattle.pickle_types.specs.Bounds.{least_width, count_of}
+use Rattle.pickle_types.specs.Table.{type_of}
+use Rattle.pickle_map.specs.Framed.{Runs}
+use Rattle.pickle_map.specs.Follows.{Partly}
+use Rattle.pickle_map.specs.Levels as stored
+use Rattle.pickle_map.specs.Mapping.{plan, elements_plan}
+use Rattle.pickle_map.specs.Row.{row_levels}
+use Rattle.pickle_map.specs.Shown.{kept}
+use Rattle.pickle_map.specs.Slots.{levels, element_width, IsPacking}
+use Rattle.pickle_map.proofs.mapper.row.map_packed.Given as goal
+
+abbrev pub decreases-loop-shape : goal.decreases-loop-shape
+decreases-loop-shape g l = 8 * (g.S.Space.view l.initial.space).len - l.place
+
+abbrev pub invariant-loop-shape : goal.invariant-loop-shape
+invariant-loop-shape g l = record {
+  limit : l.meter.limit ≡ l.initial.meter.limit;
+  len : (g.S.Space.view l.space).len ≡ (g.S.Space.view l.initial.space).len;
+  bytes : (g.S.Space.view l.space).bytes ≡ (g.S.Space.view l.initial.space).bytes;
+  failures : (g.S.Space.view l.initial.space).failures ≤ (g.S.Space.view l.space).failures;
+  room : l.store.room ≡ l.initial.store.room;
+  made : l.meter.made + l.initial.meter.steps ≤ l.initial.meter.made + l.meter.steps;
+  after : l.start ≤ l.place;
+  inside : l.place ≤ 8 * (g.S.Space.view l.initial.space).len;
+  depth : length (levels l.store) ≡ length (levels l.initial.store);
+  counted : l.count + l.start ≤ l.place;
+  so_far : (numbers : List ℕ) × (n : ℕ) × (8 * (g.S.Space.view l.initial.space).len < l.place + n * max 1 (least_width (type_of l.nodes l.element))) ×
+      (l.place ≡ l.start + element_width l.shape * length numbers) × (l.count ≡ length numbers) × IsPacking l.store l.shape numbers l.start (stored.outer_of (levels l.initial.store)) ×
+      Runs (g.S.Space.view l.initial.space) l.initial.meter l.meter l.initial.store
+      (elements_plan (plan (8 * (g.S.Space.view l.initial.space).len) (type_of l.nodes l.element) l.order) (8 * (g.S.Space.view l.initial.space).len) l.start l.extent (count_of (8 * (g.S.Space.view l.initial.space).len) (least_width (type_of l.nodes l.element))) 0 (kept l.nodes l.initial.store) l.start)
+      (Partly (elements_plan (plan (8 * (g.S.Space.view l.initial.space).len) (type_of l.nodes l.element) l.order) (8 * (g.S.Space.view l.initial.space).len) l.start l.extent n l.count (row_levels l.nodes l.shape numbers l.start (stored.outer_of (levels l.initial.store))) l.place));
+}
