@@ -1,11 +1,9 @@
 -- What an array of packed numbers lends.
-use Rattle.std.proofs.Common.{◌≡◌, ℕ, zero, suc, ◌+◌, ◌-◌, ◌*◌, ◌/◌, ◌<◌, ◌≤◌, ◌^◌, List, [], ◌∷◌, Option, Some, None, length, take, drop, get_or, pow_mono, refl, sym, ◌∙◌, ap, subst, arith, rules}
-use Rattle.std.specs.Prelude.{◌%◌, slice_range, slice_get, slice_index, slice_index_or, unwrap_or}
+use Rattle.std.proofs.Common.{◌≡◌, ℕ, zero, suc, ◌+◌, ◌-◌, ◌*◌, ◌/◌, ◌<◌, ◌≤◌, ◌^◌, List, [], ◌∷◌, Some, length, take, drop, pow_mono, refl, sym, ◌∙◌, ap, subst, arith, rules}
+use Rattle.std.specs.Prelude.{◌%◌, slice_range, slice_get, slice_index, slice_index_or}
 use Rattle.std.proofs.lemmas.List.{drop-drop, get_or-drop, drop_more, length-drop}
 use Rattle.std.proofs.lemmas.Nat.{pow-add, div-add-mod', mul-le}
-use Rattle.std.proofs.lemmas.Option.{slice_get_past}
 use Rattle.pickle_map.specs.declared.store.slots.Shape.{Shape}
-use Rattle.pickle_map.specs.Tree.{Value}
 use Rattle.pickle_map.specs.Packed.{bytes_number, unpacked, numbers_in, bytes_for}
 use Rattle.pickle_map.specs.Slots.{elements, element_value, element_width}
 

@@ -1,6 +1,6 @@
 -- What the parts of a node are.
-use Rattle.std.proofs.Common.{◌≡◌, ℕ, ◌+◌, ◌*◌, ◌<◌, ◌≤◌, ◌⊎◌, inl, inr, Bool, List, Option, Some, None, length, map, refl, sym, ◌∙◌, ap, subst, arith}
-use Rattle.std.specs.Prelude.{slice_get, slice_index, unwrap_or, IfSome}
+use Rattle.std.proofs.Common.{◌≡◌, ℕ, ◌<◌, ◌≤◌, ◌⊎◌, inl, inr, Bool, List, Option, Some, None, length, map, refl, sym, ◌∙◌, ap, subst, arith}
+use Rattle.std.specs.Prelude.{slice_get, unwrap_or, IfSome}
 use Rattle.std.specs.Option.{option_map}
 use Rattle.std.proofs.lemmas.List.{length-map}
 use Rattle.std.proofs.lemmas.Option.{slice_get_past, slice_get_within, slice_get-map}
@@ -8,7 +8,7 @@ use Rattle.pickle_map.specs.declared.store.slots.Node.{Node}
 use Rattle.pickle_map.specs.declared.store.slots.Place.TheVariants as place
 use Rattle.pickle_map.specs.declared.store.slots.Shape.{Shape}
 use Rattle.pickle_map.specs.declared.store.slots.Shape.TheVariants.{Integer, Offset, Text, Integers, Offsets, Array, Struct, Union}
-use Rattle.pickle_map.specs.Slots.{Slots, opened, links_of, parts_in, trees, value_at, row_numbers, elements, element_value, element_width, IsPacked, IsContent, IsRead}
+use Rattle.pickle_map.specs.Slots.{Slots, opened, links_of, parts_in, trees, value_at, row_numbers, elements, element_width, IsPacked, IsContent, IsRead}
 use Rattle.pickle_map.specs.Tree.{Value, parts, part_at}
 use Rattle.pickle_map.specs.Linked.{node_links, links_from}
 use Rattle.pickle_map.specs.Lent.{place_value, numbers_of, element_in, packed_count, element_count, IsPlace}

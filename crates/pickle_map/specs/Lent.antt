@@ -1,5 +1,5 @@
 -- The values that a store lends: those of its nodes, and the elements of its arrays of packed numbers.
-use Rattle.std.specs.Prelude.{ℕ, zero, suc, ◌+◌, ◌*◌, ◌<◌, length, List, [], Option, Some, None, slice_get, slice_index}
+use Rattle.std.specs.Prelude.{ℕ, suc, ◌+◌, ◌*◌, ◌<◌, length, List, [], Option, Some, None, slice_get, slice_index}
 use Rattle.pickle_map.specs.declared.store.slots.Node.{Node}
 use Rattle.pickle_map.specs.declared.store.slots.Place.{Place}
 use Rattle.pickle_map.specs.declared.store.slots.Place.TheVariants as place

@@ -1,5 +1,5 @@
-use Rattle.std.proofs.Common.{◌≡◌, ◌/◌, length, sym, ap, ◌∙◌}
-use Rattle.pickle_map.specs.Packed.{numbers_in, bytes_for}
+use Rattle.std.proofs.Common.{◌/◌, length, sym, ap, ◌∙◌}
+use Rattle.pickle_map.specs.Packed.{numbers_in}
 use Rattle.pickle_map.proofs.Lent.{length-numbers}
 use Rattle.pickle_map.proofs.store.Store.count_packed.Goals as goal
 

@@ -1,5 +1,5 @@
 use Rattle.std.proofs.Common.{◌≡◌, ◌+◌, ◌*◌, ◌<◌, ◌≤◌, length, slice_index, subst, sym, ap, ◌∙◌, arith, rules}
-use Rattle.pickle_map.specs.Packed.{numbers_in, bytes_number}
+use Rattle.pickle_map.specs.Packed.{numbers_in}
 use Rattle.pickle_map.proofs.Lent.{number_within, number-at, byte-at, byte_within}
 use Rattle.pickle_map.proofs.store.Store.packed_number.Goals as goal
 
