@@ -1,5 +1,5 @@
 -- Arrays of packed numbers under way.
-use Rattle.std.proofs.Common.{◌≡◌, ℕ, ◌+◌, ◌*◌, ◌^◌, ◌<◌, ◌≤◌, true, List, [], ◌∷◌, ◌++◌, Some, Result, Ok, Err, OnOk, length, take, refl, sym, ◌∙◌, ap, subst, arith}
+use Rattle.std.proofs.Common.{◌≡◌, ℕ, ◌+◌, ◌*◌, ◌^◌, ◌<◌, ◌≤◌, true, List, [], ◌∷◌, ◌++◌, Some, Result, Ok, Err, OnOk, length, take, sym, ◌∙◌, ap, subst, arith}
 use Rattle.std.specs.Prelude.{All}
 use Rattle.std.specs.Int.{to_le_bytes, w64}
 use Rattle.std.proofs.Math.Nat.{mul-zero, mul-le-mul_left}
@@ -10,7 +10,7 @@ use Rattle.pickle_map.specs.declared.store.slots.Shape.{Shape}
 use Rattle.pickle_map.specs.declared.store.slots.Shape.TheVariants.{Integer, Offset, Text, Integers, Offsets, Array, Struct, Union}
 use Rattle.pickle_map.specs.Packed.{bytes_for, number_bytes, packed, numbers_in}
 use Rattle.pickle_map.specs.Levels.{Levels, top_of, outer_of, extended, pushed}
-use Rattle.pickle_map.specs.Slots.{Held, packs, levels, AreLevels, IsPacked, element_width, row_value, AreNumbers, with_bytes, with_more, AreBytes, bytes_value, MayKeep, HasNoNode, IsFilling, IsPacking, IsRowOf, TakesNumber, GoesOn}
+use Rattle.pickle_map.specs.Slots.{Held, packs, levels, AreLevels, IsPacked, element_width, row_value, AreNumbers, with_bytes, with_more, AreBytes, bytes_value, MayKeep, HasNoNode, IsFilling, IsPacking, GoesOn}
 use Rattle.pickle_map.proofs.Packed.{length-number_bytes, le_bytes-take, packed-push, numbers_in-packed, packed-none, bytes_for-some, bytes_for-most}
 use Rattle.pickle_map.proofs.Writing.{filling-levels, filling-empty, filling-outer, fresh-empty, empty-fresh, stale-some, fresh-filling, stale-filling, stale-goes_on, opened-filling}
 
