@@ -94,7 +94,8 @@ module _ (h : Held) (shape : Shape) (bytes : List ℕ) (start : ℕ) (outer : Le
       (bytes-adds h.room shape longer start w.before (levels-sound h.room h.frames w.before w.own) are w.may))
 
 -- more bytes of a value that has some, whose end is written anew
-pub more-placed : (h : Held) (shape : Shape) (more : List ℕ) (count end : ℕ) (bytes : List ℕ) → GoesOn h shape more → count ≡ length h.slots.texts → bytes ≡ h.slots.bytes ++ more → end ≡ length bytes →
+pub more-placed : (h : Held) (shape : Shape) (more : List ℕ) (count end : ℕ) (bytes : List ℕ) → GoesOn h shape more →
+    count ≡ length h.slots.texts → bytes ≡ h.slots.bytes ++ more → end ≡ length bytes →
     record h.slots { texts = slice_set h.slots.texts (count - 1) end; bytes = bytes } ≡ with_more more h.slots
 more-placed h shape more count end bytes g all is last =
     rw (last, is, all) (ap (λ ends. record h.slots { texts = ends; bytes = h.slots.bytes ++ more })
@@ -146,7 +147,8 @@ module _ (h : Held) (shape : Shape) (more bytes : List ℕ) (start : ℕ) (outer
       } in
       subst (λ bs. IsFilling (record { slots = with_bytes shape more start h.slots; frames = h.frames; room = h.room }) shape (bs ++ more) start outer) (sym none) u
 
-  pub stale-filling : (HasNoNode h → ⊥) → AreBytes shape (bytes ++ more) start → IsFilling (record { slots = with_more more h.slots; frames = h.frames; room = h.room }) shape (bytes ++ more) start outer
+  pub stale-filling : (HasNoNode h → ⊥) → AreBytes shape (bytes ++ more) start →
+      IsFilling (record { slots = with_more more h.slots; frames = h.frames; room = h.room }) shape (bytes ++ more) start outer
   stale-filling n are =
       let some = stale-some h shape bytes start outer w n in
       let longer : 0 < length (bytes ++ more) = omega (arith, length-append bytes more) in
@@ -165,7 +167,8 @@ module _ (h : Held) (shape : Shape) (more bytes : List ℕ) (start : ℕ) (outer
   stale-goes_on n are = record { bytes = bytes; start = start; outer = outer; filling = w; some = stale-some h shape bytes start outer w n; are = are }
 
 -- a value that is opened
-pub opened-filling : (n : Held) (shape : Shape) (start : ℕ) (outer : Levels) → AreBytes shape [] start → MayKeep n.room shape → HasNoNode n → AreLevels n.room n.frames n.slots → levels n ≡ [] ∷ outer → IsFilling n shape [] start outer
+pub opened-filling : (n : Held) (shape : Shape) (start : ℕ) (outer : Levels) → AreBytes shape [] start → MayKeep n.room shape → HasNoNode n →
+    AreLevels n.room n.frames n.slots → levels n ≡ [] ∷ outer → IsFilling n shape [] start outer
 unfolding levels
 opened-filling n shape start outer are may fresh all e = record { before = n.slots; is = refl; own = all; above = e; none = fresh; are = are; may = may }
 
