@@ -1,5 +1,5 @@
 -- Arrays of packed numbers under way.
-use Rattle.std.proofs.Common.{◌≡◌, ℕ, ◌+◌, ◌*◌, ◌^◌, ◌<◌, ◌≤◌, true, List, [], ◌∷◌, ◌++◌, Some, Result, Ok, Err, OnOk, length, take, refl, sym, ◌∙◌, ap, subst, arith}
+use Rattle.std.proofs.Common.{◌≡◌, ℕ, ◌+◌, ◌*◌, ◌^◌, ◌<◌, ◌≤◌, true, List, [], ◌∷◌, ◌++◌, Some, Result, Ok, Err, OnOk, length, take, sym, ◌∙◌, ap, subst, arith}
 use Rattle.std.specs.Prelude.{All}
 use Rattle.std.specs.Int.{to_le_bytes, w64}
 use Rattle.std.proofs.Math.Nat.{mul-zero, mul-le-mul_left}
@@ -10,7 +10,7 @@ use Rattle.pickle_map.specs.declared.store.slots.Shape.{Shape}
 use Rattle.pickle_map.specs.declared.store.slots.Shape.TheVariants.{Integer, Offset, Text, Integers, Offsets, Array, Struct, Union}
 use Rattle.pickle_map.specs.Packed.{bytes_for, number_bytes, packed, numbers_in}
 use Rattle.pickle_map.specs.Levels.{Levels, top_of, outer_of, extended, pushed}
-use Rattle.pickle_map.specs.Slots.{Held, packs, levels, AreLevels, IsPacked, element_width, row_value, AreNumbers, with_bytes, with_more, AreBytes, bytes_value, MayKeep, HasNoNode, IsFilling, IsPacking, IsRowOf, TakesNumber, GoesOn}
+use Rattle.pickle_map.specs.Slots.{Held, packs, levels, AreLevels, IsPacked, element_width, row_value, AreNumbers, with_bytes, with_more, AreBytes, bytes_value, MayKeep, HasNoNode, IsFilling, IsPacking, GoesOn}
 use Rattle.pickle_map.proofs.Packed.{length-number_bytes, le_bytes-take, packed-push, numbers_in-packed, packed-none, bytes_for-some, bytes_for-most}
 use Rattle.pickle_map.proofs.Writing.{filling-levels, filling-empty, filling-outer, fresh-empty, empty-fresh, stale-some, fresh-filling, stale-filling, stale-goes_on, opened-filling}
 
@@ -23,7 +23,8 @@ are-numbers : (width : ℕ) (numbers : List ℕ) (start : ℕ) → 1 ≤ width �
 are-numbers width numbers start some most below short =
     subst (λ ns. AreNumbers width ns start) (sym (numbers_in-packed width numbers some below)) (record { some = some; most = most; short = short; below = below })
 
-pub row-are : (shape : Shape) (numbers : List ℕ) (start : ℕ) → IsPacked shape → All (λ n. n < 2 ^ element_width shape) numbers → start + element_width shape * length numbers < 2 ^ 64 → AreBytes shape (row_bytes shape numbers) start
+pub row-are : (shape : Shape) (numbers : List ℕ) (start : ℕ) → IsPacked shape → All (λ n. n < 2 ^ element_width shape) numbers →
+    start + element_width shape * length numbers < 2 ^ 64 → AreBytes shape (row_bytes shape numbers) start
 row-are (Integer w g) numbers start p below short = absurd p
 row-are (Offset w g u) numbers start p below short = absurd p
 row-are Text numbers start p below short = absurd p
@@ -33,7 +34,8 @@ row-are Array numbers start p below short = absurd p
 row-are (Struct t) numbers start p below short = absurd p
 row-are (Union i t) numbers start p below short = absurd p
 
-pub row-is : (shape : Shape) (numbers : List ℕ) (start : ℕ) → IsPacked shape → All (λ n. n < 2 ^ element_width shape) numbers → bytes_value shape (row_bytes shape numbers) start ≡ row_value shape numbers start
+pub row-is : (shape : Shape) (numbers : List ℕ) (start : ℕ) → IsPacked shape → All (λ n. n < 2 ^ element_width shape) numbers →
+    bytes_value shape (row_bytes shape numbers) start ≡ row_value shape numbers start
 row-is (Integer w g) numbers start p below = absurd p
 row-is (Offset w g u) numbers start p below = absurd p
 row-is Text numbers start p below = absurd p
@@ -64,7 +66,8 @@ row-width (Struct t) p = absurd p
 row-width (Union i t) p = absurd p
 
 -- an array that is opened
-pub row-opened : (n : Held) (shape : Shape) (start : ℕ) (outer : Levels) → IsPacked shape → packs n.room ≡ true → start < 2 ^ 64 → HasNoNode n → AreLevels n.room n.frames n.slots → levels n ≡ [] ∷ outer → IsPacking n shape [] start outer
+pub row-opened : (n : Held) (shape : Shape) (start : ℕ) (outer : Levels) → IsPacked shape → packs n.room ≡ true → start < 2 ^ 64 → HasNoNode n →
+    AreLevels n.room n.frames n.slots → levels n ≡ [] ∷ outer → IsPacking n shape [] start outer
 row-opened n shape start outer p e short fresh all is =
     let below : All (λ n. n < 2 ^ element_width shape) [] = λ k d h. absurd (omega arith) in
     let are : AreBytes shape [] start = row-are shape [] start p below (omega (arith, mul-zero (element_width shape))) in
@@ -86,7 +89,8 @@ packing-stale h shape numbers start outer w e =
     empty-fresh h shape start outer (subst (λ ns. IsFilling h shape (row_bytes shape ns) start outer) e w.filling)
 
 -- a number more
-module _ (h : Held) (shape : Shape) (digits : ℕ) (numbers : List ℕ) (start : ℕ) (outer : Levels) (w : IsPacking h shape numbers start outer) (p : IsPacked shape) (small : digits < 2 ^ element_width shape) (short : start + element_width shape * (length numbers + 1) < 2 ^ 64) where
+module _ (h : Held) (shape : Shape) (digits : ℕ) (numbers : List ℕ) (start : ℕ) (outer : Levels) (w : IsPacking h shape numbers start outer) (p : IsPacked shape)
+    (small : digits < 2 ^ element_width shape) (short : start + element_width shape * (length numbers + 1) < 2 ^ 64) where
   more-below : All (λ n. n < 2 ^ element_width shape) (numbers ++ digits ∷ [])
   more-below = All-push (λ n. n < 2 ^ element_width shape) numbers digits w.below small
 
@@ -104,7 +108,8 @@ module _ (h : Held) (shape : Shape) (digits : ℕ) (numbers : List ℕ) (start :
   pub stale-row : (HasNoNode h → ⊥) → GoesOn h shape (number_bytes (bytes_for (element_width shape)) digits)
   stale-row n = stale-goes_on h shape (number_bytes (bytes_for (element_width shape)) digits) (row_bytes shape numbers) start outer w.filling n more-are
 
-pub one-are : (shape : Shape) (digits numbers_count start : ℕ) → IsPacked shape → digits < 2 ^ element_width shape → start + element_width shape * (numbers_count + 1) < 2 ^ 64 → AreBytes shape (number_bytes (bytes_for (element_width shape)) digits) start
+pub one-are : (shape : Shape) (digits numbers_count start : ℕ) → IsPacked shape → digits < 2 ^ element_width shape →
+    start + element_width shape * (numbers_count + 1) < 2 ^ 64 → AreBytes shape (number_bytes (bytes_for (element_width shape)) digits) start
 one-are shape digits count start p small short =
     let own = number_bytes (bytes_for (element_width shape)) digits in
     let below : All (λ n. n < 2 ^ element_width shape) (digits ∷ []) = All-push (λ n. n < 2 ^ element_width shape) [] digits (λ k d h. absurd (omega arith)) small in
@@ -118,36 +123,46 @@ own-bytes shape width digits count bytes p same counts is =
     let counted : count ≡ bytes_for (element_width shape) = counts ∙ ap (λ w. bytes_for w) same in
     rw (counted, is) (le_bytes-take (bytes_for (element_width shape)) digits (bytes_for-most (element_width shape) (row-width shape p).1))
 
--- the clauses of the calls
-module _ {T E : Type 0} (r : Result T E) (h n : Held) (shape : Shape) (width digits start : ℕ) (own : List ℕ) (p : IsPacked shape) (same : width ≡ element_width shape) (small : digits < 2 ^ width) (is : own ≡ number_bytes (bytes_for (element_width shape)) digits) where
-  pub fresh-packs : HasNoNode h → OnOk r (n ≡ record h { slots = with_bytes shape own start h.slots }) →
-      OnOk r ((numbers : List ℕ) (outer : Levels) → IsPacking h shape numbers start outer → start + width * (length numbers + 1) < 2 ^ 64 → IsPacking n shape (numbers ++ digits ∷ []) start outer)
-  fresh-packs fresh e = elim r as (λ r. OnOk r (n ≡ record h { slots = with_bytes shape own start h.slots }) → OnOk r ((numbers : List ℕ) (outer : Levels) → IsPacking h shape numbers start outer → start + width * (length numbers + 1) < 2 ^ 64 → IsPacking n shape (numbers ++ digits ∷ []) start outer)) [
-    | Ok x ↦ λ e numbers outer w short.
-        let short : start + element_width shape * (length numbers + 1) < 2 ^ 64 = subst (λ m. start + m * (length numbers + 1) < 2 ^ 64) same short in
-        let small : digits < 2 ^ element_width shape = subst (λ m. digits < 2 ^ m) same small in
-        let bytes = number_bytes (bytes_for (element_width shape)) digits in
-        let some : 0 < length bytes = omega (arith, length-number_bytes (bytes_for (element_width shape)) digits, bytes_for-some (element_width shape) (row-width shape p).0) in
-        let e : n ≡ record h { slots = with_bytes shape bytes start h.slots } = subst (λ bs. n ≡ record h { slots = with_bytes shape bs start h.slots }) is e in
-        more-packing h shape digits numbers start outer w p small short n
-        (subst (λ u. IsFilling u shape (row_bytes shape numbers ++ bytes) start outer) (sym e)
-        (fresh-filling h shape bytes (row_bytes shape numbers) start outer w.filling fresh some (one-are shape digits (length numbers) start p small short)))
-    | Err x ↦ λ e. tt
-  ] e
+-- the array under way takes the digits
+abbrev Takes : (h n : Held) → Shape → (width digits start : ℕ) → Type 0
+Takes h n shape width digits start = (numbers : List ℕ) (outer : Levels) → IsPacking h shape numbers start outer →
+    start + width * (length numbers + 1) < 2 ^ 64 → IsPacking n shape (numbers ++ digits ∷ []) start outer
 
-  pub stale-packs : (HasNoNode h → ⊥) → OnOk r (n ≡ record h { slots = with_more own h.slots }) →
-      OnOk r ((numbers : List ℕ) (outer : Levels) → IsPacking h shape numbers start outer → start + width * (length numbers + 1) < 2 ^ 64 → IsPacking n shape (numbers ++ digits ∷ []) start outer)
-  stale-packs stale e = elim r as (λ r. OnOk r (n ≡ record h { slots = with_more own h.slots }) → OnOk r ((numbers : List ℕ) (outer : Levels) → IsPacking h shape numbers start outer → start + width * (length numbers + 1) < 2 ^ 64 → IsPacking n shape (numbers ++ digits ∷ []) start outer)) [
-    | Ok x ↦ λ e numbers outer w short.
-        let short : start + element_width shape * (length numbers + 1) < 2 ^ 64 = subst (λ m. start + m * (length numbers + 1) < 2 ^ 64) same short in
-        let small : digits < 2 ^ element_width shape = subst (λ m. digits < 2 ^ m) same small in
-        let bytes = number_bytes (bytes_for (element_width shape)) digits in
-        let e : n ≡ record h { slots = with_more bytes h.slots } = subst (λ bs. n ≡ record h { slots = with_more bs h.slots }) is e in
-        more-packing h shape digits numbers start outer w p small short n
-        (subst (λ u. IsFilling u shape (row_bytes shape numbers ++ bytes) start outer) (sym e)
-        (stale-filling h shape bytes (row_bytes shape numbers) start outer w.filling stale (more-are h shape digits numbers start outer w p small short)))
-    | Err x ↦ λ e. tt
-  ] e
+on_ok : {T E A B : Type 0} (r : Result T E) → (A → B) → OnOk r A → OnOk r B
+on_ok (Ok x) f a = f a
+on_ok (Err x) f a = tt
+
+-- the clauses of the calls
+module _ (h n : Held) (shape : Shape) (width digits start : ℕ) (own : List ℕ) (p : IsPacked shape) (same : width ≡ element_width shape)
+    (small : digits < 2 ^ width) (is : own ≡ number_bytes (bytes_for (element_width shape)) digits) where
+  fresh-takes : HasNoNode h → n ≡ record h { slots = with_bytes shape own start h.slots } → Takes h n shape width digits start
+  fresh-takes fresh e = λ numbers outer w short.
+      let short : start + element_width shape * (length numbers + 1) < 2 ^ 64 = subst (λ m. start + m * (length numbers + 1) < 2 ^ 64) same short in
+      let small : digits < 2 ^ element_width shape = subst (λ m. digits < 2 ^ m) same small in
+      let bytes = number_bytes (bytes_for (element_width shape)) digits in
+      let some : 0 < length bytes = omega (arith, length-number_bytes (bytes_for (element_width shape)) digits, bytes_for-some (element_width shape) (row-width shape p).0) in
+      let e : n ≡ record h { slots = with_bytes shape bytes start h.slots } = subst (λ bs. n ≡ record h { slots = with_bytes shape bs start h.slots }) is e in
+      let are = one-are shape digits (length numbers) start p small short in
+      more-packing h shape digits numbers start outer w p small short n
+      (subst (λ u. IsFilling u shape (row_bytes shape numbers ++ bytes) start outer) (sym e)
+      (fresh-filling h shape bytes (row_bytes shape numbers) start outer w.filling fresh some are))
+
+  stale-takes : (HasNoNode h → ⊥) → n ≡ record h { slots = with_more own h.slots } → Takes h n shape width digits start
+  stale-takes stale e = λ numbers outer w short.
+      let short : start + element_width shape * (length numbers + 1) < 2 ^ 64 = subst (λ m. start + m * (length numbers + 1) < 2 ^ 64) same short in
+      let small : digits < 2 ^ element_width shape = subst (λ m. digits < 2 ^ m) same small in
+      let bytes = number_bytes (bytes_for (element_width shape)) digits in
+      let e : n ≡ record h { slots = with_more bytes h.slots } = subst (λ bs. n ≡ record h { slots = with_more bs h.slots }) is e in
+      let are = more-are h shape digits numbers start outer w p small short in
+      more-packing h shape digits numbers start outer w p small short n
+      (subst (λ u. IsFilling u shape (row_bytes shape numbers ++ bytes) start outer) (sym e)
+      (stale-filling h shape bytes (row_bytes shape numbers) start outer w.filling stale are))
+
+  pub fresh-packs : {T E : Type 0} (r : Result T E) → HasNoNode h → OnOk r (n ≡ record h { slots = with_bytes shape own start h.slots }) → OnOk r (Takes h n shape width digits start)
+  fresh-packs r fresh e = on_ok r (fresh-takes fresh) e
+
+  pub stale-packs : {T E : Type 0} (r : Result T E) → (HasNoNode h → ⊥) → OnOk r (n ≡ record h { slots = with_more own h.slots }) → OnOk r (Takes h n shape width digits start)
+  stale-packs r stale e = on_ok r (stale-takes stale) e
 
 -- the array is closed
 pub settled-row : {T E : Type 0} (r : Result T E) (h n : Held) (shape : Shape) (start : ℕ) → IsPacked shape → HasNoNode h → OnOk r (levels n ≡ pushed (levels h) (Some (bytes_value shape [] start))) →
@@ -160,11 +175,13 @@ settled-row (Ok x) h n shape start p fresh e = λ numbers outer w.
     ∙ ap (λ ns. (Some (row_value shape ns start) ∷ []) ∷ outer) (sym none)
 settled-row (Err x) h n shape start p fresh e = tt
 
-pub stale-row_levels : (h : Held) (shape : Shape) (numbers : List ℕ) (start : ℕ) (outer : Levels) → IsPacking h shape numbers start outer → IsPacked shape → (HasNoNode h → ⊥) → levels h ≡ (Some (row_value shape numbers start) ∷ []) ∷ outer
+pub stale-row_levels : (h : Held) (shape : Shape) (numbers : List ℕ) (start : ℕ) (outer : Levels) → IsPacking h shape numbers start outer → IsPacked shape → (HasNoNode h → ⊥) →
+    levels h ≡ (Some (row_value shape numbers start) ∷ []) ∷ outer
 stale-row_levels h shape numbers start outer w p stale =
     filling-levels h shape (row_bytes shape numbers) start outer w.filling (stale-some h shape (row_bytes shape numbers) start outer w.filling stale)
     ∙ ap (λ v. (Some v ∷ []) ∷ outer) (row-is shape numbers start p w.below)
 
 -- the levels of an array that is lifted
-pub lifted-row : (shape : Shape) (numbers : List ℕ) (start : ℕ) (outer ls : Levels) → ls ≡ (Some (row_value shape numbers start) ∷ []) ∷ outer → extended (outer_of ls) (top_of ls) ≡ pushed outer (Some (row_value shape numbers start))
+pub lifted-row : (shape : Shape) (numbers : List ℕ) (start : ℕ) (outer ls : Levels) → ls ≡ (Some (row_value shape numbers start) ∷ []) ∷ outer →
+    extended (outer_of ls) (top_of ls) ≡ pushed outer (Some (row_value shape numbers start))
 lifted-row shape numbers start outer ls e = ap (λ l. extended (outer_of l) (top_of l)) e

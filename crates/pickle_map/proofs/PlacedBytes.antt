@@ -1,5 +1,5 @@
 -- What a placed text or array of packed numbers adds to a store.
-use Rattle.std.proofs.Common.{◌≡◌, ℕ, ◌+◌, ◌-◌, ◌*◌, true, false, List, [], ◌∷◌, ◌++◌, Option, Some, length, refl, sym, ◌∙◌, ap, subst, arith, add-one}
+use Rattle.std.proofs.Common.{◌≡◌, ℕ, ◌+◌, ◌-◌, ◌*◌, List, [], ◌∷◌, ◌++◌, Some, length, refl, sym, ◌∙◌, ap, subst, arith, add-one}
 use Rattle.std.specs.Prelude.{slice_index}
 use Rattle.std.proofs.lemmas.Bool.{false≢true}
 use Rattle.std.proofs.lemmas.List.{append-nil, length-append, length_push, take_at, take_all}
@@ -11,7 +11,7 @@ use Rattle.pickle_map.specs.declared.store.slots.Shape.TheVariants.{Integer, Off
 use Rattle.pickle_map.specs.Packed.{numbers_in}
 use Rattle.pickle_map.specs.Tree.{Value, Tree, TextLabel, ArrayLabel, End, parts_of}
 use Rattle.pickle_map.specs.Levels.{level_nodes, level_links, level_bytes}
-use Rattle.pickle_map.specs.Slots.{Slots, packs, IsCounted, first_byte, text_bytes, elements, links_of, tree_of, trees, stack, LinksBelow, IsShort, IsByteRow, AreNumbers, IsContent, IsSound, cut_to, marks_of, Adds, with_bytes, AreBytes, bytes_value, MayKeep}
+use Rattle.pickle_map.specs.Slots.{Slots, IsCounted, first_byte, text_bytes, elements, links_of, tree_of, trees, stack, LinksBelow, IsShort, IsByteRow, AreNumbers, IsContent, IsSound, cut_to, marks_of, Adds, with_bytes, AreBytes, bytes_value, MayKeep}
 use Rattle.pickle_map.proofs.FamilyRows.{part-all, first_byte-grow}
 use Rattle.pickle_map.proofs.Grown.{NewNode, nodes-new, pending-new}
 use Rattle.pickle_map.proofs.Placed.{pending-last, stack-last}

@@ -1,21 +1,18 @@
 -- Values that are made of bytes, under way: texts and arrays of packed numbers.
-use Rattle.std.proofs.Common.{◌≡◌, ℕ, ◌+◌, ◌-◌, ◌*◌, ◌^◌, ◌<◌, ◌≤◌, true, List, [], ◌∷◌, ◌++◌, Some, Result, Ok, Err, OnOk, length, take, refl, sym, ◌∙◌, ap, subst, arith, lit<}
-use Rattle.std.specs.Prelude.{All, slice_set}
+use Rattle.std.proofs.Common.{◌≡◌, ℕ, ◌+◌, ◌-◌, ◌<◌, ◌≤◌, List, [], ◌∷◌, ◌++◌, Some, Result, Ok, Err, OnOk, length, take, refl, sym, ◌∙◌, ap, subst, arith, lit<}
+use Rattle.std.specs.Prelude.{slice_set}
 use Rattle.std.proofs.Math.Seq.{take-length}
 use Rattle.std.proofs.lemmas.List.{append_assoc, length-append, length_push, length-set, take_at, take_more_set}
-use Rattle.std.proofs.lemmas.List.Elements.{All-push}
 use Rattle.pickle_map.specs.declared.store.room.Room.{Room}
 use Rattle.pickle_map.specs.declared.store.slots.Node.{Node}
 use Rattle.pickle_map.specs.declared.store.slots.Shape.{Shape}
-use Rattle.pickle_map.specs.declared.store.slots.Shape.TheVariants.{Integer, Offset, Text, Integers, Offsets, Array, Struct, Union}
-use Rattle.pickle_map.specs.Packed.{bytes_for, number_bytes, packed, numbers_in}
+use Rattle.pickle_map.specs.declared.store.slots.Shape.TheVariants.{Text}
 use Rattle.pickle_map.specs.Tree.{text_value}
 use Rattle.pickle_map.specs.Levels.{Levels, top_of, outer_of, extended, pushed, text_level, FitsIn}
-use Rattle.pickle_map.specs.Slots.{Slots, Held, packs, levels, innermost, AreLevels, levels_at, Adds, IsShort, IsPacked, element_width, row_value, AreNumbers, with_bytes, with_more, AreBytes, bytes_value, MayKeep, written, HasRoom, HasNoNode, IsFilling, IsWriting, IsPacking, GoesOn}
-use Rattle.pickle_map.proofs.Packed.{length-number_bytes, packed-push, numbers_in-packed, packed-none, bytes_for-some}
+use Rattle.pickle_map.specs.Slots.{Slots, Held, levels, AreLevels, levels_at, Adds, IsShort, with_bytes, with_more, AreBytes, bytes_value, MayKeep, written, HasRoom, HasNoNode, IsFilling, IsWriting, GoesOn}
 use Rattle.pickle_map.proofs.Counted.{levels-more, levels_at-more, levels-sound}
 use Rattle.pickle_map.proofs.PlacedBytes.{bytes-adds, bytes-takes}
-use Rattle.pickle_map.proofs.Fits.{room-more, room-byte, counted-pushed, innermost-level, total_nodes-extended, total_links-extended, total_pending-extended, total_bytes-extended}
+use Rattle.pickle_map.proofs.Fits.{room-more, room-byte, counted-pushed, total_nodes-extended, total_links-extended, total_pending-extended, total_bytes-extended}
 
 -- a value of bytes that is placed
 module _ (h : Held) (shape : Shape) (bytes : List ℕ) (start : ℕ) (all : AreLevels h.room h.frames h.slots) (are : AreBytes shape bytes start) (may : MayKeep h.room shape) where
@@ -97,7 +94,8 @@ module _ (h : Held) (shape : Shape) (bytes : List ℕ) (start : ℕ) (outer : Le
       (bytes-adds h.room shape longer start w.before (levels-sound h.room h.frames w.before w.own) are w.may))
 
 -- more bytes of a value that has some, whose end is written anew
-pub more-placed : (h : Held) (shape : Shape) (more : List ℕ) (count end : ℕ) (bytes : List ℕ) → GoesOn h shape more → count ≡ length h.slots.texts → bytes ≡ h.slots.bytes ++ more → end ≡ length bytes →
+pub more-placed : (h : Held) (shape : Shape) (more : List ℕ) (count end : ℕ) (bytes : List ℕ) → GoesOn h shape more →
+    count ≡ length h.slots.texts → bytes ≡ h.slots.bytes ++ more → end ≡ length bytes →
     record h.slots { texts = slice_set h.slots.texts (count - 1) end; bytes = bytes } ≡ with_more more h.slots
 more-placed h shape more count end bytes g all is last =
     rw (last, is, all) (ap (λ ends. record h.slots { texts = ends; bytes = h.slots.bytes ++ more })
@@ -149,7 +147,8 @@ module _ (h : Held) (shape : Shape) (more bytes : List ℕ) (start : ℕ) (outer
       } in
       subst (λ bs. IsFilling (record { slots = with_bytes shape more start h.slots; frames = h.frames; room = h.room }) shape (bs ++ more) start outer) (sym none) u
 
-  pub stale-filling : (HasNoNode h → ⊥) → AreBytes shape (bytes ++ more) start → IsFilling (record { slots = with_more more h.slots; frames = h.frames; room = h.room }) shape (bytes ++ more) start outer
+  pub stale-filling : (HasNoNode h → ⊥) → AreBytes shape (bytes ++ more) start →
+      IsFilling (record { slots = with_more more h.slots; frames = h.frames; room = h.room }) shape (bytes ++ more) start outer
   stale-filling n are =
       let some = stale-some h shape bytes start outer w n in
       let longer : 0 < length (bytes ++ more) = omega (arith, length-append bytes more) in
@@ -168,7 +167,8 @@ module _ (h : Held) (shape : Shape) (more bytes : List ℕ) (start : ℕ) (outer
   stale-goes_on n are = record { bytes = bytes; start = start; outer = outer; filling = w; some = stale-some h shape bytes start outer w n; are = are }
 
 -- a value that is opened
-pub opened-filling : (n : Held) (shape : Shape) (start : ℕ) (outer : Levels) → AreBytes shape [] start → MayKeep n.room shape → HasNoNode n → AreLevels n.room n.frames n.slots → levels n ≡ [] ∷ outer → IsFilling n shape [] start outer
+pub opened-filling : (n : Held) (shape : Shape) (start : ℕ) (outer : Levels) → AreBytes shape [] start → MayKeep n.room shape → HasNoNode n →
+    AreLevels n.room n.frames n.slots → levels n ≡ [] ∷ outer → IsFilling n shape [] start outer
 unfolding levels
 opened-filling n shape start outer are may fresh all e = record { before = n.slots; is = refl; own = all; above = e; none = fresh; are = are; may = may }
 
@@ -197,9 +197,6 @@ module _ (h : Held) (byte : ℕ) (bytes : List ℕ) (start : ℕ) (outer : Level
   pub stale-room : (HasNoNode h → ⊥) → FitsIn h.room (text_level (bytes ++ byte ∷ []) start outer) → length h.slots.bytes + 1 ≤ h.room.least
   unfolding levels
   stale-room n fits = room-byte h.frames h.slots h.room start byte bytes outer (filling-all h Text bytes start outer w) (writing-levels h bytes start outer w (stale-some h Text bytes start outer w n)) fits
-
-  pub stale-byte : (HasNoNode h → ⊥) → IsShort (length bytes + 1) → GoesOn h Text (byte ∷ [])
-  stale-byte n short = stale-goes_on h Text (byte ∷ []) bytes start outer w n (short-push bytes byte short)
 
 -- the text is closed
 pub close-stale : (h : Held) (bytes : List ℕ) (start : ℕ) (outer : Levels) → IsWriting h bytes start outer → (HasNoNode h → ⊥) → levels h ≡ text_level bytes start outer

@@ -22,10 +22,10 @@ pub returns-then-first-clause-ok : goal.returns-then-first-clause-ok
 returns-then-first-clause-ok c =
     let own = own-bytes c.args.shape c.args.width c.args.digits c.bytes_for.result c.to_le_bytes-bytes.result c.requires.packed c.requires.width c.bytes_for.ensures c.to_le_bytes-bytes.ensures in
     let fresh : HasNoNode c.args.self.now = search rules in
-    fresh-packs c.place_bytes.result c.args.self.now c.place_bytes.new.self c.args.shape c.args.width c.args.digits c.args.start _ c.requires.packed c.requires.width c.requires.below own fresh c.place_bytes.ensures.slots
+    fresh-packs c.args.self.now c.place_bytes.new.self c.args.shape c.args.width c.args.digits c.args.start _ c.requires.packed c.requires.width c.requires.below own c.place_bytes.result fresh c.place_bytes.ensures.slots
 
 pub returns-else-first-clause-ok : goal.returns-else-first-clause-ok
 returns-else-first-clause-ok c =
     let own = own-bytes c.args.shape c.args.width c.args.digits c.bytes_for.result c.to_le_bytes-bytes.result c.requires.packed c.requires.width c.bytes_for.ensures c.to_le_bytes-bytes.ensures in
     let stale : HasNoNode c.args.self.now → ⊥ = search rules in
-    stale-packs c.append_bytes.result c.args.self.now c.append_bytes.new.self c.args.shape c.args.width c.args.digits c.args.start _ c.requires.packed c.requires.width c.requires.below own stale c.append_bytes.ensures.slots
+    stale-packs c.args.self.now c.append_bytes.new.self c.args.shape c.args.width c.args.digits c.args.start _ c.requires.packed c.requires.width c.requires.below own c.append_bytes.result stale c.append_bytes.ensures.slots
