@@ -1,11 +1,12 @@
-use Rattle.pickle_map.proofs.mapper.types.+mapping.Goals.{map_fields-then-branch+in_ok-place+in_ok-behind, map_fields-else-branch+in_ok-keep_absent}
-use Rattle.std.proofs.Common.{rules, ◌+◌, ◌*◌, ◌≤◌, max, [], ◌∷◌, length, Some, None, refl, sym, ap, ◌∙◌, arith}
+use Rattle.pickle_map.proofs.mapper.types.+mapping.Goals.{map_array-in-Some, map_array-in-None, map_fields-then-branch+in_ok-place+in_ok-behind, map_fields-else-branch+in_ok-keep_absent}
+use Rattle.std.proofs.Common.{rules, ◌≡◌, ◌+◌, ◌*◌, ◌≤◌, max, [], ◌∷◌, length, Some, None, refl, sym, ap, ◌∙◌, arith}
 use Rattle.std.proofs.lemmas.List.{drop_more, drop_all}
 use Rattle.std.proofs.lemmas.Result.{err_from_is_err_and}
 use Rattle.pickle_types.specs.Types.{depth}
 use Rattle.pickle_types.specs.Bounds.{least_width}
 use Rattle.pickle_types.specs.Table.{type_of}
 use Rattle.pickle_map.specs.Mappable.{IsFieldOf, IsPartOf}
+use Rattle.pickle_map.specs.Levels as stored
 use Rattle.pickle_map.specs.Mapping.{plan}
 use Rattle.pickle_map.specs.Means.{number_type}
 use Rattle.pickle_map.specs.Shown.{kept}
@@ -16,6 +17,7 @@ use Rattle.pickle_map.proofs.Followed.{followed_wide}
 use Rattle.pickle_map.proofs.Held.{length-levels}
 use Rattle.pickle_map.proofs.Keeping.{keeps_opened, keeps_outer, keeps_cleared}
 use Rattle.pickle_map.proofs.Mapping.{in_world, few_enough, inside_no_tick, inside_ticks, plan_past, number_is, text_is, struct_is, array_is, union_is, struct_no_room, struct_made, array_no_room, array_made, union_no_room, union_made, fields_end, fields_no_tick, condition_stops, absent_no_room, absent_goes, start_stops, field_stops, field_goes, elements_end, elements_beyond, elements_no_tick, elements_no_bits, elements_goes, elements_over, elements_stop, alternatives_end, alternatives_no_tick, alternatives_fit, alternatives_miss, alternatives_stop}
+use Rattle.pickle_map.proofs.PackedRows.{row-opened}
 use Rattle.pickle_map.proofs.Shapes.{opened_as, below_as, sound_as, names_as, fields_within, parts_within, fields_bounded, parts_bounded, field_bounded, part_bounded, of_one, name_of_one, struct_opened, union_opened, fields_named}
 use Rattle.pickle_map.proofs.Walks.{follow_here, follow_on, follow_at, follow_stop, follow_then_ok, outer_pushed}
 use Rattle.pickle_map.proofs.mapper.types.+mapping.Goals as goal
@@ -213,26 +215,53 @@ map_array-returns-in_err-tick-clause-err g t c =
     rw (p.1, p.2, array_is) (inside_no_tick _ _ _ c.requires.inside e.err (e.err ∙ e.refused.0 refl) e.made)
 
 pub map_array-drop_level-requires : goal.map_array-drop_level-requires
-map_array-drop_level-requires g t c = omega (arith, c.in-Err.ensures.depth, c.open_level.ensures.depth, length-levels c.args.store.now)
+map_array-drop_level-requires g t c =
+    elim c.match-packed_as.branch [
+      | map_array-in-Some w ↦
+          let depth = rw (sym w.mapped-is ∙ c.in-Err.is) at w.row_body-mapped.ensures.depth in
+          rw w.store-is (omega (arith, depth, c.open_level.ensures.depth, length-levels c.args.store.now))
+      | map_array-in-None w ↦
+          let depth = rw (sym w.mapped-is ∙ c.in-Err.is) at w.array_body-mapped.ensures.depth in
+          rw w.store-is (omega (arith, depth, c.open_level.ensures.depth, length-levels c.args.store.now))
+    ]
 
 pub map_array-returns-in-Err-clause-same : goal.map_array-returns-in-Err-clause-same
 map_array-returns-in-Err-clause-same g t c =
     let opened = keeps_opened c.args.nodes.now c.args.store.now c.open_level.new.self c.open_level.ensures.levels in
-    keeps_outer c.args.nodes.now c.array_body.new.store c.drop_level.new.self c.drop_level.ensures.levels ∙ c.in-Err.ensures.outer ∙ ap outer_of opened
+    let outer : outer_of (kept c.args.nodes.now c.match-packed_as.store) ≡ outer_of (kept c.args.nodes.now c.open_level.new.self) =
+    elim c.match-packed_as.branch [
+      | map_array-in-Some w ↦ rw w.store-is (rw (sym w.mapped-is ∙ c.in-Err.is) at w.row_body-mapped.ensures.outer)
+      | map_array-in-None w ↦ rw w.store-is (rw (sym w.mapped-is ∙ c.in-Err.is) at w.array_body-mapped.ensures.outer)
+    ] in
+    keeps_outer c.args.nodes.now c.match-packed_as.store c.drop_level.new.self c.drop_level.ensures.levels ∙ outer ∙ ap outer_of opened
 
 pub map_array-returns-in-Ok-clause-ok : goal.map_array-returns-in-Ok-clause-ok
 map_array-returns-in-Ok-clause-ok g t c =
     let e = c.in_ok-tick.ensures in
     let opened = keeps_opened c.args.nodes.now c.args.store.now c.open_level.new.self c.open_level.ensures.levels in
-    let h = rw (opened, c.open_level.ensures.room) at c.in-Ok.ensures.ok in
-    record { value = h.value; kept = h.kept; ends = h.ends; follows = rw array_is (inside_ticks _ _ _ c.requires.inside e.limit e.ok e.made (follow_then_ok _ _ (settles_ok _ _ _ refl (rw c.from.ensures at c.in_ok-extent.ensures.is) c.in_ok-extent.ensures.made) (follow_at c.in_ok-extent.ensures.limit refl refl h.follows))) }
+    elim c.match-packed_as.branch [
+      | map_array-in-Some w ↦
+          let h = rw (sym w.mapped-is ∙ c.in-Ok.is, opened, c.open_level.ensures.room) at w.row_body-mapped.ensures.ok in
+          rw (w.store-is, w.meter-is)
+          (record { value = h.value; kept = h.kept; ends = h.ends; follows = rw array_is (inside_ticks _ _ _ c.requires.inside e.limit e.ok e.made (follow_then_ok _ _ (settles_ok _ _ _ refl (rw c.from.ensures at c.in_ok-extent.ensures.is) c.in_ok-extent.ensures.made) (follow_at c.in_ok-extent.ensures.limit refl refl h.follows))) })
+      | map_array-in-None w ↦
+          let h = rw (sym w.mapped-is ∙ c.in-Ok.is, opened, c.open_level.ensures.room) at w.array_body-mapped.ensures.ok in
+          rw (w.store-is, w.meter-is)
+          (record { value = h.value; kept = h.kept; ends = h.ends; follows = rw array_is (inside_ticks _ _ _ c.requires.inside e.limit e.ok e.made (follow_then_ok _ _ (settles_ok _ _ _ refl (rw c.from.ensures at c.in_ok-extent.ensures.is) c.in_ok-extent.ensures.made) (follow_at c.in_ok-extent.ensures.limit refl refl h.follows))) })
+    ]
 
 pub map_array-returns-in-Err-clause-err : goal.map_array-returns-in-Err-clause-err
 map_array-returns-in-Err-clause-err g t c =
     let e = c.in_ok-tick.ensures in
     let opened = keeps_opened c.args.nodes.now c.args.store.now c.open_level.new.self c.open_level.ensures.levels in
-    let h = rw (opened, c.open_level.ensures.room) at c.in-Err.ensures.err in
-    rw array_is (inside_ticks _ _ _ c.requires.inside e.limit e.ok e.made (follow_then_ok _ _ (settles_ok _ _ _ refl (rw c.from.ensures at c.in_ok-extent.ensures.is) c.in_ok-extent.ensures.made) (follow_at c.in_ok-extent.ensures.limit refl refl h)))
+    elim c.match-packed_as.branch [
+      | map_array-in-Some w ↦
+          let h = rw (sym w.mapped-is ∙ c.in-Err.is, opened, c.open_level.ensures.room) at w.row_body-mapped.ensures.err in
+          rw (w.meter-is, array_is) (inside_ticks _ _ _ c.requires.inside e.limit e.ok e.made (follow_then_ok _ _ (settles_ok _ _ _ refl (rw c.from.ensures at c.in_ok-extent.ensures.is) c.in_ok-extent.ensures.made) (follow_at c.in_ok-extent.ensures.limit refl refl h)))
+      | map_array-in-None w ↦
+          let h = rw (sym w.mapped-is ∙ c.in-Err.is, opened, c.open_level.ensures.room) at w.array_body-mapped.ensures.err in
+          rw (w.meter-is, array_is) (inside_ticks _ _ _ c.requires.inside e.limit e.ok e.made (follow_then_ok _ _ (settles_ok _ _ _ refl (rw c.from.ensures at c.in_ok-extent.ensures.is) c.in_ok-extent.ensures.made) (follow_at c.in_ok-extent.ensures.limit refl refl h)))
+    ]
 
 pub map_array-returns-in_err-extent-clause-err : goal.map_array-returns-in_err-extent-clause-err
 map_array-returns-in_err-extent-clause-err g t c =
@@ -240,8 +269,19 @@ map_array-returns-in_err-extent-clause-err g t c =
     let e = c.in_ok-tick.ensures in
     rw (p.1, p.2, array_is) (inside_ticks _ _ _ c.requires.inside e.limit e.ok e.made (follow_stop _ _ _ (settles_stop _ _ _ refl (omega arith) (rw c.from.ensures at c.in_err-extent.ensures.is) c.in_err-extent.ensures.made)))
 
-pub map_array-array_body-requires : goal.map_array-array_body-requires
-map_array-array_body-requires g t c =
+pub map_array-row_body-mapped-requires-clause-packing : goal.map_array-row_body-mapped-requires-clause-packing
+map_array-row_body-mapped-requires-clause-packing g t c =
+    let packs = c.in-Some.ensures in
+    let o = c.open_level.ensures in
+    let short = g.met.S.Space.short c.args.space.now in
+    row-opened c.open_level.new.self c.in-Some.shape c.args.start (stored.outer_of (levels c.open_level.new.self)) packs.packed packs.packs
+    (omega (arith, c.requires.inside, short)) o.fresh o.sound (o.levels ∙ sym (ap (λ ls. [] ∷ stored.outer_of ls) o.levels))
+
+pub map_array-row_body-mapped-requires-clause-open : goal.map_array-row_body-mapped-requires-clause-open
+map_array-row_body-mapped-requires-clause-open g t c = omega (arith, c.open_level.ensures.depth, length-levels c.args.store.now)
+
+pub map_array-array_body-mapped-requires : goal.map_array-array_body-mapped-requires
+map_array-array_body-mapped-requires g t c =
     let some = length-levels c.args.store.now in
     let depth = c.open_level.ensures.depth in
     search rules
