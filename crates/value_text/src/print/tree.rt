@@ -1,5 +1,5 @@
 //! Prints values over lines, one for each value.
-ghost use Rattle.std.specs.Prelude.{◌≡◌, ◌+◌, ◌^◌, ◌<◌, ◌++◌, OnOk, OnErr, codes};
+ghost use Rattle.std.specs.Prelude.{◌≡◌, ◌+◌, ◌^◌, ◌≤◌, ◌++◌, OnOk, OnErr, codes};
 ghost use Rattle.std.specs.Option.{option_map};
 ghost use Rattle.pickle_map.specs.Values.{label_of};
 ghost use Rattle.pickle_map.specs.Refs.{value_shown, rank_of};
@@ -21,7 +21,7 @@ use std::io::Write;
 /// The blanks of so many levels.
 const BLANKS: [u8; 64] = [b' '; 64];
 
-const LEVELS: usize = 32;
+const LEVELS: u128 = 32;
 
 /// Writes the line of a value, and below it the lines of its parts.
 #[tactic(auto, using(crate::proofs::LineTexts::tree_rest))]
@@ -34,16 +34,17 @@ pub fn put_tree<W: Write>(w: &mut W, line: &mut Line, value: ValueRef<'_>) -> Re
 
 // Writes the line of a value of a level from its head on, and the lines below it. Inlined, so that a part costs no call of its own
 // where it is an integer.
+// A level has 128 bits, so that a part's is in range whatever the rank of its value.
 #[tactic(auto, using(crate::proofs::Gathered::gathered))]
 #[inline(always)]
 #[cycle(tree)]
 fn put_rest<W: Write>(
     w: &mut W,
     line: &mut Line,
-    level: usize,
+    level: u128,
     value: ValueRef<'_>,
 ) -> Result<(), WriteFault>
-    requires { level + rank_of value < 2 ^ 64 }
+    requires { level + rank_of value ≤ 2 ^ 64 }
     ensures ok { OnOk result (Gathers (W.contents w.old) (W.contents w.new) line.old line.new (rest_text level (value_shown value.entry))) }
     ensures err { OnErr result (AppendsPart (W.contents w.old) (W.contents w.new) (line.old ++ rest_text level (value_shown value.entry))) }
 {
@@ -74,10 +75,10 @@ fn put_head<W: Write>(w: &mut W, line: &mut Line, value: ValueRef<'_>) -> Result
 fn put_below<W: Write>(
     w: &mut W,
     line: &mut Line,
-    level: usize,
+    level: u128,
     value: ValueRef<'_>,
 ) -> Result<(), WriteFault>
-    requires { level + rank_of value < 2 ^ 64 }
+    requires { level + rank_of value ≤ 2 ^ 64 }
     ensures ok { OnOk result (Gathers (W.contents w.old) (W.contents w.new) line.old line.new (below_text level (value_shown value.entry))) }
     ensures err { OnErr result (AppendsPart (W.contents w.old) (W.contents w.new) (line.old ++ below_text level (value_shown value.entry))) }
 {
@@ -104,10 +105,10 @@ pub fn has_parts(kind: Kind) -> bool
 fn put_parts<W: Write>(
     w: &mut W,
     line: &mut Line,
-    level: usize,
+    level: u128,
     value: ValueRef<'_>,
 ) -> Result<(), WriteFault>
-    requires { level + rank_of value < 2 ^ 64 }
+    requires { level + rank_of value ≤ 2 ^ 64 }
     ensures ok { OnOk result (Gathers (W.contents w.old) (W.contents w.new) line.old line.new (all_parts_text level (value_shown value.entry))) }
     ensures err { OnErr result (AppendsPart (W.contents w.old) (W.contents w.new) (line.old ++ all_parts_text level (value_shown value.entry))) }
 {
@@ -127,12 +128,12 @@ fn put_parts<W: Write>(
 fn put_part<W: Write>(
     w: &mut W,
     line: &mut Line,
-    level: usize,
+    level: u128,
     value: ValueRef<'_>,
     place: usize,
     part: ValueRef<'_>,
 ) -> Result<(), WriteFault>
-    requires { level + rank_of part < 2 ^ 64 }
+    requires { level + rank_of part ≤ 2 ^ 64 }
     ensures ok { OnOk result (Gathers (W.contents w.old) (W.contents w.new) line.old line.new (part_text level (label_of (value_shown value.entry)) place (value_shown part.entry))) }
     ensures err { OnErr result (AppendsPart (W.contents w.old) (W.contents w.new) (line.old ++ part_text level (label_of (value_shown value.entry)) place (value_shown part.entry))) }
 {
@@ -147,7 +148,7 @@ fn put_part<W: Write>(
 fn put_line_start<W: Write>(
     w: &mut W,
     line: &mut Line,
-    level: usize,
+    level: u128,
     value: ValueRef<'_>,
     place: usize,
 ) -> Result<(), WriteFault>
@@ -189,7 +190,7 @@ fn put_place<W: Write>(w: &mut W, line: &mut Line, place: usize) -> Result<(), W
 
 // Writes two blanks for each level.
 #[inline(always)]
-fn put_indent<W: Write>(w: &mut W, line: &mut Line, level: usize) -> Result<(), WriteFault>
+fn put_indent<W: Write>(w: &mut W, line: &mut Line, level: u128) -> Result<(), WriteFault>
     ensures ok { OnOk result (Gathers (W.contents w.old) (W.contents w.new) line.old line.new (indent_text level)) }
     ensures err { OnErr result (AppendsPart (W.contents w.old) (W.contents w.new) (line.old ++ indent_text level)) }
 {
@@ -198,6 +199,6 @@ fn put_indent<W: Write>(w: &mut W, line: &mut Line, level: usize) -> Result<(), 
         line.put(w, &BLANKS)?;
         left -= LEVELS;
     }
-    line.put(w, &BLANKS[..2 * left])?;
+    line.put(w, &BLANKS[..2 * left as usize])?;
     Ok(())
 }
