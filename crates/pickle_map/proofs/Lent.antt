@@ -62,11 +62,14 @@ one_byte bs i p =
     let last : slice_index_or bs i 0 + 256 * 0 ≡ slice_index bs i = omega arith in
     ap (λ m. bytes_number (take 1 (drop m bs))) e ∙ ap (λ xs. bytes_number (take 1 xs)) own ∙ last
 
-pub some_bytes : (w : ℕ) → 1 ≤ w → 1 ≤ bytes_for w
-some_bytes w p = omega arith
-
 pub length-numbers : (w : ℕ) (bs : List ℕ) → length (numbers_in w bs) ≡ length bs / bytes_for w
 length-numbers w bs = length-unpacked (bytes_for w) (length bs / bytes_for w) bs
+
+-- a byte for each
+pub length-byte_numbers : (w : ℕ) (bs : List ℕ) → 1 ≤ w → w ≤ 8 → length (numbers_in w bs) ≡ length bs
+length-byte_numbers w bs some most =
+    let one : bytes_for w ≡ 1 = omega arith in
+    length-numbers w bs ∙ ap (λ k. length bs / k) one ∙ omega arith
 
 -- a whole row of k lies below n
 row_within : (n k i : ℕ) → i < n / k → i * k + k ≤ n

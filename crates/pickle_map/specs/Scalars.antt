@@ -1,13 +1,10 @@
 -- Computed integers and offsets, and the labels of values that they stand for.
 use Rattle.std.specs.Prelude.{◌≡◌, ℕ, ◌<◌, ◌≤◌, ℤ, pos, Option, Some, None, Result, Ok, Err}
-use Rattle.pickle_types.specs.declared.integer.IntegerType.{IntegerType}
 use Rattle.pickle_types.specs.Table.{IsWidth}
 use Rattle.pickle_types.specs.Sound.{IsSmall}
 use Rattle.pickle_map.specs.declared.faults.MapFaultKind.{MapFaultKind}
 use Rattle.pickle_map.specs.declared.evaluate.integers.Scalar.{Scalar}
 use Rattle.pickle_map.specs.declared.evaluate.integers.Scalar.TheVariants as scalar
-use Rattle.pickle_map.specs.declared.value.Kind.{Kind}
-use Rattle.pickle_map.specs.declared.value.Kind.TheVariants as kind
 use Rattle.pickle_map.specs.Values.{Label, IntegerLabel, OffsetLabel}
 use Rattle.pickle_map.specs.Arithmetic.{Computed}
 use Rattle.pickle_map.specs.Tree as tree
@@ -16,21 +13,9 @@ abbrev pub scalar_label : Scalar → Label
 scalar_label (scalar.Integer number type) = IntegerLabel number type
 scalar_label (scalar.Offset magnitude type unit) = OffsetLabel magnitude type unit
 
-abbrev pub scalar_kind : Scalar → Kind
-scalar_kind (scalar.Integer number type) = kind.Integer
-scalar_kind (scalar.Offset magnitude type unit) = kind.Offset
-
 abbrev pub scalar_number : Scalar → ℤ
 scalar_number (scalar.Integer number type) = number
 scalar_number (scalar.Offset magnitude type unit) = magnitude
-
-abbrev pub scalar_type : Scalar → IntegerType
-scalar_type (scalar.Integer number type) = type
-scalar_type (scalar.Offset magnitude type unit) = type
-
-abbrev pub scalar_unit : Scalar → ℕ
-scalar_unit (scalar.Integer number type) = 0
-scalar_unit (scalar.Offset magnitude type unit) = unit
 
 abbrev pub computed_of : Result Scalar MapFaultKind → Computed
 computed_of (Ok s) = Ok (scalar_label s)

@@ -33,7 +33,7 @@ impl<'a> StoredValue<'a> {
     {
         match self.place {
             Place::Node(at) => self.store.kind_at(at),
-            Place::Element { array, index } => self.store.element_at(array, index).kind(),
+            Place::Element { array, index } => self.store.element_kind(array, index),
         }
     }
 
@@ -54,7 +54,7 @@ impl<'a> StoredValue<'a> {
         match self.place {
             Place::Node(at) => self.store.size_at(at),
             Place::Element { array, index } => u64::from(
-                self.store.element_at(array, index).number_type().width,
+                self.store.element_type(array, index).width,
             ),
         }
     }
@@ -75,11 +75,7 @@ impl<'a> StoredValue<'a> {
     {
         match self.place {
             Place::Node(at) => self.store.signed_at(at),
-            Place::Element { array, index } => self
-                .store
-                .element_at(array, index)
-                .number_type()
-                .signed,
+            Place::Element { array, index } => self.store.element_type(array, index).signed,
         }
     }
 
@@ -100,11 +96,7 @@ impl<'a> StoredValue<'a> {
     {
         match self.place {
             Place::Node(at) => self.store.width_at(at),
-            Place::Element { array, index } => self
-                .store
-                .element_at(array, index)
-                .number_type()
-                .width,
+            Place::Element { array, index } => self.store.element_type(array, index).width,
         }
     }
 
@@ -114,7 +106,7 @@ impl<'a> StoredValue<'a> {
     {
         match self.place {
             Place::Node(at) => self.store.unit_at(at),
-            Place::Element { array, index } => self.store.element_at(array, index).unit(),
+            Place::Element { array, index } => self.store.element_unit(array, index),
         }
     }
 

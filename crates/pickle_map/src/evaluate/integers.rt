@@ -5,12 +5,11 @@ ghost use Rattle.pickle_types.specs.Table.{IsWidth};
 ghost use Rattle.pickle_types.specs.Sound.{IsSmall};
 ghost use Rattle.pickle_types.specs.Operators.{common};
 ghost use Rattle.pickle_map.specs.Arithmetic.{on_common, on_integers, shifted_left, shifted_right, truth, is_zero, converted, bit_by_bit, brought_integer, modulo, with_sign};
-ghost use Rattle.pickle_map.specs.Scalars.{IsScalar, IsShift, computed_of, scalar_label, scalar_kind, scalar_number, scalar_type, scalar_unit};
+ghost use Rattle.pickle_map.specs.Scalars.{IsScalar, IsShift, computed_of, scalar_label, scalar_number};
 ghost use Rattle.pickle_map.specs.Values.{IntegerLabel};
 
 use crate::evaluate::ranges::{brought, converted, low_digits, modulo, with_sign};
 use crate::faults::MapFaultKind;
-use crate::value::Kind;
 use pickle_tree::tree::Infix;
 use pickle_types::integer::IntegerType;
 
@@ -22,16 +21,6 @@ pub enum Scalar {
 }
 
 impl Scalar {
-    /// What sort of value it is.
-    pub(crate) fn kind(self) -> Kind
-        ensures { result ≡ scalar_kind self }
-    {
-        match self {
-            Scalar::Integer(..) => Kind::Integer,
-            Scalar::Offset(..) => Kind::Offset,
-        }
-    }
-
     /// The number of an integer, the magnitude of an offset.
     pub(crate) fn number(self) -> i128
         ensures { result ≡ scalar_number self }
@@ -39,26 +28,6 @@ impl Scalar {
         match self {
             Scalar::Integer(number, _) => number,
             Scalar::Offset(magnitude, _, _) => magnitude,
-        }
-    }
-
-    /// The type of the number.
-    pub(crate) fn number_type(self) -> IntegerType
-        ensures { result ≡ scalar_type self }
-    {
-        match self {
-            Scalar::Integer(_, number) => number,
-            Scalar::Offset(_, number, _) => number,
-        }
-    }
-
-    /// The unit of an offset in bits, else 0.
-    pub(crate) fn unit(self) -> u32
-        ensures { result ≡ scalar_unit self }
-    {
-        match self {
-            Scalar::Integer(..) => 0,
-            Scalar::Offset(_, _, unit) => unit,
         }
     }
 }

@@ -1,6 +1,7 @@
 //! The elements of arrays of packed numbers.
 ghost use Rattle.std.specs.Prelude.{◌≡◌, ◌<◌, ◌≤◌, Some, length, slice_index};
-ghost use Rattle.pickle_map.specs.Tree.{label, start};
+ghost use Rattle.pickle_map.specs.Kinds.{kind_of};
+ghost use Rattle.pickle_map.specs.Tree.{label, start, size, signed_of, width_of, unit_of};
 ghost use Rattle.pickle_map.specs.Lent.{place_value, IsPlace};
 ghost use Rattle.pickle_map.specs.Packed.{bytes_number};
 ghost use Rattle.pickle_map.specs.Scalars.{scalar_label, scalar_in, IsScalar};
@@ -12,6 +13,7 @@ use crate::evaluate::ranges::with_sign;
 use crate::store::Store;
 use crate::store::row::bytes_for;
 use crate::store::slots::Shape;
+use crate::value::Kind;
 use pickle_types::integer::IntegerType;
 
 // The number that bytes are, the lowest first.
@@ -33,7 +35,12 @@ impl Store {
         requires width { 1 ≤ width }
         ensures { result ≡ length (row_numbers self.now.slots width row) }
     {
-        self.text(row).len() / bytes_for(width)
+        let bytes = self.text(row).len();
+        if width <= 8 {
+            bytes
+        } else {
+            bytes / bytes_for(width)
+        }
     }
 
     // The packed number at a place.
@@ -50,6 +57,46 @@ impl Store {
         let size = bytes_for(width);
         let first = i * size;
         bytes_number(&bytes[first..first + size])
+    }
+
+    /// What sort of value an element of the array of packed numbers at a node is.
+    #[inline(always)]
+    pub(crate) fn element_kind(&self, array: usize, index: usize) -> Kind
+        requires { IsPlace self.now.slots (Element array index) }
+        ensures { result ≡ kind_of (label (place_value self.now.slots (Element array index))) }
+    {
+        match self.node_at(array).shape {
+            Shape::Integers { .. } => Kind::Integer,
+            Shape::Offsets { .. } => Kind::Offset,
+            _ => unreachable!(),
+        }
+    }
+
+    /// The type of the number of an element.
+    #[inline(always)]
+    pub(crate) fn element_type(&self, array: usize, index: usize) -> IntegerType
+        requires { IsPlace self.now.slots (Element array index) }
+        ensures width { result.width ≡ width_of (label (place_value self.now.slots (Element array index))) }
+        ensures signed { result.signed ≡ signed_of (label (place_value self.now.slots (Element array index))) }
+        ensures size { result.width ≡ size (place_value self.now.slots (Element array index)) }
+    {
+        match self.node_at(array).shape {
+            Shape::Integers { width, signed } => IntegerType { width, signed },
+            Shape::Offsets { width, signed, .. } => IntegerType { width, signed },
+            _ => unreachable!(),
+        }
+    }
+
+    /// The unit of an element in bits, where it is an offset, else 0.
+    #[inline(always)]
+    pub(crate) fn element_unit(&self, array: usize, index: usize) -> u32
+        requires { IsPlace self.now.slots (Element array index) }
+        ensures { result ≡ unit_of (label (place_value self.now.slots (Element array index))) }
+    {
+        match self.node_at(array).shape {
+            Shape::Offsets { unit, .. } => unit,
+            _ => 0,
+        }
     }
 
     /// The element at a place of the array of packed numbers at a node.
