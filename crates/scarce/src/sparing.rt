@@ -1,12 +1,14 @@
 //! The calls that ask for no memory: what they need is made before them.
 
+ghost use Rattle.pickle_types.specs.TypeTable.{IsInTable};
+
 use crate::ended::Ended;
 use crate::given::{Written, is_mapped, map_type, space_of, types_of};
 use crate::samples::{ELEMENTS, LONG_PICKLE, Sample};
 use bit_space::{FileSpace, MemSpace, Meter, Order, Paged, Space, read_number};
 use pickle_map::{Kind, MapFaultKind, Store};
 use pickle_syntax::lexer::lex;
-use pickle_types::type_table::Table;
+use pickle_types::type_table::{Table, TypeId};
 use poke_batch::dump::dump;
 use poke_batch::offset_word::offset_word;
 use std::alloc::Global;
@@ -24,20 +26,32 @@ pub fn mapping_in_room(alloc: Global, sample: Sample<'_>, slots: usize) -> Resul
     Ok(Ended::answer_if(first && second))
 }
 
+/// Whether a store that holds just so many slots is refused memory for the mapping, and left empty.
+fn is_refused(
+    alloc: Global,
+    table: &Table,
+    id: TypeId,
+    space: &mut MemSpace,
+    slots: usize,
+) -> Result<bool, Ended>
+    requires { IsInTable table.now id }
+{
+    let mut store = Store::with_most(alloc, slots).map_err(|_| Ended::Early)?;
+    let refused = match map_type(table, id, space, &mut store) {
+        Ok(()) => false,
+        Err(fault) => fault.kind == MapFaultKind::Memory && fault.at == 0,
+    };
+    Ok(refused && store.root(table).is_none() && store.never_grows())
+}
+
 /// Maps in a store that holds just the slots of the mapping and never asks for more. One of a slot less tells of want of memory.
 pub fn mapping_within(alloc: Global, sample: Sample<'_>, slots: usize) -> Result<Ended, Ended> {
     let (table, id) = types_of(alloc, sample.pickle)?;
     let mut space = space_of(alloc, sample.bytes)?;
-    let mut tight = Store::with_most(alloc, slots.saturating_sub(1)).map_err(|_| Ended::Early)?;
+    let refused = is_refused(alloc, &table, id, &mut space, slots.saturating_sub(1))?;
     let mut store = Store::with_most(alloc, slots).map_err(|_| Ended::Early)?;
-    let refused = match map_type(&table, id, &mut space, &mut tight) {
-        Ok(()) => false,
-        Err(fault) => fault.kind == MapFaultKind::Memory && fault.at == 0,
-    };
-    let emptied = tight.root(&table).is_none();
     let mapped = is_mapped(&table, id, &mut space, &mut store, sample);
-    let fixed = tight.never_grows() && store.never_grows();
-    Ok(Ended::answer_if(refused && emptied && mapped && fixed))
+    Ok(Ended::answer_if(refused && mapped && store.never_grows()))
 }
 
 /// A thousand letters are kept by an alternative that is given up, and then by the next, in the room of one.
