@@ -48,6 +48,11 @@ abbrev pub place_value : Slots → Place → Value
 place_value s (place.Node at) = value_at s at
 place_value s (place.Element array index) = element_in s (slice_get s.nodes array) index
 
+-- how many packed numbers are the parts of the value there
+abbrev pub place_packed : Slots → Place → ℕ
+place_packed s (place.Node at) = element_count s (slice_get s.nodes at)
+place_packed s (place.Element array index) = 0
+
 -- the links to the parts of the value there
 abbrev pub place_links : Slots → Place → List (Option ℕ)
 place_links s (place.Node at) = links_from s at

@@ -2,7 +2,7 @@ ghost use Rattle.std.specs.Prelude.{◌≡◌, ◌<◌, length, IfSome};
 ghost use Rattle.std.specs.Option.{option_map};
 ghost use Rattle.pickle_map.specs.Kinds.{kind_of};
 ghost use Rattle.pickle_map.specs.Tree.{label, start, size, parts, part_at, number_of, signed_of, width_of, unit_of, bytes_of, type_of, taken_of};
-ghost use Rattle.pickle_map.specs.Lent.{place_value, place_links, place_rank, IsPlace};
+ghost use Rattle.pickle_map.specs.Lent.{place_value, place_links, place_packed, place_rank, IsPlace};
 ghost use Rattle.pickle_map.specs.Scalars.{scalar_label, scalar_in, IsScalar};
 
 use crate::evaluate::integers::Scalar;
@@ -135,7 +135,7 @@ impl<'a> StoredValue<'a> {
         ensures part { option_map value_of result ≡ part_at (value_of self.now) i }
         ensures below { IfSome result (λ c. place_rank c.place < place_rank self.now.place) }
     {
-        self.linked(self.links(), i)
+        self.linked(self.links(), self.packed(), i)
     }
 
     /// The links to the parts, for a walk over them.
@@ -148,20 +148,32 @@ impl<'a> StoredValue<'a> {
         }
     }
 
-    /// How many parts there are, as [`StoredValue::len`] tells it, by links that were found before.
-    pub(crate) fn count_linked(&self, links: &[Link]) -> usize
-        requires { links.now ≡ place_links self.now.store.now.slots self.now.place }
-        ensures { result ≡ length (parts (value_of self.now)) }
+    /// How many packed numbers are the parts, for a walk over them.
+    pub(crate) fn packed(&self) -> usize
+        ensures { result ≡ place_packed self.now.store.now.slots self.now.place }
     {
         match self.place {
-            Place::Node(at) => self.store.count_linked(at, links),
+            Place::Node(at) => self.store.packed_from(at),
             Place::Element { .. } => 0,
         }
     }
 
-    /// The part at a place, as [`StoredValue::child`] tells it, by links that were found before.
-    pub(crate) fn linked(&self, links: &[Link], i: usize) -> Option<StoredValue<'a>>
-        requires { links.now ≡ place_links self.now.store.now.slots self.now.place }
+    /// How many parts there are, as [`StoredValue::len`] tells it, by links and packed numbers that were found before.
+    pub(crate) fn count_linked(&self, links: &[Link], packed: usize) -> usize
+        requires links { links.now ≡ place_links self.now.store.now.slots self.now.place }
+        requires packed { packed ≡ place_packed self.now.store.now.slots self.now.place }
+        ensures { result ≡ length (parts (value_of self.now)) }
+    {
+        match self.place {
+            Place::Node(at) => self.store.count_linked(at, links, packed),
+            Place::Element { .. } => 0,
+        }
+    }
+
+    /// The part at a place, as [`StoredValue::child`] tells it, by links and packed numbers that were found before.
+    pub(crate) fn linked(&self, links: &[Link], packed: usize, i: usize) -> Option<StoredValue<'a>>
+        requires links { links.now ≡ place_links self.now.store.now.slots self.now.place }
+        requires packed { packed ≡ place_packed self.now.store.now.slots self.now.place }
         ensures part { option_map value_of result ≡ part_at (value_of self.now) i }
         ensures below { IfSome result (λ c. place_rank c.place < place_rank self.now.place) }
     {
@@ -169,7 +181,7 @@ impl<'a> StoredValue<'a> {
             Place::Node(at) => at,
             Place::Element { .. } => return None,
         };
-        match self.store.linked(at, links, i) {
+        match self.store.linked(at, links, packed, i) {
             Some(place) => Some(StoredValue {
                 store: self.store,
                 place,

@@ -6,7 +6,7 @@ ghost use Rattle.pickle_map.specs.Tree.{label, start, size, parts, part_at, numb
 ghost use Rattle.pickle_map.specs.Levels.{part_in};
 ghost use Rattle.pickle_map.specs.Slots.{levels, marks_at, level_end, value_at, number_in, first_link, family_at, family_links, first_byte, text_bytes, links_of, IsContent, IsFamily, IsByteRow, IsRead};
 ghost use Rattle.pickle_map.specs.Linked.{links_from};
-ghost use Rattle.pickle_map.specs.Lent.{place_value, place_rank, IsPlace};
+ghost use Rattle.pickle_map.specs.Lent.{place_value, place_rank, element_count, IsPlace};
 ghost use Rattle.pickle_map.specs.Scalars.{scalar_label, scalar_in, IsScalar};
 
 use crate::evaluate::integers::Scalar;
@@ -195,7 +195,7 @@ impl Store {
         requires { at < length self.now.slots.nodes }
         ensures { result ≡ length (parts (value_at self.now.slots at)) }
     {
-        self.count_linked(at, self.links_from(at))
+        self.count_linked(at, self.links_from(at), self.packed_from(at))
     }
 
     // The links of the node at a place.
@@ -207,48 +207,54 @@ impl Store {
         self.links_at(&node)
     }
 
-    // How many parts a value has whose links these are.
-    pub(crate) fn count_linked(&self, at: usize, links: &[Link]) -> usize
-        requires node { at < length self.now.slots.nodes }
-        requires links { links.now ≡ links_from self.now.slots at }
-        ensures { result ≡ length (parts (value_at self.now.slots at)) }
+    // How many packed numbers are the parts of the node at a place.
+    pub(crate) fn packed_from(&self, at: usize) -> usize
+        requires { at < length self.now.slots.nodes }
+        ensures { result ≡ element_count self.now.slots (slice_get self.now.slots.nodes at) }
     {
         let node = self.node_at(at);
         match node.shape {
             Shape::Integers { width, .. } | Shape::Offsets { width, .. } => {
                 self.count_packed(width, node.content as usize)
             }
-            _ => links.len(),
+            _ => 0,
         }
     }
 
-    // The part at a place of a value whose links these are.
-    pub(crate) fn linked(&self, at: usize, links: &[Link], i: usize) -> Option<Place>
+    // How many parts a value has whose links and packed numbers these are.
+    pub(crate) fn count_linked(&self, at: usize, links: &[Link], packed: usize) -> usize
         requires node { at < length self.now.slots.nodes }
         requires links { links.now ≡ links_from self.now.slots at }
+        requires packed { packed ≡ element_count self.now.slots (slice_get self.now.slots.nodes at) }
+        ensures { result ≡ length (parts (value_at self.now.slots at)) }
+    {
+        // Nothing of the store is read: that it is sound is all that is needed of it.
+        let _ = &self.nodes;
+        if packed > 0 { packed } else { links.len() }
+    }
+
+    // The part at a place of a value whose links and packed numbers these are.
+    pub(crate) fn linked(&self, at: usize, links: &[Link], packed: usize, i: usize) -> Option<Place>
+        requires node { at < length self.now.slots.nodes }
+        requires links { links.now ≡ links_from self.now.slots at }
+        requires packed { packed ≡ element_count self.now.slots (slice_get self.now.slots.nodes at) }
         ensures part { option_map (place_value self.now.slots) result ≡ part_at (value_at self.now.slots at) i }
         ensures is { IfSome result (IsPlace self.now.slots) }
         ensures below { IfSome result (λ p. place_rank p ≤ at) }
     {
-        let node = self.node_at(at);
-        match node.shape {
-            Shape::Integers { width, .. } | Shape::Offsets { width, .. } => {
-                if i < self.count_packed(width, node.content as usize) {
-                    Some(Place::Element {
-                        array: at,
-                        index: i,
-                    })
-                } else {
-                    None
-                }
-            }
-            _ => match links.get(i) {
-                Some(link) => match link.target() {
-                    Some(node) => Some(Place::Node(node)),
-                    None => None,
-                },
+        let _ = &self.nodes;
+        if i < packed {
+            return Some(Place::Element {
+                array: at,
+                index: i,
+            });
+        }
+        match links.get(i) {
+            Some(link) => match link.target() {
+                Some(node) => Some(Place::Node(node)),
                 None => None,
             },
+            None => None,
         }
     }
 
@@ -258,7 +264,7 @@ impl Store {
         ensures is { IfSome result (IsPlace self.now.slots) }
         ensures below { IfSome result (λ p. place_rank p ≤ at) }
     {
-        self.linked(at, self.links_from(at), i)
+        self.linked(at, self.links_from(at), self.packed_from(at), i)
     }
 
     // The number at a node, where it is an integer or an offset.

@@ -1,15 +1,19 @@
-use Rattle.std.proofs.Common.{sym, ◌∙◌}
-use Rattle.pickle_map.proofs.Linked.{are_links, row_shape, row-count}
+use Rattle.std.proofs.Common.{arith, rules}
+use Rattle.pickle_map.specs.contracts.store.Store.{the_view}
+use Rattle.pickle_map.proofs.Counted.{levels-sound}
+use Rattle.pickle_map.proofs.Linked.{parts_at}
 use Rattle.pickle_map.proofs.store.Store.count_linked.Goals as goal
 
-pub returns-in_default : goal.returns-in_default
-returns-in_default c =
-    let links = are_links c.args.self.now.slots c.args.at c.node_at-node.result c.args.links.now c.node_at-node.ensures.is c.node_at-node.ensures.read (record { not_integers = c.in_default.not-Integers; not_offsets = c.in_default.not-Offsets }) c.requires.links in
-    links.count
+pub returns-then-packed-gt0 : goal.returns-then-packed-gt0
+returns-then-packed-gt0 c =
+    let h = the_view c.self.inside in
+    let sound = levels-sound h.room h.frames h.slots c.self.invariant.levels in
+    let parts = parts_at c.args.self.now.slots c.args.at c.args.links.now c.args.packed (rw (← c.self.view_is) sound) c.requires.node c.requires.links c.requires.packed in
+    parts.packed_count (omega (arith, c.if-packed-gt0.true))
 
-pub returns-in-Integers : goal.returns-in-Integers
-returns-in-Integers c =
-    let s = c.args.self.now.slots in
-    let n = c.node_at-node.result in
-    let read = c.node_at-node.ensures.read in
-    c.count_packed.ensures ∙ sym (row-count s c.args.at n c.in-Integers.width read (row_shape s n.shape n.start n.content c.in-Integers.width c.in-Integers.is read.content))
+pub returns-else-packed-gt0 : goal.returns-else-packed-gt0
+returns-else-packed-gt0 c =
+    let h = the_view c.self.inside in
+    let sound = levels-sound h.room h.frames h.slots c.self.invariant.levels in
+    let parts = parts_at c.args.self.now.slots c.args.at c.args.links.now c.args.packed (rw (← c.self.view_is) sound) c.requires.node c.requires.links c.requires.packed in
+    parts.link_count (omega (arith, c.if-packed-gt0.false))
