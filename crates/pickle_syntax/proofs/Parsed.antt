@@ -9,10 +9,11 @@ use Rattle.pickle_syntax.specs.declared.parser.fault.Stop.{Stop}
 use Rattle.pickle_syntax.specs.declared.parser.fault.Stop.TheVariants as stop
 use Rattle.pickle_syntax.specs.declared.parser.fault.ParseFault.TheVariants.{Memory, TooDeep, TooMany}
 use Rattle.pickle_syntax.specs.Tokens.{Token, Reserved, Mark, token_of, tokens_of}
-use Rattle.pickle_tree.specs.Tree.{DeclarationTree, pickle_tree, Tree, FormTree, Plain, StringForm, OffsetForm, ArrayForm, StructForm, IntegralForm, UnionForm, FieldTrees, NoFields, FieldThen, FieldParts}
+use Rattle.pickle_tree.specs.Pickle.{pickle_tree}
+use Rattle.pickle_tree.specs.Tree.{DeclarationTree, Tree, FormTree, Plain, StringForm, OffsetForm, ArrayForm, StructForm, IntegralForm, UnionForm, FieldTrees, NoFields, FieldThen, FieldParts}
 use Rattle.pickle_syntax.specs.Show.{show_reference, show_optional, show_part, show_name, show_order, show_pinned, show_parts, show_form, show_fields, show_declaration, show_pickle}
 use Rattle.pickle_syntax.specs.Levels.{IsPickleWellBracketed}
-use Rattle.pickle_syntax.specs.Limits.{Limits, standard, field_count, IsOptionalWithin, ArePartsWithin, IsFormWithin, AreFieldsWithin, AreDeclarationsWithin}
+use Rattle.pickle_tree.specs.Limits.{Limits, standard, field_count, IsOptionalWithin, ArePartsWithin, IsFormWithin, AreFieldsWithin, AreDeclarationsWithin}
 use Rattle.pickle_syntax.specs.Pickles.{IsPickle, IsPickleOf, semicolons, fault_of}
 use Rattle.pickle_syntax.specs.Reading.{Fault, Wrong, Deep, Many, Fails}
 use Rattle.pickle_syntax.specs.ReadForms.{pickle_at}

@@ -2,7 +2,8 @@
 
 ghost use Rattle.std.specs.Prelude.{◌≡◌, ◌≢◌, ◌<◌, ◌≤◌, ◌++◌, ◌∷◌, List, length, IfOk, IfErr};
 ghost use Rattle.pickle_syntax.specs.Tokens.{Token, tokens_of};
-ghost use Rattle.pickle_tree.specs.Tree.{Tree, DeclarationTree, pickle_tree};
+ghost use Rattle.pickle_tree.specs.Pickle.{pickle_tree};
+ghost use Rattle.pickle_tree.specs.Tree.{Tree, DeclarationTree};
 ghost use Rattle.pickle_syntax.specs.Show.{show, show_pickle};
 ghost use Rattle.pickle_syntax.specs.Levels.{IsWellBracketed, IsPickleWellBracketed};
 ghost use Rattle.pickle_syntax.specs.Told.{Tells};

@@ -2,8 +2,9 @@
 
 ghost use Rattle.std.specs.Prelude.{◌≡◌};
 ghost use Rattle.pickle_syntax.specs.Tokens.{tokens_of};
-ghost use Rattle.pickle_tree.specs.Tree.{declaration_tree, pickle_tree};
-ghost use Rattle.pickle_syntax.specs.Limits.{standard};
+ghost use Rattle.pickle_tree.specs.Pickle.{pickle_tree};
+ghost use Rattle.pickle_tree.specs.Tree.{declaration_tree};
+ghost use Rattle.pickle_tree.specs.Limits.{standard};
 ghost use Rattle.pickle_syntax.specs.Reading.{Gives};
 ghost use Rattle.pickle_syntax.specs.ReadForms.{declaration_at, is_over, pickle_at};
 

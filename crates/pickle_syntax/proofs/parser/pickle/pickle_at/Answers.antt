@@ -1,7 +1,7 @@
 use Rattle.std.proofs.Common.{◌≡◌, ◌-◌, ◌<◌, ◌∙◌, sym, arith, vec_len, map}
 use Rattle.pickle_syntax.specs.Tokens.{tokens_of}
 use Rattle.pickle_tree.specs.Tree.{declaration_tree}
-use Rattle.pickle_syntax.specs.Limits.{standard}
+use Rattle.pickle_tree.specs.Limits.{standard}
 use Rattle.pickle_syntax.proofs.DeclarationSteps.{declarations_push, declarations_step}
 use Rattle.pickle_syntax.proofs.parser.pickle.pickle_at.Goals as goal
 
