@@ -38,7 +38,7 @@ fn fault_of(stop: Stop, count: usize) -> ParseFault
 
 /// The pickle that the tokens are: declarations whose tree shows these tokens, each operand binding as tightly as its
 /// place asks, and within the limits of 64 levels of an expression (brackets counted), 64 levels of types in one another,
-/// 1,024 fields of a struct or union and 4,096 declarations.
+/// 1,024 fields of a struct or union and 4,096 declarations, which the pickle keeps by its type.
 ///
 /// `Syntax`, `TooDeep` and `TooMany` come only where the tokens are no pickle, and each only where the reading of the tokens stops
 /// for that reason. `Syntax` names the token at which it stops, with which no pickle goes on (`no_pickle_goes_on`), or the tokens'
