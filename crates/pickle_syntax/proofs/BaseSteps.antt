@@ -12,7 +12,7 @@ use Rattle.pickle_tree.specs.declared.tree.Form.TheOpen.{Form-F}
 use Rattle.pickle_tree.specs.declared.tree.Form.TheFolds.{fold-roll-Form}
 use Rattle.pickle_syntax.specs.Tokens.{tokens_of}
 use Rattle.pickle_tree.specs.Tree.{FormTree, FieldTree, StringForm, UnionForm, form_step, field_step, form_tree, fields_tree}
-use Rattle.pickle_syntax.specs.Limits.{Limits}
+use Rattle.pickle_tree.specs.Limits.{Limits}
 use Rattle.pickle_syntax.specs.Reading.{Wrong, reference_at, target_at}
 use Rattle.pickle_syntax.specs.ReadForms.{FormReader, word_form, base_at}
 

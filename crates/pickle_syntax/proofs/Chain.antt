@@ -4,7 +4,7 @@ use Rattle.std.proofs.lemmas.Bool.{le-ltb, le-leb, lt-ltb}
 use Rattle.pickle_syntax.specs.Tokens.{Token}
 use Rattle.pickle_tree.specs.Tree.{Tree}
 use Rattle.pickle_syntax.specs.Levels.{level_of}
-use Rattle.pickle_syntax.specs.Limits.{depth}
+use Rattle.pickle_tree.specs.Limits.{depth}
 use Rattle.pickle_syntax.specs.Operators.{goes_on, own_of, left_of, next_of}
 use Rattle.pickle_syntax.specs.Reading.{Fault, Deep, ◌>>=◌}
 use Rattle.pickle_syntax.specs.ReadExpressions.{Reader, step_at, chain}

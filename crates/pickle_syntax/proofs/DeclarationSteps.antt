@@ -4,7 +4,7 @@ use Rattle.std.proofs.lemmas.List.{append-nil, map_push}
 use Rattle.pickle_tree.specs.declared.tree.Declaration.{Declaration}
 use Rattle.pickle_syntax.specs.Tokens.{Token}
 use Rattle.pickle_tree.specs.Tree.{DeclarationTree, declaration_tree}
-use Rattle.pickle_syntax.specs.Limits.{Limits}
+use Rattle.pickle_tree.specs.Limits.{Limits}
 use Rattle.pickle_syntax.specs.Reading.{Fault, Many}
 use Rattle.pickle_syntax.specs.ReadForms.{declaration_at, with_declaration, is_over, declarations_at}
 

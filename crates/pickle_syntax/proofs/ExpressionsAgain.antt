@@ -9,7 +9,7 @@ use Rattle.pickle_tree.specs.Tree.{Select, InUnit, Convert, Tree, Literal, Name,
 use Rattle.pickle_tree.specs.Tree as tree
 use Rattle.pickle_syntax.specs.Show.{show, show_unit, show_target, prefix_sign, infix_sign}
 use Rattle.pickle_syntax.specs.Levels.{level, level_of, IsWellBracketed}
-use Rattle.pickle_syntax.specs.Limits.{depth}
+use Rattle.pickle_tree.specs.Limits.{depth}
 use Rattle.pickle_syntax.specs.Operators.{next_of, own_of, left_of, goes_on}
 use Rattle.pickle_syntax.specs.Reading.{◌>>=◌, Read, expect, after_sign, name_at}
 use Rattle.pickle_syntax.specs.ReadExpressions.{operand_at, step_at, chain, expression_at}

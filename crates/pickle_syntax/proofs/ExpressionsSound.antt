@@ -14,7 +14,7 @@ use Rattle.pickle_tree.specs.Tree.{Select, InUnit, Convert, Tree, Literal, Name,
 use Rattle.pickle_tree.specs.Tree as tree
 use Rattle.pickle_syntax.specs.Show.{show, show_suffix, show_unit, show_target, prefix_sign, infix_sign}
 use Rattle.pickle_syntax.specs.Levels.{level, level_of, IsWellBracketed}
-use Rattle.pickle_syntax.specs.Limits.{depth}
+use Rattle.pickle_tree.specs.Limits.{depth}
 use Rattle.pickle_syntax.specs.Operators.{start_of, next_of, own_of, left_of, goes_on}
 use Rattle.pickle_syntax.specs.Reading.{Fault, Wrong, Deep, Many, ◌>>=◌, expect, name_at, unit_at, target_at}
 use Rattle.pickle_syntax.specs.ReadExpressions.{Reader, operand_by, operand_at, step_at, chain, expression_at}

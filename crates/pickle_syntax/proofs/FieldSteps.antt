@@ -6,7 +6,7 @@ use Rattle.pickle_syntax.specs.declared.token.Sign.TheVariants as sign
 use Rattle.pickle_tree.specs.declared.tree.Field.{Field}
 use Rattle.pickle_syntax.specs.Tokens.{Token}
 use Rattle.pickle_tree.specs.Tree.{FieldTrees, NoFields, FieldThen, FieldTree, field_tree, fields_of, fields_tree}
-use Rattle.pickle_syntax.specs.Limits.{Limits, form_depth, fields_depth}
+use Rattle.pickle_tree.specs.Limits.{Limits, form_depth, fields_depth}
 use Rattle.pickle_syntax.specs.Reading.{Fault, Many, Read, after_sign}
 use Rattle.pickle_syntax.specs.ReadForms.{FormReader, field_at, with_field, fields_at}
 

@@ -15,7 +15,7 @@ use Rattle.pickle_tree.specs.Tree.{TreeReference, Int, Uint, Called, ToReference
 use Rattle.pickle_tree.specs.Tree as tree
 use Rattle.pickle_syntax.specs.Show.{prefix_sign, infix_sign, show_suffix, show, show_optional, show_part, show_name, show_order, show_form, show_fields, show_declaration, show_pickle}
 use Rattle.pickle_syntax.specs.Levels.{IsWellBracketed, IsOptionalWellBracketed, ArePartsWellBracketed, IsBase, IsFormWellBracketed, AreFieldsWellBracketed, IsPickleWellBracketed}
-use Rattle.pickle_syntax.specs.Limits.{Limits, depth, form_depth, fields_depth, field_count, IsOptionalWithin, ArePartsWithin, IsFormWithin, AreFieldsWithin, AreDeclarationsWithin, IsPickleWithin}
+use Rattle.pickle_tree.specs.Limits.{Limits, depth, form_depth, fields_depth, field_count, IsOptionalWithin, ArePartsWithin, IsFormWithin, AreFieldsWithin, AreDeclarationsWithin, IsPickleWithin}
 use Rattle.pickle_syntax.specs.Operators.{next_of}
 use Rattle.pickle_syntax.specs.Reading.{Read, ◌>>=◌, after_sign, after_word, expect, name_at, width_at, reference_at, target_at}
 use Rattle.pickle_syntax.specs.ReadForms.{present_at, part_at, condition_at, bound_at, FormReader, order_at, optional_name_at, field_at, fields_at, braced_at, struct_at, pinned_at, base_at, suffix_at, form_at, declaration_at, declarations_at, pickle_at}

@@ -9,7 +9,7 @@ use Rattle.pickle_syntax.specs.Tokens.{Token, Reserved, Named, Mark}
 use Rattle.pickle_tree.specs.Tree.{Int, Uint, Called, TreeTarget, ToReference, ToOffset, Tree, FormTree, Plain, StringForm, OffsetForm, ArrayForm, StructForm, IntegralForm, UnionForm, FieldTrees, NoFields, FieldThen, FieldTree, DeclarationTree}
 use Rattle.pickle_syntax.specs.Show.{show, show_reference, show_target, show_optional, show_part, show_name, show_order, show_pinned, show_parts, show_form, show_fields, show_declaration, show_pickle}
 use Rattle.pickle_syntax.specs.Levels.{IsOptionalWellBracketed, ArePartsWellBracketed, IsBase, IsFormWellBracketed, AreFieldsWellBracketed, IsPickleWellBracketed}
-use Rattle.pickle_syntax.specs.Limits.{Limits, form_depth, fields_depth, field_count, IsOptionalWithin, ArePartsWithin, IsFormWithin, AreFieldsWithin, AreDeclarationsWithin}
+use Rattle.pickle_tree.specs.Limits.{Limits, form_depth, fields_depth, field_count, IsOptionalWithin, ArePartsWithin, IsFormWithin, AreFieldsWithin, AreDeclarationsWithin}
 use Rattle.pickle_syntax.specs.Pickles.{semicolons}
 use Rattle.pickle_syntax.specs.Reading.{Fault, Wrong, Deep, Many, Read, ◌>>=◌, after_sign, after_word, needed, expect, name_at, reference_at, target_at}
 use Rattle.pickle_syntax.specs.ReadExpressions.{expression_at}

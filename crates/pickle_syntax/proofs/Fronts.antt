@@ -21,7 +21,7 @@ use Rattle.pickle_syntax.specs.Tokens as token
 use Rattle.pickle_tree.specs.Tree.{Int, Uint, Called, ToReference, ToOffset, Select, InUnit, Convert, Tree, Literal, Name, Bracket, Before, Between, Choice, Index, After, FormTree, Plain, StringForm, OffsetForm, ArrayForm, StructForm, IntegralForm, UnionForm, FieldTrees, NoFields, FieldThen, FieldTree, DeclarationTree}
 use Rattle.pickle_tree.specs.Tree as tree
 use Rattle.pickle_syntax.specs.Levels.{level}
-use Rattle.pickle_syntax.specs.Limits.{Limits, depth, form_depth}
+use Rattle.pickle_tree.specs.Limits.{Limits, depth, form_depth}
 use Rattle.pickle_syntax.specs.Operators.{start_of, next_of, goes_on}
 use Rattle.pickle_syntax.specs.ReadExpressions.{Reader, operand_at, step_at, chain, expression_at}
 use Rattle.pickle_syntax.specs.ReadForms.{present_at, present_if, part_at, condition_at, bound_by, bound_at, FormReader, order_at, optional_name_at, field_at, with_field, unless_closed, fields_at, braced_at, target_form, struct_by, struct_at, pinned_at, base_at, suffix_by, suffix_at, form_at, declaration_at, with_declaration, declarations_at, pickle_at}

@@ -24,6 +24,7 @@ pub mod PartLaws
 pub mod TextLaws
 pub mod Letters
 pub mod NumberLaws
+pub mod Sizes
 pub mod Parsed
 pub mod Telling
 pub mod PieceLaws

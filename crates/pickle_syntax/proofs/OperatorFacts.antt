@@ -18,7 +18,7 @@ use Rattle.pickle_tree.specs.Tree.{Select, InUnit, Convert, Tree, Literal, Name,
 use Rattle.pickle_tree.specs.Tree as tree
 use Rattle.pickle_syntax.specs.Show.{prefix_sign, infix_sign}
 use Rattle.pickle_syntax.specs.Levels.{level, level_of, IsWellBracketed}
-use Rattle.pickle_syntax.specs.Limits.{depth}
+use Rattle.pickle_tree.specs.Limits.{depth}
 use Rattle.pickle_syntax.specs.Operators.{start_of, sign_next, next_of, own_of, left_of, goes_on}
 
 -- the token that begins an operand

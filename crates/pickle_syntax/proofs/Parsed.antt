@@ -9,22 +9,33 @@ use Rattle.pickle_syntax.specs.declared.parser.fault.Stop.{Stop}
 use Rattle.pickle_syntax.specs.declared.parser.fault.Stop.TheVariants as stop
 use Rattle.pickle_syntax.specs.declared.parser.fault.ParseFault.TheVariants.{Memory, TooDeep, TooMany}
 use Rattle.pickle_syntax.specs.Tokens.{Token, Reserved, Mark, token_of, tokens_of}
-use Rattle.pickle_tree.specs.Tree.{DeclarationTree, pickle_tree, Tree, FormTree, Plain, StringForm, OffsetForm, ArrayForm, StructForm, IntegralForm, UnionForm, FieldTrees, NoFields, FieldThen, FieldParts}
+use Rattle.pickle_tree.specs.Pickle.{pickle_tree}
+use Rattle.pickle_tree.specs.Tree.{DeclarationTree, Tree, FormTree, Plain, StringForm, OffsetForm, ArrayForm, StructForm, IntegralForm, UnionForm, FieldTrees, NoFields, FieldThen, FieldParts}
 use Rattle.pickle_syntax.specs.Show.{show_reference, show_optional, show_part, show_name, show_order, show_pinned, show_parts, show_form, show_fields, show_declaration, show_pickle}
 use Rattle.pickle_syntax.specs.Levels.{IsPickleWellBracketed}
-use Rattle.pickle_syntax.specs.Limits.{Limits, standard, field_count, IsOptionalWithin, ArePartsWithin, IsFormWithin, AreFieldsWithin, AreDeclarationsWithin}
+use Rattle.pickle_tree.specs.Limits.{Limits, standard, field_count, IsOptionalWithin, ArePartsWithin, IsFormWithin, AreFieldsWithin, AreDeclarationsWithin, IsPickleWithin, pickle_form_count, MOST_FORMS}
 use Rattle.pickle_syntax.specs.Pickles.{IsPickle, IsPickleOf, semicolons, fault_of}
 use Rattle.pickle_syntax.specs.Reading.{Fault, Wrong, Deep, Many, Fails}
 use Rattle.pickle_syntax.specs.ReadForms.{pickle_at}
 use Rattle.pickle_syntax.proofs.ExpressionsSound.{depth_shown}
 use Rattle.pickle_syntax.proofs.FormsAgain.{pickle_again}
 use Rattle.pickle_syntax.proofs.FormsSound.{IsRefused, declarations_law, form_depth_shown}
+use Rattle.pickle_syntax.proofs.Sizes.{pickle_count_shown}
 
 pickle_sound : (toks : List Token) (ds : List DeclarationTree) → pickle_at standard toks ≡ Ok ds → IsPickleOf toks ds
 pickle_sound toks ds e =
     let law = declarations_law standard 4096 1024 toks (omega arith) (omega arith) (omega arith) in
     let r = law.good ds e in
     record { shown = r.shown; bracketed = r.fine; within = (r.few, r.within) }
+
+-- what was read keeps the limits that a pickle keeps by its type
+pub read_within : (toks : List Token) (ds : List DeclarationTree) → pickle_at standard toks ≡ Ok ds → IsPickleWithin standard ds
+read_within toks ds e = let is = pickle_sound toks ds e in is.within
+
+pub read_few : (kinds : List Kind) (ds : List DeclarationTree) → length kinds ≤ MOST_FORMS → pickle_at standard (tokens_of kinds) ≡ Ok ds → pickle_form_count ds ≤ MOST_FORMS
+read_few kinds ds few e =
+    let is = pickle_sound (tokens_of kinds) ds e in
+    omega (arith, pickle_count_shown ds, ap length is.shown, length-map kinds token_of)
 
 pickle_refused : (toks : List Token) (f : Fault) → pickle_at standard toks ≡ Err f → IsRefused 1024 64 toks f
 pickle_refused toks f e = let law = declarations_law standard 4096 1024 toks (omega arith) (omega arith) (omega arith) in law.bad f e

@@ -6,7 +6,7 @@ use Rattle.pickle_syntax.specs.declared.token.Kind.{Kind}
 use Rattle.pickle_syntax.specs.declared.parser.fault.Stop.{Stop}
 use Rattle.pickle_syntax.specs.declared.parser.fault.Stop.TheVariants.{Syntax, TooDeep, TooMany, Memory}
 use Rattle.pickle_syntax.specs.declared.parser.fault.ParseFault.TheVariants as fault
-use Rattle.pickle_syntax.specs.Limits.{standard}
+use Rattle.pickle_tree.specs.Limits.{standard}
 use Rattle.pickle_syntax.specs.Tokens.{Token, token_of, tokens_of}
 use Rattle.pickle_syntax.specs.Reading.{Fault, Wrong, Fails}
 use Rattle.pickle_syntax.specs.ReadForms.{pickle_at}

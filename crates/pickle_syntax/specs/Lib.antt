@@ -1,6 +1,5 @@
 pub mod FaultNames
 pub mod Levels
-pub mod Limits
 pub mod Operators
 pub mod Pickles
 pub mod Told

@@ -9,7 +9,7 @@ use Rattle.pickle_syntax.specs.Tokens.{Token, Mark}
 use Rattle.pickle_tree.specs.Tree.{DeclarationTree}
 use Rattle.pickle_syntax.specs.Show.{show_pickle}
 use Rattle.pickle_syntax.specs.Levels.{IsPickleWellBracketed}
-use Rattle.pickle_syntax.specs.Limits.{standard, IsPickleWithin}
+use Rattle.pickle_tree.specs.Limits.{standard, IsPickleWithin}
 
 -- the declarations of these tokens
 pub record IsPickleOf (tokens : List Token) (ds : List DeclarationTree) : Type 0 where

@@ -10,7 +10,7 @@ use Rattle.pickle_syntax.specs.Tokens as token
 use Rattle.pickle_tree.specs.Tree.{Select, InUnit, Convert, Tree, Literal, Name, Bracket, Before, Between, Choice, Index, After}
 use Rattle.pickle_tree.specs.Tree as tree
 use Rattle.pickle_syntax.specs.Levels.{level}
-use Rattle.pickle_syntax.specs.Limits.{depth}
+use Rattle.pickle_tree.specs.Limits.{depth}
 use Rattle.pickle_syntax.specs.Operators.{start_of, next_of, goes_on}
 use Rattle.pickle_syntax.specs.Reading.{Wrong, Deep, ◌>>=◌, Read, expect, name_at, unit_at, target_at}
 

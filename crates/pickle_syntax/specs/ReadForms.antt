@@ -8,7 +8,7 @@ use Rattle.pickle_tree.specs.declared.tree.ByteOrder.{ByteOrder}
 use Rattle.pickle_tree.specs.declared.tree.ByteOrder.TheVariants as order
 use Rattle.pickle_syntax.specs.Tokens.{Token, Reserved, Named}
 use Rattle.pickle_tree.specs.Tree.{TreeTarget, ToReference, ToOffset, Tree, FormTree, Plain, StringForm, OffsetForm, ArrayForm, StructForm, IntegralForm, UnionForm, FieldTrees, NoFields, FieldThen, FieldTree, DeclarationTree}
-use Rattle.pickle_syntax.specs.Limits.{Limits, form_depth}
+use Rattle.pickle_tree.specs.Limits.{Limits, form_depth}
 use Rattle.pickle_syntax.specs.Reading.{Fault, Wrong, Deep, Many, ◌>>=◌, Read, after_sign, after_word, needed, expect, name_at, reference_at, target_at}
 use Rattle.pickle_syntax.specs.ReadExpressions.{expression_at}
 

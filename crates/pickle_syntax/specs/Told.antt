@@ -3,7 +3,7 @@ use Rattle.std.specs.Prelude.{◌-◌, ◌≡◌, ⊤, List, length, Err}
 use Rattle.pickle_syntax.specs.declared.parser.fault.ParseFault.{ParseFault}
 use Rattle.pickle_syntax.specs.declared.parser.fault.ParseFault.TheVariants as fault
 use Rattle.pickle_syntax.specs.Tokens.{Token}
-use Rattle.pickle_syntax.specs.Limits.{standard}
+use Rattle.pickle_tree.specs.Limits.{standard}
 use Rattle.pickle_syntax.specs.Reading.{Wrong, Deep, Many}
 use Rattle.pickle_syntax.specs.ReadForms.{pickle_at}
 

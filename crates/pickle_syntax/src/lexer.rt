@@ -1,6 +1,6 @@
 //! Pickles as text, cut into tokens.
 
-ghost use Rattle.std.specs.Prelude.{◌≡◌, ◌≢◌, IfErr, ◌+◌, ◌<◌, ◌++◌, ◌^◌, ℕ, length, Option, Some, None, IfSome, IsSome, ◌↔◌, option_map, OnOk, IfOk, slice_index_or, vec_len};
+ghost use Rattle.std.specs.Prelude.{◌≡◌, ◌≢◌, IfErr, ◌+◌, ◌<◌, ◌≤◌, ◌++◌, ◌^◌, ℕ, length, Option, Some, None, IfSome, IsSome, ◌↔◌, option_map, OnOk, IfOk, slice_index_or, vec_len};
 ghost use Rattle.pickle_syntax.specs.Tokens.{token_of, tokens_of};
 ghost use Rattle.pickle_syntax.specs.Bytes.{Gives};
 ghost use Rattle.pickle_syntax.specs.declared.lexer.fault.LexFaultKind.TheVariants.{Memory};
@@ -26,12 +26,14 @@ use std::alloc::{AllocError, Global};
 /// The most bytes that a pickle may have.
 const MOST_BYTES: usize = 1_048_576;
 
-/// The tokens of a pickle in order, and for each its span: the places of its first byte and after its last.
+/// The tokens of a pickle in order, and for each its span: the places of its first byte and after its last. There are no more of
+/// them than a pickle may have bytes.
 #[derive(Drop)]
 pub struct Tokens<'t> {
     kinds: Vec<Kind<'t>>,
     spans: Vec<(u32, u32)>,
     ghost paired: { length kinds.items ≡ length spans.items },
+    ghost few: { length kinds.items ≤ 1048576 },
 }
 
 impl<'t> Tokens<'t> {
@@ -71,6 +73,7 @@ fn keep<'t>(
     ensures kinds { OnOk result (tokens_of kinds.new.items ≡ tokens_of kinds.old.items ++ token_list (option_map token_of kind.entry)) }
     ensures spans { OnOk result (spans.new.items ≡ spans.old.items ++ span_list (option_map token_of kind.entry) at len) }
     ensures paired { OnOk result (length kinds.old.items ≡ length spans.old.items → length kinds.new.items ≡ length spans.new.items) }
+    ensures one { OnOk result (length kinds.new.items ≤ length kinds.old.items + 1) }
 {
     if let Some(kind) = kind {
         kinds.push(kind)?;
@@ -81,7 +84,7 @@ fn keep<'t>(
 
 #[tactic(auto, using(crate::proofs::Lexed::lexed_steps))]
 fn tokens_from(alloc: Global, bytes: &[u8]) -> Result<Tokens<'_>, LexFault>
-    requires { length bytes.now < 2 ^ 31 }
+    requires { length bytes.now ≤ 1048576 }
     ensures { Gives (λ t. (tokens_of t.kinds.items, t.spans.items)) result (lexed_from 0 0 bytes.now) }
 {
     let mut kinds = Vec::new(alloc);

@@ -2,7 +2,8 @@
 
 ghost use Rattle.std.specs.Prelude.{◌≡◌, ◌≢◌, ◌<◌, ◌≤◌, ◌++◌, ◌∷◌, List, length, IfOk, IfErr};
 ghost use Rattle.pickle_syntax.specs.Tokens.{Token, tokens_of};
-ghost use Rattle.pickle_tree.specs.Tree.{Tree, DeclarationTree, pickle_tree};
+ghost use Rattle.pickle_tree.specs.Pickle.{pickle_tree};
+ghost use Rattle.pickle_tree.specs.Tree.{Tree, DeclarationTree};
 ghost use Rattle.pickle_syntax.specs.Show.{show, show_pickle};
 ghost use Rattle.pickle_syntax.specs.Levels.{IsWellBracketed, IsPickleWellBracketed};
 ghost use Rattle.pickle_syntax.specs.Told.{Tells};
@@ -37,7 +38,7 @@ fn fault_of(stop: Stop, count: usize) -> ParseFault
 
 /// The pickle that the tokens are: declarations whose tree shows these tokens, each operand binding as tightly as its
 /// place asks, and within the limits of 64 levels of an expression (brackets counted), 64 levels of types in one another,
-/// 1,024 fields of a struct or union and 4,096 declarations.
+/// 1,024 fields of a struct or union and 4,096 declarations, which the pickle keeps by its type.
 ///
 /// `Syntax`, `TooDeep` and `TooMany` come only where the tokens are no pickle, and each only where the reading of the tokens stops
 /// for that reason. `Syntax` names the token at which it stops, with which no pickle goes on (`no_pickle_goes_on`), or the tokens'

@@ -1,1 +1,4 @@
+pub mod Limits
+pub mod Pickle
+pub mod Props
 pub mod Tree

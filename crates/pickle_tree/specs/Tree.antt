@@ -22,7 +22,6 @@ use Rattle.pickle_tree.specs.declared.tree.Form.{Form, fold-Form}
 use Rattle.pickle_tree.specs.declared.tree.Form.TheOpen.{Form-F, Field-F}
 use Rattle.pickle_tree.specs.declared.tree.Field.{Field, fold-Field}
 use Rattle.pickle_tree.specs.declared.tree.Declaration.{Declaration}
-use Rattle.pickle_tree.specs.declared.tree.Pickle.{Pickle}
 
 -- an integer type as it is written, or a name
 pub data TreeReference : Type 0 where
@@ -179,7 +178,3 @@ pub record DeclarationTree : Type 0 where
 
 abbrev pub declaration_tree : Declaration → DeclarationTree
 declaration_tree d = record { name = d.name.now; form = form_tree d.form }
-
--- a pickle: its declarations in order
-abbrev pub pickle_tree : Pickle → List DeclarationTree
-pickle_tree p = map declaration_tree p.declarations.items

@@ -1,5 +1,10 @@
 //! The syntax tree of a pickle.
 
+ghost use Rattle.std.specs.Prelude.{◌≤◌, map};
+ghost use Rattle.pickle_tree.specs.Limits.{standard, pickle_form_count, IsPickleWithin, MOST_FORMS};
+ghost use Rattle.pickle_tree.specs.Props.{IsPickleWithin-prop};
+ghost use Rattle.pickle_tree.specs.Tree.{declaration_tree};
+
 /// An attribute of a value.
 #[derive(Clone, Copy, PartialEq, Eq, Debug)]
 pub enum Attribute {
@@ -198,8 +203,11 @@ pub struct Declaration<'t> {
     pub form: Form<'t>,
 }
 
-/// The declarations of a pickle, in order.
+/// The declarations of a pickle, in order. They keep the language's limits, and as a pickle has at most 1,048,576 bytes, no more
+/// types are written in it.
 #[derive(Drop)]
 pub struct Pickle<'t> {
     pub declarations: Vec<Declaration<'t>>,
+    pub ghost within: { IsPickleWithin standard (map declaration_tree declarations.items) } by { IsPickleWithin-prop standard (map declaration_tree declarations.items) },
+    pub ghost few: { pickle_form_count (map declaration_tree declarations.items) ≤ MOST_FORMS },
 }

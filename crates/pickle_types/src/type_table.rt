@@ -1,7 +1,8 @@
 //! The types of a pickle, found by their names.
 
 ghost use Rattle.std.specs.Prelude.{◌≡◌, ◌≢◌, ◌+◌, ◌^◌, ◌<◌, ◌≤◌, ℕ, List, [], ◌∷◌, ◌++◌, length, map, None, Some, Ok, IfOk, IfErr, IfSome, OnOk, IsTrue, ◌↔◌};
-ghost use Rattle.pickle_tree.specs.Tree.{declaration_tree, pickle_tree};
+ghost use Rattle.pickle_tree.specs.Pickle.{pickle_tree};
+ghost use Rattle.pickle_tree.specs.Tree.{declaration_tree};
 ghost use Rattle.pickle_types.specs.Types;
 ghost use Rattle.pickle_types.specs.Types.{IntegerOf};
 ghost use Rattle.pickle_types.specs.Table.{type_of, IsWidth, IsTable};

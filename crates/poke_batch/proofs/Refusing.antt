@@ -4,7 +4,7 @@ use Rattle.std.proofs.lemmas.Bool.{false≢true}
 use Rattle.pickle_syntax.specs.Tokens.{Token}
 use Rattle.pickle_syntax.specs.Bytes.{Fails}
 use Rattle.pickle_syntax.specs.Lexing.{lexed}
-use Rattle.pickle_syntax.specs.Limits.{standard}
+use Rattle.pickle_tree.specs.Limits.{standard}
 use Rattle.pickle_syntax.specs.Pickles.{IsPickle, IsPlaceWithin}
 use Rattle.pickle_syntax.specs.ReadForms.{pickle_at}
 use Rattle.pickle_syntax.specs.Reading.{Fault, Wrong, Deep, Many}

@@ -11,7 +11,7 @@ use Rattle.pickle_syntax.specs.Tokens.{Token, Reserved, Named, Opens, Numeral, C
 use Rattle.pickle_tree.specs.Tree.{Tree, TreeReference, Int, Uint, Called, FieldParts, FormTree, Plain, StringForm, OffsetForm, ArrayForm, StructForm, IntegralForm, UnionForm, FieldTrees, DeclarationTree}
 use Rattle.pickle_tree.specs.Tree as tree
 use Rattle.pickle_syntax.specs.Show.{show_optional, show_part, show_name, show_order, show_pinned, show_parts, show_reference, show_form, show_fields, show_declaration, show_pickle}
-use Rattle.pickle_syntax.specs.Limits.{standard, field_count, IsFormWithin, AreFieldsWithin, AreDeclarationsWithin}
+use Rattle.pickle_tree.specs.Limits.{standard, field_count, IsFormWithin, AreFieldsWithin, AreDeclarationsWithin}
 use Rattle.pickle_syntax.specs.Lexing.{token_list}
 use Rattle.pickle_syntax.specs.Pieces.{AllIn, IsPiece, Piece, pieces, tokens_in}
 use Rattle.pickle_syntax.proofs.LexedLaws.{tokens_are}

@@ -3,7 +3,7 @@ use Rattle.std.specs.Prelude.{◌≡◌, ◌≢◌, ℕ, ◌-◌, ◌≤◌, Lis
 use Rattle.pickle_syntax.specs.Tokens.{Token}
 use Rattle.pickle_tree.specs.Tree.{DeclarationTree}
 use Rattle.pickle_syntax.specs.Lexing.{lexed}
-use Rattle.pickle_syntax.specs.Limits.{standard}
+use Rattle.pickle_tree.specs.Limits.{standard}
 use Rattle.pickle_syntax.specs.Pickles.{IsPickle, IsPickleOf}
 use Rattle.pickle_syntax.specs.ReadForms.{pickle_at}
 use Rattle.pickle_syntax.specs.Reading.{Fault, Wrong, Deep, Many}

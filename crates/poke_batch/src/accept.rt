@@ -4,7 +4,8 @@ ghost use Rattle.std.specs.Prelude.{◌≡◌, ◌≢◌, ℕ, List, Option, len
 ghost use Rattle.pickle_syntax.specs.Bytes as lexing;
 ghost use Rattle.pickle_syntax.specs.Lexing.{lexed};
 ghost use Rattle.pickle_types.specs.declared.fault.FaultKind.TheVariants as types;
-ghost use Rattle.pickle_tree.specs.Tree.{DeclarationTree, pickle_tree};
+ghost use Rattle.pickle_tree.specs.Pickle.{pickle_tree};
+ghost use Rattle.pickle_tree.specs.Tree.{DeclarationTree};
 ghost use Rattle.pickle_types.specs.Built as checking;
 ghost use Rattle.pickle_types.specs.Meaning.{declared};
 ghost use Rattle.pickle_types.specs.Names.{predeclared};

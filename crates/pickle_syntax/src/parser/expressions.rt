@@ -6,7 +6,7 @@ ghost use Rattle.pickle_tree.specs.Tree.{expression_tree, suffix_tree, After};
 ghost use Rattle.pickle_syntax.specs.declared.parser.fault.Stop.TheVariants.{Memory};
 ghost use Rattle.pickle_syntax.specs.declared.parser.operators.Start.TheVariants as start;
 ghost use Rattle.pickle_syntax.specs.declared.parser.operators.Next.TheVariants as next;
-ghost use Rattle.pickle_syntax.specs.Limits;
+ghost use Rattle.pickle_tree.specs.Limits;
 ghost use Rattle.pickle_syntax.specs.Reading.{Gives};
 ghost use Rattle.pickle_syntax.specs.ReadExpressions.{operand_by, operand_at, step_at, chain, expression_at};
 

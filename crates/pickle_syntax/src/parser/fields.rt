@@ -4,8 +4,8 @@ ghost use Rattle.std.specs.Prelude.{◌≡◌, ◌≤◌, ◌<◌, IfOk, IfErr};
 ghost use Rattle.pickle_syntax.specs.Tokens.{tokens_of};
 ghost use Rattle.pickle_tree.specs.Tree.{boxed_tree, constraint_in, label_in, condition_in, optional_bytes, field_tree, fields_tree};
 ghost use Rattle.pickle_syntax.specs.declared.parser.fault.Stop.TheVariants.{Memory};
-ghost use Rattle.pickle_syntax.specs.Limits;
-ghost use Rattle.pickle_syntax.specs.Limits.{standard};
+ghost use Rattle.pickle_tree.specs.Limits;
+ghost use Rattle.pickle_tree.specs.Limits.{standard};
 ghost use Rattle.pickle_syntax.specs.Reading.{Gives};
 ghost use Rattle.pickle_syntax.specs.ReadForms.{present_at, part_at, condition_at, order_at, optional_name_at, field_at, fields_at, braced_at, form_at};
 

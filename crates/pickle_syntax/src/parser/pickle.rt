@@ -1,9 +1,10 @@
 //! Reads the declarations of a pickle.
 
-ghost use Rattle.std.specs.Prelude.{◌≡◌};
+ghost use Rattle.std.specs.Prelude.{◌≡◌, ◌≤◌, length};
 ghost use Rattle.pickle_syntax.specs.Tokens.{tokens_of};
-ghost use Rattle.pickle_tree.specs.Tree.{declaration_tree, pickle_tree};
-ghost use Rattle.pickle_syntax.specs.Limits.{standard};
+ghost use Rattle.pickle_tree.specs.Pickle.{pickle_tree};
+ghost use Rattle.pickle_tree.specs.Tree.{declaration_tree};
+ghost use Rattle.pickle_tree.specs.Limits.{standard, MOST_FORMS};
 ghost use Rattle.pickle_syntax.specs.Reading.{Gives};
 ghost use Rattle.pickle_syntax.specs.ReadForms.{declaration_at, is_over, pickle_at};
 
@@ -48,6 +49,7 @@ fn is_over(tokens: &[Kind<'_>]) -> bool
 /// The declarations up to the end of the tokens.
 #[tactic(auto, using(crate::proofs::DeclarationSteps::declaration_steps))]
 pub fn pickle_at<'t>(alloc: Global, tokens: &[Kind<'t>]) -> Result<Pickle<'t>, Stop>
+    requires { length tokens.now ≤ MOST_FORMS }
     ensures { Gives pickle_tree result (pickle_at standard (tokens_of tokens.now)) }
 {
     let mut declarations = Vec::new(alloc);

@@ -4,8 +4,8 @@ ghost use Rattle.std.specs.Prelude.{◌≡◌, ◌+◌, ◌≤◌, ◌<◌, IfOk
 ghost use Rattle.pickle_syntax.specs.Tokens.{tokens_of};
 ghost use Rattle.pickle_tree.specs.Tree.{boxed_tree, target_tree, form_tree};
 ghost use Rattle.pickle_syntax.specs.declared.parser.fault.Stop.TheVariants.{Memory};
-ghost use Rattle.pickle_syntax.specs.Limits;
-ghost use Rattle.pickle_syntax.specs.Limits.{standard};
+ghost use Rattle.pickle_tree.specs.Limits;
+ghost use Rattle.pickle_tree.specs.Limits.{standard};
 ghost use Rattle.pickle_syntax.specs.Reading.{Gives};
 ghost use Rattle.pickle_syntax.specs.ReadForms.{bound_at, target_form, struct_at, pinned_at, base_at, suffix_at, form_at};
 

@@ -12,4 +12,5 @@ loop-rest-preserved c =
       same = rw (c.in_ok-keep.ensures.kinds, c.in_ok-keep.ensures.spans, c.skip-rest.ensures) (on ∙ c.loop-rest.invariant.same);
       place = omega (arith, within.1, c.loop-rest.invariant.place, ap length c.skip-rest.ensures, length-drop c.in_ok-piece.piece.len c.loop-rest.rest.now);
       paired = c.in_ok-keep.ensures.paired c.loop-rest.invariant.paired;
+      few = omega (arith, within.0, c.in_ok-keep.ensures.one, c.loop-rest.invariant.few);
     }

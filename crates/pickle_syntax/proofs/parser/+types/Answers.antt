@@ -1,7 +1,7 @@
 use Rattle.std.proofs.Common.{◌≡◌, ◌-◌, ◌<◌, ◌∙◌, arith, vec_len, refl}
 use Rattle.pickle_syntax.specs.Tokens.{tokens_of}
 use Rattle.pickle_tree.specs.Tree.{field_tree, fields_tree}
-use Rattle.pickle_syntax.specs.Limits.{standard}
+use Rattle.pickle_tree.specs.Limits.{standard}
 use Rattle.pickle_syntax.specs.ReadForms.{form_at}
 use Rattle.pickle_syntax.proofs.BaseSteps.{base_none, base_word, form_string, form_union}
 use Rattle.pickle_syntax.proofs.FieldSteps.{fields_step, fields_tree_push, depth_push}

@@ -1,7 +1,7 @@
 use Rattle.std.proofs.Common.{◌≡◌, ◌≤◌, ◌+◌, ◌-◌, ◌*◌, vec_len}
 use Rattle.pickle_syntax.specs.Tokens.{tokens_of}
 use Rattle.pickle_tree.specs.Tree.{fields_tree}
-use Rattle.pickle_syntax.specs.Limits.{standard, fields_depth}
+use Rattle.pickle_tree.specs.Limits.{standard, fields_depth}
 use Rattle.pickle_syntax.specs.ReadForms.{fields_at, form_at}
 use Rattle.pickle_syntax.proofs.FieldSteps.{with_front}
 use Rattle.pickle_syntax.proofs.parser.+types.Given as goal

@@ -1,7 +1,7 @@
 use Rattle.std.proofs.Common.{◌≡◌, ◌≤◌, ◌-◌, vec_len, map}
 use Rattle.pickle_syntax.specs.Tokens.{tokens_of}
 use Rattle.pickle_tree.specs.Tree.{declaration_tree}
-use Rattle.pickle_syntax.specs.Limits.{standard}
+use Rattle.pickle_tree.specs.Limits.{standard}
 use Rattle.pickle_syntax.specs.ReadForms.{declarations_at, pickle_at}
 use Rattle.pickle_syntax.proofs.DeclarationSteps.{with_earlier}
 use Rattle.pickle_syntax.proofs.parser.pickle.pickle_at.Given as goal

@@ -1,6 +1,6 @@
 use Rattle.std.proofs.Common.{◌≡◌}
 use Rattle.std.proofs.lemmas.Result.{err_from_is_err_and}
-use Rattle.pickle_tree.specs.Tree.{pickle_tree}
+use Rattle.pickle_tree.specs.Pickle.{pickle_tree}
 use Rattle.pickle_types.specs.Names.{predeclared}
 use Rattle.pickle_types.specs.Building.{known_types}
 use Rattle.pickle_types.proofs.Meanings.{rules_sound}

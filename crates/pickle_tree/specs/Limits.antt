@@ -78,3 +78,26 @@ AreDeclarationsWithin limits (d ∷ ds) = IsFormWithin limits d.form × (form_de
 
 abbrev pub IsPickleWithin : Limits → List DeclarationTree → Type 0
 IsPickleWithin limits ds = (length ds ≤ limits.declarations) × AreDeclarationsWithin limits ds
+
+-- how many types are written in a type, itself among them
+abbrev mutual
+  pub form_count : FormTree → ℕ
+  form_count (Plain r) = 1
+  form_count StringForm = 1
+  form_count (OffsetForm r u) = 1
+  form_count (ArrayForm e b) = form_count e + 1
+  form_count (StructForm p fs) = fields_form_count fs + 1
+  form_count (IntegralForm r fs) = fields_form_count fs + 1
+  form_count (UnionForm fs) = fields_form_count fs + 1
+
+  pub fields_form_count : FieldTrees → ℕ
+  fields_form_count NoFields = 0
+  fields_form_count (FieldThen f p rest) = form_count f + fields_form_count rest
+
+abbrev pub pickle_form_count : List DeclarationTree → ℕ
+pickle_form_count [] = 0
+pickle_form_count (d ∷ ds) = form_count d.form + pickle_form_count ds
+
+-- the most types that are written in a pickle, which has as many bytes at most
+abbrev pub MOST_FORMS : ℕ
+MOST_FORMS = 1048576
