@@ -1,6 +1,5 @@
 -- What a store holds, and the values that it stands for.
 use Rattle.std.specs.Prelude.{◌≡◌, ℕ, zero, suc, ◌+◌, ◌-◌, ◌*◌, ◌^◌, ◌<◌, ◌≤◌, ℤ, pos, Bool, true, false, List, [], ◌∷◌, ◌++◌, Option, Some, None, length, take, drop, map, slice_get, slice_index, slice_index_or, unwrap_or, IfSome, All, FitsSigned}
-use Rattle.std.specs.Option.{option_map}
 use Rattle.std.specs.Int.{cast_signed, w64, FitsUnsigned}
 use Rattle.pickle_map.specs.declared.store.room.Growth.{Growth}
 use Rattle.pickle_map.specs.declared.store.room.Growth.TheVariants.{Free, Never}
@@ -12,7 +11,7 @@ use Rattle.pickle_map.specs.declared.store.slots.Shape.{Shape}
 use Rattle.pickle_map.specs.declared.store.slots.Shape.TheVariants.{Integer, Offset, Text, Integers, Offsets, Array, Struct, Union}
 use Rattle.pickle_map.specs.Arithmetic.{with_sign}
 use Rattle.pickle_map.specs.Packed.{bytes_for, packed, numbers_in}
-use Rattle.pickle_map.specs.Tree.{Label, IntegerLabel, OffsetLabel, TextLabel, ArrayLabel, StructLabel, UnionLabel, Value, Tree, End, parts_of, label, start, size, parts, part_at, text_value}
+use Rattle.pickle_map.specs.Tree.{Label, IntegerLabel, OffsetLabel, TextLabel, ArrayLabel, StructLabel, UnionLabel, Value, Tree, End, parts_of, label, start, size, parts, text_value}
 use Rattle.pickle_map.specs.Levels.{Levels, level_nodes, level_links, level_bytes}
 
 -- the slots of a store, each a list of its own
