@@ -2,11 +2,12 @@
 use Rattle.std.proofs.Common.{◌≡◌, ℕ, zero, suc, ◌+◌, ◌-◌, ◌<◌, ◌≤◌, ◌^◌, max, List, [], ◌∷◌, ◌++◌, map, Option, Some, None, Result, Ok, Err, Bool, length, take, drop, get_or, refl, sym, ap, ◌∙◌, arith}
 use Rattle.std.specs.Prelude.{is_some, All}
 use Rattle.std.proofs.lemmas.Bool.{eq-eqb, ne_eqb}
-use Rattle.std.proofs.lemmas.List.{append-nil, length-append, length-take, drop_more, map_push, take_all, take-append-le}
+use Rattle.std.proofs.lemmas.List.{append-nil, length-append, length-map, length-take, drop_more, map_push, take_all, take-append-le}
 use Rattle.std.proofs.lemmas.List.Elements.{All-append}
 use Rattle.pickle_tree.specs.declared.tree.Unit.{Unit as PokeUnit}
 use Rattle.pickle_tree.specs.Tree.{Tree, TreeReference, FieldParts, FormTree, Plain, StringForm, OffsetForm, ArrayForm, StructForm, IntegralForm, UnionForm, FieldTrees, field_tree, fields_tree}
 use Rattle.pickle_tree.specs.declared.tree.Field as tree
+use Rattle.pickle_tree.specs.Limits.{standard, field_count}
 use Rattle.pickle_types.specs.declared.integer.IntegerType.{IntegerType}
 use Rattle.pickle_types.specs.declared.fault.FaultKind.{FaultKind}
 use Rattle.pickle_types.specs.declared.fault.FaultKind.TheVariants.{Memory, IntegralWidths, NotHere}
@@ -139,6 +140,17 @@ pub parts_sound : (fs : List Field) → All IsSoundField fs → All IsSoundPart 
 parts_sound [] h k d lt = absurd (omega arith)
 parts_sound (f ∷ fs) h zero d lt = record { constraint = (h 0 f (omega arith)).constraint }
 parts_sound (f ∷ fs) h (suc k) d lt = parts_sound fs (λ j e less. h (suc j) e (omega arith)) k d (omega arith)
+
+field_count_is : (fs : List tree.Field) → field_count (fields_tree fs) ≡ length fs
+field_count_is [] = refl
+field_count_is (f ∷ fs) = let rest = field_count_is fs in omega arith
+
+-- a union that keeps the limits has few alternatives
+pub parts_few : (fs : List Field) (written : List tree.Field) → length fs ≡ length written → field_count (fields_tree written) ≤ standard.fields → length (map part_of fs) ≤ 2 ^ 16
+parts_few fs written same few =
+    let count = field_count_is written in
+    let parts = length-map fs part_of in
+    omega arith
 
 pub some_alternative : (fs : List tree.Field) → 0 < length fs → if_some_alternative (fields_tree fs) ≡ Ok tt
 some_alternative [] some = absurd (omega arith)

@@ -1,5 +1,5 @@
 -- What a builder of types has built.
-use Rattle.std.specs.Prelude.{◌≡◌, ℕ, ◌+◌, ◌<◌, length, List, [], ◌∷◌, ◌++◌, take, Option, Some, None, Result, Ok, Err, Bool, true, false, ◌&&◌, nat_le}
+use Rattle.std.specs.Prelude.{◌≡◌, ℕ, ◌+◌, ◌^◌, ◌<◌, ◌≤◌, length, List, [], ◌∷◌, ◌++◌, take, Option, Some, None, Result, Ok, Err, Bool, true, false, ◌&&◌, nat_le}
 use denote.Bor.{Bor}
 use Rattle.pickle_tree.specs.Tree.{FieldParts}
 use Rattle.pickle_types.specs.declared.integer.IntegerType.{IntegerType}
@@ -31,6 +31,14 @@ after_itself place.Struct seen itself = seen ++ itself ∷ []
 after_itself place.Pinned seen itself = seen ++ itself ∷ []
 after_itself place.Integral seen itself = seen ++ itself ∷ []
 after_itself place.Union seen itself = seen
+
+-- a table has room for so many nodes more
+abbrev pub HasRoom : Builder → ℕ → Type 0
+HasRoom b count = length b.nodes + count ≤ 2 ^ 32
+
+-- a table has at most so many nodes more than it had
+abbrev pub AddsAtMost : Builder → Builder → ℕ → Type 0
+AddsAtMost old new count = length new.nodes ≤ length old.nodes + count
 
 -- a builder whose table grew, and that knows the same types by their names
 pub record Keeps (old new : Builder) : Type 0 where

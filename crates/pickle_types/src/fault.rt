@@ -32,7 +32,7 @@ pub enum FaultKind {
     NotHere,
     /// A type deeper than 64, with the types that it names opened.
     TooDeep,
-    /// A growth of the table was refused, or it would have more than 2^32 nodes or a union more than 2^16 alternatives.
+    /// A growth of the table was refused.
     Memory,
 }
 

@@ -4,14 +4,6 @@ use crate::integer::IntegerType;
 use crate::name::Name;
 use pickle_tree::tree::{Attribute, ByteOrder, Infix, Prefix};
 
-/// How many nodes a table has at most: a store of mapped values tells them by 32 bits.
-/// No pickle of 1 MiB comes near it.
-pub const MOST_NODES: usize = 4_294_967_296;
-
-/// How many alternatives a union has at most: a store of mapped values tells them by 16 bits.
-/// The parser takes no more than 1,024, so only a tree that was built by hand comes to it.
-pub const MOST_ALTERNATIVES: usize = 65_536;
-
 /// An expression with its names resolved.
 #[derive(Drop)]
 pub enum Resolved {

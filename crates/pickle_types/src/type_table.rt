@@ -1,6 +1,7 @@
 //! The types of a pickle, found by their names.
 
 ghost use Rattle.std.specs.Prelude.{◌≡◌, ◌≢◌, ◌+◌, ◌^◌, ◌<◌, ◌≤◌, ℕ, List, [], ◌∷◌, ◌++◌, length, map, None, Some, Ok, IfOk, IfErr, IfSome, OnOk, IsTrue, ◌↔◌};
+ghost use Rattle.pickle_tree.specs.Limits.{standard, form_count, pickle_form_count, IsFormWithin, AreDeclarationsWithin};
 ghost use Rattle.pickle_tree.specs.Pickle.{pickle_tree};
 ghost use Rattle.pickle_tree.specs.Tree.{declaration_tree};
 ghost use Rattle.pickle_types.specs.Types;
@@ -13,7 +14,7 @@ ghost use Rattle.pickle_types.specs.WellTyped.{Declares};
 ghost use Rattle.pickle_types.specs.Built.{Fails, AreNamed};
 ghost use Rattle.pickle_types.specs.Props.{IsTable-prop, AreNamed-prop};
 ghost use Rattle.pickle_types.specs.Wrong.{first_wrong, TellsPlace};
-ghost use Rattle.pickle_types.specs.Building.{known_types, IsReady, AddsType, named_types, may_add};
+ghost use Rattle.pickle_types.specs.Building.{known_types, IsReady, AddsType, named_types, may_add, HasRoom, AddsAtMost};
 
 use crate::bounds::type_bounds;
 use crate::check::nodes::Nodes;
@@ -31,6 +32,7 @@ impl<'n> Builder<'n> {
     fn new(alloc: Global) -> Builder<'n>
         ensures ready { IsReady result }
         ensures none { known_types result ≡ [] }
+        ensures empty { result.nodes ≡ [] }
     {
         Builder {
             alloc,
@@ -48,6 +50,7 @@ impl<'n> Builder<'n> {
         requires deep { found.depth ≡ Types.depth (type_of self.old.nodes found.node) }
         ensures ready { OnOk result (IsReady self.new) }
         ensures known { OnOk result (known_types self.new ≡ known_types self.old ++ (word.now, type_of self.old.nodes found.node) ∷ []) }
+        ensures nodes { self.new.nodes ≡ self.old.nodes }
         ensures err { IfErr result (λ e. e ≡ FaultKind.Memory) }
     {
         let declared = Declared {
@@ -62,8 +65,10 @@ impl<'n> Builder<'n> {
     fn predeclare(&mut self, types: &[(&'n [u8], IntegerType)]) -> Result<(), FaultKind>
         requires ready { IsReady self.old }
         requires new { IsTrue (may_add (known_types self.old) types.now) }
+        requires space { HasRoom self.old (length types.now) }
         ensures ready { OnOk result (IsReady self.new) }
         ensures known { OnOk result (known_types self.new ≡ known_types self.old ++ named_types types.now) }
+        ensures few { OnOk result (AddsAtMost self.old self.new (length types.now)) }
         ensures err { IfErr result (λ e. e ≡ FaultKind.Memory) }
     {
         for entry in types {
@@ -76,8 +81,10 @@ impl<'n> Builder<'n> {
         requires ready { IsReady self.old }
         requires new { find_type word.now (known_types self.old) ≡ None }
         requires wide { IsWidth ty }
+        requires space { HasRoom self.old 1 }
         ensures ready { OnOk result (IsReady self.new) }
         ensures known { OnOk result (known_types self.new ≡ known_types self.old ++ (word.now, IntegerOf ty) ∷ []) }
+        ensures few { OnOk result (AddsAtMost self.old self.new 1) }
         ensures err { IfErr result (λ e. e ≡ FaultKind.Memory) }
     {
         let found = self.push(None, Shape::Integer(ty), None, 1)?;
@@ -91,6 +98,9 @@ impl<'n> Builder<'n> {
         declaration: &Declaration<'n>,
     ) -> Result<usize, FaultKind>
         requires ready { IsReady self.old }
+        requires within { IsFormWithin standard (declaration_tree declaration.now).form }
+        requires space { HasRoom self.old (form_count (declaration_tree declaration.now).form) }
+        ensures few { OnOk result (AddsAtMost self.old self.new (form_count (declaration_tree declaration.now).form)) }
         ensures adds { AddsType self.old self.new (declaration_tree declaration.now).name result (declared_type (known_types self.old) (declaration_tree declaration.now)) }
     {
         if find_name(&self.names, declaration.name).is_some() {
@@ -108,6 +118,8 @@ impl<'n> Builder<'n> {
     /// Adds the types of declarations, and gives the nodes of those that are no other names of earlier ones.
     fn declare_all(&mut self, declarations: &[Declaration<'n>]) -> Result<Vec<usize>, TypeFault>
         requires ready { IsReady self.old }
+        requires within { AreDeclarationsWithin standard (map declaration_tree declarations.now) }
+        requires space { HasRoom self.old (pickle_form_count (map declaration_tree declarations.now)) }
         ensures ready { OnOk result (IsReady self.new) }
         ensures ok { OnOk result (declared (known_types self.old) (map declaration_tree declarations.now) ≡ Ok (known_types self.new)) }
         ensures err { IfErr result (λ e. Fails e.kind (declared (known_types self.old) (map declaration_tree declarations.now))) }
@@ -166,11 +178,10 @@ impl Table {
     ghost use Rattle.pickle_types.specs.TypeTable.{type_named, types_of, count_of, IsInTable, IsTypeFound, IsWellTyped};
 
     /// The types that a pickle declares, where it is well typed and no type is deeper than 64.
-    /// A table has at most 2^32 nodes and a union 2^16 alternatives; beyond either the answer is `Memory`.
     pub fn build(alloc: Global, pickle: &Pickle<'_>) -> Result<Table, TypeFault>
         ensures ok { IfOk result (λ table. Declares predeclared (pickle_tree pickle.now) (types_of table)) }
         ensures len { IfOk result (λ table. count_of table ≡ length (pickle_tree pickle.now)) }
-        // Memory is answered only where a growth was refused or the table is full; any other kind only where the pickle isn't well typed.
+        // Memory is answered only where a growth was refused; any other kind only where the pickle isn't well typed.
         ensures wrong { IfErr result (λ e. e.kind ≢ FaultKind.Memory → ¬ IsWellTyped (pickle_tree pickle.now)) }
         ensures kind { IfErr result (λ e. Fails e.kind (declared predeclared (pickle_tree pickle.now))) }
         // The first declaration that is wrong is told, counted from 1, and 0 with `Memory`.

@@ -1,14 +1,15 @@
 //! The types of forms, as nodes of a table.
 
-ghost use Rattle.std.specs.Prelude.{◌≡◌, ◌+◌, ◌<◌, ◌≤◌, ℕ, List, [], ◌∷◌, ◌++◌, length, true, false, Ok, None, IfOk, IfErr, IfSome, OnOk, All};
+ghost use Rattle.std.specs.Prelude.{◌≡◌, ◌+◌, ◌^◌, ◌<◌, ◌≤◌, ℕ, List, [], ◌∷◌, ◌++◌, length, true, false, Ok, None, IfOk, IfErr, IfSome, OnOk, All};
 ghost use Rattle.pickle_tree.specs.Tree.{reference_tree, boxed_tree, borrowed_tree, form_tree, field_tree, fields_tree, ArrayForm, StructForm, IntegralForm, UnionForm, OffsetForm};
+ghost use Rattle.pickle_tree.specs.Limits.{standard, form_count, fields_form_count, IsFormWithin, AreFieldsWithin};
 ghost use Rattle.pickle_types.specs.Types;
 ghost use Rattle.pickle_types.specs.Sound.{IsSoundClause, IsSoundBound};
 ghost use Rattle.pickle_types.specs.Table.{optional_term, bound_of, type_of, open_shape, IsTable, NamesBelow, IsSoundField, IsSoundShape};
 ghost use Rattle.pickle_types.specs.Meaning.{fresh, integer_expression, offset_expression, bound_expression, integer_type, called, plain, offset_type, field_meaning, struct_place, meaning, fields_meaning};
 ghost use Rattle.pickle_types.specs.Built.{Gives, bytes_now, views_of, AreNamed, AreBelow, names_in};
 ghost use Rattle.pickle_types.specs.FieldNames.{shape_names, ArePlaced};
-ghost use Rattle.pickle_types.specs.Building.{known_types, visible_in, after_itself, Builds, FieldGives, FieldBuilds, FieldsBuild};
+ghost use Rattle.pickle_types.specs.Building.{known_types, visible_in, after_itself, Builds, FieldGives, FieldBuilds, FieldsBuild, HasRoom, AddsAtMost};
 
 use crate::check::expressions::{integer, typed};
 use crate::check::field_list::FieldList;
@@ -25,7 +26,7 @@ use crate::fault::FaultKind;
 use crate::names::{Names, find_name};
 use crate::places_by_name::PlacesByName;
 use crate::scopes::{Scopes, Seen};
-use crate::table::{Extent, Field, MOST_ALTERNATIVES, MOST_NODES, Node, Resolved, Shape};
+use crate::table::{Extent, Field, Node, Resolved, Shape};
 use pickle_tree::tree;
 use pickle_tree::tree::{Expression, Form, Reference, Unit};
 use std::alloc::Global;
@@ -167,6 +168,7 @@ impl<'n> Builder<'n> {
         ensures sound { IfOk result IsSoundField }
         ensures fresh { IfOk result (λ _. fresh (field_tree written.now).parts.name (names_in before.now) ≡ Ok tt) }
         ensures node { IfOk result (λ field. field.node ≡ found.node) }
+        ensures nodes { self.new.nodes ≡ self.old.nodes }
     {
         let bits = has_width(&self.nodes, found.node);
         stand(place, bits, written)?;
@@ -192,7 +194,7 @@ impl<'n> Builder<'n> {
         })
     }
 
-    /// A new node, with the names of its fields where they are many, and the depth of its type. `Memory` is answered also where the table is full.
+    /// A new node, with the names of its fields where they are many, and the depth of its type.
     pub fn push(
         &mut self,
         slot: Option<u16>,
@@ -207,14 +209,13 @@ impl<'n> Builder<'n> {
         requires sound { IsSoundShape shape }
         requires depth { depth ≡ Types.depth (open_shape (type_of self.old.nodes) shape) }
         requires low { depth ≤ 64 }
+        requires space { HasRoom self.old 1 }
         ensures builds { Builds self.old self.new result (Ok (open_shape (type_of self.old.nodes) shape)) }
+        ensures few { OnOk result (AddsAtMost self.old self.new 1) }
         ensures depth { IfOk result (λ found. found.depth ≡ depth) }
         ensures memory { IfErr result (λ e. e ≡ FaultKind.Memory) }
     {
         let node = self.nodes.len();
-        if node >= MOST_NODES {
-            return Err(FaultKind::Memory);
-        }
         self.nodes.push(Node { shape, slot }, names)?;
         Ok(Found { node, depth })
     }
@@ -248,7 +249,9 @@ impl<'n> Builder<'n> {
     ) -> Result<Found, FaultKind>
         requires table { IsTable self.old.nodes }
         requires names { AreNamed self.old.nodes self.old.names }
+        requires space { HasRoom self.old 1 }
         ensures builds { Builds self.old self.new result (integer_type signed width) }
+        ensures few { OnOk result (AddsAtMost self.old self.new 1) }
         ensures low { IfOk result (λ found. found.depth ≤ 1) }
     {
         let t = in_range(signed, width)?;
@@ -267,7 +270,9 @@ impl<'n> Builder<'n> {
         requires table { IsTable self.old.nodes }
         requires names { AreNamed self.old.nodes self.old.names }
         requires some { 0 < room }
+        requires space { HasRoom self.old 1 }
         ensures builds { Builds self.old self.new result (plain room (known_types self.old) (reference_tree reference.now)) }
+        ensures few { OnOk result (AddsAtMost self.old self.new 1) }
         ensures low { IfOk result (λ found. found.depth ≤ room) }
     {
         match reference {
@@ -285,7 +290,9 @@ impl<'n> Builder<'n> {
     ) -> Result<Found, FaultKind>
         requires table { IsTable self.old.nodes }
         requires names { AreNamed self.old.nodes self.old.names }
+        requires space { HasRoom self.old 1 }
         ensures builds { Builds self.old self.new result (offset_type (known_types self.old) (reference_tree reference.now) unit) }
+        ensures few { OnOk result (AddsAtMost self.old self.new 1) }
         ensures low { IfOk result (λ found. found.depth ≤ 1) }
     {
         let (t, bits) = offset_parts(&self.names, &self.nodes, reference, unit)?;
@@ -305,7 +312,10 @@ impl<'n> Builder<'n> {
         requires names { AreNamed self.old.nodes self.old.names }
         requires seen { AreBelow (length self.old.nodes) levels self.old.seen }
         requires few { levels + room ≤ 64 }
+        requires within { IsFormWithin standard (form_tree form.now) }
+        requires space { HasRoom self.old (form_count (form_tree form.now)) }
         ensures builds { Builds self.old self.new result (meaning (known_types self.old) (visible_in self.old) levels (bytes_now title.entry.name) room (form_tree form.now)) }
+        ensures few { OnOk result (AddsAtMost self.old self.new (form_count (form_tree form.now))) }
         ensures low { IfOk result (λ found. found.depth ≤ room) }
     {
         if room == 0 {
@@ -338,7 +348,10 @@ impl<'n> Builder<'n> {
         requires seen { AreBelow (length self.old.nodes) levels self.old.seen }
         requires some { 0 < room }
         requires few { levels + room ≤ 64 }
+        requires within { IsFormWithin standard (ArrayForm (form_tree element.now) (boxed_tree bound.now)) }
+        requires space { HasRoom self.old (form_count (ArrayForm (form_tree element.now) (boxed_tree bound.now))) }
         ensures builds { Builds self.old self.new result (meaning (known_types self.old) (visible_in self.old) levels (bytes_now title.entry.name) room (ArrayForm (form_tree element.now) (boxed_tree bound.now))) }
+        ensures few { OnOk result (AddsAtMost self.old self.new (form_count (ArrayForm (form_tree element.now) (boxed_tree bound.now)))) }
         ensures low { IfOk result (λ found. found.depth ≤ room) }
     {
         let found = self.type_at(
@@ -373,7 +386,10 @@ impl<'n> Builder<'n> {
         requires seen { AreBelow (length self.old.nodes) levels self.old.seen }
         requires some { 0 < room }
         requires few { levels + room ≤ 64 }
+        requires within { IsFormWithin standard (StructForm pinned (fields_tree written.now)) }
+        requires space { HasRoom self.old (form_count (StructForm pinned (fields_tree written.now))) }
         ensures builds { Builds self.old self.new result (meaning (known_types self.old) (visible_in self.old) levels (bytes_now title.entry.name) room (StructForm pinned (fields_tree written.now))) }
+        ensures few { OnOk result (AddsAtMost self.old self.new (form_count (StructForm pinned (fields_tree written.now)))) }
         ensures low { IfOk result (λ found. found.depth ≤ room) }
     {
         let (fields, depth) = self.fields_at(struct_place(pinned), levels, room - 1, written)?;
@@ -405,7 +421,10 @@ impl<'n> Builder<'n> {
         requires seen { AreBelow (length self.old.nodes) levels self.old.seen }
         requires some { 0 < room }
         requires few { levels + room ≤ 64 }
+        requires within { IsFormWithin standard (IntegralForm (reference_tree reference.now) (fields_tree written.now)) }
+        requires space { HasRoom self.old (form_count (IntegralForm (reference_tree reference.now) (fields_tree written.now))) }
         ensures builds { Builds self.old self.new result (meaning (known_types self.old) (visible_in self.old) levels (bytes_now title.entry.name) room (IntegralForm (reference_tree reference.now) (fields_tree written.now))) }
+        ensures few { OnOk result (AddsAtMost self.old self.new (form_count (IntegralForm (reference_tree reference.now) (fields_tree written.now)))) }
         ensures low { IfOk result (λ found. found.depth ≤ room) }
     {
         let number = integer_referred(&self.names, &self.nodes, reference)?;
@@ -441,7 +460,10 @@ impl<'n> Builder<'n> {
         requires seen { AreBelow (length self.old.nodes) levels self.old.seen }
         requires some { 0 < room }
         requires few { levels + room ≤ 64 }
+        requires within { IsFormWithin standard (UnionForm (fields_tree written.now)) }
+        requires space { HasRoom self.old (form_count (UnionForm (fields_tree written.now))) }
         ensures builds { Builds self.old self.new result (meaning (known_types self.old) (visible_in self.old) levels (bytes_now title.entry.name) room (UnionForm (fields_tree written.now))) }
+        ensures few { OnOk result (AddsAtMost self.old self.new (form_count (UnionForm (fields_tree written.now)))) }
         ensures low { IfOk result (λ found. found.depth ≤ room) }
     {
         if written.is_empty() {
@@ -450,9 +472,6 @@ impl<'n> Builder<'n> {
         let (fields, depth) = self.fields_at(Place::Union, levels, room - 1, written)?;
         let (fields, names) = fields.into_parts();
         let alternatives = parts_from(self.alloc, fields)?;
-        if alternatives.len() > MOST_ALTERNATIVES {
-            return Err(FaultKind::Memory);
-        }
         let name = copied(self.alloc, title.name)?;
         self.push(
             title.slot,
@@ -476,7 +495,10 @@ impl<'n> Builder<'n> {
         requires names { AreNamed self.old.nodes self.old.names }
         requires seen { AreBelow (length self.old.nodes) (levels + 1) self.old.seen }
         requires few { levels + 1 + room ≤ 64 }
+        requires within { IsFormWithin standard (field_tree written.now).form }
+        requires space { HasRoom self.old (form_count (field_tree written.now).form) }
         ensures builds { FieldBuilds self.old self.new place levels (length before.now) (field_tree written.now).parts result (field_meaning (known_types self.old) place (visible_in self.old) levels (names_in before.now) (field_tree written.now).parts (meaning (known_types self.old) (visible_in self.old) (levels + 1) None room (field_tree written.now).form)) }
+        ensures few { OnOk result (AddsAtMost self.old self.new (form_count (field_tree written.now).form)) }
         ensures sound { IfOk result (λ x. IsSoundField x.0) }
         ensures fresh { IfOk result (λ _. fresh (field_tree written.now).parts.name (names_in before.now) ≡ Ok tt) }
         ensures low { IfOk result (λ x. x.1 ≤ room) }
@@ -508,7 +530,11 @@ impl<'n> Builder<'n> {
         requires names { AreNamed self.old.nodes self.old.names }
         requires seen { AreBelow (length self.old.nodes) levels self.old.seen }
         requires few { levels + 1 + room ≤ 64 }
+        requires within { AreFieldsWithin standard (fields_tree written.now) }
+        requires space { HasRoom self.old (fields_form_count (fields_tree written.now)) }
         ensures builds { FieldsBuild self.old self.new result (fields_meaning (known_types self.old) place (visible_in self.old) levels room [] (fields_tree written.now)) }
+        ensures few { OnOk result (AddsAtMost self.old self.new (fields_form_count (fields_tree written.now))) }
+        ensures count { IfOk result (λ x. length x.0 ≡ length written.now) }
         ensures sound { IfOk result (λ x. All IsSoundField x.0) }
         ensures low { IfOk result (λ x. x.1 ≤ room) }
     {

@@ -1,6 +1,6 @@
 use Rattle.std.proofs.Common.{◌≡◌, [], ◌∷◌, ◌+◌, length, drop, refl, sym, ap, ◌∙◌, arith, eqb-true}
 use Rattle.std.proofs.lemmas.Bool.{eqb-false}
-use Rattle.std.proofs.lemmas.List.{drop_all, take_all}
+use Rattle.std.proofs.lemmas.List.{drop_all, length-append, take_all}
 use Rattle.std.proofs.lemmas.List.Elements.{All-append}
 use Rattle.std.proofs.lemmas.Result.{err_from_is_err_and}
 use Rattle.pickle_tree.specs.Tree.{Plain, StringForm, OffsetForm, reference_tree, boxed_tree, form_tree, fields_tree}
@@ -13,7 +13,7 @@ use Rattle.pickle_types.specs.Building.{known_types, visible_in}
 use Rattle.pickle_types.proofs.Forms.{reference_form, string_form, offset_form}
 use Rattle.pickle_types.proofs.Growth.{type_kept}
 use Rattle.pickle_types.proofs.Steps.{fails_bind}
-use Rattle.pickle_types.proofs.Buildings.{meaning_plain, meaning_string, meaning_offset, meaning_array, meaning_struct, meaning_integral, meaning_union, built_then, visible_kept, array_depth, struct_depth, integral_depth, union_depth, parts_opened, parts_below, parts_sound, some_alternative, integral_fits, integral_wrong, so_far_more, so_far_none, fields_next, drop_item, kept_on, builds_as, no_alternative, field_on, fields_end, all_built}
+use Rattle.pickle_types.proofs.Buildings.{meaning_plain, meaning_string, meaning_offset, meaning_array, meaning_struct, meaning_integral, meaning_union, built_then, visible_kept, array_depth, struct_depth, integral_depth, union_depth, parts_opened, parts_below, parts_sound, parts_few, some_alternative, integral_fits, integral_wrong, so_far_more, so_far_none, fields_next, drop_item, kept_on, builds_as, no_alternative, field_on, fields_end, all_built}
 use Rattle.pickle_types.proofs.Selections.{names_of_parts}
 use Rattle.pickle_types.proofs.check.types.Builder.+types.Goals as goal
 
@@ -169,7 +169,10 @@ pub union_at-push-requires-clause-below : goal.union_at-push-requires-clause-bel
 union_at-push-requires-clause-below t c = rw (c.in_ok-alternatives.ensures.ok, c.into_parts-fields.ensures.fields) (parts_below _ c.in_ok-fields.fields c.in_ok-fields.ensures.builds.2.below)
 
 pub union_at-push-requires-clause-sound : goal.union_at-push-requires-clause-sound
-union_at-push-requires-clause-sound t c = (rw (c.in_ok-alternatives.ensures.ok, c.into_parts-fields.ensures.fields) (parts_sound c.in_ok-fields.fields c.in_ok-fields.ensures.sound), omega arith)
+union_at-push-requires-clause-sound t c = rw (c.in_ok-alternatives.ensures.ok, c.into_parts-fields.ensures.fields) (
+  parts_sound c.in_ok-fields.fields c.in_ok-fields.ensures.sound,
+  parts_few c.in_ok-fields.fields c.args.written.now c.in_ok-fields.ensures.count c.requires.within.0,
+)
 
 pub union_at-push-requires-clause-depth : goal.union_at-push-requires-clause-depth
 union_at-push-requires-clause-depth t c =
@@ -202,11 +205,22 @@ field_at-returns-clause-builds t c =
 pub fields_at-loop-f-init : goal.fields_at-loop-f-init
 fields_at-loop-f-init t c = record {
   low = omega arith;
+  count = rw c.in_ok-fields.ensures.ok refl;
+  within = c.requires.within;
+  few = omega arith;
   kept = take_all _ _ (omega arith);
   below = λ k d lt. let b = c.requires.seen k d lt in record { node = b.node; level = omega arith };
   sound = rw c.in_ok-fields.ensures.ok (λ k d lt. absurd (omega arith));
   so_far = rw c.in_ok-fields.ensures.ok (so_far_none c.args.self.now [] _ c.requires.table c.requires.names refl);
 }
+
+pub fields_at-field_at-requires : goal.fields_at-field_at-requires
+fields_at-field_at-requires t c =
+    let i = c.loop-f.invariant in
+    let e = drop_item c.args.written.now c.loop-f.f-index c.f-item.result (omega arith) c.f-item.is in
+    let before = rw e at i.few in
+    -- the measure falls; then what is required
+    (omega arith, (i.so_far.keeps.table, (i.so_far.keeps.named, (i.below, (c.requires.few, ((rw e at i.within).0, omega arith))))))
 
 pub fields_at-loop-f-preserved : goal.fields_at-loop-f-preserved
 fields_at-loop-f-preserved t c =
@@ -218,14 +232,19 @@ fields_at-loop-f-preserved t c =
     let low = c.in_ok-field.ensures.low in
     let e = drop_item c.args.written.now c.loop-f.f-index c.f-item.result (omega arith) c.f-item.is in
     let given = rw i.so_far.keeps.known at h.1 in
+    let before = rw e at i.few in
+    let added = c.in_ok-field.ensures.few in
     let next = fields_next (known_types a) c.args.place (visible_in b) (visible_in n) c.args.levels c.args.room c.loop-f.fields c.in_ok-field.field c.f-item.result (drop (c.loop-f.f-index + 1) c.args.written.now) h.0 given h.2.name h.2.seen in
-    let more = so_far_more a b n c.loop-f.fields c.in_ok-field.field c.loop-f.deepest c.in_ok-field.depth c.args.place c.args.levels _ _ h.0 _ _ _ i.so_far h.2 h.3 (rw e next) in
     record {
       low = rw c.max-deepest.ensures (omega arith);
+      count = rw c.in_ok-push.ensures.ok (length-append c.loop-f.fields (c.in_ok-field.field ∷ []) ∙ ap (λ k. k + 1) i.count);
+      within = (rw e at i.within).2;
+      few = omega arith;
       kept = kept_on c.len-mark.result a.seen b.seen n.seen i.kept (omega arith) h.2.kept;
       below = h.2.below;
       sound = rw c.in_ok-push.ensures.ok (All-append IsSoundField c.loop-f.fields (c.in_ok-field.field ∷ []) i.sound (λ k d lt. let z : k ≡ 0 = omega arith in rw z c.in_ok-field.ensures.sound));
-      so_far = rw (c.in_ok-push.ensures.ok, c.max-deepest.ensures) more;
+      so_far = rw (c.in_ok-push.ensures.ok, c.max-deepest.ensures)
+          (so_far_more a b n c.loop-f.fields c.in_ok-field.field c.loop-f.deepest c.in_ok-field.depth c.args.place c.args.levels _ _ h.0 _ _ _ i.so_far h.2 h.3 (rw e next));
     }
 
 pub field_at-returns-in_err-field-clause-builds : goal.field_at-returns-in_err-field-clause-builds

@@ -1,5 +1,6 @@
 use Rattle.std.proofs.Common.{◌≡◌, ◌+◌, ◌*◌, ◌≤◌, [], length, drop, take}
 use Rattle.std.specs.Prelude.{All}
+use Rattle.pickle_tree.specs.Limits.{standard, fields_form_count, AreFieldsWithin}
 use Rattle.pickle_tree.specs.Tree.{fields_tree}
 use Rattle.pickle_types.specs.Table.{IsSoundField}
 use Rattle.pickle_types.specs.Meaning.{fields_meaning}
@@ -31,6 +32,9 @@ decreases-field_at l = 4 * l.room + 2
 abbrev pub invariant-fields_at-loop-f : goal.invariant-fields_at-loop-f
 invariant-fields_at-loop-f l = record {
   low : l.deepest ≤ l.room;
+  count : length l.fields ≡ l.f-index;
+  within : AreFieldsWithin standard (fields_tree (drop l.f-index l.written));
+  few : length l.self.nodes + fields_form_count (fields_tree (drop l.f-index l.written)) ≤ length l.initial.self.nodes + fields_form_count (fields_tree l.written);
   kept : take l.mark l.self.seen ≡ l.initial.self.seen;
   below : AreBelow (length l.self.nodes) (l.levels + 1) l.self.seen;
   sound : All IsSoundField l.fields;
