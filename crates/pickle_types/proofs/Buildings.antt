@@ -1,6 +1,6 @@
 -- One step of the definitions for each step of the builder.
-use Rattle.std.proofs.Common.{◌≡◌, ℕ, zero, suc, ◌+◌, ◌-◌, ◌<◌, ◌≤◌, ◌^◌, max, List, [], ◌∷◌, ◌++◌, map, Option, Some, None, Result, Ok, Err, Bool, length, take, drop, get_or, refl, sym, ap, ◌∙◌, arith}
-use Rattle.std.specs.Prelude.{is_some, All}
+use Rattle.std.proofs.Common.{◌≡◌, ℕ, zero, suc, ◌+◌, ◌-◌, ◌<◌, ◌≤◌, ◌^◌, max, List, [], ◌∷◌, ◌++◌, map, Option, None, Result, Ok, Err, Bool, length, take, drop, get_or, refl, sym, ap, ◌∙◌, arith}
+use Rattle.std.specs.Prelude.{All}
 use Rattle.std.proofs.lemmas.Bool.{eq-eqb, ne_eqb}
 use Rattle.std.proofs.lemmas.List.{append-nil, length-append, length-map, length-take, drop_more, map_push, take_all, take-append-le}
 use Rattle.std.proofs.lemmas.List.Elements.{All-append}
@@ -29,7 +29,7 @@ use Rattle.pickle_types.specs.Building.{visible_in, after_itself, Keeps, IsBuilt
 use Rattle.pickle_types.proofs.Growth.{push_table, push_type, type_kept, longer}
 use Rattle.pickle_types.proofs.Meanings.{parts_depth_is}
 use Rattle.pickle_types.proofs.Tables.{fields_same}
-use Rattle.pickle_types.proofs.Steps.{fails_bind, views_kept, below_kept, names_kept, named_kept, grows_on}
+use Rattle.pickle_types.proofs.Steps.{fails_bind, views_kept, names_kept, named_kept, grows_on}
 
 -- a node that is pushed has the type that it opens to
 pub pushed : (old new : Builder) (node : Node) → IsTable old.nodes → AreNamed old.nodes old.names → NamesBelow (length old.nodes) node.shape → IsSoundShape node.shape →
@@ -141,6 +141,7 @@ parts_sound [] h k d lt = absurd (omega arith)
 parts_sound (f ∷ fs) h zero d lt = record { constraint = (h 0 f (omega arith)).constraint }
 parts_sound (f ∷ fs) h (suc k) d lt = parts_sound fs (λ j e less. h (suc j) e (omega arith)) k d (omega arith)
 
+-- as many fields are counted as are written
 field_count_is : (fs : List tree.Field) → field_count (fields_tree fs) ≡ length fs
 field_count_is [] = refl
 field_count_is (f ∷ fs) = let rest = field_count_is fs in omega arith

@@ -1,8 +1,8 @@
 //! The types of forms, as nodes of a table.
 
-ghost use Rattle.std.specs.Prelude.{◌≡◌, ◌+◌, ◌^◌, ◌<◌, ◌≤◌, ℕ, List, [], ◌∷◌, ◌++◌, length, true, false, Ok, None, IfOk, IfErr, IfSome, OnOk, All};
-ghost use Rattle.pickle_tree.specs.Tree.{reference_tree, boxed_tree, borrowed_tree, form_tree, field_tree, fields_tree, ArrayForm, StructForm, IntegralForm, UnionForm, OffsetForm};
+ghost use Rattle.std.specs.Prelude.{◌≡◌, ◌+◌, ◌<◌, ◌≤◌, ℕ, List, [], ◌∷◌, ◌++◌, length, true, false, Ok, None, IfOk, IfErr, IfSome, OnOk, All};
 ghost use Rattle.pickle_tree.specs.Limits.{standard, form_count, fields_form_count, IsFormWithin, AreFieldsWithin};
+ghost use Rattle.pickle_tree.specs.Tree.{reference_tree, boxed_tree, borrowed_tree, form_tree, field_tree, fields_tree, ArrayForm, StructForm, IntegralForm, UnionForm, OffsetForm};
 ghost use Rattle.pickle_types.specs.Types;
 ghost use Rattle.pickle_types.specs.Sound.{IsSoundClause, IsSoundBound};
 ghost use Rattle.pickle_types.specs.Table.{optional_term, bound_of, type_of, open_shape, IsTable, NamesBelow, IsSoundField, IsSoundShape};
