@@ -33,6 +33,7 @@ pub mod Known
 pub mod Linked
 pub mod Lent
 pub mod Row
+pub mod Calls
 pub mod Owners
 pub mod Settles
 pub mod Mappable

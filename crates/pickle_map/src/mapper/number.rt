@@ -1,19 +1,15 @@
 //! Types that are read as one number: integers, offsets and integral structs.
 
-ghost use Rattle.std.specs.Prelude.{◌≡◌, ◌≢◌, ℕ, ◌+◌, ◌*◌, ◌<◌, ◌≤◌, ◌^◌, Some, Ok, map, length, All, IfOk, IfErr, OnOk, OnErr};
-ghost use Rattle.bit_space.specs.SpaceView.{HasRisen};
-ghost use Rattle.pickle_types.specs.Types.{IntegerOf, OffsetOf, IntegralOf, depth};
-ghost use Rattle.pickle_types.specs.Table.{IsTable, type_of, open_parts, optional_term, IsWidth};
-ghost use Rattle.pickle_map.specs.Follows.{Done};
-ghost use Rattle.pickle_map.specs.Framed.{Mapped, Runs, Places, PlacesIn, Works};
+ghost use Rattle.std.specs.Prelude.{◌≡◌, ◌≢◌, ◌+◌, ◌*◌, ◌<◌, ◌≤◌, ◌^◌, Some, map, length, All, IfOk, IfErr, OnErr};
+ghost use Rattle.pickle_types.specs.Types.{IntegerOf, OffsetOf, depth};
+ghost use Rattle.pickle_types.specs.Table.{IsTable, type_of, IsWidth};
+ghost use Rattle.pickle_map.specs.Calls.{as_number, as_integer, Maps, integral_at, Places, PlacesLevel, PlacesPart, PlacesFields};
+ghost use Rattle.pickle_map.specs.Framed.{Frame, WorkFrame, IsEnd, DeviceFailed, LeavesLevel};
 ghost use Rattle.pickle_map.specs.Values.{outer_of};
 ghost use Rattle.pickle_map.specs.Mappable.{IsPartOf};
-ghost use Rattle.pickle_map.specs.Mapping.{read_plan, number_plan, digits_plan, constrained, closes};
-ghost use Rattle.pickle_map.specs.Means.{first_digits, number_type, width_in, struct_value, part_names};
-ghost use Rattle.pickle_map.specs.Plan.{Tick, then_ok};
-ghost use Rattle.pickle_map.specs.Shown.{kept, title_at, names_at, part_name};
+ghost use Rattle.pickle_map.specs.Means.{first_digits, number_type, width_in};
+ghost use Rattle.pickle_map.specs.Shown.{kept, names_at, part_name};
 ghost use Rattle.pickle_map.specs.Slots.{levels};
-ghost use Rattle.pickle_map.specs.Stops.{stop_finish};
 
 use crate::evaluate::ranges::low_digits;
 use crate::faults::MapFaultKind;
@@ -45,18 +41,12 @@ pub(crate) fn map_number<S: Space, W: Watch>(
     requires number { number_type (type_of nodes.now at) ≡ Some number }
     requires width { IsWidth number }
     requires inside { start ≤ 8 * (S.view space.old).len }
-    ensures limit { meter.new.limit ≡ meter.old.limit }
-    ensures len { (S.view space.new).len ≡ (S.view space.old).len }
-    ensures bytes { (S.view space.new).bytes ≡ (S.view space.old).bytes }
-    ensures failures { (S.view space.old).failures ≤ (S.view space.new).failures }
-    ensures room { store.new.room ≡ store.old.room }
-    ensures made { meter.new.made + meter.old.steps ≤ meter.old.made + meter.new.steps }
-    ensures ends { IfOk result (λ end. (start ≤ end) × (end ≤ 8 * (S.view space.old).len)) }
-    ensures ok { IfOk result (λ end. Mapped nodes.now (S.view space.old) meter.old meter.new store.old store.new (read_plan (8 * (S.view space.old).len) (type_of nodes.now at) number order (kept nodes.now store.old) start) end) }
+    ensures frame { Frame (S.view space.old) (S.view space.new) meter.old meter.new store.old store.new 0 }
+    ensures ends { IfOk result (IsEnd start (S.view space.old)) }
+    ensures is { Maps nodes.now (S.view space.old) meter.old meter.new store.old store.new (as_number at number order start) result }
     ensures same { OnErr result (kept nodes.now store.new ≡ kept nodes.now store.old) }
     ensures depth { length (levels store.new) ≡ length (levels store.old) }
-    ensures err { IfErr result (λ stop. Runs (S.view space.old) meter.old meter.new store.old (read_plan (8 * (S.view space.old).len) (type_of nodes.now at) number order (kept nodes.now store.old) start) (stop_finish stop)) }
-    ensures device { IfErr result (λ stop. stop ≡ Stop.Device → HasRisen (S.view space.old).failures (S.view space.new).failures) }
+    ensures device { IfErr result (DeviceFailed (S.view space.old) (S.view space.new)) }
 {
     let digits = read_digits(space, start, number.width, order, meter)?;
     place_number(nodes, at, digits, start, meter, store, watch)?;
@@ -76,18 +66,12 @@ pub(crate) fn map_integer<S: Space>(
 ) -> Result<u64, Stop>
     requires width { IsWidth number }
     requires inside { start ≤ 8 * (S.view space.old).len }
-    ensures limit { meter.new.limit ≡ meter.old.limit }
-    ensures len { (S.view space.new).len ≡ (S.view space.old).len }
-    ensures bytes { (S.view space.new).bytes ≡ (S.view space.old).bytes }
-    ensures failures { (S.view space.old).failures ≤ (S.view space.new).failures }
-    ensures room { store.new.room ≡ store.old.room }
-    ensures made { meter.new.made + meter.old.steps ≤ meter.old.made + meter.new.steps }
-    ensures ends { IfOk result (λ end. (start ≤ end) × (end ≤ 8 * (S.view space.old).len)) }
-    ensures ok { IfOk result (λ end. Mapped nodes.now (S.view space.old) meter.old meter.new store.old store.new (read_plan (8 * (S.view space.old).len) (IntegerOf number) number order (kept nodes.now store.old) start) end) }
+    ensures frame { Frame (S.view space.old) (S.view space.new) meter.old meter.new store.old store.new 0 }
+    ensures ends { IfOk result (IsEnd start (S.view space.old)) }
+    ensures is { Maps nodes.now (S.view space.old) meter.old meter.new store.old store.new (as_integer number order start) result }
     ensures same { OnErr result (kept nodes.now store.new ≡ kept nodes.now store.old) }
     ensures depth { length (levels store.new) ≡ length (levels store.old) }
-    ensures err { IfErr result (λ stop. Runs (S.view space.old) meter.old meter.new store.old (read_plan (8 * (S.view space.old).len) (IntegerOf number) number order (kept nodes.now store.old) start) (stop_finish stop)) }
-    ensures device { IfErr result (λ stop. stop ≡ Stop.Device → HasRisen (S.view space.old).failures (S.view space.new).failures) }
+    ensures device { IfErr result (DeviceFailed (S.view space.old) (S.view space.new)) }
 {
     let digits = read_digits(space, start, number.width, order, meter)?;
     place_integer(nodes, number, digits, start, meter, store)?;
@@ -111,13 +95,10 @@ fn place_number<W: Watch>(
     requires digits { digits < 2 ^ width_in (number_type (type_of nodes.now at)) }
     requires start { start < 2 ^ 63 }
     requires free { meter.old.made < meter.old.steps }
-    ensures limit { meter.new.limit ≡ meter.old.limit }
-    ensures room { store.new.room ≡ store.old.room }
-    ensures made { meter.new.made + meter.old.steps ≤ meter.old.made + meter.new.steps + 1 }
-    ensures ok { OnOk result (Places nodes.now meter.old meter.new store.old store.new (number_plan (type_of nodes.now at) digits (kept nodes.now store.old) start) (start + width_in (number_type (type_of nodes.now at)))) }
+    ensures frame { WorkFrame meter.old meter.new store.old store.new 1 }
+    ensures is { Places nodes.now meter.old meter.new store.old store.new (type_of nodes.now at) digits start result }
     ensures same { OnErr result (kept nodes.now store.new ≡ kept nodes.now store.old) }
     ensures depth { length (levels store.new) ≡ length (levels store.old) }
-    ensures err { IfErr result (λ stop. Works meter.old meter.new store.old (number_plan (type_of nodes.now at) digits (kept nodes.now store.old) start) (stop_finish stop)) }
     ensures stays { IfErr result (λ stop. stop ≢ Stop.Device) }
 {
     match &nodes[at].shape {
@@ -159,13 +140,10 @@ fn place_integer(
     requires width { IsWidth number }
     requires digits { digits < 2 ^ number.width }
     requires free { meter.old.made < meter.old.steps }
-    ensures limit { meter.new.limit ≡ meter.old.limit }
-    ensures room { store.new.room ≡ store.old.room }
-    ensures made { meter.new.made + meter.old.steps ≤ meter.old.made + meter.new.steps + 1 }
-    ensures ok { OnOk result (Places nodes.now meter.old meter.new store.old store.new (number_plan (IntegerOf number) digits (kept nodes.now store.old) start) (start + number.width)) }
+    ensures frame { WorkFrame meter.old meter.new store.old store.new 1 }
+    ensures is { Places nodes.now meter.old meter.new store.old store.new (IntegerOf number) digits start result }
     ensures same { OnErr result (kept nodes.now store.new ≡ kept nodes.now store.old) }
     ensures depth { length (levels store.new) ≡ length (levels store.old) }
-    ensures err { IfErr result (λ stop. Works meter.old meter.new store.old (number_plan (IntegerOf number) digits (kept nodes.now store.old) start) (stop_finish stop)) }
     ensures stays { IfErr result (λ stop. stop ≢ Stop.Device) }
 {
     keep_integer(nodes, store, number, digits, start)?;
@@ -187,13 +165,10 @@ fn place_offset(
     requires unit { 1 ≤ unit }
     requires digits { digits < 2 ^ number.width }
     requires free { meter.old.made < meter.old.steps }
-    ensures limit { meter.new.limit ≡ meter.old.limit }
-    ensures room { store.new.room ≡ store.old.room }
-    ensures made { meter.new.made + meter.old.steps ≤ meter.old.made + meter.new.steps + 1 }
-    ensures ok { OnOk result (Places nodes.now meter.old meter.new store.old store.new (number_plan (OffsetOf number unit) digits (kept nodes.now store.old) start) (start + number.width)) }
+    ensures frame { WorkFrame meter.old meter.new store.old store.new 1 }
+    ensures is { Places nodes.now meter.old meter.new store.old store.new (OffsetOf number unit) digits start result }
     ensures same { OnErr result (kept nodes.now store.new ≡ kept nodes.now store.old) }
     ensures depth { length (levels store.new) ≡ length (levels store.old) }
-    ensures err { IfErr result (λ stop. Works meter.old meter.new store.old (number_plan (OffsetOf number unit) digits (kept nodes.now store.old) start) (stop_finish stop)) }
     ensures stays { IfErr result (λ stop. stop ≢ Stop.Device) }
 {
     keep_offset(nodes, store, number, unit, digits, start)?;
@@ -222,13 +197,10 @@ fn place_integral<W: Watch>(
     requires width { IsWidth number }
     requires start { start < 2 ^ 63 }
     requires free { meter.old.made < meter.old.steps }
-    ensures limit { meter.new.limit ≡ meter.old.limit }
-    ensures room { store.new.room ≡ store.old.room }
-    ensures made { meter.new.made + meter.old.steps ≤ meter.old.made + meter.new.steps + 1 }
-    ensures ok { OnOk result (Places nodes.now meter.old meter.new store.old store.new (number_plan (IntegralOf (title_at nodes.now at) number (open_parts (type_of nodes.now) fields.now)) digits (kept nodes.now store.old) start) (start + number.width)) }
+    ensures frame { WorkFrame meter.old meter.new store.old store.new 1 }
+    ensures is { Places nodes.now meter.old meter.new store.old store.new (integral_at nodes.now at number fields.now) digits start result }
     ensures same { OnErr result (kept nodes.now store.new ≡ kept nodes.now store.old) }
     ensures depth { length (levels store.new) ≡ length (levels store.old) }
-    ensures err { IfErr result (λ stop. Works meter.old meter.new store.old (number_plan (IntegralOf (title_at nodes.now at) number (open_parts (type_of nodes.now) fields.now)) digits (kept nodes.now store.old) start) (stop_finish stop)) }
     ensures stays { IfErr result (λ stop. stop ≢ Stop.Device) }
 {
     watch.open(at);
@@ -269,14 +241,9 @@ fn integral_body<W: Watch>(
     requires width { IsWidth number }
     requires start { start < 2 ^ 63 }
     requires free { meter.old.made < meter.old.steps }
-    ensures limit { meter.new.limit ≡ meter.old.limit }
-    ensures room { store.new.room ≡ store.old.room }
-    ensures made { meter.new.made + meter.old.steps ≤ meter.old.made + meter.new.steps + 1 }
-    ensures ok { OnOk result (PlacesIn nodes.now meter.old meter.new store.old store.new (then_ok (digits_plan (open_parts (type_of nodes.now) fields.now) digits number.width (kept nodes.now store.old) start) (closes (struct_value (title_at nodes.now at) (part_names (open_parts (type_of nodes.now) fields.now)) start (start + number.width)))) (start + number.width)) }
-    ensures outer { OnErr result (outer_of (kept nodes.now store.new) ≡ outer_of (kept nodes.now store.old)) }
-    ensures closed { OnOk result (length (levels store.new) + 1 ≡ length (levels store.old)) }
-    ensures depth { OnErr result (length (levels store.new) ≡ length (levels store.old)) }
-    ensures err { IfErr result (λ stop. Works meter.old meter.new store.old (then_ok (digits_plan (open_parts (type_of nodes.now) fields.now) digits number.width (kept nodes.now store.old) start) (closes (struct_value (title_at nodes.now at) (part_names (open_parts (type_of nodes.now) fields.now)) start (start + number.width)))) (stop_finish stop)) }
+    ensures frame { WorkFrame meter.old meter.new store.old store.new 1 }
+    ensures is { PlacesLevel nodes.now meter.old meter.new store.old store.new at number fields.now digits start result }
+    ensures level { LeavesLevel nodes.now store.old store.new result }
     ensures stays { IfErr result (λ stop. stop ≢ Stop.Device) }
 {
     place_fields(
@@ -316,13 +283,10 @@ fn place_fields<W: Watch>(
     requires fields { All (IsPartOf nodes.now (length (levels store.old))) fields.now }
     requires width { width ≤ 64 }
     requires start { start < 2 ^ 63 }
-    ensures limit { meter.new.limit ≡ meter.old.limit }
-    ensures room { store.new.room ≡ store.old.room }
-    ensures made { meter.new.made + meter.old.steps ≤ meter.old.made + meter.new.steps }
-    ensures ok { OnOk result (Works meter.old meter.new store.old (digits_plan (open_parts (type_of nodes.now) fields.now) digits width (kept nodes.now store.old) start) (Done (Ok (kept nodes.now store.new)))) }
+    ensures frame { WorkFrame meter.old meter.new store.old store.new 0 }
+    ensures is { PlacesFields nodes.now meter.old meter.new store.old store.new fields.now digits width start result }
     ensures outer { outer_of (kept nodes.now store.new) ≡ outer_of (kept nodes.now store.old) }
     ensures depth { length (levels store.new) ≡ length (levels store.old) }
-    ensures err { IfErr result (λ stop. Works meter.old meter.new store.old (digits_plan (open_parts (type_of nodes.now) fields.now) digits width (kept nodes.now store.old) start) (stop_finish stop)) }
     ensures stays { IfErr result (λ stop. stop ≢ Stop.Device) }
 {
     let mut left = width;
@@ -352,13 +316,10 @@ fn place_part<W: Watch>(
     requires part { IsPartOf nodes.now (length (levels store.old)) part.now }
     requires digits { digits < 2 ^ width_in (number_type (type_of nodes.now part.now.node)) }
     requires start { start < 2 ^ 63 }
-    ensures limit { meter.new.limit ≡ meter.old.limit }
-    ensures room { store.new.room ≡ store.old.room }
-    ensures made { meter.new.made + meter.old.steps ≤ meter.old.made + meter.new.steps }
-    ensures ok { OnOk result (Places nodes.now meter.old meter.new store.old store.new (then_ok (Tick (number_plan (type_of nodes.now part.now.node) digits (kept nodes.now store.old) start)) (constrained (optional_term part.now.constraint) (kept nodes.now store.old) start)) (start + width_in (number_type (type_of nodes.now part.now.node)))) }
+    ensures frame { WorkFrame meter.old meter.new store.old store.new 0 }
+    ensures is { PlacesPart nodes.now meter.old meter.new store.old store.new part.now digits start result }
     ensures outer { outer_of (kept nodes.now store.new) ≡ outer_of (kept nodes.now store.old) }
     ensures depth { length (levels store.new) ≡ length (levels store.old) }
-    ensures err { IfErr result (λ stop. Works meter.old meter.new store.old (then_ok (Tick (number_plan (type_of nodes.now part.now.node) digits (kept nodes.now store.old) start)) (constrained (optional_term part.now.constraint) (kept nodes.now store.old) start)) (stop_finish stop)) }
     ensures stays { IfErr result (λ stop. stop ≢ Stop.Device) }
 {
     meter.tick()?;

@@ -3,7 +3,7 @@
 ghost use Rattle.std.specs.Prelude.{◌≡◌, ℕ, ◌+◌, ◌*◌, ◌<◌, ◌≤◌, OnOk, IfOk, IfErr};
 ghost use Rattle.bit_space.specs.SpaceView.{known_bits, Keeps};
 ghost use Rattle.bit_space.specs.Reading.{MayRead};
-ghost use Rattle.pickle_map.specs.Framed.{ReadStops, refusal_at};
+ghost use Rattle.pickle_map.specs.Framed.{StopsReading, refusal_at};
 
 use crate::faults::MapFaultKind;
 use crate::mapper::stop::Stop;
@@ -27,7 +27,7 @@ pub fn read_digits<S: Space>(
     ensures steps { OnOk result (meter.new.steps ≡ meter.old.steps + 1) }
     ensures inside { OnOk result (start + width ≤ 8 * (S.view space.old).len) }
     ensures ok { IfOk result (λ n. MayRead (known_bits (S.view space.old)) order start width n) }
-    ensures err { IfErr result (λ stop. ReadStops stop start (start + width) (S.view space.old) (S.view space.new) meter.old.limit meter.old.steps meter.new.steps) }
+    ensures err { IfErr result (StopsReading start (start + width) (S.view space.old) (S.view space.new) meter.old meter.new) }
 {
     match read_number(space, start, width, order, meter) {
         Ok(digits) => Ok(digits),

@@ -1,17 +1,13 @@
 //! Arrays of numbers that the store packs.
 
-ghost use Rattle.std.specs.Prelude.{◌≡◌, ◌+◌, ◌*◌, ◌<◌, ◌≤◌, [], length, IfOk, IfErr, IfSome, OnOk, OnErr};
-ghost use Rattle.bit_space.specs.SpaceView.{HasRisen};
-ghost use Rattle.pickle_types.specs.Bounds.{least_width, count_of};
+ghost use Rattle.std.specs.Prelude.{◌≡◌, ◌*◌, ◌<◌, ◌≤◌, [], length, IfOk, IfErr, IfSome};
 ghost use Rattle.pickle_types.specs.Table.{IsTable, type_of};
-ghost use Rattle.pickle_map.specs.Framed.{Closed, Runs};
+ghost use Rattle.pickle_map.specs.Calls.{as_array_level, Closes, PacksRow};
+ghost use Rattle.pickle_map.specs.Framed.{Frame, IsEnd, DeviceFailed, LeavesLevel};
 ghost use Rattle.pickle_map.specs.Levels as stored;
-ghost use Rattle.pickle_map.specs.Mapping.{plan, elements_plan, array_closes};
-ghost use Rattle.pickle_map.specs.Plan.{then_ok};
-ghost use Rattle.pickle_map.specs.Row.{PacksAs, Packs};
+ghost use Rattle.pickle_map.specs.Row.{PacksAs};
 ghost use Rattle.pickle_map.specs.Shown.{kept};
 ghost use Rattle.pickle_map.specs.Slots.{levels, IsPacking};
-ghost use Rattle.pickle_map.specs.Stops.{stop_finish};
 ghost use Rattle.pickle_map.specs.Values.{outer_of};
 
 use crate::extent::Extent;
@@ -65,19 +61,11 @@ pub(crate) fn row_body<S: Space, W: Watch>(
     requires open { 1 < length (levels store.old) }
     requires inside { start ≤ 8 * (S.view space.old).len }
     requires free { meter.old.made < meter.old.steps }
-    ensures limit { meter.new.limit ≡ meter.old.limit }
-    ensures len { (S.view space.new).len ≡ (S.view space.old).len }
-    ensures bytes { (S.view space.new).bytes ≡ (S.view space.old).bytes }
-    ensures failures { (S.view space.old).failures ≤ (S.view space.new).failures }
-    ensures room { store.new.room ≡ store.old.room }
-    ensures made { meter.new.made + meter.old.steps ≤ meter.old.made + meter.new.steps + 1 }
-    ensures ends { IfOk result (λ end. (start ≤ end) × (end ≤ 8 * (S.view space.old).len)) }
-    ensures ok { IfOk result (λ end. Closed nodes.now (S.view space.old) meter.old meter.new store.old store.new (then_ok (elements_plan (plan (8 * (S.view space.old).len) (type_of nodes.now element) order) (8 * (S.view space.old).len) start extent (count_of (8 * (S.view space.old).len) (least_width (type_of nodes.now element))) 0 (kept nodes.now store.old) start) (array_closes start)) end) }
-    ensures outer { OnErr result (outer_of (kept nodes.now store.new) ≡ outer_of (kept nodes.now store.old)) }
-    ensures closed { OnOk result (length (levels store.new) + 1 ≡ length (levels store.old)) }
-    ensures depth { OnErr result (length (levels store.new) ≡ length (levels store.old)) }
-    ensures err { IfErr result (λ stop. Runs (S.view space.old) meter.old meter.new store.old (then_ok (elements_plan (plan (8 * (S.view space.old).len) (type_of nodes.now element) order) (8 * (S.view space.old).len) start extent (count_of (8 * (S.view space.old).len) (least_width (type_of nodes.now element))) 0 (kept nodes.now store.old) start) (array_closes start)) (stop_finish stop)) }
-    ensures device { IfErr result (λ stop. stop ≡ Stop.Device → HasRisen (S.view space.old).failures (S.view space.new).failures) }
+    ensures frame { Frame (S.view space.old) (S.view space.new) meter.old meter.new store.old store.new 1 }
+    ensures ends { IfOk result (IsEnd start (S.view space.old)) }
+    ensures is { Closes nodes.now (S.view space.old) meter.old meter.new store.old store.new (as_array_level element extent order start) result }
+    ensures level { LeavesLevel nodes.now store.old store.new result }
+    ensures device { IfErr result (DeviceFailed (S.view space.old) (S.view space.new)) }
 {
     let end = map_packed(
         nodes, element, shape, extent, order, start, space, meter, store, watch,
@@ -104,18 +92,12 @@ fn map_packed<S: Space, W: Watch>(
     requires shape { PacksAs shape (type_of nodes.now element) store.old.room }
     requires packing { IsPacking store.old shape [] start (stored.outer_of (levels store.old)) }
     requires inside { start ≤ 8 * (S.view space.old).len }
-    ensures limit { meter.new.limit ≡ meter.old.limit }
-    ensures len { (S.view space.new).len ≡ (S.view space.old).len }
-    ensures bytes { (S.view space.new).bytes ≡ (S.view space.old).bytes }
-    ensures failures { (S.view space.old).failures ≤ (S.view space.new).failures }
-    ensures room { store.new.room ≡ store.old.room }
-    ensures made { meter.new.made + meter.old.steps ≤ meter.old.made + meter.new.steps }
-    ensures ends { IfOk result (λ end. (start ≤ end) × (end ≤ 8 * (S.view space.old).len)) }
-    ensures ok { IfOk result (λ end. Packs nodes.now (S.view space.old) meter.old meter.new store.old store.new shape start (stored.outer_of (levels store.old)) (elements_plan (plan (8 * (S.view space.old).len) (type_of nodes.now element) order) (8 * (S.view space.old).len) start extent (count_of (8 * (S.view space.old).len) (least_width (type_of nodes.now element))) 0 (kept nodes.now store.old) start) end) }
+    ensures frame { Frame (S.view space.old) (S.view space.new) meter.old meter.new store.old store.new 0 }
+    ensures ends { IfOk result (IsEnd start (S.view space.old)) }
+    ensures is { PacksRow nodes.now (S.view space.old) meter.old meter.new store.old store.new shape element extent order start result }
     ensures outer { outer_of (kept nodes.now store.new) ≡ outer_of (kept nodes.now store.old) }
     ensures depth { length (levels store.new) ≡ length (levels store.old) }
-    ensures err { IfErr result (λ stop. Runs (S.view space.old) meter.old meter.new store.old (elements_plan (plan (8 * (S.view space.old).len) (type_of nodes.now element) order) (8 * (S.view space.old).len) start extent (count_of (8 * (S.view space.old).len) (least_width (type_of nodes.now element))) 0 (kept nodes.now store.old) start) (stop_finish stop)) }
-    ensures device { IfErr result (λ stop. stop ≡ Stop.Device → HasRisen (S.view space.old).failures (S.view space.new).failures) }
+    ensures device { IfErr result (DeviceFailed (S.view space.old) (S.view space.new)) }
 {
     let bits = 8 * space.len();
     let width = shape.element_width();

@@ -1,22 +1,16 @@
 //! The types of a table, over the bits of a space.
 
-ghost use Rattle.std.specs.Prelude.{◌≡◌, ◌+◌, ◌*◌, ◌^◌, ◌<◌, ◌≤◌, ◌∷◌, [], Ok, map, length, All, IfOk, IfErr, OnOk, OnErr};
-ghost use Rattle.bit_space.specs.SpaceView.{HasRisen};
-ghost use Rattle.pickle_types.specs.Types.{ArrayOf, StructOf, UnionOf, depth};
-ghost use Rattle.pickle_types.specs.Bounds.{least_width, count_of};
-ghost use Rattle.pickle_types.specs.Table.{IsTable, type_of, open_fields, open_parts, optional_term, bound_of};
-ghost use Rattle.pickle_map.specs.Follows.{Done};
-ghost use Rattle.pickle_map.specs.Framed.{Mapped, Closed, Takes, Runs};
+ghost use Rattle.std.specs.Prelude.{◌≡◌, ◌+◌, ◌*◌, ◌^◌, ◌<◌, ◌≤◌, ◌∷◌, [], map, length, All, IfOk, IfErr, OnErr};
+ghost use Rattle.pickle_types.specs.Types.{depth};
+ghost use Rattle.pickle_types.specs.Table.{IsTable, type_of, optional_term, bound_of};
+ghost use Rattle.pickle_map.specs.Calls.{as_type, as_checked, as_array, as_array_level, as_elements, as_struct, as_struct_level, as_fields, as_union, as_union_level, Maps, Closes, Fills, Takes};
+ghost use Rattle.pickle_map.specs.Framed.{Frame, IsEnd, DeviceFailed, LeavesLevel};
 ghost use Rattle.pickle_map.specs.Values.{outer_of};
 ghost use Rattle.pickle_map.specs.Mappable.{IsFieldOf, IsPartOf};
-ghost use Rattle.pickle_map.specs.Mapping.{plan, fields_plan, elements_plan, alternatives_plan, constrained, array_closes, struct_closes, union_closes};
-ghost use Rattle.pickle_map.specs.Means.{ordered, field_names};
-ghost use Rattle.pickle_map.specs.Plan.{after, then_ok};
-ghost use Rattle.pickle_map.specs.Clauses.{field_start, label_steps};
+ghost use Rattle.pickle_map.specs.Means.{ordered};
 ghost use Rattle.pickle_types.specs.Sound.{IsSoundClause, IsSoundBound};
-ghost use Rattle.pickle_map.specs.Shown.{kept, title_at, names_at, field_name, part_name};
+ghost use Rattle.pickle_map.specs.Shown.{kept, names_at, field_name, part_name};
 ghost use Rattle.pickle_map.specs.Slots.{levels};
-ghost use Rattle.pickle_map.specs.Stops.{stop_finish};
 
 use crate::extent::Extent;
 use crate::faults::MapFaultKind;
@@ -48,18 +42,12 @@ pub fn map_type<S: Space, W: Watch>(
     requires table { IsTable nodes.now }
     requires at { at < length nodes.now }
     requires open { length (levels store.old) + depth (type_of nodes.now at) ≤ 65 }
-    ensures limit { meter.new.limit ≡ meter.old.limit }
-    ensures len { (S.view space.new).len ≡ (S.view space.old).len }
-    ensures bytes { (S.view space.new).bytes ≡ (S.view space.old).bytes }
-    ensures failures { (S.view space.old).failures ≤ (S.view space.new).failures }
-    ensures room { store.new.room ≡ store.old.room }
-    ensures made { meter.new.made + meter.old.steps ≤ meter.old.made + meter.new.steps }
-    ensures ends { IfOk result (λ end. (start ≤ end) × (end ≤ 8 * (S.view space.old).len)) }
-    ensures ok { IfOk result (λ end. Mapped nodes.now (S.view space.old) meter.old meter.new store.old store.new (plan (8 * (S.view space.old).len) (type_of nodes.now at) order (kept nodes.now store.old) start) end) }
+    ensures frame { Frame (S.view space.old) (S.view space.new) meter.old meter.new store.old store.new 0 }
+    ensures ends { IfOk result (IsEnd start (S.view space.old)) }
+    ensures is { Maps nodes.now (S.view space.old) meter.old meter.new store.old store.new (as_type at order start) result }
     ensures same { OnErr result (kept nodes.now store.new ≡ kept nodes.now store.old) }
     ensures depth { length (levels store.new) ≡ length (levels store.old) }
-    ensures err { IfErr result (λ stop. Runs (S.view space.old) meter.old meter.new store.old (plan (8 * (S.view space.old).len) (type_of nodes.now at) order (kept nodes.now store.old) start) (stop_finish stop)) }
-    ensures device { IfErr result (λ stop. stop ≡ Stop.Device → HasRisen (S.view space.old).failures (S.view space.new).failures) }
+    ensures device { IfErr result (DeviceFailed (S.view space.old) (S.view space.new)) }
 {
     if u128::from(8 * space.len()) < start {
         return Err(Stop::Fault(MapFaultKind::End, start));
@@ -85,18 +73,12 @@ fn map_inside<S: Space, W: Watch>(
     requires at { at < length nodes.now }
     requires open { length (levels store.old) + depth (type_of nodes.now at) ≤ 65 }
     requires inside { start ≤ 8 * (S.view space.old).len }
-    ensures limit { meter.new.limit ≡ meter.old.limit }
-    ensures len { (S.view space.new).len ≡ (S.view space.old).len }
-    ensures bytes { (S.view space.new).bytes ≡ (S.view space.old).bytes }
-    ensures failures { (S.view space.old).failures ≤ (S.view space.new).failures }
-    ensures room { store.new.room ≡ store.old.room }
-    ensures made { meter.new.made + meter.old.steps ≤ meter.old.made + meter.new.steps }
-    ensures ends { IfOk result (λ end. (start ≤ end) × (end ≤ 8 * (S.view space.old).len)) }
-    ensures ok { IfOk result (λ end. Mapped nodes.now (S.view space.old) meter.old meter.new store.old store.new (plan (8 * (S.view space.old).len) (type_of nodes.now at) order (kept nodes.now store.old) start) end) }
+    ensures frame { Frame (S.view space.old) (S.view space.new) meter.old meter.new store.old store.new 0 }
+    ensures ends { IfOk result (IsEnd start (S.view space.old)) }
+    ensures is { Maps nodes.now (S.view space.old) meter.old meter.new store.old store.new (as_type at order start) result }
     ensures same { OnErr result (kept nodes.now store.new ≡ kept nodes.now store.old) }
     ensures depth { length (levels store.new) ≡ length (levels store.old) }
-    ensures err { IfErr result (λ stop. Runs (S.view space.old) meter.old meter.new store.old (plan (8 * (S.view space.old).len) (type_of nodes.now at) order (kept nodes.now store.old) start) (stop_finish stop)) }
-    ensures device { IfErr result (λ stop. stop ≡ Stop.Device → HasRisen (S.view space.old).failures (S.view space.new).failures) }
+    ensures device { IfErr result (DeviceFailed (S.view space.old) (S.view space.new)) }
 {
     match &nodes[at].shape {
         Shape::Integer(number) => map_integer(nodes, *number, order, start, space, meter, store),
@@ -121,18 +103,12 @@ fn map_shape<S: Space, W: Watch>(
     requires at { at < length nodes.now }
     requires open { length (levels store.old) + depth (type_of nodes.now at) ≤ 65 }
     requires inside { start ≤ 8 * (S.view space.old).len }
-    ensures limit { meter.new.limit ≡ meter.old.limit }
-    ensures len { (S.view space.new).len ≡ (S.view space.old).len }
-    ensures bytes { (S.view space.new).bytes ≡ (S.view space.old).bytes }
-    ensures failures { (S.view space.old).failures ≤ (S.view space.new).failures }
-    ensures room { store.new.room ≡ store.old.room }
-    ensures made { meter.new.made + meter.old.steps ≤ meter.old.made + meter.new.steps }
-    ensures ends { IfOk result (λ end. (start ≤ end) × (end ≤ 8 * (S.view space.old).len)) }
-    ensures ok { IfOk result (λ end. Mapped nodes.now (S.view space.old) meter.old meter.new store.old store.new (plan (8 * (S.view space.old).len) (type_of nodes.now at) order (kept nodes.now store.old) start) end) }
+    ensures frame { Frame (S.view space.old) (S.view space.new) meter.old meter.new store.old store.new 0 }
+    ensures ends { IfOk result (IsEnd start (S.view space.old)) }
+    ensures is { Maps nodes.now (S.view space.old) meter.old meter.new store.old store.new (as_type at order start) result }
     ensures same { OnErr result (kept nodes.now store.new ≡ kept nodes.now store.old) }
     ensures depth { length (levels store.new) ≡ length (levels store.old) }
-    ensures err { IfErr result (λ stop. Runs (S.view space.old) meter.old meter.new store.old (plan (8 * (S.view space.old).len) (type_of nodes.now at) order (kept nodes.now store.old) start) (stop_finish stop)) }
-    ensures device { IfErr result (λ stop. stop ≡ Stop.Device → HasRisen (S.view space.old).failures (S.view space.new).failures) }
+    ensures device { IfErr result (DeviceFailed (S.view space.old) (S.view space.new)) }
 {
     match &nodes[at].shape {
         Shape::Integer(number) => {
@@ -194,18 +170,12 @@ fn map_checked<S: Space, W: Watch>(
     requires at { node < length nodes.now }
     requires open { length (levels store.old) + depth (type_of nodes.now node) ≤ 65 }
     requires sound { IsSoundClause (optional_term constraint.now) }
-    ensures limit { meter.new.limit ≡ meter.old.limit }
-    ensures len { (S.view space.new).len ≡ (S.view space.old).len }
-    ensures bytes { (S.view space.new).bytes ≡ (S.view space.old).bytes }
-    ensures failures { (S.view space.old).failures ≤ (S.view space.new).failures }
-    ensures room { store.new.room ≡ store.old.room }
-    ensures made { meter.new.made + meter.old.steps ≤ meter.old.made + meter.new.steps }
-    ensures ends { IfOk result (λ end. (start ≤ end) × (end ≤ 8 * (S.view space.old).len)) }
-    ensures ok { IfOk result (λ end. Mapped nodes.now (S.view space.old) meter.old meter.new store.old store.new (then_ok (plan (8 * (S.view space.old).len) (type_of nodes.now node) order (kept nodes.now store.old) start) (constrained (optional_term constraint.now) (kept nodes.now store.old) start)) end) }
+    ensures frame { Frame (S.view space.old) (S.view space.new) meter.old meter.new store.old store.new 0 }
+    ensures ends { IfOk result (IsEnd start (S.view space.old)) }
+    ensures is { Maps nodes.now (S.view space.old) meter.old meter.new store.old store.new (as_checked node constraint.now order start) result }
     ensures outer { outer_of (kept nodes.now store.new) ≡ outer_of (kept nodes.now store.old) }
     ensures depth { length (levels store.new) ≡ length (levels store.old) }
-    ensures err { IfErr result (λ stop. Runs (S.view space.old) meter.old meter.new store.old (then_ok (plan (8 * (S.view space.old).len) (type_of nodes.now node) order (kept nodes.now store.old) start) (constrained (optional_term constraint.now) (kept nodes.now store.old) start)) (stop_finish stop)) }
-    ensures device { IfErr result (λ stop. stop ≡ Stop.Device → HasRisen (S.view space.old).failures (S.view space.new).failures) }
+    ensures device { IfErr result (DeviceFailed (S.view space.old) (S.view space.new)) }
 {
     let end = map_type(nodes, node, order, start, space, meter, store, watch)?;
     check(nodes, constraint, store, start, meter, watch)?;
@@ -231,18 +201,12 @@ fn map_array<S: Space, W: Watch>(
     requires open { length (levels store.old) + 1 + depth (type_of nodes.now element) ≤ 65 }
     requires sound { IsSoundBound (bound_of bound.now) }
     requires inside { start ≤ 8 * (S.view space.old).len }
-    ensures limit { meter.new.limit ≡ meter.old.limit }
-    ensures len { (S.view space.new).len ≡ (S.view space.old).len }
-    ensures bytes { (S.view space.new).bytes ≡ (S.view space.old).bytes }
-    ensures failures { (S.view space.old).failures ≤ (S.view space.new).failures }
-    ensures room { store.new.room ≡ store.old.room }
-    ensures made { meter.new.made + meter.old.steps ≤ meter.old.made + meter.new.steps }
-    ensures ends { IfOk result (λ end. (start ≤ end) × (end ≤ 8 * (S.view space.old).len)) }
-    ensures ok { IfOk result (λ end. Mapped nodes.now (S.view space.old) meter.old meter.new store.old store.new (plan (8 * (S.view space.old).len) (ArrayOf (type_of nodes.now element) (bound_of bound.now)) order (kept nodes.now store.old) start) end) }
+    ensures frame { Frame (S.view space.old) (S.view space.new) meter.old meter.new store.old store.new 0 }
+    ensures ends { IfOk result (IsEnd start (S.view space.old)) }
+    ensures is { Maps nodes.now (S.view space.old) meter.old meter.new store.old store.new (as_array element bound.now order start) result }
     ensures same { OnErr result (kept nodes.now store.new ≡ kept nodes.now store.old) }
     ensures depth { length (levels store.new) ≡ length (levels store.old) }
-    ensures err { IfErr result (λ stop. Runs (S.view space.old) meter.old meter.new store.old (plan (8 * (S.view space.old).len) (ArrayOf (type_of nodes.now element) (bound_of bound.now)) order (kept nodes.now store.old) start) (stop_finish stop)) }
-    ensures device { IfErr result (λ stop. stop ≡ Stop.Device → HasRisen (S.view space.old).failures (S.view space.new).failures) }
+    ensures device { IfErr result (DeviceFailed (S.view space.old) (S.view space.new)) }
 {
     meter.tick()?;
     watch.open(at);
@@ -287,19 +251,11 @@ fn array_body<S: Space, W: Watch>(
     requires open { (1 < length (levels store.old)) × (length (levels store.old) + depth (type_of nodes.now element) ≤ 65) }
     requires inside { start ≤ 8 * (S.view space.old).len }
     requires free { meter.old.made < meter.old.steps }
-    ensures limit { meter.new.limit ≡ meter.old.limit }
-    ensures len { (S.view space.new).len ≡ (S.view space.old).len }
-    ensures bytes { (S.view space.new).bytes ≡ (S.view space.old).bytes }
-    ensures failures { (S.view space.old).failures ≤ (S.view space.new).failures }
-    ensures room { store.new.room ≡ store.old.room }
-    ensures made { meter.new.made + meter.old.steps ≤ meter.old.made + meter.new.steps + 1 }
-    ensures ends { IfOk result (λ end. (start ≤ end) × (end ≤ 8 * (S.view space.old).len)) }
-    ensures ok { IfOk result (λ end. Closed nodes.now (S.view space.old) meter.old meter.new store.old store.new (then_ok (elements_plan (plan (8 * (S.view space.old).len) (type_of nodes.now element) order) (8 * (S.view space.old).len) start extent (count_of (8 * (S.view space.old).len) (least_width (type_of nodes.now element))) 0 (kept nodes.now store.old) start) (array_closes start)) end) }
-    ensures outer { OnErr result (outer_of (kept nodes.now store.new) ≡ outer_of (kept nodes.now store.old)) }
-    ensures closed { OnOk result (length (levels store.new) + 1 ≡ length (levels store.old)) }
-    ensures depth { OnErr result (length (levels store.new) ≡ length (levels store.old)) }
-    ensures err { IfErr result (λ stop. Runs (S.view space.old) meter.old meter.new store.old (then_ok (elements_plan (plan (8 * (S.view space.old).len) (type_of nodes.now element) order) (8 * (S.view space.old).len) start extent (count_of (8 * (S.view space.old).len) (least_width (type_of nodes.now element))) 0 (kept nodes.now store.old) start) (array_closes start)) (stop_finish stop)) }
-    ensures device { IfErr result (λ stop. stop ≡ Stop.Device → HasRisen (S.view space.old).failures (S.view space.new).failures) }
+    ensures frame { Frame (S.view space.old) (S.view space.new) meter.old meter.new store.old store.new 1 }
+    ensures ends { IfOk result (IsEnd start (S.view space.old)) }
+    ensures is { Closes nodes.now (S.view space.old) meter.old meter.new store.old store.new (as_array_level element extent order start) result }
+    ensures level { LeavesLevel nodes.now store.old store.new result }
+    ensures device { IfErr result (DeviceFailed (S.view space.old) (S.view space.new)) }
 {
     let end = map_elements(
         nodes, element, extent, order, start, space, meter, store, watch,
@@ -326,18 +282,12 @@ fn map_elements<S: Space, W: Watch>(
     requires element { element < length nodes.now }
     requires open { length (levels store.old) + depth (type_of nodes.now element) ≤ 65 }
     requires inside { start ≤ 8 * (S.view space.old).len }
-    ensures limit { meter.new.limit ≡ meter.old.limit }
-    ensures len { (S.view space.new).len ≡ (S.view space.old).len }
-    ensures bytes { (S.view space.new).bytes ≡ (S.view space.old).bytes }
-    ensures failures { (S.view space.old).failures ≤ (S.view space.new).failures }
-    ensures room { store.new.room ≡ store.old.room }
-    ensures made { meter.new.made + meter.old.steps ≤ meter.old.made + meter.new.steps }
-    ensures ends { IfOk result (λ end. (start ≤ end) × (end ≤ 8 * (S.view space.old).len)) }
-    ensures ok { IfOk result (λ end. Runs (S.view space.old) meter.old meter.new store.old (elements_plan (plan (8 * (S.view space.old).len) (type_of nodes.now element) order) (8 * (S.view space.old).len) start extent (count_of (8 * (S.view space.old).len) (least_width (type_of nodes.now element))) 0 (kept nodes.now store.old) start) (Done (Ok (kept nodes.now store.new, end)))) }
+    ensures frame { Frame (S.view space.old) (S.view space.new) meter.old meter.new store.old store.new 0 }
+    ensures ends { IfOk result (IsEnd start (S.view space.old)) }
+    ensures is { Fills nodes.now (S.view space.old) meter.old meter.new store.old store.new (as_elements element extent order start) result }
     ensures outer { outer_of (kept nodes.now store.new) ≡ outer_of (kept nodes.now store.old) }
     ensures depth { length (levels store.new) ≡ length (levels store.old) }
-    ensures err { IfErr result (λ stop. Runs (S.view space.old) meter.old meter.new store.old (elements_plan (plan (8 * (S.view space.old).len) (type_of nodes.now element) order) (8 * (S.view space.old).len) start extent (count_of (8 * (S.view space.old).len) (least_width (type_of nodes.now element))) 0 (kept nodes.now store.old) start) (stop_finish stop)) }
-    ensures device { IfErr result (λ stop. stop ≡ Stop.Device → HasRisen (S.view space.old).failures (S.view space.new).failures) }
+    ensures device { IfErr result (DeviceFailed (S.view space.old) (S.view space.new)) }
 {
     let bits = 8 * space.len();
     let mut place = start;
@@ -391,18 +341,12 @@ fn map_struct<S: Space, W: Watch>(
     requires names { names_at nodes.now at ≡ map field_name fields.now }
     requires open { length (levels store.old) ≤ 64 }
     requires inside { start ≤ 8 * (S.view space.old).len }
-    ensures limit { meter.new.limit ≡ meter.old.limit }
-    ensures len { (S.view space.new).len ≡ (S.view space.old).len }
-    ensures bytes { (S.view space.new).bytes ≡ (S.view space.old).bytes }
-    ensures failures { (S.view space.old).failures ≤ (S.view space.new).failures }
-    ensures room { store.new.room ≡ store.old.room }
-    ensures made { meter.new.made + meter.old.steps ≤ meter.old.made + meter.new.steps }
-    ensures ends { IfOk result (λ end. (start ≤ end) × (end ≤ 8 * (S.view space.old).len)) }
-    ensures ok { IfOk result (λ end. Mapped nodes.now (S.view space.old) meter.old meter.new store.old store.new (plan (8 * (S.view space.old).len) (StructOf (title_at nodes.now at) pinned (open_fields (type_of nodes.now) fields.now)) order (kept nodes.now store.old) start) end) }
+    ensures frame { Frame (S.view space.old) (S.view space.new) meter.old meter.new store.old store.new 0 }
+    ensures ends { IfOk result (IsEnd start (S.view space.old)) }
+    ensures is { Maps nodes.now (S.view space.old) meter.old meter.new store.old store.new (as_struct at pinned fields.now order start) result }
     ensures same { OnErr result (kept nodes.now store.new ≡ kept nodes.now store.old) }
     ensures depth { length (levels store.new) ≡ length (levels store.old) }
-    ensures err { IfErr result (λ stop. Runs (S.view space.old) meter.old meter.new store.old (plan (8 * (S.view space.old).len) (StructOf (title_at nodes.now at) pinned (open_fields (type_of nodes.now) fields.now)) order (kept nodes.now store.old) start) (stop_finish stop)) }
-    ensures device { IfErr result (λ stop. stop ≡ Stop.Device → HasRisen (S.view space.old).failures (S.view space.new).failures) }
+    ensures device { IfErr result (DeviceFailed (S.view space.old) (S.view space.new)) }
 {
     meter.tick()?;
     watch.open(at);
@@ -443,19 +387,11 @@ fn struct_body<S: Space, W: Watch>(
     requires open { 1 < length (levels store.old) }
     requires inside { start ≤ 8 * (S.view space.old).len }
     requires free { meter.old.made < meter.old.steps }
-    ensures limit { meter.new.limit ≡ meter.old.limit }
-    ensures len { (S.view space.new).len ≡ (S.view space.old).len }
-    ensures bytes { (S.view space.new).bytes ≡ (S.view space.old).bytes }
-    ensures failures { (S.view space.old).failures ≤ (S.view space.new).failures }
-    ensures room { store.new.room ≡ store.old.room }
-    ensures made { meter.new.made + meter.old.steps ≤ meter.old.made + meter.new.steps + 1 }
-    ensures ends { IfOk result (λ end. (start ≤ end) × (end ≤ 8 * (S.view space.old).len)) }
-    ensures ok { IfOk result (λ end. Closed nodes.now (S.view space.old) meter.old meter.new store.old store.new (then_ok (fields_plan (8 * (S.view space.old).len) pinned start (open_fields (type_of nodes.now) fields.now) order (kept nodes.now store.old) start start) (struct_closes (title_at nodes.now at) (field_names (open_fields (type_of nodes.now) fields.now)) start)) end) }
-    ensures outer { OnErr result (outer_of (kept nodes.now store.new) ≡ outer_of (kept nodes.now store.old)) }
-    ensures closed { OnOk result (length (levels store.new) + 1 ≡ length (levels store.old)) }
-    ensures depth { OnErr result (length (levels store.new) ≡ length (levels store.old)) }
-    ensures err { IfErr result (λ stop. Runs (S.view space.old) meter.old meter.new store.old (then_ok (fields_plan (8 * (S.view space.old).len) pinned start (open_fields (type_of nodes.now) fields.now) order (kept nodes.now store.old) start start) (struct_closes (title_at nodes.now at) (field_names (open_fields (type_of nodes.now) fields.now)) start)) (stop_finish stop)) }
-    ensures device { IfErr result (λ stop. stop ≡ Stop.Device → HasRisen (S.view space.old).failures (S.view space.new).failures) }
+    ensures frame { Frame (S.view space.old) (S.view space.new) meter.old meter.new store.old store.new 1 }
+    ensures ends { IfOk result (IsEnd start (S.view space.old)) }
+    ensures is { Closes nodes.now (S.view space.old) meter.old meter.new store.old store.new (as_struct_level at pinned fields.now order start) result }
+    ensures level { LeavesLevel nodes.now store.old store.new result }
+    ensures device { IfErr result (DeviceFailed (S.view space.old) (S.view space.new)) }
 {
     let end = map_fields(
         nodes, pinned, fields, order, start, space, meter, store, watch,
@@ -481,18 +417,12 @@ fn map_fields<S: Space, W: Watch>(
     requires table { IsTable nodes.now }
     requires fields { All (IsFieldOf nodes.now (length (levels store.old))) fields.now }
     requires inside { start ≤ 8 * (S.view space.old).len }
-    ensures limit { meter.new.limit ≡ meter.old.limit }
-    ensures len { (S.view space.new).len ≡ (S.view space.old).len }
-    ensures bytes { (S.view space.new).bytes ≡ (S.view space.old).bytes }
-    ensures failures { (S.view space.old).failures ≤ (S.view space.new).failures }
-    ensures room { store.new.room ≡ store.old.room }
-    ensures made { meter.new.made + meter.old.steps ≤ meter.old.made + meter.new.steps }
-    ensures ends { IfOk result (λ end. (start ≤ end) × (end ≤ 8 * (S.view space.old).len)) }
-    ensures ok { IfOk result (λ end. Runs (S.view space.old) meter.old meter.new store.old (fields_plan (8 * (S.view space.old).len) pinned start (open_fields (type_of nodes.now) fields.now) order (kept nodes.now store.old) start start) (Done (Ok (kept nodes.now store.new, end)))) }
+    ensures frame { Frame (S.view space.old) (S.view space.new) meter.old meter.new store.old store.new 0 }
+    ensures ends { IfOk result (IsEnd start (S.view space.old)) }
+    ensures is { Fills nodes.now (S.view space.old) meter.old meter.new store.old store.new (as_fields pinned fields.now order start) result }
     ensures outer { outer_of (kept nodes.now store.new) ≡ outer_of (kept nodes.now store.old) }
     ensures depth { length (levels store.new) ≡ length (levels store.old) }
-    ensures err { IfErr result (λ stop. Runs (S.view space.old) meter.old meter.new store.old (fields_plan (8 * (S.view space.old).len) pinned start (open_fields (type_of nodes.now) fields.now) order (kept nodes.now store.old) start start) (stop_finish stop)) }
-    ensures device { IfErr result (λ stop. stop ≡ Stop.Device → HasRisen (S.view space.old).failures (S.view space.new).failures) }
+    ensures device { IfErr result (DeviceFailed (S.view space.old) (S.view space.new)) }
 {
     let origin = u128::from(start);
     let mut behind = start;
@@ -550,18 +480,12 @@ fn map_union<S: Space, W: Watch>(
     requires names { names_at nodes.now at ≡ map part_name alternatives.now }
     requires open { length (levels store.old) ≤ 64 }
     requires inside { start ≤ 8 * (S.view space.old).len }
-    ensures limit { meter.new.limit ≡ meter.old.limit }
-    ensures len { (S.view space.new).len ≡ (S.view space.old).len }
-    ensures bytes { (S.view space.new).bytes ≡ (S.view space.old).bytes }
-    ensures failures { (S.view space.old).failures ≤ (S.view space.new).failures }
-    ensures room { store.new.room ≡ store.old.room }
-    ensures made { meter.new.made + meter.old.steps ≤ meter.old.made + meter.new.steps }
-    ensures ends { IfOk result (λ end. (start ≤ end) × (end ≤ 8 * (S.view space.old).len)) }
-    ensures ok { IfOk result (λ end. Mapped nodes.now (S.view space.old) meter.old meter.new store.old store.new (plan (8 * (S.view space.old).len) (UnionOf (title_at nodes.now at) (open_parts (type_of nodes.now) alternatives.now)) order (kept nodes.now store.old) start) end) }
+    ensures frame { Frame (S.view space.old) (S.view space.new) meter.old meter.new store.old store.new 0 }
+    ensures ends { IfOk result (IsEnd start (S.view space.old)) }
+    ensures is { Maps nodes.now (S.view space.old) meter.old meter.new store.old store.new (as_union at alternatives.now order start) result }
     ensures same { OnErr result (kept nodes.now store.new ≡ kept nodes.now store.old) }
     ensures depth { length (levels store.new) ≡ length (levels store.old) }
-    ensures err { IfErr result (λ stop. Runs (S.view space.old) meter.old meter.new store.old (plan (8 * (S.view space.old).len) (UnionOf (title_at nodes.now at) (open_parts (type_of nodes.now) alternatives.now)) order (kept nodes.now store.old) start) (stop_finish stop)) }
-    ensures device { IfErr result (λ stop. stop ≡ Stop.Device → HasRisen (S.view space.old).failures (S.view space.new).failures) }
+    ensures device { IfErr result (DeviceFailed (S.view space.old) (S.view space.new)) }
 {
     meter.tick()?;
     watch.open(at);
@@ -611,19 +535,11 @@ fn union_body<S: Space, W: Watch>(
     requires fresh { kept nodes.now store.old ≡ [] ∷ outer_of (kept nodes.now store.old) }
     requires inside { start ≤ 8 * (S.view space.old).len }
     requires free { meter.old.made < meter.old.steps }
-    ensures limit { meter.new.limit ≡ meter.old.limit }
-    ensures len { (S.view space.new).len ≡ (S.view space.old).len }
-    ensures bytes { (S.view space.new).bytes ≡ (S.view space.old).bytes }
-    ensures failures { (S.view space.old).failures ≤ (S.view space.new).failures }
-    ensures room { store.new.room ≡ store.old.room }
-    ensures made { meter.new.made + meter.old.steps ≤ meter.old.made + meter.new.steps + 1 }
-    ensures ends { IfOk result (λ end. (start ≤ end) × (end ≤ 8 * (S.view space.old).len)) }
-    ensures ok { IfOk result (λ end. Closed nodes.now (S.view space.old) meter.old meter.new store.old store.new (then_ok (alternatives_plan (8 * (S.view space.old).len) (open_parts (type_of nodes.now) alternatives.now) 0 order (kept nodes.now store.old) start) (union_closes (title_at nodes.now at) (outer_of (kept nodes.now store.old)) start)) end) }
-    ensures outer { OnErr result (outer_of (kept nodes.now store.new) ≡ outer_of (kept nodes.now store.old)) }
-    ensures closed { OnOk result (length (levels store.new) + 1 ≡ length (levels store.old)) }
-    ensures depth { OnErr result (length (levels store.new) ≡ length (levels store.old)) }
-    ensures err { IfErr result (λ stop. Runs (S.view space.old) meter.old meter.new store.old (then_ok (alternatives_plan (8 * (S.view space.old).len) (open_parts (type_of nodes.now) alternatives.now) 0 order (kept nodes.now store.old) start) (union_closes (title_at nodes.now at) (outer_of (kept nodes.now store.old)) start)) (stop_finish stop)) }
-    ensures device { IfErr result (λ stop. stop ≡ Stop.Device → HasRisen (S.view space.old).failures (S.view space.new).failures) }
+    ensures frame { Frame (S.view space.old) (S.view space.new) meter.old meter.new store.old store.new 1 }
+    ensures ends { IfOk result (IsEnd start (S.view space.old)) }
+    ensures is { Closes nodes.now (S.view space.old) meter.old meter.new store.old store.new (as_union_level at alternatives.now order start) result }
+    ensures level { LeavesLevel nodes.now store.old store.new result }
+    ensures device { IfErr result (DeviceFailed (S.view space.old) (S.view space.new)) }
 {
     let (index, end) = map_alternatives(
         nodes,
@@ -656,18 +572,12 @@ fn map_alternatives<S: Space, W: Watch>(
     requires alternatives { All (IsPartOf nodes.now (length (levels store.old))) alternatives.now }
     requires fresh { kept nodes.now store.old ≡ [] ∷ outer_of (kept nodes.now store.old) }
     requires inside { start ≤ 8 * (S.view space.old).len }
-    ensures limit { meter.new.limit ≡ meter.old.limit }
-    ensures len { (S.view space.new).len ≡ (S.view space.old).len }
-    ensures bytes { (S.view space.new).bytes ≡ (S.view space.old).bytes }
-    ensures failures { (S.view space.old).failures ≤ (S.view space.new).failures }
-    ensures room { store.new.room ≡ store.old.room }
-    ensures made { meter.new.made + meter.old.steps ≤ meter.old.made + meter.new.steps }
-    ensures ends { IfOk result (λ r. (start ≤ r.1) × (r.1 ≤ 8 * (S.view space.old).len) × (r.0 < length alternatives.now)) }
-    ensures ok { IfOk result (λ r. Takes nodes.now (S.view space.old) meter.old meter.new store.old store.new (map part_name alternatives.now) (alternatives_plan (8 * (S.view space.old).len) (open_parts (type_of nodes.now) alternatives.now) 0 order (kept nodes.now store.old) start) r.0 r.1) }
+    ensures frame { Frame (S.view space.old) (S.view space.new) meter.old meter.new store.old store.new 0 }
+    ensures ends { IfOk result (λ r. IsEnd start (S.view space.old) r.1 × (r.0 < length alternatives.now)) }
+    ensures is { Takes nodes.now (S.view space.old) meter.old meter.new store.old store.new alternatives.now order start result }
     ensures outer { outer_of (kept nodes.now store.new) ≡ outer_of (kept nodes.now store.old) }
     ensures depth { length (levels store.new) ≡ length (levels store.old) }
-    ensures err { IfErr result (λ stop. Runs (S.view space.old) meter.old meter.new store.old (alternatives_plan (8 * (S.view space.old).len) (open_parts (type_of nodes.now) alternatives.now) 0 order (kept nodes.now store.old) start) (stop_finish stop)) }
-    ensures device { IfErr result (λ stop. stop ≡ Stop.Device → HasRisen (S.view space.old).failures (S.view space.new).failures) }
+    ensures device { IfErr result (DeviceFailed (S.view space.old) (S.view space.new)) }
 {
     for (index, part) in alternatives.iter().enumerate() {
         watch.next();

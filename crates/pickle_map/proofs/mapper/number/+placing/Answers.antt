@@ -17,44 +17,42 @@ use Rattle.pickle_map.proofs.Placing.{digits_end, digits_no_tick, digits_stop, d
 use Rattle.pickle_map.proofs.Walks.{follow_done, follow_here, follow_on, follow_tick, follow_stop, closes_no_room, closes_made, first_no_tick, in_room, outer_pushed}
 use Rattle.pickle_map.proofs.mapper.number.+placing.Goals as goal
 
-pub integral_body-returns-in_err-place_fields-clause-err : goal.integral_body-returns-in_err-place_fields-clause-err
-integral_body-returns-in_err-place_fields-clause-err g t c =
+pub integral_body-returns-in_err-place_fields-clause-is : goal.integral_body-returns-in_err-place_fields-clause-is
+integral_body-returns-in_err-place_fields-clause-is g t c =
     let p = err_from_is_err_and c.from_residual.result c.from_residual.ensures.1 in
-    rw (p.1, p.2) (λ known. follow_stop _ _ _ (c.in_err-place_fields.ensures.err known))
+    rw (p.1, p.2) (λ known. follow_stop _ _ _ (c.in_err-place_fields.ensures.is known))
 
-pub integral_body-returns-in_err-close_struct-clause-err : goal.integral_body-returns-in_err-close_struct-clause-err
-integral_body-returns-in_err-close_struct-clause-err g t c =
+pub integral_body-returns-in_err-close_struct-clause-is : goal.integral_body-returns-in_err-close_struct-clause-is
+integral_body-returns-in_err-close_struct-clause-is g t c =
     let p = err_from_is_err_and c.from_residual-in_err-close_struct.result c.from_residual-in_err-close_struct.ensures.1 in
     let named = c.requires.names ∙ sym (parts_named (type_of c.args.nodes.now) c.args.fields.now) in
     let full = rw (named, c.from.ensures) at c.in_err-close_struct.ensures.full in
-    rw (p.1, p.2) (λ known. closes_no_room _ _ _ (c.in_ok-place_fields.ensures.ok known) c.in_ok-place_fields.ensures.room full)
+    rw (p.1, p.2) (λ known. closes_no_room _ _ _ (c.in_ok-place_fields.ensures.is known) c.in_ok-place_fields.ensures.frame.room full)
 
-pub integral_body-returns-clause-ok : goal.integral_body-returns-clause-ok
-integral_body-returns-clause-ok g t c =
+pub integral_body-returns-clause-is : goal.integral_body-returns-clause-is
+integral_body-returns-clause-is g t c =
     let n = c.note_made.ensures in
     let named = c.requires.names ∙ sym (parts_named (type_of c.args.nodes.now) c.args.fields.now) in
     let h = rw (named, c.from.ensures, c.in_ok-place_fields.ensures.outer) at c.in_ok-close_struct.ensures.ok in
-    λ known. record { value = _; kept = h; ends = refl; follows = closes_made _ _ _ (c.in_ok-place_fields.ensures.ok known) n.steps n.made }
+    λ known. record { value = _; kept = h; ends = refl; follows = closes_made _ _ _ (c.in_ok-place_fields.ensures.is known) n.steps n.made }
 
 pub place_fields-loop-part-init : goal.place_fields-loop-part-init
 place_fields-loop-part-init g t c = record {
-  limit = search rules;
-  room = search rules;
-  made = search rules;
+  frame = search rules;
   left = search rules;
   outer = search rules;
   depth = search rules;
   so_far = λ known. follow_here;
 }
 
-pub place_fields-returns-in_err-tick-clause-err : goal.place_fields-returns-in_err-tick-clause-err
-place_fields-returns-in_err-tick-clause-err g t c =
+pub place_fields-returns-in_err-tick-clause-is : goal.place_fields-returns-in_err-tick-clause-is
+place_fields-returns-in_err-tick-clause-is g t c =
     let p = err_from_is_err_and c.from_residual.result c.from_residual.ensures.1 in
     let e = c.in_err-tick.ensures in
     let i = c.loop-part.invariant in
     let next = drop_more c.args.fields.now c.loop-part.part-index c.part-item.result (omega arith) in
     let next = rw (← c.part-item.is) at next in
-    rw (p.1, p.2) (λ known. follow_on (i.so_far known) (digits_no_tick _ _ _ _ _ _ _ _ next e.err (e.err ∙ e.refused.0 refl ∙ i.limit) e.made))
+    rw (p.1, p.2) (λ known. follow_on (i.so_far known) (digits_no_tick _ _ _ _ _ _ _ _ next e.err (e.err ∙ e.refused.0 refl ∙ i.frame.limit) e.made))
 
 pub place_fields-place_part-requires : goal.place_fields-place_part-requires
 place_fields-place_part-requires g t c =
@@ -64,15 +62,15 @@ place_fields-place_part-requires g t c =
     let below = rw c.width_at-width.ensures.is at c.first_digits-digits.ensures.below in
     search rules
 
-pub place_fields-returns-in_err-place_part-clause-err : goal.place_fields-returns-in_err-place_part-clause-err
-place_fields-returns-in_err-place_part-clause-err g t c =
+pub place_fields-returns-in_err-place_part-clause-is : goal.place_fields-returns-in_err-place_part-clause-is
+place_fields-returns-in_err-place_part-clause-is g t c =
     let p = err_from_is_err_and c.from_residual-in_err-place_part.result c.from_residual-in_err-place_part.ensures.1 in
     let e = c.in_ok-tick.ensures in
     let i = c.loop-part.invariant in
     let next = drop_more c.args.fields.now c.loop-part.part-index c.part-item.result (omega arith) in
     let next = rw (← c.part-item.is) at next in
     let cut = rw c.width_at-width.ensures.is at c.first_digits-digits.ensures.is in
-    rw (p.1, p.2) (λ known. follow_on (i.so_far known) (digits_stop _ _ _ _ _ _ _ _ next _ cut (e.limit ∙ i.limit) e.ok e.made _ (in_room i.room (c.in_err-place_part.ensures.err known))))
+    rw (p.1, p.2) (λ known. follow_on (i.so_far known) (digits_stop _ _ _ _ _ _ _ _ next _ cut (e.limit ∙ i.frame.limit) e.ok e.made _ (in_room i.frame.room (c.in_err-place_part.ensures.is known))))
 
 pub place_fields-loop-part-preserved : goal.place_fields-loop-part-preserved
 place_fields-loop-part-preserved g t c =
@@ -83,19 +81,17 @@ place_fields-loop-part-preserved g t c =
     let cut = rw c.width_at-width.ensures.is at c.first_digits-digits.ensures.is in
     let less = rw c.width_at-width.ensures.is at c.saturating_sub-left.ensures in
     record {
-      limit = search rules;
-      room = search rules;
-      made = search rules;
+      frame = search rules;
       left = search rules;
       outer = search rules;
       depth = search rules;
       so_far = λ known.
-          let h = c.in_ok-place_part.ensures.ok known in
-          rw h.kept (follow_on (i.so_far known) (digits_goes _ _ _ _ _ _ _ _ next _ cut (e.limit ∙ i.limit) e.ok e.made h.value _ less (in_room i.room h.follows)));
+          let h = c.in_ok-place_part.ensures.is known in
+          rw h.kept (follow_on (i.so_far known) (digits_goes _ _ _ _ _ _ _ _ next _ cut (e.limit ∙ i.frame.limit) e.ok e.made h.value _ less (in_room i.frame.room h.follows)));
     }
 
-pub place_fields-returns-clause-ok : goal.place_fields-returns-clause-ok
-place_fields-returns-clause-ok g t c =
+pub place_fields-returns-clause-is : goal.place_fields-returns-clause-is
+place_fields-returns-clause-is g t c =
     let i = c.loop-part.invariant in
     λ known. follow_on (i.so_far known) (digits_end _ _ _ _ _ _ (drop_all c.loop-part.part-index c.args.fields.now (omega arith)))
 
@@ -107,19 +103,19 @@ place_integral-integral_body-requires g t c =
     search rules
 
 pub place_integral-drop_level-requires : goal.place_integral-drop_level-requires
-place_integral-drop_level-requires g t c = omega (arith, c.in-Err.ensures.depth, c.open_level.ensures.depth, length-levels c.args.store.now)
+place_integral-drop_level-requires g t c = omega (arith, c.in-Err.ensures.level.depth, c.open_level.ensures.depth, length-levels c.args.store.now)
 
-pub place_integral-returns-in-Ok-clause-ok : goal.place_integral-returns-in-Ok-clause-ok
+pub place_integral-returns-in-Ok-clause-is : goal.place_integral-returns-in-Ok-clause-is
 unfolding number_plan
-place_integral-returns-in-Ok-clause-ok g t c =
+place_integral-returns-in-Ok-clause-is g t c =
     let opened = keeps_opened c.args.nodes.now c.args.store.now c.open_level.new.self c.open_level.ensures.levels in
-    λ known. rw (opened, c.open_level.ensures.room) at (c.in-Ok.ensures.ok known)
+    λ known. rw (opened, c.open_level.ensures.room) at (c.in-Ok.ensures.is known)
 
-pub place_integral-returns-in-Err-clause-err : goal.place_integral-returns-in-Err-clause-err
+pub place_integral-returns-in-Err-clause-is : goal.place_integral-returns-in-Err-clause-is
 unfolding number_plan
-place_integral-returns-in-Err-clause-err g t c =
+place_integral-returns-in-Err-clause-is g t c =
     let opened = keeps_opened c.args.nodes.now c.args.store.now c.open_level.new.self c.open_level.ensures.levels in
-    λ known. rw (opened, c.open_level.ensures.room) at (c.in-Err.ensures.err known)
+    λ known. rw (opened, c.open_level.ensures.room) at (c.in-Err.ensures.is known)
 
 pub place_number-place_integer-requires-clause-digits : goal.place_number-place_integer-requires-clause-digits
 place_number-place_integer-requires-clause-digits g t c = subst (λ x. c.args.digits < 2 ^ width_in (number_type x)) (opened_as c.args.nodes.now c.requires.table c.args.at c.requires.at c.index-nodes-at.result _ c.in-Integer.is) c.requires.digits
@@ -146,80 +142,71 @@ place_number-place_integral-requires g t c =
     let wide = below.0 in
     rw c.deref.ensures.value (search rules)
 
-pub place_number-returns-in-Integer-clause-ok : goal.place_number-returns-in-Integer-clause-ok
-place_number-returns-in-Integer-clause-ok g t c = rw (opened_as c.args.nodes.now c.requires.table c.args.at c.requires.at c.index-nodes-at.result _ c.in-Integer.is) c.place_integer.ensures.ok
+pub place_number-returns-in-Integer-clause-is : goal.place_number-returns-in-Integer-clause-is
+place_number-returns-in-Integer-clause-is g t c = rw (opened_as c.args.nodes.now c.requires.table c.args.at c.requires.at c.index-nodes-at.result _ c.in-Integer.is) c.place_integer.ensures.is
 
-pub place_number-returns-in-Integer-clause-err : goal.place_number-returns-in-Integer-clause-err
-place_number-returns-in-Integer-clause-err g t c = rw (opened_as c.args.nodes.now c.requires.table c.args.at c.requires.at c.index-nodes-at.result _ c.in-Integer.is) c.place_integer.ensures.err
+pub place_number-returns-in-Offset-clause-is : goal.place_number-returns-in-Offset-clause-is
+place_number-returns-in-Offset-clause-is g t c = rw (opened_as c.args.nodes.now c.requires.table c.args.at c.requires.at c.index-nodes-at.result _ c.in-Offset.is) c.place_offset.ensures.is
 
-pub place_number-returns-in-Offset-clause-ok : goal.place_number-returns-in-Offset-clause-ok
-place_number-returns-in-Offset-clause-ok g t c = rw (opened_as c.args.nodes.now c.requires.table c.args.at c.requires.at c.index-nodes-at.result _ c.in-Offset.is) c.place_offset.ensures.ok
+pub place_number-returns-in-Integral-clause-is : goal.place_number-returns-in-Integral-clause-is
+place_number-returns-in-Integral-clause-is g t c = rw (integral_opened c.args.nodes.now c.requires.table c.args.at c.requires.at c.index-nodes-at.result _ _ _ _ c.in-Integral.is c.deref.ensures.value) c.place_integral.ensures.is
 
-pub place_number-returns-in-Offset-clause-err : goal.place_number-returns-in-Offset-clause-err
-place_number-returns-in-Offset-clause-err g t c = rw (opened_as c.args.nodes.now c.requires.table c.args.at c.requires.at c.index-nodes-at.result _ c.in-Offset.is) c.place_offset.ensures.err
-
-pub place_number-returns-in-Integral-clause-ok : goal.place_number-returns-in-Integral-clause-ok
-place_number-returns-in-Integral-clause-ok g t c = rw (integral_opened c.args.nodes.now c.requires.table c.args.at c.requires.at c.index-nodes-at.result _ _ _ _ c.in-Integral.is c.deref.ensures.value) c.place_integral.ensures.ok
-
-pub place_number-returns-in-Integral-clause-err : goal.place_number-returns-in-Integral-clause-err
-place_number-returns-in-Integral-clause-err g t c = rw (integral_opened c.args.nodes.now c.requires.table c.args.at c.requires.at c.index-nodes-at.result _ _ _ _ c.in-Integral.is c.deref.ensures.value) c.place_integral.ensures.err
-
-pub place_number-returns-in-String-clause-err : goal.place_number-returns-in-String-clause-err
+pub place_number-returns-in-String-clause-is : goal.place_number-returns-in-String-clause-is
 unfolding number_plan
-place_number-returns-in-String-clause-err g t c = rw (c.no_number.ensures, opened_as c.args.nodes.now c.requires.table c.args.at c.requires.at c.index-nodes-at.result _ c.in-String.is) (λ known. follow_done)
+place_number-returns-in-String-clause-is g t c = rw (c.no_number.ensures, opened_as c.args.nodes.now c.requires.table c.args.at c.requires.at c.index-nodes-at.result _ c.in-String.is) (λ known. follow_done)
 
-pub place_number-returns-in-Array-clause-err : goal.place_number-returns-in-Array-clause-err
+pub place_number-returns-in-Array-clause-is : goal.place_number-returns-in-Array-clause-is
 unfolding number_plan
-place_number-returns-in-Array-clause-err g t c = rw (c.no_number-in-Array.ensures, opened_as c.args.nodes.now c.requires.table c.args.at c.requires.at c.index-nodes-at.result _ c.in-Array.is) (λ known. follow_done)
+place_number-returns-in-Array-clause-is g t c = rw (c.no_number-in-Array.ensures, opened_as c.args.nodes.now c.requires.table c.args.at c.requires.at c.index-nodes-at.result _ c.in-Array.is) (λ known. follow_done)
 
-pub place_number-returns-in-Struct-clause-err : goal.place_number-returns-in-Struct-clause-err
+pub place_number-returns-in-Struct-clause-is : goal.place_number-returns-in-Struct-clause-is
 unfolding number_plan
-place_number-returns-in-Struct-clause-err g t c = rw (c.no_number-in-Struct.ensures, opened_as c.args.nodes.now c.requires.table c.args.at c.requires.at c.index-nodes-at.result _ c.in-Struct.is) (λ known. follow_done)
+place_number-returns-in-Struct-clause-is g t c = rw (c.no_number-in-Struct.ensures, opened_as c.args.nodes.now c.requires.table c.args.at c.requires.at c.index-nodes-at.result _ c.in-Struct.is) (λ known. follow_done)
 
-pub place_number-returns-in-Union-clause-err : goal.place_number-returns-in-Union-clause-err
+pub place_number-returns-in-Union-clause-is : goal.place_number-returns-in-Union-clause-is
 unfolding number_plan
-place_number-returns-in-Union-clause-err g t c = rw (c.no_number-in-Union.ensures, opened_as c.args.nodes.now c.requires.table c.args.at c.requires.at c.index-nodes-at.result _ c.in-Union.is) (λ known. follow_done)
+place_number-returns-in-Union-clause-is g t c = rw (c.no_number-in-Union.ensures, opened_as c.args.nodes.now c.requires.table c.args.at c.requires.at c.index-nodes-at.result _ c.in-Union.is) (λ known. follow_done)
 
-pub place_part-returns-in_err-tick-clause-err : goal.place_part-returns-in_err-tick-clause-err
-place_part-returns-in_err-tick-clause-err g t c =
+pub place_part-returns-in_err-tick-clause-is : goal.place_part-returns-in_err-tick-clause-is
+place_part-returns-in_err-tick-clause-is g t c =
     let p = err_from_is_err_and c.from_residual.result c.from_residual.ensures.1 in
     let e = c.in_err-tick.ensures in
     rw (p.1, p.2) (λ known. first_no_tick _ _ e.err (e.err ∙ e.refused.0 refl) e.made)
 
-pub place_part-returns-in_err-place_number-clause-err : goal.place_part-returns-in_err-place_number-clause-err
-place_part-returns-in_err-place_number-clause-err g t c =
+pub place_part-returns-in_err-place_number-clause-is : goal.place_part-returns-in_err-place_number-clause-is
+place_part-returns-in_err-place_number-clause-is g t c =
     let p = err_from_is_err_and c.from_residual-in_err-place_number.result c.from_residual-in_err-place_number.ensures.1 in
     let e = c.in_ok-tick.ensures in
-    rw (p.1, p.2) (λ known. follow_stop _ _ _ (follow_tick e.limit e.ok e.made (c.in_err-place_number.ensures.err known)))
+    rw (p.1, p.2) (λ known. follow_stop _ _ _ (follow_tick e.limit e.ok e.made (c.in_err-place_number.ensures.is known)))
 
-pub place_part-returns-clause-ok : goal.place_part-returns-clause-ok
-place_part-returns-clause-ok g t c =
+pub place_part-returns-clause-is : goal.place_part-returns-clause-is
+place_part-returns-clause-is g t c =
     let e = c.in_ok-tick.ensures in
     λ known.
-    let h = c.in_ok-place_number.ensures.ok known in
+    let h = c.in_ok-place_number.ensures.is known in
     let checked = rw (h.kept, c.from.ensures) at c.in_ok-check.ensures.is in
-    record { value = h.value; kept = h.kept; ends = h.ends; follows = checks_ok _ _ _ _ h.value (follow_tick e.limit e.ok e.made h.follows) (c.in_ok-place_number.ensures.limit ∙ e.limit) c.in_ok-check.ensures.made tt checked }
+    record { value = h.value; kept = h.kept; ends = h.ends; follows = checks_ok _ _ _ _ h.value (follow_tick e.limit e.ok e.made h.follows) (c.in_ok-place_number.ensures.frame.limit ∙ e.limit) c.in_ok-check.ensures.made tt checked }
 
-pub place_part-returns-in_err-check-clause-err : goal.place_part-returns-in_err-check-clause-err
-place_part-returns-in_err-check-clause-err g t c =
+pub place_part-returns-in_err-check-clause-is : goal.place_part-returns-in_err-check-clause-is
+place_part-returns-in_err-check-clause-is g t c =
     let p = err_from_is_err_and c.from_residual-in_err-check.result c.from_residual-in_err-check.ensures.1 in
     let e = c.in_ok-tick.ensures in
     rw (p.1, p.2) (λ known.
-    let h = c.in_ok-place_number.ensures.ok known in
+    let h = c.in_ok-place_number.ensures.is known in
     let checked = rw (h.kept, c.from.ensures) at c.in_err-check.ensures.is in
-    checks_stop _ _ _ _ h.value (follow_tick e.limit e.ok e.made h.follows) (c.in_ok-place_number.ensures.limit ∙ e.limit) c.in_err-check.ensures.made _ (omega arith) checked)
+    checks_stop _ _ _ _ h.value (follow_tick e.limit e.ok e.made h.follows) (c.in_ok-place_number.ensures.frame.limit ∙ e.limit) c.in_err-check.ensures.made _ (omega arith) checked)
 
 pub place_part-returns-clause-outer : goal.place_part-returns-clause-outer
 place_part-returns-clause-outer g t c =
-    let h = c.in_ok-place_number.ensures.ok None in
+    let h = c.in_ok-place_number.ensures.is None in
     ap outer_of h.kept ∙ outer_pushed (kept c.args.nodes.now c.args.store.now) (Some h.value)
 
 pub place_part-returns-in_err-check-clause-outer : goal.place_part-returns-in_err-check-clause-outer
 place_part-returns-in_err-check-clause-outer g t c =
-    let h = c.in_ok-place_number.ensures.ok None in
+    let h = c.in_ok-place_number.ensures.is None in
     ap outer_of h.kept ∙ outer_pushed (kept c.args.nodes.now c.args.store.now) (Some h.value)
 
 pub place_integral-returns-in-Err-clause-same : goal.place_integral-returns-in-Err-clause-same
 place_integral-returns-in-Err-clause-same g t c =
     let opened = keeps_opened c.args.nodes.now c.args.store.now c.open_level.new.self c.open_level.ensures.levels in
-    keeps_outer c.args.nodes.now c.integral_body.new.store c.drop_level.new.self c.drop_level.ensures.levels ∙ c.in-Err.ensures.outer ∙ ap outer_of opened
+    keeps_outer c.args.nodes.now c.integral_body.new.store c.drop_level.new.self c.drop_level.ensures.levels ∙ c.in-Err.ensures.level.outer ∙ ap outer_of opened

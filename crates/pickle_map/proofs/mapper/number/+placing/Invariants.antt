@@ -1,7 +1,7 @@
 use Rattle.std.proofs.Common.{◌≡◌, ◌+◌, ◌*◌, ◌≤◌, drop, length}
 use Rattle.pickle_types.specs.Table.{type_of, open_parts}
 use Rattle.pickle_map.specs.Follows.{Partly}
-use Rattle.pickle_map.specs.Framed.{Works}
+use Rattle.pickle_map.specs.Framed.{WorkFrame, Works}
 use Rattle.pickle_map.specs.Values.{outer_of}
 use Rattle.pickle_map.specs.Mapping.{digits_plan}
 use Rattle.pickle_map.specs.Shown.{kept}
@@ -26,9 +26,7 @@ decreases-place_part g l = 5 * l.part.now.node + 5
 
 abbrev pub invariant-place_fields-loop-part : goal.invariant-place_fields-loop-part
 invariant-place_fields-loop-part g l = record {
-  limit : l.meter.limit ≡ l.initial.meter.limit;
-  room : l.store.room ≡ l.initial.store.room;
-  made : l.meter.made + l.initial.meter.steps ≤ l.initial.meter.made + l.meter.steps;
+  frame : WorkFrame l.initial.meter l.meter l.initial.store l.store 0;
   left : l.left ≤ 64;
   outer : outer_of (kept l.nodes l.store) ≡ outer_of (kept l.nodes l.initial.store);
   depth : length (levels l.store) ≡ length (levels l.initial.store);

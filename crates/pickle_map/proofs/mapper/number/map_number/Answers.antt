@@ -6,24 +6,24 @@ use Rattle.pickle_map.specs.Means.{width_in}
 use Rattle.pickle_map.proofs.Placing.{read_stops, read_goes}
 use Rattle.pickle_map.proofs.mapper.number.map_number.Goals as goal
 
-pub returns-in_err-digits-clause-err : goal.returns-in_err-digits-clause-err
+pub returns-in_err-digits-clause-is : goal.returns-in_err-digits-clause-is
 unfolding read_plan
-returns-in_err-digits-clause-err g c =
+returns-in_err-digits-clause-is g c =
     let p = err_from_is_err_and c.from_residual.result c.from_residual.ensures.1 in
     rw (p.1, p.2) (read_stops _ _ _ _ _ _ _ _ _ refl refl c.in_err-digits.ensures.err c.in_err-digits.ensures.made)
 
-pub returns-in_err-place_number-clause-err : goal.returns-in_err-place_number-clause-err
+pub returns-in_err-place_number-clause-is : goal.returns-in_err-place_number-clause-is
 unfolding read_plan
-returns-in_err-place_number-clause-err g c =
+returns-in_err-place_number-clause-is g c =
     let p = err_from_is_err_and c.from_residual-in_err-place_number.result c.from_residual-in_err-place_number.ensures.1 in
     let r = c.in_ok-digits.ensures in
-    rw (p.1, p.2) (read_goes _ _ _ _ _ _ _ r.limit r.steps r.made r.inside r.ok (c.in_err-place_number.ensures.err (known_bits (g.S.Space.view c.args.space.now))))
+    rw (p.1, p.2) (read_goes _ _ _ _ _ _ _ r.limit r.steps r.made r.inside r.ok (c.in_err-place_number.ensures.is (known_bits (g.S.Space.view c.args.space.now))))
 
-pub returns-clause-ok : goal.returns-clause-ok
+pub returns-clause-is : goal.returns-clause-is
 unfolding read_plan
-returns-clause-ok g c =
+returns-clause-is g c =
     let r = c.in_ok-digits.ensures in
-    let h = c.in_ok-place_number.ensures.ok (known_bits (g.S.Space.view c.args.space.now)) in
+    let h = c.in_ok-place_number.ensures.is (known_bits (g.S.Space.view c.args.space.now)) in
     let wide = ap width_in c.requires.number in
     let ends = rw wide at h.ends in
     rw c.from.ensures (record { value = h.value; kept = h.kept; ends = ends; follows = read_goes _ _ _ _ _ _ _ r.limit r.steps r.made r.inside r.ok h.follows })

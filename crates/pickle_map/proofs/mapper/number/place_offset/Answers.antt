@@ -5,15 +5,15 @@ use Rattle.pickle_map.specs.Mapping.{number_plan}
 use Rattle.pickle_map.proofs.Walks.{follow_made, follow_done, follow_no_room}
 use Rattle.pickle_map.proofs.mapper.number.place_offset.Goals as goal
 
-pub returns-in_err-keep_offset-clause-err : goal.returns-in_err-keep_offset-clause-err
+pub returns-in_err-keep_offset-clause-is : goal.returns-in_err-keep_offset-clause-is
 unfolding number_plan
-returns-in_err-keep_offset-clause-err c =
+returns-in_err-keep_offset-clause-is c =
     let p = err_from_is_err_and c.from_residual.result c.from_residual.ensures.1 in
     rw (p.1, p.2) (λ known. follow_no_room c.in_err-keep_offset.ensures.full)
 
-pub returns-clause-ok : goal.returns-clause-ok
+pub returns-clause-is : goal.returns-clause-is
 unfolding number_plan
-returns-clause-ok c =
+returns-clause-is c =
     let n = c.note_made.ensures in
     λ known. record {
       value = offset_value c.args.number c.args.unit c.args.digits c.args.start;

@@ -19,12 +19,7 @@ loop-shape-init g c =
     let few = few_enough (8 * (g.S.Space.view c.args.space.now).len) (least_width (type_of c.args.nodes.now c.args.element)) in
     let fresh = row_fresh c.args.nodes.now c.args.store.now c.args.shape c.args.start (stored.outer_of (levels c.args.store.now)) c.requires.packing in
     record {
-      limit = search rules;
-      len = search rules;
-      bytes = search rules;
-      failures = search rules;
-      room = search rules;
-      made = search rules;
+      frame = search rules;
       after = search rules;
       inside = search rules;
       depth = search rules;
@@ -39,14 +34,14 @@ returns-in_err-tick-clause-outer g c =
     around_row c.args.nodes.now c.loop-shape.store c.args.shape i.so_far.0 c.args.start outer i.so_far.5
     ∙ sym (around_row c.args.nodes.now c.args.store.now c.args.shape [] c.args.start outer c.requires.packing)
 
-pub returns-in_err-tick-clause-err : goal.returns-in_err-tick-clause-err
-returns-in_err-tick-clause-err g c =
+pub returns-in_err-tick-clause-is : goal.returns-in_err-tick-clause-is
+returns-in_err-tick-clause-is g c =
     let p = err_from_is_err_and c.from_residual.result c.from_residual.ensures.1 in
     let i = c.loop-shape.invariant in
     let e = c.in_err-tick.ensures in
     let due = sym c.is_due.ensures ∙ c.loop-shape-test.true in
     let due = rw c.len-bits.ensures at due in
-    rw (p.1, p.2) (follow_on i.so_far.6 (elements_no_tick _ _ _ _ _ _ _ (max 1 (least_width (type_of c.args.nodes.now c.args.element))) _ i.so_far.2 i.inside due e.err (e.err ∙ e.refused.0 refl ∙ i.limit) e.made))
+    rw (p.1, p.2) (follow_on i.so_far.6 (elements_no_tick _ _ _ _ _ _ _ (max 1 (least_width (type_of c.args.nodes.now c.args.element))) _ i.so_far.2 i.inside due e.err (e.err ∙ e.refused.0 refl ∙ i.frame.limit) e.made))
 
 pub push_packed-requires-clause-first : goal.push_packed-requires-clause-first
 push_packed-requires-clause-first g c =
@@ -61,20 +56,20 @@ returns-in_err-push_packed-in-Ok-clause-outer g c =
     (around_row c.args.nodes.now c.loop-shape.store c.args.shape i.so_far.0 c.args.start outer i.so_far.5
     ∙ sym (around_row c.args.nodes.now c.args.store.now c.args.shape [] c.args.start outer c.requires.packing))
 
-pub returns-in_err-push_packed-in-Ok-clause-err : goal.returns-in_err-push_packed-in-Ok-clause-err
-returns-in_err-push_packed-in-Ok-clause-err g c =
+pub returns-in_err-push_packed-in-Ok-clause-is : goal.returns-in_err-push_packed-in-Ok-clause-is
+returns-in_err-push_packed-in-Ok-clause-is g c =
     let p = err_from_is_err_and c.from_residual-in_err-push_packed-in-Ok.result c.from_residual-in_err-push_packed-in-Ok.ensures.1 in
     let i = c.loop-shape.invariant in
     let e = c.in_ok-tick.ensures in
     let r = c.in-Ok.ensures in
     let due = sym c.is_due.ensures ∙ c.loop-shape-test.true in
     let due = rw c.len-bits.ensures at due in
-    let fits = rw (i.len, c.element_width-width.ensures) at r.inside in
+    let fits = rw (i.frame.len, c.element_width-width.ensures) at r.inside in
     let may = rw c.element_width-width.ensures at r.ok in
-    let packs = rw (← i.room) at c.requires.shape.packs in
+    let packs = rw (← i.frame.room) at c.requires.shape.packs in
     let h = element_no_room c.args.nodes.now c.args.shape (8 * (g.S.Space.view c.args.space.now).len) (type_of c.args.nodes.now c.args.element) c.args.order (row_levels c.args.nodes.now c.args.shape i.so_far.0 c.args.start (stored.outer_of (levels c.args.store.now))) c.loop-shape.place c.requires.shape.is i.inside c.in-Ok.digits r.limit r.steps r.made fits may packs in
-    let h = in_world (g.S.Space.view c.args.space.now) (g.S.Space.view c.loop-shape.space) c.args.store.now c.loop-shape.store i.bytes i.room h in
-    rw (p.1, p.2) (follow_on i.so_far.6 (elements_stop _ _ _ _ _ _ _ (max 1 (least_width (type_of c.args.nodes.now c.args.element))) _ i.so_far.2 i.inside due (e.limit ∙ i.limit) e.ok e.made Memory refl h))
+    let h = in_world (g.S.Space.view c.args.space.now) (g.S.Space.view c.loop-shape.space) c.args.store.now c.loop-shape.store i.frame.bytes i.frame.room h in
+    rw (p.1, p.2) (follow_on i.so_far.6 (elements_stop _ _ _ _ _ _ _ (max 1 (least_width (type_of c.args.nodes.now c.args.element))) _ i.so_far.2 i.inside due (e.limit ∙ i.frame.limit) e.ok e.made Memory refl h))
 
 pub loop-shape-preserved : goal.loop-shape-preserved
 loop-shape-preserved g c =
@@ -87,26 +82,21 @@ loop-shape-preserved g c =
     let due = sym c.is_due.ensures ∙ c.loop-shape-test.true in
     let due = rw c.len-bits.ensures at due in
     let width = c.element_width-width.ensures in
-    let fits = rw (i.len, width) at r.inside in
+    let fits = rw (i.frame.len, width) at r.inside in
     let may = rw width at r.ok in
     let h = element_goes c.args.nodes.now c.args.shape (8 * (g.S.Space.view c.args.space.now).len) (type_of c.args.nodes.now c.args.element) c.args.order (row_levels c.args.nodes.now c.args.shape i.so_far.0 c.args.start outer) c.loop-shape.place c.requires.shape.is i.inside c.in-Ok.digits r.limit r.steps r.made fits may n.steps n.made in
-    let h = in_world (g.S.Space.view c.args.space.now) (g.S.Space.view c.loop-shape.space) c.args.store.now c.loop-shape.store i.bytes i.room h in
+    let h = in_world (g.S.Space.view c.args.space.now) (g.S.Space.view c.loop-shape.space) c.args.store.now c.loop-shape.store i.frame.bytes i.frame.room h in
     let some = some_bits c.args.shape c.requires.shape.packed in
     let least = least_is c.args.shape (type_of c.args.nodes.now c.args.element) c.requires.shape.is in
     let far : c.loop-shape.place + max 1 (least_width (type_of c.args.nodes.now c.args.element)) ≤ c.loop-shape.place + element_width c.args.shape = omega (arith, some.0, least) in
-    let next = elements_goes (plan (8 * (g.S.Space.view c.args.space.now).len) (type_of c.args.nodes.now c.args.element) c.args.order) (8 * (g.S.Space.view c.args.space.now).len) c.args.start c.args.extent c.loop-shape.count (row_levels c.args.nodes.now c.args.shape i.so_far.0 c.args.start outer) c.loop-shape.place (max 1 (least_width (type_of c.args.nodes.now c.args.element))) _ i.so_far.2 i.inside due (e.limit ∙ i.limit) e.ok e.made (shown c.args.nodes.now (element_value c.args.shape c.loop-shape.place c.in-Ok.digits)) (c.loop-shape.place + element_width c.args.shape) (c.loop-shape.count + 1) refl (element_end c.args.nodes.now c.args.shape c.loop-shape.place c.in-Ok.digits c.requires.shape.packed) (λ same. omega (arith, same, some.0)) far h in
+    let next = elements_goes (plan (8 * (g.S.Space.view c.args.space.now).len) (type_of c.args.nodes.now c.args.element) c.args.order) (8 * (g.S.Space.view c.args.space.now).len) c.args.start c.args.extent c.loop-shape.count (row_levels c.args.nodes.now c.args.shape i.so_far.0 c.args.start outer) c.loop-shape.place (max 1 (least_width (type_of c.args.nodes.now c.args.element))) _ i.so_far.2 i.inside due (e.limit ∙ i.frame.limit) e.ok e.made (shown c.args.nodes.now (element_value c.args.shape c.loop-shape.place c.in-Ok.digits)) (c.loop-shape.place + element_width c.args.shape) (c.loop-shape.count + 1) refl (element_end c.args.nodes.now c.args.shape c.loop-shape.place c.in-Ok.digits c.requires.shape.packed) (λ same. omega (arith, same, some.0)) far h in
     let short = g.met.S.Space.short c.args.space.now in
     let more = length_push i.so_far.0 c.in-Ok.digits in
     let place : c.loop-shape.place + element_width c.args.shape ≡ c.args.start + element_width c.args.shape * (length i.so_far.0 + 1) = omega (arith, i.so_far.3) in
     let packed = k.ok i.so_far.0 outer i.so_far.5 (rw width (omega (arith, place, fits, short))) in
     let levels = row_more c.args.nodes.now c.args.shape i.so_far.0 c.in-Ok.digits c.args.start c.loop-shape.place outer i.so_far.3 in
     record {
-      limit = search rules;
-      len = search rules;
-      bytes = search rules;
-      failures = search rules;
-      room = search rules;
-      made = search rules;
+      frame = search rules;
       after = search rules;
       inside = search rules;
       depth = search rules;
@@ -115,21 +105,21 @@ loop-shape-preserved g c =
           (i.so_far.0 ++ c.in-Ok.digits ∷ [], next.0, next.1, rw more place, rw more (ap (λ x. x + 1) i.so_far.4), packed, rw levels (follow_on i.so_far.6 next.2));
     }
 
-pub returns-then-ends-clause-ok : goal.returns-then-ends-clause-ok
-returns-then-ends-clause-ok g c =
+pub returns-then-ends-clause-is : goal.returns-then-ends-clause-is
+returns-then-ends-clause-is g c =
     let i = c.loop-shape.invariant in
     let e = c.in_ok-tick.ensures in
     let r = c.in-Err.ensures in
     let due = sym c.is_due.ensures ∙ c.loop-shape-test.true in
     let due = rw c.len-bits.ensures at due in
     let stops = rw c.element_width-width.ensures at r.err in
-    let h = element_stops c.args.nodes.now c.args.shape (8 * (g.S.Space.view c.args.space.now).len) (type_of c.args.nodes.now c.args.element) c.args.order (row_levels c.args.nodes.now c.args.shape i.so_far.0 c.args.start (stored.outer_of (levels c.args.store.now))) c.loop-shape.place c.requires.shape.is i.inside _ _ _ refl (ap (λ l. 8 * l) (sym i.len)) stops r.made in
+    let h = element_stops c.args.nodes.now c.args.shape (8 * (g.S.Space.view c.args.space.now).len) (type_of c.args.nodes.now c.args.element) c.args.order (row_levels c.args.nodes.now c.args.shape i.so_far.0 c.args.start (stored.outer_of (levels c.args.store.now))) c.loop-shape.place c.requires.shape.is i.inside _ _ _ refl (ap (λ l. 8 * l) (sym i.frame.len)) stops r.made in
     let ends = sym c.ends.ensures ∙ c.if-ends.true in
     record {
       numbers = i.so_far.0;
       packing = i.so_far.5;
       ends = i.so_far.3;
-      runs = follow_on i.so_far.6 (elements_over _ _ _ _ _ _ _ (max 1 (least_width (type_of c.args.nodes.now c.args.element))) _ i.so_far.2 i.inside due (e.limit ∙ i.limit) e.ok e.made _ ends h);
+      runs = follow_on i.so_far.6 (elements_over _ _ _ _ _ _ _ (max 1 (least_width (type_of c.args.nodes.now c.args.element))) _ i.so_far.2 i.inside due (e.limit ∙ i.frame.limit) e.ok e.made _ ends h);
     }
 
 pub returns-then-ends-clause-outer : goal.returns-then-ends-clause-outer
@@ -146,20 +136,20 @@ returns-in-Err-clause-outer g c =
     around_row c.args.nodes.now c.loop-shape.store c.args.shape i.so_far.0 c.args.start outer i.so_far.5
     ∙ sym (around_row c.args.nodes.now c.args.store.now c.args.shape [] c.args.start outer c.requires.packing)
 
-pub returns-in-Err-clause-err : goal.returns-in-Err-clause-err
-returns-in-Err-clause-err g c =
+pub returns-in-Err-clause-is : goal.returns-in-Err-clause-is
+returns-in-Err-clause-is g c =
     let i = c.loop-shape.invariant in
     let e = c.in_ok-tick.ensures in
     let r = c.in-Err.ensures in
     let due = sym c.is_due.ensures ∙ c.loop-shape-test.true in
     let due = rw c.len-bits.ensures at due in
     let stops = rw c.element_width-width.ensures at r.err in
-    let h = element_stops c.args.nodes.now c.args.shape (8 * (g.S.Space.view c.args.space.now).len) (type_of c.args.nodes.now c.args.element) c.args.order (row_levels c.args.nodes.now c.args.shape i.so_far.0 c.args.start (stored.outer_of (levels c.args.store.now))) c.loop-shape.place c.requires.shape.is i.inside _ _ _ refl (ap (λ l. 8 * l) (sym i.len)) stops r.made in
+    let h = element_stops c.args.nodes.now c.args.shape (8 * (g.S.Space.view c.args.space.now).len) (type_of c.args.nodes.now c.args.element) c.args.order (row_levels c.args.nodes.now c.args.shape i.so_far.0 c.args.start (stored.outer_of (levels c.args.store.now))) c.loop-shape.place c.requires.shape.is i.inside _ _ _ refl (ap (λ l. 8 * l) (sym i.frame.len)) stops r.made in
     let ends = sym c.ends.ensures ∙ c.if-ends.false in
-    follow_on i.so_far.6 (elements_stop _ _ _ _ _ _ _ (max 1 (least_width (type_of c.args.nodes.now c.args.element))) _ i.so_far.2 i.inside due (e.limit ∙ i.limit) e.ok e.made _ ends h)
+    follow_on i.so_far.6 (elements_stop _ _ _ _ _ _ _ (max 1 (least_width (type_of c.args.nodes.now c.args.element))) _ i.so_far.2 i.inside due (e.limit ∙ i.frame.limit) e.ok e.made _ ends h)
 
-pub returns-then-is_met-clause-ok : goal.returns-then-is_met-clause-ok
-returns-then-is_met-clause-ok g c =
+pub returns-then-is_met-clause-is : goal.returns-then-is_met-clause-is
+returns-then-is_met-clause-is g c =
     let i = c.loop-shape.invariant in
     let over = sym c.is_due.ensures ∙ c.loop-shape-test.false in
     let over = rw c.len-bits.ensures at over in
@@ -184,8 +174,8 @@ returns-else-is_met-clause-outer g c =
     around_row c.args.nodes.now c.loop-shape.store c.args.shape i.so_far.0 c.args.start outer i.so_far.5
     ∙ sym (around_row c.args.nodes.now c.args.store.now c.args.shape [] c.args.start outer c.requires.packing)
 
-pub returns-else-is_met-clause-err : goal.returns-else-is_met-clause-err
-returns-else-is_met-clause-err g c =
+pub returns-else-is_met-clause-is : goal.returns-else-is_met-clause-is
+returns-else-is_met-clause-is g c =
     let i = c.loop-shape.invariant in
     let over = sym c.is_due.ensures ∙ c.loop-shape-test.false in
     let over = rw c.len-bits.ensures at over in

@@ -1,7 +1,7 @@
 use Rattle.std.proofs.Common.{◌≡◌, ℕ, ◌+◌, ◌-◌, ◌*◌, ◌≤◌, ◌<◌, max, List, length}
 use Rattle.pickle_types.specs.Bounds.{least_width, count_of}
 use Rattle.pickle_types.specs.Table.{type_of}
-use Rattle.pickle_map.specs.Framed.{Runs}
+use Rattle.pickle_map.specs.Framed.{Frame, Runs}
 use Rattle.pickle_map.specs.Follows.{Partly}
 use Rattle.pickle_map.specs.Levels as stored
 use Rattle.pickle_map.specs.Mapping.{plan, elements_plan}
@@ -15,12 +15,7 @@ decreases-loop-shape g l = 8 * (g.S.Space.view l.initial.space).len - l.place
 
 abbrev pub invariant-loop-shape : goal.invariant-loop-shape
 invariant-loop-shape g l = record {
-  limit : l.meter.limit ≡ l.initial.meter.limit;
-  len : (g.S.Space.view l.space).len ≡ (g.S.Space.view l.initial.space).len;
-  bytes : (g.S.Space.view l.space).bytes ≡ (g.S.Space.view l.initial.space).bytes;
-  failures : (g.S.Space.view l.initial.space).failures ≤ (g.S.Space.view l.space).failures;
-  room : l.store.room ≡ l.initial.store.room;
-  made : l.meter.made + l.initial.meter.steps ≤ l.initial.meter.made + l.meter.steps;
+  frame : Frame (g.S.Space.view l.initial.space) (g.S.Space.view l.space) l.initial.meter l.meter l.initial.store l.store 0;
   after : l.start ≤ l.place;
   inside : l.place ≤ 8 * (g.S.Space.view l.initial.space).len;
   depth : length (levels l.store) ≡ length (levels l.initial.store);

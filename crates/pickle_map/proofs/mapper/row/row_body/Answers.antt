@@ -7,21 +7,21 @@ use Rattle.pickle_map.proofs.Row.{row_kept, packs_no_more}
 use Rattle.pickle_map.proofs.Walks.{follow_stop}
 use Rattle.pickle_map.proofs.mapper.row.row_body.Goals as goal
 
-pub returns-in_err-end-clause-err : goal.returns-in_err-end-clause-err
-returns-in_err-end-clause-err g c =
+pub returns-in_err-end-clause-is : goal.returns-in_err-end-clause-is
+returns-in_err-end-clause-is g c =
     let p = err_from_is_err_and c.from_residual.result c.from_residual.ensures.1 in
-    rw (p.1, p.2) (follow_stop _ _ _ c.in_err-end.ensures.err)
+    rw (p.1, p.2) (follow_stop _ _ _ c.in_err-end.ensures.is)
 
-pub returns-in_err-close_row-clause-err : goal.returns-in_err-close_row-clause-err
-returns-in_err-close_row-clause-err g c =
+pub returns-in_err-close_row-clause-is : goal.returns-in_err-close_row-clause-is
+returns-in_err-close_row-clause-is g c =
     let p = err_from_is_err_and c.from_residual-in_err-close_row.result c.from_residual-in_err-close_row.ensures.1 in
-    let m = c.in_ok-end.ensures.ok in
+    let m = c.in_ok-end.ensures.is in
     rw (p.1, p.2) (array_no_room _ _ _ _ m.runs {room = c.args.store.now.room} refl (packs_no_more c.args.store.now.room _ _ c.requires.shape.packs))
 
-pub returns-clause-ok : goal.returns-clause-ok
-returns-clause-ok g c =
+pub returns-clause-is : goal.returns-clause-is
+returns-clause-is g c =
     let n = c.note_made.ensures in
-    let m = c.in_ok-end.ensures.ok in
+    let m = c.in_ok-end.ensures.is in
     let outer = stored.outer_of (levels c.args.store.now) in
     let kept = row_kept c.args.nodes.now c.args.store.now c.close_row.new.self c.args.shape m.numbers c.args.start c.in_ok-end.end outer c.requires.packing m.ends (c.in_ok-close_row.ensures.ok m.numbers outer m.packing) in
     record { value = _; kept = kept; ends = refl; follows = array_made _ _ _ _ m.runs n.steps n.made }

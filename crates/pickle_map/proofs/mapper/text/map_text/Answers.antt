@@ -6,8 +6,8 @@ use Rattle.pickle_map.proofs.Walks.{follow_tick, follow_no_tick}
 use Rattle.pickle_map.proofs.Held.{length-levels}
 use Rattle.pickle_map.proofs.mapper.text.map_text.Goals as goal
 
-pub returns-in_err-tick-clause-err : goal.returns-in_err-tick-clause-err
-returns-in_err-tick-clause-err g c =
+pub returns-in_err-tick-clause-is : goal.returns-in_err-tick-clause-is
+returns-in_err-tick-clause-is g c =
     let p = err_from_is_err_and c.from_residual.result c.from_residual.ensures.1 in
     let e = c.in_err-tick.ensures in
     rw (p.1, p.2) (follow_no_tick e.err (e.err ∙ e.refused.0 refl) e.made)
@@ -19,23 +19,23 @@ pub text_body-requires-clause-open : goal.text_body-requires-clause-open
 text_body-requires-clause-open g c = omega (arith, c.open_text.ensures.depth, length-levels c.args.store.now)
 
 pub drop_level-requires : goal.drop_level-requires
-drop_level-requires g c = omega (arith, c.in-Err.ensures.depth, c.open_text.ensures.depth, length-levels c.args.store.now)
+drop_level-requires g c = omega (arith, c.in-Err.ensures.level.depth, c.open_text.ensures.depth, length-levels c.args.store.now)
 
-pub returns-in-Ok-clause-ok : goal.returns-in-Ok-clause-ok
-returns-in-Ok-clause-ok g c =
+pub returns-in-Ok-clause-is : goal.returns-in-Ok-clause-is
+returns-in-Ok-clause-is g c =
     let e = c.in_ok-tick.ensures in
     let opened = keeps_opened c.args.nodes.now c.args.store.now c.open_text.new.self c.open_text.ensures.levels in
-    let h = rw (opened, c.open_text.ensures.room) at c.in-Ok.ensures.ok in
+    let h = rw (opened, c.open_text.ensures.room) at c.in-Ok.ensures.is in
     record { value = h.value; kept = h.kept; ends = h.ends; follows = follow_tick e.limit e.ok e.made h.follows }
 
-pub returns-in-Err-clause-err : goal.returns-in-Err-clause-err
-returns-in-Err-clause-err g c =
+pub returns-in-Err-clause-is : goal.returns-in-Err-clause-is
+returns-in-Err-clause-is g c =
     let e = c.in_ok-tick.ensures in
     let opened = keeps_opened c.args.nodes.now c.args.store.now c.open_text.new.self c.open_text.ensures.levels in
-    let h = rw (opened, c.open_text.ensures.room) at c.in-Err.ensures.err in
+    let h = rw (opened, c.open_text.ensures.room) at c.in-Err.ensures.is in
     follow_tick e.limit e.ok e.made h
 
 pub returns-in-Err-clause-same : goal.returns-in-Err-clause-same
 returns-in-Err-clause-same g c =
     let opened = keeps_opened c.args.nodes.now c.args.store.now c.open_text.new.self c.open_text.ensures.levels in
-    keeps_outer c.args.nodes.now c.text_body.new.store c.drop_level.new.self c.drop_level.ensures.levels ∙ c.in-Err.ensures.outer ∙ ap outer_of opened
+    keeps_outer c.args.nodes.now c.text_body.new.store c.drop_level.new.self c.drop_level.ensures.levels ∙ c.in-Err.ensures.level.outer ∙ ap outer_of opened

@@ -11,60 +11,55 @@ use Rattle.pickle_map.proofs.mapper.text.text_body.Goals as goal
 
 pub loop-byte-init : goal.loop-byte-init
 loop-byte-init g c = record {
-  limit = search rules;
-  len = search rules;
-  bytes = search rules;
-  failures = search rules;
-  room = search rules;
-  made = search rules;
+  frame = search rules;
   after = search rules;
   inside = search rules;
   depth = search rules;
   so_far = ([], _, omega arith, omega arith, c.requires.writing, follow_here);
 }
 
-pub returns-in-Err-clause-err : goal.returns-in-Err-clause-err
-returns-in-Err-clause-err g c =
+pub returns-in-Err-clause-is : goal.returns-in-Err-clause-is
+returns-in-Err-clause-is g c =
     let i = c.loop-byte.invariant in
     let e = c.in-Err.ensures in
     let stops = refusal_stops c.in-Err.fault c.args.start (c.loop-byte.place + 8) _ _ _ _ _ e.err in
-    rw c.refusal_at.ensures (follow_on i.so_far.5 (text_stops _ _ _ _ _ _ i.so_far.2 i.inside _ _ _ i.limit (ap (λ l. 8 * l) (sym i.len)) stops e.made))
+    rw c.refusal_at.ensures (follow_on i.so_far.5 (text_stops _ _ _ _ _ _ i.so_far.2 i.inside _ _ _ i.frame.limit (ap (λ l. 8 * l) (sym i.frame.len)) stops e.made))
 
-pub returns-in-Err-clause-outer : goal.returns-in-Err-clause-outer
-returns-in-Err-clause-outer g c =
+pub returns-in-Err-clause-level : goal.returns-in-Err-clause-level
+returns-in-Err-clause-level g c =
     let i = c.loop-byte.invariant in
     let first = around_text c.args.nodes.now c.args.store.now [] c.args.start (stored.outer_of (levels c.args.store.now)) c.requires.writing in
-    around_text c.args.nodes.now c.loop-byte.store i.so_far.0 c.args.start (stored.outer_of (levels c.args.store.now)) i.so_far.4 ∙ sym first
+    record { outer = around_text c.args.nodes.now c.loop-byte.store i.so_far.0 c.args.start (stored.outer_of (levels c.args.store.now)) i.so_far.4 ∙ sym first; depth = i.depth }
 
-pub returns-in_err-close_text-in-Ok-clause-err : goal.returns-in_err-close_text-in-Ok-clause-err
-returns-in_err-close_text-in-Ok-clause-err g c =
+pub returns-in_err-close_text-in-Ok-clause-is : goal.returns-in_err-close_text-in-Ok-clause-is
+returns-in_err-close_text-in-Ok-clause-is g c =
     let p = err_from_is_err_and c.from_residual.result c.from_residual.ensures.1 in
     let i = c.loop-byte.invariant in
     let r = c.in-Ok.ensures in
     let first = around_text c.args.nodes.now c.args.store.now [] c.args.start (stored.outer_of (levels c.args.store.now)) c.requires.writing in
-    let fits = rw i.len at r.inside in
-    let may = may_same _ _ _ _ i.bytes r.ok in
+    let fits = rw i.frame.len at r.inside in
+    let may = may_same _ _ _ _ i.frame.bytes r.ok in
     let full = not_closed c.args.nodes.now c.loop-byte.store i.so_far.0 c.args.start (stored.outer_of (levels c.args.store.now)) c.loop-byte.store.room (c.in_err-close_text-in-Ok.ensures.succeeds i.so_far.0 (stored.outer_of (levels c.args.store.now)) i.so_far.4) in
     let end : c.args.start + 8 * (length i.so_far.0 + 1) ≡ c.loop-byte.place + 8 = omega (arith, i.so_far.3) in
     let full = rw (← first, end) at full in
-    rw (p.1, p.2) (follow_on i.so_far.5 (text_not_closed _ _ _ _ _ _ i.so_far.2 i.inside _ (r.limit ∙ i.limit) r.steps r.made fits may c.if-byte-eq0.true i.room full))
+    rw (p.1, p.2) (follow_on i.so_far.5 (text_not_closed _ _ _ _ _ _ i.so_far.2 i.inside _ (r.limit ∙ i.frame.limit) r.steps r.made fits may c.if-byte-eq0.true i.frame.room full))
 
-pub returns-in_err-close_text-in-Ok-clause-outer : goal.returns-in_err-close_text-in-Ok-clause-outer
-returns-in_err-close_text-in-Ok-clause-outer g c =
+pub returns-in_err-close_text-in-Ok-clause-level : goal.returns-in_err-close_text-in-Ok-clause-level
+returns-in_err-close_text-in-Ok-clause-level g c =
     let p = err_from_is_err_and c.from_residual.result c.from_residual.ensures.1 in
     let i = c.loop-byte.invariant in
     let first = around_text c.args.nodes.now c.args.store.now [] c.args.start (stored.outer_of (levels c.args.store.now)) c.requires.writing in
     let same = around_text c.args.nodes.now c.loop-byte.store i.so_far.0 c.args.start (stored.outer_of (levels c.args.store.now)) i.so_far.4 ∙ sym first in
-    rw (p.1, c.in_err-close_text-in-Ok.ensures.err) same
+    rw (p.1, c.in_err-close_text-in-Ok.ensures.err) (record { outer = same; depth = i.depth })
 
-pub returns-then-byte-eq0-clause-ok : goal.returns-then-byte-eq0-clause-ok
-returns-then-byte-eq0-clause-ok g c =
+pub returns-then-byte-eq0-clause-is : goal.returns-then-byte-eq0-clause-is
+returns-then-byte-eq0-clause-is g c =
     let n = c.note_made.ensures in
     let i = c.loop-byte.invariant in
     let r = c.in-Ok.ensures in
     let first = around_text c.args.nodes.now c.args.store.now [] c.args.start (stored.outer_of (levels c.args.store.now)) c.requires.writing in
-    let fits = rw i.len at r.inside in
-    let may = may_same _ _ _ _ i.bytes r.ok in
+    let fits = rw i.frame.len at r.inside in
+    let may = may_same _ _ _ _ i.frame.bytes r.ok in
     let closed = c.in_ok-close_text-in-Ok.ensures.ok i.so_far.0 (stored.outer_of (levels c.args.store.now)) i.so_far.4 in
     let keeps = keeps_text c.args.nodes.now c.close_text.new.self i.so_far.0 c.args.start (stored.outer_of (levels c.args.store.now)) closed in
     let end : c.args.start + 8 * (length i.so_far.0 + 1) ≡ c.loop-byte.place + 8 = omega (arith, i.so_far.3) in
@@ -73,28 +68,28 @@ returns-then-byte-eq0-clause-ok g c =
       value = text_value i.so_far.0 c.args.start (c.loop-byte.place + 8);
       kept = keeps;
       ends = refl;
-      follows = follow_on i.so_far.5 (text_closed _ _ _ _ _ _ i.so_far.2 i.inside _ (r.limit ∙ i.limit) r.steps r.made fits may c.if-byte-eq0.true n.steps n.made);
+      follows = follow_on i.so_far.5 (text_closed _ _ _ _ _ _ i.so_far.2 i.inside _ (r.limit ∙ i.frame.limit) r.steps r.made fits may c.if-byte-eq0.true n.steps n.made);
     }
 
-pub returns-in_err-push_byte-in-Ok-clause-err : goal.returns-in_err-push_byte-in-Ok-clause-err
-returns-in_err-push_byte-in-Ok-clause-err g c =
+pub returns-in_err-push_byte-in-Ok-clause-is : goal.returns-in_err-push_byte-in-Ok-clause-is
+returns-in_err-push_byte-in-Ok-clause-is g c =
     let p = err_from_is_err_and c.from_residual-in_err-push_byte-in-Ok.result c.from_residual-in_err-push_byte-in-Ok.ensures.1 in
     let i = c.loop-byte.invariant in
     let r = c.in-Ok.ensures in
     let first = around_text c.args.nodes.now c.args.store.now [] c.args.start (stored.outer_of (levels c.args.store.now)) c.requires.writing in
-    let fits = rw i.len at r.inside in
-    let may = may_same _ _ _ _ i.bytes r.ok in
+    let fits = rw i.frame.len at r.inside in
+    let may = may_same _ _ _ _ i.frame.bytes r.ok in
     let full = not_longer c.args.nodes.now c.loop-byte.store (i.so_far.0 ++ c.in-Ok.byte ∷ []) c.args.start (stored.outer_of (levels c.args.store.now)) c.loop-byte.store.room (c.in_err-push_byte-in-Ok.ensures.succeeds i.so_far.0 (stored.outer_of (levels c.args.store.now)) i.so_far.4) in
     let full = rw (← first) at full in
-    rw (p.1, p.2) (follow_on i.so_far.5 (text_no_room _ _ _ _ _ _ i.so_far.2 i.inside _ (r.limit ∙ i.limit) r.steps r.made fits may c.if-byte-eq0.false i.room full))
+    rw (p.1, p.2) (follow_on i.so_far.5 (text_no_room _ _ _ _ _ _ i.so_far.2 i.inside _ (r.limit ∙ i.frame.limit) r.steps r.made fits may c.if-byte-eq0.false i.frame.room full))
 
-pub returns-in_err-push_byte-in-Ok-clause-outer : goal.returns-in_err-push_byte-in-Ok-clause-outer
-returns-in_err-push_byte-in-Ok-clause-outer g c =
+pub returns-in_err-push_byte-in-Ok-clause-level : goal.returns-in_err-push_byte-in-Ok-clause-level
+returns-in_err-push_byte-in-Ok-clause-level g c =
     let p = err_from_is_err_and c.from_residual-in_err-push_byte-in-Ok.result c.from_residual-in_err-push_byte-in-Ok.ensures.1 in
     let i = c.loop-byte.invariant in
     let first = around_text c.args.nodes.now c.args.store.now [] c.args.start (stored.outer_of (levels c.args.store.now)) c.requires.writing in
     let same = around_text c.args.nodes.now c.loop-byte.store i.so_far.0 c.args.start (stored.outer_of (levels c.args.store.now)) i.so_far.4 ∙ sym first in
-    rw (p.1, c.in_err-push_byte-in-Ok.ensures.err) same
+    rw (p.1, c.in_err-push_byte-in-Ok.ensures.err) (record { outer = same; depth = i.depth })
 
 pub loop-byte-preserved : goal.loop-byte-preserved
 loop-byte-preserved g c =
@@ -102,18 +97,13 @@ loop-byte-preserved g c =
     let i = c.loop-byte.invariant in
     let r = c.in-Ok.ensures in
     let first = around_text c.args.nodes.now c.args.store.now [] c.args.start (stored.outer_of (levels c.args.store.now)) c.requires.writing in
-    let fits = rw i.len at r.inside in
-    let may = may_same _ _ _ _ i.bytes r.ok in
-    let next = text_goes _ _ _ _ _ _ i.so_far.2 i.inside _ (r.limit ∙ i.limit) r.steps r.made fits may c.if-byte-eq0.false n.steps n.made in
+    let fits = rw i.frame.len at r.inside in
+    let may = may_same _ _ _ _ i.frame.bytes r.ok in
+    let next = text_goes _ _ _ _ _ _ i.so_far.2 i.inside _ (r.limit ∙ i.frame.limit) r.steps r.made fits may c.if-byte-eq0.false n.steps n.made in
     let short = g.met.S.Space.short c.args.space.now in
     let more = longer i.so_far.0 c.in-Ok.byte in
     record {
-      limit = search rules;
-      len = search rules;
-      bytes = search rules;
-      failures = search rules;
-      room = search rules;
-      made = search rules;
+      frame = search rules;
       after = search rules;
       inside = search rules;
       depth = search rules;

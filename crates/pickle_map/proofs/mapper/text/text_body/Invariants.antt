@@ -1,5 +1,5 @@
 use Rattle.std.proofs.Common.{◌≡◌, ℕ, ◌+◌, ◌-◌, ◌*◌, ◌/◌, ◌≤◌, ◌<◌, List, [], length}
-use Rattle.pickle_map.specs.Framed.{Runs}
+use Rattle.pickle_map.specs.Framed.{Frame, Runs}
 use Rattle.pickle_map.specs.Follows.{Partly}
 use Rattle.pickle_map.specs.Levels as stored
 use Rattle.pickle_map.specs.Mapping.{text_plan}
@@ -10,12 +10,7 @@ use Rattle.pickle_map.proofs.mapper.text.text_body.Given as goal
 
 abbrev pub invariant-loop-byte : goal.invariant-loop-byte
 invariant-loop-byte g l = record {
-  limit : l.meter.limit ≡ l.initial.meter.limit;
-  len : (g.S.Space.view l.space).len ≡ (g.S.Space.view l.initial.space).len;
-  bytes : (g.S.Space.view l.space).bytes ≡ (g.S.Space.view l.initial.space).bytes;
-  failures : (g.S.Space.view l.initial.space).failures ≤ (g.S.Space.view l.space).failures;
-  room : l.store.room ≡ l.initial.store.room;
-  made : l.meter.made + l.initial.meter.steps ≤ l.initial.meter.made + l.meter.steps;
+  frame : Frame (g.S.Space.view l.initial.space) (g.S.Space.view l.space) l.initial.meter l.meter l.initial.store l.store 0;
   after : l.start ≤ l.place;
   inside : l.place ≤ 8 * (g.S.Space.view l.initial.space).len;
   depth : length (levels l.store) ≡ length (levels l.initial.store);

@@ -22,8 +22,8 @@ use Rattle.pickle_map.proofs.Shapes.{opened_as, below_as, sound_as, names_as, fi
 use Rattle.pickle_map.proofs.Walks.{follow_here, follow_on, follow_at, follow_stop, follow_then_ok, outer_pushed}
 use Rattle.pickle_map.proofs.mapper.types.+mapping.Goals as goal
 
-pub map_type-returns-then-from-start-clause-err : goal.map_type-returns-then-from-start-clause-err
-map_type-returns-then-from-start-clause-err g t c =
+pub map_type-returns-then-from-start-clause-is : goal.map_type-returns-then-from-start-clause-is
+map_type-returns-then-from-start-clause-is g t c =
     plan_past _ _ _ _ _ (omega arith)
 
 pub map_inside-map_integer-requires : goal.map_inside-map_integer-requires
@@ -31,11 +31,8 @@ map_inside-map_integer-requires g t c =
     let width = below_as c.args.nodes.now c.requires.table c.args.at c.requires.at c.index-nodes-at.result _ c.in-Integer.is in
     search rules
 
-pub map_inside-returns-in-Integer-clause-ok : goal.map_inside-returns-in-Integer-clause-ok
-map_inside-returns-in-Integer-clause-ok g t c = rw (opened_as c.args.nodes.now c.requires.table c.args.at c.requires.at c.index-nodes-at.result _ c.in-Integer.is, number_is _ _ _ _ _ _ refl c.requires.inside) c.map_integer.ensures.ok
-
-pub map_inside-returns-in-Integer-clause-err : goal.map_inside-returns-in-Integer-clause-err
-map_inside-returns-in-Integer-clause-err g t c = rw (opened_as c.args.nodes.now c.requires.table c.args.at c.requires.at c.index-nodes-at.result _ c.in-Integer.is, number_is _ _ _ _ _ _ refl c.requires.inside) c.map_integer.ensures.err
+pub map_inside-returns-in-Integer-clause-is : goal.map_inside-returns-in-Integer-clause-is
+map_inside-returns-in-Integer-clause-is g t c = rw (opened_as c.args.nodes.now c.requires.table c.args.at c.requires.at c.index-nodes-at.result _ c.in-Integer.is, number_is _ _ _ _ _ _ refl c.requires.inside) c.map_integer.ensures.is
 
 pub map_shape-map_number-requires-clause-number : goal.map_shape-map_number-requires-clause-number
 map_shape-map_number-requires-clause-number g t c = ap number_type (opened_as c.args.nodes.now c.requires.table c.args.at c.requires.at c.index-nodes-at.result _ c.in-Integer.is)
@@ -43,11 +40,8 @@ map_shape-map_number-requires-clause-number g t c = ap number_type (opened_as c.
 pub map_shape-map_number-requires-clause-width : goal.map_shape-map_number-requires-clause-width
 map_shape-map_number-requires-clause-width g t c = (below_as c.args.nodes.now c.requires.table c.args.at c.requires.at c.index-nodes-at.result _ c.in-Integer.is)
 
-pub map_shape-returns-in-Integer-clause-ok : goal.map_shape-returns-in-Integer-clause-ok
-map_shape-returns-in-Integer-clause-ok g t c = rw (number_is _ _ _ _ _ _ (ap number_type (opened_as c.args.nodes.now c.requires.table c.args.at c.requires.at c.index-nodes-at.result _ c.in-Integer.is)) c.requires.inside) c.map_number.ensures.ok
-
-pub map_shape-returns-in-Integer-clause-err : goal.map_shape-returns-in-Integer-clause-err
-map_shape-returns-in-Integer-clause-err g t c = rw (number_is _ _ _ _ _ _ (ap number_type (opened_as c.args.nodes.now c.requires.table c.args.at c.requires.at c.index-nodes-at.result _ c.in-Integer.is)) c.requires.inside) c.map_number.ensures.err
+pub map_shape-returns-in-Integer-clause-is : goal.map_shape-returns-in-Integer-clause-is
+map_shape-returns-in-Integer-clause-is g t c = rw (number_is _ _ _ _ _ _ (ap number_type (opened_as c.args.nodes.now c.requires.table c.args.at c.requires.at c.index-nodes-at.result _ c.in-Integer.is)) c.requires.inside) c.map_number.ensures.is
 
 pub map_shape-map_number-requires-in-Offset-clause-number : goal.map_shape-map_number-requires-in-Offset-clause-number
 map_shape-map_number-requires-in-Offset-clause-number g t c = ap number_type (opened_as c.args.nodes.now c.requires.table c.args.at c.requires.at c.index-nodes-at.result _ c.in-Offset.is)
@@ -55,11 +49,8 @@ map_shape-map_number-requires-in-Offset-clause-number g t c = ap number_type (op
 pub map_shape-map_number-requires-in-Offset-clause-width : goal.map_shape-map_number-requires-in-Offset-clause-width
 map_shape-map_number-requires-in-Offset-clause-width g t c = (below_as c.args.nodes.now c.requires.table c.args.at c.requires.at c.index-nodes-at.result _ c.in-Offset.is).0
 
-pub map_shape-returns-in-Offset-clause-ok : goal.map_shape-returns-in-Offset-clause-ok
-map_shape-returns-in-Offset-clause-ok g t c = rw (number_is _ _ _ _ _ _ (ap number_type (opened_as c.args.nodes.now c.requires.table c.args.at c.requires.at c.index-nodes-at.result _ c.in-Offset.is)) c.requires.inside) c.map_number-in-Offset.ensures.ok
-
-pub map_shape-returns-in-Offset-clause-err : goal.map_shape-returns-in-Offset-clause-err
-map_shape-returns-in-Offset-clause-err g t c = rw (number_is _ _ _ _ _ _ (ap number_type (opened_as c.args.nodes.now c.requires.table c.args.at c.requires.at c.index-nodes-at.result _ c.in-Offset.is)) c.requires.inside) c.map_number-in-Offset.ensures.err
+pub map_shape-returns-in-Offset-clause-is : goal.map_shape-returns-in-Offset-clause-is
+map_shape-returns-in-Offset-clause-is g t c = rw (number_is _ _ _ _ _ _ (ap number_type (opened_as c.args.nodes.now c.requires.table c.args.at c.requires.at c.index-nodes-at.result _ c.in-Offset.is)) c.requires.inside) c.map_number-in-Offset.ensures.is
 
 pub map_shape-map_number-requires-in-Integral-clause-number : goal.map_shape-map_number-requires-in-Integral-clause-number
 map_shape-map_number-requires-in-Integral-clause-number g t c = ap number_type (opened_as c.args.nodes.now c.requires.table c.args.at c.requires.at c.index-nodes-at.result _ c.in-Integral.is)
@@ -67,11 +58,8 @@ map_shape-map_number-requires-in-Integral-clause-number g t c = ap number_type (
 pub map_shape-map_number-requires-in-Integral-clause-width : goal.map_shape-map_number-requires-in-Integral-clause-width
 map_shape-map_number-requires-in-Integral-clause-width g t c = (below_as c.args.nodes.now c.requires.table c.args.at c.requires.at c.index-nodes-at.result _ c.in-Integral.is).0
 
-pub map_shape-returns-in-Integral-clause-ok : goal.map_shape-returns-in-Integral-clause-ok
-map_shape-returns-in-Integral-clause-ok g t c = rw (number_is _ _ _ _ _ _ (ap number_type (opened_as c.args.nodes.now c.requires.table c.args.at c.requires.at c.index-nodes-at.result _ c.in-Integral.is)) c.requires.inside) c.map_number-in-Integral.ensures.ok
-
-pub map_shape-returns-in-Integral-clause-err : goal.map_shape-returns-in-Integral-clause-err
-map_shape-returns-in-Integral-clause-err g t c = rw (number_is _ _ _ _ _ _ (ap number_type (opened_as c.args.nodes.now c.requires.table c.args.at c.requires.at c.index-nodes-at.result _ c.in-Integral.is)) c.requires.inside) c.map_number-in-Integral.ensures.err
+pub map_shape-returns-in-Integral-clause-is : goal.map_shape-returns-in-Integral-clause-is
+map_shape-returns-in-Integral-clause-is g t c = rw (number_is _ _ _ _ _ _ (ap number_type (opened_as c.args.nodes.now c.requires.table c.args.at c.requires.at c.index-nodes-at.result _ c.in-Integral.is)) c.requires.inside) c.map_number-in-Integral.ensures.is
 
 pub map_shape-map_text-requires-clause-open : goal.map_shape-map_text-requires-clause-open
 unfolding depth
@@ -110,106 +98,94 @@ map_shape-map_union-requires g t c =
     let few = sound.1 in
     rw c.deref-in-Union.ensures.value (search rules)
 
-pub map_shape-returns-in-String-clause-ok : goal.map_shape-returns-in-String-clause-ok
-map_shape-returns-in-String-clause-ok g t c = rw (opened_as c.args.nodes.now c.requires.table c.args.at c.requires.at c.index-nodes-at.result _ c.in-String.is, text_is _ _ _ _ c.requires.inside) c.map_text.ensures.ok
+pub map_shape-returns-in-String-clause-is : goal.map_shape-returns-in-String-clause-is
+map_shape-returns-in-String-clause-is g t c = rw (opened_as c.args.nodes.now c.requires.table c.args.at c.requires.at c.index-nodes-at.result _ c.in-String.is, text_is _ _ _ _ c.requires.inside) c.map_text.ensures.is
 
-pub map_shape-returns-in-Array-clause-ok : goal.map_shape-returns-in-Array-clause-ok
-map_shape-returns-in-Array-clause-ok g t c = rw (opened_as c.args.nodes.now c.requires.table c.args.at c.requires.at c.index-nodes-at.result _ c.in-Array.is) c.map_array.ensures.ok
+pub map_shape-returns-in-Array-clause-is : goal.map_shape-returns-in-Array-clause-is
+map_shape-returns-in-Array-clause-is g t c = rw (opened_as c.args.nodes.now c.requires.table c.args.at c.requires.at c.index-nodes-at.result _ c.in-Array.is) c.map_array.ensures.is
 
-pub map_shape-returns-in-Struct-clause-ok : goal.map_shape-returns-in-Struct-clause-ok
-map_shape-returns-in-Struct-clause-ok g t c = rw (struct_opened c.args.nodes.now c.requires.table c.args.at c.requires.at c.index-nodes-at.result _ _ _ _ c.in-Struct.is c.deref.ensures.value) c.map_struct.ensures.ok
+pub map_shape-returns-in-Struct-clause-is : goal.map_shape-returns-in-Struct-clause-is
+map_shape-returns-in-Struct-clause-is g t c = rw (struct_opened c.args.nodes.now c.requires.table c.args.at c.requires.at c.index-nodes-at.result _ _ _ _ c.in-Struct.is c.deref.ensures.value) c.map_struct.ensures.is
 
-pub map_shape-returns-in-Union-clause-ok : goal.map_shape-returns-in-Union-clause-ok
-map_shape-returns-in-Union-clause-ok g t c = rw (union_opened c.args.nodes.now c.requires.table c.args.at c.requires.at c.index-nodes-at.result _ _ _ c.in-Union.is c.deref-in-Union.ensures.value) c.map_union.ensures.ok
+pub map_shape-returns-in-Union-clause-is : goal.map_shape-returns-in-Union-clause-is
+map_shape-returns-in-Union-clause-is g t c = rw (union_opened c.args.nodes.now c.requires.table c.args.at c.requires.at c.index-nodes-at.result _ _ _ c.in-Union.is c.deref-in-Union.ensures.value) c.map_union.ensures.is
 
-pub map_shape-returns-in-String-clause-err : goal.map_shape-returns-in-String-clause-err
-map_shape-returns-in-String-clause-err g t c = rw (opened_as c.args.nodes.now c.requires.table c.args.at c.requires.at c.index-nodes-at.result _ c.in-String.is, text_is _ _ _ _ c.requires.inside) c.map_text.ensures.err
-
-pub map_shape-returns-in-Array-clause-err : goal.map_shape-returns-in-Array-clause-err
-map_shape-returns-in-Array-clause-err g t c = rw (opened_as c.args.nodes.now c.requires.table c.args.at c.requires.at c.index-nodes-at.result _ c.in-Array.is) c.map_array.ensures.err
-
-pub map_shape-returns-in-Struct-clause-err : goal.map_shape-returns-in-Struct-clause-err
-map_shape-returns-in-Struct-clause-err g t c = rw (struct_opened c.args.nodes.now c.requires.table c.args.at c.requires.at c.index-nodes-at.result _ _ _ _ c.in-Struct.is c.deref.ensures.value) c.map_struct.ensures.err
-
-pub map_shape-returns-in-Union-clause-err : goal.map_shape-returns-in-Union-clause-err
-map_shape-returns-in-Union-clause-err g t c = rw (union_opened c.args.nodes.now c.requires.table c.args.at c.requires.at c.index-nodes-at.result _ _ _ c.in-Union.is c.deref-in-Union.ensures.value) c.map_union.ensures.err
-
-pub map_checked-returns-in_err-end-clause-err : goal.map_checked-returns-in_err-end-clause-err
-map_checked-returns-in_err-end-clause-err g t c =
+pub map_checked-returns-in_err-end-clause-is : goal.map_checked-returns-in_err-end-clause-is
+map_checked-returns-in_err-end-clause-is g t c =
     let p = err_from_is_err_and c.from_residual.result c.from_residual.ensures.1 in
-    rw (p.1, p.2) (follow_stop _ _ _ c.in_err-end.ensures.err)
+    rw (p.1, p.2) (follow_stop _ _ _ c.in_err-end.ensures.is)
 
-pub map_checked-returns-in_err-check-clause-err : goal.map_checked-returns-in_err-check-clause-err
-map_checked-returns-in_err-check-clause-err g t c =
+pub map_checked-returns-in_err-check-clause-is : goal.map_checked-returns-in_err-check-clause-is
+map_checked-returns-in_err-check-clause-is g t c =
     let p = err_from_is_err_and c.from_residual-in_err-check.result c.from_residual-in_err-check.ensures.1 in
-    let h = c.in_ok-end.ensures.ok in
+    let h = c.in_ok-end.ensures.is in
     let checked = rw h.kept at c.in_err-check.ensures.is in
-    rw (p.1, p.2) (checks_stop _ _ _ _ h.value h.follows c.in_ok-end.ensures.limit c.in_err-check.ensures.made _ (omega arith) checked)
+    rw (p.1, p.2) (checks_stop _ _ _ _ h.value h.follows c.in_ok-end.ensures.frame.limit c.in_err-check.ensures.made _ (omega arith) checked)
 
-pub map_checked-returns-clause-ok : goal.map_checked-returns-clause-ok
-map_checked-returns-clause-ok g t c =
-    let h = c.in_ok-end.ensures.ok in
+pub map_checked-returns-clause-is : goal.map_checked-returns-clause-is
+map_checked-returns-clause-is g t c =
+    let h = c.in_ok-end.ensures.is in
     let checked = rw h.kept at c.in_ok-check.ensures.is in
-    record { value = h.value; kept = h.kept; ends = h.ends; follows = checks_ok _ _ _ _ h.value h.follows c.in_ok-end.ensures.limit c.in_ok-check.ensures.made tt checked }
+    record { value = h.value; kept = h.kept; ends = h.ends; follows = checks_ok _ _ _ _ h.value h.follows c.in_ok-end.ensures.frame.limit c.in_ok-check.ensures.made tt checked }
 
-pub map_struct-returns-in_err-tick-clause-err : goal.map_struct-returns-in_err-tick-clause-err
-map_struct-returns-in_err-tick-clause-err g t c =
+pub map_struct-returns-in_err-tick-clause-is : goal.map_struct-returns-in_err-tick-clause-is
+map_struct-returns-in_err-tick-clause-is g t c =
     let p = err_from_is_err_and c.from_residual.result c.from_residual.ensures.1 in
     let e = c.in_err-tick.ensures in
     rw (p.1, p.2, struct_is) (inside_no_tick _ _ _ c.requires.inside e.err (e.err ∙ e.refused.0 refl) e.made)
 
 pub map_struct-drop_level-requires : goal.map_struct-drop_level-requires
-map_struct-drop_level-requires g t c = omega (arith, c.in-Err.ensures.depth, c.open_level.ensures.depth, length-levels c.args.store.now)
+map_struct-drop_level-requires g t c = omega (arith, c.in-Err.ensures.level.depth, c.open_level.ensures.depth, length-levels c.args.store.now)
 
 pub map_struct-returns-in-Err-clause-same : goal.map_struct-returns-in-Err-clause-same
 map_struct-returns-in-Err-clause-same g t c =
     let opened = keeps_opened c.args.nodes.now c.args.store.now c.open_level.new.self c.open_level.ensures.levels in
-    keeps_outer c.args.nodes.now c.struct_body.new.store c.drop_level.new.self c.drop_level.ensures.levels ∙ c.in-Err.ensures.outer ∙ ap outer_of opened
+    keeps_outer c.args.nodes.now c.struct_body.new.store c.drop_level.new.self c.drop_level.ensures.levels ∙ c.in-Err.ensures.level.outer ∙ ap outer_of opened
 
-pub map_struct-returns-in-Ok-clause-ok : goal.map_struct-returns-in-Ok-clause-ok
-map_struct-returns-in-Ok-clause-ok g t c =
+pub map_struct-returns-in-Ok-clause-is : goal.map_struct-returns-in-Ok-clause-is
+map_struct-returns-in-Ok-clause-is g t c =
     let e = c.in_ok-tick.ensures in
     let opened = keeps_opened c.args.nodes.now c.args.store.now c.open_level.new.self c.open_level.ensures.levels in
-    let h = rw (opened, c.open_level.ensures.room) at c.in-Ok.ensures.ok in
+    let h = rw (opened, c.open_level.ensures.room) at c.in-Ok.ensures.is in
     record { value = h.value; kept = h.kept; ends = h.ends; follows = rw struct_is (inside_ticks _ _ _ c.requires.inside e.limit e.ok e.made h.follows) }
 
-pub map_struct-returns-in-Err-clause-err : goal.map_struct-returns-in-Err-clause-err
-map_struct-returns-in-Err-clause-err g t c =
+pub map_struct-returns-in-Err-clause-is : goal.map_struct-returns-in-Err-clause-is
+map_struct-returns-in-Err-clause-is g t c =
     let e = c.in_ok-tick.ensures in
     let opened = keeps_opened c.args.nodes.now c.args.store.now c.open_level.new.self c.open_level.ensures.levels in
-    let h = rw (opened, c.open_level.ensures.room) at c.in-Err.ensures.err in
+    let h = rw (opened, c.open_level.ensures.room) at c.in-Err.ensures.is in
     rw struct_is (inside_ticks _ _ _ c.requires.inside e.limit e.ok e.made h)
 
-pub map_union-returns-in_err-tick-clause-err : goal.map_union-returns-in_err-tick-clause-err
-map_union-returns-in_err-tick-clause-err g t c =
+pub map_union-returns-in_err-tick-clause-is : goal.map_union-returns-in_err-tick-clause-is
+map_union-returns-in_err-tick-clause-is g t c =
     let p = err_from_is_err_and c.from_residual.result c.from_residual.ensures.1 in
     let e = c.in_err-tick.ensures in
     rw (p.1, p.2, union_is) (inside_no_tick _ _ _ c.requires.inside e.err (e.err ∙ e.refused.0 refl) e.made)
 
 pub map_union-drop_level-requires : goal.map_union-drop_level-requires
-map_union-drop_level-requires g t c = omega (arith, c.in-Err.ensures.depth, c.open_level.ensures.depth, length-levels c.args.store.now)
+map_union-drop_level-requires g t c = omega (arith, c.in-Err.ensures.level.depth, c.open_level.ensures.depth, length-levels c.args.store.now)
 
 pub map_union-returns-in-Err-clause-same : goal.map_union-returns-in-Err-clause-same
 map_union-returns-in-Err-clause-same g t c =
     let opened = keeps_opened c.args.nodes.now c.args.store.now c.open_level.new.self c.open_level.ensures.levels in
-    keeps_outer c.args.nodes.now c.union_body.new.store c.drop_level.new.self c.drop_level.ensures.levels ∙ c.in-Err.ensures.outer ∙ ap outer_of opened
+    keeps_outer c.args.nodes.now c.union_body.new.store c.drop_level.new.self c.drop_level.ensures.levels ∙ c.in-Err.ensures.level.outer ∙ ap outer_of opened
 
-pub map_union-returns-in-Ok-clause-ok : goal.map_union-returns-in-Ok-clause-ok
-map_union-returns-in-Ok-clause-ok g t c =
+pub map_union-returns-in-Ok-clause-is : goal.map_union-returns-in-Ok-clause-is
+map_union-returns-in-Ok-clause-is g t c =
     let e = c.in_ok-tick.ensures in
     let opened = keeps_opened c.args.nodes.now c.args.store.now c.open_level.new.self c.open_level.ensures.levels in
-    let h = rw (opened, c.open_level.ensures.room) at c.in-Ok.ensures.ok in
+    let h = rw (opened, c.open_level.ensures.room) at c.in-Ok.ensures.is in
     record { value = h.value; kept = h.kept; ends = h.ends; follows = rw union_is (inside_ticks _ _ _ c.requires.inside e.limit e.ok e.made h.follows) }
 
-pub map_union-returns-in-Err-clause-err : goal.map_union-returns-in-Err-clause-err
-map_union-returns-in-Err-clause-err g t c =
+pub map_union-returns-in-Err-clause-is : goal.map_union-returns-in-Err-clause-is
+map_union-returns-in-Err-clause-is g t c =
     let e = c.in_ok-tick.ensures in
     let opened = keeps_opened c.args.nodes.now c.args.store.now c.open_level.new.self c.open_level.ensures.levels in
-    let h = rw (opened, c.open_level.ensures.room) at c.in-Err.ensures.err in
+    let h = rw (opened, c.open_level.ensures.room) at c.in-Err.ensures.is in
     rw union_is (inside_ticks _ _ _ c.requires.inside e.limit e.ok e.made h)
 
-pub map_array-returns-in_err-tick-clause-err : goal.map_array-returns-in_err-tick-clause-err
-map_array-returns-in_err-tick-clause-err g t c =
+pub map_array-returns-in_err-tick-clause-is : goal.map_array-returns-in_err-tick-clause-is
+map_array-returns-in_err-tick-clause-is g t c =
     let p = err_from_is_err_and c.from_residual.result c.from_residual.ensures.1 in
     let e = c.in_err-tick.ensures in
     rw (p.1, p.2, array_is) (inside_no_tick _ _ _ c.requires.inside e.err (e.err ∙ e.refused.0 refl) e.made)
@@ -218,11 +194,11 @@ pub map_array-drop_level-requires : goal.map_array-drop_level-requires
 map_array-drop_level-requires g t c =
     elim c.match-packed_as.branch [
       | map_array-in-Some w ↦
-          let depth = rw (sym w.mapped-is ∙ c.in-Err.is) at w.row_body-mapped.ensures.depth in
-          rw w.store-is (omega (arith, depth, c.open_level.ensures.depth, length-levels c.args.store.now))
+          let stays = rw (sym w.mapped-is ∙ c.in-Err.is) at w.row_body-mapped.ensures.level in
+          rw w.store-is (omega (arith, stays.depth, c.open_level.ensures.depth, length-levels c.args.store.now))
       | map_array-in-None w ↦
-          let depth = rw (sym w.mapped-is ∙ c.in-Err.is) at w.array_body-mapped.ensures.depth in
-          rw w.store-is (omega (arith, depth, c.open_level.ensures.depth, length-levels c.args.store.now))
+          let stays = rw (sym w.mapped-is ∙ c.in-Err.is) at w.array_body-mapped.ensures.level in
+          rw w.store-is (omega (arith, stays.depth, c.open_level.ensures.depth, length-levels c.args.store.now))
     ]
 
 pub map_array-returns-in-Err-clause-same : goal.map_array-returns-in-Err-clause-same
@@ -230,41 +206,41 @@ map_array-returns-in-Err-clause-same g t c =
     let opened = keeps_opened c.args.nodes.now c.args.store.now c.open_level.new.self c.open_level.ensures.levels in
     let outer : outer_of (kept c.args.nodes.now c.match-packed_as.store) ≡ outer_of (kept c.args.nodes.now c.open_level.new.self) =
     elim c.match-packed_as.branch [
-      | map_array-in-Some w ↦ rw w.store-is (rw (sym w.mapped-is ∙ c.in-Err.is) at w.row_body-mapped.ensures.outer)
-      | map_array-in-None w ↦ rw w.store-is (rw (sym w.mapped-is ∙ c.in-Err.is) at w.array_body-mapped.ensures.outer)
+      | map_array-in-Some w ↦ let stays = rw (sym w.mapped-is ∙ c.in-Err.is) at w.row_body-mapped.ensures.level in rw w.store-is stays.outer
+      | map_array-in-None w ↦ let stays = rw (sym w.mapped-is ∙ c.in-Err.is) at w.array_body-mapped.ensures.level in rw w.store-is stays.outer
     ] in
     keeps_outer c.args.nodes.now c.match-packed_as.store c.drop_level.new.self c.drop_level.ensures.levels ∙ outer ∙ ap outer_of opened
 
-pub map_array-returns-in-Ok-clause-ok : goal.map_array-returns-in-Ok-clause-ok
-map_array-returns-in-Ok-clause-ok g t c =
+pub map_array-returns-in-Ok-clause-is : goal.map_array-returns-in-Ok-clause-is
+map_array-returns-in-Ok-clause-is g t c =
     let e = c.in_ok-tick.ensures in
     let opened = keeps_opened c.args.nodes.now c.args.store.now c.open_level.new.self c.open_level.ensures.levels in
     elim c.match-packed_as.branch [
       | map_array-in-Some w ↦
-          let h = rw (sym w.mapped-is ∙ c.in-Ok.is, opened, c.open_level.ensures.room) at w.row_body-mapped.ensures.ok in
+          let h = rw (sym w.mapped-is ∙ c.in-Ok.is, opened, c.open_level.ensures.room) at w.row_body-mapped.ensures.is in
           rw (w.store-is, w.meter-is)
           (record { value = h.value; kept = h.kept; ends = h.ends; follows = rw array_is (inside_ticks _ _ _ c.requires.inside e.limit e.ok e.made (follow_then_ok _ _ (settles_ok _ _ _ refl (rw c.from.ensures at c.in_ok-extent.ensures.is) c.in_ok-extent.ensures.made) (follow_at c.in_ok-extent.ensures.limit refl refl h.follows))) })
       | map_array-in-None w ↦
-          let h = rw (sym w.mapped-is ∙ c.in-Ok.is, opened, c.open_level.ensures.room) at w.array_body-mapped.ensures.ok in
+          let h = rw (sym w.mapped-is ∙ c.in-Ok.is, opened, c.open_level.ensures.room) at w.array_body-mapped.ensures.is in
           rw (w.store-is, w.meter-is)
           (record { value = h.value; kept = h.kept; ends = h.ends; follows = rw array_is (inside_ticks _ _ _ c.requires.inside e.limit e.ok e.made (follow_then_ok _ _ (settles_ok _ _ _ refl (rw c.from.ensures at c.in_ok-extent.ensures.is) c.in_ok-extent.ensures.made) (follow_at c.in_ok-extent.ensures.limit refl refl h.follows))) })
     ]
 
-pub map_array-returns-in-Err-clause-err : goal.map_array-returns-in-Err-clause-err
-map_array-returns-in-Err-clause-err g t c =
+pub map_array-returns-in-Err-clause-is : goal.map_array-returns-in-Err-clause-is
+map_array-returns-in-Err-clause-is g t c =
     let e = c.in_ok-tick.ensures in
     let opened = keeps_opened c.args.nodes.now c.args.store.now c.open_level.new.self c.open_level.ensures.levels in
     elim c.match-packed_as.branch [
       | map_array-in-Some w ↦
-          let h = rw (sym w.mapped-is ∙ c.in-Err.is, opened, c.open_level.ensures.room) at w.row_body-mapped.ensures.err in
+          let h = rw (sym w.mapped-is ∙ c.in-Err.is, opened, c.open_level.ensures.room) at w.row_body-mapped.ensures.is in
           rw (w.meter-is, array_is) (inside_ticks _ _ _ c.requires.inside e.limit e.ok e.made (follow_then_ok _ _ (settles_ok _ _ _ refl (rw c.from.ensures at c.in_ok-extent.ensures.is) c.in_ok-extent.ensures.made) (follow_at c.in_ok-extent.ensures.limit refl refl h)))
       | map_array-in-None w ↦
-          let h = rw (sym w.mapped-is ∙ c.in-Err.is, opened, c.open_level.ensures.room) at w.array_body-mapped.ensures.err in
+          let h = rw (sym w.mapped-is ∙ c.in-Err.is, opened, c.open_level.ensures.room) at w.array_body-mapped.ensures.is in
           rw (w.meter-is, array_is) (inside_ticks _ _ _ c.requires.inside e.limit e.ok e.made (follow_then_ok _ _ (settles_ok _ _ _ refl (rw c.from.ensures at c.in_ok-extent.ensures.is) c.in_ok-extent.ensures.made) (follow_at c.in_ok-extent.ensures.limit refl refl h)))
     ]
 
-pub map_array-returns-in_err-extent-clause-err : goal.map_array-returns-in_err-extent-clause-err
-map_array-returns-in_err-extent-clause-err g t c =
+pub map_array-returns-in_err-extent-clause-is : goal.map_array-returns-in_err-extent-clause-is
+map_array-returns-in_err-extent-clause-is g t c =
     let p = err_from_is_err_and c.from_residual-in_err-extent.result c.from_residual-in_err-extent.ensures.1 in
     let e = c.in_ok-tick.ensures in
     rw (p.1, p.2, array_is) (inside_ticks _ _ _ c.requires.inside e.limit e.ok e.made (follow_stop _ _ _ (settles_stop _ _ _ refl (omega arith) (rw c.from.ensures at c.in_err-extent.ensures.is) c.in_err-extent.ensures.made)))
@@ -302,58 +278,58 @@ map_union-union_body-requires g t c =
     let fresh = opened ∙ ap (λ o. [] ∷ o) (sym (ap outer_of opened)) in
     search rules
 
-pub struct_body-returns-in_err-end-clause-err : goal.struct_body-returns-in_err-end-clause-err
-struct_body-returns-in_err-end-clause-err g t c =
+pub struct_body-returns-in_err-end-clause-is : goal.struct_body-returns-in_err-end-clause-is
+struct_body-returns-in_err-end-clause-is g t c =
     let p = err_from_is_err_and c.from_residual.result c.from_residual.ensures.1 in
-    rw (p.1, p.2) (follow_stop _ _ _ c.in_err-end.ensures.err)
+    rw (p.1, p.2) (follow_stop _ _ _ c.in_err-end.ensures.is)
 
-pub struct_body-returns-in_err-close_struct-clause-err : goal.struct_body-returns-in_err-close_struct-clause-err
-struct_body-returns-in_err-close_struct-clause-err g t c =
+pub struct_body-returns-in_err-close_struct-clause-is : goal.struct_body-returns-in_err-close_struct-clause-is
+struct_body-returns-in_err-close_struct-clause-is g t c =
     let p = err_from_is_err_and c.from_residual-in_err-close_struct.result c.from_residual-in_err-close_struct.ensures.1 in
     let named = c.requires.names ∙ sym (fields_named (type_of c.args.nodes.now) c.args.fields.now) in
     let full = rw named at c.in_err-close_struct.ensures.full in
-    rw (p.1, p.2) (struct_no_room _ _ _ _ c.in_ok-end.ensures.ok _ _ c.in_ok-end.ensures.room full)
+    rw (p.1, p.2) (struct_no_room _ _ _ _ c.in_ok-end.ensures.is _ _ c.in_ok-end.ensures.frame.room full)
 
-pub struct_body-returns-clause-ok : goal.struct_body-returns-clause-ok
-struct_body-returns-clause-ok g t c =
+pub struct_body-returns-clause-is : goal.struct_body-returns-clause-is
+struct_body-returns-clause-is g t c =
     let n = c.note_made.ensures in
     let named = c.requires.names ∙ sym (fields_named (type_of c.args.nodes.now) c.args.fields.now) in
     let h = rw (named, c.in_ok-end.ensures.outer) at c.in_ok-close_struct.ensures.ok in
-    record { value = _; kept = h; ends = refl; follows = struct_made _ _ _ _ c.in_ok-end.ensures.ok _ _ n.steps n.made }
+    record { value = _; kept = h; ends = refl; follows = struct_made _ _ _ _ c.in_ok-end.ensures.is _ _ n.steps n.made }
 
-pub array_body-returns-in_err-end-clause-err : goal.array_body-returns-in_err-end-clause-err
-array_body-returns-in_err-end-clause-err g t c =
+pub array_body-returns-in_err-end-clause-is : goal.array_body-returns-in_err-end-clause-is
+array_body-returns-in_err-end-clause-is g t c =
     let p = err_from_is_err_and c.from_residual.result c.from_residual.ensures.1 in
-    rw (p.1, p.2) (follow_stop _ _ _ c.in_err-end.ensures.err)
+    rw (p.1, p.2) (follow_stop _ _ _ c.in_err-end.ensures.is)
 
-pub array_body-returns-in_err-close_array-clause-err : goal.array_body-returns-in_err-close_array-clause-err
-array_body-returns-in_err-close_array-clause-err g t c =
+pub array_body-returns-in_err-close_array-clause-is : goal.array_body-returns-in_err-close_array-clause-is
+array_body-returns-in_err-close_array-clause-is g t c =
     let p = err_from_is_err_and c.from_residual-in_err-close_array.result c.from_residual-in_err-close_array.ensures.1 in
-    rw (p.1, p.2) (array_no_room _ _ _ _ c.in_ok-end.ensures.ok c.in_ok-end.ensures.room c.in_err-close_array.ensures.full)
+    rw (p.1, p.2) (array_no_room _ _ _ _ c.in_ok-end.ensures.is c.in_ok-end.ensures.frame.room c.in_err-close_array.ensures.full)
 
-pub array_body-returns-clause-ok : goal.array_body-returns-clause-ok
-array_body-returns-clause-ok g t c =
+pub array_body-returns-clause-is : goal.array_body-returns-clause-is
+array_body-returns-clause-is g t c =
     let n = c.note_made.ensures in
     let h = rw c.in_ok-end.ensures.outer at c.in_ok-close_array.ensures.ok in
-    record { value = _; kept = h; ends = refl; follows = array_made _ _ _ _ c.in_ok-end.ensures.ok n.steps n.made }
+    record { value = _; kept = h; ends = refl; follows = array_made _ _ _ _ c.in_ok-end.ensures.is n.steps n.made }
 
-pub union_body-returns-in_err-index-clause-err : goal.union_body-returns-in_err-index-clause-err
-union_body-returns-in_err-index-clause-err g t c =
+pub union_body-returns-in_err-index-clause-is : goal.union_body-returns-in_err-index-clause-is
+union_body-returns-in_err-index-clause-is g t c =
     let p = err_from_is_err_and c.from_residual.result c.from_residual.ensures.1 in
-    rw (p.1, p.2) (follow_stop _ _ _ c.in_err-index.ensures.err)
+    rw (p.1, p.2) (follow_stop _ _ _ c.in_err-index.ensures.is)
 
-pub union_body-returns-in_err-close_union-clause-err : goal.union_body-returns-in_err-close_union-clause-err
-union_body-returns-in_err-close_union-clause-err g t c =
+pub union_body-returns-in_err-close_union-clause-is : goal.union_body-returns-in_err-close_union-clause-is
+union_body-returns-in_err-close_union-clause-is g t c =
     let p = err_from_is_err_and c.from_residual-in_err-close_union.result c.from_residual-in_err-close_union.ensures.1 in
-    let h = c.in_ok-index.ensures.ok in
+    let h = c.in_ok-index.ensures.is in
     let fresh = c.requires.fresh in
     let inside = h.keeps ∙ ap (λ ls. pushed ls (Some h.value)) fresh in
     let full = rw (inside, c.requires.names, ← h.ends) at c.in_err-close_union.ensures.full in
-    rw (p.1, p.2) (union_no_room _ _ _ _ _ h.follows c.in_ok-index.ensures.room full)
+    rw (p.1, p.2) (union_no_room _ _ _ _ _ h.follows c.in_ok-index.ensures.frame.room full)
 
-pub union_body-returns-clause-ok : goal.union_body-returns-clause-ok
-union_body-returns-clause-ok g t c =
-    let h = c.in_ok-index.ensures.ok in
+pub union_body-returns-clause-is : goal.union_body-returns-clause-is
+union_body-returns-clause-is g t c =
+    let h = c.in_ok-index.ensures.is in
     let fresh = c.requires.fresh in
     let inside = h.keeps ∙ ap (λ ls. pushed ls (Some h.value)) fresh in
     let n = c.note_made.ensures in
@@ -362,12 +338,7 @@ union_body-returns-clause-ok g t c =
 
 pub map_fields-loop-field-init : goal.map_fields-loop-field-init
 map_fields-loop-field-init g t c = record {
-  limit = search rules;
-  len = search rules;
-  bytes = search rules;
-  failures = search rules;
-  room = search rules;
-  made = search rules;
+  frame = search rules;
   after = search rules;
   inside = search rules;
   outer = search rules;
@@ -375,27 +346,27 @@ map_fields-loop-field-init g t c = record {
   so_far = follow_here;
 }
 
-pub map_fields-returns-in_err-tick-clause-err : goal.map_fields-returns-in_err-tick-clause-err
-map_fields-returns-in_err-tick-clause-err g t c =
+pub map_fields-returns-in_err-tick-clause-is : goal.map_fields-returns-in_err-tick-clause-is
+map_fields-returns-in_err-tick-clause-is g t c =
     let p = err_from_is_err_and c.from_residual.result c.from_residual.ensures.1 in
     let i = c.loop-field.invariant in
     let e = c.in_err-tick.ensures in
     let next = drop_more c.args.fields.now c.loop-field.field-index c.field-item.result (omega arith) in
     let next = rw (← c.field-item.is) at next in
-    rw (p.1, p.2) (follow_on i.so_far (fields_no_tick _ _ _ _ _ _ _ _ _ _ _ next e.err (e.err ∙ e.refused.0 refl ∙ i.limit) e.made))
+    rw (p.1, p.2) (follow_on i.so_far (fields_no_tick _ _ _ _ _ _ _ _ _ _ _ next e.err (e.err ∙ e.refused.0 refl ∙ i.frame.limit) e.made))
 
-pub map_fields-returns-in_err-is_there-clause-err : goal.map_fields-returns-in_err-is_there-clause-err
-map_fields-returns-in_err-is_there-clause-err g t c =
+pub map_fields-returns-in_err-is_there-clause-is : goal.map_fields-returns-in_err-is_there-clause-is
+map_fields-returns-in_err-is_there-clause-is g t c =
     let p = err_from_is_err_and c.from_residual-in_err-is_there.result c.from_residual-in_err-is_there.ensures.1 in
     let i = c.loop-field.invariant in
     let e = c.in_ok-tick.ensures in
     let next = drop_more c.args.fields.now c.loop-field.field-index c.field-item.result (omega arith) in
     let next = rw (← c.field-item.is) at next in
     let there = c.in_err-is_there.ensures in
-    rw (p.1, p.2) (follow_on i.so_far (condition_stops _ _ _ _ _ _ _ _ _ _ _ next (e.limit ∙ i.limit) e.ok e.made there.made _ (omega arith) (rw c.from-origin.ensures at there.is)))
+    rw (p.1, p.2) (follow_on i.so_far (condition_stops _ _ _ _ _ _ _ _ _ _ _ next (e.limit ∙ i.frame.limit) e.ok e.made there.made _ (omega arith) (rw c.from-origin.ensures at there.is)))
 
-pub map_fields-returns-in_err-place-clause-err : goal.map_fields-returns-in_err-place-clause-err
-map_fields-returns-in_err-place-clause-err g t c =
+pub map_fields-returns-in_err-place-clause-is : goal.map_fields-returns-in_err-place-clause-is
+map_fields-returns-in_err-place-clause-is g t c =
     let p = err_from_is_err_and c.from_residual-in_err-place.result c.from_residual-in_err-place.ensures.1 in
     let i = c.loop-field.invariant in
     let e = c.in_ok-tick.ensures in
@@ -405,7 +376,7 @@ map_fields-returns-in_err-place-clause-err g t c =
     let there_is = rw (c.if-branch.true, c.from-origin.ensures) at there.is in
     let start = c.in_err-place.ensures in
     let start_is = rw (c.from-origin.ensures, c.from.ensures) at start.is in
-    rw (p.1, p.2) (follow_on i.so_far (start_stops _ _ _ _ _ _ _ _ _ _ _ next (e.limit ∙ i.limit) e.ok e.made there.made there_is there.limit start.made _ (omega arith) start_is))
+    rw (p.1, p.2) (follow_on i.so_far (start_stops _ _ _ _ _ _ _ _ _ _ _ next (e.limit ∙ i.frame.limit) e.ok e.made there.made there_is there.limit start.made _ (omega arith) start_is))
 
 pub map_fields-map_checked-requires : goal.map_fields-map_checked-requires
 map_fields-map_checked-requires g t c =
@@ -414,8 +385,8 @@ map_fields-map_checked-requires g t c =
     let field = rw (← c.loop-field.invariant.depth) at field in
     search rules
 
-pub map_fields-returns-in_err-behind-clause-err : goal.map_fields-returns-in_err-behind-clause-err
-map_fields-returns-in_err-behind-clause-err g t c =
+pub map_fields-returns-in_err-behind-clause-is : goal.map_fields-returns-in_err-behind-clause-is
+map_fields-returns-in_err-behind-clause-is g t c =
     let p = err_from_is_err_and c.from_residual-in_err-behind.result c.from_residual-in_err-behind.ensures.1 in
     let i = c.loop-field.invariant in
     let e = c.in_ok-tick.ensures in
@@ -425,12 +396,12 @@ map_fields-returns-in_err-behind-clause-err g t c =
     let there_is = rw (c.if-branch.true, c.from-origin.ensures) at there.is in
     let start = c.in_ok-place.ensures in
     let start_is = rw (c.from-origin.ensures, c.from.ensures) at start.is in
-    let h = rw (i.len, c.ordered.ensures) at c.in_err-behind.ensures.err in
-    let h = in_world (g.S.Space.view c.args.space.now) (g.S.Space.view c.loop-field.space) c.args.store.now c.loop-field.store i.bytes i.room h in
-    rw (p.1, p.2) (follow_on i.so_far (field_stops _ _ _ _ _ _ _ _ _ _ _ next (e.limit ∙ i.limit) e.ok e.made there.made there_is there.limit start.made _ start_is start.limit _ h))
+    let h = rw (i.frame.len, c.ordered.ensures) at c.in_err-behind.ensures.is in
+    let h = in_world (g.S.Space.view c.args.space.now) (g.S.Space.view c.loop-field.space) c.args.store.now c.loop-field.store i.frame.bytes i.frame.room h in
+    rw (p.1, p.2) (follow_on i.so_far (field_stops _ _ _ _ _ _ _ _ _ _ _ next (e.limit ∙ i.frame.limit) e.ok e.made there.made there_is there.limit start.made _ start_is start.limit _ h))
 
-pub map_fields-returns-in_err-keep_absent-clause-err : goal.map_fields-returns-in_err-keep_absent-clause-err
-map_fields-returns-in_err-keep_absent-clause-err g t c =
+pub map_fields-returns-in_err-keep_absent-clause-is : goal.map_fields-returns-in_err-keep_absent-clause-is
+map_fields-returns-in_err-keep_absent-clause-is g t c =
     let p = err_from_is_err_and c.from_residual-in_err-keep_absent.result c.from_residual-in_err-keep_absent.ensures.1 in
     let i = c.loop-field.invariant in
     let e = c.in_ok-tick.ensures in
@@ -438,7 +409,7 @@ map_fields-returns-in_err-keep_absent-clause-err g t c =
     let next = rw (← c.field-item.is) at next in
     let there = c.in_ok-is_there.ensures in
     let there_is = rw (c.if-branch.false, c.from-origin.ensures) at there.is in
-    rw (p.1, p.2) (follow_on i.so_far (absent_no_room _ _ _ _ _ _ _ _ _ _ _ next (e.limit ∙ i.limit) e.ok e.made there.made there_is i.room c.in_err-keep_absent.ensures.full))
+    rw (p.1, p.2) (follow_on i.so_far (absent_no_room _ _ _ _ _ _ _ _ _ _ _ next (e.limit ∙ i.frame.limit) e.ok e.made there.made there_is i.frame.room c.in_err-keep_absent.ensures.full))
 
 pub map_fields-loop-field-preserved : goal.map_fields-loop-field-preserved
 map_fields-loop-field-preserved g t c =
@@ -452,43 +423,33 @@ map_fields-loop-field-preserved g t c =
           let there_is = rw (w.if-branch.true, c.from-origin.ensures) at there.is in
           let start = w.in_ok-place.ensures in
           let start_is = rw (c.from-origin.ensures, w.from.ensures) at start.is in
-          let m = w.in_ok-behind.ensures.ok in
-          let h = rw (i.len, w.ordered.ensures) at m.follows in
-          let h = in_world (g.S.Space.view c.args.space.now) (g.S.Space.view c.loop-field.space) c.args.store.now c.loop-field.store i.bytes i.room h in
+          let m = w.in_ok-behind.ensures.is in
+          let h = rw (i.frame.len, w.ordered.ensures) at m.follows in
+          let h = in_world (g.S.Space.view c.args.space.now) (g.S.Space.view c.loop-field.space) c.args.store.now c.loop-field.store i.frame.bytes i.frame.room h in
           let outer = ap outer_of m.kept ∙ outer_pushed (kept c.args.nodes.now c.loop-field.store) (Some m.value) ∙ i.outer in
           rw (w.space-is, w.meter-is, w.store-is, w.behind-is, w.top-is) (record {
-            limit = search rules;
-            len = search rules;
-            bytes = search rules;
-            failures = search rules;
-            room = search rules;
-            made = search rules;
+            frame = search rules;
             after = search rules;
             inside = search rules;
             outer = outer;
             depth = search rules;
-            so_far = rw m.kept (follow_on i.so_far (field_goes _ _ _ _ _ _ _ _ _ _ _ next (e.limit ∙ i.limit) e.ok e.made there.made there_is there.limit start.made _ start_is start.limit m.value _ _ m.ends w.max-top.ensures h));
+            so_far = rw m.kept (follow_on i.so_far (field_goes _ _ _ _ _ _ _ _ _ _ _ next (e.limit ∙ i.frame.limit) e.ok e.made there.made there_is there.limit start.made _ start_is start.limit m.value _ _ m.ends w.max-top.ensures h));
           })
       | map_fields-else-branch+in_ok-keep_absent w ↦
           let there_is = rw (w.if-branch.false, c.from-origin.ensures) at there.is in
           let keeps = w.in_ok-keep_absent.ensures.ok in
           rw (w.space-is, w.meter-is, w.store-is, w.behind-is, w.top-is) (record {
-            limit = search rules;
-            len = search rules;
-            bytes = search rules;
-            failures = search rules;
-            room = search rules;
-            made = search rules;
+            frame = search rules;
             after = search rules;
             inside = search rules;
             outer = ap outer_of keeps ∙ outer_pushed (kept c.args.nodes.now c.loop-field.store) None ∙ i.outer;
             depth = search rules;
-            so_far = rw keeps (follow_on i.so_far (absent_goes _ _ _ _ _ _ _ _ _ _ _ next (e.limit ∙ i.limit) e.ok e.made there.made there_is));
+            so_far = rw keeps (follow_on i.so_far (absent_goes _ _ _ _ _ _ _ _ _ _ _ next (e.limit ∙ i.frame.limit) e.ok e.made there.made there_is));
           })
     ]
 
-pub map_fields-returns-clause-ok : goal.map_fields-returns-clause-ok
-map_fields-returns-clause-ok g t c =
+pub map_fields-returns-clause-is : goal.map_fields-returns-clause-is
+map_fields-returns-clause-is g t c =
     let i = c.loop-field.invariant in
     follow_on i.so_far (fields_end _ _ _ _ _ _ _ _ _ (drop_all c.loop-field.field-index c.args.fields.now (omega arith)))
 
@@ -496,12 +457,7 @@ pub map_elements-loop-order-init : goal.map_elements-loop-order-init
 map_elements-loop-order-init g t c =
     let few = few_enough (8 * (g.S.Space.view c.args.space.now).len) (least_width (type_of c.args.nodes.now c.args.element)) in
     record {
-      limit = search rules;
-      len = search rules;
-      bytes = search rules;
-      failures = search rules;
-      room = search rules;
-      made = search rules;
+      frame = search rules;
       after = search rules;
       inside = search rules;
       outer = search rules;
@@ -510,24 +466,24 @@ map_elements-loop-order-init g t c =
       so_far = (_, omega (arith, few), follow_here);
     }
 
-pub map_elements-returns-in_err-tick-clause-err : goal.map_elements-returns-in_err-tick-clause-err
-map_elements-returns-in_err-tick-clause-err g t c =
+pub map_elements-returns-in_err-tick-clause-is : goal.map_elements-returns-in_err-tick-clause-is
+map_elements-returns-in_err-tick-clause-is g t c =
     let p = err_from_is_err_and c.from_residual.result c.from_residual.ensures.1 in
     let i = c.loop-order.invariant in
     let e = c.in_err-tick.ensures in
     let due = sym c.is_due.ensures ∙ c.loop-order-test.true in
     let due = rw c.len-bits.ensures at due in
-    rw (p.1, p.2) (follow_on i.so_far.2 (elements_no_tick _ _ _ _ _ _ _ (max 1 (least_width (type_of c.args.nodes.now c.args.element))) _ i.so_far.1 i.inside due e.err (e.err ∙ e.refused.0 refl ∙ i.limit) e.made))
+    rw (p.1, p.2) (follow_on i.so_far.2 (elements_no_tick _ _ _ _ _ _ _ (max 1 (least_width (type_of c.args.nodes.now c.args.element))) _ i.so_far.1 i.inside due e.err (e.err ∙ e.refused.0 refl ∙ i.frame.limit) e.made))
 
-pub map_elements-returns-then-end-place-clause-err : goal.map_elements-returns-then-end-place-clause-err
-map_elements-returns-then-end-place-clause-err g t c =
+pub map_elements-returns-then-end-place-clause-is : goal.map_elements-returns-then-end-place-clause-is
+map_elements-returns-then-end-place-clause-is g t c =
     let i = c.loop-order.invariant in
     let e = c.in_ok-tick.ensures in
     let due = sym c.is_due.ensures ∙ c.loop-order-test.true in
     let due = rw c.len-bits.ensures at due in
-    let h = rw i.len at c.in-Ok.ensures.ok.follows in
-    let h = in_world (g.S.Space.view c.args.space.now) (g.S.Space.view c.loop-order.space) c.args.store.now c.loop-order.store i.bytes i.room h in
-    rw c.from.ensures (follow_on i.so_far.2 (elements_no_bits _ _ _ _ _ _ _ (max 1 (least_width (type_of c.args.nodes.now c.args.element))) _ i.so_far.1 i.inside due (e.limit ∙ i.limit) e.ok e.made _ (c.in-Ok.ensures.ok.ends ∙ c.if-end-place.true) h))
+    let h = rw i.frame.len at c.in-Ok.ensures.is.follows in
+    let h = in_world (g.S.Space.view c.args.space.now) (g.S.Space.view c.loop-order.space) c.args.store.now c.loop-order.store i.frame.bytes i.frame.room h in
+    rw c.from.ensures (follow_on i.so_far.2 (elements_no_bits _ _ _ _ _ _ _ (max 1 (least_width (type_of c.args.nodes.now c.args.element))) _ i.so_far.1 i.inside due (e.limit ∙ i.frame.limit) e.ok e.made _ (c.in-Ok.ensures.is.ends ∙ c.if-end-place.true) h))
 
 pub map_elements-loop-order-preserved : goal.map_elements-loop-order-preserved
 map_elements-loop-order-preserved g t c =
@@ -535,20 +491,15 @@ map_elements-loop-order-preserved g t c =
     let e = c.in_ok-tick.ensures in
     let due = sym c.is_due.ensures ∙ c.loop-order-test.true in
     let due = rw c.len-bits.ensures at due in
-    let h = rw i.len at c.in-Ok.ensures.ok.follows in
-    let h = in_world (g.S.Space.view c.args.space.now) (g.S.Space.view c.loop-order.space) c.args.store.now c.loop-order.store i.bytes i.room h in
-    let m = c.in-Ok.ensures.ok in
+    let h = rw i.frame.len at c.in-Ok.ensures.is.follows in
+    let h = in_world (g.S.Space.view c.args.space.now) (g.S.Space.view c.loop-order.space) c.args.store.now c.loop-order.store i.frame.bytes i.frame.room h in
+    let m = c.in-Ok.ensures.is in
     let wide = followed_wide _ _ _ _ _ h in
     let ends = m.ends in
     let far : c.loop-order.place + max 1 (least_width (type_of c.args.nodes.now c.args.element)) ≤ c.in-Ok.end = omega (arith, wide, ends, c.in-Ok.ensures.ends.0, c.if-end-place.false) in
-    let next = elements_goes (plan (8 * (g.S.Space.view c.args.space.now).len) (type_of c.args.nodes.now c.args.element) c.args.order) (8 * (g.S.Space.view c.args.space.now).len) c.args.start c.args.extent c.loop-order.count (kept c.args.nodes.now c.loop-order.store) c.loop-order.place (max 1 (least_width (type_of c.args.nodes.now c.args.element))) _ i.so_far.1 i.inside due (e.limit ∙ i.limit) e.ok e.made m.value c.in-Ok.end (c.loop-order.count + 1) refl ends c.if-end-place.false far h in
+    let next = elements_goes (plan (8 * (g.S.Space.view c.args.space.now).len) (type_of c.args.nodes.now c.args.element) c.args.order) (8 * (g.S.Space.view c.args.space.now).len) c.args.start c.args.extent c.loop-order.count (kept c.args.nodes.now c.loop-order.store) c.loop-order.place (max 1 (least_width (type_of c.args.nodes.now c.args.element))) _ i.so_far.1 i.inside due (e.limit ∙ i.frame.limit) e.ok e.made m.value c.in-Ok.end (c.loop-order.count + 1) refl ends c.if-end-place.false far h in
     record {
-      limit = search rules;
-      len = search rules;
-      bytes = search rules;
-      failures = search rules;
-      room = search rules;
-      made = search rules;
+      frame = search rules;
       after = search rules;
       inside = search rules;
       outer = ap outer_of m.kept ∙ outer_pushed (kept c.args.nodes.now c.loop-order.store) (Some m.value) ∙ i.outer;
@@ -557,37 +508,37 @@ map_elements-loop-order-preserved g t c =
       so_far = (next.0, next.1, rw m.kept (follow_on i.so_far.2 next.2));
     }
 
-pub map_elements-returns-then-ends-clause-ok : goal.map_elements-returns-then-ends-clause-ok
-map_elements-returns-then-ends-clause-ok g t c =
+pub map_elements-returns-then-ends-clause-is : goal.map_elements-returns-then-ends-clause-is
+map_elements-returns-then-ends-clause-is g t c =
     let i = c.loop-order.invariant in
     let e = c.in_ok-tick.ensures in
     let due = sym c.is_due.ensures ∙ c.loop-order-test.true in
     let due = rw c.len-bits.ensures at due in
-    let h = rw i.len at c.in-Err.ensures.err in
-    let h = in_world (g.S.Space.view c.args.space.now) (g.S.Space.view c.loop-order.space) c.args.store.now c.loop-order.store i.bytes i.room h in
+    let h = rw i.frame.len at c.in-Err.ensures.is in
+    let h = in_world (g.S.Space.view c.args.space.now) (g.S.Space.view c.loop-order.space) c.args.store.now c.loop-order.store i.frame.bytes i.frame.room h in
     let ends = sym c.ends.ensures ∙ c.if-ends.true in
-    rw c.in-Err.ensures.same (follow_on i.so_far.2 (elements_over _ _ _ _ _ _ _ (max 1 (least_width (type_of c.args.nodes.now c.args.element))) _ i.so_far.1 i.inside due (e.limit ∙ i.limit) e.ok e.made _ ends h))
+    rw c.in-Err.ensures.same (follow_on i.so_far.2 (elements_over _ _ _ _ _ _ _ (max 1 (least_width (type_of c.args.nodes.now c.args.element))) _ i.so_far.1 i.inside due (e.limit ∙ i.frame.limit) e.ok e.made _ ends h))
 
-pub map_elements-returns-in-Err-clause-err : goal.map_elements-returns-in-Err-clause-err
-map_elements-returns-in-Err-clause-err g t c =
+pub map_elements-returns-in-Err-clause-is : goal.map_elements-returns-in-Err-clause-is
+map_elements-returns-in-Err-clause-is g t c =
     let i = c.loop-order.invariant in
     let e = c.in_ok-tick.ensures in
     let due = sym c.is_due.ensures ∙ c.loop-order-test.true in
     let due = rw c.len-bits.ensures at due in
-    let h = rw i.len at c.in-Err.ensures.err in
-    let h = in_world (g.S.Space.view c.args.space.now) (g.S.Space.view c.loop-order.space) c.args.store.now c.loop-order.store i.bytes i.room h in
+    let h = rw i.frame.len at c.in-Err.ensures.is in
+    let h = in_world (g.S.Space.view c.args.space.now) (g.S.Space.view c.loop-order.space) c.args.store.now c.loop-order.store i.frame.bytes i.frame.room h in
     let ends = sym c.ends.ensures ∙ c.if-ends.false in
-    follow_on i.so_far.2 (elements_stop _ _ _ _ _ _ _ (max 1 (least_width (type_of c.args.nodes.now c.args.element))) _ i.so_far.1 i.inside due (e.limit ∙ i.limit) e.ok e.made _ ends h)
+    follow_on i.so_far.2 (elements_stop _ _ _ _ _ _ _ (max 1 (least_width (type_of c.args.nodes.now c.args.element))) _ i.so_far.1 i.inside due (e.limit ∙ i.frame.limit) e.ok e.made _ ends h)
 
-pub map_elements-returns-then-is_met-clause-ok : goal.map_elements-returns-then-is_met-clause-ok
-map_elements-returns-then-is_met-clause-ok g t c =
+pub map_elements-returns-then-is_met-clause-is : goal.map_elements-returns-then-is_met-clause-is
+map_elements-returns-then-is_met-clause-is g t c =
     let i = c.loop-order.invariant in
     let over = sym c.is_due.ensures ∙ c.loop-order-test.false in
     let over = rw c.len-bits.ensures at over in
     follow_on i.so_far.2 (elements_end _ _ _ _ _ _ _ (max 1 (least_width (type_of c.args.nodes.now c.args.element))) _ i.so_far.1 i.inside over (sym c.is_met.ensures ∙ c.if-is_met.true))
 
-pub map_elements-returns-else-is_met-clause-err : goal.map_elements-returns-else-is_met-clause-err
-map_elements-returns-else-is_met-clause-err g t c =
+pub map_elements-returns-else-is_met-clause-is : goal.map_elements-returns-else-is_met-clause-is
+map_elements-returns-else-is_met-clause-is g t c =
     let i = c.loop-order.invariant in
     let over = sym c.is_due.ensures ∙ c.loop-order-test.false in
     let over = rw c.len-bits.ensures at over in
@@ -595,25 +546,20 @@ map_elements-returns-else-is_met-clause-err g t c =
 
 pub map_alternatives-loop-index-init : goal.map_alternatives-loop-index-init
 map_alternatives-loop-index-init g t c = record {
-  limit = search rules;
-  len = search rules;
-  bytes = search rules;
-  failures = search rules;
-  room = search rules;
-  made = search rules;
+  frame = search rules;
   same = search rules;
   depth = search rules;
   so_far = follow_here;
 }
 
-pub map_alternatives-returns-in_err-tick-clause-err : goal.map_alternatives-returns-in_err-tick-clause-err
-map_alternatives-returns-in_err-tick-clause-err g t c =
+pub map_alternatives-returns-in_err-tick-clause-is : goal.map_alternatives-returns-in_err-tick-clause-is
+map_alternatives-returns-in_err-tick-clause-is g t c =
     let p = err_from_is_err_and c.from_residual.result c.from_residual.ensures.1 in
     let i = c.loop-index.invariant in
     let e = c.in_err-tick.ensures in
     let next = drop_more c.args.alternatives.now c.loop-index.index c.index-alternatives-index.result (omega arith) in
     let next = rw (← c.index-alternatives-index.is) at next in
-    rw (p.1, p.2) (follow_on i.so_far (alternatives_no_tick _ _ _ _ _ _ _ _ _ next e.err (e.err ∙ e.refused.0 refl ∙ i.limit) e.made))
+    rw (p.1, p.2) (follow_on i.so_far (alternatives_no_tick _ _ _ _ _ _ _ _ _ next e.err (e.err ∙ e.refused.0 refl ∙ i.frame.limit) e.made))
 
 pub map_alternatives-map_checked-requires : goal.map_alternatives-map_checked-requires
 map_alternatives-map_checked-requires g t c =
@@ -622,28 +568,28 @@ map_alternatives-map_checked-requires g t c =
     let part = rw (← c.loop-index.invariant.depth) at part in
     search rules
 
-pub map_alternatives-returns-in-Ok-clause-ok : goal.map_alternatives-returns-in-Ok-clause-ok
-map_alternatives-returns-in-Ok-clause-ok g t c =
+pub map_alternatives-returns-in-Ok-clause-is : goal.map_alternatives-returns-in-Ok-clause-is
+map_alternatives-returns-in-Ok-clause-is g t c =
     let i = c.loop-index.invariant in
     let e = c.in_ok-tick.ensures in
     let next = drop_more c.args.alternatives.now c.loop-index.index c.index-alternatives-index.result (omega arith) in
     let next = rw (← c.index-alternatives-index.is) at next in
-    let m = c.in-Ok.ensures.ok in
-    let h = rw (i.len, i.same, c.ordered-prefixed.ensures, c.from-origin.ensures) at m.follows in
-    let h = in_world (g.S.Space.view c.args.space.now) (g.S.Space.view c.loop-index.space) c.args.store.now c.loop-index.store i.bytes i.room h in
+    let m = c.in-Ok.ensures.is in
+    let h = rw (i.frame.len, i.same, c.ordered-prefixed.ensures, c.from-origin.ensures) at m.follows in
+    let h = in_world (g.S.Space.view c.args.space.now) (g.S.Space.view c.loop-index.space) c.args.store.now c.loop-index.store i.frame.bytes i.frame.room h in
     let keeps = m.kept ∙ ap (λ ls. pushed ls (Some m.value)) i.same in
     let named = name_of_one c.args.alternatives.now c.loop-index.index c.index-alternatives-index.result (omega arith) c.index-alternatives-index.is in
-    record { value = m.value; keeps = keeps; ends = m.ends; follows = rw named (follow_on i.so_far (alternatives_fit _ _ _ _ _ _ _ _ _ next (e.limit ∙ i.limit) e.ok e.made m.value h)) }
+    record { value = m.value; keeps = keeps; ends = m.ends; follows = rw named (follow_on i.so_far (alternatives_fit _ _ _ _ _ _ _ _ _ next (e.limit ∙ i.frame.limit) e.ok e.made m.value h)) }
 
-pub map_alternatives-returns-then-not-misses-clause-err : goal.map_alternatives-returns-then-not-misses-clause-err
-map_alternatives-returns-then-not-misses-clause-err g t c =
+pub map_alternatives-returns-then-not-misses-clause-is : goal.map_alternatives-returns-then-not-misses-clause-is
+map_alternatives-returns-then-not-misses-clause-is g t c =
     let i = c.loop-index.invariant in
     let e = c.in_ok-tick.ensures in
     let next = drop_more c.args.alternatives.now c.loop-index.index c.index-alternatives-index.result (omega arith) in
     let next = rw (← c.index-alternatives-index.is) at next in
-    let h = rw (i.len, i.same, c.ordered-prefixed.ensures, c.from-origin.ensures) at c.in-Err.ensures.err in
-    let h = in_world (g.S.Space.view c.args.space.now) (g.S.Space.view c.loop-index.space) c.args.store.now c.loop-index.store i.bytes i.room h in
-    follow_on i.so_far (alternatives_stop _ _ _ _ _ _ _ _ _ next (e.limit ∙ i.limit) e.ok e.made _ (sym c.misses.ensures ∙ c.if-not-misses.true) h)
+    let h = rw (i.frame.len, i.same, c.ordered-prefixed.ensures, c.from-origin.ensures) at c.in-Err.ensures.is in
+    let h = in_world (g.S.Space.view c.args.space.now) (g.S.Space.view c.loop-index.space) c.args.store.now c.loop-index.store i.frame.bytes i.frame.room h in
+    follow_on i.so_far (alternatives_stop _ _ _ _ _ _ _ _ _ next (e.limit ∙ i.frame.limit) e.ok e.made _ (sym c.misses.ensures ∙ c.if-not-misses.true) h)
 
 pub map_alternatives-loop-index-preserved : goal.map_alternatives-loop-index-preserved
 map_alternatives-loop-index-preserved g t c =
@@ -651,22 +597,17 @@ map_alternatives-loop-index-preserved g t c =
     let e = c.in_ok-tick.ensures in
     let next = drop_more c.args.alternatives.now c.loop-index.index c.index-alternatives-index.result (omega arith) in
     let next = rw (← c.index-alternatives-index.is) at next in
-    let h = rw (i.len, i.same, c.ordered-prefixed.ensures, c.from-origin.ensures) at c.in-Err.ensures.err in
-    let h = in_world (g.S.Space.view c.args.space.now) (g.S.Space.view c.loop-index.space) c.args.store.now c.loop-index.store i.bytes i.room h in
+    let h = rw (i.frame.len, i.same, c.ordered-prefixed.ensures, c.from-origin.ensures) at c.in-Err.ensures.is in
+    let h = in_world (g.S.Space.view c.args.space.now) (g.S.Space.view c.loop-index.space) c.args.store.now c.loop-index.store i.frame.bytes i.frame.room h in
     let cleared = keeps_cleared c.args.nodes.now c.map_checked.new.store c.clear_level.new.self c.clear_level.ensures.levels in
     record {
-      limit = search rules;
-      len = search rules;
-      bytes = search rules;
-      failures = search rules;
-      room = search rules;
-      made = search rules;
+      frame = search rules;
       same = cleared ∙ ap (λ o. [] ∷ o) (c.in-Err.ensures.outer ∙ ap outer_of i.same) ∙ sym c.requires.fresh;
       depth = search rules;
-      so_far = follow_on i.so_far (alternatives_miss _ _ _ _ _ _ _ _ _ next (e.limit ∙ i.limit) e.ok e.made _ (sym c.misses.ensures ∙ c.if-not-misses.false) h);
+      so_far = follow_on i.so_far (alternatives_miss _ _ _ _ _ _ _ _ _ next (e.limit ∙ i.frame.limit) e.ok e.made _ (sym c.misses.ensures ∙ c.if-not-misses.false) h);
     }
 
-pub map_alternatives-returns-clause-err : goal.map_alternatives-returns-clause-err
-map_alternatives-returns-clause-err g t c =
+pub map_alternatives-returns-clause-is : goal.map_alternatives-returns-clause-is
+map_alternatives-returns-clause-is g t c =
     let i = c.loop-index.invariant in
     rw c.from.ensures (follow_on i.so_far (alternatives_end _ _ _ _ _ _ _ (drop_all c.loop-index.index c.args.alternatives.now (omega arith))))

@@ -2,7 +2,7 @@ use Rattle.std.proofs.Common.{◌≡◌, ℕ, ◌+◌, ◌-◌, ◌*◌, ◌≤�
 use Rattle.pickle_types.specs.Bounds.{least_width, count_of}
 use Rattle.pickle_types.specs.Table.{type_of, open_fields, open_parts}
 use Rattle.pickle_map.specs.Follows.{Partly}
-use Rattle.pickle_map.specs.Framed.{Runs}
+use Rattle.pickle_map.specs.Framed.{Frame, Runs}
 use Rattle.pickle_map.specs.Mapping.{plan, fields_plan, elements_plan, alternatives_plan}
 use Rattle.pickle_map.specs.Shown.{kept}
 use Rattle.pickle_map.specs.Slots.{levels}
@@ -52,12 +52,7 @@ decreases-map_alternatives g l = 8 * parts_bound l.alternatives.now
 
 abbrev pub invariant-map_fields-loop-field : goal.invariant-map_fields-loop-field
 invariant-map_fields-loop-field g l = record {
-  limit : l.meter.limit ≡ l.initial.meter.limit;
-  len : (g.S.Space.view l.space).len ≡ (g.S.Space.view l.initial.space).len;
-  bytes : (g.S.Space.view l.space).bytes ≡ (g.S.Space.view l.initial.space).bytes;
-  failures : (g.S.Space.view l.initial.space).failures ≤ (g.S.Space.view l.space).failures;
-  room : l.store.room ≡ l.initial.store.room;
-  made : l.meter.made + l.initial.meter.steps ≤ l.initial.meter.made + l.meter.steps;
+  frame : Frame (g.S.Space.view l.initial.space) (g.S.Space.view l.space) l.initial.meter l.meter l.initial.store l.store 0;
   after : l.start ≤ l.top;
   inside : l.top ≤ 8 * (g.S.Space.view l.initial.space).len;
   outer : outer_of (kept l.nodes l.store) ≡ outer_of (kept l.nodes l.initial.store);
@@ -69,12 +64,7 @@ invariant-map_fields-loop-field g l = record {
 
 abbrev pub invariant-map_alternatives-loop-index : goal.invariant-map_alternatives-loop-index
 invariant-map_alternatives-loop-index g l = record {
-  limit : l.meter.limit ≡ l.initial.meter.limit;
-  len : (g.S.Space.view l.space).len ≡ (g.S.Space.view l.initial.space).len;
-  bytes : (g.S.Space.view l.space).bytes ≡ (g.S.Space.view l.initial.space).bytes;
-  failures : (g.S.Space.view l.initial.space).failures ≤ (g.S.Space.view l.space).failures;
-  room : l.store.room ≡ l.initial.store.room;
-  made : l.meter.made + l.initial.meter.steps ≤ l.initial.meter.made + l.meter.steps;
+  frame : Frame (g.S.Space.view l.initial.space) (g.S.Space.view l.space) l.initial.meter l.meter l.initial.store l.store 0;
   same : kept l.nodes l.store ≡ kept l.nodes l.initial.store;
   depth : length (levels l.store) ≡ length (levels l.initial.store);
   so_far : Runs (g.S.Space.view l.initial.space) l.initial.meter l.meter l.initial.store
@@ -87,12 +77,7 @@ decreases-map_elements-loop-order g l = 8 * (g.S.Space.view l.initial.space).len
 
 abbrev pub invariant-map_elements-loop-order : goal.invariant-map_elements-loop-order
 invariant-map_elements-loop-order g l = record {
-  limit : l.meter.limit ≡ l.initial.meter.limit;
-  len : (g.S.Space.view l.space).len ≡ (g.S.Space.view l.initial.space).len;
-  bytes : (g.S.Space.view l.space).bytes ≡ (g.S.Space.view l.initial.space).bytes;
-  failures : (g.S.Space.view l.initial.space).failures ≤ (g.S.Space.view l.space).failures;
-  room : l.store.room ≡ l.initial.store.room;
-  made : l.meter.made + l.initial.meter.steps ≤ l.initial.meter.made + l.meter.steps;
+  frame : Frame (g.S.Space.view l.initial.space) (g.S.Space.view l.space) l.initial.meter l.meter l.initial.store l.store 0;
   after : l.start ≤ l.place;
   inside : l.place ≤ 8 * (g.S.Space.view l.initial.space).len;
   outer : outer_of (kept l.nodes l.store) ≡ outer_of (kept l.nodes l.initial.store);
