@@ -1,6 +1,7 @@
 use Rattle.std.proofs.Common.{◌≡◌, ℕ, ◌+◌, ◌-◌, ◌*◌, ◌≤◌, ◌<◌, max, List, length}
-use Rattle.pickle_types.specs.Bounds.{least_width, count_of}
+use Rattle.pickle_types.specs.Bounds.{least_width}
 use Rattle.pickle_types.specs.Table.{type_of}
+use Rattle.pickle_map.specs.Calls.{as_elements}
 use Rattle.pickle_map.specs.Framed.{Frame, Runs}
 use Rattle.pickle_map.specs.Follows.{Partly}
 use Rattle.pickle_map.specs.Levels as stored
@@ -23,6 +24,6 @@ invariant-loop-shape g l = record {
   so_far : (numbers : List ℕ) × (n : ℕ) × (8 * (g.S.Space.view l.initial.space).len < l.place + n * max 1 (least_width (type_of l.nodes l.element))) ×
       (l.place ≡ l.start + element_width l.shape * length numbers) × (l.count ≡ length numbers) × IsPacking l.store l.shape numbers l.start (stored.outer_of (levels l.initial.store)) ×
       Runs (g.S.Space.view l.initial.space) l.initial.meter l.meter l.initial.store
-      (elements_plan (plan (8 * (g.S.Space.view l.initial.space).len) (type_of l.nodes l.element) l.order) (8 * (g.S.Space.view l.initial.space).len) l.start l.extent (count_of (8 * (g.S.Space.view l.initial.space).len) (least_width (type_of l.nodes l.element))) 0 (kept l.nodes l.initial.store) l.start)
+      (as_elements l.element l.extent l.order l.start l.nodes (8 * (g.S.Space.view l.initial.space).len) (kept l.nodes l.initial.store))
       (Partly (elements_plan (plan (8 * (g.S.Space.view l.initial.space).len) (type_of l.nodes l.element) l.order) (8 * (g.S.Space.view l.initial.space).len) l.start l.extent n l.count (row_levels l.nodes l.shape numbers l.start (stored.outer_of (levels l.initial.store))) l.place));
 }

@@ -1,4 +1,5 @@
-use Rattle.std.proofs.Common.{◌≡◌, ℕ, ◌+◌, ◌-◌, ◌*◌, ◌/◌, ◌≤◌, ◌<◌, List, [], length}
+use Rattle.std.proofs.Common.{◌≡◌, ℕ, ◌+◌, ◌-◌, ◌*◌, ◌≤◌, ◌<◌, List, length}
+use Rattle.pickle_map.specs.Calls.{as_text_level}
 use Rattle.pickle_map.specs.Framed.{Frame, Runs}
 use Rattle.pickle_map.specs.Follows.{Partly}
 use Rattle.pickle_map.specs.Levels as stored
@@ -16,7 +17,7 @@ invariant-loop-byte g l = record {
   depth : length (levels l.store) ≡ length (levels l.initial.store);
   so_far : (bytes : List ℕ) × (n : ℕ) × (8 * (g.S.Space.view l.initial.space).len < l.place + 8 * n) × (l.place ≡ l.start + 8 * length bytes) × IsWriting l.store bytes l.start (stored.outer_of (levels l.initial.store)) ×
       Runs (g.S.Space.view l.initial.space) l.initial.meter l.meter l.initial.store
-      (text_plan (8 * (g.S.Space.view l.initial.space).len) (8 * (g.S.Space.view l.initial.space).len / 8 + 1) [] (outer_of (kept l.nodes l.initial.store)) l.start l.start)
+      (as_text_level l.start l.nodes (8 * (g.S.Space.view l.initial.space).len) (kept l.nodes l.initial.store))
       (Partly (text_plan (8 * (g.S.Space.view l.initial.space).len) n bytes (outer_of (kept l.nodes l.initial.store)) l.start l.place));
 }
 

@@ -1,6 +1,7 @@
 use Rattle.std.proofs.Common.{◌≡◌, ℕ, ◌+◌, ◌-◌, ◌*◌, ◌≤◌, ◌<◌, max, length, drop}
-use Rattle.pickle_types.specs.Bounds.{least_width, count_of}
+use Rattle.pickle_types.specs.Bounds.{least_width}
 use Rattle.pickle_types.specs.Table.{type_of, open_fields, open_parts}
+use Rattle.pickle_map.specs.Calls.{as_fields, as_alternatives, as_elements}
 use Rattle.pickle_map.specs.Follows.{Partly}
 use Rattle.pickle_map.specs.Framed.{Frame, Runs}
 use Rattle.pickle_map.specs.Mapping.{plan, fields_plan, elements_plan, alternatives_plan}
@@ -58,7 +59,7 @@ invariant-map_fields-loop-field g l = record {
   outer : outer_of (kept l.nodes l.store) ≡ outer_of (kept l.nodes l.initial.store);
   depth : length (levels l.store) ≡ length (levels l.initial.store);
   so_far : Runs (g.S.Space.view l.initial.space) l.initial.meter l.meter l.initial.store
-      (fields_plan (8 * (g.S.Space.view l.initial.space).len) l.pinned l.start (open_fields (type_of l.nodes) l.fields) l.order (kept l.nodes l.initial.store) l.start l.start)
+      (as_fields l.pinned l.fields l.order l.start l.nodes (8 * (g.S.Space.view l.initial.space).len) (kept l.nodes l.initial.store))
       (Partly (fields_plan (8 * (g.S.Space.view l.initial.space).len) l.pinned l.start (open_fields (type_of l.nodes) (drop l.field-index l.fields)) l.order (kept l.nodes l.store) l.behind l.top));
 }
 
@@ -68,7 +69,7 @@ invariant-map_alternatives-loop-index g l = record {
   same : kept l.nodes l.store ≡ kept l.nodes l.initial.store;
   depth : length (levels l.store) ≡ length (levels l.initial.store);
   so_far : Runs (g.S.Space.view l.initial.space) l.initial.meter l.meter l.initial.store
-      (alternatives_plan (8 * (g.S.Space.view l.initial.space).len) (open_parts (type_of l.nodes) l.alternatives) 0 l.order (kept l.nodes l.initial.store) l.start)
+      (as_alternatives l.alternatives l.order l.start l.nodes (8 * (g.S.Space.view l.initial.space).len) (kept l.nodes l.initial.store))
       (Partly (alternatives_plan (8 * (g.S.Space.view l.initial.space).len) (open_parts (type_of l.nodes) (drop l.index l.alternatives)) l.index l.order (kept l.nodes l.initial.store) l.start));
 }
 
@@ -85,6 +86,6 @@ invariant-map_elements-loop-order g l = record {
   counted : l.count + l.start ≤ l.place;
   so_far : (n : ℕ) × (8 * (g.S.Space.view l.initial.space).len < l.place + n * max 1 (least_width (type_of l.nodes l.element))) ×
       Runs (g.S.Space.view l.initial.space) l.initial.meter l.meter l.initial.store
-      (elements_plan (plan (8 * (g.S.Space.view l.initial.space).len) (type_of l.nodes l.element) l.order) (8 * (g.S.Space.view l.initial.space).len) l.start l.extent (count_of (8 * (g.S.Space.view l.initial.space).len) (least_width (type_of l.nodes l.element))) 0 (kept l.nodes l.initial.store) l.start)
+      (as_elements l.element l.extent l.order l.start l.nodes (8 * (g.S.Space.view l.initial.space).len) (kept l.nodes l.initial.store))
       (Partly (elements_plan (plan (8 * (g.S.Space.view l.initial.space).len) (type_of l.nodes l.element) l.order) (8 * (g.S.Space.view l.initial.space).len) l.start l.extent n l.count (kept l.nodes l.store) l.place));
 }
