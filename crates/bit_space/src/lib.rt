@@ -5,6 +5,7 @@
 mod file;
 pub mod laws;
 mod mem;
+mod memory;
 mod meter;
 mod number;
 mod order;
@@ -13,10 +14,11 @@ mod space;
 
 pub use file::{FileSpace, OpenFault};
 pub use mem::{MemSpace, TooLong};
+pub use memory::Memory;
 pub use meter::{LimitPassed, Meter};
 pub use number::{BitFault, read_number};
 pub use order::Order;
-pub use paged::{Memory, Paged};
+pub use paged::Paged;
 pub use space::{DeviceFault, Space};
 
 #[cfg(test)]

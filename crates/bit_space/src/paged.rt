@@ -4,23 +4,12 @@ ghost use Rattle.std.specs.Prelude.{◌≡◌, ℕ, ◌+◌, ◌*◌, ◌%◌, �
 ghost use Rattle.bit_space.specs.SpaceView.{HasRisen, Keeps};
 ghost use Rattle.bit_space.specs.Pages.{IsPage, ArePages};
 
+use crate::memory::Memory;
 use crate::space::{DeviceFault, Space};
 use lru::LruCache;
-use std::alloc::{AllocError, Global};
+use std::alloc::Global;
 use std::marker::Model;
 use std::num::NonZeroUsize;
-use thiserror::Error;
-
-/// There was no memory. It displays the line that tells it.
-#[derive(Clone, Copy, Debug, PartialEq, Eq, Error)]
-#[error("fault Memory")]
-pub struct Memory;
-
-impl From<AllocError> for Memory {
-    fn from(_refused: AllocError) -> Memory {
-        Memory
-    }
-}
 
 /// The bytes of a page.
 const PAGE: u64 = 4096;

@@ -5,9 +5,9 @@ use Rattle.bit_space.specs.Bits.{bits_of}
 use Rattle.bit_space.specs.SpaceView.{SpaceView}
 use Rattle.pickle_types.specs.declared.table.Node.{Node}
 use Rattle.pickle_types.specs.Types.{PokeType}
-use Rattle.pickle_map.specs.Answer.{Answer}
-use Rattle.pickle_map.specs.Slots.{Held}
-use Rattle.pickle_map.specs.declared.faults.MapFault.{MapFault}
+use Rattle.pickle_meaning.specs.Answer.{Answer}
+use Rattle.value_store.specs.Slots.{Held}
+use Rattle.pickle_meaning.specs.declared.faults.MapFault.{MapFault}
 use Rattle.pickle_map.specs.Mapped.{Gives, FaultMeans}
 use Rattle.command_words.specs.declared.ask.Ask.{Ask}
 use Rattle.mapping_reasons.specs.Meant.{HasFault, HasValue}

@@ -1,7 +1,7 @@
 -- The line that tells a fault.
 use Rattle.std.proofs.Common.{◌≡◌, ℕ, List, [], ◌++◌, Option, Some, None, sym, ap, ◌∙◌, subst, inl, inr}
-use Rattle.pickle_map.specs.declared.faults.MapFaultKind.{MapFaultKind}
-use Rattle.pickle_map.specs.declared.faults.MapFaultKind.TheVariants as fault
+use Rattle.pickle_meaning.specs.declared.faults.MapFaultKind.{MapFaultKind}
+use Rattle.pickle_meaning.specs.declared.faults.MapFaultKind.TheVariants as fault
 use Rattle.poke_batch.specs.declared.status.Status.{Status}
 use Rattle.poke_batch.specs.declared.status.Status.TheVariants.{Done, Fault, Refused, Outside}
 use Rattle.poke_batch.specs.RunsUnder.{end_saying}

@@ -3,9 +3,9 @@ use Rattle.std.specs.Prelude.{◌≡◌, ℕ, List, Some, Ok}
 use Rattle.bit_space.specs.Bits.{bits_of}
 use Rattle.bit_space.specs.SpaceView.{SpaceView}
 use Rattle.pickle_types.specs.Types.{PokeType}
-use Rattle.pickle_map.specs.declared.faults.MapFault.{MapFault}
+use Rattle.pickle_meaning.specs.declared.faults.MapFault.{MapFault}
 use Rattle.pickle_map.specs.Mapped.{FaultMeans}
-use Rattle.pickle_map.specs.Values.{Value}
+use Rattle.pickle_meaning.specs.Values.{Value}
 use Rattle.command_words.specs.declared.ask.Ask.{Ask}
 use Rattle.poke_batch.specs.Runs.{HasAnswer}
 

@@ -3,7 +3,7 @@ use Rattle.std.specs.Prelude.{◌≡◌, ℕ, List, [], ◌++◌, Option, Some, 
 use Rattle.std.specs.declared.alloc.Global.{Global}
 use Rattle.bit_space.specs.SpaceView.{SpaceView}
 use Rattle.pickle_types.specs.Types.{PokeType}
-use Rattle.pickle_map.specs.declared.faults.MapFault.{MapFault}
+use Rattle.pickle_meaning.specs.declared.faults.MapFault.{MapFault}
 use Rattle.command_words.specs.declared.ask.Ask.{Ask}
 use Rattle.command_words.specs.declared.path.Path.{Path}
 use Rattle.command_words.specs.declared.terms.Terms.{Terms}

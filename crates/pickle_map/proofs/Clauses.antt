@@ -3,12 +3,12 @@ use Rattle.std.proofs.Common.{◌≡◌, ℕ, ◌+◌, ◌<◌, ◌≤◌, Optio
 use Rattle.pickle_types.specs.Types.{Term}
 use Rattle.pickle_map.specs.declared.mapper.stop.Stop.{Stop}
 use Rattle.pickle_map.specs.declared.mapper.stop.Stop.TheVariants.{Fault, Limit, Device, Memory}
-use Rattle.pickle_map.specs.Values.{Value, Levels, pushed}
-use Rattle.pickle_map.specs.Clauses.{FaultAt, constraint, clause_steps}
+use Rattle.pickle_meaning.specs.Values.{Value, Levels, pushed}
+use Rattle.pickle_meaning.specs.Clauses.{FaultAt, constraint, clause_steps}
 use Rattle.pickle_map.specs.Settles.{Settles}
-use Rattle.pickle_map.specs.Plan.{Plan, after, then_ok}
+use Rattle.mapping_plans.specs.Plan.{Plan, after, then_ok}
 use Rattle.pickle_map.specs.Follows.{World, Done, Follows}
-use Rattle.pickle_map.specs.Mapping.{constrained}
+use Rattle.mapping_plans.specs.Mapping.{constrained}
 use Rattle.pickle_map.specs.Stops.{stop_finish}
 use Rattle.pickle_map.proofs.Walks.{follow_done, follow_after, follow_after_some, follow_then_ok, follow_stop}
 

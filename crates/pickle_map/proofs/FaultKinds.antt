@@ -13,19 +13,19 @@ use Rattle.pickle_types.specs.Types.{Term, Number, Text, Name, Bracket, Before, 
 use Rattle.pickle_types.specs.Bounds.{least_width}
 use Rattle.pickle_types.specs.Bounds as bounds
 use Rattle.pickle_types.specs.Operators.{common, greatest_divisor}
-use Rattle.pickle_map.specs.declared.extent.Extent.{Extent}
-use Rattle.pickle_map.specs.declared.faults.MapFaultKind.{MapFaultKind}
-use Rattle.pickle_map.specs.declared.faults.MapFaultKind.TheVariants as fault
-use Rattle.pickle_map.specs.Values.{Label, IntegerLabel, OffsetLabel, TextLabel, ArrayLabel, Value, Mapped, end_of, member_count, member_at, Naming, Levels, value_at, pushed, opened}
-use Rattle.pickle_map.specs.Arithmetic.{Computed, converted, is_zero, brought, as_integer, as_offset, brought_integer, brought_offset, bits_in, prefixed, shifted_left, shifted_right, on_common, on_integers, on_bits, on_scaled, on_texts, combined, to_integer, to_offset, in_unit}
-use Rattle.pickle_map.specs.Evaluation.{Operand, AtPath, operand_label, Evaluation, gives, present, leads_to, on_outcome, and_operand, truth_of, settled, unless_settled, chosen, number_only, as_common, selected, element, attribute_of, evaluation}
-use Rattle.pickle_map.specs.Clauses.{FaultAt, told_at, kind_at, satisfied, constraint, condition, not_negative, behind_start, field_start, count_of, size_of, extent_of, is_due, is_met, ends_before, misses}
+use Rattle.pickle_meaning.specs.declared.extent.Extent.{Extent}
+use Rattle.pickle_meaning.specs.declared.faults.MapFaultKind.{MapFaultKind}
+use Rattle.pickle_meaning.specs.declared.faults.MapFaultKind.TheVariants as fault
+use Rattle.pickle_meaning.specs.Values.{Label, IntegerLabel, OffsetLabel, TextLabel, ArrayLabel, Value, Mapped, end_of, member_count, member_at, Naming, Levels, value_at, pushed, opened}
+use Rattle.pickle_meaning.specs.Arithmetic.{Computed, converted, is_zero, brought, as_integer, as_offset, brought_integer, brought_offset, bits_in, prefixed, shifted_left, shifted_right, on_common, on_integers, on_bits, on_scaled, on_texts, combined, to_integer, to_offset, in_unit}
+use Rattle.pickle_meaning.specs.Evaluation.{Operand, AtPath, operand_label, Evaluation, gives, present, leads_to, on_outcome, and_operand, truth_of, settled, unless_settled, chosen, number_only, as_common, selected, element, attribute_of, evaluation}
+use Rattle.pickle_meaning.specs.Clauses.{FaultAt, told_at, kind_at, satisfied, constraint, condition, not_negative, behind_start, field_start, count_of, size_of, extent_of, is_due, is_met, ends_before, misses}
 use Rattle.pickle_map.specs.FaultKinds.{IsMeant, OfFault}
 use Rattle.pickle_map.specs.Follows.{World, Done, Follows}
-use Rattle.pickle_map.specs.Mapping.{from_inside, constrained, number_plan, digits_plan, read_plan, after_byte, text_plan, after_element, elements_plan, after_attempt, plan, fields_plan, alternatives_plan}
-use Rattle.pickle_map.specs.Means.{Opened, Taken, number_type, width_in, first_digits, ordered}
-use Rattle.pickle_map.specs.Plan.{Plan, after, on_value, then_ok, Always, result, after_tick, after_made, after_read}
-use Rattle.pickle_map.proofs.Always.{of_result, after_always, then_always}
+use Rattle.mapping_plans.specs.Mapping.{from_inside, constrained, number_plan, digits_plan, read_plan, after_byte, text_plan, after_element, elements_plan, after_attempt, plan, fields_plan, alternatives_plan}
+use Rattle.pickle_meaning.specs.Means.{Opened, Taken, number_type, width_in, first_digits, ordered}
+use Rattle.mapping_plans.specs.Plan.{Plan, after, on_value, then_ok, Always, result, after_tick, after_made, after_read}
+use Rattle.mapping_plans.proofs.Always.{of_result, after_always, then_always}
 use Rattle.pickle_map.proofs.Followed.{walk_keeps}
 
 -- ---- expressions

@@ -3,23 +3,23 @@ use Rattle.std.proofs.Common.{◌≡◌, ℕ, ◌+◌, ◌-◌, ◌<◌, ◌≤�
 use Rattle.bit_space.specs.declared.order.Order.{Order}
 use Rattle.pickle_types.specs.Types.{PokeType}
 use Rattle.pickle_types.specs.Bounds.{cost, room, least_width}
-use Rattle.pickle_map.specs.declared.faults.MapFaultKind.TheVariants as fault
-use Rattle.pickle_map.specs.Values.{Value, end_of, Levels, no_values}
-use Rattle.pickle_map.specs.Clauses.{FaultAt}
-use Rattle.pickle_map.specs.Room.{Slot, NodeSlot, ByteSlot, value_slots, slots}
-use Rattle.pickle_map.specs.Plan.{Plan, Ended, Tick, Made, Read, result_of, steps_of, made_of, AtMost, ticked, noted, given, MadeWithin, made_tick, made_more, made_read, Counts, counted, count_tick, count_made, count_read, Always, after_made}
+use Rattle.pickle_meaning.specs.declared.faults.MapFaultKind.TheVariants as fault
+use Rattle.pickle_meaning.specs.Values.{Value, end_of, Levels, no_values}
+use Rattle.pickle_meaning.specs.Clauses.{FaultAt}
+use Rattle.pickle_meaning.specs.Room.{Slot, NodeSlot, ByteSlot, value_slots, slots}
+use Rattle.mapping_plans.specs.Plan.{Plan, Ended, Tick, Made, Read, result_of, steps_of, made_of, AtMost, ticked, noted, given, MadeWithin, made_tick, made_more, made_read, Counts, counted, count_tick, count_made, count_read, Always, after_made}
 use Rattle.pickle_map.specs.Follows.{World, Walk, arrived, stepped, kept, read, Finish, Done, NoSteps, NoRoom, NeedsStep, NeedsRoom, Follows}
-use Rattle.pickle_map.specs.Mapping.{plan}
-use Rattle.pickle_map.specs.Answer.{Answer, in_time, too_long, BrokenOff, broken_off}
-use Rattle.pickle_map.specs.Fits.{Fits}
-use Rattle.pickle_map.specs.Laws.{value_size}
-use Rattle.pickle_map.proofs.Counts.{values_made}
-use Rattle.pickle_map.proofs.Exists.{plan_means}
-use Rattle.pickle_map.proofs.Costs.{at_most_more, plan_at_most}
-use Rattle.pickle_map.proofs.Makes.{plan_within}
-use Rattle.pickle_map.proofs.Always.{of_tick, of_made, of_read, of_result}
-use Rattle.pickle_map.proofs.Fitting.{plan_fits, plan_wide}
-use Rattle.pickle_map.proofs.Rooms.{room_enough}
+use Rattle.mapping_plans.specs.Mapping.{plan}
+use Rattle.pickle_meaning.specs.Answer.{Answer, in_time, too_long, BrokenOff, broken_off}
+use Rattle.pickle_meaning.specs.Fits.{Fits}
+use Rattle.pickle_meaning.specs.Laws.{value_size}
+use Rattle.mapping_plans.proofs.Counts.{values_made}
+use Rattle.mapping_plans.proofs.Exists.{plan_means}
+use Rattle.mapping_plans.proofs.Costs.{at_most_more, plan_at_most}
+use Rattle.mapping_plans.proofs.Makes.{plan_within}
+use Rattle.mapping_plans.proofs.Always.{of_tick, of_made, of_read, of_result}
+use Rattle.mapping_plans.proofs.Fitting.{plan_fits, plan_wide}
+use Rattle.mapping_plans.proofs.Rooms.{room_enough}
 
 -- ---- along a walk
 

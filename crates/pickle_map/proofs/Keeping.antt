@@ -3,16 +3,17 @@ use Rattle.std.proofs.Common.{◌≡◌, ℕ, ◌+◌, ◌≤◌, List, [], ◌�
 use Rattle.std.specs.Prelude.{OnOk, OnErr, IsOk}
 use Rattle.std.proofs.lemmas.Bool.{false≢true}
 use Rattle.pickle_types.specs.declared.table.Node.{Node}
-use Rattle.pickle_map.specs.declared.store.room.Growth.TheVariants.{Never}
-use Rattle.pickle_map.specs.declared.store.room.Room.{Room}
-use Rattle.pickle_map.specs.Tree as tree
-use Rattle.pickle_map.specs.Levels as stored
-use Rattle.pickle_map.specs.Slots.{Held, levels}
-use Rattle.pickle_map.specs.Values.{Mapped, Levels, pushed, opened, top_of, outer_of, gathered}
-use Rattle.pickle_map.specs.Means.{value_of}
-use Rattle.pickle_map.specs.Room.{Slot, slots, Exceeds}
-use Rattle.pickle_map.specs.Shown.{shown_label, shown, shown_parts, shown_member, shown_levels, kept}
-use Rattle.pickle_map.proofs.ShownLevels.{shown_pushed, shown_outer, shown_top, shown_gathered, exceeds, within}
+use Rattle.value_store.specs.declared.store.room.Growth.TheVariants.{Never}
+use Rattle.value_store.specs.declared.store.room.Room.{Room}
+use Rattle.value_store.specs.Tree as tree
+use Rattle.value_store.specs.Levels as stored
+use Rattle.value_store.specs.Slots.{Held, levels}
+use Rattle.pickle_meaning.specs.Values.{Mapped, Levels, pushed, opened, top_of, outer_of, gathered}
+use Rattle.pickle_meaning.specs.Means.{value_of}
+use Rattle.pickle_meaning.specs.Room.{Slot, slots}
+use Rattle.value_store.specs.Exceeding.{Exceeds}
+use Rattle.value_store.specs.Shown.{shown_label, shown, shown_parts, shown_member, shown_levels, kept}
+use Rattle.value_store.proofs.ShownLevels.{shown_pushed, shown_outer, shown_top, shown_gathered, exceeds, within}
 
 module _ (nodes : List Node) where
   -- one more member

@@ -5,8 +5,8 @@ use Rattle.std.proofs.lemmas.Bool.{le-leb, eq-eqb, ne_eqb, false≢true}
 use Rattle.bit_space.specs.declared.order.Order.{Order}
 use Rattle.bit_space.specs.Bits.{bits_of}
 use Rattle.bit_space.specs.SpaceView.{SpaceView}
-use Rattle.pickle_map.specs.declared.store.room.Room.{Room}
-use Rattle.pickle_map.specs.Slots.{Held}
+use Rattle.value_store.specs.declared.store.room.Room.{Room}
+use Rattle.value_store.specs.Slots.{Held}
 use Rattle.pickle_map.specs.Framed.{world_of}
 use Rattle.pickle_types.specs.declared.table.Field.{Field}
 use Rattle.pickle_types.specs.declared.table.Part.{Part}
@@ -14,18 +14,18 @@ use Rattle.pickle_types.specs.Types.{Term, PokeType, IntegerOf, OffsetOf, String
 use Rattle.pickle_types.specs.declared.integer.IntegerType.{IntegerType}
 use Rattle.pickle_types.specs.Bounds.{least_width, count_of}
 use Rattle.pickle_types.specs.Table.{optional_term, open_fields, open_parts, name_of}
-use Rattle.pickle_map.specs.declared.extent.Extent.{Extent}
-use Rattle.pickle_map.specs.declared.faults.MapFaultKind.TheVariants.{End, Bounds, Constraint, NoBits}
+use Rattle.pickle_meaning.specs.declared.extent.Extent.{Extent}
+use Rattle.pickle_meaning.specs.declared.faults.MapFaultKind.TheVariants.{End, Bounds, Constraint, NoBits}
 use Rattle.pickle_map.specs.declared.mapper.stop.Stop.{Stop}
 use Rattle.pickle_map.specs.declared.mapper.stop.Stop.TheVariants.{Fault, Limit, Device, Memory}
-use Rattle.pickle_map.specs.Values.{Naming, Value, end_of, Levels, pushed, opened, outer_of}
-use Rattle.pickle_map.specs.Clauses.{FaultAt, condition, field_start, clause_steps, label_steps, extent_of, bound_steps, is_due, is_met}
+use Rattle.pickle_meaning.specs.Values.{Naming, Value, end_of, Levels, pushed, opened, outer_of}
+use Rattle.pickle_meaning.specs.Clauses.{FaultAt, condition, field_start, clause_steps, label_steps, extent_of, bound_steps, is_due, is_met}
 use Rattle.pickle_map.specs.Settles.{Settles}
-use Rattle.pickle_map.specs.Means.{ordered, number_type, field_names, array_value, struct_value, Taken, union_value, Opened}
-use Rattle.pickle_map.specs.Plan.{Plan, Tick, and_then, after, then_ok}
+use Rattle.pickle_meaning.specs.Means.{ordered, number_type, field_names, array_value, struct_value, Taken, union_value, Opened}
+use Rattle.mapping_plans.specs.Plan.{Plan, Tick, and_then, after, then_ok}
 use Rattle.pickle_map.specs.Follows.{World, Finish, Done, NoSteps, Broken, NoRoom, Partly, Follows}
-use Rattle.pickle_map.specs.Mapping.{from_inside, read_plan, text_plan, plan, fields_plan, elements_plan, alternatives_plan, after_element, after_attempt, constrained, array_closes, struct_closes, union_closes}
-use Rattle.pickle_map.specs.Room.{Exceeds}
+use Rattle.mapping_plans.specs.Mapping.{from_inside, read_plan, text_plan, plan, fields_plan, elements_plan, alternatives_plan, after_element, after_attempt, constrained, array_closes, struct_closes, union_closes}
+use Rattle.value_store.specs.Exceeding.{Exceeds}
 use Rattle.pickle_map.specs.Stops.{stop_finish, stop_misses, stop_ends}
 use Rattle.pickle_map.proofs.Clauses.{settles_ok, settles_stop}
 use Rattle.pickle_map.proofs.Walks.{follow_done, follow_here, follow_at, follow_tick, follow_no_tick, follow_made, follow_no_room, follow_then, follow_then_ok, follow_stop, follow_and_no_steps, follow_and_broken, follow_and_no_room, follow_inside, follow_past, ends_no_room, ends_made}

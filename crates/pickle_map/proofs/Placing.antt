@@ -10,16 +10,16 @@ use Rattle.bit_space.specs.Reading.{MayRead, IsRefused}
 use Rattle.pickle_types.specs.declared.table.Part.{Part}
 use Rattle.pickle_types.specs.Types.{PokeType}
 use Rattle.pickle_types.specs.Table.{optional_term, open_parts}
-use Rattle.pickle_map.specs.declared.faults.MapFaultKind.TheVariants.{End}
+use Rattle.pickle_meaning.specs.declared.faults.MapFaultKind.TheVariants.{End}
 use Rattle.pickle_map.specs.declared.mapper.stop.Stop.{Stop}
 use Rattle.pickle_map.specs.declared.mapper.stop.Stop.TheVariants.{Fault, Limit, Device, Memory}
-use Rattle.pickle_map.specs.Values.{Value, Levels, pushed}
-use Rattle.pickle_map.specs.Clauses.{FaultAt}
+use Rattle.pickle_meaning.specs.Values.{Value, Levels, pushed}
+use Rattle.pickle_meaning.specs.Clauses.{FaultAt}
 use Rattle.pickle_map.specs.Framed.{ReadStops, refusal_at}
-use Rattle.pickle_map.specs.Plan.{Plan, Ended, Tick, Read, then_ok}
+use Rattle.mapping_plans.specs.Plan.{Plan, Ended, Tick, Read, then_ok}
 use Rattle.pickle_map.specs.Follows.{World, Finish, Done, NoSteps, Partly, Follows}
-use Rattle.pickle_map.specs.Mapping.{number_plan, digits_plan, constrained}
-use Rattle.pickle_map.specs.Means.{first_digits, number_type, width_in}
+use Rattle.mapping_plans.specs.Mapping.{number_plan, digits_plan, constrained}
+use Rattle.pickle_meaning.specs.Means.{first_digits, number_type, width_in}
 use Rattle.pickle_map.specs.Stops.{stop_finish}
 use Rattle.pickle_map.proofs.Walks.{follow_done, follow_here, follow_tick, follow_no_tick, follow_read, follow_broken, follow_then_ok, follow_stop}
 

@@ -9,28 +9,29 @@ use Rattle.bit_space.specs.SpaceView.{SpaceView}
 use Rattle.pickle_types.specs.declared.table.Node.{Node}
 use Rattle.pickle_types.specs.Types.{PokeType}
 use Rattle.pickle_types.specs.Bounds.{least_width}
-use Rattle.pickle_map.specs.declared.store.room.Growth.{Growth}
-use Rattle.pickle_map.specs.declared.store.room.Growth.TheVariants.{Free, Never}
-use Rattle.pickle_map.specs.declared.store.room.Room.{Room}
-use Rattle.pickle_map.specs.declared.store.slots.Shape.{Shape}
-use Rattle.pickle_map.specs.declared.store.slots.Shape.TheVariants.{Integer, Offset, Text, Integers, Offsets, Array, Struct, Union}
+use Rattle.value_store.specs.declared.store.room.Growth.{Growth}
+use Rattle.value_store.specs.declared.store.room.Growth.TheVariants.{Free, Never}
+use Rattle.value_store.specs.declared.store.room.Room.{Room}
+use Rattle.value_store.specs.declared.store.slots.Shape.{Shape}
+use Rattle.value_store.specs.declared.store.slots.Shape.TheVariants.{Integer, Offset, Text, Integers, Offsets, Array, Struct, Union}
 use Rattle.pickle_map.specs.declared.mapper.stop.Stop.{Stop}
 use Rattle.pickle_map.specs.Follows.{World, Done, NoRoom, Follows}
 use Rattle.pickle_map.specs.Framed.{ReadStops}
-use Rattle.pickle_map.specs.Levels as stored
+use Rattle.value_store.specs.Levels as stored
 use Rattle.pickle_map.specs.Stops.{stop_finish}
-use Rattle.pickle_map.specs.Means.{array_value}
-use Rattle.pickle_map.specs.Mapping.{plan, read_plan, number_plan, makes}
-use Rattle.pickle_map.specs.Room.{Exceeds, PendingSlot, slots, level_slots}
+use Rattle.pickle_meaning.specs.Means.{array_value}
+use Rattle.mapping_plans.specs.Mapping.{plan, read_plan, number_plan, makes}
+use Rattle.value_store.specs.Exceeding.{Exceeds}
+use Rattle.pickle_meaning.specs.Room.{PendingSlot, slots, level_slots}
 use Rattle.pickle_map.specs.Row.{IsArrayOf, row_levels}
-use Rattle.pickle_map.specs.Shown.{shown, shown_parts, shown_member, shown_level, shown_levels, kept}
-use Rattle.pickle_map.specs.Slots.{Held, HasNoNode, AreLevels, levels, packs_as, packs, IsPacked, IsPacking, element_width, element_value, elements, row_value}
-use Rattle.pickle_map.specs.Tree as tree
-use Rattle.pickle_map.specs.Values.{Value, Mapped, ArrayLabel, Levels, end_of, pushed, outer_of}
+use Rattle.value_store.specs.Shown.{shown, shown_parts, shown_member, shown_level, shown_levels, kept}
+use Rattle.value_store.specs.Slots.{Held, HasNoNode, AreLevels, levels, packs_as, packs, IsPacked, IsPacking, element_width, element_value, elements, row_value}
+use Rattle.value_store.specs.Tree as tree
+use Rattle.pickle_meaning.specs.Values.{Value, Mapped, ArrayLabel, Levels, end_of, pushed, outer_of}
 use Rattle.pickle_map.proofs.Mapping.{number_is}
-use Rattle.pickle_map.proofs.PackedRows.{packing-outer, packing-empty, packing-fresh, packing-stale}
+use Rattle.value_store.proofs.PackedRows.{packing-outer, packing-empty, packing-fresh, packing-stale}
 use Rattle.pickle_map.proofs.Placing.{reading, read_stops, read_goes}
-use Rattle.pickle_map.proofs.ShownLevels.{shown_outer, shown_pushed, shown_gathered}
+use Rattle.value_store.proofs.ShownLevels.{shown_outer, shown_pushed, shown_gathered}
 use Rattle.pickle_map.proofs.Walks.{follow_done, follow_made, follow_no_room}
 
 -- packed numbers have bits

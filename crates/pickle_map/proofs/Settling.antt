@@ -2,15 +2,15 @@
 use Rattle.std.proofs.Common.{◌≡◌, ℕ, ◌+◌, ◌<◌, Bool, true, false, ℤ, pos, negsuc, Some, None, Result, Ok, Err, if◌then◌else◌, refl, sym, ap, ◌∙◌}
 use Rattle.pickle_map.specs.declared.mapper.stop.Stop.{Stop}
 use Rattle.pickle_map.specs.declared.mapper.stop.Stop.TheVariants as stop
-use Rattle.pickle_map.specs.declared.evaluate.content.Content.{Content}
-use Rattle.pickle_map.specs.declared.faults.MapFaultKind.{MapFaultKind}
-use Rattle.pickle_map.specs.declared.faults.MapFaultKind.TheVariants as fault
-use Rattle.pickle_map.specs.Arithmetic.{signed_type}
-use Rattle.pickle_map.specs.Comes.{ComesTo}
-use Rattle.pickle_map.specs.Values.{Label, IntegerLabel}
-use Rattle.pickle_map.specs.Clauses.{FaultAt, told_at, kind_at, satisfied, not_negative}
-use Rattle.pickle_map.specs.Contents.{IsHeld}
-use Rattle.pickle_map.specs.Evaluation.{Operand, operand_label, truth_of, Evaluation}
+use Rattle.pickle_evaluation.specs.declared.content.Content.{Content}
+use Rattle.pickle_meaning.specs.declared.faults.MapFaultKind.{MapFaultKind}
+use Rattle.pickle_meaning.specs.declared.faults.MapFaultKind.TheVariants as fault
+use Rattle.pickle_meaning.specs.Arithmetic.{signed_type}
+use Rattle.pickle_evaluation.specs.Comes.{ComesTo}
+use Rattle.pickle_meaning.specs.Values.{Label, IntegerLabel}
+use Rattle.pickle_meaning.specs.Clauses.{FaultAt, told_at, kind_at, satisfied, not_negative}
+use Rattle.pickle_evaluation.specs.Contents.{IsHeld}
+use Rattle.pickle_meaning.specs.Evaluation.{Operand, operand_label, truth_of, Evaluation}
 use Rattle.pickle_map.specs.Settles.{Ends, Settles, Sees, natural}
 
 pub is_natural : {A : Type 0} (s : ℕ) (f : ℕ → A) (z : ℤ) (n : ℕ) → natural z ≡ Some n → not_negative s f z ≡ Ok (f n)

@@ -13,8 +13,8 @@ use Rattle.pickle_types.specs.declared.table.Node.{Node}
 use Rattle.pickle_types.specs.Types.{PokeType, StructOf, IntegralOf, UnionOf, depth, fields_depth, parts_depth}
 use Rattle.pickle_types.specs.Table.{open_shape, open_fields, open_parts, type_of, FieldsBelow, PartsBelow, NamesBelow, IsSoundField, IsSoundPart, IsSoundShape, IsTable}
 use Rattle.pickle_types.proofs.Tables.{opens}
-use Rattle.pickle_map.specs.Means.{field_names, part_names}
-use Rattle.pickle_map.specs.Shown.{field_name, part_name, shape_title, shape_names, found_title, found_names, title_at, names_at}
+use Rattle.pickle_meaning.specs.Means.{field_names, part_names}
+use Rattle.value_store.specs.Shown.{field_name, part_name, shape_title, shape_names, found_title, found_names, title_at, names_at}
 use Rattle.pickle_map.specs.Mappable.{IsFieldOf, IsPartOf}
 
 module _ (nodes : List Node) (table : IsTable nodes) (at : ℕ) (inside : at < length nodes) (other : Node) (s : Shape) (is : (get_or nodes at other).shape ≡ s) where

@@ -6,25 +6,25 @@ use Rattle.bit_space.specs.Bits.{bits_of}
 use Rattle.bit_space.specs.SpaceView.{SpaceView, IsWhole}
 use Rattle.bit_space.proofs.Digits.{length-bits_of}
 use Rattle.pickle_types.specs.declared.table.Node.{Node}
-use Rattle.pickle_map.specs.Shown.{shown_levels, kept}
-use Rattle.pickle_map.specs.Slots.{Held, levels, empty}
-use Rattle.pickle_map.proofs.Held.{none-open}
+use Rattle.value_store.specs.Shown.{shown_levels, kept}
+use Rattle.value_store.specs.Slots.{Held, levels, empty}
+use Rattle.value_store.proofs.Held.{none-open}
 use Rattle.pickle_types.specs.Types.{PokeType}
 use Rattle.pickle_types.specs.Bounds.{cost, room}
-use Rattle.pickle_map.specs.declared.faults.MapFaultKind.{MapFaultKind}
-use Rattle.pickle_map.specs.declared.faults.MapFaultKind.TheVariants as fault
+use Rattle.pickle_meaning.specs.declared.faults.MapFaultKind.{MapFaultKind}
+use Rattle.pickle_meaning.specs.declared.faults.MapFaultKind.TheVariants as fault
 use Rattle.pickle_map.specs.declared.mapper.stop.Stop.{Stop}
 use Rattle.pickle_map.specs.declared.mapper.stop.Stop.TheVariants.{Fault, Limit, Device, Memory}
-use Rattle.pickle_map.specs.Answer.{Answer}
+use Rattle.pickle_meaning.specs.Answer.{Answer}
 use Rattle.pickle_map.specs.FaultKinds.{IsMeant}
 use Rattle.pickle_map.specs.Follows.{World, Follows}
 use Rattle.pickle_map.specs.Framed.{Runs}
 use Rattle.pickle_map.specs.Mapped.{told, FaultMeans, CountsToThere, EndsRun}
-use Rattle.pickle_map.specs.Mapping.{plan}
+use Rattle.mapping_plans.specs.Mapping.{plan}
 use Rattle.pickle_map.specs.Stops.{stop_finish}
-use Rattle.pickle_map.specs.Clauses.{FaultAt}
-use Rattle.pickle_map.specs.Plan.{Plan}
-use Rattle.pickle_map.specs.Values.{Value, no_values}
+use Rattle.pickle_meaning.specs.Clauses.{FaultAt}
+use Rattle.mapping_plans.specs.Plan.{Plan}
+use Rattle.pickle_meaning.specs.Values.{Value, no_values}
 use Rattle.pickle_map.proofs.FaultKinds.{followed_kind}
 use Rattle.pickle_map.proofs.Followed.{followed_limit, followed_room, followed_result, followed_too_long, followed_part}
 

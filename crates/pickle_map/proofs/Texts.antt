@@ -6,22 +6,22 @@ use Rattle.bit_space.specs.Bits.{bits_of}
 use Rattle.bit_space.specs.SpaceView.{SpaceView, HasRisen}
 use Rattle.bit_space.specs.Reading.{MayRead}
 use Rattle.pickle_types.specs.declared.table.Node.{Node}
-use Rattle.pickle_map.specs.declared.store.room.Room.{Room}
+use Rattle.value_store.specs.declared.store.room.Room.{Room}
 use Rattle.pickle_map.specs.declared.mapper.stop.Stop.{Stop}
-use Rattle.pickle_map.specs.Values.{Levels, pushed, outer_of, text_value, text_level}
-use Rattle.pickle_map.specs.Levels as stored
-use Rattle.pickle_map.specs.Tree as tree
-use Rattle.pickle_map.specs.Slots.{Held, levels, IsWriting}
+use Rattle.pickle_meaning.specs.Values.{Levels, pushed, outer_of, text_value, text_level}
+use Rattle.value_store.specs.Levels as stored
+use Rattle.value_store.specs.Tree as tree
+use Rattle.value_store.specs.Slots.{Held, levels, IsWriting}
 use Rattle.pickle_map.specs.Framed.{ReadStops}
 use Rattle.pickle_map.specs.Follows.{World, Done, NoRoom, Partly, Follows}
-use Rattle.pickle_map.specs.Mapping.{text_plan, after_byte}
-use Rattle.pickle_map.specs.Room.{Exceeds}
-use Rattle.pickle_map.specs.Shown.{shown_levels, kept}
+use Rattle.mapping_plans.specs.Mapping.{text_plan, after_byte}
+use Rattle.value_store.specs.Exceeding.{Exceeds}
+use Rattle.value_store.specs.Shown.{shown_levels, kept}
 use Rattle.pickle_map.specs.Stops.{stop_finish}
 use Rattle.pickle_map.proofs.Placing.{read_stops, read_goes}
-use Rattle.pickle_map.proofs.ShownLevels.{shown_pushed, shown_outer, exceeds}
+use Rattle.value_store.proofs.ShownLevels.{shown_pushed, shown_outer, exceeds}
 use Rattle.pickle_map.proofs.Walks.{follow_done, follow_here, follow_made, follow_no_room}
-use Rattle.pickle_map.proofs.Writing.{writing-outer}
+use Rattle.value_store.proofs.Writing.{writing-outer}
 
 module _ {world : World} {limit : ℕ} (m n : ℕ) (bytes : List ℕ) (outer : Levels) (s place : ℕ) {k j k1 j1 : ℕ} (left : m < place + 8 * n) (inside : place ≤ m) where
   pub text_stops : (before after : SpaceView) {limit' : ℕ} (stop : Stop) → limit' ≡ limit → m ≡ 8 * before.len → ReadStops stop s (place + 8) before after limit' k k1 → j1 ≡ j →

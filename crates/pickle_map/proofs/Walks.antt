@@ -3,16 +3,16 @@ use Rattle.std.proofs.Common.{arith, ◌≡◌, ℕ, zero, suc, inl, inr, ◌+�
 use Rattle.std.proofs.lemmas.Bool.{le-leb, lt-leb, cases_lt}
 use Rattle.bit_space.specs.declared.order.Order.{Order}
 use Rattle.bit_space.specs.Reading.{MayRead}
-use Rattle.pickle_map.specs.declared.store.room.Room.{Room}
-use Rattle.pickle_map.specs.declared.faults.MapFaultKind.TheVariants.{End}
+use Rattle.value_store.specs.declared.store.room.Room.{Room}
+use Rattle.pickle_meaning.specs.declared.faults.MapFaultKind.TheVariants.{End}
 use Rattle.pickle_map.specs.declared.mapper.stop.Stop.{Stop}
 use Rattle.pickle_map.specs.declared.mapper.stop.Stop.TheVariants.{Fault, Limit, Device, Memory}
-use Rattle.pickle_map.specs.Values.{Value, Levels, pushed, outer_of}
-use Rattle.pickle_map.specs.Room.{Exceeds}
-use Rattle.pickle_map.specs.Clauses.{FaultAt}
-use Rattle.pickle_map.specs.Plan.{Plan, Ended, Tick, Made, Read, and_then, after, on_value, then_ok}
+use Rattle.pickle_meaning.specs.Values.{Value, Levels, pushed, outer_of}
+use Rattle.value_store.specs.Exceeding.{Exceeds}
+use Rattle.pickle_meaning.specs.Clauses.{FaultAt}
+use Rattle.mapping_plans.specs.Plan.{Plan, Ended, Tick, Made, Read, and_then, after, on_value, then_ok}
 use Rattle.pickle_map.specs.Follows.{World, Walk, arrived, stepped, kept, read, Finish, Done, NoSteps, Broken, NoRoom, Partly, NeedsStep, NeedsRead, NeedsRoom, Follows}
-use Rattle.pickle_map.specs.Mapping.{from_inside, makes, closes}
+use Rattle.mapping_plans.specs.Mapping.{from_inside, makes, closes}
 use Rattle.pickle_map.specs.Stops.{stop_finish}
 
 -- a walk to q, and on from there

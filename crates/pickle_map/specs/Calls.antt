@@ -13,20 +13,20 @@ use Rattle.pickle_types.specs.declared.table.Resolved.{Resolved}
 use Rattle.pickle_types.specs.Types.{PokeType, IntegerOf, ArrayOf, StructOf, IntegralOf, UnionOf}
 use Rattle.pickle_types.specs.Bounds.{least_width, count_of}
 use Rattle.pickle_types.specs.Table.{type_of, open_fields, open_parts, optional_term, bound_of}
-use Rattle.pickle_map.specs.declared.extent.Extent.{Extent}
+use Rattle.pickle_meaning.specs.declared.extent.Extent.{Extent}
 use Rattle.pickle_map.specs.declared.mapper.stop.Stop.{Stop}
-use Rattle.pickle_map.specs.declared.store.slots.Shape.{Shape}
-use Rattle.pickle_map.specs.Values.{Naming, Value, end_of, Levels, pushed, outer_of}
-use Rattle.pickle_map.specs.Clauses.{FaultAt}
-use Rattle.pickle_map.specs.Means.{Opened, Taken, struct_value, field_names, part_names, number_type, width_in}
-use Rattle.pickle_map.specs.Plan.{Plan, Tick, then_ok}
-use Rattle.pickle_map.specs.Mapping.{plan, read_plan, number_plan, digits_plan, text_plan, fields_plan, elements_plan, alternatives_plan, constrained, closes, array_closes, struct_closes, union_closes}
+use Rattle.value_store.specs.declared.store.slots.Shape.{Shape}
+use Rattle.pickle_meaning.specs.Values.{Naming, Value, end_of, Levels, pushed, outer_of}
+use Rattle.pickle_meaning.specs.Clauses.{FaultAt}
+use Rattle.pickle_meaning.specs.Means.{Opened, Taken, struct_value, field_names, part_names, number_type, width_in}
+use Rattle.mapping_plans.specs.Plan.{Plan, Tick, then_ok}
+use Rattle.mapping_plans.specs.Mapping.{plan, read_plan, number_plan, digits_plan, text_plan, fields_plan, elements_plan, alternatives_plan, constrained, closes, array_closes, struct_closes, union_closes}
 use Rattle.pickle_map.specs.Follows.{Done}
 use Rattle.pickle_map.specs.Framed.{world_of, KeepsOne, Runs, Works}
-use Rattle.pickle_map.specs.Levels as stored
+use Rattle.value_store.specs.Levels as stored
 use Rattle.pickle_map.specs.Row.{Packs}
-use Rattle.pickle_map.specs.Slots.{Held, levels}
-use Rattle.pickle_map.specs.Shown.{kept, title_at, part_name}
+use Rattle.value_store.specs.Slots.{Held, levels}
+use Rattle.value_store.specs.Shown.{kept, title_at, part_name}
 use Rattle.pickle_map.specs.Stops.{stop_finish}
 
 -- ---- what a call is to do

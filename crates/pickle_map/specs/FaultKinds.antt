@@ -1,8 +1,8 @@
 -- Which kinds of fault are part of what a type means, and which are a run's own.
 use Rattle.std.specs.Prelude.{Result, Ok, Err}
-use Rattle.pickle_map.specs.declared.faults.MapFaultKind.{MapFaultKind}
-use Rattle.pickle_map.specs.declared.faults.MapFaultKind.TheVariants as fault
-use Rattle.pickle_map.specs.Clauses.{FaultAt}
+use Rattle.pickle_meaning.specs.declared.faults.MapFaultKind.{MapFaultKind}
+use Rattle.pickle_meaning.specs.declared.faults.MapFaultKind.TheVariants as fault
+use Rattle.pickle_meaning.specs.Clauses.{FaultAt}
 
 -- a kind of fault that a type and a file's bits decide; want of steps or memory and a device's fault are a run's own
 abbrev pub IsMeant : MapFaultKind → Type 0

@@ -2,10 +2,10 @@
 use Rattle.std.specs.Prelude.{◌≡◌, ℕ, ◌+◌, List, Option}
 use Rattle.bit_space.specs.declared.order.Order.{Order}
 use Rattle.bit_space.specs.Reading.{MayRead}
-use Rattle.pickle_map.specs.declared.store.room.Room.{Room}
-use Rattle.pickle_map.specs.Values.{Levels}
-use Rattle.pickle_map.specs.Room.{Exceeds}
-use Rattle.pickle_map.specs.Plan.{Plan, Ended, Tick, Made, Read}
+use Rattle.value_store.specs.declared.store.room.Room.{Room}
+use Rattle.pickle_meaning.specs.Values.{Levels}
+use Rattle.value_store.specs.Exceeding.{Exceeds}
+use Rattle.mapping_plans.specs.Plan.{Plan, Ended, Tick, Made, Read}
 
 -- the bits of the file, where they are known, and the store's room
 pub record World : Type 0 where

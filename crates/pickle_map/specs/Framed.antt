@@ -6,15 +6,15 @@ use Rattle.bit_space.specs.declared.number.BitFault.TheVariants as refused
 use Rattle.bit_space.specs.Reading.{IsRefused}
 use Rattle.bit_space.specs.SpaceView.{SpaceView, known_bits, HasRisen}
 use Rattle.pickle_types.specs.declared.table.Node.{Node}
-use Rattle.pickle_map.specs.declared.faults.MapFaultKind.TheVariants.{End}
+use Rattle.pickle_meaning.specs.declared.faults.MapFaultKind.TheVariants.{End}
 use Rattle.pickle_map.specs.declared.mapper.stop.Stop.{Stop}
 use Rattle.pickle_map.specs.declared.mapper.stop.Stop.TheVariants.{Fault, Limit, Device, Memory}
-use Rattle.pickle_map.specs.Values.{Value, end_of, Levels, pushed, outer_of}
-use Rattle.pickle_map.specs.Clauses.{FaultAt}
-use Rattle.pickle_map.specs.Plan.{Plan}
+use Rattle.pickle_meaning.specs.Values.{Value, end_of, Levels, pushed, outer_of}
+use Rattle.pickle_meaning.specs.Clauses.{FaultAt}
+use Rattle.mapping_plans.specs.Plan.{Plan}
 use Rattle.pickle_map.specs.Follows.{World, Finish, Done, Follows}
-use Rattle.pickle_map.specs.Slots.{Held, levels}
-use Rattle.pickle_map.specs.Shown.{kept}
+use Rattle.value_store.specs.Slots.{Held, levels}
+use Rattle.value_store.specs.Shown.{kept}
 
 -- What every call leaves: the meter's limit, the store's room, the bytes of the space, and a count of failures that never falls.
 -- It makes no more values than it takes steps, with those taken ahead of it for which no value is made yet.

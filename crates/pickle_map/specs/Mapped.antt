@@ -5,19 +5,19 @@ use Rattle.bit_space.specs.declared.order.Order.{Order}
 use Rattle.bit_space.specs.SpaceView.{SpaceView}
 use Rattle.pickle_types.specs.declared.table.Node.{Node}
 use Rattle.pickle_types.specs.Types.{PokeType}
-use Rattle.pickle_map.specs.declared.faults.MapFault.{MapFault}
-use Rattle.pickle_map.specs.declared.faults.MapFaultKind.{MapFaultKind}
-use Rattle.pickle_map.specs.declared.faults.MapFaultKind.TheVariants as fault
+use Rattle.pickle_meaning.specs.declared.faults.MapFault.{MapFault}
+use Rattle.pickle_meaning.specs.declared.faults.MapFaultKind.{MapFaultKind}
+use Rattle.pickle_meaning.specs.declared.faults.MapFaultKind.TheVariants as fault
 use Rattle.pickle_map.specs.declared.mapper.stop.Stop.{Stop}
 use Rattle.pickle_map.specs.declared.mapper.stop.Stop.TheVariants.{Fault, Limit, Device, Memory}
-use Rattle.pickle_map.specs.Answer.{Answer, BrokenOff}
-use Rattle.pickle_map.specs.Clauses.{FaultAt}
+use Rattle.pickle_meaning.specs.Answer.{Answer, BrokenOff}
+use Rattle.pickle_meaning.specs.Clauses.{FaultAt}
 use Rattle.pickle_map.specs.Follows.{Broken, NoRoom}
 use Rattle.pickle_map.specs.Framed.{Runs}
-use Rattle.pickle_map.specs.Plan.{Plan}
-use Rattle.pickle_map.specs.Shown.{kept}
-use Rattle.pickle_map.specs.Slots.{Held}
-use Rattle.pickle_map.specs.Values.{Value, no_values, pushed}
+use Rattle.mapping_plans.specs.Plan.{Plan}
+use Rattle.value_store.specs.Shown.{kept}
+use Rattle.value_store.specs.Slots.{Held}
+use Rattle.pickle_meaning.specs.Values.{Value, no_values, pushed}
 
 -- a store that holds one value, with the names of a table, and a fact of that value
 pub record Gives (nodes : List Node) (store : Held) (P : Value → Type 0) : Type 0 where

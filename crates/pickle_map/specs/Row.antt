@@ -4,18 +4,18 @@ use Rattle.pickle_types.specs.Types.{PokeType, IntegerOf, OffsetOf}
 use Rattle.pickle_types.specs.declared.table.Node.{Node}
 use Rattle.bit_space.specs.declared.meter.Meter.{Meter}
 use Rattle.bit_space.specs.SpaceView.{SpaceView}
-use Rattle.pickle_map.specs.declared.store.room.Room.{Room}
-use Rattle.pickle_map.specs.declared.store.slots.Shape.{Shape}
-use Rattle.pickle_map.specs.declared.store.slots.Shape.TheVariants.{Integer, Offset, Text, Integers, Offsets, Array, Struct, Union}
-use Rattle.pickle_map.specs.Clauses.{FaultAt}
+use Rattle.value_store.specs.declared.store.room.Room.{Room}
+use Rattle.value_store.specs.declared.store.slots.Shape.{Shape}
+use Rattle.value_store.specs.declared.store.slots.Shape.TheVariants.{Integer, Offset, Text, Integers, Offsets, Array, Struct, Union}
+use Rattle.pickle_meaning.specs.Clauses.{FaultAt}
 use Rattle.pickle_map.specs.Framed.{Runs}
 use Rattle.pickle_map.specs.Follows.{Done}
-use Rattle.pickle_map.specs.Levels as stored
-use Rattle.pickle_map.specs.Means.{Opened}
-use Rattle.pickle_map.specs.Plan.{Plan}
-use Rattle.pickle_map.specs.Shown.{shown_level, shown_levels}
-use Rattle.pickle_map.specs.Slots.{Held, IsPacked, IsPacking, elements, element_width, packs}
-use Rattle.pickle_map.specs.Values.{Levels}
+use Rattle.value_store.specs.Levels as stored
+use Rattle.pickle_meaning.specs.Means.{Opened}
+use Rattle.mapping_plans.specs.Plan.{Plan}
+use Rattle.value_store.specs.Shown.{shown_level, shown_levels}
+use Rattle.value_store.specs.Slots.{Held, IsPacked, IsPacking, elements, element_width, packs}
+use Rattle.pickle_meaning.specs.Values.{Levels}
 
 -- what an array of elements of a type is packed as
 abbrev pub IsArrayOf : Shape → PokeType → Type 0

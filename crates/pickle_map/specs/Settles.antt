@@ -2,10 +2,10 @@
 use Rattle.std.specs.Prelude.{◌≡◌, ℕ, ◌+◌, ◌<◌, ℤ, pos, negsuc, Result, Ok, Err}
 use Rattle.pickle_map.specs.declared.mapper.stop.Stop.{Stop}
 use Rattle.pickle_map.specs.declared.mapper.stop.Stop.TheVariants as stop
-use Rattle.pickle_map.specs.declared.evaluate.content.Content.{Content}
-use Rattle.pickle_map.specs.Clauses.{FaultAt}
-use Rattle.pickle_map.specs.Contents.{IsHeld}
-use Rattle.pickle_map.specs.Evaluation.{Operand, operand_label, Evaluation}
+use Rattle.pickle_evaluation.specs.declared.content.Content.{Content}
+use Rattle.pickle_meaning.specs.Clauses.{FaultAt}
+use Rattle.pickle_evaluation.specs.Contents.{IsHeld}
+use Rattle.pickle_meaning.specs.Evaluation.{Operand, operand_label, Evaluation}
 use Rattle.std.specs.Prelude.{Option, Some, None}
 
 -- a number that is not negative

@@ -1,9 +1,9 @@
 -- Why a mapping under way stops, as the end of a plan.
 use Rattle.std.specs.Prelude.{Bool, false, Result, Err}
-use Rattle.pickle_map.specs.declared.extent.Extent.{Extent}
+use Rattle.pickle_meaning.specs.declared.extent.Extent.{Extent}
 use Rattle.pickle_map.specs.declared.mapper.stop.Stop.{Stop}
 use Rattle.pickle_map.specs.declared.mapper.stop.Stop.TheVariants.{Fault, Limit, Device, Memory}
-use Rattle.pickle_map.specs.Clauses.{FaultAt, misses, ends_before}
+use Rattle.pickle_meaning.specs.Clauses.{FaultAt, misses, ends_before}
 use Rattle.pickle_map.specs.Follows.{Finish, Done, NoSteps, Broken, NoRoom}
 
 abbrev pub stop_finish : {A : Type 0} → Stop → Finish (Result A FaultAt)

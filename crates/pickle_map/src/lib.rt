@@ -1,18 +1,13 @@
-//! Maps the types of a pickle over the bits of a space: values, what a mapping means, and its laws.
+//! Maps the types of a pickle over the bits of a space.
 #![tactic(auto)]
 
-pub(crate) mod evaluate;
-pub mod extent;
-pub mod faults;
-pub mod known;
-pub mod laws;
 pub mod mapper;
-mod names;
-pub mod store;
-pub(crate) mod stored;
-pub mod value;
 
-pub use faults::{MapFault, MapFaultKind};
 pub use mapper::map;
+pub use mapping_plans::laws;
+pub use pickle_evaluation::known;
+pub use pickle_meaning::faults::{MapFault, MapFaultKind};
+pub use pickle_meaning::{extent, faults};
+pub use value_store::value::{Kind, ValueRef};
+pub use value_store::{store, value};
 pub use store::Store;
-pub use value::{Kind, ValueRef};

@@ -1,7 +1,7 @@
 -- Rows worked by hand hold of the lines.
 use Rattle.std.proofs.Common.{◌≡◌, refl}
 use Rattle.std.specs.Prelude.{codes}
-use Rattle.pickle_map.specs.declared.faults.MapFaultKind.TheVariants.{Memory}
+use Rattle.pickle_meaning.specs.declared.faults.MapFaultKind.TheVariants.{Memory}
 use Rattle.poke_batch.specs.declared.status.Status.TheVariants.{Outside}
 use Rattle.poke_batch.specs.FaultLines.{fault_saying}
 use Rattle.poke_batch.specs.Lines.{refused_line, fault_line}

@@ -9,16 +9,16 @@ use Rattle.pickle_types.specs.declared.table.Node.{Node}
 use Rattle.pickle_types.specs.Bounds.{cost}
 use Rattle.pickle_types.specs.Names.{Names, find_type}
 use Rattle.pickle_types.specs.Types.{PokeType}
-use Rattle.pickle_map.specs.Answer.{Answer}
-use Rattle.pickle_map.specs.Clauses.{FaultAt}
+use Rattle.pickle_meaning.specs.Answer.{Answer}
+use Rattle.pickle_meaning.specs.Clauses.{FaultAt}
 use Rattle.pickle_map.specs.Mapped.{FaultMeans, EndsRun, Gives}
-use Rattle.pickle_map.specs.Shown.{kept}
-use Rattle.pickle_map.specs.Slots.{Held}
-use Rattle.pickle_map.specs.Values.{Value, value_at}
-use Rattle.pickle_map.specs.declared.faults.MapFaultKind.{MapFaultKind}
-use Rattle.pickle_map.specs.declared.faults.MapFaultKind.TheVariants as fault
+use Rattle.value_store.specs.Shown.{kept}
+use Rattle.value_store.specs.Slots.{Held}
+use Rattle.pickle_meaning.specs.Values.{Value, value_at}
+use Rattle.pickle_meaning.specs.declared.faults.MapFaultKind.{MapFaultKind}
+use Rattle.pickle_meaning.specs.declared.faults.MapFaultKind.TheVariants as fault
 use Rattle.poke_batch.specs.Accepted.{IsAccepted}
-use Rattle.pickle_map.specs.FaultNames.{fault_kind}
+use Rattle.pickle_meaning.specs.FaultNames.{fault_kind}
 use Rattle.poke_batch.specs.FaultLines.{fault_saying}
 use Rattle.command_words.specs.declared.ask.Ask.{Ask}
 use Rattle.poke_batch.specs.declared.status.Status.TheVariants.{Fault}

@@ -1,7 +1,7 @@
 -- Laws of the parts that paths lead to.
 use Rattle.std.proofs.Common.{◌≡◌, ◌∙◌, ℕ, zero, suc, ◌+◌, ◌-◌, ◌<◌, ◌≤◌, Bool, true, false, List, [], ◌∷◌, Option, Some, None, drop, length, refl, sym, ap, subst, arith}
-use Rattle.pickle_map.specs.Labels.{member_name}
-use Rattle.pickle_map.specs.Values.{Label, Value}
+use Rattle.value_store.specs.Labels.{member_name}
+use Rattle.pickle_meaning.specs.Values.{Label, Value}
 use Rattle.command_words.specs.declared.path.Step.{Step}
 use Rattle.poke_batch.specs.PathParts.{is_named, place_named, step_to, part_from, part_of}
 

@@ -1,6 +1,6 @@
 -- What each member has of its value, each part has.
 use Rattle.std.proofs.Common.{◌≡◌, ℕ, Bool, true, false, List, [], ◌∷◌, Option, Some, None, refl, subst}
-use Rattle.pickle_map.specs.Values.{Value, member_at, members_of}
+use Rattle.pickle_meaning.specs.Values.{Value, member_at, members_of}
 use Rattle.command_words.specs.declared.path.Path.{Path}
 use Rattle.command_words.specs.declared.path.Step.{Step}
 use Rattle.command_words.specs.declared.path.Step.TheVariants.{Field, Place, Element}

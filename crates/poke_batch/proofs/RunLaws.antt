@@ -4,8 +4,8 @@ use Rattle.std.specs.Prelude.{nat_le, if◌then◌else◌}
 use Rattle.std.specs.Io.KnownBytes.{Appends}
 use Rattle.bit_space.specs.SpaceView.{SpaceView}
 use Rattle.pickle_types.specs.Types.{PokeType}
-use Rattle.pickle_map.specs.Fits.{Fits}
-use Rattle.pickle_map.specs.Values.{Value, Mapped, Members, NoMembers, MemberThen, AbsentThen, member_at, members_of, end_of, no_values}
+use Rattle.pickle_meaning.specs.Fits.{Fits}
+use Rattle.pickle_meaning.specs.Values.{Value, Mapped, Members, NoMembers, MemberThen, AbsentThen, member_at, members_of, end_of, no_values}
 use Rattle.poke_batch.specs.declared.accept.Refusal.TheVariants as refusal
 use Rattle.command_words.specs.declared.ask.Ask.{Ask}
 use Rattle.text_forms.specs.declared.mode.Mode.TheVariants.{Json}

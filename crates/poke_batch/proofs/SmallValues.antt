@@ -4,10 +4,10 @@ use Rattle.std.specs.Prelude.{unsigned_abs, nat_le, ◌-ℤ◌, if◌then◌else
 use Rattle.std.proofs.lemmas.Bool.{leb-true, lt-ltb}
 use Rattle.pickle_types.specs.declared.integer.IntegerType.{IntegerType}
 use Rattle.pickle_types.specs.Types.{PokeType, IntegerOf, OffsetOf, StringOf, ArrayOf, StructOf, IntegralOf, UnionOf, Fields, NoFields, FieldThen, Parts, NoParts, PartThen}
-use Rattle.pickle_map.specs.Arithmetic.{with_sign}
-use Rattle.pickle_map.specs.Values.{Value, member_count, Levels, pushed, opened, top_of, gathered}
-use Rattle.pickle_map.specs.Means.{field_names, part_names, Taken}
-use Rattle.pickle_map.specs.Fits.{IsText, ElementsFit, no_more_fit, one_more_fits, FitsNumber, DigitsFit, Fits, FieldsFit, AlternativeFits}
+use Rattle.pickle_meaning.specs.Arithmetic.{with_sign}
+use Rattle.pickle_meaning.specs.Values.{Value, member_count, Levels, pushed, opened, top_of, gathered}
+use Rattle.pickle_meaning.specs.Means.{field_names, part_names, Taken}
+use Rattle.pickle_meaning.specs.Fits.{IsText, ElementsFit, no_more_fit, one_more_fits, FitsNumber, DigitsFit, Fits, FieldsFit, AlternativeFits}
 use Rattle.value_text.specs.SmallParts.{AreBytes, IsNameOfBytes, AreNamesOfBytes, HasSmallParts, AreSmallParts}
 use Rattle.poke_batch.proofs.SmallTypes.{IsSmallType, AreSmallFields, AreSmallTypes}
 

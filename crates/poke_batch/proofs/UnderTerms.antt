@@ -3,17 +3,17 @@ use Rattle.std.proofs.Common.{◌≡◌, ◌∙◌, ◌+◌, ◌*◌, ◌<◌, �
 use Rattle.std.specs.Prelude.{nat_le, if◌then◌else◌, codes}
 use Rattle.std.proofs.lemmas.Bool.{le-leb, lt-leb}
 use Rattle.pickle_types.specs.Types.{PokeType, IntegerOf, OffsetOf, StringOf, ArrayOf, StructOf, IntegralOf, UnionOf, Fields, NoFields, FieldThen, Parts, NoParts, PartThen}
-use Rattle.pickle_map.specs.Fits.{ElementsFit, no_more_fit, one_more_fits, Fits, FitsNumber, FieldsFit, AlternativeFits}
-use Rattle.pickle_map.specs.Means.{Taken}
-use Rattle.pickle_map.specs.Slots.{Held, empty}
-use Rattle.pickle_map.specs.declared.store.room.Room.{Room}
+use Rattle.pickle_meaning.specs.Fits.{ElementsFit, no_more_fit, one_more_fits, Fits, FitsNumber, FieldsFit, AlternativeFits}
+use Rattle.pickle_meaning.specs.Means.{Taken}
+use Rattle.value_store.specs.Slots.{Held, empty}
+use Rattle.value_store.specs.declared.store.room.Room.{Room}
 use Rattle.pickle_types.specs.Bounds.{room}
 use Rattle.std.proofs.lemmas.Option.{same_Some}
 use Rattle.poke_batch.specs.Runs.{IsAsked}
-use Rattle.pickle_map.specs.Values.{Value, Levels, start_of, end_of, pushed, opened}
+use Rattle.pickle_meaning.specs.Values.{Value, Levels, start_of, end_of, pushed, opened}
 use Rattle.bit_space.specs.SpaceView.{SpaceView}
-use Rattle.pickle_map.specs.declared.faults.MapFaultKind.{MapFaultKind}
-use Rattle.pickle_map.specs.declared.faults.MapFaultKind.TheVariants as fault
+use Rattle.pickle_meaning.specs.declared.faults.MapFaultKind.{MapFaultKind}
+use Rattle.pickle_meaning.specs.declared.faults.MapFaultKind.TheVariants as fault
 use Rattle.poke_batch.specs.declared.accept.Refusal.{Refusal}
 use Rattle.poke_batch.specs.declared.accept.Refusal.TheVariants as refusal
 use Rattle.command_words.specs.declared.ask.Ask.{Ask}

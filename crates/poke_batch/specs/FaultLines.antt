@@ -1,8 +1,8 @@
 -- The lines that tell the faults of a mapping.
 use Rattle.std.specs.Prelude.{ℕ, codes}
-use Rattle.pickle_map.specs.declared.faults.MapFaultKind.{MapFaultKind}
-use Rattle.pickle_map.specs.declared.faults.MapFaultKind.TheVariants.{Device, Memory}
-use Rattle.pickle_map.specs.FaultNames.{fault_kind}
+use Rattle.pickle_meaning.specs.declared.faults.MapFaultKind.{MapFaultKind}
+use Rattle.pickle_meaning.specs.declared.faults.MapFaultKind.TheVariants.{Device, Memory}
+use Rattle.pickle_meaning.specs.FaultNames.{fault_kind}
 use Rattle.poke_batch.specs.declared.status.Status.TheVariants.{Fault, Outside}
 use Rattle.poke_batch.specs.Lines.{fault_line, fault_at_line}
 use Rattle.poke_batch.specs.Told.{Saying, Line}

@@ -1,8 +1,8 @@
 -- The part of a value to which a path leads.
 use Rattle.std.specs.Prelude.{◌≡◌, ℕ, zero, suc, ◌+◌, Bool, true, false, List, [], ◌∷◌, ◌++◌, Option, Some, None, if◌then◌else◌, codes, decimal}
 use Rattle.std.specs.Str.{bytes_eq}
-use Rattle.pickle_map.specs.Values.{Naming, Label, IntegerLabel, OffsetLabel, TextLabel, ArrayLabel, StructLabel, UnionLabel, Value, label_of, members_of, member_at, member_count}
-use Rattle.pickle_map.specs.Labels.{member_name}
+use Rattle.pickle_meaning.specs.Values.{Naming, Label, IntegerLabel, OffsetLabel, TextLabel, ArrayLabel, StructLabel, UnionLabel, Value, label_of, members_of, member_at, member_count}
+use Rattle.value_store.specs.Labels.{member_name}
 use Rattle.command_words.specs.declared.path.Path.{Path}
 use Rattle.command_words.specs.declared.path.Step.{Step}
 use Rattle.command_words.specs.declared.path.Step.TheVariants.{Field, Place, Element}

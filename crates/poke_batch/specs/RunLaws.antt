@@ -3,8 +3,8 @@ use Rattle.std.specs.Prelude.{◌≡◌, ◌*◌, ℕ, List, Option, Some, None,
 use Rattle.std.specs.Io.KnownBytes.{Appends}
 use Rattle.bit_space.specs.SpaceView.{SpaceView}
 use Rattle.pickle_types.specs.Types.{PokeType}
-use Rattle.pickle_map.specs.Fits.{Fits}
-use Rattle.pickle_map.specs.Values.{Value, Levels, no_values}
+use Rattle.pickle_meaning.specs.Fits.{Fits}
+use Rattle.pickle_meaning.specs.Values.{Value, Levels, no_values}
 use Rattle.command_words.specs.declared.ask.Ask.{Ask}
 use Rattle.text_forms.specs.declared.mode.Mode.TheVariants.{Json}
 use Rattle.command_words.specs.declared.path.Path.{Path}

@@ -4,12 +4,12 @@ use Rattle.pickle_tree.specs.Tree.{DeclarationTree}
 use Rattle.pickle_types.specs.Types.{PokeType}
 use Rattle.pickle_types.specs.Names.{Names, find_type}
 use Rattle.pickle_types.specs.Bounds.{cost, room, IsBound}
-use Rattle.pickle_map.specs.Answer.{Answer}
-use Rattle.pickle_map.specs.Clauses.{FaultAt}
-use Rattle.pickle_map.specs.Fits.{Fits}
-use Rattle.pickle_map.specs.Values.{Value, no_values}
-use Rattle.pickle_map.specs.declared.faults.MapFaultKind.{MapFaultKind}
-use Rattle.pickle_map.specs.declared.faults.MapFaultKind.TheVariants as fault
+use Rattle.pickle_meaning.specs.Answer.{Answer}
+use Rattle.pickle_meaning.specs.Clauses.{FaultAt}
+use Rattle.pickle_meaning.specs.Fits.{Fits}
+use Rattle.pickle_meaning.specs.Values.{Value, no_values}
+use Rattle.pickle_meaning.specs.declared.faults.MapFaultKind.{MapFaultKind}
+use Rattle.pickle_meaning.specs.declared.faults.MapFaultKind.TheVariants as fault
 use Rattle.bit_space.specs.declared.order.Order.{Order}
 use Rattle.bit_space.specs.Bits.{bits_of}
 use Rattle.bit_space.specs.SpaceView.{SpaceView, HasRisen}
@@ -18,7 +18,7 @@ use Rattle.command_words.specs.declared.ask.Ask.{Ask}
 use Rattle.poke_batch.specs.declared.status.Status.TheVariants.{Fault, Refused, Outside}
 use Rattle.poke_batch.specs.Accepted.{IsAccepted, Refuses, refusal_saying}
 use Rattle.poke_batch.specs.BoundText.{bound_line, bound_text}
-use Rattle.pickle_map.specs.FaultNames.{fault_kind}
+use Rattle.pickle_meaning.specs.FaultNames.{fault_kind}
 use Rattle.poke_batch.specs.Lines.{refused_line, fault_line, fault_at_line}
 use Rattle.poke_batch.specs.Told.{Saying, Text, Line}
 use Rattle.value_text.specs.Printed.{printed}

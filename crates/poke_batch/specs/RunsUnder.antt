@@ -3,13 +3,13 @@ use Rattle.std.specs.Prelude.{◌*◌, ◌<◌, ◌≡◌, ℕ, Bool, ◌&&◌, 
 use Rattle.bit_space.specs.SpaceView.{SpaceView}
 use Rattle.pickle_types.specs.Types.{PokeType}
 use Rattle.pickle_types.specs.Bounds.{room}
-use Rattle.pickle_map.specs.Fits.{Fits}
-use Rattle.pickle_map.specs.Slots.{Held, fixed}
-use Rattle.pickle_map.specs.declared.faults.MapFaultKind.{MapFaultKind}
-use Rattle.pickle_map.specs.declared.faults.MapFaultKind.TheVariants as fault
-use Rattle.pickle_map.specs.declared.store.room.Growth.TheVariants.{Free}
+use Rattle.pickle_meaning.specs.Fits.{Fits}
+use Rattle.value_store.specs.Slots.{Held, fixed}
+use Rattle.pickle_meaning.specs.declared.faults.MapFaultKind.{MapFaultKind}
+use Rattle.pickle_meaning.specs.declared.faults.MapFaultKind.TheVariants as fault
+use Rattle.value_store.specs.declared.store.room.Growth.TheVariants.{Free}
 use Rattle.poke_batch.specs.FaultLines.{fault_saying}
-use Rattle.pickle_map.specs.Values.{Value, end_of, no_values}
+use Rattle.pickle_meaning.specs.Values.{Value, end_of, no_values}
 use Rattle.command_words.specs.declared.ask.Ask.{Ask}
 use Rattle.poke_batch.specs.declared.status.Status.{Status}
 use Rattle.poke_batch.specs.declared.status.Status.TheVariants.{Fault, Outside}

@@ -2,7 +2,7 @@
 
 ghost use Rattle.std.specs.Prelude.{◌≡◌, ◌<◌, ◌≤◌, Some, length, codes, IsOk, IfOk, IfErr, OnOk, OnErr};
 ghost use Rattle.std.specs.Io.KnownBytes.{Appends};
-ghost use Rattle.pickle_map.specs.Refs.{value_shown};
+ghost use Rattle.value_store.specs.Refs.{value_shown};
 ghost use Rattle.value_text.specs.Printed.{printed};
 ghost use Rattle.value_text.specs.Written.{AppendsPart};
 

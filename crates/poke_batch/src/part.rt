@@ -2,9 +2,9 @@
 
 ghost use Rattle.std.specs.Prelude.{◌≡◌, false, if◌then◌else◌};
 ghost use Rattle.std.specs.Option.{option_map};
-ghost use Rattle.pickle_map.specs.Refs.{value_shown};
-ghost use Rattle.pickle_map.specs.Values.{label_of, members_of, member_count};
-ghost use Rattle.pickle_map.specs.Labels.{member_name};
+ghost use Rattle.value_store.specs.Refs.{value_shown};
+ghost use Rattle.pickle_meaning.specs.Values.{label_of, members_of, member_count};
+ghost use Rattle.value_store.specs.Labels.{member_name};
 ghost use Rattle.poke_batch.specs.PathParts.{is_array, is_named, is_nameless, place_named, step_to, part_of, part_at};
 
 use command_words::path::{Path, Step};

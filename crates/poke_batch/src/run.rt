@@ -4,8 +4,8 @@ ghost use Rattle.std.specs.Prelude.{◌≡◌, ℕ, ◌*◌, ◌≤◌, List, So
 ghost use Rattle.std.specs.Io.KnownBytes.{Appends};
 ghost use Rattle.bit_space.specs.SpaceView.{Keeps};
 ghost use Rattle.pickle_types.specs.TypeTable.{nodes_of, type_named, IsInTable};
-ghost use Rattle.pickle_map.specs.Shown.{kept};
-ghost use Rattle.pickle_map.specs.Values.{Value, value_at, start_of, end_of};
+ghost use Rattle.value_store.specs.Shown.{kept};
+ghost use Rattle.pickle_meaning.specs.Values.{Value, value_at, start_of, end_of};
 ghost use Rattle.poke_batch.specs.Told.{Says, IsSaid};
 ghost use Rattle.poke_batch.specs.Runs.{ChecksAs, BoundsAs, IsAsked, MapsAs, types_text};
 ghost use Rattle.poke_batch.specs.RunsUnder.{MapsUnder, IsStoreOf, end_saying, fixed_saying, SaysIt, value_saying};

@@ -1,8 +1,8 @@
 //! What is said of a value that was mapped, under terms.
 
 ghost use Rattle.std.specs.Prelude.{◌≡◌, ◌≤◌, codes, length, nat_le, if◌then◌else◌};
-ghost use Rattle.pickle_map.specs.Refs.{value_shown};
-ghost use Rattle.pickle_map.specs.Values.{start_of, end_of};
+ghost use Rattle.value_store.specs.Refs.{value_shown};
+ghost use Rattle.pickle_meaning.specs.Values.{start_of, end_of};
 ghost use Rattle.poke_batch.specs.Lines.{fault_at_line};
 ghost use Rattle.value_text.specs.Printed.{printed};
 ghost use Rattle.poke_batch.specs.RunsUnder.{SaysIt, is_left, text_saying, kept_saying, value_saying};

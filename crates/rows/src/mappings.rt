@@ -1,7 +1,7 @@
 //! Every row of the tables, through the runs and through the library's own calls.
 
 ghost use Rattle.std.specs.Prelude.{◌≡◌, IfOk};
-ghost use Rattle.pickle_map.specs.Slots.{empty};
+ghost use Rattle.value_store.specs.Slots.{empty};
 ghost use Rattle.pickle_types.specs.TypeTable.{IsInTable};
 
 use crate::devices::Failing;

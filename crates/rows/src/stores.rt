@@ -1,7 +1,7 @@
 //! Stores that are used again, after a value or a fault.
 
 ghost use Rattle.std.specs.Prelude.{◌≡◌, OnOk};
-ghost use Rattle.pickle_map.specs.Slots.{empty};
+ghost use Rattle.value_store.specs.Slots.{empty};
 
 use crate::mappings::{
     LIMIT, expect, expect_mapped, fault_text, space_of, table_of, text, type_of,

@@ -1,7 +1,7 @@
 //! What the calls are given.
 
 ghost use Rattle.std.specs.Prelude.{◌≡◌, IfOk, OnErr};
-ghost use Rattle.pickle_map.specs.Slots.{empty};
+ghost use Rattle.value_store.specs.Slots.{empty};
 ghost use Rattle.pickle_types.specs.TypeTable.{IsInTable};
 
 use crate::ended::Ended;

@@ -1,6 +1,6 @@
 -- The bounds on texts of parts.
 use Rattle.std.proofs.Common.{◌+◌, ◌≤◌, [], length, codes, arith, length-append}
-use Rattle.pickle_map.specs.Values.{Value}
+use Rattle.pickle_meaning.specs.Values.{Value}
 use Rattle.text_forms.specs.declared.mode.Mode.{Mode}
 use Rattle.text_forms.specs.declared.mode.Mode.TheVariants.{Flat, Tree, Json, Lines}
 use Rattle.value_text.specs.JsonText.{json_text}

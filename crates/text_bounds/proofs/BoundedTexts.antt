@@ -1,7 +1,7 @@
 -- The bounds on texts.
 use Rattle.std.proofs.Common.{ℕ, ◌*◌, ◌≤◌, List, Option, None, length, Ok, refl, ap, inl, inr, arith, length-append}
 use Rattle.bit_space.specs.SpaceView.{SpaceView}
-use Rattle.pickle_map.proofs.OnBits.{outcomes_fit}
+use Rattle.mapping_plans.proofs.OnBits.{outcomes_fit}
 use Rattle.poke_batch.specs.declared.accept.Refusal.TheVariants as refusal
 use Rattle.command_words.specs.declared.ask.Ask.{Ask}
 use Rattle.text_forms.specs.declared.mode.Mode.TheVariants.{Flat, Tree, Json, Lines}

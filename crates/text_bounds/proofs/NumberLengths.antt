@@ -5,7 +5,7 @@ use Rattle.std.specs.Fmt.{signed_decimal, digits, digits_onto, digit_glyph}
 use Rattle.std.proofs.Math.Nat.{two-pow-succ}
 use Rattle.std.proofs.lemmas.Bool.{leb-true, leb-false, eqb-true, eqb-false, lt-ltb}
 use Rattle.pickle_types.specs.declared.integer.IntegerType.{IntegerType}
-use Rattle.pickle_map.specs.Arithmetic.{with_sign}
+use Rattle.pickle_meaning.specs.Arithmetic.{with_sign}
 use Rattle.poke_batch.specs.ValueText.{suffix_of, typed_text, cast_text, type_word, integer_text, offset_text, unit_text}
 use Rattle.poke_batch.specs.JsonText.{json_offset}
 use Rattle.text_bounds.specs.TextRoom.{longest_number}

@@ -1,6 +1,6 @@
 -- A part of a value is no larger than the value.
 use Rattle.std.proofs.Common.{◌≡◌, ℕ, zero, suc, ◌+◌, ◌-◌, ◌≤◌, Option, Some, ap, arith}
-use Rattle.pickle_map.specs.Values.{Label, Value, Mapped, Members, NoMembers, MemberThen, AbsentThen, member_at, member_count, members_of}
+use Rattle.pickle_meaning.specs.Values.{Label, Value, Mapped, Members, NoMembers, MemberThen, AbsentThen, member_at, member_count, members_of}
 use Rattle.text_forms.specs.declared.mode.Mode.{Mode}
 use Rattle.text_forms.specs.declared.mode.Mode.TheVariants.{Flat, Tree, Json, Lines}
 use Rattle.command_words.specs.declared.path.Path.{Path}

@@ -3,10 +3,10 @@ use Rattle.std.proofs.Common.{◌≡◌, ℕ, zero, suc, ◌+◌, ◌-◌, ◌*�
 use Rattle.std.proofs.Math.Nat.{add-mul, mul-add, mul-le-mul_left}
 use Rattle.std.specs.Fmt.{signed_decimal}
 use Rattle.std.specs.Prelude.{if◌then◌else◌}
-use Rattle.pickle_map.specs.declared.value.Kind.{Kind}
-use Rattle.pickle_map.specs.declared.value.Kind.TheVariants.{Integer, Offset, Text, Array, Struct, Union}
-use Rattle.pickle_map.specs.Values.{Naming, Label, IntegerLabel, OffsetLabel, TextLabel, ArrayLabel, StructLabel, UnionLabel, Value, Mapped, Members, NoMembers, MemberThen, AbsentThen, member_count, start_of, end_of}
-use Rattle.pickle_map.specs.Labels.{kind_of, member_name}
+use Rattle.value_store.specs.declared.value.Kind.{Kind}
+use Rattle.value_store.specs.declared.value.Kind.TheVariants.{Integer, Offset, Text, Array, Struct, Union}
+use Rattle.pickle_meaning.specs.Values.{Naming, Label, IntegerLabel, OffsetLabel, TextLabel, ArrayLabel, StructLabel, UnionLabel, Value, Mapped, Members, NoMembers, MemberThen, AbsentThen, member_count, start_of, end_of}
+use Rattle.value_store.specs.Labels.{kind_of, member_name}
 use Rattle.text_forms.specs.declared.mode.Mode.{Mode}
 use Rattle.text_forms.specs.declared.mode.Mode.TheVariants.{Flat, Tree, Json, Lines}
 use Rattle.poke_batch.specs.ValueText.{integer_text, offset_text, string_text, title_text, name_text, comma, value_text, members_text}

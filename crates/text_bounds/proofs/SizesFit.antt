@@ -9,12 +9,12 @@ use Rattle.std.specs.Prelude.{if◌then◌else◌, ◌==◌, slice_get, unwrap_o
 use Rattle.pickle_types.specs.declared.integer.IntegerType.{IntegerType}
 use Rattle.pickle_types.specs.Types.{PokeType, IntegerOf, OffsetOf, StringOf, ArrayOf, StructOf, IntegralOf, UnionOf, Fields, NoFields, FieldThen, Parts, NoParts, PartThen}
 use Rattle.pickle_types.specs.Bounds.{least_width, count_of}
-use Rattle.pickle_map.specs.Values.{Naming, Label, IntegerLabel, OffsetLabel, TextLabel, ArrayLabel, StructLabel, UnionLabel, Value, Mapped, Members, NoMembers, MemberThen, AbsentThen, member_count, end_of, text_value, Levels, pushed, opened, top_of, gathered}
-use Rattle.pickle_map.specs.Labels.{member_name}
-use Rattle.pickle_map.specs.Arithmetic.{with_sign}
-use Rattle.pickle_map.specs.Means.{field_names, part_names, integer_value, offset_value, array_value, struct_value, Taken, union_value}
-use Rattle.pickle_map.specs.Fits.{ElementsFit, no_more_fit, one_more_fits, FitsNumber, DigitsFit, Fits, FieldsFit, AlternativeFits}
-use Rattle.pickle_map.proofs.Fitting.{fits_wide, fits_inside}
+use Rattle.pickle_meaning.specs.Values.{Naming, Label, IntegerLabel, OffsetLabel, TextLabel, ArrayLabel, StructLabel, UnionLabel, Value, Mapped, Members, NoMembers, MemberThen, AbsentThen, member_count, end_of, text_value, Levels, pushed, opened, top_of, gathered}
+use Rattle.value_store.specs.Labels.{member_name}
+use Rattle.pickle_meaning.specs.Arithmetic.{with_sign}
+use Rattle.pickle_meaning.specs.Means.{field_names, part_names, integer_value, offset_value, array_value, struct_value, Taken, union_value}
+use Rattle.pickle_meaning.specs.Fits.{ElementsFit, no_more_fit, one_more_fits, FitsNumber, DigitsFit, Fits, FieldsFit, AlternativeFits}
+use Rattle.mapping_plans.proofs.Fitting.{fits_wide, fits_inside}
 use Rattle.text_forms.specs.declared.mode.Mode.{Mode}
 use Rattle.text_forms.specs.declared.mode.Mode.TheVariants.{Flat, Tree, Json, Lines}
 use Rattle.poke_batch.specs.ValueText.{spelled_byte, spelled, escape_text, is_plain, string_text}

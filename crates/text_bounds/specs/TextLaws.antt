@@ -4,9 +4,9 @@ use Rattle.bit_space.specs.declared.order.Order.{Order}
 use Rattle.bit_space.specs.Bits.{bits_of}
 use Rattle.bit_space.specs.SpaceView.{SpaceView}
 use Rattle.pickle_types.specs.Types.{PokeType}
-use Rattle.pickle_map.specs.Fits.{Fits}
-use Rattle.pickle_map.specs.Means.{Means}
-use Rattle.pickle_map.specs.Values.{Value, Levels}
+use Rattle.pickle_meaning.specs.Fits.{Fits}
+use Rattle.pickle_meaning.specs.Means.{Means}
+use Rattle.pickle_meaning.specs.Values.{Value, Levels}
 use Rattle.command_words.specs.declared.ask.Ask.{Ask}
 use Rattle.text_forms.specs.declared.mode.Mode.{Mode}
 use Rattle.command_words.specs.declared.path.Path.{Path}

@@ -6,11 +6,11 @@ use Rattle.pickle_types.specs.declared.type_table.Table.{Table}
 use Rattle.pickle_types.specs.declared.type_table.TypeId.{TypeId}
 use Rattle.pickle_types.specs.Types.{PokeType}
 use Rattle.pickle_types.specs.TypeTable.{types_of, type_named}
-use Rattle.pickle_map.specs.declared.faults.MapFaultKind.{MapFaultKind}
-use Rattle.pickle_map.specs.declared.faults.MapFaultKind.TheVariants as fault
-use Rattle.pickle_map.specs.Values.{Value, no_values}
-use Rattle.pickle_map.specs.Clauses.{FaultAt}
-use Rattle.pickle_map.specs.Answer.{Answer, in_time, too_long}
+use Rattle.pickle_meaning.specs.declared.faults.MapFaultKind.{MapFaultKind}
+use Rattle.pickle_meaning.specs.declared.faults.MapFaultKind.TheVariants as fault
+use Rattle.pickle_meaning.specs.Values.{Value, no_values}
+use Rattle.pickle_meaning.specs.Clauses.{FaultAt}
+use Rattle.pickle_meaning.specs.Answer.{Answer, in_time, too_long}
 use Rattle.pickle_map.specs.Mapped.{FaultMeans}
 use Rattle.type_soundness.specs.Evaluated.{Evaluated, Evaluates}
 use Rattle.type_soundness.specs.Yielded.{IsYielded, IsToldFault}

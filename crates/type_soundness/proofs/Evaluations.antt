@@ -5,9 +5,9 @@ use Rattle.pickle_tree.specs.Tree.{Tree, FormTree, FieldTrees, DeclarationTree}
 use Rattle.pickle_types.specs.Types.{Term, ByCount, BySize, PokeType, IntegerOf, OffsetOf, Fields, Parts}
 use Rattle.pickle_types.specs.Scopes.{Visible, sees}
 use Rattle.pickle_types.specs.Expressions.{Sort, Typed}
-use Rattle.pickle_map.specs.declared.extent.Extent.{Extent}
-use Rattle.pickle_map.specs.Values.{Naming, Levels, pushed, top_of}
-use Rattle.pickle_map.specs.Means.{Elements, no_more, next_element}
+use Rattle.pickle_meaning.specs.declared.extent.Extent.{Extent}
+use Rattle.pickle_meaning.specs.Values.{Naming, Levels, pushed, top_of}
+use Rattle.pickle_meaning.specs.Means.{Elements, no_more, next_element}
 use Rattle.type_soundness.specs.Evaluated.{Scope, with_field, Purpose, Truth, Start, Count, Size, Evaluated, for_purpose, NumberEvaluates, number_named, in_digits, DigitsEvaluate, in_number, number_constraint, behind_number, Evaluates, in_named, in_number_read, array_count, array_size, in_element, in_fields, in_alternatives, PartEvaluates, in_part, part_constraint, FieldsEvaluate, field_condition, field_label, in_field, behind_absent, behind_field, AlternativesEvaluate, in_alternative, behind_miss}
 use Rattle.type_soundness.specs.MappingLaws.{ScopeFits, Serves, IsSafelyEvaluated}
 use Rattle.type_soundness.proofs.Safe.{safe}

@@ -4,11 +4,11 @@ use Rattle.std.proofs.lemmas.Bool.{lt-ltb, le-ltb, eq-eqb, ne_eqb}
 use Rattle.std.proofs.lemmas.Option.{none-some}
 use Rattle.pickle_types.specs.declared.integer.IntegerType.{IntegerType}
 use Rattle.pickle_types.specs.Types.{Term}
-use Rattle.pickle_map.specs.declared.faults.MapFaultKind.{MapFaultKind}
-use Rattle.pickle_map.specs.declared.faults.MapFaultKind.TheVariants as fault
-use Rattle.pickle_map.specs.Values.{Label, IntegerLabel, ArrayLabel, Value, Mapped, Members, NoMembers, MemberThen, AbsentThen, member_count, member_at, Levels}
-use Rattle.pickle_map.specs.Arithmetic.{Computed, truth, combined}
-use Rattle.pickle_map.specs.Evaluation.{Operand, AtPath, operand_label, chosen, element, leads_to, Evaluation, gives, with_steps, and_operand, evaluation}
+use Rattle.pickle_meaning.specs.declared.faults.MapFaultKind.{MapFaultKind}
+use Rattle.pickle_meaning.specs.declared.faults.MapFaultKind.TheVariants as fault
+use Rattle.pickle_meaning.specs.Values.{Label, IntegerLabel, ArrayLabel, Value, Mapped, Members, NoMembers, MemberThen, AbsentThen, member_count, member_at, Levels}
+use Rattle.pickle_meaning.specs.Arithmetic.{Computed, truth, combined}
+use Rattle.pickle_meaning.specs.Evaluation.{Operand, AtPath, operand_label, chosen, element, leads_to, Evaluation, gives, with_steps, and_operand, evaluation}
 use Rattle.type_soundness.specs.Derivations.{computed, text_steps, IsOutside, Applies, First, side, Yields}
 use Rattle.type_soundness.specs.Derivations as rule
 

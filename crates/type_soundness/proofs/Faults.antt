@@ -9,15 +9,15 @@ use Rattle.pickle_types.specs.Types.{Term, Bound, Unbounded, ByCount, BySize, Po
 use Rattle.pickle_types.specs.Scopes.{Visible, sees}
 use Rattle.pickle_types.specs.Expressions.{Typed}
 use Rattle.pickle_types.specs.WellTyped.{HasWidth}
-use Rattle.pickle_map.specs.declared.extent.Extent.{Extent}
-use Rattle.pickle_map.specs.declared.extent.Extent.TheVariants as extent
-use Rattle.pickle_map.specs.declared.faults.MapFaultKind.{MapFaultKind}
-use Rattle.pickle_map.specs.declared.faults.MapFaultKind.TheVariants as fault
-use Rattle.pickle_map.specs.Values.{Naming, Label, Levels, Value, pushed, opened, top_of}
-use Rattle.pickle_map.specs.Arithmetic.{bits_in}
-use Rattle.pickle_map.specs.Evaluation.{Operand, operand_label, truth_of, evaluation}
-use Rattle.pickle_map.specs.Clauses.{FaultAt, told_at, kind_at, satisfied, constraint, condition, not_negative, behind_start, field_start, count_of, size_of, extent_of}
-use Rattle.pickle_map.specs.Means.{number_type, Means, past_end, number_read, number_end, string, string_end, array, bound_fault, struct, struct_fault, union, union_fault, NumberMeans, integer, offset, integral, integral_fault, no_number, DigitsMean, no_digits, next_digits, digits_refused, digits_fault, Elements, Closing, none_due, beyond_size, no_bits, ends_without, element_fault, PartMeans, part, part_refused, part_fault, FieldsMean, all_fields, absent, field, condition_fault, label_fault, field_fault, AlternativesMean, none_left, fits, misses_it, other_fault, Opened, Taken}
+use Rattle.pickle_meaning.specs.declared.extent.Extent.{Extent}
+use Rattle.pickle_meaning.specs.declared.extent.Extent.TheVariants as extent
+use Rattle.pickle_meaning.specs.declared.faults.MapFaultKind.{MapFaultKind}
+use Rattle.pickle_meaning.specs.declared.faults.MapFaultKind.TheVariants as fault
+use Rattle.pickle_meaning.specs.Values.{Naming, Label, Levels, Value, pushed, opened, top_of}
+use Rattle.pickle_meaning.specs.Arithmetic.{bits_in}
+use Rattle.pickle_meaning.specs.Evaluation.{Operand, operand_label, truth_of, evaluation}
+use Rattle.pickle_meaning.specs.Clauses.{FaultAt, told_at, kind_at, satisfied, constraint, condition, not_negative, behind_start, field_start, count_of, size_of, extent_of}
+use Rattle.pickle_meaning.specs.Means.{number_type, Means, past_end, number_read, number_end, string, string_end, array, bound_fault, struct, struct_fault, union, union_fault, NumberMeans, integer, offset, integral, integral_fault, no_number, DigitsMean, no_digits, next_digits, digits_refused, digits_fault, Elements, Closing, none_due, beyond_size, no_bits, ends_without, element_fault, PartMeans, part, part_refused, part_fault, FieldsMean, all_fields, absent, field, condition_fault, label_fault, field_fault, AlternativesMean, none_left, fits, misses_it, other_fault, Opened, Taken}
 use Rattle.type_soundness.specs.Sorts.{IsOutcome}
 use Rattle.type_soundness.specs.Derivations.{Yields}
 use Rattle.type_soundness.specs.Laws.{IsSafe}

@@ -1,10 +1,10 @@
 -- A value that fits a type is a value of the type, whatever was read.
 use Rattle.std.proofs.Common.{ℕ, ◌+◌, Bool, Some, None, Ok, refl, sym, ap, subst, inl, inr}
 use Rattle.pickle_types.specs.Types.{PokeType, IntegerOf, OffsetOf, StringOf, ArrayOf, StructOf, IntegralOf, UnionOf, Fields, NoFields, FieldThen, Parts, NoParts, PartThen}
-use Rattle.pickle_map.specs.Values.{Value, label_of, Levels, pushed, opened, top_of, gathered}
-use Rattle.pickle_map.specs.Arithmetic.{with_sign}
-use Rattle.pickle_map.specs.Means.{Taken}
-use Rattle.pickle_map.specs.Fits.{ElementsFit, no_more_fit, one_more_fits, FitsNumber, DigitsFit, Fits, FieldsFit, AlternativeFits}
+use Rattle.pickle_meaning.specs.Values.{Value, label_of, Levels, pushed, opened, top_of, gathered}
+use Rattle.pickle_meaning.specs.Arithmetic.{with_sign}
+use Rattle.pickle_meaning.specs.Means.{Taken}
+use Rattle.pickle_meaning.specs.Fits.{ElementsFit, no_more_fit, one_more_fits, FitsNumber, DigitsFit, Fits, FieldsFit, AlternativeFits}
 use Rattle.type_soundness.specs.Sorts.{AllThere, IsOfType}
 use Rattle.type_soundness.proofs.Values.{PartsAre, FieldsAre, AlternativeIs, part_then, parts_gathered, no_parts, one_more_there, field_then, absent_then, fields_gathered, no_fields, next_alternative}
 

@@ -4,7 +4,7 @@ use Rattle.std.specs.Prelude.{if◌then◌else◌, slice_get}
 use Rattle.std.proofs.lemmas.Option.{none-some, slice_get_within}
 use Rattle.pickle_types.specs.Types.{PokeType}
 use Rattle.pickle_types.specs.Scopes.{Visible, is_named, or_this, resolve, sees}
-use Rattle.pickle_map.specs.Values.{Naming, Value, Levels, level_at, pushed, opened, top_of}
+use Rattle.pickle_meaning.specs.Values.{Naming, Value, Levels, level_at, pushed, opened, top_of}
 use Rattle.type_soundness.specs.Sorts.{IsMember, Holds, LevelsFit}
 use Rattle.type_soundness.specs.Evaluated.{Scope, or_this_field, field_named, with_field}
 use Rattle.type_soundness.specs.MappingLaws.{ScopeFits}

@@ -6,9 +6,9 @@ use Rattle.pickle_types.specs.declared.integer.IntegerType.{IntegerType}
 use Rattle.pickle_types.specs.Types.{PokeType, ArrayOf, StructOf, IntegralOf, UnionOf, Bound, Fields, NoFields, FieldThen, Parts, NoParts, PartThen}
 use Rattle.pickle_types.specs.Scopes.{Visible, is_named, or_this, resolve}
 use Rattle.pickle_types.specs.Expressions.{Typed, find_field, find_part}
-use Rattle.pickle_map.specs.Values.{Naming, ArrayLabel, StructLabel, UnionLabel, Value, Mapped, Members, NoMembers, MemberThen, AbsentThen, member_count, member_at, Levels}
-use Rattle.pickle_map.specs.Means.{field_names, part_names}
-use Rattle.pickle_map.specs.Evaluation.{Operand, AtPath, Plain}
+use Rattle.pickle_meaning.specs.Values.{Naming, ArrayLabel, StructLabel, UnionLabel, Value, Mapped, Members, NoMembers, MemberThen, AbsentThen, member_count, member_at, Levels}
+use Rattle.pickle_meaning.specs.Means.{field_names, part_names}
+use Rattle.pickle_meaning.specs.Evaluation.{Operand, AtPath, Plain}
 use Rattle.type_soundness.specs.Sorts.{AllThere, IsOfType, AreFields, AreParts, IsAlternative, IsOfSort, IsMember, Holds, LevelsFit}
 use Rattle.type_soundness.specs.Derivations.{IsOutside}
 

@@ -14,11 +14,11 @@ use Rattle.pickle_types.specs.Operators.{common, greatest_divisor}
 use Rattle.pickle_types.specs.Operators as types
 use Rattle.pickle_types.specs.WellTyped.{IsArithmetic, IsLogical, IsShift, IsEquality, IsComparison, IsOffsetSum, InfixRule, IsSign, PrefixRule, ChoiceRule}
 use Rattle.pickle_types.proofs.Rules.{greatest_divisor_is}
-use Rattle.pickle_map.specs.declared.faults.MapFaultKind.{MapFaultKind}
-use Rattle.pickle_map.specs.declared.faults.MapFaultKind.TheVariants as fault
-use Rattle.pickle_map.specs.Values.{IntegerLabel, OffsetLabel, TextLabel}
-use Rattle.pickle_map.specs.Arithmetic.{Computed, converted, is_zero, brought, as_integer, as_offset, brought_integer, brought_offset, bits_in, truth, prefixed, shifted_left, shifted_right, on_common, on_integers, on_bits, on_scaled, on_texts, combined, to_integer, to_offset, in_unit}
-use Rattle.pickle_map.specs.Evaluation.{Operand, AtPath, Plain, operand_label, truth_of, settled, number_only, as_common}
+use Rattle.pickle_meaning.specs.declared.faults.MapFaultKind.{MapFaultKind}
+use Rattle.pickle_meaning.specs.declared.faults.MapFaultKind.TheVariants as fault
+use Rattle.pickle_meaning.specs.Values.{IntegerLabel, OffsetLabel, TextLabel}
+use Rattle.pickle_meaning.specs.Arithmetic.{Computed, converted, is_zero, brought, as_integer, as_offset, brought_integer, brought_offset, bits_in, truth, prefixed, shifted_left, shifted_right, on_common, on_integers, on_bits, on_scaled, on_texts, combined, to_integer, to_offset, in_unit}
+use Rattle.pickle_meaning.specs.Evaluation.{Operand, AtPath, Plain, operand_label, truth_of, settled, number_only, as_common}
 use Rattle.type_soundness.specs.Sorts.{IsOfType, IsNumberOf, IsOfSort, MayFault, IsOutcome}
 use Rattle.type_soundness.specs.Derivations.{IsProper, computed}
 

@@ -6,12 +6,12 @@ use Rattle.pickle_tree.specs.Tree.{Uint, FormTree, Plain, ArrayForm}
 use Rattle.pickle_tree.specs.Tree as tree
 use Rattle.pickle_types.specs.Types.{Text, ByCount, PokeType, IntegerOf, ArrayOf}
 use Rattle.pickle_types.specs.Operators.{whole}
-use Rattle.pickle_map.specs.declared.faults.MapFaultKind.{MapFaultKind}
-use Rattle.pickle_map.specs.declared.faults.MapFaultKind.TheVariants as fault
-use Rattle.pickle_map.specs.Values.{no_values, Levels}
-use Rattle.pickle_map.specs.Evaluation.{evaluation}
-use Rattle.pickle_map.specs.Clauses.{FaultAt, extent_of}
-use Rattle.pickle_map.specs.Means.{Means, bound_fault}
+use Rattle.pickle_meaning.specs.declared.faults.MapFaultKind.{MapFaultKind}
+use Rattle.pickle_meaning.specs.declared.faults.MapFaultKind.TheVariants as fault
+use Rattle.pickle_meaning.specs.Values.{no_values, Levels}
+use Rattle.pickle_meaning.specs.Evaluation.{evaluation}
+use Rattle.pickle_meaning.specs.Clauses.{FaultAt, extent_of}
+use Rattle.pickle_meaning.specs.Means.{Means, bound_fault}
 use Rattle.type_soundness.specs.Derivations.{Yields}
 use Rattle.type_soundness.specs.Evaluated.{Evaluated, Evaluates, in_number_read, array_count, in_element}
 use Rattle.type_soundness.specs.Yielded.{IsYielded, bits_end, unmet, out_of_bounds, element_of_no_bits, of_expression}

@@ -12,11 +12,11 @@ use Rattle.pickle_types.specs.Names.{Names}
 use Rattle.pickle_types.specs.Expressions.{Sort, Typed}
 use Rattle.pickle_types.specs.Operators.{whole}
 use Rattle.pickle_types.specs.WellTyped.{InfixRule, ChoiceRule, HasField, Converts, IsPath, HasSort}
-use Rattle.pickle_map.specs.declared.faults.MapFaultKind.{MapFaultKind}
-use Rattle.pickle_map.specs.declared.faults.MapFaultKind.TheVariants as fault
-use Rattle.pickle_map.specs.Values.{Naming, Label, IntegerLabel, StructLabel, UnionLabel, Value, Mapped, Members, member_count, member_at, Levels, level_at}
-use Rattle.pickle_map.specs.Arithmetic.{Computed, truth}
-use Rattle.pickle_map.specs.Evaluation.{Operand, AtPath, Plain, operand_label, truth_of, settled, as_common, Evaluation, on_outcome, and_operand, present, leads_to, selected, element, evaluation}
+use Rattle.pickle_meaning.specs.declared.faults.MapFaultKind.{MapFaultKind}
+use Rattle.pickle_meaning.specs.declared.faults.MapFaultKind.TheVariants as fault
+use Rattle.pickle_meaning.specs.Values.{Naming, Label, IntegerLabel, StructLabel, UnionLabel, Value, Mapped, Members, member_count, member_at, Levels, level_at}
+use Rattle.pickle_meaning.specs.Arithmetic.{Computed, truth}
+use Rattle.pickle_meaning.specs.Evaluation.{Operand, AtPath, Plain, operand_label, truth_of, settled, as_common, Evaluation, on_outcome, and_operand, present, leads_to, selected, element, evaluation}
 use Rattle.type_soundness.specs.Sorts.{IsOfType, IsAlternative, IsOfSort, MayFault, IsOutcome, IsMember, Holds, LevelsFit}
 use Rattle.type_soundness.specs.Derivations.{computed, side, Applies, First, Yields}
 use Rattle.type_soundness.specs.Derivations as rule

@@ -8,7 +8,7 @@ use Rattle.pickle_types.specs.Scopes.{Visible, sees}
 use Rattle.pickle_types.specs.Names.{Names}
 use Rattle.pickle_types.specs.Expressions.{Sort, Typed}
 use Rattle.pickle_types.specs.WellTyped.{HasSort, HasWidth}
-use Rattle.pickle_map.specs.Values.{Levels}
+use Rattle.pickle_meaning.specs.Values.{Levels}
 use Rattle.type_soundness.specs.Evaluated.{Scope, form_of}
 use Rattle.type_soundness.specs.MappingLaws.{ScopeFits}
 use Rattle.type_soundness.proofs.Levels.{unseen_scope}

@@ -3,10 +3,10 @@ use Rattle.std.proofs.Common.{◌≡◌, ℕ, ◌+◌, List, [], ◌∷◌, ◌+
 use Rattle.bit_space.specs.declared.order.Order.{Order}
 use Rattle.pickle_tree.specs.declared.tree.ByteOrder.{ByteOrder}
 use Rattle.pickle_types.specs.Types.{Term, Bound, PokeType, ArrayOf, Fields, NoFields, FieldThen, Parts, NoParts, PartThen}
-use Rattle.pickle_map.specs.declared.extent.Extent.{Extent}
-use Rattle.pickle_map.specs.Values.{Naming, Value, NoMembers, MemberThen, Levels, pushed, opened, top_of, gathered}
-use Rattle.pickle_map.specs.Clauses.{FaultAt}
-use Rattle.pickle_map.specs.Means.{Means, past_end, number_read, number_end, string, string_end, array, bound_fault, struct, struct_fault, union, union_fault, NumberMeans, integer, offset, integral, integral_fault, no_number, DigitsMean, no_digits, next_digits, digits_refused, digits_fault, Elements, no_more, next_element, Closing, none_due, beyond_size, no_bits, ends_without, element_fault, PartMeans, part, part_refused, part_fault, FieldsMean, all_fields, absent, field, condition_fault, label_fault, field_fault, AlternativesMean, none_left, fits, misses_it, other_fault, Opened, Taken}
+use Rattle.pickle_meaning.specs.declared.extent.Extent.{Extent}
+use Rattle.pickle_meaning.specs.Values.{Naming, Value, NoMembers, MemberThen, Levels, pushed, opened, top_of, gathered}
+use Rattle.pickle_meaning.specs.Clauses.{FaultAt}
+use Rattle.pickle_meaning.specs.Means.{Means, past_end, number_read, number_end, string, string_end, array, bound_fault, struct, struct_fault, union, union_fault, NumberMeans, integer, offset, integral, integral_fault, no_number, DigitsMean, no_digits, next_digits, digits_refused, digits_fault, Elements, no_more, next_element, Closing, none_due, beyond_size, no_bits, ends_without, element_fault, PartMeans, part, part_refused, part_fault, FieldsMean, all_fields, absent, field, condition_fault, label_fault, field_fault, AlternativesMean, none_left, fits, misses_it, other_fault, Opened, Taken}
 use Rattle.type_soundness.specs.Sorts.{AllThere, IsOfType, AreFields, AreParts, IsAlternative}
 use Rattle.type_soundness.proofs.Levels.{top_pushed}
 

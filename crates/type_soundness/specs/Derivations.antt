@@ -6,11 +6,11 @@ use Rattle.pickle_tree.specs.declared.tree.Infix.{Infix}
 use Rattle.pickle_tree.specs.declared.tree.Attribute.{Attribute}
 use Rattle.pickle_types.specs.declared.integer.IntegerType.{IntegerType}
 use Rattle.pickle_types.specs.Types.{Term, Number, Text, Name, Bracket, Before, Between, Choice, Index, Select, AttributeOf, ToInteger, ToOffset, InUnit}
-use Rattle.pickle_map.specs.declared.faults.MapFaultKind.{MapFaultKind}
-use Rattle.pickle_map.specs.declared.faults.MapFaultKind.TheVariants as fault
-use Rattle.pickle_map.specs.Values.{Naming, Label, IntegerLabel, OffsetLabel, TextLabel, ArrayLabel, StructLabel, UnionLabel, Value, Mapped, Members, member_count, member_at, Levels, level_at}
-use Rattle.pickle_map.specs.Arithmetic.{Computed, unsigned_type, truth, prefixed, combined, to_integer, to_offset, in_unit}
-use Rattle.pickle_map.specs.Evaluation.{Operand, AtPath, Plain, operand_label, truth_of, settled, literal_length, is_text, as_common}
+use Rattle.pickle_meaning.specs.declared.faults.MapFaultKind.{MapFaultKind}
+use Rattle.pickle_meaning.specs.declared.faults.MapFaultKind.TheVariants as fault
+use Rattle.pickle_meaning.specs.Values.{Naming, Label, IntegerLabel, OffsetLabel, TextLabel, ArrayLabel, StructLabel, UnionLabel, Value, Mapped, Members, member_count, member_at, Levels, level_at}
+use Rattle.pickle_meaning.specs.Arithmetic.{Computed, unsigned_type, truth, prefixed, combined, to_integer, to_offset, in_unit}
+use Rattle.pickle_meaning.specs.Evaluation.{Operand, AtPath, Plain, operand_label, truth_of, settled, literal_length, is_text, as_common}
 
 -- a computed value, or not the answer that operators give for values of wrong sorts, which is always Absent
 abbrev pub IsProper : Computed → Type 0

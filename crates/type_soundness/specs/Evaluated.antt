@@ -8,11 +8,11 @@ use Rattle.pickle_tree.specs.Tree as tree
 use Rattle.pickle_types.specs.declared.integer.IntegerType.{IntegerType}
 use Rattle.pickle_types.specs.Types.{Term, Bound, ByCount, BySize, PokeType, ArrayOf, StructOf, IntegralOf, UnionOf, Fields, FieldThen, Parts, PartThen}
 use Rattle.pickle_types.specs.Scopes.{is_named}
-use Rattle.pickle_map.specs.declared.extent.Extent.{Extent}
-use Rattle.pickle_map.specs.Numbers.{number_at}
-use Rattle.pickle_map.specs.Values.{Naming, Value, end_of, Levels, pushed, opened}
-use Rattle.pickle_map.specs.Clauses.{FaultAt, constraint, condition, field_start, extent_of, is_due, misses}
-use Rattle.pickle_map.specs.Means.{ordered, number_type, width_in, first_digits, NumberMeans, Means, Elements, PartMeans}
+use Rattle.pickle_meaning.specs.declared.extent.Extent.{Extent}
+use Rattle.pickle_meaning.specs.Numbers.{number_at}
+use Rattle.pickle_meaning.specs.Values.{Naming, Value, end_of, Levels, pushed, opened}
+use Rattle.pickle_meaning.specs.Clauses.{FaultAt, constraint, condition, field_start, extent_of, is_due, misses}
+use Rattle.pickle_meaning.specs.Means.{ordered, number_type, width_in, first_digits, NumberMeans, Means, Elements, PartMeans}
 
 -- the fields that are mapped so far and may be named, the innermost last: each by its name, with its value or absent
 abbrev pub Scope : Type 0

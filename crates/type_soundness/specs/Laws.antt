@@ -6,9 +6,9 @@ use Rattle.pickle_types.specs.Scopes.{Visible}
 use Rattle.pickle_types.specs.Names.{Names}
 use Rattle.pickle_types.specs.Expressions.{Sort}
 use Rattle.pickle_types.specs.WellTyped.{HasSort}
-use Rattle.pickle_map.specs.declared.faults.MapFaultKind.{MapFaultKind}
-use Rattle.pickle_map.specs.Values.{Levels}
-use Rattle.pickle_map.specs.Evaluation.{Operand, Evaluation, evaluation}
+use Rattle.pickle_meaning.specs.declared.faults.MapFaultKind.{MapFaultKind}
+use Rattle.pickle_meaning.specs.Values.{Levels}
+use Rattle.pickle_meaning.specs.Evaluation.{Operand, Evaluation, evaluation}
 use Rattle.type_soundness.specs.Sorts.{IsOutcome, LevelsFit}
 use Rattle.type_soundness.specs.Derivations.{Yields}
 

@@ -12,12 +12,12 @@ use Rattle.pickle_types.specs.Expressions.{Sort, Typed}
 use Rattle.pickle_types.specs.WellTyped.{HasSort, Declares}
 use Rattle.pickle_types.specs.WellTyped as rules
 use Rattle.pickle_types.specs.TypeTable.{types_of, type_named, IsTypeFound}
-use Rattle.pickle_map.specs.declared.faults.MapFaultKind.{MapFaultKind}
-use Rattle.pickle_map.specs.Values.{Value, Levels, level_at, no_values}
-use Rattle.pickle_map.specs.Evaluation.{evaluation}
-use Rattle.pickle_map.specs.Clauses.{FaultAt}
-use Rattle.pickle_map.specs.Means.{Means}
-use Rattle.pickle_map.specs.Fits.{Fits}
+use Rattle.pickle_meaning.specs.declared.faults.MapFaultKind.{MapFaultKind}
+use Rattle.pickle_meaning.specs.Values.{Value, Levels, level_at, no_values}
+use Rattle.pickle_meaning.specs.Evaluation.{evaluation}
+use Rattle.pickle_meaning.specs.Clauses.{FaultAt}
+use Rattle.pickle_meaning.specs.Means.{Means}
+use Rattle.pickle_meaning.specs.Fits.{Fits}
 use Rattle.pickle_map.specs.Mapped.{FaultMeans}
 use Rattle.type_soundness.specs.Sorts.{IsOfType, LevelsFit}
 use Rattle.type_soundness.specs.Laws.{IsSafe}

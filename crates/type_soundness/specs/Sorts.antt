@@ -3,11 +3,11 @@ use Rattle.std.specs.Prelude.{◌≡◌, ℕ, ◌+◌, ◌-◌, ◌<◌, List, [
 use Rattle.pickle_types.specs.Types.{PokeType, IntegerOf, OffsetOf, StringOf, ArrayOf, StructOf, IntegralOf, UnionOf, Fields, NoFields, FieldThen, Parts, NoParts, PartThen}
 use Rattle.pickle_types.specs.Scopes.{Visible}
 use Rattle.pickle_types.specs.Expressions.{Sort, TextLiteral, Typed}
-use Rattle.pickle_map.specs.declared.faults.MapFaultKind.{MapFaultKind}
-use Rattle.pickle_map.specs.declared.faults.MapFaultKind.TheVariants as fault
-use Rattle.pickle_map.specs.Values.{Naming, Label, IntegerLabel, OffsetLabel, TextLabel, ArrayLabel, StructLabel, UnionLabel, Value, label_of, members_of, Members, NoMembers, MemberThen, AbsentThen, Levels, level_at}
-use Rattle.pickle_map.specs.Means.{field_names, part_names}
-use Rattle.pickle_map.specs.Evaluation.{Operand, AtPath, Plain}
+use Rattle.pickle_meaning.specs.declared.faults.MapFaultKind.{MapFaultKind}
+use Rattle.pickle_meaning.specs.declared.faults.MapFaultKind.TheVariants as fault
+use Rattle.pickle_meaning.specs.Values.{Naming, Label, IntegerLabel, OffsetLabel, TextLabel, ArrayLabel, StructLabel, UnionLabel, Value, label_of, members_of, Members, NoMembers, MemberThen, AbsentThen, Levels, level_at}
+use Rattle.pickle_meaning.specs.Means.{field_names, part_names}
+use Rattle.pickle_meaning.specs.Evaluation.{Operand, AtPath, Plain}
 
 -- members that are all there, each as it should be
 abbrev pub AllThere : (Value → Type 0) → Members → Type 0

@@ -1,8 +1,8 @@
 -- Faults that a mapping has by the language's own rules.
 use Rattle.std.specs.Prelude.{ℕ, Err}
-use Rattle.pickle_map.specs.declared.faults.MapFaultKind.{MapFaultKind}
-use Rattle.pickle_map.specs.declared.faults.MapFaultKind.TheVariants as fault
-use Rattle.pickle_map.specs.Clauses.{FaultAt}
+use Rattle.pickle_meaning.specs.declared.faults.MapFaultKind.{MapFaultKind}
+use Rattle.pickle_meaning.specs.declared.faults.MapFaultKind.TheVariants as fault
+use Rattle.pickle_meaning.specs.Clauses.{FaultAt}
 use Rattle.type_soundness.specs.Derivations.{Yields}
 use Rattle.type_soundness.specs.Evaluated.{Evaluated}
 

@@ -1,7 +1,7 @@
 -- Values and their texts in JSON, worked out by hand, against the definition.
 use Rattle.std.proofs.Common.{◌≡◌, ℕ, pos, negsuc, refl, false, true, codes, [], ◌∷◌, Some, None}
 use Rattle.std.specs.Fmt.{digits}
-use Rattle.pickle_map.specs.Values.{Value, Mapped, Label, IntegerLabel, OffsetLabel, TextLabel, ArrayLabel, StructLabel, UnionLabel, NoMembers, MemberThen, AbsentThen}
+use Rattle.pickle_meaning.specs.Values.{Value, Mapped, Label, IntegerLabel, OffsetLabel, TextLabel, ArrayLabel, StructLabel, UnionLabel, NoMembers, MemberThen, AbsentThen}
 use Rattle.value_text.specs.JsonText.{json_line, json_string, json_offset}
 
 -- a value without members

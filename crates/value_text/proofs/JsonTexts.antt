@@ -3,9 +3,9 @@ use Rattle.std.proofs.Common.{◌≡◌, ℕ, add-one, ◌+◌, ◌<◌, ◌≤�
 use Rattle.std.specs.Fmt.{signed_decimal}
 use Rattle.std.specs.List.{prefix_len}
 use Rattle.std.proofs.lemmas.List.{append_assoc, append-nil, take_all}
-use Rattle.pickle_map.specs.declared.value.Kind.TheVariants as kind
-use Rattle.pickle_map.specs.Values.{Value, Mapped, IntegerLabel, OffsetLabel, TextLabel, ArrayLabel, StructLabel, UnionLabel, Members, label_of, member_count, member_at}
-use Rattle.pickle_map.specs.Labels.{kind_of, number_of, unit_of, bytes_of}
+use Rattle.value_store.specs.declared.value.Kind.TheVariants as kind
+use Rattle.pickle_meaning.specs.Values.{Value, Mapped, IntegerLabel, OffsetLabel, TextLabel, ArrayLabel, StructLabel, UnionLabel, Members, label_of, member_count, member_at}
+use Rattle.value_store.specs.Labels.{kind_of, number_of, unit_of, bytes_of}
 use Rattle.value_text.specs.Gathered.{Gathers}
 use Rattle.value_text.specs.ValueText.{spelled, is_plain, comma}
 use Rattle.value_text.specs.JsonText.{json_text, json_members, no_key, json_offset, json_string, json_escape}

@@ -4,8 +4,8 @@ use Rattle.std.specs.Prelude.{unsigned_abs}
 use Rattle.std.specs.Fmt.{signed_decimal}
 use Rattle.std.proofs.lemmas.List.{append-nil, append_assoc}
 use Rattle.std.proofs.lemmas.Option.{unwrap_or-slice_get}
-use Rattle.pickle_map.specs.Values.{Naming, Label, IntegerLabel, OffsetLabel, TextLabel, ArrayLabel, StructLabel, UnionLabel, Value, Mapped, Members, NoMembers, MemberThen, AbsentThen, member_count}
-use Rattle.pickle_map.specs.Labels.{member_name}
+use Rattle.pickle_meaning.specs.Values.{Naming, Label, IntegerLabel, OffsetLabel, TextLabel, ArrayLabel, StructLabel, UnionLabel, Value, Mapped, Members, NoMembers, MemberThen, AbsentThen, member_count}
+use Rattle.value_store.specs.Labels.{member_name}
 use Rattle.value_text.specs.JsonText.{json_text, json_members, json_offset, json_string, key_text, key_before, no_key}
 use Rattle.value_text.specs.Json.{no_blank, one_blank, line_feed, ReadsString, ReadsValue, number_value, string_value, empty_list, list, empty_object, object, Reads, json, ReadsElements, last_element, element, ReadsEntry, entry, ReadsEntries, last_entry, one_entry}
 use Rattle.value_text.specs.JsonValue.{Json, JsonList, JsonObject, Elements, NoElements, ElementThen, Entries, NoEntries, EntryThen, whole_number, offset_json, key_of, json_of, elements_of, entries_of}

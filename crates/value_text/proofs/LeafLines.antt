@@ -2,7 +2,7 @@
 use Rattle.std.proofs.Common.{◌≡◌, ◌∙◌, ℕ, suc, ◌+◌, List, [], ◌++◌, Some, inl, inr, sym, ap, subst, arith}
 use Rattle.std.proofs.lemmas.Bool.{cases_Bool}
 use Rattle.std.proofs.lemmas.List.{append-nil, append_assoc}
-use Rattle.pickle_map.specs.Values.{Value, Mapped, Members, NoMembers, MemberThen, AbsentThen, label_of, members_of, member_at}
+use Rattle.pickle_meaning.specs.Values.{Value, Mapped, Members, NoMembers, MemberThen, AbsentThen, label_of, members_of, member_at}
 use Rattle.value_text.specs.PathText.{step_text, Leads, here, further}
 use Rattle.value_text.specs.LinesText.{is_parted, leaves_text, branches_text}
 use Rattle.value_text.specs.Laws.{LinesOf, no_line, one_line, LinesNameParts}

@@ -1,9 +1,9 @@
 -- Laws of the lines of parts that have no parts.
 use Rattle.std.proofs.Common.{◌≡◌, ℕ, add-one, ◌+◌, ◌<◌, ◌≤◌, List, [], ◌++◌, Option, Some, None, true, false, refl, sym, ◌∙◌, ap, subst}
 use Rattle.std.specs.Option.{option_map, is_some}
-use Rattle.pickle_map.specs.declared.value.ValueRef.{ValueRef}
-use Rattle.pickle_map.specs.Refs.{value_shown}
-use Rattle.pickle_map.specs.Values.{Value, Mapped, Label, Members, label_of, members_of, member_count, member_at}
+use Rattle.value_store.specs.declared.value.ValueRef.{ValueRef}
+use Rattle.value_store.specs.Refs.{value_shown}
+use Rattle.pickle_meaning.specs.Values.{Value, Mapped, Label, Members, label_of, members_of, member_count, member_at}
 use Rattle.value_text.specs.Gathered.{Gathers}
 use Rattle.value_text.specs.PathText.{step_text}
 use Rattle.value_text.specs.LinesText.{leaf_line, any_present, is_parted, leaves_text, branches_text}

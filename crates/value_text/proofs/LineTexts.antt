@@ -1,10 +1,10 @@
 -- Laws of the lines of values.
 use Rattle.std.proofs.Common.{◌≡◌, ◌≢◌, ℕ, suc, add-one, ◌+◌, ◌-◌, ◌*◌, ◌<◌, ◌≤◌, List, [], ◌++◌, Option, Some, None, codes, refl, sym, ◌∙◌, ap, subst, replicate, take, arith}
 use Rattle.std.proofs.lemmas.List.{append_assoc, replicate-append-replicate, take-replicate}
-use Rattle.pickle_map.specs.declared.value.Kind.{Kind}
-use Rattle.pickle_map.specs.declared.value.Kind.TheVariants as kind
-use Rattle.pickle_map.specs.Values.{Value, Mapped, Label, IntegerLabel, OffsetLabel, TextLabel, ArrayLabel, StructLabel, UnionLabel, Members, member_count, member_at}
-use Rattle.pickle_map.specs.Labels.{kind_of, number_of, unit_of, bytes_of, name_of, member_name}
+use Rattle.value_store.specs.declared.value.Kind.{Kind}
+use Rattle.value_store.specs.declared.value.Kind.TheVariants as kind
+use Rattle.pickle_meaning.specs.Values.{Value, Mapped, Label, IntegerLabel, OffsetLabel, TextLabel, ArrayLabel, StructLabel, UnionLabel, Members, member_count, member_at}
+use Rattle.value_store.specs.Labels.{kind_of, number_of, unit_of, bytes_of, name_of, member_name}
 use Rattle.value_text.specs.Gathered.{Gathers}
 use Rattle.value_text.specs.ValueText.{integer_text, offset_text, string_text, title_text, name_text}
 use Rattle.value_text.specs.PartText.{type_of}

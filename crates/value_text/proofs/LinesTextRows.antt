@@ -1,7 +1,7 @@
 -- Values and the lines of their parts that have no parts, worked out by hand, against the definition.
 use Rattle.std.proofs.Common.{◌≡◌, ℕ, ◌+◌, pos, refl, false, codes, [], ◌∷◌, Some, None}
 use Rattle.std.specs.Fmt.{digits}
-use Rattle.pickle_map.specs.Values.{Value, Mapped, IntegerLabel, TextLabel, ArrayLabel, StructLabel, UnionLabel, NoMembers, MemberThen, AbsentThen}
+use Rattle.pickle_meaning.specs.Values.{Value, Mapped, IntegerLabel, TextLabel, ArrayLabel, StructLabel, UnionLabel, NoMembers, MemberThen, AbsentThen}
 use Rattle.value_text.specs.LinesText.{part_lines}
 use Rattle.value_text.specs.ValueText.{integer_text, string_text}
 

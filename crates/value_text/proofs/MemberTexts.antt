@@ -2,9 +2,9 @@
 use Rattle.std.proofs.Common.{◌≡◌, ℕ, zero, suc, add-one, ◌+◌, ◌<◌, ◌≤◌, List, [], ◌++◌, Option, Some, None, Bool, false, codes, refl, sym, ◌∙◌, ap, subst, arith}
 use Rattle.std.proofs.lemmas.List.{append_assoc}
 use Rattle.value_text.specs.Gathered.{Gathers}
-use Rattle.pickle_map.specs.declared.value.Kind.TheVariants as kind
-use Rattle.pickle_map.specs.Values.{Value, Mapped, Label, IntegerLabel, OffsetLabel, TextLabel, ArrayLabel, StructLabel, UnionLabel, Members, NoMembers, MemberThen, AbsentThen, label_of, member_count, member_at}
-use Rattle.pickle_map.specs.Labels.{kind_of, number_of, unit_of, bytes_of, member_name}
+use Rattle.value_store.specs.declared.value.Kind.TheVariants as kind
+use Rattle.pickle_meaning.specs.Values.{Value, Mapped, Label, IntegerLabel, OffsetLabel, TextLabel, ArrayLabel, StructLabel, UnionLabel, Members, NoMembers, MemberThen, AbsentThen, label_of, member_count, member_at}
+use Rattle.value_store.specs.Labels.{kind_of, number_of, unit_of, bytes_of, member_name}
 use Rattle.value_text.specs.ValueText.{value_text, members_text, name_text, comma, integer_text, offset_text, string_text}
 use Rattle.value_text.specs.PartText.{type_of, array_text, titled_text, member_text}
 use Rattle.value_text.proofs.Gathered.{Told, told_all}

@@ -1,8 +1,8 @@
 -- Laws of the paths of parts.
 use Rattle.std.proofs.Common.{◌≡◌, ◌≢◌, ℕ, ◌+◌, ◌<◌, List, [], ◌∷◌, ◌++◌, length, refl, arith, length-append, codes, decimal}
-use Rattle.pickle_map.specs.declared.value.Kind.TheVariants as kind
-use Rattle.pickle_map.specs.Values.{Label, IntegerLabel, OffsetLabel, TextLabel, ArrayLabel, StructLabel, UnionLabel}
-use Rattle.pickle_map.specs.Labels.{kind_of, member_name}
+use Rattle.value_store.specs.declared.value.Kind.TheVariants as kind
+use Rattle.pickle_meaning.specs.Values.{Label, IntegerLabel, OffsetLabel, TextLabel, ArrayLabel, StructLabel, UnionLabel}
+use Rattle.value_store.specs.Labels.{kind_of, member_name}
 use Rattle.value_text.specs.declared.print.steps.Step.{Step}
 use Rattle.value_text.specs.declared.print.steps.Step.TheVariants.{Element, Field, Nameless}
 use Rattle.value_text.specs.PathText.{field_step, step_text, path_text}

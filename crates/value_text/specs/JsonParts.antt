@@ -1,8 +1,8 @@
 -- The text of a value in JSON, in the parts that are written one after the other.
 use Rattle.std.specs.Prelude.{ℕ, Bool, true, List, ◌++◌, codes}
-use Rattle.pickle_map.specs.Values.{Value, label_of, members_of}
-use Rattle.pickle_map.specs.declared.value.ValueRef.{ValueRef}
-use Rattle.pickle_map.specs.Refs.{value_shown}
+use Rattle.pickle_meaning.specs.Values.{Value, label_of, members_of}
+use Rattle.value_store.specs.declared.value.ValueRef.{ValueRef}
+use Rattle.value_store.specs.Refs.{value_shown}
 use Rattle.value_text.specs.ValueText.{comma}
 use Rattle.value_text.specs.JsonText.{json_text, json_members, json_string, place_key, key_before, no_key}
 

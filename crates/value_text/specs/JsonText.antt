@@ -1,8 +1,8 @@
 -- The text that a value is printed as in JSON.
 use Rattle.std.specs.Prelude.{ℕ, ℤ, suc, ◌/◌, ◌%◌, Bool, true, false, List, [], ◌∷◌, ◌++◌, Some, None, ◌==◌, if◌then◌else◌, codes, decimal}
 use Rattle.std.specs.Fmt.{signed_decimal}
-use Rattle.pickle_map.specs.Values.{Naming, Label, IntegerLabel, OffsetLabel, TextLabel, ArrayLabel, StructLabel, UnionLabel, Value, Mapped, Members, NoMembers, MemberThen, AbsentThen}
-use Rattle.pickle_map.specs.Labels.{member_name}
+use Rattle.pickle_meaning.specs.Values.{Naming, Label, IntegerLabel, OffsetLabel, TextLabel, ArrayLabel, StructLabel, UnionLabel, Value, Mapped, Members, NoMembers, MemberThen, AbsentThen}
+use Rattle.value_store.specs.Labels.{member_name}
 use Rattle.text_forms.specs.HexDigits.{hex_digit}
 use Rattle.value_text.specs.ValueText.{spelled, comma}
 

@@ -1,7 +1,7 @@
 -- JSON values as data, and the one that a mapped value stands for.
 use Rattle.std.specs.Prelude.{ℕ, suc, ℤ, pos, List, Some, None, codes, decimal}
-use Rattle.pickle_map.specs.Values.{Naming, Label, IntegerLabel, OffsetLabel, TextLabel, ArrayLabel, StructLabel, UnionLabel, Value, Mapped, Members, NoMembers, MemberThen, AbsentThen}
-use Rattle.pickle_map.specs.Labels.{member_name}
+use Rattle.pickle_meaning.specs.Values.{Naming, Label, IntegerLabel, OffsetLabel, TextLabel, ArrayLabel, StructLabel, UnionLabel, Value, Mapped, Members, NoMembers, MemberThen, AbsentThen}
+use Rattle.value_store.specs.Labels.{member_name}
 
 mutual
   pub data Json : Type 0 where

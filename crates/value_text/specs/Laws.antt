@@ -1,6 +1,6 @@
 -- The laws of the texts of values.
 use Rattle.std.specs.Prelude.{◌≡◌, ℕ, false, List, [], ◌++◌}
-use Rattle.pickle_map.specs.Values.{Value, label_of, members_of}
+use Rattle.pickle_meaning.specs.Values.{Value, label_of, members_of}
 use Rattle.value_text.specs.Json.{Reads, IsJson}
 use Rattle.value_text.specs.JsonValue.{Json, json_of}
 use Rattle.value_text.specs.JsonText.{json_line}

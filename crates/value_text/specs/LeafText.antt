@@ -1,8 +1,8 @@
 -- The lines of the parts that have no parts, as they are written one after the other.
 use Rattle.std.specs.Prelude.{ℕ, List, ◌++◌}
-use Rattle.pickle_map.specs.declared.value.ValueRef.{ValueRef}
-use Rattle.pickle_map.specs.Refs.{value_shown}
-use Rattle.pickle_map.specs.Values.{label_of, members_of}
+use Rattle.value_store.specs.declared.value.ValueRef.{ValueRef}
+use Rattle.value_store.specs.Refs.{value_shown}
+use Rattle.pickle_meaning.specs.Values.{label_of, members_of}
 use Rattle.value_text.specs.declared.print.steps.Step.{Step}
 use Rattle.value_text.specs.declared.print.steps.Steps.{Steps}
 use Rattle.value_text.specs.LinesText.{leaf_line, leaves_text, branches_text}

@@ -1,7 +1,7 @@
 -- The lines of a value in the parts that are written one after the other.
 use Rattle.std.specs.Prelude.{ℕ, ◌+◌, List, [], ◌++◌, if◌then◌else◌, codes}
-use Rattle.pickle_map.specs.Values.{Label, Value, label_of, members_of, member_count}
-use Rattle.pickle_map.specs.Labels.{kind_of}
+use Rattle.pickle_meaning.specs.Values.{Label, Value, label_of, members_of, member_count}
+use Rattle.value_store.specs.Labels.{kind_of}
 use Rattle.value_text.specs.TreeText.{indent_text, prefix_text, head_text, has_parts, parts_text}
 
 -- what stands before a head

@@ -1,7 +1,7 @@
 -- The text that a value is printed as with a line for each part that has no parts.
 use Rattle.std.specs.Prelude.{ℕ, suc, ◌-◌, Bool, true, false, ◌&&◌, List, [], ◌++◌, if◌then◌else◌, codes, decimal}
-use Rattle.pickle_map.specs.Values.{Label, Value, Mapped, Members, NoMembers, MemberThen, AbsentThen, start_of, end_of}
-use Rattle.pickle_map.specs.Labels.{kind_of}
+use Rattle.pickle_meaning.specs.Values.{Label, Value, Mapped, Members, NoMembers, MemberThen, AbsentThen, start_of, end_of}
+use Rattle.value_store.specs.Labels.{kind_of}
 use Rattle.value_text.specs.PathText.{step_text, path_text}
 use Rattle.value_text.specs.TreeText.{has_parts}
 use Rattle.value_text.specs.ValueText.{value_text}

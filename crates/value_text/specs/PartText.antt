@@ -1,8 +1,8 @@
 -- The text of a value in the parts that are written one after the other.
 use Rattle.std.specs.Prelude.{ℕ, Bool, true, List, ◌++◌, codes}
 use Rattle.pickle_types.specs.declared.integer.IntegerType.{IntegerType}
-use Rattle.pickle_map.specs.Values.{Naming, Label, ArrayLabel, Value, label_of, members_of}
-use Rattle.pickle_map.specs.Labels.{name_of, width_of, signed_of}
+use Rattle.pickle_meaning.specs.Values.{Naming, Label, ArrayLabel, Value, label_of, members_of}
+use Rattle.value_store.specs.Labels.{name_of, width_of, signed_of}
 use Rattle.value_text.specs.ValueText.{value_text, members_text, title_text, name_text, comma}
 
 -- the type of an integer, or of an offset's magnitude

@@ -1,7 +1,7 @@
 -- The path of a part of a value: the steps that lead to it.
 use Rattle.std.specs.Prelude.{◌≡◌, ℕ, List, [], ◌∷◌, ◌++◌, Some, None, codes, decimal}
-use Rattle.pickle_map.specs.Values.{Naming, Label, ArrayLabel, Value, label_of, members_of, member_at}
-use Rattle.pickle_map.specs.Labels.{member_name}
+use Rattle.pickle_meaning.specs.Values.{Naming, Label, ArrayLabel, Value, label_of, members_of, member_at}
+use Rattle.value_store.specs.Labels.{member_name}
 use Rattle.text_forms.specs.Brackets.{in_brackets}
 
 -- the step to a field or an alternative: its name, or where it has none its place among the declared fields, from 0

@@ -1,6 +1,6 @@
 -- The whole output for a value, in each mode.
 use Rattle.std.specs.Prelude.{ℕ, List}
-use Rattle.pickle_map.specs.Values.{Value}
+use Rattle.pickle_meaning.specs.Values.{Value}
 use Rattle.text_forms.specs.declared.mode.Mode.{Mode}
 use Rattle.text_forms.specs.declared.mode.Mode.TheVariants.{Flat, Tree, Json, Lines}
 use Rattle.value_text.specs.ValueText.{flat_text}

@@ -1,6 +1,6 @@
 -- Values whose numbers are below 2^64 and whose bytes are below 256, as those of mapped values are.
 use Rattle.std.specs.Prelude.{ℕ, ◌≤◌, ◌^◌, ◌<◌, List, [], ◌∷◌, Some, None, unsigned_abs}
-use Rattle.pickle_map.specs.Values.{Naming, Label, IntegerLabel, OffsetLabel, TextLabel, ArrayLabel, StructLabel, UnionLabel, Value, Mapped, Members, NoMembers, MemberThen, AbsentThen, member_count}
+use Rattle.pickle_meaning.specs.Values.{Naming, Label, IntegerLabel, OffsetLabel, TextLabel, ArrayLabel, StructLabel, UnionLabel, Value, Mapped, Members, NoMembers, MemberThen, AbsentThen, member_count}
 
 -- each is below 256
 abbrev pub AreBytes : List ℕ → Type 0

@@ -1,9 +1,9 @@
 -- The text that a value is printed as over lines: a line for each value, and below it those of its parts.
 use Rattle.std.specs.Prelude.{ℕ, suc, ◌+◌, ◌*◌, Bool, true, false, List, [], ◌++◌, replicate, if◌then◌else◌, codes, decimal}
-use Rattle.pickle_map.specs.declared.value.Kind.{Kind}
-use Rattle.pickle_map.specs.declared.value.Kind.TheVariants.{Integer, Offset, Text, Array, Struct, Union}
-use Rattle.pickle_map.specs.Values.{Label, IntegerLabel, OffsetLabel, TextLabel, ArrayLabel, StructLabel, UnionLabel, Value, Mapped, Members, NoMembers, MemberThen, AbsentThen, member_count}
-use Rattle.pickle_map.specs.Labels.{kind_of, member_name}
+use Rattle.value_store.specs.declared.value.Kind.{Kind}
+use Rattle.value_store.specs.declared.value.Kind.TheVariants.{Integer, Offset, Text, Array, Struct, Union}
+use Rattle.pickle_meaning.specs.Values.{Label, IntegerLabel, OffsetLabel, TextLabel, ArrayLabel, StructLabel, UnionLabel, Value, Mapped, Members, NoMembers, MemberThen, AbsentThen, member_count}
+use Rattle.value_store.specs.Labels.{kind_of, member_name}
 use Rattle.text_forms.specs.Brackets.{in_brackets}
 use Rattle.value_text.specs.ValueText.{integer_text, offset_text, string_text, title_text, name_text}
 

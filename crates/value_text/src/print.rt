@@ -15,7 +15,7 @@ mod tree;
 
 ghost use Rattle.std.specs.Prelude.{◌++◌, OnOk, OnErr};
 ghost use Rattle.std.specs.Io.KnownBytes.{Appends};
-ghost use Rattle.pickle_map.specs.Refs.{value_shown};
+ghost use Rattle.value_store.specs.Refs.{value_shown};
 ghost use Rattle.value_text.specs.Written.{AppendsPart};
 ghost use Rattle.value_text.specs.Gathered.{Gathers};
 ghost use Rattle.value_text.specs.Printed.{printed};
@@ -26,7 +26,7 @@ use flat::put_flat;
 use json::put_json;
 use line::Line;
 use lines::put_lines;
-use pickle_map::ValueRef;
+use value_store::ValueRef;
 use std::io::Write;
 use tree::put_tree;
 

@@ -3,15 +3,15 @@
 ghost use Rattle.std.specs.Prelude.{◌≡◌, ◌<◌, ◌≤◌, ◌^◌};
 ghost use Rattle.pickle_types.specs.Table.{optional_term, bound_of};
 ghost use Rattle.pickle_types.specs.Sound.{IsSoundClause, IsSoundBound};
-ghost use Rattle.pickle_map.specs.Clauses.{constraint, condition, field_start, extent_of, clause_steps, label_steps, bound_steps};
+ghost use Rattle.pickle_meaning.specs.Clauses.{constraint, condition, field_start, extent_of, clause_steps, label_steps, bound_steps};
 ghost use Rattle.pickle_map.specs.Settles.{Settles};
-ghost use Rattle.pickle_map.specs.Shown.{kept};
+ghost use Rattle.value_store.specs.Shown.{kept};
 
-use crate::extent::Extent;
+use pickle_meaning::extent::Extent;
 use crate::mapper::clauses;
 use crate::mapper::stop::Stop;
 use crate::mapper::watch::{Clause, Watch};
-use crate::store::Store;
+use value_store::store::Store;
 use bit_space::Meter;
 use pickle_types::view::{Extent as Bound, Node, Resolved};
 

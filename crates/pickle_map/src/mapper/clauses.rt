@@ -3,23 +3,23 @@
 ghost use Rattle.std.specs.Prelude.{◌≡◌, ℕ, ◌+◌, ◌<◌, ◌≤◌, ◌^◌, Ok, IfOk};
 ghost use Rattle.pickle_types.specs.Table.{term_of, optional_term, bound_of};
 ghost use Rattle.pickle_types.specs.Sound.{IsSoundTerm, IsSoundClause, IsSoundBound};
-ghost use Rattle.pickle_map.specs.Values.{Label};
-ghost use Rattle.pickle_map.specs.Evaluation.{evaluation, truth_of};
-ghost use Rattle.pickle_map.specs.Clauses.{constraint, condition, field_start, extent_of, clause_steps, label_steps, bound_steps, satisfied, kind_at, told_at, behind_start, count_of, size_of};
-ghost use Rattle.pickle_map.specs.Contents.{IsHeld, IsSoundContent};
+ghost use Rattle.pickle_meaning.specs.Values.{Label};
+ghost use Rattle.pickle_meaning.specs.Evaluation.{evaluation, truth_of};
+ghost use Rattle.pickle_meaning.specs.Clauses.{constraint, condition, field_start, extent_of, clause_steps, label_steps, bound_steps, satisfied, kind_at, told_at, behind_start, count_of, size_of};
+ghost use Rattle.pickle_evaluation.specs.Contents.{IsHeld, IsSoundContent};
 ghost use Rattle.pickle_map.specs.Settles.{Ends, Settles, Sees, natural};
-ghost use Rattle.pickle_map.specs.Shown.{kept};
+ghost use Rattle.value_store.specs.Shown.{kept};
 
-use crate::evaluate::comparison::comparison;
-use crate::evaluate::content::{Content, truth_of};
-use crate::evaluate::expression::look;
-use crate::evaluate::integers::Scalar;
-use crate::evaluate::offsets::bits_in;
-use crate::evaluate::operand::Unvalued;
-use crate::extent::Extent;
-use crate::faults::MapFaultKind;
+use pickle_evaluation::comparison::comparison;
+use pickle_evaluation::content::{Content, truth_of};
+use pickle_evaluation::expression::look;
+use value_store::scalar::Scalar;
+use pickle_evaluation::offsets::bits_in;
+use pickle_evaluation::operand::Unvalued;
+use pickle_meaning::extent::Extent;
+use pickle_meaning::faults::MapFaultKind;
 use crate::mapper::stop::Stop;
-use crate::store::Store;
+use value_store::store::Store;
 use bit_space::Meter;
 use pickle_types::view::{Extent as Bound, Node, Resolved};
 

@@ -2,14 +2,14 @@
 
 ghost use Rattle.std.specs.Prelude.{◌≡◌, ℕ, ◌+◌, ◌<◌, ◌≤◌, ◌^◌, Some, None, length, OnOk, OnErr};
 ghost use Rattle.pickle_types.specs.Table.{IsWidth};
-ghost use Rattle.pickle_map.specs.Means.{integer_value, offset_value, array_value, struct_value, value_of};
-ghost use Rattle.pickle_map.specs.Values.{pushed, outer_of, UnionLabel};
-ghost use Rattle.pickle_map.specs.Room.{Exceeds};
-ghost use Rattle.pickle_map.specs.Slots.{levels};
-ghost use Rattle.pickle_map.specs.Shown.{kept, title_at, names_at, name_at};
+ghost use Rattle.pickle_meaning.specs.Means.{integer_value, offset_value, array_value, struct_value, value_of};
+ghost use Rattle.pickle_meaning.specs.Values.{pushed, outer_of, UnionLabel};
+ghost use Rattle.value_store.specs.Exceeding.{Exceeds};
+ghost use Rattle.value_store.specs.Slots.{levels};
+ghost use Rattle.value_store.specs.Shown.{kept, title_at, names_at, name_at};
 
-use crate::evaluate::ranges::with_sign;
-use crate::store::Store;
+use value_store::ranges::with_sign;
+use value_store::store::Store;
 use bit_space::Memory;
 use pickle_types::integer::IntegerType;
 use pickle_types::view::Node;

@@ -5,7 +5,7 @@ ghost use Rattle.bit_space.specs.SpaceView.{known_bits, Keeps};
 ghost use Rattle.bit_space.specs.Reading.{MayRead};
 ghost use Rattle.pickle_map.specs.Framed.{StopsReading, refusal_at};
 
-use crate::faults::MapFaultKind;
+use pickle_meaning::faults::MapFaultKind;
 use crate::mapper::stop::Stop;
 use bit_space::{BitFault, Meter, Order, Space, read_number};
 

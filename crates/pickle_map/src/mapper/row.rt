@@ -4,19 +4,19 @@ ghost use Rattle.std.specs.Prelude.{◌≡◌, ◌*◌, ◌<◌, ◌≤◌, [], 
 ghost use Rattle.pickle_types.specs.Table.{IsTable, type_of};
 ghost use Rattle.pickle_map.specs.Calls.{as_array_level, Closes, PacksRow};
 ghost use Rattle.pickle_map.specs.Framed.{Frame, IsEnd, DeviceFailed, LeavesLevel};
-ghost use Rattle.pickle_map.specs.Levels as stored;
+ghost use Rattle.value_store.specs.Levels as stored;
 ghost use Rattle.pickle_map.specs.Row.{PacksAs};
-ghost use Rattle.pickle_map.specs.Shown.{kept};
-ghost use Rattle.pickle_map.specs.Slots.{levels, IsPacking};
-ghost use Rattle.pickle_map.specs.Values.{outer_of};
+ghost use Rattle.value_store.specs.Shown.{kept};
+ghost use Rattle.value_store.specs.Slots.{levels, IsPacking};
+ghost use Rattle.pickle_meaning.specs.Values.{outer_of};
 
-use crate::extent::Extent;
-use crate::faults::MapFaultKind;
+use pickle_meaning::extent::Extent;
+use pickle_meaning::faults::MapFaultKind;
 use crate::mapper::read::read_digits;
 use crate::mapper::stop::Stop;
 use crate::mapper::watch::Watch;
-use crate::store::Store;
-use crate::store::slots::Shape;
+use value_store::store::Store;
+use value_store::store::slots::Shape;
 use bit_space::{Meter, Order, Space};
 use pickle_types::view::{Node, Shape as Type};
 

@@ -6,13 +6,13 @@ ghost use Rattle.bit_space.specs.Reading.{MayRead};
 ghost use Rattle.bit_space.specs.declared.order.Order.TheVariants.{Big};
 ghost use Rattle.pickle_map.specs.Calls.{as_text, as_text_level, Maps, Closes};
 ghost use Rattle.pickle_map.specs.Framed.{Frame, IsEnd, DeviceFailed, LeavesLevel, RefusesReading};
-ghost use Rattle.pickle_map.specs.Shown.{kept};
-ghost use Rattle.pickle_map.specs.Levels as stored;
-ghost use Rattle.pickle_map.specs.Slots.{levels, IsWriting};
+ghost use Rattle.value_store.specs.Shown.{kept};
+ghost use Rattle.value_store.specs.Levels as stored;
+ghost use Rattle.value_store.specs.Slots.{levels, IsWriting};
 
 use crate::mapper::read::refusal_at;
 use crate::mapper::stop::Stop;
-use crate::store::Store;
+use value_store::store::Store;
 use bit_space::{BitFault, Meter, Order, Space, read_number};
 use pickle_types::view::Node;
 

@@ -3,9 +3,9 @@
 ghost use Rattle.pickle_types.specs.Sound.{IsSoundTerm};
 ghost use Rattle.pickle_types.specs.Table.{term_of};
 
-use crate::extent::Extent;
+use pickle_meaning::extent::Extent;
 use crate::mapper::stop::Stop;
-use crate::store::Store;
+use value_store::store::Store;
 use pickle_types::view::{Node, Resolved};
 
 /// What stands beside the types of a pickle and is evaluated while mapping.

@@ -1,7 +1,7 @@
 //! Prints values on one line.
 ghost use Rattle.std.specs.Prelude.{◌++◌, OnOk, OnErr, codes};
 ghost use Rattle.std.specs.Option.{option_map};
-ghost use Rattle.pickle_map.specs.Refs.{value_shown};
+ghost use Rattle.value_store.specs.Refs.{value_shown};
 ghost use Rattle.value_text.specs.Written.{AppendsPart};
 ghost use Rattle.value_text.specs.Gathered.{Gathers};
 ghost use Rattle.value_text.specs.ValueText.{flat_text, value_text};
@@ -12,7 +12,7 @@ use super::name::{put_start, put_title};
 use super::number::{put_integer, put_offset, type_of};
 use super::string::put_string;
 use crate::write::WriteFault;
-use pickle_map::{Kind, ValueRef};
+use value_store::{Kind, ValueRef};
 use std::io::Write;
 
 /// Writes a value and a line feed.

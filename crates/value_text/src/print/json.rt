@@ -1,7 +1,7 @@
 //! Prints values in JSON.
 ghost use Rattle.std.specs.Prelude.{◌≡◌, ◌≤◌, ◌++◌, true, length, OnOk, OnErr};
 ghost use Rattle.std.specs.List.{prefix_len};
-ghost use Rattle.pickle_map.specs.Refs.{value_shown};
+ghost use Rattle.value_store.specs.Refs.{value_shown};
 ghost use Rattle.value_text.specs.Written.{AppendsPart};
 ghost use Rattle.value_text.specs.Gathered.{Gathers};
 ghost use Rattle.value_text.specs.ValueText.{is_plain};
@@ -14,7 +14,7 @@ use super::name::put_comma;
 use super::number::put_digits;
 use super::string::{plain_len, put_json_string};
 use crate::write::WriteFault;
-use pickle_map::{Kind, ValueRef};
+use value_store::{Kind, ValueRef};
 use std::io::Write;
 
 /// Writes a value in JSON, and a line feed.

@@ -1,7 +1,7 @@
 //! Prints values with a line for each part that has no parts.
 ghost use Rattle.std.specs.Prelude.{◌≡◌, ◌++◌, true, false, OnOk, OnErr};
-ghost use Rattle.pickle_map.specs.Values.{label_of, members_of};
-ghost use Rattle.pickle_map.specs.Refs.{value_shown};
+ghost use Rattle.pickle_meaning.specs.Values.{label_of, members_of};
+ghost use Rattle.value_store.specs.Refs.{value_shown};
 ghost use Rattle.value_text.specs.Written.{AppendsPart};
 ghost use Rattle.value_text.specs.Gathered.{Gathers};
 ghost use Rattle.value_text.specs.LinesText.{part_lines, place_cells, text_cell, is_parted, any_present};
@@ -12,7 +12,7 @@ use super::line::Line;
 use super::steps::{Step, Steps, put_path, step_to};
 use super::tree::has_parts;
 use crate::write::WriteFault;
-use pickle_map::ValueRef;
+use value_store::ValueRef;
 use std::io::Write;
 
 /// Writes a line for each part of a value that has no parts: its path, start, size and text.

@@ -2,8 +2,8 @@
 ghost use Rattle.std.specs.Prelude.{◌≡◌, ◌++◌, true, false, OnOk, OnErr, decimal};
 ghost use Rattle.std.specs.Fmt.{signed_decimal};
 ghost use Rattle.std.specs.Option.{option_map};
-ghost use Rattle.pickle_map.specs.Values.{label_of};
-ghost use Rattle.pickle_map.specs.Refs.{value_shown};
+ghost use Rattle.pickle_meaning.specs.Values.{label_of};
+ghost use Rattle.value_store.specs.Refs.{value_shown};
 ghost use Rattle.value_text.specs.Written.{AppendsPart};
 ghost use Rattle.value_text.specs.Gathered.{Gathers};
 ghost use Rattle.value_text.specs.PartText.{type_of};
@@ -13,7 +13,7 @@ use super::line::Line;
 use super::suffix::suffix_of;
 use crate::write::WriteFault;
 use itoa::Buffer;
-use pickle_map::ValueRef;
+use value_store::ValueRef;
 use pickle_types::integer::IntegerType;
 use std::io::Write;
 

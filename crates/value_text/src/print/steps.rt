@@ -1,8 +1,8 @@
 //! Prints the paths of parts.
 ghost use Rattle.std.specs.Prelude.{◌≡◌, ◌≢◌, ◌++◌, [], OnOk, OnErr, codes};
-ghost use Rattle.pickle_map.specs.Values.{label_of};
-ghost use Rattle.pickle_map.specs.Labels.{member_name};
-ghost use Rattle.pickle_map.specs.Refs.{value_shown};
+ghost use Rattle.pickle_meaning.specs.Values.{label_of};
+ghost use Rattle.value_store.specs.Labels.{member_name};
+ghost use Rattle.value_store.specs.Refs.{value_shown};
 ghost use Rattle.value_text.specs.Written.{AppendsPart};
 ghost use Rattle.value_text.specs.Gathered.{Gathers};
 ghost use Rattle.value_text.specs.PathText.{field_step, step_text, path_text};
@@ -10,7 +10,7 @@ ghost use Rattle.value_text.specs.Steps.{text_of, steps_of, steps_with};
 
 use super::line::Line;
 use crate::write::WriteFault;
-use pickle_map::{Kind, ValueRef};
+use value_store::{Kind, ValueRef};
 use std::io::Write;
 
 /// A step from a value to one of its parts.

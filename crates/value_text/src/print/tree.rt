@@ -1,8 +1,8 @@
 //! Prints values over lines, one for each value.
 ghost use Rattle.std.specs.Prelude.{◌≡◌, ◌+◌, ◌^◌, ◌≤◌, ◌++◌, OnOk, OnErr, codes};
 ghost use Rattle.std.specs.Option.{option_map};
-ghost use Rattle.pickle_map.specs.Values.{label_of};
-ghost use Rattle.pickle_map.specs.Refs.{value_shown, rank_of};
+ghost use Rattle.pickle_meaning.specs.Values.{label_of};
+ghost use Rattle.value_store.specs.Refs.{value_shown, rank_of};
 ghost use Rattle.value_text.specs.Written.{AppendsPart};
 ghost use Rattle.value_text.specs.Gathered.{Gathers};
 ghost use Rattle.value_text.specs.ValueText.{name_text};
@@ -15,7 +15,7 @@ use super::name::{put_start, put_title};
 use super::number::{put_integer, put_offset, type_of};
 use super::string::put_string;
 use crate::write::WriteFault;
-use pickle_map::{Kind, ValueRef};
+use value_store::{Kind, ValueRef};
 use std::io::Write;
 
 /// The blanks of so many levels.

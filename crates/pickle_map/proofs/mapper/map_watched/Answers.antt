@@ -2,10 +2,10 @@ use Rattle.std.proofs.Common.{◌*◌, length, option_map, sym, ap, ◌∙◌, a
 use Rattle.bit_space.specs.Bits.{bits_of}
 use Rattle.bit_space.proofs.Digits.{length-bits_of}
 use Rattle.pickle_types.specs.Table.{type_of}
-use Rattle.pickle_map.specs.Slots.{levels}
-use Rattle.pickle_map.specs.Values.{no_values}
+use Rattle.value_store.specs.Slots.{levels}
+use Rattle.pickle_meaning.specs.Values.{no_values}
 use Rattle.pickle_map.proofs.Followed.{walk_rises, followed_steps, followed_made, followed_fits, followed_size, followed_result}
-use Rattle.pickle_map.proofs.Held.{none-open}
+use Rattle.value_store.proofs.Held.{none-open}
 use Rattle.pickle_map.proofs.Keeping.{kept_within}
 use Rattle.pickle_map.proofs.Stopped.{told_there, told_limit, told_memory, told_device, told_counts, told_means, none_kept}
 use Rattle.pickle_map.proofs.mapper.map_watched.Goals as goal

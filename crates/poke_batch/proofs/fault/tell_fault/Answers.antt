@@ -1,6 +1,6 @@
 use Rattle.std.proofs.Common.{◌∙◌, ap}
 use Rattle.std.proofs.KnownBytes.{Keeps-refl}
-use Rattle.pickle_map.specs.FaultNames.{fault_kind}
+use Rattle.pickle_meaning.specs.FaultNames.{fault_kind}
 use Rattle.poke_batch.proofs.Mappings.{told_at_place}
 use Rattle.poke_batch.proofs.fault.tell_fault.Goals as goal
 

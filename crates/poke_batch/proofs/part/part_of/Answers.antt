@@ -1,6 +1,6 @@
 use Rattle.std.proofs.Common.{◌≡◌, ◌∙◌, ◌+◌, ◌∷◌, ap, drop, sym}
 use Rattle.std.proofs.lemmas.List.{drop_more}
-use Rattle.pickle_map.specs.Refs.{value_shown}
+use Rattle.value_store.specs.Refs.{value_shown}
 use Rattle.poke_batch.proofs.PartsFound.{lost}
 use Rattle.poke_batch.proofs.part.part_of.Goals as goal
 

@@ -1,5 +1,5 @@
 use Rattle.std.proofs.Common.{◌≡◌, drop}
-use Rattle.pickle_map.specs.Refs.{value_shown}
+use Rattle.value_store.specs.Refs.{value_shown}
 use Rattle.poke_batch.specs.PathParts.{part_of}
 use Rattle.poke_batch.proofs.part.part_of.Given as goal
 

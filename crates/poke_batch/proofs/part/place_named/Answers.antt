@@ -1,7 +1,7 @@
 use Rattle.std.proofs.Common.{◌≡◌, ◌∙◌, ◌<◌, ap, arith, sym, false}
-use Rattle.pickle_map.specs.Labels.{member_name}
-use Rattle.pickle_map.specs.Refs.{value_shown}
-use Rattle.pickle_map.specs.Values.{label_of, members_of, member_count}
+use Rattle.value_store.specs.Labels.{member_name}
+use Rattle.value_store.specs.Refs.{value_shown}
+use Rattle.pickle_meaning.specs.Values.{label_of, members_of, member_count}
 use Rattle.poke_batch.specs.PathParts.{is_named}
 use Rattle.poke_batch.proofs.PartsFound.{found_later}
 use Rattle.poke_batch.proofs.part.place_named.Goals as goal

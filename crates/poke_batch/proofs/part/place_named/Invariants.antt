@@ -1,6 +1,6 @@
 use Rattle.std.proofs.Common.{◌≡◌, ◌-◌}
-use Rattle.pickle_map.specs.Refs.{value_shown}
-use Rattle.pickle_map.specs.Values.{label_of, members_of, member_count}
+use Rattle.value_store.specs.Refs.{value_shown}
+use Rattle.pickle_meaning.specs.Values.{label_of, members_of, member_count}
 use Rattle.poke_batch.specs.PathParts.{place_named}
 use Rattle.poke_batch.proofs.part.place_named.Given as goal
 

@@ -1,7 +1,7 @@
 use Rattle.std.proofs.Common.{◌≤◌, ◌∙◌, subst, sym}
 use Rattle.std.proofs.lemmas.Option.{same_Some}
 use Rattle.pickle_types.specs.TypeTable.{nodes_of, type_named}
-use Rattle.pickle_map.specs.Values.{start_of, end_of, no_values}
+use Rattle.pickle_meaning.specs.Values.{start_of, end_of, no_values}
 use Rattle.poke_batch.specs.RunsUnder.{mapped_under, end_saying}
 use Rattle.poke_batch.proofs.Mappings.{fault_says, value_answers, root_given}
 use Rattle.poke_batch.proofs.Sayings.{said_says}

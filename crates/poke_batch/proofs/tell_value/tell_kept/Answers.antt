@@ -1,5 +1,5 @@
 use Rattle.std.proofs.Common.{codes, sym}
-use Rattle.pickle_map.specs.Refs.{value_shown}
+use Rattle.value_store.specs.Refs.{value_shown}
 use Rattle.poke_batch.specs.declared.status.Status.TheVariants.{Fault}
 use Rattle.poke_batch.specs.Lines.{fault_line}
 use Rattle.poke_batch.specs.PathParts.{part_at}

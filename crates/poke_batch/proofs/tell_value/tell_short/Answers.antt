@@ -1,5 +1,5 @@
 use Rattle.std.proofs.Common.{◌≤◌, ◌∙◌, codes, length, refl, subst, sym}
-use Rattle.pickle_map.specs.Refs.{value_shown}
+use Rattle.value_store.specs.Refs.{value_shown}
 use Rattle.poke_batch.specs.declared.status.Status.TheVariants.{Fault, Outside}
 use Rattle.poke_batch.specs.Lines.{fault_line, fault_at_line}
 use Rattle.value_text.specs.Printed.{printed}

@@ -1,4 +1,4 @@
-use Rattle.pickle_map.specs.Refs.{value_shown}
+use Rattle.value_store.specs.Refs.{value_shown}
 use Rattle.value_text.specs.Printed.{printed}
 use Rattle.poke_batch.proofs.Sayings.{text_says}
 use Rattle.poke_batch.proofs.UnderTerms.{free_saying}

@@ -1,6 +1,6 @@
 use Rattle.std.proofs.Common.{◌≡◌, ◌+◌, ◌∙◌, codes, arith, sym, true}
-use Rattle.pickle_map.specs.Refs.{value_shown}
-use Rattle.pickle_map.specs.Values.{end_of}
+use Rattle.value_store.specs.Refs.{value_shown}
+use Rattle.pickle_meaning.specs.Values.{end_of}
 use Rattle.poke_batch.specs.declared.status.Status.TheVariants.{Fault}
 use Rattle.poke_batch.specs.Lines.{fault_at_line}
 use Rattle.poke_batch.specs.RunsUnder.{is_left}

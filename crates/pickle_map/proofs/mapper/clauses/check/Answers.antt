@@ -1,9 +1,9 @@
 use Rattle.std.proofs.Common.{refl, arith}
 use Rattle.std.proofs.lemmas.Result.{err_from_is_err_and}
 use Rattle.pickle_types.specs.Table.{term_of}
-use Rattle.pickle_map.specs.Evaluation.{evaluation}
-use Rattle.pickle_map.specs.Clauses.{constraint}
-use Rattle.pickle_map.specs.Shown.{kept}
+use Rattle.pickle_meaning.specs.Evaluation.{evaluation}
+use Rattle.pickle_meaning.specs.Clauses.{constraint}
+use Rattle.value_store.specs.Shown.{kept}
 use Rattle.pickle_map.proofs.Settling.{truth_stops, truth_satisfies}
 use Rattle.pickle_map.proofs.mapper.clauses.check.Goals as goal
 

@@ -1,8 +1,8 @@
 use Rattle.std.proofs.lemmas.Result.{err_from_is_err_and}
 use Rattle.pickle_types.specs.Table.{term_of}
-use Rattle.pickle_map.specs.Evaluation.{evaluation}
-use Rattle.pickle_map.specs.Clauses.{count_of}
-use Rattle.pickle_map.specs.Shown.{kept}
+use Rattle.pickle_meaning.specs.Evaluation.{evaluation}
+use Rattle.pickle_meaning.specs.Clauses.{count_of}
+use Rattle.value_store.specs.Shown.{kept}
 use Rattle.pickle_map.proofs.Settling.{seen_stops, seen_ends}
 use Rattle.pickle_map.proofs.mapper.clauses.evaluated_count.Goals as goal
 

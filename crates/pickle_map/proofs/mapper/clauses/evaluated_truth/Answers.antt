@@ -1,9 +1,9 @@
 use Rattle.std.proofs.lemmas.Result.{err_from_is_err_and}
 use Rattle.pickle_types.specs.Table.{term_of}
-use Rattle.pickle_map.specs.Values.{Label}
-use Rattle.pickle_map.specs.Evaluation.{evaluation, truth_of}
-use Rattle.pickle_map.specs.Clauses.{kind_at}
-use Rattle.pickle_map.specs.Shown.{kept}
+use Rattle.pickle_meaning.specs.Values.{Label}
+use Rattle.pickle_meaning.specs.Evaluation.{evaluation, truth_of}
+use Rattle.pickle_meaning.specs.Clauses.{kind_at}
+use Rattle.value_store.specs.Shown.{kept}
 use Rattle.pickle_map.proofs.Settling.{seen_stops, seen_ends}
 use Rattle.pickle_map.proofs.mapper.clauses.evaluated_truth.Goals as goal
 

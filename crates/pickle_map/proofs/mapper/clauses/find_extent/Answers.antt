@@ -1,5 +1,5 @@
 use Rattle.std.proofs.Common.{refl, arith}
-use Rattle.pickle_map.specs.Clauses.{extent_of}
+use Rattle.pickle_meaning.specs.Clauses.{extent_of}
 use Rattle.pickle_map.proofs.mapper.clauses.find_extent.Goals as goal
 
 pub returns-in-Unbounded-clause-is : goal.returns-in-Unbounded-clause-is

@@ -1,5 +1,5 @@
 use Rattle.std.proofs.Common.{refl, arith}
-use Rattle.pickle_map.specs.Clauses.{field_start}
+use Rattle.pickle_meaning.specs.Clauses.{field_start}
 use Rattle.pickle_map.proofs.mapper.clauses.find_start.Goals as goal
 
 pub returns-in-None-clause-is : goal.returns-in-None-clause-is

@@ -1,5 +1,5 @@
 use Rattle.std.proofs.Common.{refl, arith}
-use Rattle.pickle_map.specs.Clauses.{condition}
+use Rattle.pickle_meaning.specs.Clauses.{condition}
 use Rattle.pickle_map.proofs.mapper.clauses.is_there.Goals as goal
 
 pub returns-in-None-clause-is : goal.returns-in-None-clause-is

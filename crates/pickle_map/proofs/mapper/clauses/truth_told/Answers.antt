@@ -1,10 +1,10 @@
 use Rattle.std.proofs.Common.{pos, if◌then◌else◌, refl, ◌∙◌, arith}
 use Rattle.std.proofs.lemmas.Result.{err_from_is_err_and}
 use Rattle.pickle_types.specs.Table.{term_of}
-use Rattle.pickle_map.specs.Arithmetic.{signed_type}
-use Rattle.pickle_map.specs.Values.{IntegerLabel}
-use Rattle.pickle_map.specs.Evaluation.{evaluation}
-use Rattle.pickle_map.specs.Shown.{kept}
+use Rattle.pickle_meaning.specs.Arithmetic.{signed_type}
+use Rattle.pickle_meaning.specs.Values.{IntegerLabel}
+use Rattle.pickle_meaning.specs.Evaluation.{evaluation}
+use Rattle.value_store.specs.Shown.{kept}
 use Rattle.pickle_map.proofs.Settling.{known_truth, known_stops}
 use Rattle.pickle_map.proofs.mapper.clauses.truth_told.Goals as goal
 

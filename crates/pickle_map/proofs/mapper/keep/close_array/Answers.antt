@@ -1,5 +1,5 @@
 use Rattle.std.proofs.Common.{◌-◌, arith}
-use Rattle.pickle_map.specs.Tree as tree
+use Rattle.value_store.specs.Tree as tree
 use Rattle.pickle_map.proofs.Keeping.{ok_closed, full_closed}
 use Rattle.pickle_map.proofs.mapper.keep.close_array.Goals as goal
 

@@ -3,10 +3,10 @@ use Rattle.std.specs.Prelude.{OnOk, OnErr}
 use Rattle.std.proofs.lemmas.Int.{to_z-of_z}
 use mir.Syntax.{w128}
 use mir.Val.{SFits}
-use Rattle.pickle_map.specs.Values.{Mapped, NoMembers, IntegerLabel, pushed}
-use Rattle.pickle_map.specs.Room.{Exceeds}
-use Rattle.pickle_map.specs.Shown.{kept}
-use Rattle.pickle_map.specs.Tree as tree
+use Rattle.pickle_meaning.specs.Values.{Mapped, NoMembers, IntegerLabel, pushed}
+use Rattle.value_store.specs.Exceeding.{Exceeds}
+use Rattle.value_store.specs.Shown.{kept}
+use Rattle.value_store.specs.Tree as tree
 use Rattle.pickle_map.proofs.Keeping.{ok_member, full_member}
 use Rattle.pickle_map.proofs.mapper.keep.keep_integer.Goals as goal
 

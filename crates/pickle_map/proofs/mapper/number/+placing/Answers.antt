@@ -3,14 +3,14 @@ use Rattle.std.proofs.lemmas.List.{drop_more, drop_all}
 use Rattle.std.proofs.lemmas.Result.{err_from_is_err_and}
 use Rattle.pickle_types.specs.Table.{type_of}
 use Rattle.pickle_types.specs.Types.{parts_depth}
-use Rattle.pickle_map.specs.Mapping.{number_plan}
-use Rattle.pickle_map.specs.Means.{number_type, width_in}
-use Rattle.pickle_map.specs.Shown.{kept}
-use Rattle.pickle_map.specs.Slots.{levels}
-use Rattle.pickle_map.specs.Values.{outer_of}
+use Rattle.mapping_plans.specs.Mapping.{number_plan}
+use Rattle.pickle_meaning.specs.Means.{number_type, width_in}
+use Rattle.value_store.specs.Shown.{kept}
+use Rattle.value_store.specs.Slots.{levels}
+use Rattle.pickle_meaning.specs.Values.{outer_of}
 use Rattle.pickle_map.proofs.Shapes.{opened_as, below_as, sound_as, names_as, parts_within, parts_bounded, part_bounded, of_one, integral_opened, parts_named}
 use Rattle.pickle_map.specs.Mappable.{IsPartOf}
-use Rattle.pickle_map.proofs.Held.{length-levels}
+use Rattle.value_store.proofs.Held.{length-levels}
 use Rattle.pickle_map.proofs.Keeping.{keeps_opened, keeps_outer}
 use Rattle.pickle_map.proofs.Clauses.{checks_ok, checks_stop}
 use Rattle.pickle_map.proofs.Placing.{digits_end, digits_no_tick, digits_stop, digits_goes}

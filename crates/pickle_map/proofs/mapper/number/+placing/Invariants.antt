@@ -2,10 +2,10 @@ use Rattle.std.proofs.Common.{◌≡◌, ◌+◌, ◌*◌, ◌≤◌, drop, leng
 use Rattle.pickle_types.specs.Table.{type_of, open_parts}
 use Rattle.pickle_map.specs.Follows.{Partly}
 use Rattle.pickle_map.specs.Framed.{WorkFrame, Works}
-use Rattle.pickle_map.specs.Values.{outer_of}
-use Rattle.pickle_map.specs.Mapping.{digits_plan}
-use Rattle.pickle_map.specs.Shown.{kept}
-use Rattle.pickle_map.specs.Slots.{levels}
+use Rattle.pickle_meaning.specs.Values.{outer_of}
+use Rattle.mapping_plans.specs.Mapping.{digits_plan}
+use Rattle.value_store.specs.Shown.{kept}
+use Rattle.value_store.specs.Slots.{levels}
 use Rattle.pickle_map.proofs.Shapes.{parts_bound}
 use Rattle.pickle_map.proofs.mapper.number.+placing.Given as goal
 

@@ -1,7 +1,7 @@
 use Rattle.std.proofs.Common.{refl}
 use Rattle.std.proofs.lemmas.Result.{err_from_is_err_and}
 use Rattle.bit_space.specs.SpaceView.{known_bits}
-use Rattle.pickle_map.specs.Mapping.{read_plan}
+use Rattle.mapping_plans.specs.Mapping.{read_plan}
 use Rattle.pickle_map.proofs.Placing.{read_stops, read_goes}
 use Rattle.pickle_map.proofs.mapper.number.map_integer.Goals as goal
 

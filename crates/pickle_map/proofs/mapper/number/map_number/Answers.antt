@@ -1,8 +1,8 @@
 use Rattle.std.proofs.Common.{refl, ap}
 use Rattle.std.proofs.lemmas.Result.{err_from_is_err_and}
 use Rattle.bit_space.specs.SpaceView.{known_bits}
-use Rattle.pickle_map.specs.Mapping.{read_plan}
-use Rattle.pickle_map.specs.Means.{width_in}
+use Rattle.mapping_plans.specs.Mapping.{read_plan}
+use Rattle.pickle_meaning.specs.Means.{width_in}
 use Rattle.pickle_map.proofs.Placing.{read_stops, read_goes}
 use Rattle.pickle_map.proofs.mapper.number.map_number.Goals as goal
 

@@ -1,7 +1,7 @@
 use Rattle.std.proofs.Common.{refl}
 use Rattle.std.proofs.lemmas.Result.{err_from_is_err_and}
-use Rattle.pickle_map.specs.Means.{offset_value}
-use Rattle.pickle_map.specs.Mapping.{number_plan}
+use Rattle.pickle_meaning.specs.Means.{offset_value}
+use Rattle.mapping_plans.specs.Mapping.{number_plan}
 use Rattle.pickle_map.proofs.Walks.{follow_made, follow_done, follow_no_room}
 use Rattle.pickle_map.proofs.mapper.number.place_offset.Goals as goal
 

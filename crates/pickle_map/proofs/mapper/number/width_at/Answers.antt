@@ -1,5 +1,5 @@
 use Rattle.std.proofs.Common.{sym, ap}
-use Rattle.pickle_map.specs.Means.{number_type, width_in}
+use Rattle.pickle_meaning.specs.Means.{number_type, width_in}
 use Rattle.pickle_map.proofs.Shapes.{opened_as, below_as}
 use Rattle.pickle_map.proofs.mapper.number.width_at.Goals as goal
 

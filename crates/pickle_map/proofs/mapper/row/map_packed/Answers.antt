@@ -4,11 +4,11 @@ use Rattle.std.proofs.lemmas.Result.{err_from_is_err_and}
 use Rattle.pickle_types.specs.Bounds.{least_width, count_of}
 use Rattle.pickle_types.specs.Table.{type_of}
 use Rattle.pickle_map.specs.declared.mapper.stop.Stop.TheVariants.{Memory}
-use Rattle.pickle_map.specs.Levels as stored
-use Rattle.pickle_map.specs.Mapping.{plan}
+use Rattle.value_store.specs.Levels as stored
+use Rattle.mapping_plans.specs.Mapping.{plan}
 use Rattle.pickle_map.specs.Row.{row_levels}
-use Rattle.pickle_map.specs.Shown.{shown}
-use Rattle.pickle_map.specs.Slots.{levels, element_width, element_value}
+use Rattle.value_store.specs.Shown.{shown}
+use Rattle.value_store.specs.Slots.{levels, element_width, element_value}
 use Rattle.pickle_map.proofs.Mapping.{in_world, few_enough, elements_end, elements_beyond, elements_no_tick, elements_goes, elements_over, elements_stop}
 use Rattle.pickle_map.proofs.Row.{some_bits, least_is, element_end, element_stops, element_no_room, element_goes, row_more, row_fresh, around_row, first_is}
 use Rattle.pickle_map.proofs.Walks.{follow_here, follow_on}

@@ -4,11 +4,11 @@ use Rattle.pickle_types.specs.Table.{type_of}
 use Rattle.pickle_map.specs.Calls.{as_elements}
 use Rattle.pickle_map.specs.Framed.{Frame, Runs}
 use Rattle.pickle_map.specs.Follows.{Partly}
-use Rattle.pickle_map.specs.Levels as stored
-use Rattle.pickle_map.specs.Mapping.{plan, elements_plan}
+use Rattle.value_store.specs.Levels as stored
+use Rattle.mapping_plans.specs.Mapping.{plan, elements_plan}
 use Rattle.pickle_map.specs.Row.{row_levels}
-use Rattle.pickle_map.specs.Shown.{kept}
-use Rattle.pickle_map.specs.Slots.{levels, element_width, IsPacking}
+use Rattle.value_store.specs.Shown.{kept}
+use Rattle.value_store.specs.Slots.{levels, element_width, IsPacking}
 use Rattle.pickle_map.proofs.mapper.row.map_packed.Given as goal
 
 abbrev pub decreases-loop-shape : goal.decreases-loop-shape

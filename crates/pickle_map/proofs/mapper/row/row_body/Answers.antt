@@ -1,7 +1,7 @@
 use Rattle.std.proofs.Common.{refl}
 use Rattle.std.proofs.lemmas.Result.{err_from_is_err_and}
-use Rattle.pickle_map.specs.Levels as stored
-use Rattle.pickle_map.specs.Slots.{levels}
+use Rattle.value_store.specs.Levels as stored
+use Rattle.value_store.specs.Slots.{levels}
 use Rattle.pickle_map.proofs.Mapping.{array_no_room, array_made}
 use Rattle.pickle_map.proofs.Row.{row_kept, packs_no_more}
 use Rattle.pickle_map.proofs.Walks.{follow_stop}

@@ -1,9 +1,9 @@
 use Rattle.std.proofs.Common.{refl, ap, ◌∙◌, arith}
 use Rattle.std.proofs.lemmas.Result.{err_from_is_err_and}
-use Rattle.pickle_map.specs.Values.{outer_of}
+use Rattle.pickle_meaning.specs.Values.{outer_of}
 use Rattle.pickle_map.proofs.Keeping.{keeps_opened, keeps_outer}
 use Rattle.pickle_map.proofs.Walks.{follow_tick, follow_no_tick}
-use Rattle.pickle_map.proofs.Held.{length-levels}
+use Rattle.value_store.proofs.Held.{length-levels}
 use Rattle.pickle_map.proofs.mapper.text.map_text.Goals as goal
 
 pub returns-in_err-tick-clause-is : goal.returns-in_err-tick-clause-is

@@ -1,9 +1,9 @@
 use Rattle.std.proofs.Common.{rules, ◌≡◌, ◌+◌, ◌*◌, [], ◌∷◌, ◌++◌, length, refl, sym, ap, ◌∙◌, arith}
 use Rattle.std.proofs.lemmas.Result.{err_from_is_err_and}
-use Rattle.pickle_map.specs.Levels as stored
-use Rattle.pickle_map.specs.Slots.{levels}
-use Rattle.pickle_map.specs.Values.{text_value}
-use Rattle.pickle_map.proofs.Fitting.{longer}
+use Rattle.value_store.specs.Levels as stored
+use Rattle.value_store.specs.Slots.{levels}
+use Rattle.pickle_meaning.specs.Values.{text_value}
+use Rattle.mapping_plans.proofs.Fitting.{longer}
 use Rattle.pickle_map.proofs.Walks.{follow_here, follow_on}
 use Rattle.pickle_map.proofs.Placing.{refusal_stops}
 use Rattle.pickle_map.proofs.Texts.{text_stops, text_not_closed, text_closed, text_no_room, text_goes, around_text, not_closed, not_longer, keeps_text, may_same}

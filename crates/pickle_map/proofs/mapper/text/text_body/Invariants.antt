@@ -2,11 +2,11 @@ use Rattle.std.proofs.Common.{◌≡◌, ℕ, ◌+◌, ◌-◌, ◌*◌, ◌≤�
 use Rattle.pickle_map.specs.Calls.{as_text_level}
 use Rattle.pickle_map.specs.Framed.{Frame, Runs}
 use Rattle.pickle_map.specs.Follows.{Partly}
-use Rattle.pickle_map.specs.Levels as stored
-use Rattle.pickle_map.specs.Mapping.{text_plan}
-use Rattle.pickle_map.specs.Shown.{kept}
-use Rattle.pickle_map.specs.Slots.{levels, IsWriting}
-use Rattle.pickle_map.specs.Values.{outer_of}
+use Rattle.value_store.specs.Levels as stored
+use Rattle.mapping_plans.specs.Mapping.{text_plan}
+use Rattle.value_store.specs.Shown.{kept}
+use Rattle.value_store.specs.Slots.{levels, IsWriting}
+use Rattle.pickle_meaning.specs.Values.{outer_of}
 use Rattle.pickle_map.proofs.mapper.text.text_body.Given as goal
 
 abbrev pub invariant-loop-byte : goal.invariant-loop-byte

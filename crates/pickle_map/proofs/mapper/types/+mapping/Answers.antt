@@ -6,18 +6,18 @@ use Rattle.pickle_types.specs.Types.{depth}
 use Rattle.pickle_types.specs.Bounds.{least_width}
 use Rattle.pickle_types.specs.Table.{type_of}
 use Rattle.pickle_map.specs.Mappable.{IsFieldOf, IsPartOf}
-use Rattle.pickle_map.specs.Levels as stored
-use Rattle.pickle_map.specs.Mapping.{plan}
-use Rattle.pickle_map.specs.Means.{number_type}
-use Rattle.pickle_map.specs.Shown.{kept}
-use Rattle.pickle_map.specs.Slots.{levels}
-use Rattle.pickle_map.specs.Values.{pushed, outer_of}
+use Rattle.value_store.specs.Levels as stored
+use Rattle.mapping_plans.specs.Mapping.{plan}
+use Rattle.pickle_meaning.specs.Means.{number_type}
+use Rattle.value_store.specs.Shown.{kept}
+use Rattle.value_store.specs.Slots.{levels}
+use Rattle.pickle_meaning.specs.Values.{pushed, outer_of}
 use Rattle.pickle_map.proofs.Clauses.{checks_ok, checks_stop, settles_ok, settles_stop}
 use Rattle.pickle_map.proofs.Followed.{followed_wide}
-use Rattle.pickle_map.proofs.Held.{length-levels}
+use Rattle.value_store.proofs.Held.{length-levels}
 use Rattle.pickle_map.proofs.Keeping.{keeps_opened, keeps_outer, keeps_cleared}
 use Rattle.pickle_map.proofs.Mapping.{in_world, few_enough, inside_no_tick, inside_ticks, plan_past, number_is, text_is, struct_is, array_is, union_is, struct_no_room, struct_made, array_no_room, array_made, union_no_room, union_made, fields_end, fields_no_tick, condition_stops, absent_no_room, absent_goes, start_stops, field_stops, field_goes, elements_end, elements_beyond, elements_no_tick, elements_no_bits, elements_goes, elements_over, elements_stop, alternatives_end, alternatives_no_tick, alternatives_fit, alternatives_miss, alternatives_stop}
-use Rattle.pickle_map.proofs.PackedRows.{row-opened}
+use Rattle.value_store.proofs.PackedRows.{row-opened}
 use Rattle.pickle_map.proofs.Shapes.{opened_as, below_as, sound_as, names_as, fields_within, parts_within, fields_bounded, parts_bounded, field_bounded, part_bounded, of_one, name_of_one, struct_opened, union_opened, fields_named}
 use Rattle.pickle_map.proofs.Walks.{follow_here, follow_on, follow_at, follow_stop, follow_then_ok, outer_pushed}
 use Rattle.pickle_map.proofs.mapper.types.+mapping.Goals as goal

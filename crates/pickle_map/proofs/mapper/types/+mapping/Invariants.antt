@@ -4,10 +4,10 @@ use Rattle.pickle_types.specs.Table.{type_of, open_fields, open_parts}
 use Rattle.pickle_map.specs.Calls.{as_fields, as_alternatives, as_elements}
 use Rattle.pickle_map.specs.Follows.{Partly}
 use Rattle.pickle_map.specs.Framed.{Frame, Runs}
-use Rattle.pickle_map.specs.Mapping.{plan, fields_plan, elements_plan, alternatives_plan}
-use Rattle.pickle_map.specs.Shown.{kept}
-use Rattle.pickle_map.specs.Slots.{levels}
-use Rattle.pickle_map.specs.Values.{outer_of}
+use Rattle.mapping_plans.specs.Mapping.{plan, fields_plan, elements_plan, alternatives_plan}
+use Rattle.value_store.specs.Shown.{kept}
+use Rattle.value_store.specs.Slots.{levels}
+use Rattle.pickle_meaning.specs.Values.{outer_of}
 use Rattle.pickle_map.proofs.Shapes.{fields_bound, parts_bound}
 use Rattle.pickle_map.proofs.mapper.types.+mapping.Given as goal
 

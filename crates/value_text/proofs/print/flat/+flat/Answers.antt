@@ -1,8 +1,8 @@
 use Rattle.std.proofs.Common.{◌≡◌, codes, arith, subst, Some, None}
 use Rattle.std.proofs.lemmas.Result.{err_from_is_err_and}
-use Rattle.pickle_map.specs.Values.{ArrayLabel, label_of, members_of, member_at, member_count}
-use Rattle.pickle_map.specs.Labels.{name_of, member_name}
-use Rattle.pickle_map.specs.Refs.{value_shown}
+use Rattle.pickle_meaning.specs.Values.{ArrayLabel, label_of, members_of, member_at, member_count}
+use Rattle.value_store.specs.Labels.{name_of, member_name}
+use Rattle.value_store.specs.Refs.{value_shown}
 use Rattle.value_text.specs.ValueText.{title_text}
 use Rattle.value_text.specs.PartText.{all_members_text, elements_text, member_text}
 use Rattle.value_text.proofs.Gathered.{gathers_next, cut_first, cut_next, told_more, told_cut}

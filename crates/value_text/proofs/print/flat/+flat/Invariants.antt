@@ -1,6 +1,6 @@
 use Rattle.std.proofs.Common.{◌+◌, ◌*◌}
-use Rattle.pickle_map.specs.Values.{ArrayLabel, label_of, members_of}
-use Rattle.pickle_map.specs.Refs.{value_shown, rank_of}
+use Rattle.pickle_meaning.specs.Values.{ArrayLabel, label_of, members_of}
+use Rattle.value_store.specs.Refs.{value_shown, rank_of}
 use Rattle.value_text.specs.ValueText.{members_text}
 use Rattle.value_text.specs.PartText.{all_members_text, elements_text}
 use Rattle.value_text.proofs.Gathered.{Told}

@@ -1,7 +1,7 @@
 use Rattle.std.proofs.Common.{◌≡◌, codes, arith, subst, Some, None}
 use Rattle.std.proofs.lemmas.Result.{err_from_is_err_and}
-use Rattle.pickle_map.specs.Values.{label_of, members_of, member_at, member_count}
-use Rattle.pickle_map.specs.Refs.{value_shown}
+use Rattle.pickle_meaning.specs.Values.{label_of, members_of, member_at, member_count}
+use Rattle.value_store.specs.Refs.{value_shown}
 use Rattle.value_text.specs.JsonText.{key_before, no_key}
 use Rattle.value_text.specs.JsonParts.{elements_json, fields_json, element_json, field_json}
 use Rattle.value_text.proofs.Gathered.{gathers_next, cut_first, cut_next, told_more, told_cut}

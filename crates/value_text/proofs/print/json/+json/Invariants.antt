@@ -1,6 +1,6 @@
 use Rattle.std.proofs.Common.{◌+◌, ◌*◌}
-use Rattle.pickle_map.specs.Values.{label_of, members_of}
-use Rattle.pickle_map.specs.Refs.{value_shown, rank_of}
+use Rattle.pickle_meaning.specs.Values.{label_of, members_of}
+use Rattle.value_store.specs.Refs.{value_shown, rank_of}
 use Rattle.value_text.specs.JsonText.{json_members, key_before, no_key}
 use Rattle.value_text.specs.JsonParts.{elements_json, fields_json}
 use Rattle.value_text.proofs.Gathered.{Told}

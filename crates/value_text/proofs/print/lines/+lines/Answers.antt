@@ -1,7 +1,7 @@
 use Rattle.std.proofs.Common.{◌≡◌, [], refl, arith, subst, Some, None}
 use Rattle.std.proofs.lemmas.Result.{err_from_is_err_and}
-use Rattle.pickle_map.specs.Values.{label_of, members_of, member_at, member_count}
-use Rattle.pickle_map.specs.Refs.{value_shown}
+use Rattle.pickle_meaning.specs.Values.{label_of, members_of, member_at, member_count}
+use Rattle.value_store.specs.Refs.{value_shown}
 use Rattle.value_text.specs.Steps.{steps_of, text_of}
 use Rattle.value_text.specs.LeafText.{branch_at}
 use Rattle.value_text.proofs.Gathered.{gathers_none, told_more, told_cut}

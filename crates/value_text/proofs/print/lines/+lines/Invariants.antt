@@ -1,6 +1,6 @@
 use Rattle.std.proofs.Common.{◌+◌, ◌*◌}
-use Rattle.pickle_map.specs.Values.{label_of, members_of}
-use Rattle.pickle_map.specs.Refs.{value_shown, rank_of}
+use Rattle.pickle_meaning.specs.Values.{label_of, members_of}
+use Rattle.value_store.specs.Refs.{value_shown, rank_of}
 use Rattle.value_text.specs.LinesText.{branches_text}
 use Rattle.value_text.specs.LeafText.{branches_at}
 use Rattle.value_text.specs.Steps.{steps_of}

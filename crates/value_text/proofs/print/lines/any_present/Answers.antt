@@ -1,7 +1,7 @@
 use Rattle.std.proofs.Common.{◌≡◌, ◌∙◌, sym, arith, subst}
 use Rattle.std.specs.Option.{option_map}
-use Rattle.pickle_map.specs.Values.{members_of, member_at, member_count}
-use Rattle.pickle_map.specs.Refs.{value_shown}
+use Rattle.pickle_meaning.specs.Values.{members_of, member_at, member_count}
+use Rattle.value_store.specs.Refs.{value_shown}
 use Rattle.value_text.proofs.LeafTexts.{present_by, absent_by, none_from}
 use Rattle.value_text.proofs.print.lines.any_present.Goals as goal
 

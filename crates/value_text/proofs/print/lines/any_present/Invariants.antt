@@ -1,6 +1,6 @@
 use Rattle.std.proofs.Common.{◌≡◌}
-use Rattle.pickle_map.specs.Values.{members_of}
-use Rattle.pickle_map.specs.Refs.{value_shown}
+use Rattle.pickle_meaning.specs.Values.{members_of}
+use Rattle.value_store.specs.Refs.{value_shown}
 use Rattle.value_text.specs.LinesText.{any_present}
 use Rattle.value_text.proofs.MemberTexts.{members_from}
 use Rattle.value_text.proofs.print.lines.any_present.Given as goal

@@ -1,5 +1,5 @@
 use Rattle.std.proofs.lemmas.Result.{err_from_is_err_and}
-use Rattle.pickle_map.specs.Refs.{value_shown}
+use Rattle.value_store.specs.Refs.{value_shown}
 use Rattle.value_text.specs.PathText.{path_text}
 use Rattle.value_text.specs.Steps.{steps_of}
 use Rattle.value_text.specs.LinesText.{place_cells, text_cell}

@@ -1,7 +1,7 @@
 use Rattle.std.proofs.Common.{◌-◌}
 use Rattle.std.proofs.lemmas.Result.{err_from_is_err_and}
-use Rattle.pickle_map.specs.Values.{start_of, end_of}
-use Rattle.pickle_map.specs.Refs.{value_shown}
+use Rattle.pickle_meaning.specs.Values.{start_of, end_of}
+use Rattle.value_store.specs.Refs.{value_shown}
 use Rattle.value_text.specs.LinesText.{bits_cell}
 use Rattle.value_text.proofs.Gathered.{gathers_next, cut_first, cut_next}
 use Rattle.value_text.proofs.print.lines.put_place.Goals as goal

@@ -1,6 +1,6 @@
 use Rattle.std.proofs.Common.{codes}
 use Rattle.std.proofs.lemmas.Result.{err_from_is_err_and}
-use Rattle.pickle_map.specs.Refs.{value_shown}
+use Rattle.value_store.specs.Refs.{value_shown}
 use Rattle.value_text.specs.ValueText.{value_text}
 use Rattle.value_text.proofs.Gathered.{gathers_next, cut_first, cut_next}
 use Rattle.value_text.proofs.print.lines.put_text.Goals as goal

@@ -1,7 +1,7 @@
 use Rattle.std.proofs.Common.{◌≡◌, ◌+◌, codes, [], refl, arith, subst, Some, None}
 use Rattle.std.proofs.lemmas.Result.{err_from_is_err_and}
-use Rattle.pickle_map.specs.Values.{label_of, members_of, member_at, member_count}
-use Rattle.pickle_map.specs.Refs.{value_shown}
+use Rattle.pickle_meaning.specs.Values.{label_of, members_of, member_at, member_count}
+use Rattle.value_store.specs.Refs.{value_shown}
 use Rattle.value_text.specs.LineText.{head_of, below_text, part_text}
 use Rattle.value_text.proofs.Gathered.{gathers_none, gathers_next, cut_first, cut_next, told_more, told_cut}
 use Rattle.value_text.proofs.LineTexts.{told_part_present, told_part_absent, told_parts_end}

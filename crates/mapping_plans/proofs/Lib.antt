@@ -1,0 +1,16 @@
+pub mod Basics
+pub mod Equations
+pub mod Comes
+pub mod Widths
+pub mod Planned
+pub mod Exists
+pub mod Outcomes
+pub mod OnBits
+pub mod Costs
+pub mod Makes
+pub mod Always
+pub mod Fitting
+pub mod Rooms
+pub mod Counts
+pub mod Rows
+pub mod Refused

@@ -1,0 +1,120 @@
+-- Comparisons of integers, as the parts of an expression come to them.
+use Rattle.std.proofs.Common.{◌≡◌, ℕ, ◌+◌, if◌then◌else◌, Bool, true, Some, None, Result, Ok, Err, ℤ, pos, List, refl}
+use Rattle.pickle_tree.specs.declared.tree.Infix.{Infix}
+use Rattle.pickle_tree.specs.declared.tree.Infix.TheVariants.{LogicalOr, LogicalAnd, BitOr, BitXor, BitAnd, Equal, NotEqual, Less, LessEqual, Greater, GreaterEqual, ShiftLeft, ShiftRight, Add, Subtract, Multiply, Divide, Remainder}
+use Rattle.pickle_types.specs.declared.table.Node.{Node}
+use Rattle.pickle_types.specs.declared.integer.IntegerType.{IntegerType}
+use Rattle.pickle_types.specs.Types.{Term, Name, Between}
+use Rattle.pickle_types.specs.Operators.{common}
+use Rattle.pickle_meaning.specs.declared.faults.MapFaultKind.{MapFaultKind}
+use Rattle.pickle_meaning.specs.Arithmetic.{Computed, converted, on_common, on_integers, combined, truth, signed_type}
+use Rattle.pickle_evaluation.specs.Comes.{ComesTo, is_comparison}
+use Rattle.pickle_meaning.specs.Evaluation.{Operand, Plain, AtPath, operand_label, Evaluation, evaluation, and_operand, unless_settled, settled, truth_of, between, literal_length, with_steps, gives}
+use Rattle.value_store.specs.Tree as tree
+use Rattle.value_store.specs.Scalars.{scalar_in}
+use Rattle.value_store.specs.Shown.{shown, shown_label}
+use Rattle.pickle_meaning.specs.Values.{Label, IntegerLabel, Levels, label_of, value_at}
+
+-- neither side settles a comparison alone
+pub not_settled : (op : Infix) (t : Result Bool MapFaultKind) → is_comparison op ≡ true → settled op t ≡ None
+not_settled LogicalOr t e = cc
+not_settled LogicalAnd t e = cc
+not_settled BitOr t e = refl
+not_settled BitXor t e = refl
+not_settled BitAnd t e = refl
+not_settled Equal t e = refl
+not_settled NotEqual t e = refl
+not_settled Less t e = refl
+not_settled LessEqual t e = refl
+not_settled Greater t e = refl
+not_settled GreaterEqual t e = refl
+not_settled ShiftLeft t e = refl
+not_settled ShiftRight t e = refl
+not_settled Add t e = refl
+not_settled Subtract t e = refl
+not_settled Multiply t e = refl
+not_settled Divide t e = refl
+not_settled Remainder t e = refl
+
+pub common_order : (op : Infix) (x : ℤ) (t : IntegerType) (y : ℤ) (u : IntegerType) → is_comparison op ≡ true →
+    on_integers op x t y u ≡ on_common op (common t u) (converted (common t u) x) (converted (common t u) y)
+unfolding on_integers
+common_order LogicalOr x t y u e = cc
+common_order LogicalAnd x t y u e = cc
+common_order BitOr x t y u e = cc
+common_order BitXor x t y u e = cc
+common_order BitAnd x t y u e = cc
+common_order Equal x t y u e = refl
+common_order NotEqual x t y u e = refl
+common_order Less x t y u e = refl
+common_order LessEqual x t y u e = refl
+common_order Greater x t y u e = refl
+common_order GreaterEqual x t y u e = refl
+common_order ShiftLeft x t y u e = cc
+common_order ShiftRight x t y u e = cc
+common_order Add x t y u e = cc
+common_order Subtract x t y u e = cc
+common_order Multiply x t y u e = cc
+common_order Divide x t y u e = cc
+common_order Remainder x t y u e = cc
+
+pub last_comparison : (op : Infix) → is_comparison op ≡ true → (op ≡ Equal → ⊥) → (op ≡ NotEqual → ⊥) → (op ≡ Less → ⊥) → (op ≡ LessEqual → ⊥) → (op ≡ Greater → ⊥) → op ≡ GreaterEqual
+last_comparison LogicalOr e n1 n2 n3 n4 n5 = cc
+last_comparison LogicalAnd e n1 n2 n3 n4 n5 = cc
+last_comparison BitOr e n1 n2 n3 n4 n5 = cc
+last_comparison BitXor e n1 n2 n3 n4 n5 = cc
+last_comparison BitAnd e n1 n2 n3 n4 n5 = cc
+last_comparison Equal e n1 n2 n3 n4 n5 = absurd (n1 refl)
+last_comparison NotEqual e n1 n2 n3 n4 n5 = absurd (n2 refl)
+last_comparison Less e n1 n2 n3 n4 n5 = absurd (n3 refl)
+last_comparison LessEqual e n1 n2 n3 n4 n5 = absurd (n4 refl)
+last_comparison Greater e n1 n2 n3 n4 n5 = absurd (n5 refl)
+last_comparison GreaterEqual e n1 n2 n3 n4 n5 = refl
+last_comparison ShiftLeft e n1 n2 n3 n4 n5 = cc
+last_comparison ShiftRight e n1 n2 n3 n4 n5 = cc
+last_comparison Add e n1 n2 n3 n4 n5 = cc
+last_comparison Subtract e n1 n2 n3 n4 n5 = cc
+last_comparison Multiply e n1 n2 n3 n4 n5 = cc
+last_comparison Divide e n1 n2 n3 n4 n5 = cc
+last_comparison Remainder e n1 n2 n3 n4 n5 = cc
+
+-- an operand that comes to a label, and what is made of that
+pub and_comes : (a : Evaluation) (f : Operand → Evaluation) (g : Evaluation) (l : Label) (n : ℕ) → ComesTo a l n → ((x : Operand) → operand_label x ≡ l → f x ≡ g) → and_operand a f ≡ with_steps n g
+unfolding and_operand
+and_comes a f g l n h k = rw (h.1, h.3, k h.0 h.2) refl
+
+integers_between : (op : Infix) (k : ℕ) (x : ℤ) (t : IntegerType) (y : ℤ) (u : IntegerType) (c : Computed) → c ≡ on_integers op x t y u → between op k (IntegerLabel x t) (IntegerLabel y u) ≡ gives c
+unfolding combined
+integers_between op k x t y u c e = rw (← e) (no_more c)
+  where
+    no_more : (c : Computed) → with_steps 0 (gives c) ≡ gives c
+    no_more (Ok l) = refl
+    no_more (Err f) = refl
+
+shown_integer : (nodes : List Node) (l : tree.Label) (n : ℤ) (t : IntegerType) → scalar_in l ≡ Some (IntegerLabel n t) → shown_label nodes l ≡ IntegerLabel n t
+shown_integer nodes (tree.IntegerLabel number width signed) n t e = cc
+shown_integer nodes (tree.OffsetLabel number width signed unit) n t e = cc
+shown_integer nodes (tree.TextLabel bytes) n t e = cc
+shown_integer nodes tree.ArrayLabel n t e = cc
+shown_integer nodes (tree.StructLabel of) n t e = cc
+shown_integer nodes (tree.UnionLabel of taken) n t e = cc
+
+shown_as_integer : (nodes : List Node) (v : tree.Value) (n : ℤ) (t : IntegerType) → scalar_in (tree.label v) ≡ Some (IntegerLabel n t) → label_of (shown nodes v) ≡ IntegerLabel n t
+shown_as_integer nodes (tree.Tree l start size parts) n t e = shown_integer nodes l n t e
+
+-- a name of an integer
+pub names_integer : (nodes : List Node) (levels : Levels) (level place : ℕ) (v : tree.Value) (n : ℤ) (t : IntegerType) → value_at levels level place ≡ Some (shown nodes v) →
+    scalar_in (tree.label v) ≡ Some (IntegerLabel n t) → ComesTo (evaluation (Name level place) levels) (IntegerLabel n t) 1
+unfolding evaluation
+names_integer nodes levels level place v n t e l = rw e (AtPath (shown nodes v), refl, shown_as_integer nodes v n t l, refl)
+
+-- a comparison of two integers that are there at once
+pub compares : (op : Infix) (a b : Term) (levels : Levels) (x : ℤ) (t : IntegerType) (y : ℤ) (u : IntegerType) (holds : Bool) → is_comparison op ≡ true →
+    ComesTo (evaluation a levels) (IntegerLabel x t) 1 → ComesTo (evaluation b levels) (IntegerLabel y u) 1 → truth holds ≡ on_integers op x t y u →
+    ComesTo (evaluation (Between op a b) levels) (IntegerLabel (if holds then pos 1 else pos 0) (signed_type 32)) 3
+unfolding evaluation
+compares op a b levels x t y u holds is left right e =
+    let rest : (l : Operand) → operand_label l ≡ IntegerLabel x t → unless_settled (settled op (truth_of (operand_label l))) (and_operand (evaluation b levels) (λ r. between op (literal_length a + literal_length b) (operand_label l) (operand_label r))) ≡ with_steps 1 (gives (truth holds)) =
+    λ l is_l. rw (not_settled op (truth_of (operand_label l)) is) (and_comes (evaluation b levels) _ (gives (truth holds)) (IntegerLabel y u) 1 right (λ r is_r. rw (is_l, is_r) (integers_between op (literal_length a + literal_length b) x t y u (truth holds) e))) in
+    let all = and_comes (evaluation a levels) _ (with_steps 1 (gives (truth holds))) (IntegerLabel x t) 1 left rest in
+    rw all (Plain (IntegerLabel (if holds then pos 1 else pos 0) (signed_type 32)), refl, refl, refl)

@@ -1,0 +1,5 @@
+pub mod Operands
+pub mod Contents
+pub mod Comes
+pub mod Ranges
+pub mod Known

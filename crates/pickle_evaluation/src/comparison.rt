@@ -1,0 +1,122 @@
+//! Comparisons of integers that are named or written down. Most constraints and conditions are such, so they are met at
+//! a glance, and not as two operands of an operator.
+
+ghost use Rattle.std.specs.Prelude.{◌≡◌, IfSome, if◌then◌else◌, pos, List, true};
+ghost use Rattle.pickle_types.specs.Table.{term_of, IsWidth};
+ghost use Rattle.pickle_types.specs.declared.table.Node.{Node as TableNode};
+ghost use Rattle.pickle_types.specs.Sound.{IsSmall, IsSoundTerm};
+ghost use Rattle.pickle_types.specs.Types.{Name};
+ghost use Rattle.pickle_meaning.specs.Arithmetic.{on_common, on_integers, signed_type, truth};
+ghost use Rattle.pickle_evaluation.specs.Comes.{ComesTo, is_comparison};
+ghost use Rattle.pickle_meaning.specs.Evaluation.{evaluation};
+ghost use Rattle.value_store.specs.Shown.{kept};
+ghost use Rattle.pickle_meaning.specs.Values.{IntegerLabel};
+
+use crate::integers::{common};
+use value_store::scalar::Scalar;
+use value_store::ranges::converted;
+use value_store::store::Store;
+use pickle_tree::tree::Infix;
+use pickle_types::integer::IntegerType;
+use pickle_types::view::Resolved;
+
+/// An integer and its type.
+#[derive(Clone, Copy)]
+pub struct Typed {
+    pub number: i128,
+    pub of: IntegerType,
+}
+
+/// The truth of a comparison between two integers, each a literal or a name, which takes 3 steps; nothing for all else, and
+/// where an integer isn't there.
+pub fn comparison(e: &Resolved, store: &Store) -> Option<bool>
+    requires { IsSoundTerm (term_of e.now) }
+    ensures { (nodes : List TableNode) → IfSome result (λ holds. ComesTo (evaluation (term_of e.now) (kept nodes store.now)) (IntegerLabel (if holds then pos 1 else pos 0) (signed_type 32)) 3) }
+{
+    let Resolved::Infix(op, a, b) = e else {
+        return None;
+    };
+    if !is_comparison(*op) {
+        return None;
+    }
+    match (leaf(a, store), leaf(b, store)) {
+        (Some(x), Some(y)) => Some(compared(*op, x, y)),
+        _ => None,
+    }
+}
+
+/// Whether an operator compares two integers.
+fn is_comparison(op: Infix) -> bool
+    ensures { result ≡ is_comparison op }
+{
+    matches!(
+        op,
+        Infix::Equal
+            | Infix::NotEqual
+            | Infix::Less
+            | Infix::LessEqual
+            | Infix::Greater
+            | Infix::GreaterEqual
+    )
+}
+
+/// The integer that a literal or a name stands for.
+pub fn leaf(e: &Resolved, store: &Store) -> Option<Typed>
+    requires { IsSoundTerm (term_of e.now) }
+    ensures is { (nodes : List TableNode) → IfSome result (λ n. ComesTo (evaluation (term_of e.now) (kept nodes store.now)) (IntegerLabel n.number n.of) 1) }
+    ensures width { IfSome result (λ n. IsWidth n.of × IsSmall n.of.signed n.number) }
+{
+    match e {
+        Resolved::Number(of, value) => Some(Typed {
+            number: i128::from(*value),
+            of: *of,
+        }),
+        Resolved::Name(level, place) => named(*level, *place, store),
+        _ => None,
+    }
+}
+
+/// The integer that a name stands for.
+fn named(level: usize, place: usize, store: &Store) -> Option<Typed>
+    ensures is { (nodes : List TableNode) → IfSome result (λ n. ComesTo (evaluation (Name level place) (kept nodes store.now)) (IntegerLabel n.number n.of) 1) }
+    ensures width { IfSome result (λ n. IsWidth n.of × IsSmall n.of.signed n.number) }
+{
+    let value = match store.part(level, place) {
+        Some(value) => value,
+        None => return None,
+    };
+    match value.scalar() {
+        Some(Scalar::Integer(number, of)) => Some(Typed { number, of }),
+        _ => None,
+    }
+}
+
+/// The truth of a comparison of two integers, in their common type.
+#[tactic(auto, using(crate::proofs::Comparisons::common_order))]
+fn compared(op: Infix, a: Typed, b: Typed) -> bool
+    requires comparison { is_comparison op ≡ true }
+    requires left { IsWidth a.of × IsSmall a.of.signed a.number }
+    requires right { IsWidth b.of × IsSmall b.of.signed b.number }
+    ensures { truth result ≡ on_integers op a.number a.of b.number b.of }
+{
+    let number = common(a.of, b.of);
+    let x = converted(number, a.number);
+    let y = converted(number, b.number);
+    in_order(op, x, y)
+}
+
+/// The truth of a comparison of two numbers of a type.
+#[tactic(auto, unfolding(pickle_meaning::specs::Arithmetic::on_common), using(crate::proofs::Comparisons::last_comparison))]
+fn in_order(op: Infix, x: i128, y: i128) -> bool
+    requires { is_comparison op ≡ true }
+    ensures { (number : IntegerType) → truth result ≡ on_common op number x y }
+{
+    match op {
+        Infix::Equal => x == y,
+        Infix::NotEqual => x != y,
+        Infix::Less => x < y,
+        Infix::LessEqual => x <= y,
+        Infix::Greater => y < x,
+        _ => y <= x,
+    }
+}

@@ -1,0 +1,361 @@
+//! The value of an expression on the open levels.
+//!
+//! What is rare stands in functions of its own, which aren't inlined: each call pays for the locals of all that is.
+
+ghost use Rattle.std.specs.Prelude.{◌≡◌, ℕ, ◌+◌, ◌<◌, ◌≤◌, ◌^◌, Some, None, Ok, Err, IfOk, OnOk, OnErr, IfErr, List, Result, Bool};
+ghost use Rattle.pickle_types.specs.Table.{term_of};
+ghost use Rattle.pickle_types.specs.declared.table.Node.{Node as TableNode};
+ghost use Rattle.pickle_types.specs.Sound.{IsOptionalWidth, IsSoundTerm};
+ghost use Rattle.pickle_meaning.specs.Values.{Label};
+ghost use Rattle.pickle_evaluation.specs.Operands.{operand_of};
+ghost use Rattle.pickle_meaning.specs.Evaluation.{evaluation, operand_label, leads_to, present, selected, settled, attribute_of, as_common, literal_length, between, element, Evaluation, and_operand, gives};
+ghost use Rattle.pickle_evaluation.specs.Operands.{Evaluated, IsOperand};
+ghost use Rattle.pickle_evaluation.specs.Comes.{Comes, Seen, computed_operand, IsApplied, infix_part, choice_part, index_part};
+ghost use Rattle.pickle_evaluation.specs.Contents.{IsSoundContent, IsHeld};
+ghost use Rattle.value_store.specs.Shown.{kept};
+ghost use Rattle.value_store.specs.Scalars.{computed_of, IsScalar};
+
+use crate::comparison::leaf;
+use crate::content::{
+    Content, combined, in_unit, prefixed, seen, to_integer, to_offset, truth_of,
+};
+use crate::integers::{truth};
+use value_store::scalar::Scalar;
+use crate::operand::{Operand, Unvalued};
+use crate::paths;
+use pickle_meaning::faults::MapFaultKind;
+use value_store::store::Store;
+use value_store::value::Kind;
+use bit_space::{LimitPassed, Meter};
+use pickle_tree::tree::{Attribute, Infix};
+use pickle_types::integer::IntegerType;
+use pickle_types::view::{Node, Resolved};
+
+/// Evaluates an expression on the open values of the store. Each node of it takes a step, before its operands.
+#[cycle(evaluate)]
+#[inline(never)]
+pub fn evaluate<'a>(
+    table: &[Node],
+    e: &'a Resolved,
+    store: &'a Store,
+    meter: &mut Meter,
+) -> Result<Operand<'a>, Unvalued>
+    requires { IsSoundTerm (term_of e.now) }
+    ensures limit { meter.new.limit ≡ meter.old.limit }
+    ensures made { meter.new.made ≡ meter.old.made }
+    ensures steps { meter.old.steps ≤ meter.new.steps }
+    ensures is { Evaluated table.now meter.old.limit meter.old.steps meter.new.steps result (evaluation (term_of e.now) (kept table.now store.now)) }
+    ensures operand { IfOk result IsOperand }
+{
+    meter.tick()?;
+    match e {
+        Resolved::Number(number, value) => Ok(Operand::Scalar(Scalar::Integer(
+            i128::from(*value),
+            *number,
+        ))),
+        Resolved::Text(text) => Ok(Operand::Text(text)),
+        Resolved::Name(level, place) => match store.part(*level, *place) {
+            Some(value) => Ok(Operand::Value(value)),
+            None => Err(Unvalued::Fault(MapFaultKind::Absent)),
+        },
+        Resolved::Bracket(e) => evaluate(table, e, store, meter),
+        Resolved::Infix(op, a, b) => { Ok(Operand::Scalar(infix(table, *op, a, b, store, meter)?)) }
+        Resolved::Choice(common, c, x, y) => choice(table, common, c, x, y, store, meter),
+        Resolved::Index(e, i) => index(table, e, i, store, meter),
+        _ => applied(table, e, store, meter),
+    }
+}
+
+/// What a prefix or a suffix makes of its operand, after its own step.
+#[cycle(evaluate)]
+#[inline(never)]
+fn applied<'a>(
+    table: &[Node],
+    e: &'a Resolved,
+    store: &'a Store,
+    meter: &mut Meter,
+) -> Result<Operand<'a>, Unvalued>
+    requires sound { IsSoundTerm (term_of e.now) }
+    requires applies { IsApplied (term_of e.now) }
+    ensures limit { meter.new.limit ≡ meter.old.limit }
+    ensures made { meter.new.made ≡ meter.old.made }
+    ensures steps { meter.old.steps ≤ meter.new.steps }
+    ensures is { (before : ℕ) → meter.old.steps ≡ before + 1 → Evaluated table.now meter.old.limit before meter.new.steps result (evaluation (term_of e.now) (kept table.now store.now)) }
+    ensures operand { IfOk result IsOperand }
+{
+    match e {
+        Resolved::Prefix(op, e) => {
+            let x = look(table, e, store, meter)?;
+            Ok(Operand::Scalar(prefixed(*op, x)?))
+        }
+        Resolved::Select(e, place) => {
+            let x = evaluate(table, e, store, meter)?;
+            Ok(selected(x, *place)?)
+        }
+        Resolved::Attribute(attribute, e) => {
+            let x = evaluate(table, e, store, meter)?;
+            Ok(Operand::Scalar(attribute_of(*attribute, x)?))
+        }
+        Resolved::ToInteger(number, e) => {
+            let x = look(table, e, store, meter)?;
+            Ok(Operand::Scalar(to_integer(*number, x)?))
+        }
+        Resolved::ToOffset(number, unit, e) => {
+            let x = look(table, e, store, meter)?;
+            Ok(Operand::Scalar(to_offset(*number, *unit, x)?))
+        }
+        Resolved::InUnit(unit, e) => {
+            let x = look(table, e, store, meter)?;
+            Ok(Operand::Scalar(in_unit(*unit, x)?))
+        }
+        // No other expression comes here.
+        _ => Err(Unvalued::Fault(MapFaultKind::Absent)),
+    }
+}
+
+/// What operators see of an operand. An integer that is named or written down is seen at a glance.
+#[cycle(evaluate)]
+#[inline(never)]
+pub fn look<'a>(
+    table: &[Node],
+    e: &'a Resolved,
+    store: &'a Store,
+    meter: &mut Meter,
+) -> Result<Content<'a>, Unvalued>
+    requires { IsSoundTerm (term_of e.now) }
+    ensures limit { meter.new.limit ≡ meter.old.limit }
+    ensures made { meter.new.made ≡ meter.old.made }
+    ensures steps { meter.old.steps ≤ meter.new.steps }
+    ensures is { Seen meter.old.limit meter.old.steps meter.new.steps result (evaluation (term_of e.now) (kept table.now store.now)) }
+    ensures sound { IfOk result IsSoundContent }
+{
+    if let Some(n) = leaf(e, store) {
+        meter.tick()?;
+        return Ok(Content::Scalar(Scalar::Integer(n.number, n.of)));
+    }
+    match e {
+        Resolved::Infix(op, a, b) => {
+            meter.tick()?;
+            Ok(Content::Scalar(infix(table, *op, a, b, store, meter)?))
+        }
+        _ => Ok(seen(evaluate(table, e, store, meter)?)),
+    }
+}
+
+/// An operator between two operands; the right one is evaluated only where the left one doesn't settle the truth.
+#[cycle(evaluate)]
+#[inline(never)]
+fn infix(
+    table: &[Node],
+    op: Infix,
+    a: &Resolved,
+    b: &Resolved,
+    store: &Store,
+    meter: &mut Meter,
+) -> Result<Scalar, Unvalued>
+    requires left { IsSoundTerm (term_of a.now) }
+    requires right { IsSoundTerm (term_of b.now) }
+    ensures limit { meter.new.limit ≡ meter.old.limit }
+    ensures made { meter.new.made ≡ meter.old.made }
+    ensures steps { meter.old.steps ≤ meter.new.steps }
+    ensures is { Evaluated table.now meter.old.limit meter.old.steps meter.new.steps (computed_operand result) (infix_part op (term_of a.now) (term_of b.now) (kept table.now store.now)) }
+    ensures scalar { IfOk result IsScalar }
+{
+    let left = look(table, a, store, meter)?;
+    if let Some(holds) = settled(op, truth_of(left)) {
+        return Ok(truth(holds));
+    }
+    let right = look(table, b, store, meter)?;
+    let literal = literal_length(a) + literal_length(b);
+    between(op, literal, left, right, meter)
+}
+
+/// A choice, of which only the side that is chosen is evaluated.
+#[cycle(evaluate)]
+#[inline(never)]
+fn choice<'a>(
+    table: &[Node],
+    common: &Option<IntegerType>,
+    c: &'a Resolved,
+    x: &'a Resolved,
+    y: &'a Resolved,
+    store: &'a Store,
+    meter: &mut Meter,
+) -> Result<Operand<'a>, Unvalued>
+    requires common { IsOptionalWidth common.now }
+    requires test { IsSoundTerm (term_of c.now) }
+    requires left { IsSoundTerm (term_of x.now) }
+    requires right { IsSoundTerm (term_of y.now) }
+    ensures limit { meter.new.limit ≡ meter.old.limit }
+    ensures made { meter.new.made ≡ meter.old.made }
+    ensures steps { meter.old.steps ≤ meter.new.steps }
+    ensures is { Evaluated table.now meter.old.limit meter.old.steps meter.new.steps result (choice_part common.now (term_of c.now) (term_of x.now) (term_of y.now) (kept table.now store.now)) }
+    ensures operand { IfOk result IsOperand }
+{
+    let t = look(table, c, store, meter)?;
+    if truth_of(t)? {
+        chosen(common, evaluate(table, x, store, meter))
+    } else {
+        chosen(common, evaluate(table, y, store, meter))
+    }
+}
+
+/// The side of a choice that was evaluated, as the type of the choice.
+fn chosen<'a>(
+    common: &Option<IntegerType>,
+    side: Result<Operand<'a>, Unvalued>,
+) -> Result<Operand<'a>, Unvalued>
+    requires common { IsOptionalWidth common.now }
+    requires side { IfOk side IsOperand }
+    ensures is { (nodes : List TableNode) (limit before after : ℕ) (a : Evaluation) → Evaluated nodes limit before after side.entry a → Evaluated nodes limit before after result (and_operand a (λ z. gives (as_common common.now (operand_label z)))) }
+    ensures operand { IfOk result IsOperand }
+{
+    Ok(Operand::Scalar(as_common(common, seen(side?))?))
+}
+
+/// An element of an array.
+#[cycle(evaluate)]
+#[inline(never)]
+fn index<'a>(
+    table: &[Node],
+    e: &'a Resolved,
+    i: &'a Resolved,
+    store: &'a Store,
+    meter: &mut Meter,
+) -> Result<Operand<'a>, Unvalued>
+    requires path { IsSoundTerm (term_of e.now) }
+    requires index { IsSoundTerm (term_of i.now) }
+    ensures limit { meter.new.limit ≡ meter.old.limit }
+    ensures made { meter.new.made ≡ meter.old.made }
+    ensures steps { meter.old.steps ≤ meter.new.steps }
+    ensures is { Evaluated table.now meter.old.limit meter.old.steps meter.new.steps result (index_part (term_of e.now) (term_of i.now) (kept table.now store.now)) }
+    ensures operand { IfOk result IsOperand }
+{
+    let p = evaluate(table, e, store, meter)?;
+    let n = look(table, i, store, meter)?;
+    Ok(element(p, n)?)
+}
+
+/// An operator on two operands; a comparison of two texts takes a step for each byte of the literal.
+fn between(
+    op: Infix,
+    literal: u64,
+    x: Content<'_>,
+    y: Content<'_>,
+    meter: &mut Meter,
+) -> Result<Scalar, Unvalued>
+    requires left { IsSoundContent x }
+    requires right { IsSoundContent y }
+    ensures limit { meter.new.limit ≡ meter.old.limit }
+    ensures made { meter.new.made ≡ meter.old.made }
+    ensures steps { meter.old.steps ≤ meter.new.steps }
+    ensures is { (nodes : List TableNode) (a b : Label) → IsHeld x.entry a → IsHeld y.entry b → Evaluated nodes meter.old.limit meter.old.steps meter.new.steps (computed_operand result) (between op literal a b) }
+    ensures scalar { IfOk result IsScalar }
+{
+    if let (Content::Text(_), Content::Text(_)) = (x, y) {
+        take_steps(literal, meter)?;
+    }
+    Ok(combined(op, x, y)?)
+}
+
+/// Takes so many steps, or as many as are left.
+fn take_steps(count: u64, meter: &mut Meter) -> Result<(), LimitPassed>
+    ensures limit { meter.new.limit ≡ meter.old.limit }
+    ensures made { meter.new.made ≡ meter.old.made }
+    ensures steps { meter.old.steps ≤ meter.new.steps }
+    ensures ok { OnOk result (meter.new.steps ≡ meter.old.steps + count) }
+    ensures err { OnErr result ((meter.new.steps ≡ meter.old.limit) × (meter.old.limit < meter.old.steps + count)) }
+{
+    for _ in 0..count {
+        meter.tick()?;
+    }
+    Ok(())
+}
+
+/// The truth that `&&` and `||` have by their left side alone.
+fn settled(op: Infix, left: Result<bool, MapFaultKind>) -> Option<bool>
+    ensures { result ≡ settled op left }
+{
+    match (op, left) {
+        (Infix::LogicalAnd, Ok(false)) => Some(false),
+        (Infix::LogicalOr, Ok(true)) => Some(true),
+        _ => None,
+    }
+}
+
+/// The bytes of a text literal.
+fn literal_length(e: &Resolved) -> u64
+    ensures is { result ≡ literal_length (term_of e.now) }
+    ensures few { result < 2 ^ 63 }
+{
+    match e {
+        Resolved::Text(text) => text.len() as u64,
+        _ => 0,
+    }
+}
+
+/// The field or alternative at a path.
+fn selected(x: Operand<'_>, place: usize) -> Result<Operand<'_>, MapFaultKind>
+    ensures is { (nodes : List TableNode) → Comes nodes result (leads_to (present (selected (operand_of nodes x.entry) place))).outcome }
+    ensures operand { IfOk result IsOperand }
+{
+    match x {
+        Operand::Value(value) => match paths::selected(value, place) {
+            Some(field) => Ok(Operand::Value(field)),
+            None => Err(MapFaultKind::Absent),
+        },
+        Operand::Scalar(_) | Operand::Text(_) => Err(MapFaultKind::Absent),
+    }
+}
+
+/// The element at an index.
+fn element<'a>(p: Operand<'a>, n: Content<'_>) -> Result<Operand<'a>, MapFaultKind>
+    ensures is { (nodes : List TableNode) (x : Label) → IsHeld n.entry x → Comes nodes result (leads_to (element (operand_of nodes p.entry) x)).outcome }
+    ensures operand { IfOk result IsOperand }
+{
+    match (p, n) {
+        (Operand::Value(value), Content::Scalar(Scalar::Integer(i, _number))) => Ok(Operand::Value(
+            paths::element(value, i)?,
+        )),
+        _ => Err(MapFaultKind::Absent),
+    }
+}
+
+/// How many elements an array has, and how many bits a value.
+fn attribute_of(attribute: Attribute, x: Operand<'_>) -> Result<Scalar, MapFaultKind>
+    ensures is { (nodes : List TableNode) → computed_of result ≡ attribute_of attribute (operand_of nodes x.entry) }
+    ensures scalar { IfOk result IsScalar }
+{
+    let Operand::Value(value) = x else {
+        return Err(MapFaultKind::Absent);
+    };
+    match attribute {
+        Attribute::Length if matches!(value.kind(), Kind::Array) => Ok(Scalar::Integer(
+            value.len() as i128,
+            UNSIGNED,
+        )),
+        Attribute::Length => Err(MapFaultKind::Absent),
+        Attribute::Size => Ok(Scalar::Offset(i128::from(value.size()), UNSIGNED, 1)),
+    }
+}
+
+/// The type of lengths and sizes.
+const UNSIGNED: IntegerType = IntegerType {
+    width: 64,
+    signed: false,
+};
+
+/// A number that was chosen, as the type of the choice.
+#[tactic(auto, unfolding(pickle_meaning::specs::Arithmetic::to_integer))]
+fn as_common(common: &Option<IntegerType>, x: Content<'_>) -> Result<Scalar, MapFaultKind>
+    requires common { IsOptionalWidth common.now }
+    requires content { IsSoundContent x }
+    ensures is { (y : Label) → IsHeld x.entry y → computed_of result ≡ as_common common.now y }
+    ensures scalar { IfOk result IsScalar }
+{
+    match (common, x) {
+        (Some(number), x) => to_integer(*number, x),
+        (None, Content::Scalar(scalar)) => Ok(scalar),
+        (None, Content::Text(_) | Content::Other) => Err(MapFaultKind::Absent),
+    }
+}

@@ -1,0 +1,44 @@
+//! The values of expressions, for those who tell of a mapping.
+
+ghost use Rattle.pickle_types.specs.Sound.{IsSoundTerm};
+ghost use Rattle.pickle_types.specs.Table.{term_of};
+ghost use Rattle.pickle_meaning.specs.Evaluation.{evaluation};
+ghost use Rattle.pickle_evaluation.specs.Known.{KnownOf};
+ghost use Rattle.value_store.specs.Shown.{kept};
+
+use crate::expression::evaluate;
+use value_store::scalar::Scalar;
+use crate::operand::Operand;
+use value_store::store::Store;
+use value_store::value::ValueRef;
+use bit_space::Meter;
+use pickle_types::integer::IntegerType;
+use pickle_types::view::{Node, Resolved};
+
+/// What an expression comes to, with the names of a table.
+#[derive(Clone, Copy)]
+pub enum Known<'a> {
+    Integer(i128, IntegerType),
+    /// A magnitude with its type, and the unit in bits.
+    Offset(i128, IntegerType, u32),
+    Text(&'a [u8]),
+    /// The value at a path.
+    Value(ValueRef<'a>),
+}
+
+/// What an expression comes to on the open values of a store; nothing where it has a fault.
+pub fn known_value<'a>(table: &'a [Node], e: &'a Resolved, store: &'a Store) -> Option<Known<'a>>
+    requires { IsSoundTerm (term_of e.now) }
+    ensures { KnownOf result (evaluation (term_of e.now) (kept table.now store.now)) }
+{
+    let mut meter = Meter::new(u64::MAX);
+    match evaluate(table, e, store, &mut meter) {
+        Ok(Operand::Scalar(Scalar::Integer(number, of))) => Some(Known::Integer(number, of)),
+        Ok(Operand::Scalar(Scalar::Offset(magnitude, of, unit))) => {
+            Some(Known::Offset(magnitude, of, unit))
+        }
+        Ok(Operand::Text(text)) => Some(Known::Text(text)),
+        Ok(Operand::Value(value)) => Some(Known::Value(ValueRef::new(value, table))),
+        Err(_) => None,
+    }
+}

@@ -1,0 +1,40 @@
+//! What an expression comes to.
+
+ghost use Rattle.std.specs.Prelude.{◌≡◌};
+ghost use Rattle.pickle_evaluation.specs.declared.operand.Unvalued.TheVariants.{Fault, Limit};
+
+use value_store::scalar::Scalar;
+use pickle_meaning::faults::MapFaultKind;
+use value_store::stored::StoredValue;
+use bit_space::LimitPassed;
+
+/// What an expression comes to: a computed number, a text, or the value at a path, as the store lends it.
+#[derive(Clone, Copy)]
+pub enum Operand<'a> {
+    Scalar(Scalar),
+    Text(&'a [u8]),
+    Value(StoredValue<'a>),
+}
+
+/// Why an expression has no value: its first fault, or no step was left.
+#[derive(Clone, Copy, Debug, PartialEq, Eq)]
+pub enum Unvalued {
+    Fault(MapFaultKind),
+    Limit,
+}
+
+impl From<LimitPassed> for Unvalued {
+    ghost from_gives = { λ _ e. e ≡ Limit };
+
+    fn from(_passed: LimitPassed) -> Unvalued {
+        Unvalued::Limit
+    }
+}
+
+impl From<MapFaultKind> for Unvalued {
+    ghost from_gives = { λ kind e. e ≡ Fault kind };
+
+    fn from(kind: MapFaultKind) -> Unvalued {
+        Unvalued::Fault(kind)
+    }
+}

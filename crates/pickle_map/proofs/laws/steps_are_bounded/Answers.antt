@@ -1,6 +1,0 @@
-use Rattle.pickle_map.proofs.laws.steps_are_bounded.Goals as goal
-use Rattle.pickle_map.proofs.Costs.{plan_at_most}
-
--- src/laws.rt
-pub returns : goal.returns
-returns c = record { law = plan_at_most }

@@ -1,6 +1,0 @@
-use Rattle.pickle_map.proofs.laws.tries_are_few.Goals as goal
-use Rattle.pickle_map.proofs.Outcomes.{tries_few}
-
--- src/laws.rt
-pub returns : goal.returns
-returns c = record { law = tries_few }

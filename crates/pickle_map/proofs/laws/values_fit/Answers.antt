@@ -1,6 +1,0 @@
-use Rattle.pickle_map.proofs.laws.values_fit.Goals as goal
-use Rattle.pickle_map.proofs.Fitting.{values_fit}
-
--- src/laws.rt
-pub returns : goal.returns
-returns c = record { law = values_fit }

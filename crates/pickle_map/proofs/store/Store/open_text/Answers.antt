@@ -1,6 +1,0 @@
-use Rattle.pickle_map.proofs.Writing.{opened-writing}
-use Rattle.pickle_map.proofs.store.Store.open_text.Goals as goal
-
-pub returns-clause-writes : goal.returns-clause-writes
-returns-clause-writes c = λ start.
-    opened-writing c.args.self.now c.open_level.new.self start c.open_level.ensures.fresh c.open_level.ensures.sound c.open_level.ensures.levels

@@ -1,6 +1,0 @@
-use Rattle.std.proofs.Common.{◌≡◌, ◌-◌, length, drop}
-use Rattle.pickle_map.specs.Packed.{bytes_number}
-use Rattle.pickle_map.proofs.store.element.bytes_number.Given as goal
-
-abbrev pub invariant-loop-i : goal.invariant-loop-i
-invariant-loop-i l = l.number ≡ bytes_number (drop (length l.bytes - l.i) l.bytes)

@@ -1,0 +1,11 @@
+pub mod FaultNames
+pub mod Numbers
+pub mod Values
+pub mod Arithmetic
+pub mod Evaluation
+pub mod Clauses
+pub mod Means
+pub mod Answer
+pub mod Fits
+pub mod Room
+pub mod Laws

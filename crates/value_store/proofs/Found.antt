@@ -1,0 +1,84 @@
+-- What is read of a sound store.
+use Rattle.std.proofs.Common.{◌≡◌, ℕ, zero, suc, ◌+◌, ◌<◌, ◌≤◌, List, [], ◌∷◌, Option, Some, None, length, map, refl, sym, ◌∙◌, ap, subst, arith, zero-add}
+use Rattle.std.specs.Prelude.{slice_get, unwrap_or, IfSome}
+use Rattle.std.specs.Option.{option_map}
+use Rattle.std.proofs.lemmas.Option.{slice_get-get_or, get_or_from_slice_get, slice_get-map}
+use Rattle.value_store.specs.declared.store.slots.Node.{Node}
+use Rattle.value_store.specs.Tree.{Value, Tree, ArrayLabel, End, parts_of, options_of, label, start, size, parts}
+use Rattle.value_store.specs.Slots.{Slots, opened, links_of, parts_in, tree_of, trees, value_at, LinksBelow, IsRead, IsNodeAt, AreNodesFrom, IsSound}
+use Rattle.value_store.proofs.Grown.{get-trees_from, length-trees}
+
+pub options-parts : (os : List (Option Value)) → options_of (parts_of os) ≡ os
+options-parts [] = refl
+options-parts (None ∷ os) = ap (λ ps. None ∷ ps) (options-parts os)
+options-parts (Some v ∷ os) = ap (λ ps. Some v ∷ ps) (options-parts os)
+
+AreNodes-at : (s : Slots) (i : ℕ) (ns : List Node) (k : ℕ) (n : Node) → AreNodesFrom s i ns → slice_get ns k ≡ Some n → IsNodeAt s (i + k) n
+AreNodes-at s i [] k n h g = cc
+AreNodes-at s i (m ∷ ns) zero n h g =
+    let e : m ≡ n = cc in let z : i ≡ i + 0 = omega arith in
+    subst (λ j. IsNodeAt s j n) z (subst (λ x. IsNodeAt s i x) e h.0)
+AreNodes-at s i (m ∷ ns) (suc k) n h g =
+    let z : (i + 1) + k ≡ i + suc k = omega arith in
+    subst (λ j. IsNodeAt s j n) z (AreNodes-at s (i + 1) ns k n h.1 g)
+
+pub node_sound : (s : Slots) (i : ℕ) (n : Node) → IsSound s → slice_get s.nodes i ≡ Some n → IsNodeAt s i n
+node_sound s i n h g = subst (λ j. IsNodeAt s j n) (zero-add i) (AreNodes-at s 0 s.nodes i n h.nodes g)
+
+pub value-at : (s : Slots) (i : ℕ) (n : Node) → IsSound s → slice_get s.nodes i ≡ Some n → value_at s i ≡ tree_of s (trees s) n
+unfolding value_at trees
+value-at s i n h g =
+    get_or_from_slice_get (trees s) i (tree_of s (trees s) n) (Tree ArrayLabel 0 0 End)
+    (ap (slice_get (trees s)) (sym (zero-add i)) ∙ get-trees_from s [] s.nodes i n h.nodes g)
+
+LinksBelow-at : (k : ℕ) (ls : List (Option ℕ)) (i : ℕ) (l : Option ℕ) → LinksBelow k ls → slice_get ls i ≡ Some l → IfSome l (λ j. j < k)
+LinksBelow-at k [] i l h g = cc
+LinksBelow-at k (None ∷ ls) zero l h g = let e : None ≡ l = cc in subst (λ x. IfSome x (λ j. j < k)) e tt
+LinksBelow-at k (Some j ∷ ls) zero l h g = let e : Some j ≡ l = cc in subst (λ x. IfSome x (λ j. j < k)) e h.0
+LinksBelow-at k (None ∷ ls) (suc i) l h g = LinksBelow-at k ls i l h g
+LinksBelow-at k (Some j ∷ ls) (suc i) l h g = LinksBelow-at k ls i l h.1 g
+
+-- what a link below the nodes stands for
+opened-value : (s : Slots) (l : Option ℕ) → IfSome l (λ j. j < length s.nodes) → opened (trees s) l ≡ option_map (value_at s) l
+unfolding value_at
+opened-value s None h = refl
+opened-value s (Some j) h = slice_get-get_or (trees s) j (Tree ArrayLabel 0 0 End) (omega (arith, length-trees s))
+
+IfSome-weaker : (l : Option ℕ) (i k : ℕ) → i ≤ k → IfSome l (λ j. j < i) → IfSome l (λ j. j < k)
+IfSome-weaker None i k p h = tt
+IfSome-weaker (Some j) i k p h = omega arith
+
+parts-at : (s : Slots) (i : ℕ) (n : Node) → IsSound s → slice_get s.nodes i ≡ Some n → parts (value_at s i) ≡ parts_in s (trees s) n.shape n.start n.content
+parts-at s i n h g = ap parts (value-at s i n h g) ∙ options-parts (parts_in s (trees s) n.shape n.start n.content)
+
+below-found : (k : ℕ) (ls : List (Option ℕ)) (i : ℕ) (o : Option (Option ℕ)) → LinksBelow k ls → slice_get ls i ≡ o → IfSome (unwrap_or o None) (λ j. j < k)
+below-found k ls i None h g = tt
+below-found k ls i (Some l) h g = LinksBelow-at k ls i l h g
+
+pub read-node : (s : Slots) (i : ℕ) (n : Node) → IsSound s → slice_get s.nodes i ≡ Some n → IsRead s i n
+read-node s i n h g =
+    let v = value-at s i n h g in
+    let is = node_sound s i n h g in
+    let ls = links_of s n.shape n.content in
+    record {
+      label = ap label v;
+      start = ap start v;
+      size = ap size v;
+      parts = parts-at s i n h g;
+      content = is.content;
+      below = λ k. below-found i ls k (slice_get ls k) is.below refl;
+    }
+
+-- what a link below a node leads to
+pub child-found : (s : Slots) (k : ℕ) (ls : List (Option ℕ)) (o : Option (Option ℕ)) → k ≤ length s.nodes → IfSome (unwrap_or o None) (λ j. j < k) → option_map (value_at s) (unwrap_or o None) ≡ unwrap_or (option_map (opened (trees s)) o) None
+child-found s k ls None p h = refl
+child-found s k ls (Some l) p h = sym (opened-value s l (IfSome-weaker l k (length s.nodes) p h))
+
+-- links that stand for values of the store
+pub links-read : (s : Slots) (ls : List (Option ℕ)) (i : ℕ) → LinksBelow (length s.nodes) ls → option_map (value_at s) (unwrap_or (slice_get ls i) None) ≡ unwrap_or (slice_get (map (opened (trees s)) ls) i) None
+links-read s ls i h =
+    child-found s (length s.nodes) ls (slice_get ls i) (omega arith) (below-found (length s.nodes) ls i (slice_get ls i) h refl)
+    ∙ sym (ap (λ o. unwrap_or o None) (slice_get-map (opened (trees s)) ls i))
+
+pub links-below : (s : Slots) (ls : List (Option ℕ)) (i : ℕ) → LinksBelow (length s.nodes) ls → IfSome (unwrap_or (slice_get ls i) None) (λ j. j < length s.nodes)
+links-below s ls i h = below-found (length s.nodes) ls i (slice_get ls i) h refl

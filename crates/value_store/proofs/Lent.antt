@@ -1,0 +1,106 @@
+-- What an array of packed numbers lends.
+use Rattle.std.proofs.Common.{◌≡◌, ℕ, zero, suc, ◌+◌, ◌-◌, ◌*◌, ◌/◌, ◌<◌, ◌≤◌, ◌^◌, List, [], ◌∷◌, Some, length, take, drop, pow_mono, refl, sym, ◌∙◌, ap, subst, arith, rules}
+use Rattle.std.specs.Prelude.{◌%◌, slice_range, slice_get, slice_index, slice_index_or}
+use Rattle.std.proofs.lemmas.List.{drop-drop, get_or-drop, drop_more, length-drop}
+use Rattle.std.proofs.lemmas.Nat.{pow-add, div-add-mod', mul-le}
+use Rattle.value_store.specs.declared.store.slots.Shape.{Shape}
+use Rattle.value_store.specs.Packed.{bytes_number, unpacked, numbers_in, bytes_for}
+use Rattle.value_store.specs.Slots.{elements, element_value, element_width}
+
+pub length-unpacked : (k n : ℕ) (bs : List ℕ) → length (unpacked k n bs) ≡ n
+length-unpacked k zero bs = refl
+length-unpacked k (suc n) bs = ap suc (length-unpacked k n (drop k bs))
+
+-- a packed number is that of its bytes
+pub unpacked-at : (k n : ℕ) (bs : List ℕ) (i : ℕ) → i < n → slice_index (unpacked k n bs) i ≡ bytes_number (take k (drop (k * i) bs))
+unpacked-at k zero bs i p = omega arith
+unpacked-at k (suc n) bs zero p = let e : k * 0 ≡ 0 = omega arith in rw e refl
+unpacked-at k (suc n) bs (suc i) p =
+    let e : k * suc i ≡ k + k * i = omega arith in
+    unpacked-at k n (drop k bs) i (omega arith) ∙ ap (λ xs. bytes_number (take k xs)) (drop-drop (k * i) k bs) ∙ ap (λ m. bytes_number (take k (drop m bs))) (sym e)
+
+pub length-elements : (shape : Shape) (start : ℕ) (ns : List ℕ) → length (elements shape start ns) ≡ length ns
+length-elements shape start [] = refl
+length-elements shape start (n ∷ ns) = ap suc (length-elements shape (start + element_width shape) ns)
+
+pub elements-at : (shape : Shape) (start : ℕ) (ns : List ℕ) (i : ℕ) → i < length ns →
+    slice_get (elements shape start ns) i ≡ Some (Some (element_value shape (start + element_width shape * i) (slice_index ns i)))
+elements-at shape start [] i p = search rules
+elements-at shape start (n ∷ ns) zero p = let e : start + element_width shape * 0 ≡ start = omega arith in rw e refl
+elements-at shape start (n ∷ ns) (suc i) p =
+    let w = element_width shape in
+    let e : (start + w) + w * i ≡ start + w * suc i = omega arith in
+    elements-at shape (start + w) ns i (omega arith) ∙ ap (λ at. Some (Some (element_value shape at (slice_index ns i)))) e
+
+-- bytes make a number below 256 to the power of how many they are
+pub bytes_number-below : (bs : List ℕ) → ((i : ℕ) → slice_index_or bs i 0 < 256) → bytes_number bs < 2 ^ (8 * length bs)
+bytes_number-below [] h = omega arith
+bytes_number-below (b ∷ bs) h =
+    let first : b < 256 = h 0 in
+    let rest : bytes_number bs < 2 ^ (8 * length bs) = bytes_number-below bs (λ i. h (suc i)) in
+    let n : 8 * suc (length bs) ≡ 8 + 8 * length bs = omega arith in
+    let e : 2 ^ (8 * suc (length bs)) ≡ 256 * 2 ^ (8 * length bs) = ap (λ m. 2 ^ m) n ∙ pow-add 2 8 (8 * length bs) in
+    omega (arith, first, rest, e)
+
+-- so do the last ones, with one more before them
+pub last_bytes-below : (bs : List ℕ) (i : ℕ) → i < length bs → length bs ≤ 8 → ((k : ℕ) → slice_index_or bs k 0 < 256) →
+    bytes_number (drop (length bs - i) bs) * 256 + slice_index_or bs (length bs - 1 - i) 0 < 2 ^ 64
+last_bytes-below bs i p most h =
+    let at = length bs - 1 - i in
+    let next : at + 1 ≡ length bs - i = omega (arith, p) in
+    let own : drop at bs ≡ slice_index_or bs at 0 ∷ drop (at + 1) bs = drop_more bs at 0 (omega (arith, p)) in
+    let below : bytes_number (drop at bs) < 2 ^ (8 * length (drop at bs)) = bytes_number-below (drop at bs) (λ k. subst (λ x. x < 256) (sym (get_or-drop at bs k 0)) (h (at + k))) in
+    let wide : 2 ^ (8 * length (drop at bs)) ≤ 2 ^ 64 = pow_mono {j = 64} (omega (arith, length-drop at bs, most)) in
+    let is : bytes_number (drop at bs) ≡ slice_index_or bs at 0 + 256 * bytes_number (drop (length bs - i) bs) = ap bytes_number own ∙ ap (λ m. slice_index_or bs at 0 + 256 * bytes_number (drop m bs)) next in
+    omega (arith, below, wide, is)
+
+-- a number of one byte is that byte
+one_byte : (bs : List ℕ) (i : ℕ) → i < length bs → bytes_number (take 1 (drop (1 * i) bs)) ≡ slice_index bs i
+one_byte bs i p =
+    let e : 1 * i ≡ i = omega arith in
+    let own : drop i bs ≡ slice_index_or bs i 0 ∷ drop (i + 1) bs = drop_more bs i 0 p in
+    let last : slice_index_or bs i 0 + 256 * 0 ≡ slice_index bs i = omega arith in
+    ap (λ m. bytes_number (take 1 (drop m bs))) e ∙ ap (λ xs. bytes_number (take 1 xs)) own ∙ last
+
+pub length-numbers : (w : ℕ) (bs : List ℕ) → length (numbers_in w bs) ≡ length bs / bytes_for w
+length-numbers w bs = length-unpacked (bytes_for w) (length bs / bytes_for w) bs
+
+-- a byte for each
+pub length-byte_numbers : (w : ℕ) (bs : List ℕ) → 1 ≤ w → w ≤ 8 → length (numbers_in w bs) ≡ length bs
+length-byte_numbers w bs some most =
+    let one : bytes_for w ≡ 1 = omega arith in
+    length-numbers w bs ∙ ap (λ k. length bs / k) one ∙ omega arith
+
+-- a whole row of k lies below n
+row_within : (n k i : ℕ) → i < n / k → i * k + k ≤ n
+row_within n k i p =
+    let whole : n / k * k + n % k ≡ n = div-add-mod' n k in
+    let less : (i + 1) * k ≤ n / k * k = mul-le (i + 1) k (n / k) k (omega arith) (omega arith) in
+    omega (arith, whole, less)
+
+-- the bytes of a number are there
+pub number_within : (w : ℕ) (bs : List ℕ) (i : ℕ) → i < length (numbers_in w bs) → i * bytes_for w + bytes_for w ≤ length bs
+number_within w bs i p = row_within (length bs) (bytes_for w) i (omega (arith, p, length-numbers w bs))
+
+pub number-at : (w : ℕ) (bs : List ℕ) (i : ℕ) → i < length (numbers_in w bs) →
+    slice_index (numbers_in w bs) i ≡ bytes_number (slice_range bs (i * bytes_for w) (i * bytes_for w + bytes_for w))
+number-at w bs i p =
+    let k = bytes_for w in
+    let below : i < length bs / k = omega (arith, p, length-numbers w bs) in
+    let at : k * i ≡ i * k = omega arith in
+    let size : k ≡ (i * k + k) - i * k = omega arith in
+    unpacked-at k (length bs / k) bs i below ∙ ap (λ m. bytes_number (take k (drop m bs))) at ∙ ap (λ m. bytes_number (take m (drop (i * k) bs))) size
+
+pub byte_within : (w : ℕ) (bs : List ℕ) (i : ℕ) → 1 ≤ w → w ≤ 8 → i < length (numbers_in w bs) → i < length bs
+byte_within w bs i some most p =
+    let one : bytes_for w ≡ 1 = omega arith in
+    let fits : i * bytes_for w + bytes_for w ≤ length bs = number_within w bs i p in
+    let e : i * bytes_for w ≡ i * 1 = ap (λ k. i * k) one in
+    omega (arith, fits, e, one)
+
+pub byte-at : (w : ℕ) (bs : List ℕ) (i : ℕ) → 1 ≤ w → w ≤ 8 → i < length (numbers_in w bs) → slice_index (numbers_in w bs) i ≡ slice_index bs i
+byte-at w bs i some most p =
+    let one : bytes_for w ≡ 1 = omega arith in
+    let below : i < length bs / bytes_for w = omega (arith, p, length-numbers w bs) in
+    unpacked-at (bytes_for w) (length bs / bytes_for w) bs i below
+    ∙ ap (λ k. bytes_number (take k (drop (k * i) bs))) one ∙ one_byte bs i (byte_within w bs i some most p)

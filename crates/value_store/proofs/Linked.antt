@@ -1,0 +1,158 @@
+-- What the parts of a node are.
+use Rattle.std.proofs.Common.{◌≡◌, ℕ, ◌<◌, ◌≤◌, ◌⊎◌, inl, inr, Bool, List, [], Option, Some, None, length, map, refl, sym, ◌∙◌, ap, subst, arith}
+use Rattle.std.specs.Prelude.{slice_get, slice_index_or, unwrap_or, IfSome}
+use Rattle.std.specs.Option.{option_map}
+use Rattle.std.proofs.lemmas.List.{length-map}
+use Rattle.std.proofs.lemmas.Option.{slice_get_past, slice_get_within, slice_get-get_or, slice_get-map}
+use Rattle.value_store.specs.declared.store.slots.Node.{Node}
+use Rattle.value_store.specs.declared.store.slots.Place.TheVariants as place
+use Rattle.value_store.specs.declared.store.slots.Shape.{Shape}
+use Rattle.value_store.specs.declared.store.slots.Shape.TheVariants.{Integer, Offset, Text, Integers, Offsets, Array, Struct, Union}
+use Rattle.value_store.specs.Slots.{Slots, opened, IsSound, links_of, parts_in, trees, value_at, row_numbers, elements, element_width, IsPacked, IsContent, IsRead}
+use Rattle.value_store.specs.Tree.{Value, parts, part_at}
+use Rattle.value_store.specs.Linked.{node_links, links_from}
+use Rattle.value_store.specs.Lent.{place_value, numbers_of, element_in, packed_count, element_count, IsPlace}
+use Rattle.value_store.proofs.Found.{child-found, read-node}
+use Rattle.value_store.proofs.Lent.{length-elements, elements-at}
+
+packed-parts : (s : Slots) (ts : List Value) (shape : Shape) (start c : ℕ) → IsPacked shape → parts_in s ts shape start c ≡ elements shape start (row_numbers s (element_width shape) c)
+packed-parts s ts (Integer w g) start c p = absurd p
+packed-parts s ts (Offset w g u) start c p = absurd p
+packed-parts s ts Text start c p = absurd p
+packed-parts s ts (Integers w g) start c p = refl
+packed-parts s ts (Offsets w g u) start c p = refl
+packed-parts s ts Array start c p = absurd p
+packed-parts s ts (Struct t) start c p = absurd p
+packed-parts s ts (Union t i) start c p = absurd p
+
+-- no array of packed numbers
+pub record HasLinks (shape : Shape) : Type 0 where
+  pub not_integers : (w : ℕ) (g : Bool) → shape ≡ Integers w g → ⊥
+  pub not_offsets : (w : ℕ) (g : Bool) (u : ℕ) → shape ≡ Offsets w g u → ⊥
+
+linked-parts : (s : Slots) (ts : List Value) (shape : Shape) (start c : ℕ) → HasLinks shape → parts_in s ts shape start c ≡ map (opened ts) (links_of s shape c)
+linked-parts s ts (Integer w g) start c p = refl
+linked-parts s ts (Offset w g u) start c p = refl
+linked-parts s ts Text start c p = refl
+linked-parts s ts (Integers w g) start c p = absurd (p.not_integers w g refl)
+linked-parts s ts (Offsets w g u) start c p = absurd (p.not_offsets w g u refl)
+linked-parts s ts Array start c p = refl
+linked-parts s ts (Struct t) start c p = refl
+linked-parts s ts (Union t i) start c p = refl
+
+-- what links tell of the parts of a node
+pub record AreLinks (s : Slots) (at : ℕ) (links : List (Option ℕ)) : Type 0 where
+  pub count : length links ≡ length (parts (value_at s at))
+  pub part : (k : ℕ) → option_map (value_at s) (unwrap_or (slice_get links k) None) ≡ part_at (value_at s at) k
+  pub below : (k : ℕ) → IfSome (unwrap_or (slice_get links k) None) (λ j. j < at)
+
+pub are_links : (s : Slots) (at : ℕ) (n : Node) (links : List (Option ℕ)) → slice_get s.nodes at ≡ Some n → IsRead s at n → HasLinks n.shape → links ≡ links_from s at → AreLinks s at links
+are_links s at n links got r has is =
+    let ls = links_of s n.shape n.content in
+    let within : at < length s.nodes = slice_get_within s.nodes at n got in
+    let own : parts (value_at s at) ≡ map (opened (trees s)) ls = r.parts ∙ linked-parts s (trees s) n.shape n.start n.content has in
+    let are : AreLinks s at (node_links s (Some n)) = record {
+      count = sym (ap length own ∙ length-map ls (opened (trees s)));
+      part = λ k.
+          child-found s at ls (slice_get ls k) (omega (arith, within)) (r.below k)
+          ∙ sym (ap (λ os. unwrap_or (slice_get os k) None) own ∙ ap (λ o. unwrap_or o None) (slice_get-map (opened (trees s)) ls k));
+      below = r.below;
+    } in
+    subst (AreLinks s at) (sym is) (subst (λ o. AreLinks s at (node_links s o)) (sym got) are)
+
+-- packed numbers of that many bits each
+pub record IsRowShape (s : Slots) (shape : Shape) (c w : ℕ) : Type 0 where
+  pub packed : IsPacked shape
+  pub width : element_width shape ≡ w
+  pub count : packed_count s shape c ≡ length (row_numbers s w c)
+
+pub row_shape : (s : Slots) (shape : Shape) (start c w : ℕ) → ((g : Bool) × (shape ≡ Integers w g)) ⊎ ((g : Bool) × (u : ℕ) × (shape ≡ Offsets w g u)) →
+    IsContent s shape start c → IsRowShape s shape c w
+row_shape s shape start c w (inl (g, e)) h =
+    let own : IsContent s (Integers w g) start c = subst (λ x. IsContent s x start c) e h in
+    subst (λ x. IsRowShape s x c w) (sym e) (record { packed = (own.1.some, own.1.most); width = refl; count = refl })
+row_shape s shape start c w (inr (g, u, e)) h =
+    let own : IsContent s (Offsets w g u) start c = subst (λ x. IsContent s x start c) e h in
+    subst (λ x. IsRowShape s x c w) (sym e) (record { packed = (own.1.0.some, own.1.0.most, own.1.1); width = refl; count = refl })
+
+-- an array of packed numbers has its elements as parts
+pub row-count : (s : Slots) (at : ℕ) (n : Node) (w : ℕ) → IsRead s at n → IsRowShape s n.shape n.content w → length (parts (value_at s at)) ≡ length (row_numbers s w n.content)
+row-count s at n w r is =
+    ap length (r.parts ∙ packed-parts s (trees s) n.shape n.start n.content is.packed)
+    ∙ length-elements n.shape n.start (numbers_of s n)
+    ∙ ap (λ k. length (row_numbers s k n.content)) is.width
+
+pub row-part : (s : Slots) (at : ℕ) (n : Node) (w i : ℕ) → slice_get s.nodes at ≡ Some n → IsRead s at n → IsRowShape s n.shape n.content w → i < length (row_numbers s w n.content) →
+    part_at (value_at s at) i ≡ Some (place_value s (place.Element at i))
+row-part s at n w i got r is p =
+    let own : parts (value_at s at) ≡ elements n.shape n.start (numbers_of s n) = r.parts ∙ packed-parts s (trees s) n.shape n.start n.content is.packed in
+    let within : i < length (numbers_of s n) = subst (λ k. i < length (row_numbers s k n.content)) (sym is.width) p in
+    ap (λ os. unwrap_or (slice_get os i) None) own
+    ∙ ap (λ o. unwrap_or o None) (elements-at n.shape n.start (numbers_of s n) i within)
+    ∙ ap (λ o. Some (element_in s o i)) (sym got)
+
+pub row-past : (s : Slots) (at : ℕ) (n : Node) (w i : ℕ) → IsRead s at n → IsRowShape s n.shape n.content w → length (row_numbers s w n.content) ≤ i → part_at (value_at s at) i ≡ None
+row-past s at n w i r is past =
+    let count = row-count s at n w r is in
+    ap (λ o. unwrap_or o None) (slice_get_past (parts (value_at s at)) i (omega (arith, count, past)))
+
+pub has_element : (s : Slots) (at : ℕ) (n : Node) (w i : ℕ) → slice_get s.nodes at ≡ Some n → IsRowShape s n.shape n.content w → i < length (row_numbers s w n.content) →
+    IsPlace s (place.Element at i)
+has_element s at n w i got is p = subst (λ o. i < element_count s o) (sym got) (omega (arith, p, is.count))
+
+-- what the parts of a node are, by its links and how many packed numbers it has
+pub record ArePartsAt (s : Slots) (at : ℕ) (links : List (Option ℕ)) (packed : ℕ) : Type 0 where
+  pub packed_count : 0 < packed → packed ≡ length (parts (value_at s at))
+  pub link_count : packed ≡ 0 → length links ≡ length (parts (value_at s at))
+  pub packed_part : (i : ℕ) → i < packed → Some (place_value s (place.Element at i)) ≡ part_at (value_at s at) i
+  pub packed_place : (i : ℕ) → i < packed → IsPlace s (place.Element at i)
+  pub link_part : (i : ℕ) → packed ≤ i → option_map (value_at s) (unwrap_or (slice_get links i) None) ≡ part_at (value_at s at) i
+  pub below : (i : ℕ) → IfSome (unwrap_or (slice_get links i) None) (λ j. j < at)
+
+parts_by_links : (s : Slots) (at : ℕ) (n : Node) → slice_get s.nodes at ≡ Some n → IsRead s at n → HasLinks n.shape → packed_count s n.shape n.content ≡ 0 →
+    ArePartsAt s at (links_from s at) (element_count s (slice_get s.nodes at))
+parts_by_links s at n got r has none =
+    let links = are_links s at n (links_from s at) got r has refl in
+    let zero : element_count s (slice_get s.nodes at) ≡ 0 = ap (element_count s) got ∙ none in
+    record {
+      packed_count = λ p. absurd (omega (arith, p, zero));
+      link_count = λ e. links.count;
+      packed_part = λ i p. absurd (omega (arith, p, zero));
+      packed_place = λ i p. absurd (omega (arith, p, zero));
+      link_part = λ i p. links.part i;
+      below = links.below;
+    }
+
+parts_by_row : (s : Slots) (at : ℕ) (n : Node) (w : ℕ) → slice_get s.nodes at ≡ Some n → IsRead s at n → IsRowShape s n.shape n.content w → links_of s n.shape n.content ≡ [] →
+    ArePartsAt s at (links_from s at) (element_count s (slice_get s.nodes at))
+parts_by_row s at n w got r is none =
+    let row = length (row_numbers s w n.content) in
+    let count : element_count s (slice_get s.nodes at) ≡ row = ap (element_count s) got ∙ is.count in
+    let links : links_from s at ≡ [] = ap (node_links s) got ∙ none in
+    let found : (i : ℕ) → unwrap_or (slice_get (links_from s at) i) None ≡ None = λ i. ap (λ ls. unwrap_or (slice_get ls i) None) links in
+    let whole = row-count s at n w r is in
+    record {
+      packed_count = λ p. count ∙ sym whole;
+      link_count = λ e. ap length links ∙ sym (whole ∙ sym count ∙ e);
+      packed_part = λ i p. sym (row-part s at n w i got r is (omega (arith, p, count)));
+      packed_place = λ i p. has_element s at n w i got is (omega (arith, p, count));
+      link_part = λ i p. ap (option_map (value_at s)) (found i) ∙ sym (row-past s at n w i r is (omega (arith, p, count)));
+      below = λ i. subst (λ o. IfSome o (λ j. j < at)) (sym (found i)) tt;
+    }
+
+parts_by_shape : (s : Slots) (at : ℕ) (n : Node) (shape : Shape) → n.shape ≡ shape → slice_get s.nodes at ≡ Some n → IsRead s at n →
+    ArePartsAt s at (links_from s at) (element_count s (slice_get s.nodes at))
+parts_by_shape s at n (Integer w g) e got r = parts_by_links s at n got r (subst HasLinks (sym e) (record { not_integers = λ v h q. cc; not_offsets = λ v h u q. cc })) (ap (λ x. packed_count s x n.content) e)
+parts_by_shape s at n (Offset w g u) e got r = parts_by_links s at n got r (subst HasLinks (sym e) (record { not_integers = λ v h q. cc; not_offsets = λ v h u q. cc })) (ap (λ x. packed_count s x n.content) e)
+parts_by_shape s at n Text e got r = parts_by_links s at n got r (subst HasLinks (sym e) (record { not_integers = λ v h q. cc; not_offsets = λ v h u q. cc })) (ap (λ x. packed_count s x n.content) e)
+parts_by_shape s at n (Integers w g) e got r = parts_by_row s at n w got r (row_shape s n.shape n.start n.content w (inl (g, e)) r.content) (ap (λ x. links_of s x n.content) e)
+parts_by_shape s at n (Offsets w g u) e got r = parts_by_row s at n w got r (row_shape s n.shape n.start n.content w (inr (g, u, e)) r.content) (ap (λ x. links_of s x n.content) e)
+parts_by_shape s at n Array e got r = parts_by_links s at n got r (subst HasLinks (sym e) (record { not_integers = λ v h q. cc; not_offsets = λ v h u q. cc })) (ap (λ x. packed_count s x n.content) e)
+parts_by_shape s at n (Struct t) e got r = parts_by_links s at n got r (subst HasLinks (sym e) (record { not_integers = λ v h q. cc; not_offsets = λ v h u q. cc })) (ap (λ x. packed_count s x n.content) e)
+parts_by_shape s at n (Union t i) e got r = parts_by_links s at n got r (subst HasLinks (sym e) (record { not_integers = λ v h q. cc; not_offsets = λ v h u q. cc })) (ap (λ x. packed_count s x n.content) e)
+
+pub parts_at : (s : Slots) (at : ℕ) (links : List (Option ℕ)) (packed : ℕ) → IsSound s → at < length s.nodes → links ≡ links_from s at → packed ≡ element_count s (slice_get s.nodes at) → ArePartsAt s at links packed
+parts_at s at links packed h within own count =
+    let n = slice_index_or s.nodes at (record { start = 0; content = 0; shape = Text }) in
+    let got : slice_get s.nodes at ≡ Some n = slice_get-get_or s.nodes at _ within in
+    subst (λ k. ArePartsAt s at links k) (sym count) (subst (λ ls. ArePartsAt s at ls (element_count s (slice_get s.nodes at))) (sym own) (parts_by_shape s at n n.shape refl got (read-node s at n h got)))

@@ -1,0 +1,187 @@
+-- Arrays of packed numbers under way.
+use Rattle.std.proofs.Common.{◌≡◌, ℕ, ◌+◌, ◌*◌, ◌^◌, ◌<◌, ◌≤◌, true, List, [], ◌∷◌, ◌++◌, Some, Result, Ok, Err, OnOk, length, take, sym, ◌∙◌, ap, subst, arith}
+use Rattle.std.specs.Prelude.{All}
+use Rattle.std.specs.Int.{to_le_bytes, w64}
+use Rattle.std.proofs.Math.Nat.{mul-zero, mul-le-mul_left}
+use Rattle.std.proofs.lemmas.List.{append-nil, length_push}
+use Rattle.std.proofs.lemmas.List.Elements.{All-push}
+use Rattle.value_store.specs.declared.store.room.Room.{Room}
+use Rattle.value_store.specs.declared.store.slots.Shape.{Shape}
+use Rattle.value_store.specs.declared.store.slots.Shape.TheVariants.{Integer, Offset, Text, Integers, Offsets, Array, Struct, Union}
+use Rattle.value_store.specs.Packed.{bytes_for, number_bytes, packed, numbers_in}
+use Rattle.value_store.specs.Levels.{Levels, top_of, outer_of, extended, pushed}
+use Rattle.value_store.specs.Slots.{Held, packs, levels, AreLevels, IsPacked, element_width, row_value, AreNumbers, with_bytes, with_more, AreBytes, bytes_value, MayKeep, HasNoNode, IsFilling, IsPacking, GoesOn}
+use Rattle.value_store.proofs.Packed.{length-number_bytes, le_bytes-take, packed-push, numbers_in-packed, packed-none, bytes_for-some, bytes_for-most}
+use Rattle.value_store.proofs.Writing.{filling-levels, filling-empty, filling-outer, fresh-empty, empty-fresh, stale-some, fresh-filling, stale-filling, stale-goes_on, opened-filling}
+
+-- the bytes of an array of packed numbers
+abbrev pub row_bytes : Shape → List ℕ → List ℕ
+row_bytes shape numbers = packed (bytes_for (element_width shape)) numbers
+
+are-numbers : (width : ℕ) (numbers : List ℕ) (start : ℕ) → 1 ≤ width → width ≤ 64 → All (λ n. n < 2 ^ width) numbers → start + width * length numbers < 2 ^ 64 →
+    AreNumbers width (numbers_in width (packed (bytes_for width) numbers)) start
+are-numbers width numbers start some most below short =
+    subst (λ ns. AreNumbers width ns start) (sym (numbers_in-packed width numbers some below)) (record { some = some; most = most; short = short; below = below })
+
+pub row-are : (shape : Shape) (numbers : List ℕ) (start : ℕ) → IsPacked shape → All (λ n. n < 2 ^ element_width shape) numbers →
+    start + element_width shape * length numbers < 2 ^ 64 → AreBytes shape (row_bytes shape numbers) start
+row-are (Integer w g) numbers start p below short = absurd p
+row-are (Offset w g u) numbers start p below short = absurd p
+row-are Text numbers start p below short = absurd p
+row-are (Integers w g) numbers start p below short = are-numbers w numbers start p.0 p.1 below short
+row-are (Offsets w g u) numbers start p below short = (are-numbers w numbers start p.0 p.1 below short, p.2)
+row-are Array numbers start p below short = absurd p
+row-are (Struct t) numbers start p below short = absurd p
+row-are (Union i t) numbers start p below short = absurd p
+
+pub row-is : (shape : Shape) (numbers : List ℕ) (start : ℕ) → IsPacked shape → All (λ n. n < 2 ^ element_width shape) numbers →
+    bytes_value shape (row_bytes shape numbers) start ≡ row_value shape numbers start
+row-is (Integer w g) numbers start p below = absurd p
+row-is (Offset w g u) numbers start p below = absurd p
+row-is Text numbers start p below = absurd p
+row-is (Integers w g) numbers start p below = ap (λ ns. row_value (Integers w g) ns start) (numbers_in-packed w numbers p.0 below)
+row-is (Offsets w g u) numbers start p below = ap (λ ns. row_value (Offsets w g u) ns start) (numbers_in-packed w numbers p.0 below)
+row-is Array numbers start p below = absurd p
+row-is (Struct t) numbers start p below = absurd p
+row-is (Union i t) numbers start p below = absurd p
+
+pub row-may : (room : Room) (shape : Shape) → packs room ≡ true → MayKeep room shape
+row-may room (Integer w g) e = tt
+row-may room (Offset w g u) e = tt
+row-may room Text e = tt
+row-may room (Integers w g) e = e
+row-may room (Offsets w g u) e = e
+row-may room Array e = tt
+row-may room (Struct t) e = tt
+row-may room (Union i t) e = tt
+
+pub row-width : (shape : Shape) → IsPacked shape → (1 ≤ element_width shape) × (element_width shape ≤ 64)
+row-width (Integer w g) p = absurd p
+row-width (Offset w g u) p = absurd p
+row-width Text p = absurd p
+row-width (Integers w g) p = p
+row-width (Offsets w g u) p = (p.0, p.1)
+row-width Array p = absurd p
+row-width (Struct t) p = absurd p
+row-width (Union i t) p = absurd p
+
+-- an array that is opened
+pub row-opened : (n : Held) (shape : Shape) (start : ℕ) (outer : Levels) → IsPacked shape → packs n.room ≡ true → start < 2 ^ 64 → HasNoNode n →
+    AreLevels n.room n.frames n.slots → levels n ≡ [] ∷ outer → IsPacking n shape [] start outer
+row-opened n shape start outer p e short fresh all is =
+    let below : All (λ n. n < 2 ^ element_width shape) [] = λ k d h. absurd (omega arith) in
+    let are : AreBytes shape [] start = row-are shape [] start p below (omega (arith, mul-zero (element_width shape))) in
+    record { filling = opened-filling n shape start outer are (row-may n.room shape e) fresh all is; below = below }
+
+-- it stands inside the outer levels
+pub packing-outer : (h : Held) (shape : Shape) (numbers : List ℕ) (start : ℕ) (outer : Levels) → IsPacking h shape numbers start outer → outer_of (levels h) ≡ outer
+packing-outer h shape numbers start outer w = filling-outer h shape (row_bytes shape numbers) start outer w.filling
+
+pub packing-empty : (h : Held) (shape : Shape) (start : ℕ) (outer : Levels) → IsPacking h shape [] start outer → levels h ≡ [] ∷ outer
+packing-empty h shape start outer w = filling-empty h shape start outer w.filling
+
+-- it has a node just where it has numbers
+pub packing-fresh : (h : Held) (shape : Shape) (numbers : List ℕ) (start : ℕ) (outer : Levels) → IsPacking h shape numbers start outer → HasNoNode h → IsPacked shape → numbers ≡ []
+packing-fresh h shape numbers start outer w e p = packed-none (element_width shape) numbers (row-width shape p).0 (fresh-empty h shape (row_bytes shape numbers) start outer w.filling e)
+
+pub packing-stale : (h : Held) (shape : Shape) (numbers : List ℕ) (start : ℕ) (outer : Levels) → IsPacking h shape numbers start outer → numbers ≡ [] → HasNoNode h
+packing-stale h shape numbers start outer w e =
+    empty-fresh h shape start outer (subst (λ ns. IsFilling h shape (row_bytes shape ns) start outer) e w.filling)
+
+-- a number more
+module _ (h : Held) (shape : Shape) (digits : ℕ) (numbers : List ℕ) (start : ℕ) (outer : Levels) (w : IsPacking h shape numbers start outer) (p : IsPacked shape)
+    (small : digits < 2 ^ element_width shape) (short : start + element_width shape * (length numbers + 1) < 2 ^ 64) where
+  more-below : All (λ n. n < 2 ^ element_width shape) (numbers ++ digits ∷ [])
+  more-below = All-push (λ n. n < 2 ^ element_width shape) numbers digits w.below small
+
+  more-are : AreBytes shape (row_bytes shape numbers ++ number_bytes (bytes_for (element_width shape)) digits) start
+  more-are =
+      let count : start + element_width shape * length (numbers ++ digits ∷ []) < 2 ^ 64 = subst (λ n. start + element_width shape * n < 2 ^ 64) (sym (length_push numbers digits)) short in
+      subst (λ bs. AreBytes shape bs start) (packed-push (bytes_for (element_width shape)) digits numbers) (row-are shape (numbers ++ digits ∷ []) start p more-below count)
+
+  pub more-packing : (n : Held) → IsFilling n shape (row_bytes shape numbers ++ number_bytes (bytes_for (element_width shape)) digits) start outer → IsPacking n shape (numbers ++ digits ∷ []) start outer
+  more-packing n f = record {
+    filling = subst (λ bs. IsFilling n shape bs start outer) (sym (packed-push (bytes_for (element_width shape)) digits numbers)) f;
+    below = more-below;
+  }
+
+  pub stale-row : (HasNoNode h → ⊥) → GoesOn h shape (number_bytes (bytes_for (element_width shape)) digits)
+  stale-row n = stale-goes_on h shape (number_bytes (bytes_for (element_width shape)) digits) (row_bytes shape numbers) start outer w.filling n more-are
+
+pub one-are : (shape : Shape) (digits numbers_count start : ℕ) → IsPacked shape → digits < 2 ^ element_width shape →
+    start + element_width shape * (numbers_count + 1) < 2 ^ 64 → AreBytes shape (number_bytes (bytes_for (element_width shape)) digits) start
+one-are shape digits count start p small short =
+    let own = number_bytes (bytes_for (element_width shape)) digits in
+    let below : All (λ n. n < 2 ^ element_width shape) (digits ∷ []) = All-push (λ n. n < 2 ^ element_width shape) [] digits (λ k d h. absurd (omega arith)) small in
+    let one : start + element_width shape * 1 < 2 ^ 64 = omega (arith, mul-le-mul_left (element_width shape) (let o : 1 ≤ count + 1 = omega arith in o)) in
+    subst (λ bs. AreBytes shape bs start) (append-nil own) (row-are shape (digits ∷ []) start p below one)
+
+-- the lowest bytes of the digits
+pub own-bytes : (shape : Shape) (width digits count : ℕ) (bytes : List ℕ) → IsPacked shape → width ≡ element_width shape → count ≡ bytes_for width → bytes ≡ to_le_bytes w64 digits →
+    take count bytes ≡ number_bytes (bytes_for (element_width shape)) digits
+own-bytes shape width digits count bytes p same counts is =
+    let counted : count ≡ bytes_for (element_width shape) = counts ∙ ap (λ w. bytes_for w) same in
+    rw (counted, is) (le_bytes-take (bytes_for (element_width shape)) digits (bytes_for-most (element_width shape) (row-width shape p).1))
+
+-- the array under way takes the digits
+abbrev Takes : (h n : Held) → Shape → (width digits start : ℕ) → Type 0
+Takes h n shape width digits start = (numbers : List ℕ) (outer : Levels) → IsPacking h shape numbers start outer →
+    start + width * (length numbers + 1) < 2 ^ 64 → IsPacking n shape (numbers ++ digits ∷ []) start outer
+
+on_ok : {T E A B : Type 0} (r : Result T E) → (A → B) → OnOk r A → OnOk r B
+on_ok (Ok x) f a = f a
+on_ok (Err x) f a = tt
+
+-- the clauses of the calls
+module _ (h n : Held) (shape : Shape) (width digits start : ℕ) (own : List ℕ) (p : IsPacked shape) (same : width ≡ element_width shape)
+    (small : digits < 2 ^ width) (is : own ≡ number_bytes (bytes_for (element_width shape)) digits) where
+  fresh-takes : HasNoNode h → n ≡ record h { slots = with_bytes shape own start h.slots } → Takes h n shape width digits start
+  fresh-takes fresh e = λ numbers outer w short.
+      let short : start + element_width shape * (length numbers + 1) < 2 ^ 64 = subst (λ m. start + m * (length numbers + 1) < 2 ^ 64) same short in
+      let small : digits < 2 ^ element_width shape = subst (λ m. digits < 2 ^ m) same small in
+      let bytes = number_bytes (bytes_for (element_width shape)) digits in
+      let some : 0 < length bytes = omega (arith, length-number_bytes (bytes_for (element_width shape)) digits, bytes_for-some (element_width shape) (row-width shape p).0) in
+      let e : n ≡ record h { slots = with_bytes shape bytes start h.slots } = subst (λ bs. n ≡ record h { slots = with_bytes shape bs start h.slots }) is e in
+      let are = one-are shape digits (length numbers) start p small short in
+      more-packing h shape digits numbers start outer w p small short n
+      (subst (λ u. IsFilling u shape (row_bytes shape numbers ++ bytes) start outer) (sym e)
+      (fresh-filling h shape bytes (row_bytes shape numbers) start outer w.filling fresh some are))
+
+  stale-takes : (HasNoNode h → ⊥) → n ≡ record h { slots = with_more own h.slots } → Takes h n shape width digits start
+  stale-takes stale e = λ numbers outer w short.
+      let short : start + element_width shape * (length numbers + 1) < 2 ^ 64 = subst (λ m. start + m * (length numbers + 1) < 2 ^ 64) same short in
+      let small : digits < 2 ^ element_width shape = subst (λ m. digits < 2 ^ m) same small in
+      let bytes = number_bytes (bytes_for (element_width shape)) digits in
+      let e : n ≡ record h { slots = with_more bytes h.slots } = subst (λ bs. n ≡ record h { slots = with_more bs h.slots }) is e in
+      let are = more-are h shape digits numbers start outer w p small short in
+      more-packing h shape digits numbers start outer w p small short n
+      (subst (λ u. IsFilling u shape (row_bytes shape numbers ++ bytes) start outer) (sym e)
+      (stale-filling h shape bytes (row_bytes shape numbers) start outer w.filling stale are))
+
+  pub fresh-packs : {T E : Type 0} (r : Result T E) → HasNoNode h → OnOk r (n ≡ record h { slots = with_bytes shape own start h.slots }) → OnOk r (Takes h n shape width digits start)
+  fresh-packs r fresh e = on_ok r (fresh-takes fresh) e
+
+  pub stale-packs : {T E : Type 0} (r : Result T E) → (HasNoNode h → ⊥) → OnOk r (n ≡ record h { slots = with_more own h.slots }) → OnOk r (Takes h n shape width digits start)
+  stale-packs r stale e = on_ok r (stale-takes stale) e
+
+-- the array is closed
+pub settled-row : {T E : Type 0} (r : Result T E) (h n : Held) (shape : Shape) (start : ℕ) → IsPacked shape → HasNoNode h → OnOk r (levels n ≡ pushed (levels h) (Some (bytes_value shape [] start))) →
+    OnOk r ((numbers : List ℕ) (outer : Levels) → IsPacking h shape numbers start outer → levels n ≡ (Some (row_value shape numbers start) ∷ []) ∷ outer)
+settled-row (Ok x) h n shape start p fresh e = λ numbers outer w.
+    let none = packing-fresh h shape numbers start outer w fresh p in
+    let w' : IsPacking h shape [] start outer = subst (λ ns. IsPacking h shape ns start outer) none w in
+    e ∙ ap (λ ls. pushed ls (Some (bytes_value shape [] start))) (packing-empty h shape start outer w')
+    ∙ ap (λ v. (Some v ∷ []) ∷ outer) (row-is shape [] start p w'.below)
+    ∙ ap (λ ns. (Some (row_value shape ns start) ∷ []) ∷ outer) (sym none)
+settled-row (Err x) h n shape start p fresh e = tt
+
+pub stale-row_levels : (h : Held) (shape : Shape) (numbers : List ℕ) (start : ℕ) (outer : Levels) → IsPacking h shape numbers start outer → IsPacked shape → (HasNoNode h → ⊥) →
+    levels h ≡ (Some (row_value shape numbers start) ∷ []) ∷ outer
+stale-row_levels h shape numbers start outer w p stale =
+    filling-levels h shape (row_bytes shape numbers) start outer w.filling (stale-some h shape (row_bytes shape numbers) start outer w.filling stale)
+    ∙ ap (λ v. (Some v ∷ []) ∷ outer) (row-is shape numbers start p w.below)
+
+-- the levels of an array that is lifted
+pub lifted-row : (shape : Shape) (numbers : List ℕ) (start : ℕ) (outer ls : Levels) → ls ≡ (Some (row_value shape numbers start) ∷ []) ∷ outer →
+    extended (outer_of ls) (top_of ls) ≡ pushed outer (Some (row_value shape numbers start))
+lifted-row shape numbers start outer ls e = ap (λ l. extended (outer_of l) (top_of l)) e

@@ -1,0 +1,39 @@
+use Rattle.std.proofs.Common.{refl, rules, ap, subst, sym, arith}
+use Rattle.value_store.specs.Slots.{Slots, Held, GoesOn}
+use Rattle.value_store.specs.contracts.store.Store.{the_view}
+use Rattle.value_store.proofs.Writing.{more-frames, more-placed}
+use Rattle.value_store.proofs.Held.{depth-same}
+use Rattle.value_store.proofs.store.Store.append_bytes.Goals as goal
+
+pub invariant_of-self-2 : goal.invariant_of-self-2
+invariant_of-self-2 c =
+    let h = the_view c.self.inside in
+    let g : GoesOn h c.args.shape c.args.more.now = subst (λ (h : Held). GoesOn h c.args.shape c.args.more.now) (sym c.self.view_is) c.requires in
+    let e = more-placed h c.args.shape c.args.more.now c.len-last.result c.len.result c.append.new.to.items g (search rules) (search rules) (search rules) in
+    record {
+      levels = rw e (more-frames h c.args.shape g.bytes g.start g.outer g.filling g.some c.args.more.now g.are);
+      nodes = search rules;
+      families = search rules;
+      links = search rules;
+      pending = search rules;
+      texts = search rules;
+      bytes = search rules;
+      fixed = λ e. let f = c.self.invariant.fixed e in record {
+        nodes = f.nodes;
+        families = f.families;
+        links = f.links;
+        pending = f.pending;
+        texts = f.texts;
+        bytes = omega (arith, f.bytes, c.reserve.ensures.fixed e, c.append.ensures.fixed e);
+      };
+    }
+
+pub returns-clause-slots : goal.returns-clause-slots
+returns-clause-slots c =
+    let h = the_view c.self.inside in
+    let g : GoesOn h c.args.shape c.args.more.now = subst (λ (h : Held). GoesOn h c.args.shape c.args.more.now) (sym c.self.view_is) c.requires in
+    let e = more-placed h c.args.shape c.args.more.now c.len-last.result c.len.result c.append.new.to.items g (search rules) (search rules) (search rules) in
+    rw (← c.self.view_is) (ap (λ (x : Slots). record { slots = x; frames = h.frames; room = h.room }) e)
+
+pub returns-clause-depth : goal.returns-clause-depth
+returns-clause-depth c = rw (← c.self.view_is) (depth-same _ _ refl)

@@ -1,0 +1,71 @@
+use Rattle.std.proofs.Common.{refl, rules, ◌≡◌, subst, sym, arith}
+use Rattle.value_store.specs.Slots.{Slots, Held, MayKeep, with_bytes}
+use Rattle.value_store.specs.contracts.store.Store.{the_view}
+use Rattle.value_store.proofs.Held.{texts-few}
+use Rattle.value_store.proofs.Writing.{bytes-frames, bytes-levels, bytes-room}
+use Rattle.value_store.proofs.Held.{depth-same}
+use Rattle.value_store.proofs.store.Store.place_bytes.Goals as goal
+
+pub returns-in_err-reserve-clause-succeeds : goal.returns-in_err-reserve-clause-succeeds
+returns-in_err-reserve-clause-succeeds c =
+    let may : MayKeep (the_view c.self.inside).room c.args.shape = subst (λ (h : Held). MayKeep h.room c.args.shape) (sym c.self.view_is) c.requires.may in
+    rw (← c.self.view_is) (λ fits.
+    let r = bytes-room (the_view c.self.inside) c.args.shape c.args.bytes.now c.args.start c.self.invariant.levels c.requires.are may fits in
+    absurd (omega (arith, r.nodes, c.in_err-reserve.ensures.full)))
+
+pub returns-in_err-reserve-2-clause-succeeds : goal.returns-in_err-reserve-2-clause-succeeds
+returns-in_err-reserve-2-clause-succeeds c =
+    let may : MayKeep (the_view c.self.inside).room c.args.shape = subst (λ (h : Held). MayKeep h.room c.args.shape) (sym c.self.view_is) c.requires.may in
+    rw (← c.self.view_is) (λ fits.
+    let r = bytes-room (the_view c.self.inside) c.args.shape c.args.bytes.now c.args.start c.self.invariant.levels c.requires.are may fits in
+    absurd (omega (arith, r.pending, c.in_err-reserve-2.ensures.full)))
+
+pub returns-in_err-reserve-3-clause-succeeds : goal.returns-in_err-reserve-3-clause-succeeds
+returns-in_err-reserve-3-clause-succeeds c =
+    let may : MayKeep (the_view c.self.inside).room c.args.shape = subst (λ (h : Held). MayKeep h.room c.args.shape) (sym c.self.view_is) c.requires.may in
+    rw (← c.self.view_is) (λ fits.
+    let r = bytes-room (the_view c.self.inside) c.args.shape c.args.bytes.now c.args.start c.self.invariant.levels c.requires.are may fits in
+    let few = texts-few (the_view c.self.inside) c.self.invariant.levels in
+    absurd (omega (arith, r.nodes, few, c.in_err-reserve-3.ensures.full)))
+
+pub returns-in_err-reserve-4-clause-succeeds : goal.returns-in_err-reserve-4-clause-succeeds
+returns-in_err-reserve-4-clause-succeeds c =
+    let may : MayKeep (the_view c.self.inside).room c.args.shape = subst (λ (h : Held). MayKeep h.room c.args.shape) (sym c.self.view_is) c.requires.may in
+    rw (← c.self.view_is) (λ fits.
+    let r = bytes-room (the_view c.self.inside) c.args.shape c.args.bytes.now c.args.start c.self.invariant.levels c.requires.are may fits in
+    absurd (omega (arith, r.bytes, c.in_err-reserve-4.ensures.full)))
+
+pub invariant_of-self-2 : goal.invariant_of-self-2
+invariant_of-self-2 c =
+    let may : MayKeep (the_view c.self.inside).room c.args.shape = subst (λ (h : Held). MayKeep h.room c.args.shape) (sym c.self.view_is) c.requires.may in
+    let s = (the_view c.self.inside).slots in
+    let t : Slots = record { nodes = c.push_reserved-3.new.self.items; families = s.families; links = s.links; pending = c.push_reserved-2.new.self.items; texts = c.push_reserved.new.self.items; bytes = c.append.new.to.items } in
+    let e : t ≡ with_bytes c.args.shape c.args.bytes.now c.args.start s = search rules in
+    record {
+      levels = rw e (bytes-frames (the_view c.self.inside) c.args.shape c.args.bytes.now c.args.start c.self.invariant.levels c.requires.are may);
+      nodes = search rules;
+      families = search rules;
+      links = search rules;
+      pending = search rules;
+      texts = search rules;
+      bytes = search rules;
+      fixed = λ e. let f = c.self.invariant.fixed e in record {
+        nodes = omega (arith, f.nodes, c.reserve.ensures.fixed e, c.push_reserved-3.ensures.capacity);
+        families = f.families;
+        links = f.links;
+        pending = omega (arith, f.pending, c.reserve-2.ensures.fixed e, c.push_reserved-2.ensures.capacity);
+        texts = omega (arith, f.texts, c.reserve-3.ensures.fixed e, c.push_reserved.ensures.capacity);
+        bytes = omega (arith, f.bytes, c.reserve-4.ensures.fixed e, c.append.ensures.fixed e);
+      };
+    }
+
+pub returns-clause-levels : goal.returns-clause-levels
+returns-clause-levels c =
+    let may : MayKeep (the_view c.self.inside).room c.args.shape = subst (λ (h : Held). MayKeep h.room c.args.shape) (sym c.self.view_is) c.requires.may in
+    let s = (the_view c.self.inside).slots in
+    let t : Slots = record { nodes = c.push_reserved-3.new.self.items; families = s.families; links = s.links; pending = c.push_reserved-2.new.self.items; texts = c.push_reserved.new.self.items; bytes = c.append.new.to.items } in
+    let e : t ≡ with_bytes c.args.shape c.args.bytes.now c.args.start s = search rules in
+    rw (← c.self.view_is) (rw e (bytes-levels (the_view c.self.inside) c.args.shape c.args.bytes.now c.args.start c.self.invariant.levels c.requires.are may))
+
+pub returns-clause-depth : goal.returns-clause-depth
+returns-clause-depth c = rw (← c.self.view_is) (depth-same _ _ refl)

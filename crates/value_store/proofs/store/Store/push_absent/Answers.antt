@@ -1,0 +1,40 @@
+use Rattle.std.proofs.Common.{refl, rules, ◌≡◌, ◌++◌, ◌∷◌, [], None, arith}
+use Rattle.value_store.specs.contracts.store.Store.{the_view}
+use Rattle.value_store.proofs.Held.{absent-frames, absent-levels, absent-room}
+use Rattle.value_store.proofs.Held.{depth-same}
+use Rattle.value_store.proofs.store.Store.push_absent.Goals as goal
+
+pub returns-in_err-reserve-clause-succeeds : goal.returns-in_err-reserve-clause-succeeds
+returns-in_err-reserve-clause-succeeds c =
+    rw (← c.self.view_is) (λ fits.
+    let r = absent-room (the_view c.self.inside) c.self.invariant.levels fits in
+    absurd (omega (arith, r.pending, c.in_err-reserve.ensures.full)))
+
+pub invariant_of-self-2 : goal.invariant_of-self-2
+invariant_of-self-2 c =
+    let e : c.push_reserved.new.self.items ≡ (the_view c.self.inside).slots.pending ++ None ∷ [] = search rules in
+    record {
+      levels = rw e (absent-frames (the_view c.self.inside) c.self.invariant.levels);
+      nodes = search rules;
+      families = search rules;
+      links = search rules;
+      pending = search rules;
+      texts = search rules;
+      bytes = search rules;
+      fixed = λ e. let f = c.self.invariant.fixed e in record {
+        nodes = f.nodes;
+        families = f.families;
+        links = f.links;
+        pending = omega (arith, f.pending, c.reserve.ensures.fixed e, c.push_reserved.ensures.capacity);
+        texts = f.texts;
+        bytes = f.bytes;
+      };
+    }
+
+pub returns-clause-ok : goal.returns-clause-ok
+returns-clause-ok c =
+    let e : c.push_reserved.new.self.items ≡ (the_view c.self.inside).slots.pending ++ None ∷ [] = search rules in
+    rw (← c.self.view_is) (rw e (absent-levels (the_view c.self.inside) c.self.invariant.levels))
+
+pub returns-clause-depth : goal.returns-clause-depth
+returns-clause-depth c = rw (← c.self.view_is) (depth-same _ _ refl)

@@ -1,0 +1,31 @@
+use Rattle.std.proofs.Common.{rules, ◌<◌, ◌^◌, length, sym, subst}
+use Rattle.value_store.specs.Slots.{HasNoNode, AreBytes, GoesOn, element_width}
+use Rattle.value_store.proofs.PackedRows.{own-bytes, one-are, stale-row, fresh-packs, stale-packs}
+use Rattle.value_store.proofs.store.Store.push_packed.Goals as goal
+
+pub place_bytes-requires-clause-are : goal.place_bytes-requires-clause-are
+place_bytes-requires-clause-are c =
+    let own = own-bytes c.args.shape c.args.width c.args.digits c.bytes_for.result c.to_le_bytes-bytes.result c.requires.packed c.requires.width c.bytes_for.ensures c.to_le_bytes-bytes.ensures in
+    let small : c.args.digits < 2 ^ element_width c.args.shape = subst (λ m. c.args.digits < 2 ^ m) c.requires.width c.requires.below in
+    let t = c.requires.takes in
+    subst (λ bs. AreBytes c.args.shape bs c.args.start) (sym own) (one-are c.args.shape c.args.digits (length t.numbers) c.args.start c.requires.packed small t.short)
+
+pub append_bytes-requires : goal.append_bytes-requires
+append_bytes-requires c =
+    let own = own-bytes c.args.shape c.args.width c.args.digits c.bytes_for.result c.to_le_bytes-bytes.result c.requires.packed c.requires.width c.bytes_for.ensures c.to_le_bytes-bytes.ensures in
+    let small : c.args.digits < 2 ^ element_width c.args.shape = subst (λ m. c.args.digits < 2 ^ m) c.requires.width c.requires.below in
+    let stale : HasNoNode c.args.self.now → ⊥ = search rules in
+    let t = c.requires.takes in
+    subst (λ bs. GoesOn c.args.self.now c.args.shape bs) (sym own) (stale-row c.args.self.now c.args.shape c.args.digits t.numbers c.args.start t.outer t.packing c.requires.packed small t.short stale)
+
+pub returns-then-first-clause-ok : goal.returns-then-first-clause-ok
+returns-then-first-clause-ok c =
+    let own = own-bytes c.args.shape c.args.width c.args.digits c.bytes_for.result c.to_le_bytes-bytes.result c.requires.packed c.requires.width c.bytes_for.ensures c.to_le_bytes-bytes.ensures in
+    let fresh : HasNoNode c.args.self.now = search rules in
+    fresh-packs c.args.self.now c.place_bytes.new.self c.args.shape c.args.width c.args.digits c.args.start _ c.requires.packed c.requires.width c.requires.below own c.place_bytes.result fresh c.place_bytes.ensures.slots
+
+pub returns-else-first-clause-ok : goal.returns-else-first-clause-ok
+returns-else-first-clause-ok c =
+    let own = own-bytes c.args.shape c.args.width c.args.digits c.bytes_for.result c.to_le_bytes-bytes.result c.requires.packed c.requires.width c.bytes_for.ensures c.to_le_bytes-bytes.ensures in
+    let stale : HasNoNode c.args.self.now → ⊥ = search rules in
+    stale-packs c.args.self.now c.append_bytes.new.self c.args.shape c.args.width c.args.digits c.args.start _ c.requires.packed c.requires.width c.requires.below own c.append_bytes.result stale c.append_bytes.ensures.slots

@@ -1,0 +1,64 @@
+-- The values that a store lends: those of its nodes, and the elements of its arrays of packed numbers.
+use Rattle.std.specs.Prelude.{ℕ, suc, ◌+◌, ◌*◌, ◌<◌, length, List, [], Option, Some, None, slice_get, slice_index}
+use Rattle.value_store.specs.declared.store.slots.Node.{Node}
+use Rattle.value_store.specs.declared.store.slots.Place.{Place}
+use Rattle.value_store.specs.declared.store.slots.Place.TheVariants as place
+use Rattle.value_store.specs.declared.store.slots.Shape.{Shape}
+use Rattle.value_store.specs.declared.store.slots.Shape.TheVariants as shape
+use Rattle.value_store.specs.Tree.{Value, Tree, ArrayLabel, End}
+use Rattle.value_store.specs.Slots.{Slots, value_at, row_numbers, element_width, element_value}
+use Rattle.value_store.specs.Linked.{links_from}
+
+-- the numbers of an array of packed numbers
+abbrev pub numbers_of : Slots → Node → List ℕ
+numbers_of s n = row_numbers s (element_width n.shape) n.content
+
+abbrev pub element_in : Slots → Option Node → ℕ → Value
+element_in s None i = Tree ArrayLabel 0 0 End
+element_in s (Some n) i = element_value n.shape (n.start + element_width n.shape * i) (slice_index (numbers_of s n) i)
+
+-- how many packed numbers there are, of an array of these
+abbrev pub packed_count : Slots → Shape → (content : ℕ) → ℕ
+packed_count s (shape.Integer w g) c = 0
+packed_count s (shape.Offset w g u) c = 0
+packed_count s shape.Text c = 0
+packed_count s (shape.Integers w g) c = length (row_numbers s w c)
+packed_count s (shape.Offsets w g u) c = length (row_numbers s w c)
+packed_count s shape.Array c = 0
+packed_count s (shape.Struct t) c = 0
+packed_count s (shape.Union t i) c = 0
+
+abbrev pub element_count : Slots → Option Node → ℕ
+element_count s None = 0
+element_count s (Some n) = packed_count s n.shape n.content
+
+-- the node that is there, or the element of the array of packed numbers
+abbrev pub place_index : Place → ℕ
+place_index (place.Node at) = at
+place_index (place.Element array index) = index
+
+abbrev pub place_count : Slots → Place → ℕ
+place_count s (place.Node at) = length s.nodes
+place_count s (place.Element array index) = element_count s (slice_get s.nodes array)
+
+abbrev pub IsPlace : Slots → Place → Type 0
+IsPlace s p = place_index p < place_count s p
+
+abbrev pub place_value : Slots → Place → Value
+place_value s (place.Node at) = value_at s at
+place_value s (place.Element array index) = element_in s (slice_get s.nodes array) index
+
+-- how many packed numbers are the parts of the value there
+abbrev pub place_packed : Slots → Place → ℕ
+place_packed s (place.Node at) = element_count s (slice_get s.nodes at)
+place_packed s (place.Element array index) = 0
+
+-- the links to the parts of the value there
+abbrev pub place_links : Slots → Place → List (Option ℕ)
+place_links s (place.Node at) = links_from s at
+place_links s (place.Element array index) = []
+
+-- a number that falls from a value to each of its parts
+abbrev pub place_rank : Place → ℕ
+place_rank (place.Node at) = suc at
+place_rank (place.Element array index) = 0

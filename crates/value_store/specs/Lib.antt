@@ -1,0 +1,14 @@
+pub mod Kinds
+pub mod Labels
+pub mod Scalars
+pub mod Tree
+pub mod Levels
+pub mod Links
+pub mod Packed
+pub mod Slots
+pub mod Shown
+pub mod Refs
+pub mod Linked
+pub mod Lent
+pub mod Owners
+pub mod Exceeding

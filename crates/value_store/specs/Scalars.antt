@@ -1,0 +1,41 @@
+-- Computed integers and offsets, and the labels of values that they stand for.
+use Rattle.std.specs.Prelude.{◌≡◌, ℕ, ◌<◌, ◌≤◌, ℤ, pos, Option, Some, None, Result, Ok, Err}
+use Rattle.pickle_types.specs.Table.{IsWidth}
+use Rattle.pickle_types.specs.Sound.{IsSmall}
+use Rattle.pickle_meaning.specs.declared.faults.MapFaultKind.{MapFaultKind}
+use Rattle.value_store.specs.declared.scalar.Scalar.{Scalar}
+use Rattle.value_store.specs.declared.scalar.Scalar.TheVariants as scalar
+use Rattle.pickle_meaning.specs.Values.{Label, IntegerLabel, OffsetLabel}
+use Rattle.pickle_meaning.specs.Arithmetic.{Computed}
+use Rattle.value_store.specs.Tree as tree
+
+abbrev pub scalar_label : Scalar → Label
+scalar_label (scalar.Integer number type) = IntegerLabel number type
+scalar_label (scalar.Offset magnitude type unit) = OffsetLabel magnitude type unit
+
+abbrev pub scalar_number : Scalar → ℤ
+scalar_number (scalar.Integer number type) = number
+scalar_number (scalar.Offset magnitude type unit) = magnitude
+
+abbrev pub computed_of : Result Scalar MapFaultKind → Computed
+computed_of (Ok s) = Ok (scalar_label s)
+computed_of (Err kind) = Err kind
+
+-- its type has a width, and holds it; a unit is some bits
+abbrev pub IsScalar : Scalar → Type 0
+IsScalar (scalar.Integer number type) = IsWidth type × IsSmall type.signed number
+IsScalar (scalar.Offset magnitude type unit) = IsWidth type × IsSmall type.signed magnitude × (1 ≤ unit)
+
+-- a count to shift by, where it is from 0 on and below a width
+abbrev pub IsShift : (width : ℕ) → ℤ → Option ℕ → Type 0
+IsShift width count (Some n) = (count ≡ pos n) × (n < width)
+IsShift width count None = (n : ℕ) → count ≡ pos n → width ≤ n
+
+-- the number that a value is, where it is an integer or an offset
+abbrev pub scalar_in : tree.Label → Option Label
+scalar_in (tree.IntegerLabel number width signed) = Some (IntegerLabel number (record { width = width; signed = signed }))
+scalar_in (tree.OffsetLabel number width signed unit) = Some (OffsetLabel number (record { width = width; signed = signed }) unit)
+scalar_in (tree.TextLabel bytes) = None
+scalar_in tree.ArrayLabel = None
+scalar_in (tree.StructLabel of) = None
+scalar_in (tree.UnionLabel of taken) = None

@@ -1,0 +1,560 @@
+-- What a store holds, and the values that it stands for.
+use Rattle.std.specs.Prelude.{◌≡◌, ℕ, zero, suc, ◌+◌, ◌-◌, ◌*◌, ◌^◌, ◌<◌, ◌≤◌, ℤ, pos, Bool, true, false, List, [], ◌∷◌, ◌++◌, Option, Some, None, length, take, drop, map, slice_get, slice_index, slice_index_or, unwrap_or, IfSome, All, FitsSigned}
+use Rattle.std.specs.Int.{cast_signed, w64, FitsUnsigned}
+use Rattle.value_store.specs.declared.store.room.Growth.{Growth}
+use Rattle.value_store.specs.declared.store.room.Growth.TheVariants.{Free, Never}
+use Rattle.value_store.specs.declared.store.room.Room.{Room}
+use Rattle.value_store.specs.declared.store.slots.Node.{Node}
+use Rattle.value_store.specs.declared.store.slots.Family.{Family}
+use Rattle.value_store.specs.declared.store.slots.Marks.{Marks}
+use Rattle.value_store.specs.declared.store.slots.Shape.{Shape}
+use Rattle.value_store.specs.declared.store.slots.Shape.TheVariants.{Integer, Offset, Text, Integers, Offsets, Array, Struct, Union}
+use Rattle.pickle_meaning.specs.Arithmetic.{with_sign}
+use Rattle.value_store.specs.Packed.{bytes_for, packed, numbers_in}
+use Rattle.value_store.specs.Tree.{Label, IntegerLabel, OffsetLabel, TextLabel, ArrayLabel, StructLabel, UnionLabel, Value, Tree, End, parts_of, label, start, size, parts, text_value}
+use Rattle.value_store.specs.Levels.{Levels, level_nodes, level_links, level_bytes}
+
+-- the slots of a store, each a list of its own
+pub record Slots : Type 0 where
+  pub nodes : List Node
+  pub families : List Family
+  pub links : List (Option ℕ)
+  pub pending : List (Option ℕ)
+  -- where the bytes of each text end
+  pub texts : List ℕ
+  pub bytes : List ℕ
+
+abbrev pub no_slots : Slots
+no_slots = record { nodes = []; families = []; links = []; pending = []; texts = []; bytes = [] }
+
+-- a store: its slots, the marks of the values that are open, the innermost first, and the room that it keeps
+pub record Held : Type 0 where
+  pub slots : Slots
+  pub frames : List Marks
+  pub room : Room
+
+-- room for n slots of each kind at least, and for more where there is memory
+abbrev pub growing : ℕ → Room
+growing n = record { least = n; growth = Free }
+
+-- room for n slots of each kind, and never for more
+abbrev pub fixed : ℕ → Room
+fixed n = record { least = n; growth = Never }
+
+-- Whether arrays of numbers are packed: where no room is asked for beforehand. Else each value takes slots that are counted.
+abbrev pub packs_as : Growth → (least : ℕ) → Bool
+packs_as Never least = false
+packs_as Free zero = true
+packs_as Free (suc least) = false
+
+abbrev pub packs : Room → Bool
+packs room = packs_as room.growth room.least
+
+abbrev pub IsCounted : Room → Type 0
+IsCounted room = packs room ≡ false
+
+abbrev pub empty : Room → Held
+empty room = record { slots = no_slots; frames = []; room = room }
+
+-- `count` elements from `first` on
+abbrev pub part : {A : Type 0} → ℕ → ℕ → List A → List A
+part first count xs = take count (drop first xs)
+
+abbrev pub family_at : List Family → ℕ → Family
+family_at fs k = slice_index_or fs k (record { end = 0; size = 0 })
+
+-- a family's links begin where those of the family before it end
+abbrev pub first_link : List Family → ℕ → ℕ
+first_link fs zero = 0
+first_link fs (suc k) = (family_at fs k).end
+
+abbrev pub family_links : List Family → List (Option ℕ) → ℕ → List (Option ℕ)
+family_links fs ls k = part (first_link fs k) ((family_at fs k).end - first_link fs k) ls
+
+-- a text's bytes begin where those of the text before it end
+abbrev pub first_byte : List ℕ → ℕ → ℕ
+first_byte es zero = 0
+first_byte es (suc k) = slice_index es k
+
+abbrev pub text_bytes : List ℕ → List ℕ → ℕ → List ℕ
+text_bytes es bs k = part (first_byte es k) (slice_index es k - first_byte es k) bs
+
+-- the numbers of that many bits each among the bytes
+abbrev pub row_numbers : Slots → (width : ℕ) → ℕ → List ℕ
+row_numbers s width c = numbers_in width (text_bytes s.texts s.bytes c)
+
+-- an array whose elements are packed numbers, each behind the one before it
+abbrev pub IsPacked : Shape → Type 0
+IsPacked (Integer w g) = ⊥
+IsPacked (Offset w g u) = ⊥
+IsPacked Text = ⊥
+IsPacked (Integers w g) = (1 ≤ w) × (w ≤ 64)
+IsPacked (Offsets w g u) = (1 ≤ w) × (w ≤ 64) × (1 ≤ u)
+IsPacked Array = ⊥
+IsPacked (Struct t) = ⊥
+IsPacked (Union t i) = ⊥
+
+-- how many bits an element takes
+abbrev pub element_width : Shape → ℕ
+element_width (Integer w g) = 0
+element_width (Offset w g u) = 0
+element_width Text = 0
+element_width (Integers w g) = w
+element_width (Offsets w g u) = w
+element_width Array = 0
+element_width (Struct t) = 0
+element_width (Union t i) = 0
+
+-- the element of such binary digits
+abbrev pub element_value : Shape → (start digits : ℕ) → Value
+element_value (Integer w g) start n = Tree ArrayLabel 0 0 End
+element_value (Offset w g u) start n = Tree ArrayLabel 0 0 End
+element_value Text start n = Tree ArrayLabel 0 0 End
+element_value (Integers w g) start n = Tree (IntegerLabel (with_sign (record { width = w; signed = g }) n) w g) start w End
+element_value (Offsets w g u) start n = Tree (OffsetLabel (with_sign (record { width = w; signed = g }) n) w g u) start w End
+element_value Array start n = Tree ArrayLabel 0 0 End
+element_value (Struct t) start n = Tree ArrayLabel 0 0 End
+element_value (Union t i) start n = Tree ArrayLabel 0 0 End
+
+-- elements from the bit `start` on
+abbrev pub elements : Shape → (start : ℕ) → List ℕ → List (Option Value)
+elements shape start [] = []
+elements shape start (n ∷ ns) = Some (element_value shape start n) ∷ elements shape (start + element_width shape) ns
+
+-- an array of packed numbers
+abbrev pub row_value : Shape → List ℕ → (start : ℕ) → Value
+row_value shape numbers start = Tree ArrayLabel start (element_width shape * length numbers) (parts_of (elements shape start numbers))
+
+-- the number that 64 bits stand for
+abbrev pub number_in : Bool → ℕ → ℤ
+number_in true n = cast_signed w64 n
+number_in false n = pos n
+
+abbrev pub label_in : Slots → Shape → ℕ → Label
+label_in s (Integer w g) c = IntegerLabel (number_in g c) w g
+label_in s (Offset w g u) c = OffsetLabel (number_in g c) w g u
+label_in s Text c = TextLabel (text_bytes s.texts s.bytes c)
+label_in s (Integers w g) c = ArrayLabel
+label_in s (Offsets w g u) c = ArrayLabel
+label_in s Array c = ArrayLabel
+label_in s (Struct t) c = StructLabel t
+label_in s (Union i t) c = UnionLabel t i
+
+abbrev pub size_in : Slots → Shape → ℕ → ℕ
+size_in s (Integer w g) c = w
+size_in s (Offset w g u) c = w
+size_in s Text c = 8 * (slice_index s.texts c - first_byte s.texts c + 1)
+size_in s (Integers w g) c = w * length (row_numbers s w c)
+size_in s (Offsets w g u) c = w * length (row_numbers s w c)
+size_in s Array c = (family_at s.families c).size
+size_in s (Struct t) c = (family_at s.families c).size
+size_in s (Union t i) c = (family_at s.families c).size
+
+abbrev pub links_of : Slots → Shape → ℕ → List (Option ℕ)
+links_of s (Integer w g) c = []
+links_of s (Offset w g u) c = []
+links_of s Text c = []
+links_of s (Integers w g) c = []
+links_of s (Offsets w g u) c = []
+links_of s Array c = family_links s.families s.links c
+links_of s (Struct t) c = family_links s.families s.links c
+links_of s (Union t i) c = family_links s.families s.links c
+
+-- a shape whose content is a family
+abbrev pub IsComposite : Shape → Type 0
+IsComposite (Integer w g) = ⊥
+IsComposite (Offset w g u) = ⊥
+IsComposite Text = ⊥
+IsComposite (Integers w g) = ⊥
+IsComposite (Offsets w g u) = ⊥
+IsComposite Array = Unit {0}
+IsComposite (Struct t) = Unit {0}
+IsComposite (Union t i) = Unit {0}
+
+abbrev pub composite_label : Shape → Label
+composite_label (Integer w g) = ArrayLabel
+composite_label (Offset w g u) = ArrayLabel
+composite_label Text = ArrayLabel
+composite_label (Integers w g) = ArrayLabel
+composite_label (Offsets w g u) = ArrayLabel
+composite_label Array = ArrayLabel
+composite_label (Struct t) = StructLabel t
+composite_label (Union i t) = UnionLabel t i
+
+-- a shape whose content is a number, of 1 to 64 bits
+abbrev pub IsNumber : Shape → Type 0
+IsNumber (Integer w g) = (1 ≤ w) × (w ≤ 64)
+IsNumber (Offset w g u) = (1 ≤ w) × (w ≤ 64) × (1 ≤ u)
+IsNumber Text = ⊥
+IsNumber (Integers w g) = ⊥
+IsNumber (Offsets w g u) = ⊥
+IsNumber Array = ⊥
+IsNumber (Struct t) = ⊥
+IsNumber (Union t i) = ⊥
+
+abbrev pub number_value : Shape → ℕ → ℕ → Value
+number_value (Integer w g) start c = Tree (IntegerLabel (number_in g c) w g) start w End
+number_value (Offset w g u) start c = Tree (OffsetLabel (number_in g c) w g u) start w End
+number_value Text start c = Tree ArrayLabel 0 0 End
+number_value (Integers w g) start c = Tree ArrayLabel 0 0 End
+number_value (Offsets w g u) start c = Tree ArrayLabel 0 0 End
+number_value Array start c = Tree ArrayLabel 0 0 End
+number_value (Struct t) start c = Tree ArrayLabel 0 0 End
+number_value (Union t i) start c = Tree ArrayLabel 0 0 End
+
+-- the value that a link stands for, among these
+abbrev pub opened : List Value → Option ℕ → Option Value
+opened ts None = None
+opened ts (Some i) = slice_get ts i
+
+-- the parts of a value that starts there, among these: packed numbers, or what its links stand for
+abbrev pub parts_in : Slots → List Value → Shape → (start content : ℕ) → List (Option Value)
+parts_in s ts (Integer w g) start c = []
+parts_in s ts (Offset w g u) start c = []
+parts_in s ts Text start c = []
+parts_in s ts (Integers w g) start c = elements (Integers w g) start (row_numbers s w c)
+parts_in s ts (Offsets w g u) start c = elements (Offsets w g u) start (row_numbers s w c)
+parts_in s ts Array start c = map (opened ts) (family_links s.families s.links c)
+parts_in s ts (Struct t) start c = map (opened ts) (family_links s.families s.links c)
+parts_in s ts (Union t i) start c = map (opened ts) (family_links s.families s.links c)
+
+-- the value of a node, after the values of the nodes before it
+abbrev pub tree_of : Slots → List Value → Node → Value
+tree_of s ts n = Tree (label_in s n.shape n.content) n.start (size_in s n.shape n.content) (parts_of (parts_in s ts n.shape n.start n.content))
+
+-- the values of nodes, after those of the nodes before them
+abbrev pub trees_from : Slots → List Value → List Node → List Value
+trees_from s ts [] = ts
+trees_from s ts (n ∷ ns) = trees_from s (ts ++ tree_of s ts n ∷ []) ns
+
+unfoldable pub trees : Slots → List Value
+trees s = trees_from s [] s.nodes
+
+-- the value of the node at a place
+unfoldable pub value_at : Slots → ℕ → Value
+value_at s i = slice_index_or (trees s) i (Tree ArrayLabel 0 0 End)
+
+-- the pending children as values
+unfoldable pub stack : Slots → List (Option Value)
+stack s = map (opened (trees s)) s.pending
+
+-- each link refers to a node below
+abbrev pub LinksBelow : ℕ → List (Option ℕ) → Type 0
+LinksBelow k [] = Unit {0}
+LinksBelow k (None ∷ ls) = LinksBelow k ls
+LinksBelow k (Some i ∷ ls) = (i < k) × LinksBelow k ls
+
+-- the row of a family or a text is there
+pub record IsRow (first end count : ℕ) : Type 0 where
+  pub ordered : first ≤ end
+  pub within : end ≤ count
+
+abbrev pub IsFamily : Slots → ℕ → Type 0
+IsFamily s c = (c < length s.families) × IsRow (first_link s.families c) (family_at s.families c).end (length s.links)
+
+-- a text has fewer than 2 ^ 64 bits
+abbrev pub IsShort : (count : ℕ) → Type 0
+IsShort count = 8 * (count + 1) < 2 ^ 64
+
+-- bytes are there
+abbrev pub IsByteRow : Slots → ℕ → Type 0
+IsByteRow s c = (c < length s.texts) × IsRow (first_byte s.texts c) (slice_index s.texts c) (length s.bytes)
+
+abbrev pub IsTextRow : Slots → ℕ → Type 0
+IsTextRow s c = IsByteRow s c × IsShort (slice_index s.texts c - first_byte s.texts c)
+
+-- packed numbers of that many bits each from the bit `start` on, which end before the bit 2 ^ 64
+pub record AreNumbers (width : ℕ) (numbers : List ℕ) (start : ℕ) : Type 0 where
+  pub some : 1 ≤ width
+  pub most : width ≤ 64
+  pub short : start + width * length numbers < 2 ^ 64
+  pub below : All (λ n. n < 2 ^ width) numbers
+
+abbrev pub IsContent : Slots → Shape → (start content : ℕ) → Type 0
+IsContent s (Integer w g) start c = IsNumber (Integer w g)
+IsContent s (Offset w g u) start c = IsNumber (Offset w g u)
+IsContent s Text start c = IsTextRow s c
+IsContent s (Integers w g) start c = IsByteRow s c × AreNumbers w (row_numbers s w c) start
+IsContent s (Offsets w g u) start c = IsByteRow s c × (AreNumbers w (row_numbers s w c) start × (1 ≤ u))
+IsContent s Array start c = IsFamily s c
+IsContent s (Struct t) start c = IsFamily s c
+IsContent s (Union t i) start c = IsFamily s c
+
+pub record IsNodeAt (s : Slots) (i : ℕ) (n : Node) : Type 0 where
+  pub content : IsContent s n.shape n.start n.content
+  pub below : LinksBelow i (links_of s n.shape n.content)
+
+abbrev pub AreNodesFrom : Slots → ℕ → List Node → Type 0
+AreNodesFrom s i [] = Unit {0}
+AreNodesFrom s i (n ∷ ns) = IsNodeAt s i n × AreNodesFrom s (i + 1) ns
+
+-- nodes refer to rows that are there, links to earlier nodes; rows cover all links and bytes, and are no more than the nodes
+pub record IsSound (s : Slots) : Type 0 where
+  pub nodes : AreNodesFrom s 0 s.nodes
+  pub pending : LinksBelow (length s.nodes) s.pending
+  pub links : first_link s.families (length s.families) ≡ length s.links
+  pub bytes : first_byte s.texts (length s.texts) ≡ length s.bytes
+  pub families : length s.families ≤ length s.nodes
+  pub texts : length s.texts ≤ length s.nodes
+
+-- what is left below some marks
+abbrev pub cut_to : Marks → Slots → Slots
+cut_to k s = record {
+  nodes = take k.nodes s.nodes;
+  families = take k.families s.families;
+  links = take k.links s.links;
+  pending = take k.pending s.pending;
+  texts = take k.texts s.texts;
+  bytes = take k.bytes s.bytes;
+}
+
+abbrev pub marks_of : Slots → Marks
+marks_of s = record {
+  nodes = length s.nodes;
+  families = length s.families;
+  links = length s.links;
+  pending = length s.pending;
+  texts = length s.texts;
+  bytes = length s.bytes;
+}
+
+abbrev pub root_marks : Marks
+root_marks = record { nodes = 0; families = 0; links = 0; pending = 0; texts = 0; bytes = 0 }
+
+pub record IsWithin (k : Marks) (s : Slots) : Type 0 where
+  pub nodes : k.nodes ≤ length s.nodes
+  pub families : k.families ≤ length s.families
+  pub links : k.links ≤ length s.links
+  pub pending : k.pending ≤ length s.pending
+  pub texts : k.texts ≤ length s.texts
+  pub bytes : k.bytes ≤ length s.bytes
+
+-- the parts of the value that is open above some marks
+abbrev pub level_of : Marks → Slots → List (Option Value)
+level_of k s = drop k.pending (stack s)
+
+-- above some marks there is just what the parts of the open value take, where slots are counted
+pub record IsLevel (room : Room) (k : Marks) (s : Slots) : Type 0 where
+  pub within : IsWithin k s
+  pub nodes : IsCounted room → length s.nodes ≡ k.nodes + level_nodes (level_of k s)
+  pub links : IsCounted room → length s.links ≡ k.links + level_links (level_of k s)
+  pub bytes : IsCounted room → length s.bytes ≡ k.bytes + level_bytes (level_of k s)
+
+abbrev pub innermost : List Marks → Marks
+innermost [] = root_marks
+innermost (k ∷ ks) = k
+
+abbrev pub AreLevels : Room → List Marks → Slots → Type 0
+AreLevels room [] s = IsSound s × IsLevel room root_marks s
+AreLevels room (k ∷ ks) s = IsSound s × (IsLevel room k s × AreLevels room ks (cut_to k s))
+
+abbrev pub levels_at : List Marks → Slots → Levels
+levels_at [] s = level_of root_marks s ∷ []
+levels_at (k ∷ ks) s = level_of k s ∷ levels_at ks (cut_to k s)
+
+-- the values that a store is building, level by level
+unfoldable pub levels : Held → Levels
+levels h = levels_at h.frames h.slots
+
+-- u is s with these values on its stack, and just the slots more that they take, where these are counted
+pub record Adds (room : Room) (s u : Slots) (vs : List (Option Value)) : Type 0 where
+  pub sound : IsSound u
+  pub rest : cut_to (marks_of s) u ≡ s
+  pub stack : stack u ≡ stack s ++ vs
+  pub nodes : IsCounted room → length u.nodes ≡ length s.nodes + level_nodes vs
+  pub links : IsCounted room → length u.links ≡ length s.links + level_links vs
+  pub bytes : IsCounted room → length u.bytes ≡ length s.bytes + level_bytes vs
+
+-- a new node without children
+abbrev pub with_leaf : Shape → ℕ → ℕ → Slots → Slots
+with_leaf shape start content s = record {
+  nodes = s.nodes ++ record { start = start; content = content; shape = shape } ∷ [];
+  families = s.families;
+  links = s.links;
+  pending = s.pending ++ Some (length s.nodes) ∷ [];
+  texts = s.texts;
+  bytes = s.bytes;
+}
+
+-- a new node whose children are the pending ones above a mark
+abbrev pub with_family : Shape → ℕ → ℕ → ℕ → Slots → Slots
+with_family shape start size mark s = record {
+  nodes = s.nodes ++ record { start = start; content = length s.families; shape = shape } ∷ [];
+  families = s.families ++ record { end = length s.links + (length s.pending - mark); size = size } ∷ [];
+  links = s.links ++ drop mark s.pending;
+  pending = take mark s.pending ++ Some (length s.nodes) ∷ [];
+  texts = s.texts;
+  bytes = s.bytes;
+}
+
+-- a new text, or an array of packed numbers, of these bytes
+abbrev pub with_bytes : Shape → List ℕ → ℕ → Slots → Slots
+with_bytes shape bytes start s = record {
+  nodes = s.nodes ++ record { start = start; content = length s.texts; shape = shape } ∷ [];
+  families = s.families;
+  links = s.links;
+  pending = s.pending ++ Some (length s.nodes) ∷ [];
+  texts = s.texts ++ (length s.bytes + length bytes) ∷ [];
+  bytes = s.bytes ++ bytes;
+}
+
+-- a field that is not there
+abbrev pub with_absent : Slots → Slots
+with_absent s = record s { pending = s.pending ++ None ∷ [] }
+
+-- more bytes at the end of the last text or array of packed numbers
+abbrev pub with_more : List ℕ → Slots → Slots
+with_more more s = record {
+  nodes = s.nodes;
+  families = s.families;
+  links = s.links;
+  pending = s.pending;
+  texts = take (length s.texts - 1) s.texts ++ length (s.bytes ++ more) ∷ [];
+  bytes = s.bytes ++ more;
+}
+
+-- the bytes that a text is, or an array of packed numbers
+abbrev pub AreBytes : Shape → List ℕ → (start : ℕ) → Type 0
+AreBytes (Integer w g) bytes start = ⊥
+AreBytes (Offset w g u) bytes start = ⊥
+AreBytes Text bytes start = IsShort (length bytes)
+AreBytes (Integers w g) bytes start = AreNumbers w (numbers_in w bytes) start
+AreBytes (Offsets w g u) bytes start = AreNumbers w (numbers_in w bytes) start × (1 ≤ u)
+AreBytes Array bytes start = ⊥
+AreBytes (Struct t) bytes start = ⊥
+AreBytes (Union t i) bytes start = ⊥
+
+-- the value that they are
+abbrev pub bytes_value : Shape → List ℕ → (start : ℕ) → Value
+bytes_value (Integer w g) bytes start = Tree ArrayLabel 0 0 End
+bytes_value (Offset w g u) bytes start = Tree ArrayLabel 0 0 End
+bytes_value Text bytes start = text_value bytes start
+bytes_value (Integers w g) bytes start = row_value (Integers w g) (numbers_in w bytes) start
+bytes_value (Offsets w g u) bytes start = row_value (Offsets w g u) (numbers_in w bytes) start
+bytes_value Array bytes start = Tree ArrayLabel 0 0 End
+bytes_value (Struct t) bytes start = Tree ArrayLabel 0 0 End
+bytes_value (Union t i) bytes start = Tree ArrayLabel 0 0 End
+
+-- numbers are packed only where slots aren't counted
+abbrev pub MayKeep : Room → Shape → Type 0
+MayKeep room (Integers w g) = packs room ≡ true
+MayKeep room (Offsets w g u) = packs room ≡ true
+MayKeep room shape = Unit {0}
+
+-- a store whose innermost open value had no parts yet, after these bytes of a text or of packed numbers
+abbrev pub written : Shape → List ℕ → ℕ → Slots → Slots
+written shape [] start s = s
+written shape (b ∷ bytes) start s = with_bytes shape (b ∷ bytes) start s
+
+-- the innermost open value is made of bytes, these so far; there is no node for it before it has a byte
+pub record IsFilling (h : Held) (shape : Shape) (bytes : List ℕ) (start : ℕ) (outer : Levels) : Type 0 where
+  pub before : Slots
+  pub is : h.slots ≡ written shape bytes start before
+  pub own : AreLevels h.room h.frames before
+  pub above : levels_at h.frames before ≡ [] ∷ outer
+  pub none : length before.nodes ≡ (innermost h.frames).nodes
+  pub are : AreBytes shape bytes start
+  pub may : MayKeep h.room shape
+
+-- the innermost open value is a text under way, of these bytes so far
+abbrev pub IsWriting : Held → List ℕ → (start : ℕ) → Levels → Type 0
+IsWriting h bytes start outer = IsFilling h Text bytes start outer
+
+-- the innermost open value is an array of packed numbers under way, of these so far
+pub record IsPacking (h : Held) (shape : Shape) (numbers : List ℕ) (start : ℕ) (outer : Levels) : Type 0 where
+  pub filling : IsFilling h shape (packed (bytes_for (element_width shape)) numbers) start outer
+  pub below : All (λ n. n < 2 ^ element_width shape) numbers
+
+-- the innermost open value has no node yet
+abbrev pub HasNoNode : Held → Type 0
+HasNoNode h = length h.slots.nodes ≡ (innermost h.frames).nodes
+
+-- a text is under way that begins there
+pub record IsText (h : Held) (start : ℕ) : Type 0 where
+  pub bytes : List ℕ
+  pub outer : Levels
+  pub writing : IsWriting h bytes start outer
+
+-- an array of packed numbers is under way that begins there
+pub record IsRowOf (h : Held) (shape : Shape) (start : ℕ) : Type 0 where
+  pub numbers : List ℕ
+  pub outer : Levels
+  pub packing : IsPacking h shape numbers start outer
+
+-- more bytes go on with what is under way
+pub record GoesOn (h : Held) (shape : Shape) (more : List ℕ) : Type 0 where
+  pub bytes : List ℕ
+  pub start : ℕ
+  pub outer : Levels
+  pub filling : IsFilling h shape bytes start outer
+  pub some : 0 < length bytes
+  pub are : AreBytes shape (bytes ++ more) start
+
+-- a text under way that takes a byte more
+pub record TakesByte (h : Held) (start : ℕ) : Type 0 where
+  pub bytes : List ℕ
+  pub outer : Levels
+  pub writing : IsWriting h bytes start outer
+  pub short : IsShort (length bytes + 1)
+
+-- an array of packed numbers under way that takes one more
+pub record TakesNumber (h : Held) (shape : Shape) (start : ℕ) : Type 0 where
+  pub numbers : List ℕ
+  pub outer : Levels
+  pub packing : IsPacking h shape numbers start outer
+  pub short : start + element_width shape * (length numbers + 1) < 2 ^ 64
+
+-- room of that many of each kind is enough for so many more
+pub record HasRoom (room : Room) (s : Slots) (node_count link_count pending_count byte_count : ℕ) : Type 0 where
+  pub nodes : length s.nodes + node_count ≤ room.least
+  pub links : length s.links + link_count ≤ room.least
+  pub pending : length s.pending + pending_count ≤ room.least
+  pub bytes : length s.bytes + byte_count ≤ room.least
+
+-- a number that 64 bits can stand for
+abbrev pub IsContentNumber : Bool → ℤ → Type 0
+IsContentNumber true z = FitsSigned w64 z
+IsContentNumber false z = FitsUnsigned w64 z
+
+-- each vector has a capacity of just n
+pub record AreAll (n node_capacity family_capacity link_capacity pending_capacity text_capacity byte_capacity : ℕ) : Type 0 where
+  pub nodes : node_capacity ≡ n
+  pub families : family_capacity ≡ n
+  pub links : link_capacity ≡ n
+  pub pending : pending_capacity ≡ n
+  pub texts : text_capacity ≡ n
+  pub bytes : byte_capacity ≡ n
+
+-- What holds of a store, with the capacities of its vectors: each has the store's room, and just that where it never grows.
+pub record IsStore (h : Held) (node_capacity family_capacity link_capacity pending_capacity text_capacity byte_capacity : ℕ) : Type 0 where
+  pub levels : AreLevels h.room h.frames h.slots
+  pub nodes : h.room.least ≤ node_capacity
+  pub families : h.room.least ≤ family_capacity
+  pub links : h.room.least ≤ link_capacity
+  pub pending : h.room.least ≤ pending_capacity
+  pub texts : h.room.least ≤ text_capacity
+  pub bytes : h.room.least ≤ byte_capacity
+  pub fixed : h.room.growth ≡ Never → AreAll h.room.least node_capacity family_capacity link_capacity pending_capacity text_capacity byte_capacity
+
+-- the marks of the values around the innermost open one
+abbrev pub around : List Marks → List Marks
+around [] = []
+around (k ∷ ks) = ks
+
+-- what the value of a node has of it
+pub record IsRead (s : Slots) (i : ℕ) (n : Node) : Type 0 where
+  pub label : label (value_at s i) ≡ label_in s n.shape n.content
+  pub start : start (value_at s i) ≡ n.start
+  pub size : size (value_at s i) ≡ size_in s n.shape n.content
+  pub parts : parts (value_at s i) ≡ parts_in s (trees s) n.shape n.start n.content
+  pub content : IsContent s n.shape n.start n.content
+  pub below : (k : ℕ) → IfSome (unwrap_or (slice_get (links_of s n.shape n.content) k) None) (λ j. j < i)
+
+-- the marks of an open value, counted from the innermost; those of the whole stand below all
+abbrev pub marks_at : List Marks → ℕ → Marks
+marks_at ks level = slice_index_or ks level root_marks
+
+-- where the parts of an open value end among the pending children
+abbrev pub level_end : List Marks → (count : ℕ) → ℕ → ℕ
+level_end ks count zero = count
+level_end ks count (suc n) = (marks_at ks n).pending

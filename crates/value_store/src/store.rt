@@ -1,0 +1,179 @@
+ghost use Rattle.std.specs.Prelude.{◌≡◌, ◌≤◌, ◌-◌, ◌++◌, ◌∷◌, [], Some, None, take, drop, IfOk, IsTrue, ◌↔◌, vec_len, vec_capacity};
+ghost use Rattle.value_store.specs.Levels.{no_values, FitsIn};
+ghost use Rattle.value_store.specs.declared.store.room.Growth.TheVariants.{Never};
+ghost use Rattle.value_store.specs.Slots.{empty, growing, fixed, marks_of, innermost, levels};
+
+mod append;
+mod bytes;
+mod cut;
+mod element;
+mod place;
+mod read;
+pub mod room;
+pub(crate) mod row;
+mod scope;
+pub mod slots;
+mod text;
+
+use arrayvec::ArrayVec;
+use bit_space::Memory;
+use room::{Growth, Room};
+use slots::{Family, Link, Marks, Node};
+use std::alloc::Global;
+use std::marker::Model;
+
+/// How many values may be open inside one another, at most.
+pub(crate) const MOST_OPEN: usize = 64;
+
+/// The values of a mapping, in flat vectors that are filled from the innermost values outwards: a node for each value, a link to each part of
+/// a value that is closed, a pending child for each part of a value that is open, and the bytes of texts.
+#[derive(Drop)]
+pub struct Store {
+    nodes: Vec<Node>,
+    families: Vec<Family>,
+    links: Vec<Link>,
+    pending: Vec<Link>,
+    texts: Vec<usize>,
+    bytes: Vec<u8>,
+    frames: ArrayVec<Marks, 64>,
+    room: Room,
+}
+
+impl Model for Store {
+    ghost use Rattle.std.specs.Prelude.{vec_capacity, reverse};
+    ghost use Rattle.value_store.specs.Slots.{Held, IsStore};
+
+    ghost Value = { Held };
+
+    ghost view = { λ a. record {
+      slots = record { nodes = a.nodes.items; families = a.families.items; links = a.links.items; pending = a.pending.items; texts = a.texts.items; bytes = a.bytes.items };
+      frames = reverse a.frames.items;
+      room = a.room;
+    } };
+
+    ghost invariant = { λ a. IsStore (record {
+      slots = record { nodes = a.nodes.items; families = a.families.items; links = a.links.items; pending = a.pending.items; texts = a.texts.items; bytes = a.bytes.items };
+      frames = reverse a.frames.items;
+      room = a.room;
+    }) (vec_capacity a.nodes) (vec_capacity a.families) (vec_capacity a.links) (vec_capacity a.pending) (vec_capacity a.texts) (vec_capacity a.bytes) };
+}
+
+#[tactic(auto, using(crate::proofs::Held::none_open))]
+impl Store {
+    /// An empty store without room.
+    pub fn new(alloc: Global) -> Store
+        ensures empty { result ≡ empty (growing 0) }
+        ensures levels { levels result ≡ no_values }
+    {
+        Store {
+            nodes: Vec::new(alloc),
+            families: Vec::new(alloc),
+            links: Vec::new(alloc),
+            pending: Vec::new(alloc),
+            texts: Vec::new(alloc),
+            bytes: Vec::new(alloc),
+            frames: ArrayVec::new(),
+            room: Room {
+                least: 0,
+                growth: Growth::Free,
+            },
+        }
+    }
+
+    /// An empty store with room for `room` nodes, links, pending children and bytes of texts, each.
+    pub fn with_room(alloc: Global, room: usize) -> Result<Store, Memory>
+        ensures empty { IfOk result (λ s. s ≡ empty (growing room)) }
+        ensures levels { IfOk result (λ s. levels s ≡ no_values) }
+    {
+        Store::reserved(
+            alloc,
+            Room {
+                least: room,
+                growth: Growth::Free,
+            },
+        )
+    }
+
+    /// An empty store with room for `most` nodes, links, pending children and bytes of texts, each, which never asks for more:
+    /// what doesn't fit is refused as want of memory.
+    pub fn with_most(alloc: Global, most: usize) -> Result<Store, Memory>
+        ensures empty { IfOk result (λ s. s ≡ empty (fixed most)) }
+        ensures levels { IfOk result (λ s. levels s ≡ no_values) }
+    {
+        Store::reserved(
+            alloc,
+            Room {
+                least: most,
+                growth: Growth::Never,
+            },
+        )
+    }
+
+    // An empty store that has all its room.
+    fn reserved(alloc: Global, room: Room) -> Result<Store, Memory>
+        ensures empty { IfOk result (λ s. s ≡ empty room) }
+    {
+        let nodes = Vec::with_capacity(alloc, room.least)?;
+        let families = Vec::with_capacity(alloc, room.least)?;
+        let links = Vec::with_capacity(alloc, room.least)?;
+        let pending = Vec::with_capacity(alloc, room.least)?;
+        let texts = Vec::with_capacity(alloc, room.least)?;
+        let bytes = Vec::with_capacity(alloc, room.least)?;
+        Ok(Store {
+            nodes,
+            families,
+            links,
+            pending,
+            texts,
+            bytes,
+            frames: ArrayVec::new(),
+            room,
+        })
+    }
+
+    /// Empties the store, and keeps its room.
+    pub fn clear(&mut self)
+        ensures empty { self.new ≡ empty self.old.room }
+        ensures levels { levels self.new ≡ no_values }
+    {
+        self.nodes.clear();
+        self.families.clear();
+        self.links.clear();
+        self.pending.clear();
+        self.texts.clear();
+        self.bytes.clear();
+        self.frames.clear();
+    }
+
+    /// Whether the store never asks for more room than it was made with. What such a store holds fits in that.
+    pub fn never_grows(&self) -> bool
+        ensures is { IsTrue result ↔ (self.now.room.growth ≡ Never) }
+        ensures fits { self.now.room.growth ≡ Never → FitsIn self.now.room (levels self.now) }
+    {
+        matches!(self.room.growth, Growth::Never)
+    }
+
+    // How much of each kind there is.
+    fn marks(&self) -> Marks
+        ensures { result ≡ marks_of self.now.slots }
+    {
+        Marks {
+            nodes: self.nodes.len(),
+            families: self.families.len(),
+            links: self.links.len(),
+            pending: self.pending.len(),
+            texts: self.texts.len(),
+            bytes: self.bytes.len(),
+        }
+    }
+
+    // The marks of the innermost open value.
+    fn innermost(&self) -> Marks
+        ensures { result ≡ innermost self.now.frames }
+    {
+        match self.frames.as_slice().last() {
+            Some(marks) => *marks,
+            None => Marks::default(),
+        }
+    }
+}

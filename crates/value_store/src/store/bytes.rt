@@ -1,0 +1,70 @@
+//! What is made of bytes: texts, and arrays of packed numbers.
+ghost use Rattle.std.specs.Prelude.{◌≡◌, ℕ, ◌+◌, ◌≤◌, Some, length, IsTrue, ◌↔◌, IsOk, OnOk, OnErr};
+ghost use Rattle.value_store.specs.Levels.{pushed, FitsIn};
+ghost use Rattle.value_store.specs.Slots.{levels, with_bytes, with_more, bytes_value, AreBytes, MayKeep, HasNoNode, GoesOn};
+
+use crate::store::Store;
+use crate::store::append::append;
+use crate::store::slots::{Link, Node, Shape};
+use bit_space::Memory;
+
+impl Store {
+    // Places a value of these bytes that begins at the bit `start`.
+    #[inline(never)]
+    pub(super) fn place_bytes(
+        &mut self,
+        shape: Shape,
+        start: u64,
+        bytes: &[u8],
+    ) -> Result<(), Memory>
+        requires are { AreBytes shape bytes.now start }
+        requires may { MayKeep self.old.room shape }
+        ensures slots { OnOk result (self.new ≡ record self.old { slots = with_bytes shape bytes.now start self.old.slots }) }
+        ensures levels { OnOk result (levels self.new ≡ pushed (levels self.old) (Some (bytes_value shape bytes.now start))) }
+        ensures err { OnErr result (self.new ≡ self.old) }
+        ensures room { self.new.room ≡ self.old.room }
+        ensures depth { length (levels self.new) ≡ length (levels self.old) }
+        ensures succeeds { FitsIn self.old.room (pushed (levels self.old) (Some (bytes_value shape bytes.now start))) → IsOk result }
+    {
+        let index = self.nodes.len();
+        let content = self.texts.len() as u64;
+        let end = self.bytes.len() + bytes.len();
+        self.room.reserve(&mut self.nodes, 1)?;
+        self.room.reserve(&mut self.pending, 1)?;
+        self.room.reserve(&mut self.texts, 1)?;
+        self.room.reserve(&mut self.bytes, bytes.len())?;
+        append(&mut self.bytes, bytes, self.room);
+        self.texts.push_reserved(end);
+        self.pending.push_reserved(Link::to(index));
+        self.nodes.push_reserved(Node {
+            start,
+            content,
+            shape,
+        });
+        Ok(())
+    }
+
+    // Places more bytes of a value that has some.
+    #[inline(always)]
+    pub(super) fn append_bytes(&mut self, shape: Shape, more: &[u8]) -> Result<(), Memory>
+        requires { GoesOn self.old shape more.now }
+        ensures slots { OnOk result (self.new ≡ record self.old { slots = with_more more.now self.old.slots }) }
+        ensures err { OnErr result (self.new ≡ self.old) }
+        ensures room { self.new.room ≡ self.old.room }
+        ensures depth { length (levels self.new) ≡ length (levels self.old) }
+        ensures succeeds { length self.old.slots.bytes + length more.now ≤ self.old.room.least → IsOk result }
+    {
+        self.room.reserve(&mut self.bytes, more.len())?;
+        append(&mut self.bytes, more, self.room);
+        let last = self.texts.len() - 1;
+        self.texts[last] = self.bytes.len();
+        Ok(())
+    }
+
+    // Whether the innermost open value has no node yet.
+    pub(super) fn has_no_node(&self) -> bool
+        ensures { IsTrue result ↔ HasNoNode self.now }
+    {
+        self.nodes.len() == self.innermost().nodes
+    }
+}

@@ -1,0 +1,57 @@
+ghost use Rattle.std.specs.Prelude.{◌≡◌, ◌+◌, ◌-◌, ◌<◌, ◌≤◌, ◌∷◌, [], length, max, take};
+ghost use Rattle.value_store.specs.Levels.{outer_of, top_of, extended};
+ghost use Rattle.value_store.specs.Slots.{Held, levels, cut_to, innermost, marks_of, HasNoNode, AreLevels};
+
+use crate::store::Store;
+use crate::store::slots::Marks;
+
+impl Store {
+    /// Opens a value, which has no parts yet. As many as 64 may be open.
+    pub fn open_level(&mut self)
+        requires { length (levels self.old) ≤ 64 }
+        ensures levels { levels self.new ≡ [] ∷ levels self.old }
+        ensures room { self.new.room ≡ self.old.room }
+        ensures depth { length (levels self.new) ≡ length (levels self.old) + 1 }
+        ensures slots { self.new.slots ≡ self.old.slots }
+        ensures sound { AreLevels self.new.room self.new.frames self.new.slots }
+        ensures fresh { HasNoNode self.new }
+    {
+        let marks = self.marks();
+        self.frames.push(marks);
+    }
+
+    /// Closes the innermost open value, and leaves its parts to the one around it.
+    pub(crate) fn lift_level(&mut self)
+        ensures levels { levels self.new ≡ extended (outer_of (levels self.old)) (top_of (levels self.old)) }
+        ensures room { self.new.room ≡ self.old.room }
+        ensures depth { length (levels self.new) ≡ max 1 (length (levels self.old) - 1) }
+    {
+        let _ = self.frames.pop();
+    }
+
+    /// Gives up the parts of the innermost open value, which stays open. What they took is free again.
+    pub fn clear_level(&mut self)
+        ensures levels { levels self.new ≡ [] ∷ outer_of (levels self.old) }
+        ensures room { self.new.room ≡ self.old.room }
+        ensures depth { length (levels self.new) ≡ length (levels self.old) }
+    {
+        let marks = self.innermost();
+        self.nodes.truncate(marks.nodes);
+        self.families.truncate(marks.families);
+        self.links.truncate(marks.links);
+        self.pending.truncate(marks.pending);
+        self.texts.truncate(marks.texts);
+        self.bytes.truncate(marks.bytes);
+    }
+
+    /// Gives up the innermost open value with its parts. What they took is free again.
+    pub fn drop_level(&mut self)
+        requires { 1 < length (levels self.old) }
+        ensures levels { levels self.new ≡ outer_of (levels self.old) }
+        ensures room { self.new.room ≡ self.old.room }
+        ensures depth { length (levels self.new) + 1 ≡ length (levels self.old) }
+    {
+        self.clear_level();
+        self.lift_level();
+    }
+}

@@ -1,0 +1,257 @@
+ghost use Rattle.std.specs.Prelude.{◌≡◌, ℕ, ◌+◌, ◌-◌, ◌<◌, ◌≤◌, ◌++◌, ◌∷◌, [], Some, None, ℤ, take, drop, length, max, min, IsOk, OnOk, OnErr, vec_len, vec_capacity, List};
+ghost use Rattle.value_store.specs.declared.store.room.Growth.TheVariants.{Never};
+ghost use Rattle.value_store.specs.Tree.{Tree, End, parts_of, text_value, IntegerLabel, OffsetLabel, ArrayLabel, StructLabel, UnionLabel};
+ghost use Rattle.value_store.specs.Levels.{Levels, pushed, outer_of, top_of, extended, text_level, FitsIn};
+ghost use Rattle.value_store.specs.Slots.{levels, IsNumber, number_value, number_in, IsContentNumber, IsComposite, composite_label};
+
+use crate::store::Store;
+use crate::store::append::append;
+use crate::store::room::Room;
+use crate::store::slots::{Family, Link, Node, Shape};
+use bit_space::Memory;
+
+// Moves the links above a mark, for which there is room, and leaves room for one there. The vectors change places where
+// all links move to an empty one of the same capacity: an array of numbers has as many as the file has bytes.
+fn move_above(from: &mut Vec<Link>, mark: usize, to: &mut Vec<Link>, room: Room)
+    requires mark { mark ≤ vec_len from.old }
+    requires room { vec_len to.old + (vec_len from.old - mark) ≤ vec_capacity to.old }
+    requires above { mark < vec_capacity from.old }
+    ensures from { from.new.items ≡ take mark from.old.items }
+    ensures to { to.new.items ≡ to.old.items ++ drop mark from.old.items }
+    ensures len { vec_len from.new ≡ mark }
+    ensures above { mark < vec_capacity from.new }
+    ensures from_capacity { vec_capacity from.new ≡ vec_capacity from.old }
+    ensures to_capacity { vec_capacity to.old ≤ vec_capacity to.new }
+    ensures fixed { room.growth ≡ Never → vec_capacity to.new ≡ vec_capacity to.old }
+{
+    if mark == 0 && to.is_empty() && !from.is_empty() && from.capacity() == to.capacity() {
+        std::mem::swap(from, to);
+        return;
+    }
+    append(to, &from[mark..], room);
+    from.truncate(mark);
+}
+
+// Makes room for the links above a mark, in an empty vector as much as where they are, so that both can change places.
+fn reserve_moved(
+    to: &mut Vec<Link>,
+    from: &Vec<Link>,
+    mark: usize,
+    room: Room,
+) -> Result<(), Memory>
+    requires { mark ≤ vec_len from.now }
+    ensures items { to.new.items ≡ to.old.items }
+    ensures len { vec_len to.new ≡ vec_len to.old }
+    ensures ok { OnOk result (vec_len to.new + (vec_len from.now - mark) ≤ vec_capacity to.new) }
+    ensures capacity { vec_capacity to.old ≤ vec_capacity to.new }
+    ensures fixed { room.growth ≡ Never → vec_capacity to.new ≡ vec_capacity to.old }
+    ensures full { OnErr result (vec_capacity to.old < vec_len to.old + (vec_len from.now - mark)) }
+{
+    let count = from.len() - mark;
+    if mark == 0 && to.is_empty() && to.capacity() < count {
+        let _refused = room.reserve(to, from.capacity());
+    }
+    room.reserve(to, count)
+}
+
+// Makes room for one link above a mark, where those that stand there are to go.
+fn reserve_above(links: &mut Vec<Link>, mark: usize, room: Room) -> Result<(), Memory>
+    requires { mark ≤ vec_len links.old }
+    ensures items { links.new.items ≡ links.old.items }
+    ensures len { vec_len links.new ≡ vec_len links.old }
+    ensures ok { OnOk result (mark < vec_capacity links.new) }
+    ensures capacity { vec_capacity links.old ≤ vec_capacity links.new }
+    ensures fixed { room.growth ≡ Never → vec_capacity links.new ≡ vec_capacity links.old }
+    ensures full { OnErr result (vec_capacity links.old < mark + 1) }
+{
+    if mark == links.len() {
+        room.reserve(links, 1)
+    } else {
+        Ok(())
+    }
+}
+
+// A number as 64 bits.
+fn content_of(signed: bool, number: i128) -> u64
+    requires { IsContentNumber signed number }
+    ensures { number_in signed result ≡ number }
+{
+    if signed {
+        (number as i64).cast_unsigned()
+    } else {
+        number as u64
+    }
+}
+
+impl Store {
+    // Places an integer or an offset.
+    fn place_number(&mut self, shape: Shape, start: u64, content: u64) -> Result<(), Memory>
+        requires number { IsNumber shape }
+        ensures ok { OnOk result (levels self.new ≡ pushed (levels self.old) (Some (number_value shape start content))) }
+        ensures err { OnErr result (self.new ≡ self.old) }
+        ensures room { self.new.room ≡ self.old.room }
+        ensures depth { length (levels self.new) ≡ length (levels self.old) }
+        ensures succeeds { FitsIn self.old.room (pushed (levels self.old) (Some (number_value shape start content))) → IsOk result }
+    {
+        let index = self.nodes.len();
+        self.room.reserve(&mut self.nodes, 1)?;
+        self.room.reserve(&mut self.pending, 1)?;
+        self.pending.push_reserved(Link::to(index));
+        self.nodes.push_reserved(Node {
+            start,
+            content,
+            shape,
+        });
+        Ok(())
+    }
+
+    // Places a value of the parts of the innermost open value, which it then holds in their place.
+    #[inline(always)]
+    fn place_family(&mut self, shape: Shape, start: u64, size: u64) -> Result<(), Memory>
+        requires composite { IsComposite shape }
+        ensures ok { OnOk result (levels self.new ≡ (Some (Tree (composite_label shape) start size (parts_of (top_of (levels self.old)))) ∷ []) ∷ outer_of (levels self.old)) }
+        ensures err { OnErr result (self.new ≡ self.old) }
+        ensures room { self.new.room ≡ self.old.room }
+        ensures depth { length (levels self.new) ≡ length (levels self.old) }
+        ensures succeeds { FitsIn self.old.room (pushed (outer_of (levels self.old)) (Some (Tree (composite_label shape) start size (parts_of (top_of (levels self.old)))))) → IsOk result }
+    {
+        let mark = self.innermost().pending;
+        let index = self.nodes.len();
+        let content = self.families.len() as u64;
+        let count = self.pending.len() - mark;
+        let end = self.links.len() + count;
+        self.room.reserve(&mut self.nodes, 1)?;
+        self.room.reserve(&mut self.families, 1)?;
+        reserve_moved(&mut self.links, &self.pending, mark, self.room)?;
+        reserve_above(&mut self.pending, mark, self.room)?;
+        move_above(&mut self.pending, mark, &mut self.links, self.room);
+        self.pending.push_reserved(Link::to(index));
+        self.families.push_reserved(Family { end, size });
+        self.nodes.push_reserved(Node {
+            start,
+            content,
+            shape,
+        });
+        Ok(())
+    }
+
+    /// Places an integer of `width` bits from the bit `start` on.
+    pub fn push_integer(
+        &mut self,
+        width: u8,
+        signed: bool,
+        number: i128,
+        start: u64,
+    ) -> Result<(), Memory>
+        requires width { (1 ≤ width) × (width ≤ 64) }
+        requires number { IsContentNumber signed number }
+        ensures ok { OnOk result (levels self.new ≡ pushed (levels self.old) (Some (Tree (IntegerLabel number width signed) start width End))) }
+        ensures err { OnErr result (self.new ≡ self.old) }
+        ensures room { self.new.room ≡ self.old.room }
+        ensures depth { length (levels self.new) ≡ length (levels self.old) }
+        ensures succeeds { FitsIn self.old.room (pushed (levels self.old) (Some (Tree (IntegerLabel number width signed) start width End))) → IsOk result }
+    {
+        self.place_number(
+            Shape::Integer { width, signed },
+            start,
+            content_of(signed, number),
+        )
+    }
+
+    /// Places an offset of a magnitude of `width` bits, in units of `unit` bits, from the bit `start` on.
+    pub fn push_offset(
+        &mut self,
+        width: u8,
+        signed: bool,
+        unit: u32,
+        number: i128,
+        start: u64,
+    ) -> Result<(), Memory>
+        requires width { (1 ≤ width) × (width ≤ 64) × (1 ≤ unit) }
+        requires number { IsContentNumber signed number }
+        ensures ok { OnOk result (levels self.new ≡ pushed (levels self.old) (Some (Tree (OffsetLabel number width signed unit) start width End))) }
+        ensures err { OnErr result (self.new ≡ self.old) }
+        ensures room { self.new.room ≡ self.old.room }
+        ensures depth { length (levels self.new) ≡ length (levels self.old) }
+        ensures succeeds { FitsIn self.old.room (pushed (levels self.old) (Some (Tree (OffsetLabel number width signed unit) start width End))) → IsOk result }
+    {
+        self.place_number(
+            Shape::Offset {
+                width,
+                signed,
+                unit,
+            },
+            start,
+            content_of(signed, number),
+        )
+    }
+
+    /// Places a field that is not there.
+    pub fn push_absent(&mut self) -> Result<(), Memory>
+        ensures ok { OnOk result (levels self.new ≡ pushed (levels self.old) None) }
+        ensures err { OnErr result (self.new ≡ self.old) }
+        ensures room { self.new.room ≡ self.old.room }
+        ensures depth { length (levels self.new) ≡ length (levels self.old) }
+        ensures succeeds { FitsIn self.old.room (pushed (levels self.old) None) → IsOk result }
+    {
+        self.room.reserve(&mut self.pending, 1)?;
+        self.pending.push_reserved(Link::absent());
+        Ok(())
+    }
+
+    // Makes a value of the parts of the innermost open value, and closes it.
+    #[inline(always)]
+    fn close(&mut self, shape: Shape, start: u64, size: u64) -> Result<(), Memory>
+        requires composite { IsComposite shape }
+        ensures ok { OnOk result (levels self.new ≡ pushed (outer_of (levels self.old)) (Some (Tree (composite_label shape) start size (parts_of (top_of (levels self.old)))))) }
+        ensures err { OnErr result (self.new ≡ self.old) }
+        ensures room { self.new.room ≡ self.old.room }
+        ensures depth { OnOk result (length (levels self.new) ≡ max 1 (length (levels self.old) - 1)) }
+        ensures succeeds { FitsIn self.old.room (pushed (outer_of (levels self.old)) (Some (Tree (composite_label shape) start size (parts_of (top_of (levels self.old)))))) → IsOk result }
+    {
+        self.place_family(shape, start, size)?;
+        self.lift_level();
+        Ok(())
+    }
+
+    /// Closes the innermost open value as an array of `size` bits from the bit `start` on, whose elements are its parts.
+    pub fn close_array(&mut self, start: u64, size: u64) -> Result<(), Memory>
+        ensures ok { OnOk result (levels self.new ≡ pushed (outer_of (levels self.old)) (Some (Tree ArrayLabel start size (parts_of (top_of (levels self.old)))))) }
+        ensures err { OnErr result (self.new ≡ self.old) }
+        ensures room { self.new.room ≡ self.old.room }
+        ensures depth { OnOk result (length (levels self.new) ≡ max 1 (length (levels self.old) - 1)) }
+        ensures succeeds { FitsIn self.old.room (pushed (outer_of (levels self.old)) (Some (Tree ArrayLabel start size (parts_of (top_of (levels self.old)))))) → IsOk result }
+    {
+        self.close(Shape::Array, start, size)
+    }
+
+    /// Closes the innermost open value as a struct of the type at the index `of`, of `size` bits from the bit `start` on. Its parts are its
+    /// fields, absent ones too.
+    pub fn close_struct(&mut self, of: u32, start: u64, size: u64) -> Result<(), Memory>
+        ensures ok { OnOk result (levels self.new ≡ pushed (outer_of (levels self.old)) (Some (Tree (StructLabel of) start size (parts_of (top_of (levels self.old)))))) }
+        ensures err { OnErr result (self.new ≡ self.old) }
+        ensures room { self.new.room ≡ self.old.room }
+        ensures depth { OnOk result (length (levels self.new) ≡ max 1 (length (levels self.old) - 1)) }
+        ensures succeeds { FitsIn self.old.room (pushed (outer_of (levels self.old)) (Some (Tree (StructLabel of) start size (parts_of (top_of (levels self.old)))))) → IsOk result }
+    {
+        self.close(Shape::Struct { of }, start, size)
+    }
+
+    /// Closes the innermost open value as a union of the type at the index `of`, of `size` bits from the bit `start` on. Its part is the
+    /// alternative taken, which is the one at the index `taken`.
+    pub fn close_union(
+        &mut self,
+        of: u32,
+        taken: u16,
+        start: u64,
+        size: u64,
+    ) -> Result<(), Memory>
+        ensures ok { OnOk result (levels self.new ≡ pushed (outer_of (levels self.old)) (Some (Tree (UnionLabel of taken) start size (parts_of (top_of (levels self.old)))))) }
+        ensures err { OnErr result (self.new ≡ self.old) }
+        ensures room { self.new.room ≡ self.old.room }
+        ensures depth { OnOk result (length (levels self.new) ≡ max 1 (length (levels self.old) - 1)) }
+        ensures succeeds { FitsIn self.old.room (pushed (outer_of (levels self.old)) (Some (Tree (UnionLabel of taken) start size (parts_of (top_of (levels self.old)))))) → IsOk result }
+    {
+        self.close(Shape::Union { taken, of }, start, size)
+    }
+}

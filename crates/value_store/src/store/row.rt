@@ -1,0 +1,85 @@
+//! Arrays of packed numbers.
+ghost use Rattle.std.specs.Prelude.{◌≡◌, ℕ, ◌+◌, ◌*◌, ◌<◌, ◌≤◌, ◌^◌, ◌++◌, ◌∷◌, [], Some, List, take, length, max, ◌-◌, IsTrue, ◌↔◌, OnOk, OnErr, true};
+ghost use Rattle.value_store.specs.Levels.{Levels, pushed};
+ghost use Rattle.value_store.specs.Packed.{bytes_for, number_bytes};
+ghost use Rattle.value_store.specs.Slots.{levels, packs, row_value, element_width, HasNoNode, IsPacked, IsPacking, IsRowOf, TakesNumber};
+
+use crate::store::Store;
+use crate::store::slots::Shape;
+use bit_space::Memory;
+
+/// How many bytes a number of `width` bits takes.
+pub(crate) fn bytes_for(width: u8) -> usize
+    ensures { result ≡ bytes_for width }
+{
+    (usize::from(width) + 7) / 8
+}
+
+impl Store {
+    /// Whether arrays of numbers are packed.
+    pub fn packs(&self) -> bool
+        ensures { result ≡ packs self.now.room }
+    {
+        self.room.packs()
+    }
+
+    /// Places a number more, of `width` binary digits, of the array of packed numbers under way, which begins at the bit `start`, and tells by
+    /// `first` that it has none yet.
+    #[inline(always)]
+    pub fn push_packed(
+        &mut self,
+        shape: Shape,
+        width: u8,
+        digits: u64,
+        first: bool,
+        start: u64,
+    ) -> Result<(), Memory>
+        requires takes { TakesNumber self.old shape start }
+        requires packed { IsPacked shape }
+        requires width { width ≡ element_width shape }
+        requires below { digits < 2 ^ width }
+        requires first { IsTrue first ↔ HasNoNode self.old }
+        ensures ok { OnOk result ((numbers : List ℕ) (outer : Levels) → IsPacking self.old shape numbers start outer → start + width * (length numbers + 1) < 2 ^ 64 → IsPacking self.new shape (numbers ++ digits ∷ []) start outer) }
+        ensures err { OnErr result (self.new ≡ self.old) }
+        ensures room { self.new.room ≡ self.old.room }
+        ensures depth { length (levels self.new) ≡ length (levels self.old) }
+    {
+        let bytes = digits.to_le_bytes();
+        let own = &bytes[..bytes_for(width)];
+        if first {
+            self.place_bytes(shape, start, own)
+        } else {
+            self.append_bytes(shape, own)
+        }
+    }
+
+    // Gives the array of packed numbers under way a node, where it has no numbers.
+    fn settle_row(&mut self, shape: Shape, start: u64) -> Result<(), Memory>
+        requires row { IsRowOf self.old shape start }
+        requires packed { IsPacked shape }
+        ensures ok { OnOk result ((numbers : List ℕ) (outer : Levels) → IsPacking self.old shape numbers start outer → levels self.new ≡ (Some (row_value shape numbers start) ∷ []) ∷ outer) }
+        ensures err { OnErr result (self.new ≡ self.old) }
+        ensures room { self.new.room ≡ self.old.room }
+        ensures depth { length (levels self.new) ≡ length (levels self.old) }
+    {
+        if self.has_no_node() {
+            self.place_bytes(shape, start, &[])
+        } else {
+            Ok(())
+        }
+    }
+
+    /// Closes the array of packed numbers under way, which begins at the bit `start`.
+    pub fn close_row(&mut self, shape: Shape, start: u64) -> Result<(), Memory>
+        requires row { IsRowOf self.old shape start }
+        requires packed { IsPacked shape }
+        ensures ok { OnOk result ((numbers : List ℕ) (outer : Levels) → IsPacking self.old shape numbers start outer → levels self.new ≡ pushed outer (Some (row_value shape numbers start))) }
+        ensures err { OnErr result (self.new ≡ self.old) }
+        ensures room { self.new.room ≡ self.old.room }
+        ensures depth { OnOk result (length (levels self.new) ≡ max 1 (length (levels self.old) - 1)) }
+    {
+        self.settle_row(shape, start)?;
+        self.lift_level();
+        Ok(())
+    }
+}

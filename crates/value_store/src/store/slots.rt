@@ -1,0 +1,119 @@
+ghost use Rattle.std.specs.Prelude.{◌≡◌, ◌<◌, ◌^◌, ◌-◌, Some, None, Option};
+
+use std::marker::Model;
+
+/// What a value is, beside its place, its content and its parts.
+#[derive(Clone, Copy)]
+pub enum Shape {
+    /// The content is the number, as 64 bits.
+    Integer { width: u8, signed: bool },
+    /// The content is the magnitude, as 64 bits; the unit is in bits.
+    Offset { width: u8, signed: bool, unit: u32 },
+    /// The content is the place of the text among the texts.
+    Text,
+    /// An array of integers, packed: the content is the place of their bytes among the texts.
+    Integers { width: u8, signed: bool },
+    /// An array of offsets, packed likewise.
+    Offsets { width: u8, signed: bool, unit: u32 },
+    /// The content of an array, a struct or a union is the place of its family.
+    Array,
+    /// A struct of the type at the index `of`.
+    Struct { of: u32 },
+    /// A union of the type at the index `of`, which took the alternative `taken`.
+    Union { taken: u16, of: u32 },
+}
+
+/// One value of the store, in 24 bytes. What a leaf doesn't need stands elsewhere: the size and the parts of an array, a struct or a
+/// union in a family, the end of a text, or of packed numbers, in a list of ends.
+#[derive(Clone, Copy)]
+pub(crate) struct Node {
+    pub(crate) start: u64,
+    pub(crate) content: u64,
+    pub(crate) shape: Shape,
+}
+
+/// Where a value is kept.
+#[derive(Clone, Copy)]
+pub(crate) enum Place {
+    /// At a node.
+    Node(usize),
+    /// Packed: as the element at a place of the array at a node.
+    Element { array: usize, index: usize },
+}
+
+/// The parts of an array, a struct or a union: the links from the end of the family before it up to `end`. The size is in bits.
+#[derive(Clone, Copy)]
+pub(crate) struct Family {
+    pub(crate) end: usize,
+    pub(crate) size: u64,
+}
+
+/// The place of a node, or nothing for an absent field, in 8 bytes.
+#[derive(Clone, Copy)]
+pub(crate) struct Link {
+    node: usize,
+}
+
+impl Shape {
+    ghost use Rattle.value_store.specs.Slots.{element_width};
+
+    /// How many bits an element of an array of packed numbers takes, else 0.
+    pub fn element_width(self) -> u8
+        ensures { result ≡ element_width self }
+    {
+        match self {
+            Shape::Integers { width, .. } | Shape::Offsets { width, .. } => width,
+            _ => 0,
+        }
+    }
+}
+
+impl Model for Link {
+    ghost use Rattle.std.specs.Prelude.{ℕ, Option};
+    ghost use Rattle.std.proofs.Common.{ap};
+    ghost use Rattle.value_store.specs.Links.{target, link_to, link_to-target};
+
+    ghost Value = { Option ℕ };
+
+    ghost view = { λ l. target l.node };
+
+    ghost inverse = { λ o. record { node = link_to o } };
+
+    ghost inverse_ok = { λ l h. ap (λ n. record { node = n }) (link_to-target l.node) };
+}
+
+impl Link {
+    pub(crate) const fn absent() -> Link
+        ensures { result ≡ None }
+    {
+        Link { node: usize::MAX }
+    }
+
+    pub(crate) fn to(node: usize) -> Link
+        requires { node < 2 ^ 64 - 1 }
+        ensures { result ≡ Some node }
+    {
+        Link { node }
+    }
+
+    pub(crate) fn target(self) -> Option<usize>
+        ensures { result ≡ self }
+    {
+        if self.node == usize::MAX {
+            None
+        } else {
+            Some(self.node)
+        }
+    }
+}
+
+/// How much of each kind a store held at some moment.
+#[derive(Clone, Copy, Default)]
+pub(crate) struct Marks {
+    pub(crate) nodes: usize,
+    pub(crate) families: usize,
+    pub(crate) links: usize,
+    pub(crate) pending: usize,
+    pub(crate) texts: usize,
+    pub(crate) bytes: usize,
+}

@@ -1,0 +1,212 @@
+ghost use Rattle.std.specs.Prelude.{◌≡◌, ◌<◌, length, IfSome};
+ghost use Rattle.std.specs.Option.{option_map};
+ghost use Rattle.value_store.specs.Kinds.{kind_of};
+ghost use Rattle.value_store.specs.Tree.{label, start, size, parts, part_at, number_of, signed_of, width_of, unit_of, bytes_of, type_of, taken_of};
+ghost use Rattle.value_store.specs.Lent.{place_value, place_links, place_packed, place_rank, IsPlace};
+ghost use Rattle.value_store.specs.Scalars.{scalar_label, scalar_in, IsScalar};
+
+use crate::scalar::Scalar;
+use crate::store::Store;
+use crate::store::slots::{Link, Place};
+use crate::value::Kind;
+
+/// A value that a store holds, without the names of its type. It copies nothing.
+#[derive(Clone, Copy)]
+pub struct StoredValue<'a> {
+    store: &'a Store,
+    place: Place,
+    ghost in_range: { IsPlace store.now.slots place },
+}
+
+impl<'a> StoredValue<'a> {
+    ghost use Rattle.value_store.specs.Refs.{value_of};
+
+    pub(crate) fn new(store: &'a Store, place: Place) -> StoredValue<'a>
+        requires { IsPlace store.now.slots place }
+        ensures { value_of result ≡ place_value store.now.slots place }
+    {
+        StoredValue { store, place }
+    }
+
+    pub fn kind(&self) -> Kind
+        ensures { result ≡ kind_of (label (value_of self.now)) }
+    {
+        match self.place {
+            Place::Node(at) => self.store.kind_at(at),
+            Place::Element { array, index } => self.store.element_kind(array, index),
+        }
+    }
+
+    /// The bit at which the value starts.
+    pub fn start(&self) -> u64
+        ensures { result ≡ start (value_of self.now) }
+    {
+        match self.place {
+            Place::Node(at) => self.store.start_at(at),
+            Place::Element { array, index } => self.store.element_start(array, index),
+        }
+    }
+
+    /// How many bits the value takes.
+    pub fn size(&self) -> u64
+        ensures { result ≡ size (value_of self.now) }
+    {
+        match self.place {
+            Place::Node(at) => self.store.size_at(at),
+            Place::Element { array, index } => u64::from(
+                self.store.element_type(array, index).width,
+            ),
+        }
+    }
+
+    /// The number of an integer, the magnitude of an offset, else 0.
+    pub fn number(&self) -> i128
+        ensures { result ≡ number_of (label (value_of self.now)) }
+    {
+        match self.place {
+            Place::Node(at) => self.store.number_at(at),
+            Place::Element { array, index } => self.store.element_at(array, index).number(),
+        }
+    }
+
+    /// Whether the type of an integer or of an offset's magnitude has a sign, else false.
+    pub fn signed(&self) -> bool
+        ensures { result ≡ signed_of (label (value_of self.now)) }
+    {
+        match self.place {
+            Place::Node(at) => self.store.signed_at(at),
+            Place::Element { array, index } => self.store.element_type(array, index).signed,
+        }
+    }
+
+    /// The number of an integer or an offset, with its type.
+    pub(crate) fn scalar(&self) -> Option<Scalar>
+        ensures is { option_map scalar_label result ≡ scalar_in (label (value_of self.now)) }
+        ensures scalar { IfSome result IsScalar }
+    {
+        match self.place {
+            Place::Node(at) => self.store.scalar_at(at),
+            Place::Element { array, index } => Some(self.store.element_at(array, index)),
+        }
+    }
+
+    /// The width in bits of an integer or of an offset's magnitude, else 0.
+    pub fn width(&self) -> u8
+        ensures { result ≡ width_of (label (value_of self.now)) }
+    {
+        match self.place {
+            Place::Node(at) => self.store.width_at(at),
+            Place::Element { array, index } => self.store.element_type(array, index).width,
+        }
+    }
+
+    /// The unit of an offset in bits, else 0.
+    pub fn unit(&self) -> u32
+        ensures { result ≡ unit_of (label (value_of self.now)) }
+    {
+        match self.place {
+            Place::Node(at) => self.store.unit_at(at),
+            Place::Element { array, index } => self.store.element_unit(array, index),
+        }
+    }
+
+    /// The bytes of a text without its final 0, else none.
+    pub fn bytes(&self) -> &'a [u8]
+        ensures { result.now ≡ bytes_of (label (value_of self.now)) }
+    {
+        match self.place {
+            Place::Node(at) => self.store.bytes_at(at),
+            Place::Element { .. } => &[],
+        }
+    }
+
+    /// The number of elements of an array, of declared fields of a struct, absent ones too; 1 for a union, else 0.
+    pub fn len(&self) -> usize
+        ensures { result ≡ length (parts (value_of self.now)) }
+    {
+        match self.place {
+            Place::Node(at) => self.store.len_at(at),
+            Place::Element { .. } => 0,
+        }
+    }
+
+    /// The element or field at a place, the alternative taken at place 0; nothing for an absent field and past the end.
+    pub fn child(&self, i: usize) -> Option<StoredValue<'a>>
+        ensures part { option_map value_of result ≡ part_at (value_of self.now) i }
+        ensures below { IfSome result (λ c. place_rank c.place < place_rank self.now.place) }
+    {
+        self.linked(self.links(), self.packed(), i)
+    }
+
+    /// The links to the parts, for a walk over them.
+    pub(crate) fn links(&self) -> &'a [Link]
+        ensures { result.now ≡ place_links self.now.store.now.slots self.now.place }
+    {
+        match self.place {
+            Place::Node(at) => self.store.links_from(at),
+            Place::Element { .. } => &[],
+        }
+    }
+
+    /// How many packed numbers are the parts, for a walk over them.
+    pub(crate) fn packed(&self) -> usize
+        ensures { result ≡ place_packed self.now.store.now.slots self.now.place }
+    {
+        match self.place {
+            Place::Node(at) => self.store.packed_from(at),
+            Place::Element { .. } => 0,
+        }
+    }
+
+    /// How many parts there are, as [`StoredValue::len`] tells it, by links and packed numbers that were found before.
+    pub(crate) fn count_linked(&self, links: &[Link], packed: usize) -> usize
+        requires links { links.now ≡ place_links self.now.store.now.slots self.now.place }
+        requires packed { packed ≡ place_packed self.now.store.now.slots self.now.place }
+        ensures { result ≡ length (parts (value_of self.now)) }
+    {
+        match self.place {
+            Place::Node(at) => self.store.count_linked(at, links, packed),
+            Place::Element { .. } => 0,
+        }
+    }
+
+    /// The part at a place, as [`StoredValue::child`] tells it, by links and packed numbers that were found before.
+    pub(crate) fn linked(&self, links: &[Link], packed: usize, i: usize) -> Option<StoredValue<'a>>
+        requires links { links.now ≡ place_links self.now.store.now.slots self.now.place }
+        requires packed { packed ≡ place_packed self.now.store.now.slots self.now.place }
+        ensures part { option_map value_of result ≡ part_at (value_of self.now) i }
+        ensures below { IfSome result (λ c. place_rank c.place < place_rank self.now.place) }
+    {
+        let at = match self.place {
+            Place::Node(at) => at,
+            Place::Element { .. } => return None,
+        };
+        match self.store.linked(at, links, packed, i) {
+            Some(place) => Some(StoredValue {
+                store: self.store,
+                place,
+            }),
+            None => None,
+        }
+    }
+
+    /// The index of the type that names a struct or a union.
+    pub(crate) fn type_index(&self) -> Option<u32>
+        ensures { result ≡ type_of (label (value_of self.now)) }
+    {
+        match self.place {
+            Place::Node(at) => self.store.type_at(at),
+            Place::Element { .. } => None,
+        }
+    }
+
+    /// The alternative that a union took.
+    pub(crate) fn taken(&self) -> Option<u16>
+        ensures { result ≡ taken_of (label (value_of self.now)) }
+    {
+        match self.place {
+            Place::Node(at) => self.store.taken_at(at),
+            Place::Element { .. } => None,
+        }
+    }
+}

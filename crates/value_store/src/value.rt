@@ -1,0 +1,151 @@
+ghost use Rattle.std.specs.Prelude.{◌≡◌, ◌<◌, ◌-◌, IfSome};
+ghost use Rattle.std.specs.Option.{option_map};
+ghost use Rattle.pickle_meaning.specs.Values.{label_of, start_of, end_of, members_of, member_count, member_at};
+ghost use Rattle.value_store.specs.Labels.{kind_of, number_of, signed_of, width_of, unit_of, bytes_of, name_of, member_name};
+ghost use Rattle.value_store.specs.Shown.{shown};
+
+mod members;
+
+use crate::names::{part_name, title};
+use crate::stored::StoredValue;
+pub use members::Members;
+use pickle_types::view::Node;
+
+/// What sort of value one is.
+#[derive(Clone, Copy, Debug, PartialEq, Eq)]
+pub enum Kind {
+    Integer,
+    Offset,
+    Text,
+    Array,
+    Struct,
+    Union,
+}
+
+/// A mapped value, as a store holds it and with the names of its table. It copies nothing.
+#[derive(Clone, Copy)]
+pub struct ValueRef<'a> {
+    stored: StoredValue<'a>,
+    nodes: &'a [Node],
+}
+
+#[tactic(auto, using(crate::proofs::ShownLabels::shown_reads))]
+impl<'a> ValueRef<'a> {
+    ghost use Rattle.value_store.specs.Refs.{value_of, value_shown, rank_of};
+    ghost use Rattle.value_store.specs.Owners.{owner_of};
+
+    pub fn new(stored: StoredValue<'a>, nodes: &'a [Node]) -> ValueRef<'a>
+        ensures { value_shown result ≡ shown nodes.now (value_of stored.entry) }
+    {
+        ValueRef { stored, nodes }
+    }
+
+    pub fn kind(&self) -> Kind
+        ensures { result ≡ kind_of (label_of (value_shown self.now)) }
+    {
+        self.stored.kind()
+    }
+
+    /// The bit at which the value starts.
+    pub fn start(&self) -> u64
+        ensures { result ≡ start_of (value_shown self.now) }
+    {
+        self.stored.start()
+    }
+
+    /// How many bits the value takes, from its start to its end.
+    pub fn size(&self) -> u64
+        ensures { result ≡ end_of (value_shown self.now) - start_of (value_shown self.now) }
+    {
+        self.stored.size()
+    }
+
+    /// The number of an integer, the magnitude of an offset, else 0.
+    pub fn number(&self) -> i128
+        ensures { result ≡ number_of (label_of (value_shown self.now)) }
+    {
+        self.stored.number()
+    }
+
+    /// Whether the type of an integer or of an offset's magnitude has a sign, else false.
+    pub fn signed(&self) -> bool
+        ensures { result ≡ signed_of (label_of (value_shown self.now)) }
+    {
+        self.stored.signed()
+    }
+
+    /// The width in bits of an integer or of an offset's magnitude, 1 to 64, else 0.
+    pub fn width(&self) -> u8
+        ensures { result ≡ width_of (label_of (value_shown self.now)) }
+    {
+        self.stored.width()
+    }
+
+    /// The unit of an offset in bits, else 0.
+    pub fn unit(&self) -> u32
+        ensures { result ≡ unit_of (label_of (value_shown self.now)) }
+    {
+        self.stored.unit()
+    }
+
+    /// The bytes of a text without its final 0, else none.
+    pub fn bytes(&self) -> &'a [u8]
+        ensures { result.now ≡ bytes_of (label_of (value_shown self.now)) }
+    {
+        self.stored.bytes()
+    }
+
+    /// The number of elements of an array, of declared fields of a struct, absent ones too; 1 for a union, else 0.
+    pub fn len(&self) -> usize
+        ensures { result ≡ member_count (members_of (value_shown self.now)) }
+    {
+        self.stored.len()
+    }
+
+    /// The members, for a walk over them: [`Members::get`] gives what [`ValueRef::child`] does.
+    pub fn members(&self) -> Members<'a>
+        ensures { owner_of result ≡ self.now }
+    {
+        Members::new(*self)
+    }
+
+    /// The element or field at a place, the alternative taken at place 0; nothing for an absent field and past the end.
+    pub fn child(&self, i: usize) -> Option<ValueRef<'a>>
+        ensures member { option_map value_shown result ≡ member_at (members_of (value_shown self.now)) i }
+        ensures below { IfSome result (λ c. rank_of c < rank_of self.now) }
+    {
+        match self.stored.child(i) {
+            Some(stored) => Some(ValueRef {
+                stored,
+                nodes: self.nodes,
+            }),
+            None => None,
+        }
+    }
+
+    /// The name that a struct or a union is printed with; nothing where its type is nameless, and for all other values.
+    pub fn type_name(&self) -> Option<&'a [u8]>
+        ensures { option_map (λ name. name.now) result ≡ name_of (label_of (value_shown self.now)) }
+    {
+        match self.stored.type_index() {
+            Some(of) => title(self.nodes, of),
+            None => None,
+        }
+    }
+
+    /// The name of the field at a place of a struct, of the alternative taken at place 0 of a union; nothing for nameless
+    /// fields, for elements and past the end.
+    pub fn field_name(&self, i: usize) -> Option<&'a [u8]>
+        ensures { option_map (λ name. name.now) result ≡ member_name (label_of (value_shown self.now)) i }
+    {
+        let of = match self.stored.type_index() {
+            Some(of) => of,
+            None => return None,
+        };
+        match self.stored.taken() {
+            None => part_name(self.nodes, of, i),
+            Some(taken) if i == 0 => part_name(self.nodes, of, usize::from(taken)),
+            Some(_) => None,
+        }
+    }
+}

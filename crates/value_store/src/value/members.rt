@@ -1,0 +1,58 @@
+//! The members of a value, whose links or packed numbers are found once.
+
+ghost use Rattle.std.specs.Prelude.{◌≡◌, ◌<◌, IfSome};
+ghost use Rattle.std.specs.Option.{option_map};
+ghost use Rattle.value_store.specs.Lent.{place_links, place_packed};
+ghost use Rattle.pickle_meaning.specs.Values.{members_of, member_count, member_at};
+
+use crate::store::slots::Link;
+use crate::value::ValueRef;
+
+/// The elements of an array, the declared fields of a struct, or the alternative that a union took.
+#[derive(Clone, Copy)]
+pub struct Members<'a> {
+    value: ValueRef<'a>,
+    links: &'a [Link],
+    packed: usize,
+    ghost own: { links.now ≡ place_links value.stored.store.now.slots value.stored.place },
+    ghost counted: { packed ≡ place_packed value.stored.store.now.slots value.stored.place },
+}
+
+#[tactic(auto, using(crate::proofs::ShownLabels::shown_reads))]
+impl<'a> Members<'a> {
+    ghost use Rattle.value_store.specs.Refs.{value_of, value_shown, rank_of};
+    ghost use Rattle.value_store.specs.Owners.{owner_of};
+
+    pub(super) fn new(value: ValueRef<'a>) -> Members<'a>
+        ensures { owner_of result ≡ value.entry }
+    {
+        let links = value.stored.links();
+        let packed = value.stored.packed();
+        Members {
+            value,
+            links,
+            packed,
+        }
+    }
+
+    /// How many there are, absent fields too.
+    pub fn len(&self) -> usize
+        ensures { result ≡ member_count (members_of (value_shown (owner_of self.now))) }
+    {
+        self.value.stored.count_linked(self.links, self.packed)
+    }
+
+    /// The member at a place; nothing for an absent field and past the end.
+    pub fn get(&self, i: usize) -> Option<ValueRef<'a>>
+        ensures member { option_map value_shown result ≡ member_at (members_of (value_shown (owner_of self.now))) i }
+        ensures below { IfSome result (λ c. rank_of c < rank_of (owner_of self.now)) }
+    {
+        match self.value.stored.linked(self.links, self.packed, i) {
+            Some(stored) => Some(ValueRef {
+                stored,
+                nodes: self.value.nodes,
+            }),
+            None => None,
+        }
+    }
+}
