@@ -2,10 +2,10 @@
 use Rattle.std.proofs.Common.{◌≡◌, ℕ, List, [], ◌++◌, Option, Some, None, sym, ap, ◌∙◌, subst, inl, inr}
 use Rattle.pickle_meaning.specs.declared.faults.MapFaultKind.{MapFaultKind}
 use Rattle.pickle_meaning.specs.declared.faults.MapFaultKind.TheVariants as fault
-use Rattle.poke_batch.specs.declared.status.Status.{Status}
-use Rattle.poke_batch.specs.declared.status.Status.TheVariants.{Done, Fault, Refused, Outside}
+use Rattle.run_parts.specs.declared.status.Status.{Status}
+use Rattle.run_parts.specs.declared.status.Status.TheVariants.{Done, Fault, Refused, Outside}
 use Rattle.poke_batch.specs.RunsUnder.{end_saying}
-use Rattle.poke_batch.specs.Told.{Saying, Text, Line, IsSaid, IsTold}
+use Rattle.run_parts.specs.Told.{Saying, Text, Line, IsSaid, IsTold}
 
 abbrev IsFault : Status → Type 0
 IsFault Done = ⊥

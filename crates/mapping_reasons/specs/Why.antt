@@ -7,11 +7,11 @@ use Rattle.pickle_meaning.specs.declared.faults.MapFault.{MapFault}
 use Rattle.command_words.specs.declared.ask.Ask.{Ask}
 use Rattle.command_words.specs.declared.path.Path.{Path}
 use Rattle.command_words.specs.declared.terms.Terms.{Terms}
-use Rattle.poke_batch.specs.declared.status.Status.TheVariants.{Fault}
-use Rattle.poke_batch.specs.Lines.{fault_line}
+use Rattle.run_parts.specs.declared.status.Status.TheVariants.{Fault}
+use Rattle.run_parts.specs.Lines.{fault_line}
 use Rattle.poke_batch.specs.Runs.{IsAsked}
 use Rattle.poke_batch.specs.RunsUnder.{end_saying}
-use Rattle.poke_batch.specs.Told.{Line}
+use Rattle.run_parts.specs.Told.{Line}
 use Rattle.mapping_reasons.specs.Meant.{HasFault, HasValue}
 use Rattle.mapping_reasons.specs.Ways.{IsWayTo}
 

@@ -9,7 +9,7 @@ use pickle_types::integer::IntegerType;
 use std::alloc::{AllocError, Global};
 use std::io;
 use std::io::Write;
-use value_text::mode::Mode;
+use text_forms::mode::Mode;
 use value_text::print::print;
 use value_text::print::suffix::{Suffix, suffix_of};
 

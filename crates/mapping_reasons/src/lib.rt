@@ -7,8 +7,8 @@ ghost use Rattle.pickle_types.specs.TypeTable.{IsInTable, nodes_of, type_named};
 ghost use Rattle.bit_space.specs.SpaceView.{Keeps, SpaceView};
 ghost use Rattle.command_words.specs.declared.ask.Ask.{Ask};
 ghost use Rattle.poke_batch.specs.RunsUnder.{end_saying};
-ghost use Rattle.poke_batch.specs.Told.{Line};
-ghost use Rattle.poke_batch.specs.declared.status.Status.TheVariants.{Fault as Faulty};
+ghost use Rattle.run_parts.specs.Told.{Line};
+ghost use Rattle.run_parts.specs.declared.status.Status.TheVariants.{Fault as Faulty};
 ghost use Rattle.mapping_reasons.specs.Found.{scene_type};
 ghost use Rattle.mapping_reasons.specs.Why.{run_of, ExplainsRun, TellsOfFault, TellsOfValue, TellsPart, TellsWhy};
 
@@ -36,10 +36,10 @@ use pickle_map::{MapFault, ValueRef};
 use pickle_script::script::Script;
 use pickle_script::text::Text;
 use pickle_types::type_table::{Table, TypeId};
-use poke_batch::accept::accept;
+use run_parts::accept::accept;
 use poke_batch::ask::Ask;
 use poke_batch::run::{store_of, tell_end};
-use poke_batch::status::Status;
+use run_parts::status::Status;
 use poke_batch::terms::Terms;
 use std::alloc::{AllocError, Global};
 

@@ -2,7 +2,7 @@
 use Rattle.std.proofs.Common.{◌≡◌, ◌≤◌, ℕ, List, [], ◌++◌, length, take, fold, Result, Ok, Err, IfOk, subst}
 use Rattle.pickle_tree.specs.Tree.{DeclarationTree}
 use Rattle.pickle_types.specs.Names.{Names}
-use Rattle.poke_batch.specs.Accepted.{IsAccepted}
+use Rattle.run_parts.specs.Accepted.{IsAccepted}
 use Rattle.pickle_reasons.specs.Places.{Explains, placed, unplaced}
 use Rattle.pickle_script.specs.Places.{TellsPlace, place_line, line_behind, column_behind, called_by, shown_behind}
 

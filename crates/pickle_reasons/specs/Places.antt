@@ -3,7 +3,7 @@ use Rattle.std.specs.Prelude.{ℕ, List}
 use Rattle.pickle_tree.specs.Tree.{DeclarationTree}
 use Rattle.pickle_types.specs.Names.{Names}
 use Rattle.pickle_script.specs.Places.{TellsPlace, called_by}
-use Rattle.poke_batch.specs.Accepted.{IsAccepted}
+use Rattle.run_parts.specs.Accepted.{IsAccepted}
 
 -- why a pickle, or the name of a type that is asked of it, is refused: a place in the pickle; nothing is promised of an accepted one
 pub data Explains (pickle path : List ℕ) : List ℕ → Type 0 where

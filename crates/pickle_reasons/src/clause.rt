@@ -11,7 +11,7 @@ use pickle_script::text::Text;
 use pickle_syntax::token::Attribute;
 use pickle_syntax::tree::{Clauses, Expression, Field, Form, Pickle, Suffix};
 use pickle_types::fault::FaultKind;
-use poke_batch::accept::{Refusal, read_syntax};
+use run_parts::accept::{Refusal, read_syntax};
 use std::alloc::{AllocError, Global};
 
 /// The most operands inside an operand.

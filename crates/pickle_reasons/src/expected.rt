@@ -1,7 +1,7 @@
 //! What may stand at a place of a pickle: the parser is asked.
 
 use pickle_script::text::Text;
-use poke_batch::accept::{Refusal, read_syntax};
+use run_parts::accept::{Refusal, read_syntax};
 use std::alloc::{AllocError, Global};
 
 /// What may stand at a place.

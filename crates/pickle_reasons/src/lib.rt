@@ -29,7 +29,7 @@ use crate::type_names::no_such_type;
 use crate::types::types_note;
 use pickle_script::script::Script;
 use pickle_script::text::Text;
-use poke_batch::accept::{Refusal, accept};
+use run_parts::accept::{Refusal, accept};
 use std::alloc::{AllocError, Global};
 
 /// The lines that tell why a pickle is refused, or the name of a type that is asked of it; none where neither is. `path` is the

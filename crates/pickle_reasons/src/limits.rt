@@ -3,7 +3,7 @@
 use crate::note::Note;
 use pickle_script::script::{Script, cut};
 use pickle_script::text::Text;
-use poke_batch::accept::{Refusal, read_syntax};
+use run_parts::accept::{Refusal, read_syntax};
 use std::alloc::{AllocError, Global};
 
 /// A limit of the syntax.

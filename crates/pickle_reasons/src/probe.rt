@@ -2,7 +2,7 @@
 
 use pickle_script::text::Text;
 use pickle_types::fault::FaultKind;
-use poke_batch::accept::{Refusal, accept};
+use run_parts::accept::{Refusal, accept};
 use std::alloc::{AllocError, Global};
 
 /// What stands around a part of a pickle that is in question. It is short of all that comes behind the part.

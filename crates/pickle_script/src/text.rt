@@ -6,7 +6,7 @@ ghost use Rattle.pickle_script.specs.Places.{shown_behind, place_text, IsPlain};
 use crate::place::Place;
 use itoa::Buffer;
 use std::alloc::{AllocError, Global};
-use value_text::hex::hex_digit;
+use text_forms::hex::hex_digit;
 
 /// The most bytes of a word that are shown.
 const MOST_SHOWN: usize = 64;

@@ -17,14 +17,14 @@ use Rattle.value_store.specs.Slots.{Held}
 use Rattle.pickle_meaning.specs.Values.{Value, value_at}
 use Rattle.pickle_meaning.specs.declared.faults.MapFaultKind.{MapFaultKind}
 use Rattle.pickle_meaning.specs.declared.faults.MapFaultKind.TheVariants as fault
-use Rattle.poke_batch.specs.Accepted.{IsAccepted}
+use Rattle.run_parts.specs.Accepted.{IsAccepted}
 use Rattle.pickle_meaning.specs.FaultNames.{fault_kind}
-use Rattle.poke_batch.specs.FaultLines.{fault_saying}
+use Rattle.run_parts.specs.FaultLines.{fault_saying}
 use Rattle.command_words.specs.declared.ask.Ask.{Ask}
-use Rattle.poke_batch.specs.declared.status.Status.TheVariants.{Fault}
-use Rattle.poke_batch.specs.Lines.{fault_at_line}
+use Rattle.run_parts.specs.declared.status.Status.TheVariants.{Fault}
+use Rattle.run_parts.specs.Lines.{fault_at_line}
 use Rattle.poke_batch.specs.Runs.{HasAnswer, IsAsked, MapsAs, stops, device, no_memory}
-use Rattle.poke_batch.specs.Told.{Line}
+use Rattle.run_parts.specs.Told.{Line}
 
 pub asked : {pickle name : List ℕ} {declarations : List DeclarationTree} {types : Names} {type : PokeType} → IsAccepted pickle declarations types → find_type name types ≡ Some type → IsAsked pickle name type
 asked a f = record { declarations = _; types = _; accepted = a; found = f }

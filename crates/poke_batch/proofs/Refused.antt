@@ -3,15 +3,15 @@ use Rattle.std.proofs.Common.{◌≡◌, ◌<◌, ◌++◌, ℕ, List, [], ◌�
 use Rattle.std.specs.Prelude.{◌^◌, codes}
 use Rattle.bit_space.specs.SpaceView.{SpaceView, HasRisen, honest}
 use Rattle.command_words.specs.declared.ask.Ask.{Ask}
-use Rattle.poke_batch.specs.declared.accept.Refusal.{Refusal}
-use Rattle.poke_batch.specs.declared.accept.Refusal.TheVariants as refusal
-use Rattle.poke_batch.specs.declared.status.Status.{Status}
-use Rattle.poke_batch.specs.declared.status.Status.TheVariants.{Done, Fault, Refused, Outside}
-use Rattle.poke_batch.specs.Accepted.{refusal_saying}
-use Rattle.poke_batch.specs.Lines.{fault_line}
+use Rattle.run_parts.specs.declared.accept.Refusal.{Refusal}
+use Rattle.run_parts.specs.declared.accept.Refusal.TheVariants as refusal
+use Rattle.run_parts.specs.declared.status.Status.{Status}
+use Rattle.run_parts.specs.declared.status.Status.TheVariants.{Done, Fault, Refused, Outside}
+use Rattle.run_parts.specs.Accepted.{refusal_saying}
+use Rattle.run_parts.specs.Lines.{fault_line}
 use Rattle.command_words.specs.OffsetWord.{IsOffsetWord}
 use Rattle.poke_batch.specs.Runs.{MapsAs, value, stops, device, unknown, refused_map, no_memory}
-use Rattle.poke_batch.specs.Told.{Saying, Text, Line, IsWritten, IsSaid, Says}
+use Rattle.run_parts.specs.Told.{Saying, Text, Line, IsWritten, IsSaid, Says}
 
 abbrev IsCons : List ℕ → Type 0
 IsCons [] = ⊥

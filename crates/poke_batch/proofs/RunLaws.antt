@@ -6,23 +6,23 @@ use Rattle.bit_space.specs.SpaceView.{SpaceView}
 use Rattle.pickle_types.specs.Types.{PokeType}
 use Rattle.pickle_meaning.specs.Fits.{Fits}
 use Rattle.pickle_meaning.specs.Values.{Value, Mapped, Members, NoMembers, MemberThen, AbsentThen, member_at, members_of, end_of, no_values}
-use Rattle.poke_batch.specs.declared.accept.Refusal.TheVariants as refusal
+use Rattle.run_parts.specs.declared.accept.Refusal.TheVariants as refusal
 use Rattle.command_words.specs.declared.ask.Ask.{Ask}
 use Rattle.text_forms.specs.declared.mode.Mode.TheVariants.{Json}
 use Rattle.command_words.specs.declared.path.Path.{Path}
-use Rattle.poke_batch.specs.declared.status.Status.{Status}
-use Rattle.poke_batch.specs.declared.status.Status.TheVariants.{Done, Fault, Refused, Outside}
+use Rattle.run_parts.specs.declared.status.Status.{Status}
+use Rattle.run_parts.specs.declared.status.Status.TheVariants.{Done, Fault, Refused, Outside}
 use Rattle.command_words.specs.declared.terms.Terms.{Terms}
 use Rattle.value_text.specs.Json.{Reads}
 use Rattle.value_text.specs.JsonValue.{json_of}
-use Rattle.poke_batch.specs.Lines.{fault_at_line}
+use Rattle.run_parts.specs.Lines.{fault_at_line}
 use Rattle.poke_batch.specs.PathParts.{part_at}
 use Rattle.value_text.specs.Printed.{printed}
 use Rattle.poke_batch.specs.RunLaws.{MappedPartsAreSmall, WritesJson, MappedJsonReadsBack, PartJsonReadsBack}
 use Rattle.poke_batch.specs.Runs.{IsAsked, HasAnswer, MapsAs, value, stops, device, unknown, refused_map, no_memory}
 use Rattle.poke_batch.specs.RunsUnder.{text_saying, is_left, part_saying, kept_saying, value_saying, MapsUnder, mapped_under, ended_under, slots_under}
 use Rattle.value_text.specs.SmallParts.{HasSmallParts, AreSmallParts}
-use Rattle.poke_batch.specs.Told.{Saying, Text, Line, IsSaid, IsTold, IsWritten}
+use Rattle.run_parts.specs.Told.{Saying, Text, Line, IsSaid, IsTold, IsWritten}
 use Rattle.value_text.proofs.JsonValues.{json_reads_back}
 use Rattle.poke_batch.proofs.PartsKept.{same_value, part_keeps}
 use Rattle.poke_batch.proofs.SmallTypes.{accepted_small}

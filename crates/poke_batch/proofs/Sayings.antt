@@ -3,16 +3,16 @@ use Rattle.std.proofs.Common.{◌≡◌, ◌∙◌, length, sym, subst, ℕ, Lis
 use Rattle.std.specs.Prelude.{OnOk, OnErr, codes}
 use Rattle.std.specs.Io.KnownBytes.{Appends, Keeps}
 use Rattle.std.proofs.KnownBytes.{Keeps-refl}
-use Rattle.poke_batch.specs.declared.status.Status.{Status}
-use Rattle.poke_batch.specs.declared.status.Status.TheVariants.{Done, Outside}
-use Rattle.value_text.specs.declared.write.WriteFault.{WriteFault}
-use Rattle.poke_batch.specs.Lines.{fault_line}
-use Rattle.value_text.specs.Written.{AppendsPart}
+use Rattle.run_parts.specs.declared.status.Status.{Status}
+use Rattle.run_parts.specs.declared.status.Status.TheVariants.{Done, Outside}
+use Rattle.text_forms.specs.declared.write.WriteFault.{WriteFault}
+use Rattle.run_parts.specs.Lines.{fault_line}
+use Rattle.text_forms.specs.Written.{AppendsPart}
 use Rattle.pickle_tree.specs.Tree.{DeclarationTree}
 use Rattle.pickle_types.specs.Names.{Names}
-use Rattle.poke_batch.specs.Accepted.{IsAccepted}
+use Rattle.run_parts.specs.Accepted.{IsAccepted}
 use Rattle.poke_batch.specs.Runs.{ChecksAs, accepted, types_text}
-use Rattle.poke_batch.specs.Told.{Saying, Text, Line, IsTold, IsSaid, Says, AppendsUpTo}
+use Rattle.run_parts.specs.Told.{Saying, Text, Line, IsTold, IsSaid, Says, AppendsUpTo}
 
 -- a run that told a line
 pub line_says : (IsRight : Saying → Type 0) (line_status : Status) (line : List ℕ) (status : Status) (out err err' : Option (List ℕ))

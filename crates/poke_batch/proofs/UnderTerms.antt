@@ -14,18 +14,18 @@ use Rattle.pickle_meaning.specs.Values.{Value, Levels, start_of, end_of, pushed,
 use Rattle.bit_space.specs.SpaceView.{SpaceView}
 use Rattle.pickle_meaning.specs.declared.faults.MapFaultKind.{MapFaultKind}
 use Rattle.pickle_meaning.specs.declared.faults.MapFaultKind.TheVariants as fault
-use Rattle.poke_batch.specs.declared.accept.Refusal.{Refusal}
-use Rattle.poke_batch.specs.declared.accept.Refusal.TheVariants as refusal
+use Rattle.run_parts.specs.declared.accept.Refusal.{Refusal}
+use Rattle.run_parts.specs.declared.accept.Refusal.TheVariants as refusal
 use Rattle.command_words.specs.declared.ask.Ask.{Ask}
-use Rattle.poke_batch.specs.declared.status.Status.{Status}
-use Rattle.poke_batch.specs.declared.status.Status.TheVariants.{Fault}
+use Rattle.run_parts.specs.declared.status.Status.{Status}
+use Rattle.run_parts.specs.declared.status.Status.TheVariants.{Fault}
 use Rattle.command_words.specs.declared.terms.Terms.{Terms}
-use Rattle.poke_batch.specs.Lines.{fault_line, fault_at_line}
-use Rattle.poke_batch.specs.Accepted.{Refuses, refusal_saying}
-use Rattle.poke_batch.specs.FaultLines.{fault_saying}
+use Rattle.run_parts.specs.Lines.{fault_line, fault_at_line}
+use Rattle.run_parts.specs.Accepted.{Refuses, refusal_saying}
+use Rattle.run_parts.specs.FaultLines.{fault_saying}
 use Rattle.poke_batch.specs.Runs.{MapsAs, value, refused_map, no_memory}
 use Rattle.poke_batch.specs.RunsUnder.{MapsUnder, mapped_under, ended_under, slots_under, IsStoreOf, end_saying, SaysIt, said_so, no_memory_for_it, is_left, text_saying, part_saying, kept_saying, value_saying}
-use Rattle.poke_batch.specs.Told.{Saying, Text, Line, Says}
+use Rattle.run_parts.specs.Told.{Saying, Text, Line, Says}
 
 -- a value that fits starts where it was to start
 pub fits_start : (m : ℕ) (ty : PokeType) (levels : Levels) (s : ℕ) (v : Value) → Fits m ty levels s v → start_of v ≡ s

@@ -1,9 +1,9 @@
 -- The line that tells of one file among many: its name, the status of its run, and what the run wrote.
 use Rattle.std.specs.Prelude.{ℕ, List, [], ◌∷◌, ◌++◌, Option, Some, ◌==◌, if◌then◌else◌, codes}
-use Rattle.poke_batch.specs.declared.status.Status.{Status}
-use Rattle.poke_batch.specs.declared.status.Status.TheVariants.{Done, Fault, Refused, Outside}
-use Rattle.poke_batch.specs.Lines.{fault_line}
-use Rattle.poke_batch.specs.Told.{Saying, Says}
+use Rattle.run_parts.specs.declared.status.Status.{Status}
+use Rattle.run_parts.specs.declared.status.Status.TheVariants.{Done, Fault, Refused, Outside}
+use Rattle.run_parts.specs.Lines.{fault_line}
+use Rattle.run_parts.specs.Told.{Saying, Says}
 use Rattle.value_text.specs.ValueText.{is_plain, escape_text}
 use Rattle.poke_batch.specs.declared.each.Kept.{Kept}
 use Rattle.std.specs.Io.KnownBytes.{Appends}

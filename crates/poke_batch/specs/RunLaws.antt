@@ -8,8 +8,8 @@ use Rattle.pickle_meaning.specs.Values.{Value, Levels, no_values}
 use Rattle.command_words.specs.declared.ask.Ask.{Ask}
 use Rattle.text_forms.specs.declared.mode.Mode.TheVariants.{Json}
 use Rattle.command_words.specs.declared.path.Path.{Path}
-use Rattle.poke_batch.specs.declared.status.Status.{Status}
-use Rattle.poke_batch.specs.declared.status.Status.TheVariants.{Done}
+use Rattle.run_parts.specs.declared.status.Status.{Status}
+use Rattle.run_parts.specs.declared.status.Status.TheVariants.{Done}
 use Rattle.command_words.specs.declared.terms.Terms.{Terms}
 use Rattle.value_text.specs.Json.{Reads}
 use Rattle.value_text.specs.JsonValue.{json_of}
@@ -17,7 +17,7 @@ use Rattle.poke_batch.specs.PathParts.{part_at}
 use Rattle.poke_batch.specs.Runs.{IsAsked, HasAnswer, MapsAs}
 use Rattle.poke_batch.specs.RunsUnder.{MapsUnder}
 use Rattle.value_text.specs.SmallParts.{HasSmallParts}
-use Rattle.poke_batch.specs.Told.{Says}
+use Rattle.run_parts.specs.Told.{Says}
 
 -- a value that fits a type of an accepted pickle has small parts
 abbrev pub MappedPartsAreSmall : Type 0

@@ -13,14 +13,14 @@ use Rattle.pickle_meaning.specs.declared.faults.MapFaultKind.TheVariants as faul
 use Rattle.bit_space.specs.declared.order.Order.{Order}
 use Rattle.bit_space.specs.Bits.{bits_of}
 use Rattle.bit_space.specs.SpaceView.{SpaceView, HasRisen}
-use Rattle.poke_batch.specs.declared.accept.Refusal.{Refusal}
+use Rattle.run_parts.specs.declared.accept.Refusal.{Refusal}
 use Rattle.command_words.specs.declared.ask.Ask.{Ask}
-use Rattle.poke_batch.specs.declared.status.Status.TheVariants.{Fault, Refused, Outside}
-use Rattle.poke_batch.specs.Accepted.{IsAccepted, Refuses, refusal_saying}
-use Rattle.poke_batch.specs.BoundText.{bound_line, bound_text}
+use Rattle.run_parts.specs.declared.status.Status.TheVariants.{Fault, Refused, Outside}
+use Rattle.run_parts.specs.Accepted.{IsAccepted, Refuses, refusal_saying}
+use Rattle.run_parts.specs.BoundText.{bound_line, bound_text}
 use Rattle.pickle_meaning.specs.FaultNames.{fault_kind}
-use Rattle.poke_batch.specs.Lines.{refused_line, fault_line, fault_at_line}
-use Rattle.poke_batch.specs.Told.{Saying, Text, Line}
+use Rattle.run_parts.specs.Lines.{refused_line, fault_line, fault_at_line}
+use Rattle.run_parts.specs.Told.{Saying, Text, Line}
 use Rattle.value_text.specs.Printed.{printed}
 
 -- how many types are declared

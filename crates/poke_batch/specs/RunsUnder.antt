@@ -8,17 +8,17 @@ use Rattle.value_store.specs.Slots.{Held, fixed}
 use Rattle.pickle_meaning.specs.declared.faults.MapFaultKind.{MapFaultKind}
 use Rattle.pickle_meaning.specs.declared.faults.MapFaultKind.TheVariants as fault
 use Rattle.value_store.specs.declared.store.room.Growth.TheVariants.{Free}
-use Rattle.poke_batch.specs.FaultLines.{fault_saying}
+use Rattle.run_parts.specs.FaultLines.{fault_saying}
 use Rattle.pickle_meaning.specs.Values.{Value, end_of, no_values}
 use Rattle.command_words.specs.declared.ask.Ask.{Ask}
-use Rattle.poke_batch.specs.declared.status.Status.{Status}
-use Rattle.poke_batch.specs.declared.status.Status.TheVariants.{Fault, Outside}
+use Rattle.run_parts.specs.declared.status.Status.{Status}
+use Rattle.run_parts.specs.declared.status.Status.TheVariants.{Fault, Outside}
 use Rattle.command_words.specs.declared.terms.Terms.{Terms}
-use Rattle.poke_batch.specs.Lines.{fault_line, fault_at_line}
+use Rattle.run_parts.specs.Lines.{fault_line, fault_at_line}
 use Rattle.poke_batch.specs.PathParts.{part_at}
 use Rattle.value_text.specs.Printed.{printed}
 use Rattle.poke_batch.specs.Runs.{HasAnswer, IsAsked, MapsAs}
-use Rattle.poke_batch.specs.Told.{Saying, Text, Line}
+use Rattle.run_parts.specs.Told.{Saying, Text, Line}
 
 -- a text where it has no more bytes than the most, else the fault of the mapping that began at a bit
 abbrev pub text_saying : (most : Option ℕ) (start : ℕ) → List ℕ → Saying

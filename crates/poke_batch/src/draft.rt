@@ -4,16 +4,16 @@ ghost use Rattle.std.specs.Prelude.{◌≡◌, ◌<◌, ◌≤◌, Some, length,
 ghost use Rattle.std.specs.Io.KnownBytes.{Appends};
 ghost use Rattle.value_store.specs.Refs.{value_shown};
 ghost use Rattle.value_text.specs.Printed.{printed};
-ghost use Rattle.value_text.specs.Written.{AppendsPart};
+ghost use Rattle.text_forms.specs.Written.{AppendsPart};
 
 use pickle_map::ValueRef;
 use std::alloc::Global;
 use std::io;
 use std::io::Write;
 use thiserror::Error;
-use value_text::mode::Mode;
+use text_forms::mode::Mode;
 use value_text::print::print;
-use value_text::write::WriteFault;
+use text_forms::write::WriteFault;
 
 /// Why a text isn't gathered. It displays the name by which its line tells it.
 #[derive(Clone, Copy, Debug, Drop, PartialEq, Eq, Error)]

@@ -7,12 +7,12 @@ ghost use Rattle.pickle_types.specs.TypeTable.{type_named, IsInTable};
 ghost use Rattle.poke_batch.specs.FileLine.{TellsFile, TellsKept, written_of};
 ghost use Rattle.poke_batch.specs.Runs.{IsAsked};
 ghost use Rattle.poke_batch.specs.RunsUnder.{MapsUnder, IsStoreOf};
-ghost use Rattle.value_text.specs.Written.{AppendsPart};
-ghost use Rattle.poke_batch.specs.declared.status.Status.{Status};
+ghost use Rattle.text_forms.specs.Written.{AppendsPart};
+ghost use Rattle.run_parts.specs.declared.status.Status.{Status};
 
 use crate::file_line::put_file_line;
 use crate::run::{map_stored, store_of};
-use crate::status::Status;
+use run_parts::status::Status;
 use bit_space::{Memory, Space};
 use command_words::ask::Ask;
 use command_words::terms::Terms;
@@ -20,7 +20,7 @@ use pickle_map::Store;
 use pickle_types::type_table::{Table, TypeId};
 use std::alloc::Global;
 use std::io::Write;
-use value_text::write::WriteFault;
+use text_forms::write::WriteFault;
 
 /// What is kept from file to file, so that its room serves the next: the values, and what a run wrote.
 #[derive(Drop)]

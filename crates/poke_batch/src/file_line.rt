@@ -2,17 +2,17 @@
 
 ghost use Rattle.std.specs.Prelude.{◌≡◌, ◌<◌, ◌≤◌, ◌++◌, take, length, IfOk, OnErr, OnOk};
 ghost use Rattle.std.specs.Io.KnownBytes.{Appends};
-ghost use Rattle.value_text.specs.Written.{AppendsPart};
+ghost use Rattle.text_forms.specs.Written.{AppendsPart};
 ghost use Rattle.poke_batch.specs.FileLine.{name_byte, shown_name, status_text, file_line};
 
-use crate::status::Status;
+use run_parts::status::Status;
 use std::io::Write;
-use value_text::hex::hex_digit;
-use value_text::write::{WriteFault, put};
+use text_forms::hex::hex_digit;
+use text_forms::write::{WriteFault, put};
 
 /// Writes the line of a file: its name, the number of a status, and what its run wrote, with a tab between them. Of the name, `\` and bytes
 /// outside 0x20 to 0x7e are escaped as in strings. What was written ends with a line feed.
-#[tactic(auto, using(value_text::proofs::Parts::written))]
+#[tactic(auto, using(text_forms::proofs::Parts::written))]
 pub fn put_file_line<W: Write>(
     w: &mut W,
     name: &[u8],

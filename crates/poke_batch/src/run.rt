@@ -6,16 +6,16 @@ ghost use Rattle.bit_space.specs.SpaceView.{Keeps};
 ghost use Rattle.pickle_types.specs.TypeTable.{nodes_of, type_named, IsInTable};
 ghost use Rattle.value_store.specs.Shown.{kept};
 ghost use Rattle.pickle_meaning.specs.Values.{Value, value_at, start_of, end_of};
-ghost use Rattle.poke_batch.specs.Told.{Says, IsSaid};
+ghost use Rattle.run_parts.specs.Told.{Says, IsSaid};
 ghost use Rattle.poke_batch.specs.Runs.{ChecksAs, BoundsAs, IsAsked, MapsAs, types_text};
 ghost use Rattle.poke_batch.specs.RunsUnder.{MapsUnder, IsStoreOf, end_saying, fixed_saying, SaysIt, value_saying};
-ghost use Rattle.value_text.specs.Written.{AppendsPart};
+ghost use Rattle.text_forms.specs.Written.{AppendsPart};
 
-use crate::accept::{accept, tell_refusal};
-use crate::bound::{put_bounds, put_line};
-use crate::fault::tell_fault;
-use crate::status::Status;
-use crate::tell::{answer, fail, fault_at, refuse};
+use run_parts::accept::{accept, tell_refusal};
+use run_parts::bound::{put_bounds, put_line};
+use run_parts::fault::tell_fault;
+use run_parts::status::Status;
+use run_parts::tell::{answer, fail, fault_at, refuse};
 use crate::tell_value::tell_value;
 use bit_space::{Memory, Meter, Space};
 use command_words::ask::Ask;
@@ -24,7 +24,7 @@ use pickle_map::{MapFault, MapFaultKind, Store, map};
 use pickle_types::type_table::{Table, TypeId};
 use std::alloc::Global;
 use std::io::Write;
-use value_text::write::WriteFault;
+use text_forms::write::WriteFault;
 
 /// Checks a pickle, and writes how many types it declares.
 pub fn run_check<O: Write, E: Write>(

@@ -3,23 +3,23 @@
 ghost use Rattle.std.specs.Prelude.{◌≡◌, ◌≤◌, codes, length, nat_le, if◌then◌else◌};
 ghost use Rattle.value_store.specs.Refs.{value_shown};
 ghost use Rattle.pickle_meaning.specs.Values.{start_of, end_of};
-ghost use Rattle.poke_batch.specs.Lines.{fault_at_line};
+ghost use Rattle.run_parts.specs.Lines.{fault_at_line};
 ghost use Rattle.value_text.specs.Printed.{printed};
 ghost use Rattle.poke_batch.specs.RunsUnder.{SaysIt, is_left, text_saying, kept_saying, value_saying};
-ghost use Rattle.poke_batch.specs.Told.{Says};
+ghost use Rattle.run_parts.specs.Told.{Says};
 
 use crate::draft::{DraftFault, gather};
-use crate::fault::tell_plain_fault;
+use run_parts::fault::tell_plain_fault;
 use crate::part::part_at;
-use crate::status::Status;
-use crate::tell::{answer, fail, fault_at};
+use run_parts::status::Status;
+use run_parts::tell::{answer, fail, fault_at};
 use command_words::ask::Ask;
 use command_words::terms::Terms;
 use pickle_map::ValueRef;
 use std::alloc::Global;
 use std::io::Write;
 use value_text::print::print;
-use value_text::write::put;
+use text_forms::write::put;
 
 /// Writes the text of a value, mapped from a file of so many bits, or tells the first term that it doesn't meet.
 pub fn tell_value<O: Write, E: Write>(

@@ -7,15 +7,15 @@ use Rattle.pickle_types.specs.Types.{PokeType}
 use Rattle.pickle_meaning.specs.Fits.{Fits}
 use Rattle.pickle_meaning.specs.Values.{Value, end_of, no_values}
 use Rattle.command_words.specs.declared.ask.Ask.{Ask}
-use Rattle.poke_batch.specs.declared.status.Status.{Status}
-use Rattle.poke_batch.specs.declared.status.Status.TheVariants.{Fault}
+use Rattle.run_parts.specs.declared.status.Status.{Status}
+use Rattle.run_parts.specs.declared.status.Status.TheVariants.{Fault}
 use Rattle.command_words.specs.declared.terms.Terms.{Terms}
-use Rattle.poke_batch.specs.Lines.{fault_at_line}
+use Rattle.run_parts.specs.Lines.{fault_at_line}
 use Rattle.poke_batch.specs.PathParts.{part_at}
 use Rattle.value_text.specs.Printed.{printed}
 use Rattle.poke_batch.specs.Runs.{IsAsked}
 use Rattle.poke_batch.specs.RunsUnder.{text_saying, is_left, part_saying, kept_saying, value_saying, MapsUnder, mapped_under, ended_under, slots_under}
-use Rattle.poke_batch.specs.Told.{Saying, Text, Line, IsSaid}
+use Rattle.run_parts.specs.Told.{Saying, Text, Line, IsSaid}
 use Rattle.text_bounds.specs.OutputRoom.{GrowsWithin, OutputIsBounded}
 use Rattle.text_bounds.specs.TextLaws.{OutputsUnderTermsAreBounded}
 use Rattle.text_bounds.specs.TextRoom.{most_text}

@@ -2,16 +2,16 @@
 use Rattle.std.proofs.Common.{ℕ, ◌*◌, ◌≤◌, List, Option, None, length, Ok, refl, ap, inl, inr, arith, length-append}
 use Rattle.bit_space.specs.SpaceView.{SpaceView}
 use Rattle.mapping_plans.proofs.OnBits.{outcomes_fit}
-use Rattle.poke_batch.specs.declared.accept.Refusal.TheVariants as refusal
+use Rattle.run_parts.specs.declared.accept.Refusal.TheVariants as refusal
 use Rattle.command_words.specs.declared.ask.Ask.{Ask}
 use Rattle.text_forms.specs.declared.mode.Mode.TheVariants.{Flat, Tree, Json, Lines}
-use Rattle.poke_batch.specs.declared.status.Status.{Status}
+use Rattle.run_parts.specs.declared.status.Status.{Status}
 use Rattle.text_bounds.specs.OutputRoom.{GrowsWithin, OutputIsBounded}
 use Rattle.value_text.specs.Printed.{printed}
 use Rattle.poke_batch.specs.Runs.{MapsAs, value, stops, device, unknown, refused_map, no_memory}
 use Rattle.text_bounds.specs.TextLaws.{TextsAreBounded, MeantTextsAreBounded, AnyModeIsBounded, OutputsAreBounded}
 use Rattle.text_bounds.specs.TextRoom.{most_text_in_any}
-use Rattle.poke_batch.specs.Told.{Saying, IsSaid, IsWritten}
+use Rattle.run_parts.specs.Told.{Saying, IsSaid, IsWritten}
 use Rattle.text_bounds.proofs.BoundedParts.{part_text_bounded}
 
 pub text_bounded : TextsAreBounded

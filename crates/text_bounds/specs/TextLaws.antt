@@ -10,7 +10,7 @@ use Rattle.pickle_meaning.specs.Values.{Value, Levels}
 use Rattle.command_words.specs.declared.ask.Ask.{Ask}
 use Rattle.text_forms.specs.declared.mode.Mode.{Mode}
 use Rattle.command_words.specs.declared.path.Path.{Path}
-use Rattle.poke_batch.specs.declared.status.Status.{Status}
+use Rattle.run_parts.specs.declared.status.Status.{Status}
 use Rattle.command_words.specs.declared.terms.Terms.{Terms}
 use Rattle.text_bounds.specs.OutputRoom.{OutputIsBounded}
 use Rattle.value_text.specs.Printed.{printed}
@@ -18,7 +18,7 @@ use Rattle.poke_batch.specs.PathParts.{part_at}
 use Rattle.poke_batch.specs.Runs.{MapsAs}
 use Rattle.poke_batch.specs.RunsUnder.{MapsUnder}
 use Rattle.text_bounds.specs.TextRoom.{most_text, most_text_in_any}
-use Rattle.poke_batch.specs.Told.{Says}
+use Rattle.run_parts.specs.Told.{Says}
 
 -- a value that fits a type on m bits has a text of at most so many bytes
 abbrev pub TextsAreBounded : Type 0

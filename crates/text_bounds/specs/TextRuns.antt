@@ -4,14 +4,14 @@ use Rattle.pickle_tree.specs.Tree.{DeclarationTree}
 use Rattle.pickle_types.specs.Types.{PokeType}
 use Rattle.pickle_types.specs.Names.{Names, find_type}
 use Rattle.pickle_types.specs.Bounds.{cost, room, IsBound}
-use Rattle.poke_batch.specs.declared.accept.Refusal.{Refusal}
+use Rattle.run_parts.specs.declared.accept.Refusal.{Refusal}
 use Rattle.text_forms.specs.declared.mode.Mode.{Mode}
-use Rattle.poke_batch.specs.declared.status.Status.TheVariants.{Refused}
-use Rattle.poke_batch.specs.Accepted.{IsAccepted, Refuses, refusal_saying}
-use Rattle.poke_batch.specs.BoundText.{bound_text_and}
-use Rattle.poke_batch.specs.Lines.{refused_line}
+use Rattle.run_parts.specs.declared.status.Status.TheVariants.{Refused}
+use Rattle.run_parts.specs.Accepted.{IsAccepted, Refuses, refusal_saying}
+use Rattle.run_parts.specs.BoundText.{bound_text_and}
+use Rattle.run_parts.specs.Lines.{refused_line}
 use Rattle.text_bounds.specs.TextRoom.{most_text_for}
-use Rattle.poke_batch.specs.Told.{Saying, Text, Line}
+use Rattle.run_parts.specs.Told.{Saying, Text, Line}
 
 -- what is to be said of the bounds of a type of a pickle, over so many bits and in a mode, where one is named
 pub data TextBoundsAs (pickle name : List ℕ) (bits : ℕ) (mode : Option Mode) : Saying → Type 0 where

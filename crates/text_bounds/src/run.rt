@@ -5,15 +5,15 @@ ghost use Rattle.text_bounds.specs.TextRoom.{most_text_for};
 ghost use Rattle.pickle_types.specs.TypeTable.{type_named, IsInTable};
 ghost use Rattle.poke_batch.specs.Runs.{IsAsked};
 ghost use Rattle.text_bounds.specs.TextRuns.{TextBoundsAs};
-ghost use Rattle.poke_batch.specs.Told.{Says};
+ghost use Rattle.run_parts.specs.Told.{Says};
 
 use crate::bound::most_text_for;
 use pickle_types::type_table::{Table, TypeId};
-use poke_batch::accept::{accept, tell_refusal};
-use poke_batch::bound::put_bounds_and_text;
+use run_parts::accept::{accept, tell_refusal};
+use run_parts::bound::put_bounds_and_text;
 use poke_batch::mode::Mode;
-use poke_batch::status::Status;
-use poke_batch::tell::{answer, fail, refuse};
+use run_parts::status::Status;
+use run_parts::tell::{answer, fail, refuse};
 use std::alloc::{AllocError, Global};
 use std::io::Write;
 

@@ -1,2 +1,3 @@
 pub mod HexDigits
 pub mod Brackets
+pub mod Written

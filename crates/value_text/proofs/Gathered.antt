@@ -3,9 +3,9 @@ use Rattle.std.proofs.Common.{◌≡◌, ℕ, List, [], ◌++◌, Option, sym, �
 use Rattle.std.specs.Io.KnownBytes.{Appends}
 use Rattle.std.proofs.KnownBytes.{Appends-trans, Appends-nil}
 use Rattle.std.proofs.lemmas.List.{append_assoc, append-nil}
-use Rattle.value_text.specs.Written.{AppendsPart}
+use Rattle.text_forms.specs.Written.{AppendsPart}
 use Rattle.value_text.specs.Gathered.{Gathers}
-use Rattle.value_text.proofs.Parts.{part_first, part_next}
+use Rattle.text_forms.proofs.Parts.{part_first, part_next}
 
 pub gathers_none : (a : Option (List ℕ)) (l : List ℕ) → Gathers a a l l []
 gathers_none a l = record { taken = []; appends = Appends-nil a; whole = sym (append-nil l) }

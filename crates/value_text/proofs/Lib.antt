@@ -1,4 +1,3 @@
-pub mod Parts
 pub mod Gathered
 pub mod StringTexts
 pub mod MemberTexts

@@ -4,7 +4,7 @@ use Rattle.std.specs.Prelude.{slice_index}
 use Rattle.std.specs.List.{prefix_len}
 use Rattle.std.proofs.lemmas.Bool.{cases_Bool}
 use Rattle.std.proofs.lemmas.List.{append_assoc, take-append-drop, drop-drop, take_rest, length-drop}
-use Rattle.value_text.specs.Written.{AppendsPart}
+use Rattle.text_forms.specs.Written.{AppendsPart}
 use Rattle.value_text.specs.Gathered.{Gathers}
 use Rattle.value_text.specs.ValueText.{spelled, spelled_byte, is_plain}
 use Rattle.value_text.proofs.Gathered.{Told, told_more, told_part}

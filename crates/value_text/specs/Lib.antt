@@ -11,7 +11,7 @@ pub mod LeafText
 pub mod Printed
 pub mod Suffixes
 pub mod PartText
-pub mod Written
+pub use Rattle.text_forms.specs.Written
 pub mod Gathered
 pub mod Json
 pub mod JsonValue

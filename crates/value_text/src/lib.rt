@@ -5,6 +5,5 @@
 
 pub mod laws;
 pub mod print;
-pub mod write;
 
-pub use text_forms::{hex, mode};
+pub use text_forms::{hex, mode, write};

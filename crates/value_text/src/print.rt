@@ -16,12 +16,12 @@ mod tree;
 ghost use Rattle.std.specs.Prelude.{◌++◌, OnOk, OnErr};
 ghost use Rattle.std.specs.Io.KnownBytes.{Appends};
 ghost use Rattle.value_store.specs.Refs.{value_shown};
-ghost use Rattle.value_text.specs.Written.{AppendsPart};
+ghost use Rattle.text_forms.specs.Written.{AppendsPart};
 ghost use Rattle.value_text.specs.Gathered.{Gathers};
 ghost use Rattle.value_text.specs.Printed.{printed};
 
 use crate::mode::Mode;
-use crate::write::WriteFault;
+use text_forms::write::WriteFault;
 use flat::put_flat;
 use json::put_json;
 use line::Line;

@@ -1,7 +1,7 @@
 use Rattle.std.proofs.Common.{None, sym, ap, ◌∙◌}
 use Rattle.std.proofs.lemmas.Slice.Eq.{bytes_eq-Decides}
-use Rattle.poke_batch.specs.declared.status.Status.TheVariants.{Fault}
-use Rattle.poke_batch.specs.Told.{Line}
+use Rattle.run_parts.specs.declared.status.Status.TheVariants.{Fault}
+use Rattle.run_parts.specs.Told.{Line}
 use Rattle.mapping_reasons.proofs.Told.{fault_told}
 use Rattle.mapping_reasons.proofs.is_told.Goals as goal
 

@@ -1,6 +1,6 @@
 //! How the bytes of strings are written that don't stand for themselves.
 ghost use Rattle.std.specs.Prelude.{◌++◌, false, OnErr, OnOk};
-ghost use Rattle.value_text.specs.Written.{AppendsPart};
+ghost use Rattle.text_forms.specs.Written.{AppendsPart};
 ghost use Rattle.value_text.specs.Gathered.{Gathers};
 ghost use Rattle.value_text.specs.ValueText.{escape_text};
 ghost use Rattle.value_text.specs.JsonText.{json_escape};
@@ -8,7 +8,7 @@ ghost use Rattle.value_text.specs.Escaped.{escape_of};
 
 use super::line::Line;
 use crate::hex::hex_digit;
-use crate::write::WriteFault;
+use text_forms::write::WriteFault;
 use std::io::Write;
 
 /// Whose escapes are written.

@@ -2,7 +2,7 @@
 ghost use Rattle.std.specs.Prelude.{◌++◌, OnOk, OnErr, codes};
 ghost use Rattle.std.specs.Option.{option_map};
 ghost use Rattle.value_store.specs.Refs.{value_shown};
-ghost use Rattle.value_text.specs.Written.{AppendsPart};
+ghost use Rattle.text_forms.specs.Written.{AppendsPart};
 ghost use Rattle.value_text.specs.Gathered.{Gathers};
 ghost use Rattle.value_text.specs.ValueText.{flat_text, value_text};
 ghost use Rattle.value_text.specs.PartText.{array_text, elements_text, titled_text, all_members_text, member_text};
@@ -11,7 +11,7 @@ use super::line::Line;
 use super::name::{put_start, put_title};
 use super::number::{put_integer, put_offset, type_of};
 use super::string::put_string;
-use crate::write::WriteFault;
+use text_forms::write::WriteFault;
 use value_store::{Kind, ValueRef};
 use std::io::Write;
 

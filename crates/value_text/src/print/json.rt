@@ -2,7 +2,7 @@
 ghost use Rattle.std.specs.Prelude.{◌≡◌, ◌≤◌, ◌++◌, true, length, OnOk, OnErr};
 ghost use Rattle.std.specs.List.{prefix_len};
 ghost use Rattle.value_store.specs.Refs.{value_shown};
-ghost use Rattle.value_text.specs.Written.{AppendsPart};
+ghost use Rattle.text_forms.specs.Written.{AppendsPart};
 ghost use Rattle.value_text.specs.Gathered.{Gathers};
 ghost use Rattle.value_text.specs.ValueText.{is_plain};
 ghost use Rattle.value_text.specs.JsonText.{json_line, json_text, json_offset};
@@ -13,7 +13,7 @@ use super::line::Line;
 use super::name::put_comma;
 use super::number::put_digits;
 use super::string::{plain_len, put_json_string};
-use crate::write::WriteFault;
+use text_forms::write::WriteFault;
 use value_store::{Kind, ValueRef};
 use std::io::Write;
 

@@ -2,7 +2,7 @@
 ghost use Rattle.std.specs.Prelude.{◌≡◌, ◌+◌, ◌≤◌, ◌++◌, [], length, codes, decimal, OnOk, OnErr};
 ghost use Rattle.std.specs.Fmt.{signed_decimal};
 ghost use Rattle.std.specs.Io.KnownBytes.{Appends};
-ghost use Rattle.value_text.specs.Written.{AppendsPart};
+ghost use Rattle.text_forms.specs.Written.{AppendsPart};
 ghost use Rattle.value_text.specs.Gathered.{Gathers};
 ghost use Rattle.value_text.specs.Suffixes.{suffix_text};
 ghost use Rattle.text_forms.specs.Brackets.{in_brackets};
@@ -17,7 +17,7 @@ use crate::print::digits::{
     push_signed, push_suffix,
 };
 use crate::print::suffix::Suffix;
-use crate::write::{WriteFault, put};
+use text_forms::write::{WriteFault, put};
 use itoa::Buffer;
 use std::io::Write;
 use std::marker::Model;
@@ -79,7 +79,7 @@ impl Line {
     }
 
     // Writes what the line holds, and the text.
-    #[tactic(auto, using(crate::proofs::Gathered::gathers_past, crate::proofs::Parts::written))]
+    #[tactic(auto, using(crate::proofs::Gathered::gathers_past, text_forms::proofs::Parts::written))]
     #[inline(never)]
     fn put_past<W: Write>(&mut self, w: &mut W, text: &[u8]) -> Result<(), WriteFault>
         ensures ok { OnOk result (Gathers (W.contents w.old) (W.contents w.new) self.old self.new text.now) }

@@ -2,7 +2,7 @@
 ghost use Rattle.std.specs.Prelude.{◌≡◌, ◌++◌, true, false, OnOk, OnErr};
 ghost use Rattle.pickle_meaning.specs.Values.{label_of, members_of};
 ghost use Rattle.value_store.specs.Refs.{value_shown};
-ghost use Rattle.value_text.specs.Written.{AppendsPart};
+ghost use Rattle.text_forms.specs.Written.{AppendsPart};
 ghost use Rattle.value_text.specs.Gathered.{Gathers};
 ghost use Rattle.value_text.specs.LinesText.{part_lines, place_cells, text_cell, is_parted, any_present};
 ghost use Rattle.value_text.specs.LeafText.{leaf_at, leaves_at, branches_at, branch_at};
@@ -11,7 +11,7 @@ use super::flat::put_value;
 use super::line::Line;
 use super::steps::{Step, Steps, put_path, step_to};
 use super::tree::has_parts;
-use crate::write::WriteFault;
+use text_forms::write::WriteFault;
 use value_store::ValueRef;
 use std::io::Write;
 

@@ -1,13 +1,13 @@
 //! Prints names.
 ghost use Rattle.std.specs.Prelude.{◌++◌, OnOk, OnErr, codes};
 ghost use Rattle.std.specs.Option.{option_map};
-ghost use Rattle.value_text.specs.Written.{AppendsPart};
+ghost use Rattle.text_forms.specs.Written.{AppendsPart};
 ghost use Rattle.value_text.specs.Gathered.{Gathers};
 ghost use Rattle.value_text.specs.ValueText.{title_text, name_text, comma};
 
 use super::bytes::SHORT;
 use super::line::Line;
-use crate::write::WriteFault;
+use text_forms::write::WriteFault;
 use std::io::Write;
 
 /// Writes the name of a struct or a union, or the word for its sort where it is nameless.

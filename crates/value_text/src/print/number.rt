@@ -4,14 +4,14 @@ ghost use Rattle.std.specs.Fmt.{signed_decimal};
 ghost use Rattle.std.specs.Option.{option_map};
 ghost use Rattle.pickle_meaning.specs.Values.{label_of};
 ghost use Rattle.value_store.specs.Refs.{value_shown};
-ghost use Rattle.value_text.specs.Written.{AppendsPart};
+ghost use Rattle.text_forms.specs.Written.{AppendsPart};
 ghost use Rattle.value_text.specs.Gathered.{Gathers};
 ghost use Rattle.value_text.specs.PartText.{type_of};
 ghost use Rattle.value_text.specs.ValueText.{integer_text, offset_text, cast_text, type_word, unit_text, suffix_of, with_sign_letter, width_letter};
 
 use super::line::Line;
 use super::suffix::suffix_of;
-use crate::write::WriteFault;
+use text_forms::write::WriteFault;
 use itoa::Buffer;
 use value_store::ValueRef;
 use pickle_types::integer::IntegerType;

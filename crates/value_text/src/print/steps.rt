@@ -3,13 +3,13 @@ ghost use Rattle.std.specs.Prelude.{◌≡◌, ◌≢◌, ◌++◌, [], OnOk, On
 ghost use Rattle.pickle_meaning.specs.Values.{label_of};
 ghost use Rattle.value_store.specs.Labels.{member_name};
 ghost use Rattle.value_store.specs.Refs.{value_shown};
-ghost use Rattle.value_text.specs.Written.{AppendsPart};
+ghost use Rattle.text_forms.specs.Written.{AppendsPart};
 ghost use Rattle.value_text.specs.Gathered.{Gathers};
 ghost use Rattle.value_text.specs.PathText.{field_step, step_text, path_text};
 ghost use Rattle.value_text.specs.Steps.{text_of, steps_of, steps_with};
 
 use super::line::Line;
-use crate::write::WriteFault;
+use text_forms::write::WriteFault;
 use value_store::{Kind, ValueRef};
 use std::io::Write;
 

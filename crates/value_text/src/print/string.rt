@@ -1,7 +1,7 @@
 //! Prints strings.
 ghost use Rattle.std.specs.Prelude.{◌≡◌, ◌<◌, ◌≤◌, ◌++◌, false, take, length, slice_index, IfOk, OnErr, OnOk};
 ghost use Rattle.std.specs.List.{prefix_len};
-ghost use Rattle.value_text.specs.Written.{AppendsPart};
+ghost use Rattle.text_forms.specs.Written.{AppendsPart};
 ghost use Rattle.value_text.specs.Gathered.{Gathers};
 ghost use Rattle.value_text.specs.ValueText.{string_text, is_plain};
 ghost use Rattle.value_text.specs.JsonText.{json_string};
@@ -9,7 +9,7 @@ ghost use Rattle.value_text.specs.Escaped.{spelled_by};
 
 use super::escape::{Escapes, put_escape};
 use super::line::Line;
-use crate::write::WriteFault;
+use text_forms::write::WriteFault;
 use std::io::Write;
 
 /// Writes a string in double quotes.

@@ -3,7 +3,7 @@ ghost use Rattle.std.specs.Prelude.{◌≡◌, ◌+◌, ◌^◌, ◌≤◌, ◌+
 ghost use Rattle.std.specs.Option.{option_map};
 ghost use Rattle.pickle_meaning.specs.Values.{label_of};
 ghost use Rattle.value_store.specs.Refs.{value_shown, rank_of};
-ghost use Rattle.value_text.specs.Written.{AppendsPart};
+ghost use Rattle.text_forms.specs.Written.{AppendsPart};
 ghost use Rattle.value_text.specs.Gathered.{Gathers};
 ghost use Rattle.value_text.specs.ValueText.{name_text};
 ghost use Rattle.text_forms.specs.Brackets.{in_brackets};
@@ -14,7 +14,7 @@ use super::line::Line;
 use super::name::{put_start, put_title};
 use super::number::{put_integer, put_offset, type_of};
 use super::string::put_string;
-use crate::write::WriteFault;
+use text_forms::write::WriteFault;
 use value_store::{Kind, ValueRef};
 use std::io::Write;
 

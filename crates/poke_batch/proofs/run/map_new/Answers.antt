@@ -1,6 +1,6 @@
 use Rattle.std.specs.Prelude.{codes}
-use Rattle.poke_batch.specs.declared.status.Status.TheVariants.{Outside}
-use Rattle.poke_batch.specs.Lines.{fault_line}
+use Rattle.run_parts.specs.declared.status.Status.TheVariants.{Outside}
+use Rattle.run_parts.specs.Lines.{fault_line}
 use Rattle.poke_batch.specs.Runs.{no_memory}
 use Rattle.poke_batch.specs.RunsUnder.{ended_under}
 use Rattle.poke_batch.proofs.Sayings.{line_says}

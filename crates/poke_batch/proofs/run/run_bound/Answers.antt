@@ -1,8 +1,8 @@
 use Rattle.std.specs.Prelude.{codes}
-use Rattle.poke_batch.specs.Accepted.{refusal_saying, no_memory}
-use Rattle.poke_batch.specs.BoundText.{bound_text}
-use Rattle.poke_batch.specs.declared.status.Status.TheVariants.{Refused, Outside}
-use Rattle.poke_batch.specs.Lines.{refused_line, fault_line}
+use Rattle.run_parts.specs.Accepted.{refusal_saying, no_memory}
+use Rattle.run_parts.specs.BoundText.{bound_text}
+use Rattle.run_parts.specs.declared.status.Status.TheVariants.{Refused, Outside}
+use Rattle.run_parts.specs.Lines.{refused_line, fault_line}
 use Rattle.poke_batch.specs.Runs.{bounds, no_such_type, refused_bounds}
 use Rattle.poke_batch.proofs.Sayings.{line_says, said_says, text_says}
 use Rattle.poke_batch.proofs.run.run_bound.Goals as goal

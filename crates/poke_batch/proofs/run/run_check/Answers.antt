@@ -1,4 +1,4 @@
-use Rattle.poke_batch.specs.Accepted.{refusal_saying}
+use Rattle.run_parts.specs.Accepted.{refusal_saying}
 use Rattle.poke_batch.specs.Runs.{refused, types_text}
 use Rattle.poke_batch.proofs.Sayings.{said_says, text_says, counted}
 use Rattle.poke_batch.proofs.run.run_check.Goals as goal

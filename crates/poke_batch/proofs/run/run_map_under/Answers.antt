@@ -1,7 +1,7 @@
 use Rattle.std.specs.Prelude.{codes}
-use Rattle.poke_batch.specs.Accepted.{refusal_saying}
-use Rattle.poke_batch.specs.declared.status.Status.TheVariants.{Refused}
-use Rattle.poke_batch.specs.Lines.{refused_line}
+use Rattle.run_parts.specs.Accepted.{refusal_saying}
+use Rattle.run_parts.specs.declared.status.Status.TheVariants.{Refused}
+use Rattle.run_parts.specs.Lines.{refused_line}
 use Rattle.poke_batch.specs.Runs.{unknown}
 use Rattle.poke_batch.specs.RunsUnder.{ended_under}
 use Rattle.poke_batch.proofs.Mappings.{asked}

@@ -1,7 +1,7 @@
 use Rattle.std.proofs.Common.{codes, sym}
 use Rattle.value_store.specs.Refs.{value_shown}
-use Rattle.poke_batch.specs.declared.status.Status.TheVariants.{Fault}
-use Rattle.poke_batch.specs.Lines.{fault_line}
+use Rattle.run_parts.specs.declared.status.Status.TheVariants.{Fault}
+use Rattle.run_parts.specs.Lines.{fault_line}
 use Rattle.poke_batch.specs.PathParts.{part_at}
 use Rattle.poke_batch.proofs.Sayings.{line_says}
 use Rattle.poke_batch.proofs.UnderTerms.{no_part_saying}

@@ -1,7 +1,7 @@
 use Rattle.std.proofs.Common.{◌≤◌, ◌∙◌, codes, length, refl, subst, sym}
 use Rattle.value_store.specs.Refs.{value_shown}
-use Rattle.poke_batch.specs.declared.status.Status.TheVariants.{Fault, Outside}
-use Rattle.poke_batch.specs.Lines.{fault_line, fault_at_line}
+use Rattle.run_parts.specs.declared.status.Status.TheVariants.{Fault, Outside}
+use Rattle.run_parts.specs.Lines.{fault_line, fault_at_line}
 use Rattle.value_text.specs.Printed.{printed}
 use Rattle.poke_batch.specs.RunsUnder.{no_memory_for_it}
 use Rattle.poke_batch.proofs.Sayings.{line_says, text_says}

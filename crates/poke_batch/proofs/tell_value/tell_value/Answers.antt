@@ -1,8 +1,8 @@
 use Rattle.std.proofs.Common.{◌≡◌, ◌+◌, ◌∙◌, codes, arith, sym, true}
 use Rattle.value_store.specs.Refs.{value_shown}
 use Rattle.pickle_meaning.specs.Values.{end_of}
-use Rattle.poke_batch.specs.declared.status.Status.TheVariants.{Fault}
-use Rattle.poke_batch.specs.Lines.{fault_at_line}
+use Rattle.run_parts.specs.declared.status.Status.TheVariants.{Fault}
+use Rattle.run_parts.specs.Lines.{fault_at_line}
 use Rattle.poke_batch.specs.RunsUnder.{is_left}
 use Rattle.poke_batch.proofs.Sayings.{line_says}
 use Rattle.poke_batch.proofs.UnderTerms.{left_saying}

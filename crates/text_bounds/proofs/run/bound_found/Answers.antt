@@ -1,8 +1,8 @@
 use Rattle.std.specs.Prelude.{codes}
-use Rattle.poke_batch.specs.Accepted.{no_memory}
-use Rattle.poke_batch.specs.BoundText.{bound_text_and}
-use Rattle.poke_batch.specs.declared.status.Status.TheVariants.{Outside}
-use Rattle.poke_batch.specs.Lines.{fault_line}
+use Rattle.run_parts.specs.Accepted.{no_memory}
+use Rattle.run_parts.specs.BoundText.{bound_text_and}
+use Rattle.run_parts.specs.declared.status.Status.TheVariants.{Outside}
+use Rattle.run_parts.specs.Lines.{fault_line}
 use Rattle.text_bounds.specs.TextRuns.{text_bounds, refused_text_bounds}
 use Rattle.poke_batch.proofs.Sayings.{line_says, text_says}
 use Rattle.text_bounds.proofs.run.bound_found.Goals as goal

@@ -1,7 +1,7 @@
 use Rattle.std.specs.Prelude.{codes}
-use Rattle.poke_batch.specs.Accepted.{refusal_saying}
-use Rattle.poke_batch.specs.declared.status.Status.TheVariants.{Refused}
-use Rattle.poke_batch.specs.Lines.{refused_line}
+use Rattle.run_parts.specs.Accepted.{refusal_saying}
+use Rattle.run_parts.specs.declared.status.Status.TheVariants.{Refused}
+use Rattle.run_parts.specs.Lines.{refused_line}
 use Rattle.text_bounds.specs.TextRuns.{no_type_to_bound, refused_text_bounds}
 use Rattle.poke_batch.proofs.Mappings.{asked}
 use Rattle.poke_batch.proofs.Sayings.{line_says, said_says}

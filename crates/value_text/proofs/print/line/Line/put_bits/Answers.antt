@@ -1,5 +1,5 @@
 use Rattle.std.proofs.lemmas.Result.{err_from_is_err_and}
-use Rattle.value_text.proofs.Parts.{part_first}
+use Rattle.text_forms.proofs.Parts.{part_first}
 use Rattle.value_text.proofs.print.line.Line.put_bits.Goals as goal
 
 pub returns-in_err-make_room-clause-err : goal.returns-in_err-make_room-clause-err

@@ -1,8 +1,0 @@
-use Rattle.std.proofs.Common.{◌≡◌, ◌+◌, ◌++◌, take, map}
-use Rattle.poke_batch.specs.DumpText.{shown}
-use Rattle.poke_batch.proofs.dump.line.push_shown.Given as goal
-
-abbrev pub invariant-loop-byte : goal.invariant-loop-byte
-invariant-loop-byte l =
-    (take l.at l.line ≡ take l.start l.initial.line ++ map shown (take l.byte-index l.bytes))
-    × (l.at ≡ l.start + l.byte-index)

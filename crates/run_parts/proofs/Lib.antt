@@ -1,0 +1,6 @@
+pub mod Bytes
+pub mod DumpLines
+pub mod DumpRows
+pub mod LineRows
+pub mod Refusing
+pub mod TypeLines

@@ -1,0 +1,138 @@
+//! Whether bytes are a pickle whose types are well formed, and the lines that refuse them.
+
+ghost use Rattle.std.specs.Prelude.{◌≡◌, ◌≢◌, ℕ, List, Option, length, IfOk, IfErr};
+ghost use Rattle.pickle_syntax.specs.Bytes as lexing;
+ghost use Rattle.pickle_syntax.specs.Lexing.{lexed};
+ghost use Rattle.pickle_types.specs.declared.fault.FaultKind.TheVariants as types;
+ghost use Rattle.pickle_tree.specs.Pickle.{pickle_tree};
+ghost use Rattle.pickle_tree.specs.Tree.{DeclarationTree};
+ghost use Rattle.pickle_types.specs.Built as checking;
+ghost use Rattle.pickle_types.specs.Meaning.{declared};
+ghost use Rattle.pickle_types.specs.Names.{predeclared};
+ghost use Rattle.pickle_types.specs.Wrong.{first_wrong, TellsPlace};
+ghost use Rattle.pickle_types.specs.TypeTable.{types_of, count_of, IsWellTyped};
+ghost use Rattle.run_parts.specs.Accepted.{HasSyntax, IsAccepted, Refuses, refusal_kind, refusal_saying, place_of};
+ghost use Rattle.run_parts.specs.Told.{IsSaid};
+
+use crate::status::Status;
+use crate::tell::{fail, refuse, refuse_at, refuse_in};
+use pickle_syntax::lexer::fault::{LexFault, LexFaultKind};
+use pickle_syntax::lexer::{Tokens, lex};
+use pickle_syntax::parser::fault::ParseFault;
+use pickle_syntax::parser::parse;
+use pickle_syntax::tree::Pickle;
+use pickle_types::fault::{FaultKind, TypeFault};
+use pickle_types::type_table::Table;
+use std::alloc::Global;
+use std::io::Write;
+use thiserror::Error;
+
+/// Why bytes are no pickle, at a byte counted from 0, or its types not well formed, in a declaration counted from 1.
+/// It displays the line that tells it.
+#[derive(Clone, Copy, Debug, PartialEq, Eq, Error)]
+#[error("refused {}", self.name())]
+pub enum Refusal {
+    #[error("refused {} at byte {}", self.name(), .1)]
+    Tokens(LexFaultKind, usize),
+    #[error("refused {} at byte {}", self.name(), .0)]
+    Syntax(usize),
+    TooDeep,
+    TooMany,
+    #[error("refused {} in type {}", self.name(), .1)]
+    Types(FaultKind, usize),
+    #[error("fault {}", self.name())]
+    Memory,
+}
+
+impl Refusal {
+    /// The name by which its line tells it: that of the fault from which it comes.
+    pub fn name(self) -> &'static str
+        ensures { result.now ≡ refusal_kind self }
+    {
+        match self {
+            Refusal::Tokens(kind, _) => kind.name(),
+            Refusal::Syntax(at) => ParseFault::Syntax(at).name(),
+            Refusal::TooDeep => ParseFault::TooDeep.name(),
+            Refusal::TooMany => ParseFault::TooMany.name(),
+            Refusal::Types(kind, _) => kind.name(),
+            Refusal::Memory => ParseFault::Memory.name(),
+        }
+    }
+}
+
+/// Reads the syntax of a pickle.
+pub fn read_syntax(alloc: Global, pickle: &[u8]) -> Result<Pickle<'_>, Refusal>
+    ensures ok { IfOk result (λ p. HasSyntax pickle.now (pickle_tree p)) }
+    ensures err { IfErr result (λ refusal. Refuses pickle.now refusal) }
+{
+    let tokens = match lex(alloc, pickle) {
+        Ok(tokens) => tokens,
+        Err(fault) => return Err(no_tokens(fault)),
+    };
+    match parse(alloc, &tokens) {
+        Ok(pickle) => Ok(pickle),
+        Err(ParseFault::Syntax(token)) => Err(Refusal::Syntax(place(&tokens, token, pickle.len()))),
+        Err(ParseFault::TooDeep) => Err(Refusal::TooDeep),
+        Err(ParseFault::TooMany) => Err(Refusal::TooMany),
+        Err(ParseFault::Memory) => Err(Refusal::Memory),
+    }
+}
+
+/// Reads a pickle, and checks its types.
+pub fn accept(alloc: Global, pickle: &[u8]) -> Result<Table, Refusal>
+    ensures ok { IfOk result (λ table. (declarations : List DeclarationTree) × IsAccepted pickle.now declarations (types_of table) × (count_of table ≡ length declarations)) }
+    ensures err { IfErr result (λ refusal. Refuses pickle.now refusal) }
+{
+    let tree = read_syntax(alloc, pickle)?;
+    match Table::build(alloc, &tree) {
+        Ok(table) => Ok(table),
+        Err(fault) => Err(ill_typed(fault)),
+    }
+}
+
+fn no_tokens(fault: LexFault) -> Refusal
+    ensures { (pickle : List ℕ) → lexing.Fails fault.kind fault.at (lexed pickle) → Refuses pickle result }
+{
+    if fault.kind == LexFaultKind::Memory {
+        Refusal::Memory
+    } else {
+        Refusal::Tokens(fault.kind, fault.at)
+    }
+}
+
+fn ill_typed(fault: TypeFault) -> Refusal
+    ensures { (pickle : List ℕ) (declarations : List DeclarationTree) → HasSyntax pickle declarations
+        → (fault.kind ≢ types.Memory → IsWellTyped declarations → ⊥) → checking.Fails fault.kind (declared predeclared declarations)
+        → TellsPlace fault.kind fault.decl (first_wrong 1 predeclared declarations) → Refuses pickle result }
+{
+    if fault.kind == FaultKind::Memory {
+        Refusal::Memory
+    } else {
+        Refusal::Types(fault.kind, fault.decl)
+    }
+}
+
+/// The place of the first byte of a token, or `count` behind the last token.
+fn place(tokens: &Tokens<'_>, token: usize, count: usize) -> usize
+    ensures { result ≡ place_of tokens.now.spans.items token count }
+{
+    match tokens.span(token) {
+        Some((first, _)) => first,
+        None => count,
+    }
+}
+
+/// Tells a refusal.
+pub fn tell_refusal<E: Write>(err: &mut E, refusal: Refusal) -> Status
+    ensures { (out : Option (List ℕ)) → IsSaid (refusal_saying refusal) result out out (E.contents err.old) (E.contents err.new) }
+{
+    let name = refusal.name().as_bytes();
+    match refusal {
+        Refusal::Tokens(_, at) => refuse_at(err, name, at),
+        Refusal::Syntax(at) => refuse_at(err, name, at),
+        Refusal::TooDeep => refuse(err, name),
+        Refusal::TooMany => refuse(err, name),
+        Refusal::Types(_, declaration) => refuse_in(err, name, declaration),
+        Refusal::Memory => fail(err, name),
+    }
+}
