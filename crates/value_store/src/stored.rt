@@ -80,7 +80,7 @@ impl<'a> StoredValue<'a> {
     }
 
     /// The number of an integer or an offset, with its type.
-    pub(crate) fn scalar(&self) -> Option<Scalar>
+    pub fn scalar(&self) -> Option<Scalar>
         ensures is { option_map scalar_label result ≡ scalar_in (label (value_of self.now)) }
         ensures scalar { IfSome result IsScalar }
     {
@@ -201,7 +201,7 @@ impl<'a> StoredValue<'a> {
     }
 
     /// The alternative that a union took.
-    pub(crate) fn taken(&self) -> Option<u16>
+    pub fn taken(&self) -> Option<u16>
         ensures { result ≡ taken_of (label (value_of self.now)) }
     {
         match self.place {
