@@ -41,14 +41,14 @@ module _ (nodes : List Node) where
   selected_shown (tree.Tree (tree.OffsetLabel n w s u) b z ps) place = refl
   selected_shown (tree.Tree (tree.TextLabel bs) b z ps) place = refl
   selected_shown (tree.Tree tree.ArrayLabel b z ps) place = refl
-  selected_shown (tree.Tree (tree.StructLabel of) b z ps) place = members_shown ps place
-  selected_shown (tree.Tree (tree.UnionLabel of taken) b z ps) place = if_shown (nat_eq taken place) _ _ (members_shown ps 0)
+  selected_shown (tree.Tree (tree.StructLabel of) b z ps) place = members_shown nodes ps place
+  selected_shown (tree.Tree (tree.UnionLabel of taken) b z ps) place = if_shown (nat_eq taken place) _ _ (members_shown nodes ps 0)
 
   pub element_shown : (v : tree.Value) (index : ℤ) (type : IntegerType) → element (AtPath (shown nodes v)) (IntegerLabel index type) ≡ shown_found (tree_element v index)
   element_shown (tree.Tree (tree.IntegerLabel n w s) b z ps) index type = refl
   element_shown (tree.Tree (tree.OffsetLabel n w s u) b z ps) index type = refl
   element_shown (tree.Tree (tree.TextLabel bs) b z ps) index type = refl
-  element_shown (tree.Tree tree.ArrayLabel b z ps) (pos i) type = rw (count_shown ps) (element_if (nat_lt i (length (tree.options_of ps))) _ _ (members_shown ps i))
+  element_shown (tree.Tree tree.ArrayLabel b z ps) (pos i) type = rw (count_shown nodes ps) (element_if (nat_lt i (length (tree.options_of ps))) _ _ (members_shown nodes ps i))
   element_shown (tree.Tree tree.ArrayLabel b z ps) (negsuc i) type = refl
   element_shown (tree.Tree (tree.StructLabel of) b z ps) index type = refl
   element_shown (tree.Tree (tree.UnionLabel of taken) b z ps) index type = refl
@@ -57,6 +57,6 @@ module _ (nodes : List Node) where
   length_shown (tree.Tree (tree.IntegerLabel n w s) b z ps) e = cc
   length_shown (tree.Tree (tree.OffsetLabel n w s u) b z ps) e = cc
   length_shown (tree.Tree (tree.TextLabel bs) b z ps) e = cc
-  length_shown (tree.Tree tree.ArrayLabel b z ps) e = rw (count_shown ps) refl
+  length_shown (tree.Tree tree.ArrayLabel b z ps) e = rw (count_shown nodes ps) refl
   length_shown (tree.Tree (tree.StructLabel of) b z ps) e = cc
   length_shown (tree.Tree (tree.UnionLabel of taken) b z ps) e = cc
