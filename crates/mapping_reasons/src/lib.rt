@@ -36,11 +36,11 @@ use pickle_map::{MapFault, ValueRef};
 use pickle_script::script::Script;
 use pickle_script::text::Text;
 use pickle_types::type_table::{Table, TypeId};
-use run_parts::accept::accept;
 use poke_batch::ask::Ask;
 use poke_batch::run::{store_of, tell_end};
-use run_parts::status::Status;
 use poke_batch::terms::Terms;
+use run_parts::accept::accept;
+use run_parts::status::Status;
 use std::alloc::{AllocError, Global};
 
 /// The lines that tell why the mapping of a type of a pickle over a file ended with a line, or which arrays ended early where it

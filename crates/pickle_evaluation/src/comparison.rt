@@ -12,13 +12,13 @@ ghost use Rattle.pickle_meaning.specs.Evaluation.{evaluation};
 ghost use Rattle.value_store.specs.Shown.{kept};
 ghost use Rattle.pickle_meaning.specs.Values.{IntegerLabel};
 
-use crate::integers::{common};
-use value_store::scalar::Scalar;
-use value_store::ranges::converted;
-use value_store::store::Store;
+use crate::integers::common;
 use pickle_tree::tree::Infix;
 use pickle_types::integer::IntegerType;
 use pickle_types::view::Resolved;
+use value_store::ranges::converted;
+use value_store::scalar::Scalar;
+use value_store::store::Store;
 
 /// An integer and its type.
 #[derive(Clone, Copy)]

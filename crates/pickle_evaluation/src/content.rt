@@ -12,13 +12,13 @@ ghost use Rattle.pickle_evaluation.specs.Contents.{IsHeld, IsSoundContent};
 ghost use Rattle.pickle_meaning.specs.Values.{Label};
 
 use crate::integers::{is_true, truth};
-use value_store::scalar::Scalar;
 use crate::offsets;
 use crate::operand::Operand;
 use pickle_meaning::faults::MapFaultKind;
-use value_store::value::Kind;
 use pickle_tree::tree::{Infix, Prefix};
 use pickle_types::integer::IntegerType;
+use value_store::scalar::Scalar;
+use value_store::value::Kind;
 
 /// What operators see of an operand: an integer or offset, a text, or none of these.
 #[derive(Clone, Copy)]

@@ -16,20 +16,18 @@ ghost use Rattle.value_store.specs.Shown.{kept};
 ghost use Rattle.value_store.specs.Scalars.{computed_of, IsScalar};
 
 use crate::comparison::leaf;
-use crate::content::{
-    Content, combined, in_unit, prefixed, seen, to_integer, to_offset, truth_of,
-};
-use crate::integers::{truth};
-use value_store::scalar::Scalar;
+use crate::content::{Content, combined, in_unit, prefixed, seen, to_integer, to_offset, truth_of};
+use crate::integers::truth;
 use crate::operand::{Operand, Unvalued};
 use crate::paths;
-use pickle_meaning::faults::MapFaultKind;
-use value_store::store::Store;
-use value_store::value::Kind;
 use bit_space::{LimitPassed, Meter};
+use pickle_meaning::faults::MapFaultKind;
 use pickle_tree::tree::{Attribute, Infix};
 use pickle_types::integer::IntegerType;
 use pickle_types::view::{Node, Resolved};
+use value_store::scalar::Scalar;
+use value_store::store::Store;
+use value_store::value::Kind;
 
 /// Evaluates an expression on the open values of the store. Each node of it takes a step, before its operands.
 #[cycle(evaluate)]

@@ -8,11 +8,11 @@ ghost use Rattle.pickle_meaning.specs.Arithmetic.{on_common, on_integers, shifte
 ghost use Rattle.value_store.specs.Scalars.{IsScalar, IsShift, computed_of, scalar_label};
 ghost use Rattle.pickle_meaning.specs.Values.{IntegerLabel};
 
-use value_store::ranges::{brought, converted, low_digits, modulo, with_sign};
 use pickle_meaning::faults::MapFaultKind;
-use value_store::scalar::Scalar;
 use pickle_tree::tree::Infix;
 use pickle_types::integer::IntegerType;
+use value_store::ranges::{brought, converted, low_digits, modulo, with_sign};
+use value_store::scalar::Scalar;
 
 const TRUTH: IntegerType = IntegerType {
     width: 32,

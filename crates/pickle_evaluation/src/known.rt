@@ -7,13 +7,13 @@ ghost use Rattle.pickle_evaluation.specs.Known.{KnownOf};
 ghost use Rattle.value_store.specs.Shown.{kept};
 
 use crate::expression::evaluate;
-use value_store::scalar::Scalar;
 use crate::operand::Operand;
-use value_store::store::Store;
-use value_store::value::ValueRef;
 use bit_space::Meter;
 use pickle_types::integer::IntegerType;
 use pickle_types::view::{Node, Resolved};
+use value_store::scalar::Scalar;
+use value_store::store::Store;
+use value_store::value::ValueRef;
 
 /// What an expression comes to, with the names of a table.
 #[derive(Clone, Copy)]

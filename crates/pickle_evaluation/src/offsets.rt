@@ -9,12 +9,12 @@ ghost use Rattle.pickle_evaluation.specs.Ranges.{IsBits, IsWide};
 ghost use Rattle.value_store.specs.Scalars.{IsScalar, computed_of, scalar_label};
 
 use crate::integers::{brought_integer, common, is_true, on_integers, truth};
-use value_store::scalar::Scalar;
-use value_store::ranges::{brought, converted, low_digits};
 use pickle_meaning::faults::MapFaultKind;
 use pickle_tree::tree::{Infix, Prefix};
 use pickle_types::check::operators::greatest_divisor;
 use pickle_types::integer::IntegerType;
+use value_store::ranges::{brought, converted, low_digits};
+use value_store::scalar::Scalar;
 
 /// An offset whose magnitude is brought to a type.
 fn brought_offset(number: IntegerType, unit: u32, z: i128) -> Result<Scalar, MapFaultKind>

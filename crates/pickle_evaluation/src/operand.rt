@@ -3,10 +3,10 @@
 ghost use Rattle.std.specs.Prelude.{◌≡◌};
 ghost use Rattle.pickle_evaluation.specs.declared.operand.Unvalued.TheVariants.{Fault, Limit};
 
-use value_store::scalar::Scalar;
-use pickle_meaning::faults::MapFaultKind;
-use value_store::stored::StoredValue;
 use bit_space::LimitPassed;
+use pickle_meaning::faults::MapFaultKind;
+use value_store::scalar::Scalar;
+use value_store::stored::StoredValue;
 
 /// What an expression comes to: a computed number, a text, or the value at a path, as the store lends it.
 #[derive(Clone, Copy)]

@@ -5,8 +5,8 @@ ghost use Rattle.std.specs.Option.{option_map};
 ghost use Rattle.value_store.specs.Refs.{value_of};
 ghost use Rattle.pickle_evaluation.specs.Operands.{tree_selected, tree_element, found_value};
 
-use value_store::scalar::Scalar;
 use pickle_meaning::faults::MapFaultKind;
+use value_store::scalar::Scalar;
 use value_store::stored::StoredValue;
 use value_store::value::Kind;
 

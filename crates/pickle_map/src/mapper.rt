@@ -26,12 +26,12 @@ pub(crate) mod text;
 pub mod types;
 pub mod watch;
 
-use pickle_meaning::faults::{MapFault, MapFaultKind};
-use value_store::store::Store;
 use bit_space::{Meter, Order, Space};
+use pickle_meaning::faults::{MapFault, MapFaultKind};
 use pickle_types::type_table::{Table, TypeId};
 use stop::Stop;
 use types::map_type;
+use value_store::store::Store;
 use watch::{Unwatched, Watch};
 
 /// Maps a type from the bit `start` on: the store then holds the value that it has there, or is empty, with the fault

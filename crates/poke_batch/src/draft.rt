@@ -10,10 +10,10 @@ use pickle_map::ValueRef;
 use std::alloc::Global;
 use std::io;
 use std::io::Write;
-use thiserror::Error;
 use text_forms::mode::Mode;
-use value_text::print::print;
 use text_forms::write::WriteFault;
+use thiserror::Error;
+use value_text::print::print;
 
 /// Why a text isn't gathered. It displays the name by which its line tells it.
 #[derive(Clone, Copy, Debug, Drop, PartialEq, Eq, Error)]

@@ -12,12 +12,12 @@ ghost use Rattle.run_parts.specs.declared.status.Status.{Status};
 
 use crate::file_line::put_file_line;
 use crate::run::{map_stored, store_of};
-use run_parts::status::Status;
 use bit_space::{Memory, Space};
 use command_words::ask::Ask;
 use command_words::terms::Terms;
 use pickle_map::Store;
 use pickle_types::type_table::{Table, TypeId};
+use run_parts::status::Status;
 use std::alloc::Global;
 use std::io::Write;
 use text_forms::write::WriteFault;

@@ -12,6 +12,6 @@ pub mod run;
 pub mod run_laws;
 mod tell_value;
 
-pub use run_parts::{accept, bound, dump, fault, pickle, status, tell, types};
 pub use command_words::{ask, offset_word, path, terms, words};
+pub use run_parts::{accept, bound, dump, fault, pickle, status, tell, types};
 pub use value_text::{hex, laws, mode, print, write};

@@ -11,17 +11,17 @@ ghost use Rattle.poke_batch.specs.Runs.{ChecksAs, BoundsAs, IsAsked, MapsAs, typ
 ghost use Rattle.poke_batch.specs.RunsUnder.{MapsUnder, IsStoreOf, end_saying, fixed_saying, SaysIt, value_saying};
 ghost use Rattle.text_forms.specs.Written.{AppendsPart};
 
-use run_parts::accept::{accept, tell_refusal};
-use run_parts::bound::{put_bounds, put_line};
-use run_parts::fault::tell_fault;
-use run_parts::status::Status;
-use run_parts::tell::{answer, fail, fault_at, refuse};
 use crate::tell_value::tell_value;
 use bit_space::{Memory, Meter, Space};
 use command_words::ask::Ask;
 use command_words::terms::Terms;
 use pickle_map::{MapFault, MapFaultKind, Store, map};
 use pickle_types::type_table::{Table, TypeId};
+use run_parts::accept::{accept, tell_refusal};
+use run_parts::bound::{put_bounds, put_line};
+use run_parts::fault::tell_fault;
+use run_parts::status::Status;
+use run_parts::tell::{answer, fail, fault_at, refuse};
 use std::alloc::Global;
 use std::io::Write;
 use text_forms::write::WriteFault;

@@ -9,17 +9,17 @@ ghost use Rattle.poke_batch.specs.RunsUnder.{SaysIt, is_left, text_saying, kept_
 ghost use Rattle.run_parts.specs.Told.{Says};
 
 use crate::draft::{DraftFault, gather};
-use run_parts::fault::tell_plain_fault;
 use crate::part::part_at;
-use run_parts::status::Status;
-use run_parts::tell::{answer, fail, fault_at};
 use command_words::ask::Ask;
 use command_words::terms::Terms;
 use pickle_map::ValueRef;
+use run_parts::fault::tell_plain_fault;
+use run_parts::status::Status;
+use run_parts::tell::{answer, fail, fault_at};
 use std::alloc::Global;
 use std::io::Write;
-use value_text::print::print;
 use text_forms::write::put;
+use value_text::print::print;
 
 /// Writes the text of a value, mapped from a file of so many bits, or tells the first term that it doesn't meet.
 pub fn tell_value<O: Write, E: Write>(

@@ -42,11 +42,7 @@ pub fn put_bounds_and_text<W: Write>(
 
 /// Writes a line with a name and a bound.
 #[tactic(auto, using(text_forms::proofs::Parts::written), unfolding(crate::specs::BoundText::bound_line))]
-pub fn put_line<W: Write>(
-    w: &mut W,
-    name: &[u8],
-    bound: Option<u128>,
-) -> Result<(), WriteFault>
+pub fn put_line<W: Write>(w: &mut W, name: &[u8], bound: Option<u128>) -> Result<(), WriteFault>
     ensures ok { OnOk result (Appends (W.contents w.old) (W.contents w.new) (bound_line name.now bound)) }
     ensures err { OnErr result (AppendsPart (W.contents w.old) (W.contents w.new) (bound_line name.now bound)) }
 {

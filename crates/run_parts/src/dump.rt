@@ -11,8 +11,8 @@ ghost use Rattle.run_parts.specs.declared.dump.DumpFault.TheVariants.{Device, Wr
 use bit_space::{DeviceFault, Space};
 use line::{LINE_ROOM, lay_out};
 use std::io::Write;
-use thiserror::Error;
 use text_forms::write::{WriteFault, put};
+use thiserror::Error;
 
 /// Why a dump ended early. It displays the line that tells it.
 #[derive(Clone, Copy, Debug, PartialEq, Eq, Error)]

@@ -9,9 +9,9 @@ ghost use Rattle.run_parts.specs.Told.{Says};
 
 use crate::bound::most_text_for;
 use pickle_types::type_table::{Table, TypeId};
+use poke_batch::mode::Mode;
 use run_parts::accept::{accept, tell_refusal};
 use run_parts::bound::put_bounds_and_text;
-use poke_batch::mode::Mode;
 use run_parts::status::Status;
 use run_parts::tell::{answer, fail, refuse};
 use std::alloc::{AllocError, Global};

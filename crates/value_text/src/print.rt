@@ -21,14 +21,14 @@ ghost use Rattle.value_text.specs.Gathered.{Gathers};
 ghost use Rattle.value_text.specs.Printed.{printed};
 
 use crate::mode::Mode;
-use text_forms::write::WriteFault;
 use flat::put_flat;
 use json::put_json;
 use line::Line;
 use lines::put_lines;
-use value_store::ValueRef;
 use std::io::Write;
+use text_forms::write::WriteFault;
 use tree::put_tree;
+use value_store::ValueRef;
 
 /// Writes the text that a value has in a mode. What the writer took before a fault is a part of that, from its front.
 #[tactic(auto, using(crate::proofs::Gathered::gathered_all, crate::proofs::Gathered::gathered_cut, crate::proofs::Gathered::gathered_last))]

@@ -7,13 +7,13 @@ ghost use Rattle.pickle_meaning.specs.Clauses.{constraint, condition, field_star
 ghost use Rattle.pickle_map.specs.Settles.{Settles};
 ghost use Rattle.value_store.specs.Shown.{kept};
 
-use pickle_meaning::extent::Extent;
 use crate::mapper::clauses;
 use crate::mapper::stop::Stop;
 use crate::mapper::watch::{Clause, Watch};
-use value_store::store::Store;
 use bit_space::Meter;
+use pickle_meaning::extent::Extent;
 use pickle_types::view::{Extent as Bound, Node, Resolved};
+use value_store::store::Store;
 
 /// Checks a constraint, and blames it where it stops.
 #[inline(always)]

@@ -10,18 +10,18 @@ ghost use Rattle.pickle_evaluation.specs.Contents.{IsHeld, IsSoundContent};
 ghost use Rattle.pickle_map.specs.Settles.{Ends, Settles, Sees, natural};
 ghost use Rattle.value_store.specs.Shown.{kept};
 
+use crate::mapper::stop::Stop;
+use bit_space::Meter;
 use pickle_evaluation::comparison::comparison;
 use pickle_evaluation::content::{Content, truth_of};
 use pickle_evaluation::expression::look;
-use value_store::scalar::Scalar;
 use pickle_evaluation::offsets::bits_in;
 use pickle_evaluation::operand::Unvalued;
 use pickle_meaning::extent::Extent;
 use pickle_meaning::faults::MapFaultKind;
-use crate::mapper::stop::Stop;
-use value_store::store::Store;
-use bit_space::Meter;
 use pickle_types::view::{Extent as Bound, Node, Resolved};
+use value_store::scalar::Scalar;
+use value_store::store::Store;
 
 /// Checks a constraint on the last value of the innermost level; one that is 0 is a Constraint fault. All its faults are
 /// told at `place`, the bit where that value starts.

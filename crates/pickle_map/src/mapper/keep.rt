@@ -8,11 +8,11 @@ ghost use Rattle.value_store.specs.Exceeding.{Exceeds};
 ghost use Rattle.value_store.specs.Slots.{levels};
 ghost use Rattle.value_store.specs.Shown.{kept, title_at, names_at, name_at};
 
-use value_store::ranges::with_sign;
-use value_store::store::Store;
 use bit_space::Memory;
 use pickle_types::integer::IntegerType;
 use pickle_types::view::Node;
+use value_store::ranges::with_sign;
+use value_store::store::Store;
 
 /// Keeps an integer that was read as these binary digits, as a member of the innermost open value.
 pub fn keep_integer(

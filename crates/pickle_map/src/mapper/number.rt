@@ -11,17 +11,17 @@ ghost use Rattle.pickle_meaning.specs.Means.{first_digits, number_type, width_in
 ghost use Rattle.value_store.specs.Shown.{kept, names_at, part_name};
 ghost use Rattle.value_store.specs.Slots.{levels};
 
-use value_store::ranges::low_digits;
-use pickle_meaning::faults::MapFaultKind;
 use crate::mapper::blame::check;
 use crate::mapper::keep::{close_struct, keep_integer, keep_offset};
 use crate::mapper::read::read_digits;
 use crate::mapper::stop::Stop;
 use crate::mapper::watch::Watch;
-use value_store::store::Store;
 use bit_space::{Meter, Order, Space};
+use pickle_meaning::faults::MapFaultKind;
 use pickle_types::integer::IntegerType;
 use pickle_types::view::{Node, Part, Shape};
+use value_store::ranges::low_digits;
+use value_store::store::Store;
 
 /// Maps the type at a place of the table, which is read as one number, from the bit `start` on, and gives the bit behind it.
 pub(crate) fn map_number<S: Space, W: Watch>(

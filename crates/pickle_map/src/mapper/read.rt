@@ -5,9 +5,9 @@ ghost use Rattle.bit_space.specs.SpaceView.{known_bits, Keeps};
 ghost use Rattle.bit_space.specs.Reading.{MayRead};
 ghost use Rattle.pickle_map.specs.Framed.{StopsReading, refusal_at};
 
-use pickle_meaning::faults::MapFaultKind;
 use crate::mapper::stop::Stop;
 use bit_space::{BitFault, Meter, Order, Space, read_number};
+use pickle_meaning::faults::MapFaultKind;
 
 /// The binary digits of `width` bits from the bit `start` on, as a number without a sign.
 #[tactic(auto, using(crate::proofs::Placing::refusal_stops))]

@@ -10,15 +10,15 @@ ghost use Rattle.value_store.specs.Shown.{kept};
 ghost use Rattle.value_store.specs.Slots.{levels, IsPacking};
 ghost use Rattle.pickle_meaning.specs.Values.{outer_of};
 
-use pickle_meaning::extent::Extent;
-use pickle_meaning::faults::MapFaultKind;
 use crate::mapper::read::read_digits;
 use crate::mapper::stop::Stop;
 use crate::mapper::watch::Watch;
+use bit_space::{Meter, Order, Space};
+use pickle_meaning::extent::Extent;
+use pickle_meaning::faults::MapFaultKind;
+use pickle_types::view::{Node, Shape as Type};
 use value_store::store::Store;
 use value_store::store::slots::Shape;
-use bit_space::{Meter, Order, Space};
-use pickle_types::view::{Node, Shape as Type};
 
 /// What an array of the type at a place of the table is packed as, where the store packs it: integers and offsets.
 pub(crate) fn packed_as(nodes: &[Node], element: usize, store: &Store) -> Option<Shape>

@@ -4,9 +4,9 @@ ghost use Rattle.std.specs.Prelude.{◌≡◌};
 ghost use Rattle.pickle_map.specs.Stops.{stop_misses, stop_ends};
 ghost use Rattle.pickle_map.specs.declared.mapper.stop.Stop.TheVariants.{Device, Limit, Memory};
 
+use bit_space::{DeviceFault, LimitPassed, Memory};
 use pickle_meaning::extent::Extent;
 use pickle_meaning::faults::MapFaultKind;
-use bit_space::{DeviceFault, LimitPassed, Memory};
 
 /// Why a mapping under way stops: a fault of the type's meaning, at a bit position, or one of the run.
 #[derive(Clone, Copy, Debug, PartialEq, Eq)]

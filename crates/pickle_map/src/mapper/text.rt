@@ -12,9 +12,9 @@ ghost use Rattle.value_store.specs.Slots.{levels, IsWriting};
 
 use crate::mapper::read::refusal_at;
 use crate::mapper::stop::Stop;
-use value_store::store::Store;
 use bit_space::{BitFault, Meter, Order, Space, read_number};
 use pickle_types::view::Node;
+use value_store::store::Store;
 
 /// Maps a string from the bit `start` on, and gives the bit behind its final 0.
 pub(crate) fn map_text<S: Space>(

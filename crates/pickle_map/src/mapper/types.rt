@@ -12,8 +12,6 @@ ghost use Rattle.pickle_types.specs.Sound.{IsSoundClause, IsSoundBound};
 ghost use Rattle.value_store.specs.Shown.{kept, names_at, field_name, part_name};
 ghost use Rattle.value_store.specs.Slots.{levels};
 
-use pickle_meaning::extent::Extent;
-use pickle_meaning::faults::MapFaultKind;
 use crate::mapper::blame::{check, find_extent, find_start, is_there};
 use crate::mapper::keep::{close_array, close_struct, close_union, keep_absent};
 use crate::mapper::number::{map_integer, map_number};
@@ -21,10 +19,12 @@ use crate::mapper::row::{packed_as, row_body};
 use crate::mapper::stop::Stop;
 use crate::mapper::text::map_text;
 use crate::mapper::watch::Watch;
-use value_store::store::Store;
 use bit_space::{Meter, Order, Space};
+use pickle_meaning::extent::Extent;
+use pickle_meaning::faults::MapFaultKind;
 use pickle_tree::tree::ByteOrder;
 use pickle_types::view::{Extent as Bound, Field, Node, Part, Resolved, Shape};
+use value_store::store::Store;
 
 /// Maps the type at a place of the table from the bit `start` on, and gives the bit behind it.
 #[cycle(mapping)]

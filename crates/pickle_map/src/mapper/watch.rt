@@ -3,10 +3,10 @@
 ghost use Rattle.pickle_types.specs.Sound.{IsSoundTerm};
 ghost use Rattle.pickle_types.specs.Table.{term_of};
 
-use pickle_meaning::extent::Extent;
 use crate::mapper::stop::Stop;
-use value_store::store::Store;
+use pickle_meaning::extent::Extent;
 use pickle_types::view::{Node, Resolved};
+use value_store::store::Store;
 
 /// What stands beside the types of a pickle and is evaluated while mapping.
 #[derive(Clone, Copy, Debug, PartialEq, Eq)]

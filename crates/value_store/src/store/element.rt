@@ -8,8 +8,8 @@ ghost use Rattle.value_store.specs.Scalars.{scalar_label, scalar_in, IsScalar};
 ghost use Rattle.value_store.specs.Slots.{row_numbers, IsByteRow, AreNumbers};
 ghost use Rattle.value_store.specs.declared.store.slots.Place.TheVariants.{Element};
 
-use crate::scalar::Scalar;
 use crate::ranges::with_sign;
+use crate::scalar::Scalar;
 use crate::store::Store;
 use crate::store::row::bytes_for;
 use crate::store::slots::Shape;

@@ -239,13 +239,7 @@ impl Store {
 
     /// Closes the innermost open value as a union of the type at the index `of`, of `size` bits from the bit `start` on. Its part is the
     /// alternative taken, which is the one at the index `taken`.
-    pub fn close_union(
-        &mut self,
-        of: u32,
-        taken: u16,
-        start: u64,
-        size: u64,
-    ) -> Result<(), Memory>
+    pub fn close_union(&mut self, of: u32, taken: u16, start: u64, size: u64) -> Result<(), Memory>
         ensures ok { OnOk result (levels self.new ≡ pushed (outer_of (levels self.old)) (Some (Tree (UnionLabel of taken) start size (parts_of (top_of (levels self.old)))))) }
         ensures err { OnErr result (self.new ≡ self.old) }
         ensures room { self.new.room ≡ self.old.room }

@@ -8,8 +8,8 @@ ghost use Rattle.value_text.specs.Escaped.{escape_of};
 
 use super::line::Line;
 use crate::hex::hex_digit;
-use text_forms::write::WriteFault;
 use std::io::Write;
+use text_forms::write::WriteFault;
 
 /// Whose escapes are written.
 #[derive(Clone, Copy)]

@@ -13,9 +13,9 @@ use super::line::Line;
 use super::name::put_comma;
 use super::number::put_digits;
 use super::string::{plain_len, put_json_string};
+use std::io::Write;
 use text_forms::write::WriteFault;
 use value_store::{Kind, ValueRef};
-use std::io::Write;
 
 /// Writes a value in JSON, and a line feed.
 #[tactic(auto, using(crate::proofs::Gathered::gathered))]

@@ -17,10 +17,10 @@ use crate::print::digits::{
     push_signed, push_suffix,
 };
 use crate::print::suffix::Suffix;
-use text_forms::write::{WriteFault, put};
 use itoa::Buffer;
 use std::io::Write;
 use std::marker::Model;
+use text_forms::write::{WriteFault, put};
 
 /// Text that is yet to be written. What lays out numbers and names takes the array and the count and gives a count back, so that the
 /// count stays in a register.

@@ -11,9 +11,9 @@ use super::flat::put_value;
 use super::line::Line;
 use super::steps::{Step, Steps, put_path, step_to};
 use super::tree::has_parts;
+use std::io::Write;
 use text_forms::write::WriteFault;
 use value_store::ValueRef;
-use std::io::Write;
 
 /// Writes a line for each part of a value that has no parts: its path, start, size and text.
 pub fn put_lines<W: Write>(

@@ -7,8 +7,8 @@ ghost use Rattle.value_text.specs.ValueText.{title_text, name_text, comma};
 
 use super::bytes::SHORT;
 use super::line::Line;
-use text_forms::write::WriteFault;
 use std::io::Write;
+use text_forms::write::WriteFault;
 
 /// Writes the name of a struct or a union, or the word for its sort where it is nameless.
 #[inline(always)]

@@ -11,11 +11,11 @@ ghost use Rattle.value_text.specs.ValueText.{integer_text, offset_text, cast_tex
 
 use super::line::Line;
 use super::suffix::suffix_of;
-use text_forms::write::WriteFault;
 use itoa::Buffer;
-use value_store::ValueRef;
 use pickle_types::integer::IntegerType;
 use std::io::Write;
+use text_forms::write::WriteFault;
+use value_store::ValueRef;
 
 /// The type of an integer, or of an offset's magnitude.
 pub fn type_of(value: ValueRef<'_>) -> IntegerType

@@ -9,9 +9,9 @@ ghost use Rattle.value_text.specs.PathText.{field_step, step_text, path_text};
 ghost use Rattle.value_text.specs.Steps.{text_of, steps_of, steps_with};
 
 use super::line::Line;
+use std::io::Write;
 use text_forms::write::WriteFault;
 use value_store::{Kind, ValueRef};
-use std::io::Write;
 
 /// A step from a value to one of its parts.
 #[derive(Clone, Copy)]

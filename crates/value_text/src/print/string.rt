@@ -9,8 +9,8 @@ ghost use Rattle.value_text.specs.Escaped.{spelled_by};
 
 use super::escape::{Escapes, put_escape};
 use super::line::Line;
-use text_forms::write::WriteFault;
 use std::io::Write;
+use text_forms::write::WriteFault;
 
 /// Writes a string in double quotes.
 #[tactic(auto, using(crate::proofs::Gathered::gathered), unfolding(crate::specs::ValueText::string_text))]

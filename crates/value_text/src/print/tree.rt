@@ -14,9 +14,9 @@ use super::line::Line;
 use super::name::{put_start, put_title};
 use super::number::{put_integer, put_offset, type_of};
 use super::string::put_string;
+use std::io::Write;
 use text_forms::write::WriteFault;
 use value_store::{Kind, ValueRef};
-use std::io::Write;
 
 /// The blanks of so many levels.
 const BLANKS: [u8; 64] = [b' '; 64];
