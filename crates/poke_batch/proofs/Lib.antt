@@ -2,7 +2,7 @@ pub mod FileLines
 pub mod SmallTypes
 pub mod SmallValues
 pub mod RunLaws
-pub mod Sayings
+pub mod Counted
 pub mod Mappings
 pub mod UnderTerms
 pub mod PartsFound

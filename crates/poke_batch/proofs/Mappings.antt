@@ -50,20 +50,6 @@ stopped pickle ask before after type at most used taken k j kind same none a mea
     (λ bytes known. has_answer bytes type ask.order ask.start ask.limit most used (Err (kind, at)) k j same none (means bytes known))
     (λ e. (place (subst EndsRun (sym e) tt), omega (arith, (over e).1, same, none)))
 
--- a fault that is no failure outside the mapping is told with its place
-pub told_at_place : (kind : MapFaultKind) (at : ℕ) → kind ≢ fault.Device → kind ≢ fault.Memory → fault_saying kind at ≡ Line Fault (fault_at_line (fault_kind kind) at)
-told_at_place fault.End at not_device not_memory = refl
-told_at_place fault.Constraint at not_device not_memory = refl
-told_at_place fault.Bounds at not_device not_memory = refl
-told_at_place fault.NoBits at not_device not_memory = refl
-told_at_place fault.Zero at not_device not_memory = refl
-told_at_place fault.Overflow at not_device not_memory = refl
-told_at_place fault.Absent at not_device not_memory = refl
-told_at_place fault.Index at not_device not_memory = refl
-told_at_place fault.Limit at not_device not_memory = refl
-told_at_place fault.Device at not_device not_memory = absurd (not_device refl)
-told_at_place fault.Memory at not_device not_memory = absurd (not_memory refl)
-
 -- what a mapping says of its fault
 pub fault_says : (pickle : List ℕ) (ask : Ask) (before after : SpaceView) (type : PokeType) (at most used taken k j : ℕ) (kind : MapFaultKind)
     → most ≡ ask.limit → used ≡ 0 → IsAsked pickle ask.name.now type

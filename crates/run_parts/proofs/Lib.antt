@@ -4,3 +4,5 @@ pub mod DumpRows
 pub mod LineRows
 pub mod Refusing
 pub mod TypeLines
+pub mod Sayings
+pub mod Faults

@@ -4,7 +4,7 @@ use Rattle.pickle_types.specs.TypeTable.{nodes_of, type_named}
 use Rattle.pickle_meaning.specs.Values.{start_of, end_of, no_values}
 use Rattle.poke_batch.specs.RunsUnder.{mapped_under, end_saying}
 use Rattle.poke_batch.proofs.Mappings.{fault_says, value_answers, root_given}
-use Rattle.poke_batch.proofs.Sayings.{said_says}
+use Rattle.run_parts.proofs.Sayings.{said_says}
 use Rattle.poke_batch.proofs.UnderTerms.{starts_before_end, says_more, said_under, fault_under, end_under, least_of}
 use Rattle.poke_batch.proofs.run.map_stored.Goals as goal
 

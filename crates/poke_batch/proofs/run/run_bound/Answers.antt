@@ -4,7 +4,7 @@ use Rattle.run_parts.specs.BoundText.{bound_text}
 use Rattle.run_parts.specs.declared.status.Status.TheVariants.{Refused, Outside}
 use Rattle.run_parts.specs.Lines.{refused_line, fault_line}
 use Rattle.poke_batch.specs.Runs.{bounds, no_such_type, refused_bounds}
-use Rattle.poke_batch.proofs.Sayings.{line_says, said_says, text_says}
+use Rattle.run_parts.proofs.Sayings.{line_says, said_says, text_says}
 use Rattle.poke_batch.proofs.run.run_bound.Goals as goal
 
 pub returns-in-Err : goal.returns-in-Err

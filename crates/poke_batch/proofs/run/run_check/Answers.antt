@@ -1,6 +1,7 @@
 use Rattle.run_parts.specs.Accepted.{refusal_saying}
 use Rattle.poke_batch.specs.Runs.{refused, types_text}
-use Rattle.poke_batch.proofs.Sayings.{said_says, text_says, counted}
+use Rattle.run_parts.proofs.Sayings.{said_says, text_says}
+use Rattle.poke_batch.proofs.Counted.{counted}
 use Rattle.poke_batch.proofs.run.run_check.Goals as goal
 
 pub returns-in-Ok : goal.returns-in-Ok

@@ -5,7 +5,7 @@ use Rattle.run_parts.specs.Lines.{refused_line}
 use Rattle.poke_batch.specs.Runs.{unknown}
 use Rattle.poke_batch.specs.RunsUnder.{ended_under}
 use Rattle.poke_batch.proofs.Mappings.{asked}
-use Rattle.poke_batch.proofs.Sayings.{line_says, said_says}
+use Rattle.run_parts.proofs.Sayings.{line_says, said_says}
 use Rattle.poke_batch.proofs.UnderTerms.{refused_under}
 use Rattle.poke_batch.proofs.run.run_map_under.Goals as goal
 

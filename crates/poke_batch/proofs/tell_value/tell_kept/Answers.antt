@@ -3,7 +3,7 @@ use Rattle.value_store.specs.Refs.{value_shown}
 use Rattle.run_parts.specs.declared.status.Status.TheVariants.{Fault}
 use Rattle.run_parts.specs.Lines.{fault_line}
 use Rattle.poke_batch.specs.PathParts.{part_at}
-use Rattle.poke_batch.proofs.Sayings.{line_says}
+use Rattle.run_parts.proofs.Sayings.{line_says}
 use Rattle.poke_batch.proofs.UnderTerms.{no_part_saying}
 use Rattle.poke_batch.proofs.tell_value.tell_kept.Goals as goal
 

@@ -4,7 +4,7 @@ use Rattle.run_parts.specs.declared.status.Status.TheVariants.{Fault, Outside}
 use Rattle.run_parts.specs.Lines.{fault_line, fault_at_line}
 use Rattle.value_text.specs.Printed.{printed}
 use Rattle.poke_batch.specs.RunsUnder.{no_memory_for_it}
-use Rattle.poke_batch.proofs.Sayings.{line_says, text_says}
+use Rattle.run_parts.proofs.Sayings.{line_says, text_says}
 use Rattle.poke_batch.proofs.UnderTerms.{short_saying, long_saying}
 use Rattle.poke_batch.proofs.tell_value.tell_short.Goals as goal
 

@@ -1,6 +1,6 @@
 use Rattle.value_store.specs.Refs.{value_shown}
 use Rattle.value_text.specs.Printed.{printed}
-use Rattle.poke_batch.proofs.Sayings.{text_says}
+use Rattle.run_parts.proofs.Sayings.{text_says}
 use Rattle.poke_batch.proofs.UnderTerms.{free_saying}
 use Rattle.poke_batch.proofs.tell_value.tell_text.Goals as goal
 

@@ -1,7 +1,7 @@
 use Rattle.std.proofs.Common.{◌∙◌, ap}
 use Rattle.std.proofs.KnownBytes.{Keeps-refl}
 use Rattle.pickle_meaning.specs.FaultNames.{fault_kind}
-use Rattle.poke_batch.proofs.Mappings.{told_at_place}
+use Rattle.run_parts.proofs.Faults.{told_at_place}
 use Rattle.run_parts.proofs.fault.tell_fault.Goals as goal
 
 pub returns-in-Device : goal.returns-in-Device

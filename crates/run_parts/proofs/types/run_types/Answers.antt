@@ -6,7 +6,7 @@ use Rattle.run_parts.specs.declared.status.Status.TheVariants.{Outside}
 use Rattle.run_parts.specs.Lines.{fault_line}
 use Rattle.run_parts.specs.Told.{Text}
 use Rattle.run_parts.specs.TypesText.{TypesAs, told_types, refused_types, told_lines}
-use Rattle.poke_batch.proofs.Sayings.{line_says, said_says, text_says}
+use Rattle.run_parts.proofs.Sayings.{line_says, said_says, text_says}
 use Rattle.run_parts.proofs.TypeLines.{lines_same}
 use Rattle.run_parts.proofs.types.run_types.Goals as goal
 

@@ -4,7 +4,7 @@ use Rattle.run_parts.specs.BoundText.{bound_text_and}
 use Rattle.run_parts.specs.declared.status.Status.TheVariants.{Outside}
 use Rattle.run_parts.specs.Lines.{fault_line}
 use Rattle.text_bounds.specs.TextRuns.{text_bounds, refused_text_bounds}
-use Rattle.poke_batch.proofs.Sayings.{line_says, text_says}
+use Rattle.run_parts.proofs.Sayings.{line_says, text_says}
 use Rattle.text_bounds.proofs.run.bound_found.Goals as goal
 
 pub returns-in-Ok : goal.returns-in-Ok

@@ -4,7 +4,7 @@ use Rattle.run_parts.specs.declared.status.Status.TheVariants.{Refused}
 use Rattle.run_parts.specs.Lines.{refused_line}
 use Rattle.text_bounds.specs.TextRuns.{no_type_to_bound, refused_text_bounds}
 use Rattle.poke_batch.proofs.Mappings.{asked}
-use Rattle.poke_batch.proofs.Sayings.{line_says, said_says}
+use Rattle.run_parts.proofs.Sayings.{line_says, said_says}
 use Rattle.text_bounds.proofs.run.run_bound_text.Goals as goal
 
 pub returns-in-Err : goal.returns-in-Err

@@ -1,5 +1,5 @@
 -- Laws of what a run says.
-use Rattle.std.proofs.Common.{◌≡◌, ◌∙◌, length, sym, subst, ℕ, List, Option, Result, Ok, Err, inl, inr}
+use Rattle.std.proofs.Common.{◌≡◌, ℕ, List, Option, Result, Ok, Err, inl, inr}
 use Rattle.std.specs.Prelude.{OnOk, OnErr, codes}
 use Rattle.std.specs.Io.KnownBytes.{Appends, Keeps}
 use Rattle.std.proofs.KnownBytes.{Keeps-refl}
@@ -8,10 +8,6 @@ use Rattle.run_parts.specs.declared.status.Status.TheVariants.{Done, Outside}
 use Rattle.text_forms.specs.declared.write.WriteFault.{WriteFault}
 use Rattle.run_parts.specs.Lines.{fault_line}
 use Rattle.text_forms.specs.Written.{AppendsPart}
-use Rattle.pickle_tree.specs.Tree.{DeclarationTree}
-use Rattle.pickle_types.specs.Names.{Names}
-use Rattle.run_parts.specs.Accepted.{IsAccepted}
-use Rattle.poke_batch.specs.Runs.{ChecksAs, accepted, types_text}
 use Rattle.run_parts.specs.Told.{Saying, Text, Line, IsTold, IsSaid, Says, AppendsUpTo}
 
 -- a run that told a line
@@ -31,7 +27,3 @@ text_says IsRight text status out out' err err' (Err e) right whole part done fa
 pub said_says : (IsRight : Saying → Type 0) (saying : Saying) (status : Status) (out out' err err' : Option (List ℕ))
     → IsRight saying → IsSaid saying status out out' err err' → Says IsRight status out out' err err'
 said_says IsRight saying status out out' err err' right said = record { saying = saying; right = right; said = said }
-
--- the text of a count is the text of the declarations counted
-pub counted : {pickle : List ℕ} {declarations : List DeclarationTree} {types : Names} {count answer : ℕ} → IsAccepted pickle declarations types → count ≡ length declarations → answer ≡ count → ChecksAs pickle (Text (types_text answer))
-counted {pickle} a e e' = subst (λ n. ChecksAs pickle (Text (types_text n))) (sym (e' ∙ e)) (accepted a)
