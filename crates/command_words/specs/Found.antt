@@ -1,5 +1,5 @@
 -- What the words of a command ask for, by what clap found among them.
-use Rattle.std.specs.Prelude.{◌≡◌, ◌≢◌, ◌<◌, ◌≤◌, ◌^◌, ◌*◌, ℕ, Bool, true, false, not, List, [], map, Option, Some, None, string_bytes, codes}
+use Rattle.std.specs.Prelude.{◌≡◌, ◌≢◌, ◌⊎◌, ◌<◌, ◌≤◌, ◌^◌, ◌*◌, ℕ, Bool, true, false, not, List, [], map, Option, Some, None, string_bytes, codes}
 use Rattle.std.specs.Option.{unwrap_or, option_map_or}
 use Rattle.std.specs.Str.Parse.{IsNumeral, digits_value, without_leading_plus}
 use Rattle.clap.specs.Matches.{first_value, one_text, matched_of, raw_values}
@@ -119,3 +119,7 @@ IsNoOffset word = (bits : ℕ) → IsOffsetWord word bits → 2 ^ 64 ≤ bits
 -- nor one of whole bytes
 abbrev pub IsNoByteOffset : List ℕ → Type 0
 IsNoByteOffset word = (bytes : ℕ) → IsOffsetWord word (8 * bytes) → 2 ^ 64 ≤ 8 * bytes
+
+-- the words of a dump name no bytes: one of them isn't such an offset
+abbrev pub IsNoRange : Found → Type 0
+IsNoRange found = IsNoByteOffset (word_in found (codes "from")) ⊎ IsNoByteOffset (word_in found (codes "size"))

@@ -3,12 +3,12 @@ mod commands;
 mod found;
 mod shown;
 
-ghost use Rattle.std.specs.Prelude.{◌≡◌, ◌≢◌, ◌⊎◌, ◌*◌, [], Some, codes, map, string_bytes, MatchResult, IfOk, IfErr, OnErr, true, false};
+ghost use Rattle.std.specs.Prelude.{◌≡◌, ◌≢◌, ◌*◌, [], Some, codes, map, string_bytes, MatchResult, IfOk, IfErr, OnErr, true, false};
 ghost use Rattle.clap.specs.Matches.{found_of, first_value, subcommand_name_of};
 ghost use Rattle.command_words.specs.OffsetWord.{IsOffsetWord};
 ghost use Rattle.command_words.specs.Paths.{path_text};
 ghost use Rattle.command_words.specs.Words.{IsCheckOf, NamesMode, NamesModeIfAny};
-ghost use Rattle.command_words.specs.Found.{word_in, HasTerms, no_terms, NamesOrder, NamesFiles, PathIfAny, Asks, IsJobOf, IsNoOffset, IsNoByteOffset};
+ghost use Rattle.command_words.specs.Found.{word_in, HasTerms, no_terms, NamesOrder, NamesFiles, PathIfAny, Asks, IsJobOf, IsNoOffset, IsNoByteOffset, IsNoRange};
 ghost use Rattle.command_words.specs.declared.words.WordFault.TheVariants.{Memory};
 
 use crate::offset_word::offset_word;
@@ -440,7 +440,7 @@ fn read_types(alloc: Global, found: &ArgMatches<'_>) -> Result<Job, WordFault>
 fn read_dump(alloc: Global, found: &ArgMatches<'_>) -> Result<Job, WordFault>
     ensures asks { IfOk result (Asks (found_of found.now)) }
     ensures command { IfOk result (IsJobOf (Some (codes "dump"))) }
-    ensures offset { IfErr result (λ fault. fault ≡ WordFault.Offset → IsNoByteOffset (word_in (found_of found.now) (codes "from")) ⊎ IsNoByteOffset (word_in (found_of found.now) (codes "size"))) }
+    ensures offset { IfErr result (λ fault. fault ≡ WordFault.Offset → IsNoRange (found_of found.now)) }
 {
     let from = bytes_of(word(found, "from"))?;
     let size = bytes_of(word(found, "size"))?;
