@@ -162,3 +162,14 @@ large_where_none w k m u n (Some x) e is unit h = tt
 pub at_no_ok : {T E : Type 0} (r : Result T E) (P : T → Type 0) (Q : Type 0) → result_ok r ≡ None → MatchResult r P (λ _. Q) → Q
 at_no_ok (Ok x) P Q e h = absurd (none-some _ (sym e))
 at_no_ok (Err x) P Q e h = h
+
+-- a word names one number of bits
+pub one_offset : (w : List ℕ) (a b : ℕ) → IsOffsetWord w a → IsOffsetWord w b → a ≡ b
+one_offset w a b x y =
+    let at = hash_after w x.magnitude x.unit x.parts x.number.1 in
+    let p = cut_parts w (length x.magnitude) a x at in
+    let q = cut_parts w (length x.magnitude) b y at in
+    let m : x.magnitude ≡ y.magnitude = sym p.0 ∙ q.0 in
+    let u : x.unit ≡ y.unit = sym p.1 ∙ q.1 in
+    let n : x.unit_bits ≡ y.unit_bits = unit_same y.unit x.unit_bits y.unit_bits (subst (λ t. IsUnit t x.unit_bits) u x.counts) y.counts in
+    sym x.product ∙ (ap (λ t. digits_value 10 t * x.unit_bits) m ∙ (ap (λ t. digits_value 10 y.magnitude * t) n ∙ y.product))

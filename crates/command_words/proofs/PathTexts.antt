@@ -1,5 +1,5 @@
 -- Laws of the texts of paths.
-use Rattle.std.proofs.Common.{◌≡◌, ◌∙◌, ℕ, ◌+◌, ◌-◌, ◌≤◌, List, [], ◌∷◌, ◌++◌, take, drop, length, refl, sym, ap, subst, arith, append_assoc, append-nil, take-add}
+use Rattle.std.proofs.Common.{◌≡◌, ◌∙◌, ℕ, ◌+◌, ◌-◌, ◌≤◌, List, [], ◌∷◌, ◌++◌, take, sym, ap, arith, append_assoc, append-nil, take-add}
 use Rattle.std.specs.Prelude.{slice_range}
 use Rattle.command_words.specs.declared.path.Step.{Step}
 use Rattle.command_words.specs.Paths.{step_text, steps_text}

@@ -1,7 +1,5 @@
 -- Paths to the parts of a value.
-use Rattle.std.specs.Prelude.{◌≡◌, ℕ, zero, suc, ◌+◌, Bool, true, false, List, [], ◌∷◌, ◌++◌, Option, Some, None, if◌then◌else◌, codes, decimal}
-use Rattle.std.specs.Str.{bytes_eq}
-use Rattle.command_words.specs.declared.path.Path.{Path}
+use Rattle.std.specs.Prelude.{ℕ, List, [], ◌∷◌, ◌++◌, codes, decimal}
 use Rattle.command_words.specs.declared.path.Step.{Step}
 use Rattle.command_words.specs.declared.path.Step.TheVariants.{Field, Place, Element}
 use Rattle.text_forms.specs.Brackets.{in_brackets}

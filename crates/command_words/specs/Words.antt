@@ -23,31 +23,9 @@ NamesMode word Tree = word ≡ codes "tree"
 NamesMode word Json = word ≡ codes "json"
 NamesMode word Lines = word ≡ codes "lines"
 
--- a mapping whose value is written in the mode that a word names
-abbrev pub WritesInMode : List ℕ → Job → Type 0
-WritesInMode word (Map at order limit mode pickle type file) = NamesMode word mode
-WritesInMode word (MapUnder at order limit mode terms pickle type file) = NamesMode word mode
-WritesInMode word (Each at order limit mode terms pickle type files) = NamesMode word mode
-WritesInMode word (Bound pickle type bits) = ⊥
-WritesInMode word (BoundText pickle type bits mode) = ⊥
-WritesInMode word (Check pickle) = ⊥
-WritesInMode word (Types pickle) = ⊥
-WritesInMode word (Dump from size ruler file) = ⊥
-
 -- a mode that a word names, or none where there is no word
 abbrev pub NamesModeIfAny : Option (List ℕ) → Option Mode → Type 0
 NamesModeIfAny None None = Unit {0}
 NamesModeIfAny None (Some mode) = ⊥
 NamesModeIfAny (Some word) None = ⊥
 NamesModeIfAny (Some word) (Some mode) = NamesMode word mode
-
--- bounds that tell of texts in the mode that a word names, or in any
-abbrev pub BoundsTextIn : Option (List ℕ) → Job → Type 0
-BoundsTextIn word (Map at order limit mode pickle type file) = ⊥
-BoundsTextIn word (MapUnder at order limit mode terms pickle type file) = ⊥
-BoundsTextIn word (Each at order limit mode terms pickle type files) = ⊥
-BoundsTextIn word (Bound pickle type bits) = ⊥
-BoundsTextIn word (BoundText pickle type bits mode) = NamesModeIfAny word mode
-BoundsTextIn word (Check pickle) = ⊥
-BoundsTextIn word (Types pickle) = ⊥
-BoundsTextIn word (Dump from size ruler file) = ⊥

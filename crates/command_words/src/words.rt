@@ -1,12 +1,14 @@
 //! The words of the command line.
 mod commands;
+mod found;
 mod shown;
 
-ghost use Rattle.std.specs.Prelude.{◌≡◌, ℕ, ◌*◌, ◌^◌, ◌≤◌, [], codes, MatchResult, IfOk, IfErr, OnErr, false};
-ghost use Rattle.std.specs.Option.{unwrap_or};
-ghost use Rattle.clap.specs.Matches.{found_of, first_value};
+ghost use Rattle.std.specs.Prelude.{◌≡◌, ◌≢◌, ◌*◌, [], Some, codes, map, string_bytes, MatchResult, IfOk, IfErr, OnErr, true, false};
+ghost use Rattle.clap.specs.Matches.{found_of, first_value, subcommand_name_of};
 ghost use Rattle.command_words.specs.OffsetWord.{IsOffsetWord};
-ghost use Rattle.command_words.specs.Words.{IsCheckOf, NamesMode, WritesInMode, BoundsTextIn};
+ghost use Rattle.command_words.specs.Paths.{path_text};
+ghost use Rattle.command_words.specs.Words.{IsCheckOf, NamesMode, NamesModeIfAny};
+ghost use Rattle.command_words.specs.Found.{word_in, HasTerms, no_terms, NamesOrder, NamesFiles, PathIfAny, Asks, IsJobOf, IsNoOffset, IsNoByteOffset, IsNoRange};
 ghost use Rattle.command_words.specs.declared.words.WordFault.TheVariants.{Memory};
 
 use crate::offset_word::offset_word;
@@ -16,6 +18,7 @@ use bit_space::Order;
 use clap::ArgMatches;
 use clap::error::ErrorKind;
 use commands::{DEFAULT_LIMIT, PROGRAM, program};
+use found::{flag_of, number_if_any, number_of, word, word_of};
 use shown::{shown_word, shown_words};
 use std::alloc::{AllocError, Global};
 use text_forms::mode::Mode;
@@ -186,7 +189,9 @@ fn after_name<'a>(alloc: Global, words: &'a [String]) -> Result<Vec<&'a str>, Al
     Ok(named)
 }
 
-fn told(alloc: Global, error: &clap::Error, words: &[String]) -> Result<WordFault, AllocError> {
+fn told(alloc: Global, error: &clap::Error, words: &[String]) -> Result<WordFault, AllocError>
+    ensures { IfOk result (λ fault. fault ≢ WordFault.Offset) }
+{
     match error.kind() {
         ErrorKind::DisplayHelp | ErrorKind::DisplayVersion => {
             Ok(WordFault::Help(text_of(alloc, error)?))
@@ -218,7 +223,9 @@ fn text_of(alloc: Global, error: &clap::Error) -> Result<String, AllocError> {
     }
 }
 
-fn read_command(alloc: Global, matches: &ArgMatches<'_>) -> Result<Job, WordFault> {
+fn read_command(alloc: Global, matches: &ArgMatches<'_>) -> Result<Job, WordFault>
+    ensures { IfOk result (IsJobOf (subcommand_name_of matches.now)) }
+{
     match matches.subcommand() {
         Some(("map", found)) => read_map(alloc, found),
         Some(("each", found)) => read_each(alloc, found),
@@ -231,7 +238,9 @@ fn read_command(alloc: Global, matches: &ArgMatches<'_>) -> Result<Job, WordFaul
 }
 
 // The order of bytes that a word names, and the default where it names none.
-fn order_of(word: &str) -> Order {
+fn order_of(word: &str) -> Order
+    ensures { NamesOrder word.now result }
+{
     match word {
         "little" => Order::Little,
         _ => Order::Big,
@@ -239,17 +248,19 @@ fn order_of(word: &str) -> Order {
 }
 
 fn read_map(alloc: Global, found: &ArgMatches<'_>) -> Result<Job, WordFault>
-    ensures { IfOk result (WritesInMode (unwrap_or (first_value (found_of found.now) (codes "mode")) [])) }
+    ensures asks { IfOk result (Asks (found_of found.now)) }
+    ensures command { IfOk result (IsJobOf (Some (codes "map"))) }
+    ensures offset { IfErr result (λ fault. fault ≡ WordFault.Offset → IsNoOffset (word_in (found_of found.now) (codes "at"))) }
 {
     let terms = terms_of(alloc, found)?;
-    let at = bits_of(found.get_str("at").unwrap_or(""))?;
-    let order = order_of(found.get_str("endian").unwrap_or(""));
-    let limit = found.get_one::<u64>("limit").unwrap_or(DEFAULT_LIMIT);
-    let mode = mode_of(found.get_str("mode").unwrap_or(""));
+    let at = bits_of(word(found, "at"))?;
+    let order = order_of(word(found, "endian"));
+    let limit = number_of(found, "limit", DEFAULT_LIMIT);
+    let mode = mode_of(word(found, "mode"));
     let pickle = word_of(alloc, found, "PICKLE")?;
     let name = word_of(alloc, found, "TYPE")?;
     let file = word_of(alloc, found, "FILE")?;
-    if terms == Terms::none() {
+    if has_no_terms(&terms) {
         return Ok(Job::Map {
             at,
             order,
@@ -273,13 +284,15 @@ fn read_map(alloc: Global, found: &ArgMatches<'_>) -> Result<Job, WordFault>
 }
 
 fn read_each(alloc: Global, found: &ArgMatches<'_>) -> Result<Job, WordFault>
-    ensures { IfOk result (WritesInMode (unwrap_or (first_value (found_of found.now) (codes "mode")) [])) }
+    ensures asks { IfOk result (Asks (found_of found.now)) }
+    ensures command { IfOk result (IsJobOf (Some (codes "each"))) }
+    ensures offset { IfErr result (λ fault. fault ≡ WordFault.Offset → IsNoOffset (word_in (found_of found.now) (codes "at"))) }
 {
     Ok(Job::Each {
-        at: bits_of(found.get_str("at").unwrap_or(""))?,
-        order: order_of(found.get_str("endian").unwrap_or("")),
-        limit: found.get_one::<u64>("limit").unwrap_or(DEFAULT_LIMIT),
-        mode: mode_of(found.get_str("mode").unwrap_or("")),
+        at: bits_of(word(found, "at"))?,
+        order: order_of(word(found, "endian")),
+        limit: number_of(found, "limit", DEFAULT_LIMIT),
+        mode: mode_of(word(found, "mode")),
         terms: terms_of(alloc, found)?,
         pickle: word_of(alloc, found, "PICKLE")?,
         name: word_of(alloc, found, "TYPE")?,
@@ -287,32 +300,69 @@ fn read_each(alloc: Global, found: &ArgMatches<'_>) -> Result<Job, WordFault>
     })
 }
 
-fn names_in(alloc: Global, found: &ArgMatches<'_>) -> Result<FileNames, AllocError> {
+fn names_in(alloc: Global, found: &ArgMatches<'_>) -> Result<FileNames, AllocError>
+    ensures { IfOk result (NamesFiles (found_of found.now)) }
+{
     if let Some(path) = found.get_str("files0-from") {
         return Ok(FileNames::EndedByZero(String::from_str(alloc, path)?));
     }
-    let mut names = Vec::new(alloc);
-    for name in found.get_strs("FILE").unwrap_or(&[]) {
-        names.push(String::from_str(alloc, name)?)?;
-    }
+    let names = copies(alloc, found.get_strs("FILE").unwrap_or(&[]))?;
     Ok(FileNames::Words(names))
 }
 
+fn copies(alloc: Global, words: &[&str]) -> Result<Vec<String>, AllocError>
+    ensures { IfOk result (λ copies. map string_bytes copies.items ≡ map (λ word. word.now) words.now) }
+{
+    let mut copies = Vec::new(alloc);
+    for word in words {
+        copies.push(String::from_str(alloc, word)?)?;
+    }
+    Ok(copies)
+}
+
 // The terms that options ask for.
-fn terms_of(alloc: Global, found: &ArgMatches<'_>) -> Result<Terms, WordFault> {
+fn terms_of(alloc: Global, found: &ArgMatches<'_>) -> Result<Terms, WordFault>
+    ensures terms { IfOk result (HasTerms (found_of found.now)) }
+    ensures path { IfErr result (λ fault. fault ≡ WordFault.Offset → ⊥) }
+{
     Ok(Terms {
-        whole: found.get_flag("whole"),
-        most_output: found.get_one::<u64>("max-output"),
-        part: match found.get_str("get") {
-            Some(word) => Some(path_of(alloc, word)?),
-            None => None,
-        },
-        most_slots: found.get_one::<u64>("slots"),
+        whole: flag_of(found, "whole"),
+        most_output: number_if_any(found, "max-output"),
+        part: part_of(alloc, found)?,
+        most_slots: number_if_any(found, "slots"),
     })
 }
 
+fn has_no_terms(terms: &Terms) -> bool
+    ensures { result ≡ true → terms.now ≡ no_terms }
+{
+    match terms {
+        Terms {
+            whole: false,
+            most_output: None,
+            part: None,
+            most_slots: None,
+        } => true,
+        _ => false,
+    }
+}
+
+// The path to the part that is asked for, if one is.
+fn part_of(alloc: Global, found: &ArgMatches<'_>) -> Result<Option<Path>, WordFault>
+    ensures part { IfOk result (PathIfAny (first_value (found_of found.now) (codes "get"))) }
+    ensures path { IfErr result (λ fault. fault ≡ WordFault.Offset → ⊥) }
+{
+    match found.get_str("get") {
+        Some(word) => Ok(Some(path_of(alloc, word)?)),
+        None => Ok(None),
+    }
+}
+
 // The path that a word is.
-fn path_of(alloc: Global, word: &str) -> Result<Path, WordFault> {
+fn path_of(alloc: Global, word: &str) -> Result<Path, WordFault>
+    ensures path { IfOk result (λ path. path_text path.steps.items ≡ word.now) }
+    ensures fault { IfErr result (λ fault. fault ≡ WordFault.Offset → ⊥) }
+{
     match read_path(alloc, word.as_bytes()) {
         Ok(path) => Ok(path),
         Err(PathFault::Form) => Err(WordFault::Usage(no_path(alloc, word)?)),
@@ -339,51 +389,65 @@ fn mode_of(word: &str) -> Mode
     }
 }
 
-fn read_bound(alloc: Global, found: &ArgMatches<'_>) -> Result<Job, WordFault> {
-    if found.get_flag("text") {
-        return read_bound_text(alloc, found);
+fn read_bound(alloc: Global, found: &ArgMatches<'_>) -> Result<Job, WordFault>
+    ensures asks { IfOk result (Asks (found_of found.now)) }
+    ensures command { IfOk result (IsJobOf (Some (codes "bound"))) }
+    ensures memory { IfErr result (λ fault. fault ≡ Memory) }
+{
+    let pickle = word_of(alloc, found, "PICKLE")?;
+    let name = word_of(alloc, found, "TYPE")?;
+    let bits = number_of(found, "BITS", 0);
+    if flag_of(found, "text") {
+        return Ok(Job::BoundText {
+            pickle,
+            name,
+            bits,
+            mode: mode_in(found),
+        });
     }
-    Ok(Job::Bound {
-        pickle: word_of(alloc, found, "PICKLE")?,
-        name: word_of(alloc, found, "TYPE")?,
-        bits: found.get_one::<u64>("BITS").unwrap_or(0),
-    })
+    Ok(Job::Bound { pickle, name, bits })
 }
 
-fn read_bound_text(alloc: Global, found: &ArgMatches<'_>) -> Result<Job, WordFault>
-    ensures { IfOk result (BoundsTextIn (first_value (found_of found.now) (codes "mode"))) }
+// The mode that is asked for, if one is.
+fn mode_in(found: &ArgMatches<'_>) -> Option<Mode>
+    ensures { NamesModeIfAny (first_value (found_of found.now) (codes "mode")) result }
 {
-    let mode = match found.get_str("mode") {
+    match found.get_str("mode") {
         Some(word) => Some(mode_of(word)),
         None => None,
-    };
-    Ok(Job::BoundText {
-        pickle: word_of(alloc, found, "PICKLE")?,
-        name: word_of(alloc, found, "TYPE")?,
-        bits: found.get_one::<u64>("BITS").unwrap_or(0),
-        mode,
-    })
+    }
 }
 
-fn read_check(alloc: Global, found: &ArgMatches<'_>) -> Result<Job, WordFault> {
+fn read_check(alloc: Global, found: &ArgMatches<'_>) -> Result<Job, WordFault>
+    ensures asks { IfOk result (IsCheckOf (word_in (found_of found.now) (codes "PICKLE"))) }
+    ensures memory { IfErr result (λ fault. fault ≡ Memory) }
+{
     Ok(Job::Check {
         pickle: word_of(alloc, found, "PICKLE")?,
     })
 }
 
-fn read_types(alloc: Global, found: &ArgMatches<'_>) -> Result<Job, WordFault> {
+fn read_types(alloc: Global, found: &ArgMatches<'_>) -> Result<Job, WordFault>
+    ensures asks { IfOk result (Asks (found_of found.now)) }
+    ensures command { IfOk result (IsJobOf (Some (codes "types"))) }
+    ensures memory { IfErr result (λ fault. fault ≡ Memory) }
+{
     Ok(Job::Types {
         pickle: word_of(alloc, found, "PICKLE")?,
     })
 }
 
-fn read_dump(alloc: Global, found: &ArgMatches<'_>) -> Result<Job, WordFault> {
-    let from = bytes_of(found.get_str("from").unwrap_or(""))?;
-    let size = bytes_of(found.get_str("size").unwrap_or(""))?;
+fn read_dump(alloc: Global, found: &ArgMatches<'_>) -> Result<Job, WordFault>
+    ensures asks { IfOk result (Asks (found_of found.now)) }
+    ensures command { IfOk result (IsJobOf (Some (codes "dump"))) }
+    ensures offset { IfErr result (λ fault. fault ≡ WordFault.Offset → IsNoRange (found_of found.now)) }
+{
+    let from = bytes_of(word(found, "from"))?;
+    let size = bytes_of(word(found, "size"))?;
     Ok(Job::Dump {
         from,
         size,
-        ruler: !found.get_flag("no-ruler"),
+        ruler: !flag_of(found, "no-ruler"),
         file: word_of(alloc, found, "FILE")?,
     })
 }
@@ -392,7 +456,7 @@ fn read_dump(alloc: Global, found: &ArgMatches<'_>) -> Result<Job, WordFault> {
 fn bits_of(word: &str) -> Result<u64, WordFault>
     ensures ok { IfOk result (IsOffsetWord word.now) }
     ensures err { IfErr result (λ fault. fault ≡ WordFault.Offset) }
-    ensures refused { OnErr result ((bits : ℕ) → IsOffsetWord word.now bits → 2 ^ 64 ≤ bits) }
+    ensures refused { OnErr result (IsNoOffset word.now) }
 {
     match offset_word(word.as_bytes()) {
         Some(bits) => Ok(bits),
@@ -404,14 +468,11 @@ fn bits_of(word: &str) -> Result<u64, WordFault>
 fn bytes_of(word: &str) -> Result<u64, WordFault>
     ensures ok { IfOk result (λ bytes. IsOffsetWord word.now (8 * bytes)) }
     ensures err { IfErr result (λ fault. fault ≡ WordFault.Offset) }
+    ensures refused { OnErr result (IsNoByteOffset word.now) }
 {
     let bits = bits_of(word)?;
     if bits % 8 != 0 {
         return Err(WordFault::Offset);
     }
     Ok(bits / 8)
-}
-
-fn word_of(alloc: Global, found: &ArgMatches<'_>, name: &str) -> Result<String, AllocError> {
-    String::from_str(alloc, found.get_str(name).unwrap_or(""))
 }

@@ -1,4 +1,4 @@
-use Rattle.std.proofs.Common.{◌≡◌, ◌+◌, ◌≤◌, length, arith}
+use Rattle.std.proofs.Common.{◌+◌, arith}
 use Rattle.command_words.proofs.PathTexts.{text_more}
 use Rattle.command_words.proofs.path.read_steps.Goals as goal
 
