@@ -5,7 +5,7 @@ ghost use Rattle.pickle_types.specs.Table.{IsWidth};
 ghost use Rattle.pickle_types.specs.Sound.{IsSmall};
 ghost use Rattle.pickle_types.specs.Operators.{common};
 ghost use Rattle.pickle_map.specs.Arithmetic.{on_common, on_integers, shifted_left, shifted_right, truth, is_zero, converted, bit_by_bit, brought_integer, modulo, with_sign};
-ghost use Rattle.pickle_map.specs.Scalars.{IsScalar, IsShift, computed_of, scalar_label, scalar_number};
+ghost use Rattle.pickle_map.specs.Scalars.{IsScalar, IsShift, computed_of, scalar_label};
 ghost use Rattle.pickle_map.specs.Values.{IntegerLabel};
 
 use crate::evaluate::ranges::{brought, converted, low_digits, modulo, with_sign};
@@ -18,18 +18,6 @@ use pickle_types::integer::IntegerType;
 pub enum Scalar {
     Integer(i128, IntegerType),
     Offset(i128, IntegerType, u32),
-}
-
-impl Scalar {
-    /// The number of an integer, the magnitude of an offset.
-    pub(crate) fn number(self) -> i128
-        ensures { result ≡ scalar_number self }
-    {
-        match self {
-            Scalar::Integer(number, _) => number,
-            Scalar::Offset(magnitude, _, _) => magnitude,
-        }
-    }
 }
 
 const TRUTH: IntegerType = IntegerType {

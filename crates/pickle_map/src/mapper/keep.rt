@@ -15,6 +15,7 @@ use pickle_types::integer::IntegerType;
 use pickle_types::view::Node;
 
 /// Keeps an integer that was read as these binary digits, as a member of the innermost open value.
+#[inline(always)]
 pub fn keep_integer(
     nodes: &[Node],
     store: &mut Store,
