@@ -29,6 +29,8 @@ pub struct Typed {
 
 /// The truth of a comparison between two integers, each a literal or a name, which takes 3 steps; nothing for all else, and
 /// where an integer isn't there.
+// It stands apart, and what it calls doesn't: so no number goes through memory.
+#[inline(never)]
 pub fn comparison(e: &Resolved, store: &Store) -> Option<bool>
     requires { IsSoundTerm (term_of e.now) }
     ensures { (nodes : List TableNode) → IfSome result (λ holds. ComesTo (evaluation (term_of e.now) (kept nodes store.now)) (IntegerLabel (if holds then pos 1 else pos 0) (signed_type 32)) 3) }
@@ -61,6 +63,7 @@ fn is_comparison(op: Infix) -> bool
 }
 
 /// The integer that a literal or a name stands for.
+#[inline(always)]
 pub fn leaf(e: &Resolved, store: &Store) -> Option<Typed>
     requires { IsSoundTerm (term_of e.now) }
     ensures is { (nodes : List TableNode) → IfSome result (λ n. ComesTo (evaluation (term_of e.now) (kept nodes store.now)) (IntegerLabel n.number n.of) 1) }
@@ -77,6 +80,7 @@ pub fn leaf(e: &Resolved, store: &Store) -> Option<Typed>
 }
 
 /// The integer that a name stands for.
+#[inline(always)]
 fn named(level: usize, place: usize, store: &Store) -> Option<Typed>
     ensures is { (nodes : List TableNode) → IfSome result (λ n. ComesTo (evaluation (Name level place) (kept nodes store.now)) (IntegerLabel n.number n.of) 1) }
     ensures width { IfSome result (λ n. IsWidth n.of × IsSmall n.of.signed n.number) }
@@ -93,6 +97,7 @@ fn named(level: usize, place: usize, store: &Store) -> Option<Typed>
 
 /// The truth of a comparison of two integers, in their common type.
 #[tactic(auto, using(crate::proofs::Comparisons::common_order))]
+#[inline(always)]
 fn compared(op: Infix, a: Typed, b: Typed) -> bool
     requires comparison { is_comparison op ≡ true }
     requires left { IsWidth a.of × IsSmall a.of.signed a.number }
@@ -107,6 +112,7 @@ fn compared(op: Infix, a: Typed, b: Typed) -> bool
 
 /// The truth of a comparison of two numbers of a type.
 #[tactic(auto, unfolding(pickle_meaning::specs::Arithmetic::on_common), using(crate::proofs::Comparisons::last_comparison))]
+#[inline(always)]
 fn in_order(op: Infix, x: i128, y: i128) -> bool
     requires { is_comparison op ≡ true }
     ensures { (number : IntegerType) → truth result ≡ on_common op number x y }

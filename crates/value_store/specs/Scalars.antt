@@ -13,10 +13,6 @@ abbrev pub scalar_label : Scalar → Label
 scalar_label (scalar.Integer number type) = IntegerLabel number type
 scalar_label (scalar.Offset magnitude type unit) = OffsetLabel magnitude type unit
 
-abbrev pub scalar_number : Scalar → ℤ
-scalar_number (scalar.Integer number type) = number
-scalar_number (scalar.Offset magnitude type unit) = magnitude
-
 abbrev pub computed_of : Result Scalar MapFaultKind → Computed
 computed_of (Ok s) = Ok (scalar_label s)
 computed_of (Err kind) = Err kind

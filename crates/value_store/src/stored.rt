@@ -65,7 +65,7 @@ impl<'a> StoredValue<'a> {
     {
         match self.place {
             Place::Node(at) => self.store.number_at(at),
-            Place::Element { array, index } => self.store.element_at(array, index).number(),
+            Place::Element { array, index } => self.store.element_number(array, index),
         }
     }
 
@@ -80,6 +80,7 @@ impl<'a> StoredValue<'a> {
     }
 
     /// The number of an integer or an offset, with its type.
+    #[inline(always)]
     pub fn scalar(&self) -> Option<Scalar>
         ensures is { option_map scalar_label result ≡ scalar_in (label (value_of self.now)) }
         ensures scalar { IfSome result IsScalar }

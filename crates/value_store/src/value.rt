@@ -135,6 +135,7 @@ impl<'a> ValueRef<'a> {
 
     /// The name of the field at a place of a struct, of the alternative taken at place 0 of a union; nothing for nameless
     /// fields, for elements and past the end.
+    #[inline(always)]
     pub fn field_name(&self, i: usize) -> Option<&'a [u8]>
         ensures { option_map (λ name. name.now) result ≡ member_name (label_of (value_shown self.now)) i }
     {

@@ -193,6 +193,7 @@ fn told<'a>(
 }
 
 /// The truth of an expression; its fault is told at a place. Comparisons of integers that are there are met at a glance.
+#[inline(always)]
 fn truth_told(
     table: &[Node],
     e: &Resolved,

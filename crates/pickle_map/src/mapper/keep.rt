@@ -15,6 +15,7 @@ use value_store::ranges::with_sign;
 use value_store::store::Store;
 
 /// Keeps an integer that was read as these binary digits, as a member of the innermost open value.
+#[inline(always)]
 pub fn keep_integer(
     nodes: &[Node],
     store: &mut Store,

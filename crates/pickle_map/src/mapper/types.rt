@@ -56,7 +56,7 @@ pub fn map_type<S: Space, W: Watch>(
 }
 
 /// Maps the type at a place of the table, whose start is inside the file. Most values are integers: those are
-/// mapped without one more call.
+/// mapped without one more call, and strings with one less.
 #[cycle(mapping)]
 #[inline(always)]
 fn map_inside<S: Space, W: Watch>(
@@ -82,6 +82,7 @@ fn map_inside<S: Space, W: Watch>(
 {
     match &nodes[at].shape {
         Shape::Integer(number) => map_integer(nodes, *number, order, start, space, meter, store),
+        Shape::String => map_text(nodes, start, space, meter, store),
         _ => map_shape(nodes, at, order, start, space, meter, store, watch),
     }
 }

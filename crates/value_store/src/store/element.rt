@@ -1,7 +1,7 @@
 //! The elements of arrays of packed numbers.
 ghost use Rattle.std.specs.Prelude.{◌≡◌, ◌<◌, ◌≤◌, Some, length, slice_index};
 ghost use Rattle.value_store.specs.Kinds.{kind_of};
-ghost use Rattle.value_store.specs.Tree.{label, start, size, signed_of, width_of, unit_of};
+ghost use Rattle.value_store.specs.Tree.{label, start, size, number_of, signed_of, width_of, unit_of};
 ghost use Rattle.value_store.specs.Lent.{place_value, IsPlace};
 ghost use Rattle.value_store.specs.Packed.{bytes_number};
 ghost use Rattle.value_store.specs.Scalars.{scalar_label, scalar_in, IsScalar};
@@ -17,6 +17,7 @@ use crate::value::Kind;
 use pickle_types::integer::IntegerType;
 
 // The number that bytes are, the lowest first.
+#[inline(never)]
 fn bytes_number(bytes: &[u8]) -> u64
     requires { length bytes.now ≤ 8 }
     ensures { result ≡ bytes_number bytes.now }
@@ -44,6 +45,7 @@ impl Store {
     }
 
     // The packed number at a place.
+    #[inline(always)]
     fn packed_number(&self, width: u8, row: usize, i: usize) -> u64
         requires row { IsByteRow self.now.slots row }
         requires width { (1 ≤ width) × (width ≤ 64) }
@@ -57,6 +59,23 @@ impl Store {
         let size = bytes_for(width);
         let first = i * size;
         bytes_number(&bytes[first..first + size])
+    }
+
+    /// The number of an element, the magnitude where it is an offset.
+    #[inline(never)]
+    pub(crate) fn element_number(&self, array: usize, index: usize) -> i128
+        requires { IsPlace self.now.slots (Element array index) }
+        ensures { result ≡ number_of (label (place_value self.now.slots (Element array index))) }
+    {
+        let node = self.node_at(array);
+        let row = node.content as usize;
+        match node.shape {
+            Shape::Integers { width, signed } | Shape::Offsets { width, signed, .. } => with_sign(
+                IntegerType { width, signed },
+                self.packed_number(width, row, index),
+            ),
+            _ => unreachable!(),
+        }
     }
 
     /// What sort of value an element of the array of packed numbers at a node is.

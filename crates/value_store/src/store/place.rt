@@ -85,6 +85,7 @@ fn content_of(signed: bool, number: i128) -> u64
 
 impl Store {
     // Places an integer or an offset.
+    #[inline(always)]
     fn place_number(&mut self, shape: Shape, start: u64, content: u64) -> Result<(), Memory>
         requires number { IsNumber shape }
         ensures ok { OnOk result (levels self.new ≡ pushed (levels self.old) (Some (number_value shape start content))) }
@@ -136,6 +137,7 @@ impl Store {
     }
 
     /// Places an integer of `width` bits from the bit `start` on.
+    #[inline(always)]
     pub fn push_integer(
         &mut self,
         width: u8,

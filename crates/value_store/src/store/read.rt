@@ -268,6 +268,7 @@ impl Store {
     }
 
     // The number at a node, where it is an integer or an offset.
+    #[inline(always)]
     pub(crate) fn scalar_at(&self, at: usize) -> Option<Scalar>
         requires { at < length self.now.slots.nodes }
         ensures is { option_map scalar_label result ≡ scalar_in (label (value_at self.now.slots at)) }

@@ -34,6 +34,15 @@ map_inside-map_integer-requires g t c =
 pub map_inside-returns-in-Integer-clause-is : goal.map_inside-returns-in-Integer-clause-is
 map_inside-returns-in-Integer-clause-is g t c = rw (opened_as c.args.nodes.now c.requires.table c.args.at c.requires.at c.index-nodes-at.result _ c.in-Integer.is, number_is _ _ _ _ _ _ refl c.requires.inside) c.map_integer.ensures.is
 
+pub map_inside-map_text-requires-clause-open : goal.map_inside-map_text-requires-clause-open
+unfolding depth
+map_inside-map_text-requires-clause-open g t c =
+    let deep = rw (opened_as c.args.nodes.now c.requires.table c.args.at c.requires.at c.index-nodes-at.result _ c.in-String.is) at c.requires.open in
+    omega (arith, deep)
+
+pub map_inside-returns-in-String-clause-is : goal.map_inside-returns-in-String-clause-is
+map_inside-returns-in-String-clause-is g t c = rw (opened_as c.args.nodes.now c.requires.table c.args.at c.requires.at c.index-nodes-at.result _ c.in-String.is, text_is _ _ _ _ c.requires.inside) c.map_text.ensures.is
+
 pub map_shape-map_number-requires-clause-number : goal.map_shape-map_number-requires-clause-number
 map_shape-map_number-requires-clause-number g t c = ap number_type (opened_as c.args.nodes.now c.requires.table c.args.at c.requires.at c.index-nodes-at.result _ c.in-Integer.is)
 
