@@ -1,0 +1,2 @@
+pub mod Arising
+pub mod Meant

@@ -1,0 +1,2 @@
+pub mod Arises
+pub mod Laws
