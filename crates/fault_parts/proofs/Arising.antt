@@ -41,19 +41,19 @@ mutual
   means_arises (number_end le e lt) = ([], number_past_end le e lt)
   means_arises (string le run inside e) = tt
   means_arises (string_end le run lt) = ([], string_past_end le run lt)
-  means_arises (array le b es c) = closing_arises le b es c
+  means_arises (array {bound} le b es c) = closing_arises bound le b es c
   means_arises (bound_fault le b) = ([], bound_of_array le b)
   means_arises (struct le fs) = tt
   means_arises (struct_fault le fs) = let h = fields_arise no_field_before fs in (h.0, in_struct le h.1)
   means_arises (union le fs) = tt
-  means_arises (union_fault le fs) = alternatives_arise le no_miss_before fs
+  means_arises (union_fault {name} le fs) = alternatives_arise name le no_miss_before fs
 
-  closing_arises : {bits : List ℕ} {ty : PokeType} {bound : Bound} {order : Order} {extent : Extent} {levels inside : Levels} {s n pn k j k' j' : ℕ} {r : Result Value FaultAt} → s ≤ length bits → extent_of bound levels s ≡ Ok extent → Elements bits ty order s extent 0 (opened levels) s n inside pn k j → Closing bits ty order s extent n inside pn r k' j' → OfFault (Arises bits (ArrayOf ty bound) order levels s) r
-  closing_arises le b es (none_due over met) = tt
-  closing_arises le b es (beyond_size over met) = ([], size_of_array le b es over met)
-  closing_arises {n} le b es (no_bits due m e) = (n ∷ [], element_of_no_bits le b es due m e)
-  closing_arises le b es (ends_without due m e) = tt
-  closing_arises {n} le b es (element_fault due m e) = let h = means_arises m in (n ∷ h.0, in_element le b es due e h.1)
+  closing_arises : (bound : Bound) {bits : List ℕ} {ty : PokeType} {order : Order} {extent : Extent} {levels inside : Levels} {s n pn k j k' j' : ℕ} {r : Result Value FaultAt} → s ≤ length bits → extent_of bound levels s ≡ Ok extent → Elements bits ty order s extent 0 (opened levels) s n inside pn k j → Closing bits ty order s extent n inside pn r k' j' → OfFault (Arises bits (ArrayOf ty bound) order levels s) r
+  closing_arises bound le b es (none_due over met) = tt
+  closing_arises bound le b es (beyond_size over met) = ([], size_of_array le b es over met)
+  closing_arises bound {n} le b es (no_bits due m e) = (n ∷ [], element_of_no_bits le b es due m e)
+  closing_arises bound le b es (ends_without due m e) = tt
+  closing_arises bound {n} le b es (element_fault due m e) = let h = means_arises m in (n ∷ h.0, in_element le b es due e h.1)
 
   part_arises : {bits : List ℕ} {ty : PokeType} {c : Option Term} {order : Order} {levels : Levels} {s : ℕ} {r : Result Value FaultAt} {k j : ℕ} → PartMeans bits ty c order levels s r k j → OfFault (PartArises bits ty c order levels s) r
   part_arises (part m e) = tt
@@ -68,11 +68,11 @@ mutual
   fields_arise {i} before (label_fault c st) = (i ∷ [], label_of_field before c st)
   fields_arise {i} before (field_fault c st m) = let h = part_arises m in (i ∷ h.0, in_field before c st h.1)
 
-  alternatives_arise : {bits : List ℕ} {name : Naming} {alternatives rest : Parts} {order : Order} {levels : Levels} {s i index k j : ℕ} {r : Result Taken FaultAt} → s ≤ length bits → MissesBefore bits order alternatives (opened levels) s i rest → AlternativesMean bits rest index order (opened levels) s r k j → OfFault (Arises bits (UnionOf name alternatives) order levels s) r
-  alternatives_arise le before none_left = ([], none_fits le before)
-  alternatives_arise le before (fits m) = tt
-  alternatives_arise le before (misses_it m e fs) = alternatives_arise le (miss_before before m e) fs
-  alternatives_arise {i} le before (other_fault m e) = let h = part_arises m in (i ∷ h.0, in_alternative le before e h.1)
+  alternatives_arise : (name : Naming) {bits : List ℕ} {alternatives rest : Parts} {order : Order} {levels : Levels} {s i index k j : ℕ} {r : Result Taken FaultAt} → s ≤ length bits → MissesBefore bits order alternatives (opened levels) s i rest → AlternativesMean bits rest index order (opened levels) s r k j → OfFault (Arises bits (UnionOf name alternatives) order levels s) r
+  alternatives_arise name le before none_left = ([], none_fits le before)
+  alternatives_arise name le before (fits m) = tt
+  alternatives_arise name le before (misses_it m e fs) = alternatives_arise name le (miss_before before m e) fs
+  alternatives_arise name {i} le before (other_fault m e) = let h = part_arises m in (i ∷ h.0, in_alternative le before e h.1)
 
 pub faults_arise : FaultsArise
 faults_arise bits ty order levels s f k j m = let h = means_arises m in record { path = h.0; arises = h.1 }

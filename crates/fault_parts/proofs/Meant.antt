@@ -22,7 +22,7 @@ somehow k j h = record { steps = k; made = j; holds = h }
 abbrev DigitsFault : Parts → (n left : ℕ) → Levels → (s : ℕ) → FaultAt → Type 0
 DigitsFault fields n left levels s f = Somehow (DigitsMean fields n left levels s (Err f))
 
-digits_from : {fields rest : Parts} {n width left i : ℕ} {levels inside : Levels} {s : ℕ} {f : FaultAt} → DigitsBefore n s fields width levels i rest left inside → DigitsFault rest n left inside s f → DigitsFault fields n width levels s f
+digits_from : {n s : ℕ} {fields : Parts} {width : ℕ} {levels : Levels} {i : ℕ} {rest : Parts} {left : ℕ} {inside : Levels} {f : FaultAt} → DigitsBefore n s fields width levels i rest left inside → DigitsFault rest n left inside s f → DigitsFault fields n width levels s f
 digits_from no_digits_before h = h
 digits_from (digits_before before m e) h = digits_from before (somehow _ _ (next_digits m e h.holds))
 
@@ -41,7 +41,7 @@ mutual
 abbrev FieldsFault : List ℕ → Bool → (s : ℕ) → Fields → Order → Levels → (behind : ℕ) → FaultAt → Type 0
 FieldsFault bits pinned s fields order levels behind f = (top : ℕ) → Somehow (FieldsMean bits pinned s fields order levels behind top (Err f))
 
-fields_from : {bits : List ℕ} {pinned : Bool} {s : ℕ} {order : Order} {fields rest : Fields} {levels inside : Levels} {i behind : ℕ} {f : FaultAt} → FieldsBefore bits pinned s order fields levels i rest inside behind → FieldsFault bits pinned s rest order inside behind f → FieldsFault bits pinned s fields order levels s f
+fields_from : {bits : List ℕ} {pinned : Bool} {s : ℕ} {order : Order} {fields : Fields} {levels : Levels} {i : ℕ} {rest : Fields} {inside : Levels} {behind : ℕ} {f : FaultAt} → FieldsBefore bits pinned s order fields levels i rest inside behind → FieldsFault bits pinned s rest order inside behind f → FieldsFault bits pinned s fields order levels s f
 fields_from no_field_before h = h
 fields_from (absent_before before c) h = fields_from before (λ top. somehow _ _ (absent c (h top).holds))
 fields_from (value_before {v} before c st m) h = fields_from before (λ top. somehow _ _ (field c st m (h (max top (end_of v))).holds))
@@ -50,7 +50,7 @@ fields_from (value_before {v} before c st m) h = fields_from before (λ top. som
 abbrev AlternativesFault : List ℕ → Parts → Order → Levels → (s : ℕ) → FaultAt → Type 0
 AlternativesFault bits alternatives order levels s f = (index : ℕ) → Somehow (AlternativesMean bits alternatives index order levels s (Err f))
 
-alternatives_from : {bits : List ℕ} {order : Order} {alternatives rest : Parts} {levels : Levels} {s i : ℕ} {f : FaultAt} → MissesBefore bits order alternatives levels s i rest → AlternativesFault bits rest order levels s f → AlternativesFault bits alternatives order levels s f
+alternatives_from : {bits : List ℕ} {order : Order} {alternatives : Parts} {levels : Levels} {s i : ℕ} {rest : Parts} {f : FaultAt} → MissesBefore bits order alternatives levels s i rest → AlternativesFault bits rest order levels s f → AlternativesFault bits alternatives order levels s f
 alternatives_from no_miss_before h = h
 alternatives_from (miss_before before m e) h = alternatives_from before (λ index. somehow _ _ (misses_it m e (h (index + 1)).holds))
 

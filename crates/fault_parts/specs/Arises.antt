@@ -40,15 +40,15 @@ mutual
         → NumberArises (IntegralOf name type fields) n levels s f path
 
   -- The fault of the fields of an integral struct arises in one of them, behind i fields that are values.
-  pub data DigitsArise (fields : Parts) (n width : ℕ) (levels : Levels) (s : ℕ) : FaultAt → Path → Type 0 where
+  pub data DigitsArise : Parts → (n width : ℕ) → Levels → (s : ℕ) → FaultAt → Path → Type 0 where
     -- its constraint is 0 or has a fault
-    digits_constraint : {name : Naming} {order : Option ByteOrder} {ty : PokeType} {c : Option Term} {rest : Parts} {i left k j : ℕ} {inside : Levels} {v : Value} {f : FaultAt}
+    digits_constraint : {name : Naming} {order : Option ByteOrder} {ty : PokeType} {c : Option Term} {fields rest : Parts} {n width s i left k j : ℕ} {levels inside : Levels} {v : Value} {f : FaultAt}
         → DigitsBefore n s fields width levels i (PartThen name order ty c rest) left inside
         → NumberMeans ty (first_digits n left (width_in (number_type ty))) inside s (Ok v) k j
         → constraint c (pushed inside (Some v)) s ≡ Err f
         → DigitsArise fields n width levels s f (i ∷ [])
     -- it has a fault itself
-    digits_inside : {name : Naming} {order : Option ByteOrder} {ty : PokeType} {c : Option Term} {rest : Parts} {i left : ℕ} {inside : Levels} {f : FaultAt} {path : Path}
+    digits_inside : {name : Naming} {order : Option ByteOrder} {ty : PokeType} {c : Option Term} {fields rest : Parts} {n width s i left : ℕ} {levels inside : Levels} {f : FaultAt} {path : Path}
         → DigitsBefore n s fields width levels i (PartThen name order ty c rest) left inside
         → NumberArises ty (first_digits n left (width_in (number_type ty))) inside s f path
         → DigitsArise fields n width levels s f (i ∷ path)
@@ -165,20 +165,20 @@ mutual
         → PartArises bits ty c order levels s f path
 
   -- The fault of the fields of a struct at s arises in one of them, behind i fields that are absent or values.
-  pub data FieldsArise (bits : List ℕ) (pinned : Bool) (s : ℕ) (order : Order) (fields : Fields) (levels : Levels) : FaultAt → Path → Type 0 where
+  pub data FieldsArise (bits : List ℕ) : (pinned : Bool) → (s : ℕ) → Order → Fields → Levels → FaultAt → Path → Type 0 where
     -- its condition has a fault
-    condition_of_field : {name : Naming} {set : Option ByteOrder} {ty : PokeType} {c label when : Option Term} {rest : Fields} {i behind : ℕ} {inside : Levels} {f : FaultAt}
+    condition_of_field : {pinned : Bool} {name : Naming} {set : Option ByteOrder} {ty : PokeType} {c label when : Option Term} {fields rest : Fields} {order : Order} {s i behind : ℕ} {levels inside : Levels} {f : FaultAt}
         → FieldsBefore bits pinned s order fields levels i (FieldThen name set ty c label when rest) inside behind
         → condition when inside s ≡ Err f
         → FieldsArise bits pinned s order fields levels f (i ∷ [])
     -- its label has a fault or is negative
-    label_of_field : {name : Naming} {set : Option ByteOrder} {ty : PokeType} {c label when : Option Term} {rest : Fields} {i behind : ℕ} {inside : Levels} {f : FaultAt}
+    label_of_field : {pinned : Bool} {name : Naming} {set : Option ByteOrder} {ty : PokeType} {c label when : Option Term} {fields rest : Fields} {order : Order} {s i behind : ℕ} {levels inside : Levels} {f : FaultAt}
         → FieldsBefore bits pinned s order fields levels i (FieldThen name set ty c label when rest) inside behind
         → condition when inside s ≡ Ok true
         → field_start pinned label inside s behind ≡ Err f
         → FieldsArise bits pinned s order fields levels f (i ∷ [])
     -- it has a fault, or its constraint is 0
-    in_field : {name : Naming} {set : Option ByteOrder} {ty : PokeType} {c label when : Option Term} {rest : Fields} {i behind p : ℕ} {inside : Levels} {f : FaultAt} {path : Path}
+    in_field : {pinned : Bool} {name : Naming} {set : Option ByteOrder} {ty : PokeType} {c label when : Option Term} {fields rest : Fields} {order : Order} {s i behind p : ℕ} {levels inside : Levels} {f : FaultAt} {path : Path}
         → FieldsBefore bits pinned s order fields levels i (FieldThen name set ty c label when rest) inside behind
         → condition when inside s ≡ Ok true
         → field_start pinned label inside s behind ≡ Ok p
