@@ -1,2 +1,3 @@
-pub mod Arising
+pub mod Faults
 pub mod Meant
+mod Rows

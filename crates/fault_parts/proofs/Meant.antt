@@ -5,14 +5,9 @@ use Rattle.pickle_types.specs.Types.{Term, PokeType, Fields, Parts}
 use Rattle.pickle_map.specs.Values.{Value, end_of, Levels, opened}
 use Rattle.pickle_map.specs.Clauses.{FaultAt}
 use Rattle.pickle_map.specs.Means.{Means, past_end, number_read, number_end, string_end, array, bound_fault, struct_fault, union_fault, NumberMeans, integral_fault, no_number, DigitsMean, next_digits, digits_refused, digits_fault, Closing, beyond_size, no_bits, element_fault, PartMeans, part_refused, part_fault, FieldsMean, absent, field, condition_fault, label_fault, field_fault, AlternativesMean, none_left, misses_it, other_fault}
-use Rattle.fault_parts.specs.Arises.{Path, DigitsBefore, no_digits_before, digits_before, NumberArises, is_no_number, in_digits, DigitsArise, digits_constraint, digits_inside, FieldsBefore, no_field_before, absent_before, value_before, MissesBefore, no_miss_before, miss_before, Arises, starts_past_end, number_past_end, string_past_end, bound_of_array, size_of_array, element_of_no_bits, in_element, in_struct, in_number, none_fits, in_alternative, PartArises, constraint_of_part, in_part, FieldsArise, condition_of_field, label_of_field, in_field}
-use Rattle.fault_parts.specs.Laws.{MeansFault, ArisingIsMeant}
-
--- a relation that holds with some steps and values made
-record Somehow (P : (steps made : ℕ) → Type 0) : Type 0 where
-  steps : ℕ
-  made : ℕ
-  holds : P steps made
+use Rattle.fault_parts.specs.Arises.{Path, DigitsBefore, no_digits_before, digits_before, NumberArises, is_no_number, in_digits, DigitsArise, digits_constraint, digits_inside, FieldsBefore, no_field_before, absent_before, value_before, MissesBefore, no_miss_before, miss_before, Arises, starts_past_end, number_past_end, string_past_end, bound_of_array, in_array, ElementsArise, past_size, of_no_bits, in_element, in_struct, in_number, in_union, PartArises, constraint_of_part, in_part, FieldsArise, condition_of_field, label_of_field, in_field, AlternativesArise, none_fits, in_alternative}
+use Rattle.fault_parts.specs.Somehow.{Somehow}
+use Rattle.fault_parts.specs.Laws.{ArisingIsMeant}
 
 somehow : {P : (steps made : ℕ) → Type 0} (k j : ℕ) → P k j → Somehow P
 somehow k j h = record { steps = k; made = j; holds = h }
@@ -62,16 +57,12 @@ mutual
   means_fault (number_past_end le e lt) = somehow _ _ (number_end le e lt)
   means_fault (string_past_end le run lt) = somehow _ _ (string_end le run lt)
   means_fault (bound_of_array le b) = somehow _ _ (bound_fault le b)
-  means_fault (size_of_array le b es over met) = somehow _ _ (array le b es (beyond_size over met))
-  means_fault (element_of_no_bits le b es due m e) = somehow _ _ (array le b es (no_bits due m e))
-  means_fault (in_element le b es due e h) = let m = means_fault h in somehow _ _ (array le b es (element_fault due m.holds e))
+  means_fault (in_array le b (past_size es over met)) = somehow _ _ (array le b es (beyond_size over met))
+  means_fault (in_array le b (of_no_bits es due m e)) = somehow _ _ (array le b es (no_bits due m e))
+  means_fault (in_array le b (in_element es due e h)) = let m = means_fault h in somehow _ _ (array le b es (element_fault due m.holds e))
   means_fault (in_struct {s} le h) = let m = fields_fault h s in somehow _ _ (struct_fault le m.holds)
   means_fault (in_number le e inside h) = let m = number_meant h in somehow _ _ (number_read le e inside m.holds)
-  means_fault (none_fits le before) = let m = alternatives_from before (λ index. somehow _ _ none_left) 0 in somehow _ _ (union_fault le m.holds)
-  means_fault (in_alternative le before e h) =
-      let p = part_fault_of h in
-      let m = alternatives_from before (λ index. somehow _ _ (other_fault p.holds e)) 0 in
-      somehow _ _ (union_fault le m.holds)
+  means_fault (in_union le h) = let m = alternatives_fault h 0 in somehow _ _ (union_fault le m.holds)
 
   part_fault_of : {bits : List ℕ} {ty : PokeType} {c : Option Term} {order : Order} {levels : Levels} {s : ℕ} {f : FaultAt} {path : Path} → PartArises bits ty c order levels s f path → Somehow (PartMeans bits ty c order levels s (Err f))
   part_fault_of (constraint_of_part m e) = somehow _ _ (part_refused m e)
@@ -82,5 +73,9 @@ mutual
   fields_fault (label_of_field before c st) = fields_from before (λ top. somehow _ _ (label_fault c st))
   fields_fault (in_field before c st h) = let m = part_fault_of h in fields_from before (λ top. somehow _ _ (field_fault c st m.holds))
 
+  alternatives_fault : {bits : List ℕ} {order : Order} {alternatives : Parts} {levels : Levels} {s : ℕ} {f : FaultAt} {path : Path} → AlternativesArise bits order alternatives levels s f path → AlternativesFault bits alternatives order levels s f
+  alternatives_fault (none_fits before) = alternatives_from before (λ index. somehow _ _ none_left)
+  alternatives_fault (in_alternative before e h) = let p = part_fault_of h in alternatives_from before (λ index. somehow _ _ (other_fault p.holds e))
+
 pub arising_meant : ArisingIsMeant
-arising_meant bits ty order levels s f path h = let m = means_fault h in record { steps = m.steps; made = m.made; means = m.holds }
+arising_meant bits ty order levels s f path h = means_fault h

@@ -101,32 +101,12 @@ mutual
         → s ≤ length bits
         → extent_of bound levels s ≡ Err f
         → Arises bits (ArrayOf ty bound) order levels s f []
-    -- an array whose last element ends past its size
-    size_of_array : {ty : PokeType} {bound : Bound} {order : Order} {extent : Extent} {levels inside : Levels} {s n pn k j : ℕ}
+    -- an array, or one of its elements
+    in_array : {ty : PokeType} {bound : Bound} {order : Order} {extent : Extent} {levels : Levels} {s : ℕ} {f : FaultAt} {path : Path}
         → s ≤ length bits
         → extent_of bound levels s ≡ Ok extent
-        → Elements bits ty order s extent 0 (opened levels) s n inside pn k j
-        → is_due extent (length bits) s n pn ≡ false
-        → is_met extent s pn ≡ false
-        → Arises bits (ArrayOf ty bound) order levels s (fault.Bounds, s) []
-    -- an element that is due and takes no bits, behind n elements that are values
-    element_of_no_bits : {ty : PokeType} {bound : Bound} {order : Order} {extent : Extent} {levels inside : Levels} {s n pn k j k' j' : ℕ} {v : Value}
-        → s ≤ length bits
-        → extent_of bound levels s ≡ Ok extent
-        → Elements bits ty order s extent 0 (opened levels) s n inside pn k j
-        → is_due extent (length bits) s n pn ≡ true
-        → Means bits ty order inside pn (Ok v) k' j'
-        → end_of v ≡ pn
-        → Arises bits (ArrayOf ty bound) order levels s (fault.NoBits, pn) (n ∷ [])
-    -- an element that is due and has a fault before which the array doesn't end, behind n elements that are values
-    in_element : {ty : PokeType} {bound : Bound} {order : Order} {extent : Extent} {levels inside : Levels} {s n pn k j : ℕ} {f : FaultAt} {path : Path}
-        → s ≤ length bits
-        → extent_of bound levels s ≡ Ok extent
-        → Elements bits ty order s extent 0 (opened levels) s n inside pn k j
-        → is_due extent (length bits) s n pn ≡ true
-        → ends_before extent f.0 ≡ false
-        → Arises bits ty order inside pn f path
-        → Arises bits (ArrayOf ty bound) order levels s f (n ∷ path)
+        → ElementsArise bits ty order s extent (opened levels) f path
+        → Arises bits (ArrayOf ty bound) order levels s f path
     -- a field of a struct
     in_struct : {name : Naming} {pinned : Bool} {fields : Fields} {order : Order} {levels : Levels} {s : ℕ} {f : FaultAt} {path : Path}
         → s ≤ length bits
@@ -139,18 +119,34 @@ mutual
         → s + type.width ≤ length bits
         → NumberArises ty (number_at bits order s type.width) levels s f path
         → Arises bits ty order levels s f path
-    -- a union whose alternatives all miss
-    none_fits : {name : Naming} {alternatives : Parts} {order : Order} {levels : Levels} {s i : ℕ}
+    -- a union, or one of its alternatives
+    in_union : {name : Naming} {alternatives : Parts} {order : Order} {levels : Levels} {s : ℕ} {f : FaultAt} {path : Path}
         → s ≤ length bits
-        → MissesBefore bits order alternatives (opened levels) s i NoParts
-        → Arises bits (UnionOf name alternatives) order levels s (fault.Constraint, s) []
-    -- an alternative that has a fault other than a miss, behind i that miss
-    in_alternative : {name label : Naming} {alternatives rest : Parts} {set : Option ByteOrder} {ty : PokeType} {c : Option Term} {order : Order} {levels : Levels} {s i : ℕ} {f : FaultAt} {path : Path}
-        → s ≤ length bits
-        → MissesBefore bits order alternatives (opened levels) s i (PartThen label set ty c rest)
-        → misses f.0 ≡ false
-        → PartArises bits ty c (ordered set order) (opened levels) s f path
-        → Arises bits (UnionOf name alternatives) order levels s f (i ∷ path)
+        → AlternativesArise bits order alternatives (opened levels) s f path
+        → Arises bits (UnionOf name alternatives) order levels s f path
+
+  -- The fault of an array at s arises in the array itself, or in one of its elements.
+  pub data ElementsArise (bits : List ℕ) : PokeType → Order → (s : ℕ) → Extent → Levels → FaultAt → Path → Type 0 where
+    -- the last element ends past the array's size
+    past_size : {ty : PokeType} {order : Order} {extent : Extent} {levels inside : Levels} {s n pn k j : ℕ}
+        → Elements bits ty order s extent 0 levels s n inside pn k j
+        → is_due extent (length bits) s n pn ≡ false
+        → is_met extent s pn ≡ false
+        → ElementsArise bits ty order s extent levels (fault.Bounds, s) []
+    -- an element is due and takes no bits, behind n that are values
+    of_no_bits : {ty : PokeType} {order : Order} {extent : Extent} {levels inside : Levels} {s n pn k j k' j' : ℕ} {v : Value}
+        → Elements bits ty order s extent 0 levels s n inside pn k j
+        → is_due extent (length bits) s n pn ≡ true
+        → Means bits ty order inside pn (Ok v) k' j'
+        → end_of v ≡ pn
+        → ElementsArise bits ty order s extent levels (fault.NoBits, pn) (n ∷ [])
+    -- one is due and has a fault before which the array doesn't end, behind n that are values
+    in_element : {ty : PokeType} {order : Order} {extent : Extent} {levels inside : Levels} {s n pn k j : ℕ} {f : FaultAt} {path : Path}
+        → Elements bits ty order s extent 0 levels s n inside pn k j
+        → is_due extent (length bits) s n pn ≡ true
+        → ends_before extent f.0 ≡ false
+        → Arises bits ty order inside pn f path
+        → ElementsArise bits ty order s extent levels f (n ∷ path)
 
   -- The fault of a field or an alternative, with its constraint, arises in the part of it to which the path leads.
   pub data PartArises (bits : List ℕ) : PokeType → Option Term → Order → Levels → (s : ℕ) → FaultAt → Path → Type 0 where
@@ -184,3 +180,16 @@ mutual
         → field_start pinned label inside s behind ≡ Ok p
         → PartArises bits ty c (ordered set order) inside p f path
         → FieldsArise bits pinned s order fields levels f (i ∷ path)
+
+  -- The fault of a union arises in the union itself, or in one of its alternatives.
+  pub data AlternativesArise (bits : List ℕ) : Order → Parts → Levels → (s : ℕ) → FaultAt → Path → Type 0 where
+    -- all alternatives miss
+    none_fits : {alternatives : Parts} {order : Order} {levels : Levels} {s i : ℕ}
+        → MissesBefore bits order alternatives levels s i NoParts
+        → AlternativesArise bits order alternatives levels s (fault.Constraint, s) []
+    -- one has a fault that is no miss, behind i that miss
+    in_alternative : {name : Naming} {set : Option ByteOrder} {ty : PokeType} {c : Option Term} {alternatives rest : Parts} {order : Order} {levels : Levels} {s i : ℕ} {f : FaultAt} {path : Path}
+        → MissesBefore bits order alternatives levels s i (PartThen name set ty c rest)
+        → misses f.0 ≡ false
+        → PartArises bits ty c (ordered set order) levels s f path
+        → AlternativesArise bits order alternatives levels s f (i ∷ path)

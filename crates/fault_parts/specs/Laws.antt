@@ -5,6 +5,7 @@ use Rattle.pickle_types.specs.Types.{PokeType}
 use Rattle.pickle_map.specs.Values.{Levels}
 use Rattle.pickle_map.specs.Clauses.{FaultAt}
 use Rattle.pickle_map.specs.Means.{Means}
+use Rattle.fault_parts.specs.Somehow.{Somehow}
 use Rattle.fault_parts.specs.Arises.{Path, Arises}
 
 -- the fault arises in a part
@@ -16,15 +17,9 @@ pub record ArisesSomewhere (bits : List ℕ) (ty : PokeType) (order : Order) (le
 abbrev pub FaultsArise : Type 0
 FaultsArise = (bits : List ℕ) (ty : PokeType) (order : Order) (levels : Levels) (s : ℕ) (f : FaultAt) (k j : ℕ) → Means bits ty order levels s (Err f) k j → ArisesSomewhere bits ty order levels s f
 
--- the type means the fault, in some steps and with some values made
-pub record MeansFault (bits : List ℕ) (ty : PokeType) (order : Order) (levels : Levels) (s : ℕ) (f : FaultAt) : Type 0 where
-  pub steps : ℕ
-  pub made : ℕ
-  pub means : Means bits ty order levels s (Err f) steps made
-
--- a fault that arises in a part of a type, or in itself, is the one that the type means
+-- a fault that arises in a part of a type, or in itself, is the one that the type means, in some steps and with some values made
 abbrev pub ArisingIsMeant : Type 0
-ArisingIsMeant = (bits : List ℕ) (ty : PokeType) (order : Order) (levels : Levels) (s : ℕ) (f : FaultAt) (path : Path) → Arises bits ty order levels s f path → MeansFault bits ty order levels s f
+ArisingIsMeant = (bits : List ℕ) (ty : PokeType) (order : Order) (levels : Levels) (s : ℕ) (f : FaultAt) (path : Path) → Arises bits ty order levels s f path → Somehow (Means bits ty order levels s (Err f))
 
 -- it arises in one part alone
 abbrev pub ArisesOnce : Type 0

@@ -1,2 +1,3 @@
+pub mod Somehow
 pub mod Arises
 pub mod Laws

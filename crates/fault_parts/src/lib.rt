@@ -1,4 +1,4 @@
-//! The part of a type from which its fault arises.
+//! The part of a type in which its fault arises.
 #![tactic(auto)]
 
 pub mod laws;

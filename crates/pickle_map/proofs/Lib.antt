@@ -6,10 +6,10 @@ mod Rows
 mod Refused
 mod Basics
 mod Equations
-mod Comes
+pub mod Comes
 mod Widths
-mod Planned
-mod Exists
+pub mod Planned
+pub mod Exists
 mod Outcomes
 pub mod OnBits
 pub mod FamilyRows

@@ -1,5 +1,5 @@
 use Rattle.fault_parts.proofs.laws.faults_arise.Goals as goal
-use Rattle.fault_parts.proofs.Arising.{faults_arise}
+use Rattle.fault_parts.proofs.Faults.{faults_arise}
 
 -- src/laws.rt
 pub returns : goal.returns

@@ -7,7 +7,7 @@ use Rattle.pickle_map.specs.declared.faults.MapFaultKind.TheVariants as fault
 use Rattle.pickle_map.specs.Values.{Naming, Value, Levels, opened}
 use Rattle.pickle_map.specs.Clauses.{FaultAt, extent_of, misses}
 use Rattle.pickle_map.specs.Means.{Means, past_end, number_read, number_end, string, string_end, array, bound_fault, struct, struct_fault, union, union_fault, NumberMeans, integer, offset, integral, integral_fault, no_number, DigitsMean, no_digits, next_digits, digits_refused, digits_fault, Elements, Closing, none_due, beyond_size, no_bits, ends_without, element_fault, PartMeans, part, part_refused, part_fault, FieldsMean, all_fields, absent, field, condition_fault, label_fault, field_fault, AlternativesMean, none_left, fits, misses_it, other_fault, Opened, Taken}
-use Rattle.fault_parts.specs.Arises.{Path, DigitsBefore, no_digits_before, digits_before, NumberArises, is_no_number, in_digits, DigitsArise, digits_constraint, digits_inside, FieldsBefore, no_field_before, absent_before, value_before, MissesBefore, no_miss_before, miss_before, Arises, starts_past_end, number_past_end, string_past_end, bound_of_array, size_of_array, element_of_no_bits, in_element, in_struct, in_number, none_fits, in_alternative, PartArises, constraint_of_part, in_part, FieldsArise, condition_of_field, label_of_field, in_field}
+use Rattle.fault_parts.specs.Arises.{Path, DigitsBefore, no_digits_before, digits_before, NumberArises, is_no_number, in_digits, DigitsArise, digits_constraint, digits_inside, FieldsBefore, no_field_before, absent_before, value_before, MissesBefore, no_miss_before, miss_before, Arises, starts_past_end, number_past_end, string_past_end, bound_of_array, in_array, ElementsArise, past_size, of_no_bits, in_element, in_struct, in_number, in_union, PartArises, constraint_of_part, in_part, FieldsArise, condition_of_field, label_of_field, in_field, AlternativesArise, none_fits, in_alternative}
 use Rattle.fault_parts.specs.Laws.{ArisesSomewhere, FaultsArise}
 
 -- a fault has a part from which it arises; of a value nothing is said
@@ -41,19 +41,19 @@ mutual
   means_arises (number_end le e lt) = ([], number_past_end le e lt)
   means_arises (string le run inside e) = tt
   means_arises (string_end le run lt) = ([], string_past_end le run lt)
-  means_arises (array {bound} le b es c) = closing_arises bound le b es c
+  means_arises {r} (array le b es c) = onward r (λ f path. in_array le b) (closing_arises es c)
   means_arises (bound_fault le b) = ([], bound_of_array le b)
   means_arises (struct le fs) = tt
   means_arises (struct_fault le fs) = let h = fields_arise no_field_before fs in (h.0, in_struct le h.1)
   means_arises (union le fs) = tt
-  means_arises (union_fault {name} le fs) = alternatives_arise name le no_miss_before fs
+  means_arises (union_fault le fs) = let h = alternatives_arise no_miss_before fs in (h.0, in_union le h.1)
 
-  closing_arises : (bound : Bound) {bits : List ℕ} {ty : PokeType} {order : Order} {extent : Extent} {levels inside : Levels} {s n pn k j k' j' : ℕ} {r : Result Value FaultAt} → s ≤ length bits → extent_of bound levels s ≡ Ok extent → Elements bits ty order s extent 0 (opened levels) s n inside pn k j → Closing bits ty order s extent n inside pn r k' j' → OfFault (Arises bits (ArrayOf ty bound) order levels s) r
-  closing_arises bound le b es (none_due over met) = tt
-  closing_arises bound le b es (beyond_size over met) = ([], size_of_array le b es over met)
-  closing_arises bound {n} le b es (no_bits due m e) = (n ∷ [], element_of_no_bits le b es due m e)
-  closing_arises bound le b es (ends_without due m e) = tt
-  closing_arises bound {n} le b es (element_fault due m e) = let h = means_arises m in (n ∷ h.0, in_element le b es due e h.1)
+  closing_arises : {bits : List ℕ} {ty : PokeType} {order : Order} {extent : Extent} {levels inside : Levels} {s n pn k j k' j' : ℕ} {r : Result Value FaultAt} → Elements bits ty order s extent 0 levels s n inside pn k j → Closing bits ty order s extent n inside pn r k' j' → OfFault (ElementsArise bits ty order s extent levels) r
+  closing_arises es (none_due over met) = tt
+  closing_arises es (beyond_size over met) = ([], past_size es over met)
+  closing_arises {n} es (no_bits due m e) = (n ∷ [], of_no_bits es due m e)
+  closing_arises es (ends_without due m e) = tt
+  closing_arises {n} es (element_fault due m e) = let h = means_arises m in (n ∷ h.0, in_element es due e h.1)
 
   part_arises : {bits : List ℕ} {ty : PokeType} {c : Option Term} {order : Order} {levels : Levels} {s : ℕ} {r : Result Value FaultAt} {k j : ℕ} → PartMeans bits ty c order levels s r k j → OfFault (PartArises bits ty c order levels s) r
   part_arises (part m e) = tt
@@ -68,11 +68,11 @@ mutual
   fields_arise {i} before (label_fault c st) = (i ∷ [], label_of_field before c st)
   fields_arise {i} before (field_fault c st m) = let h = part_arises m in (i ∷ h.0, in_field before c st h.1)
 
-  alternatives_arise : (name : Naming) {bits : List ℕ} {alternatives rest : Parts} {order : Order} {levels : Levels} {s i index k j : ℕ} {r : Result Taken FaultAt} → s ≤ length bits → MissesBefore bits order alternatives (opened levels) s i rest → AlternativesMean bits rest index order (opened levels) s r k j → OfFault (Arises bits (UnionOf name alternatives) order levels s) r
-  alternatives_arise name le before none_left = ([], none_fits le before)
-  alternatives_arise name le before (fits m) = tt
-  alternatives_arise name le before (misses_it m e fs) = alternatives_arise name le (miss_before before m e) fs
-  alternatives_arise name {i} le before (other_fault m e) = let h = part_arises m in (i ∷ h.0, in_alternative le before e h.1)
+  alternatives_arise : {bits : List ℕ} {alternatives rest : Parts} {order : Order} {levels : Levels} {s i index k j : ℕ} {r : Result Taken FaultAt} → MissesBefore bits order alternatives levels s i rest → AlternativesMean bits rest index order levels s r k j → OfFault (AlternativesArise bits order alternatives levels s) r
+  alternatives_arise before none_left = ([], none_fits before)
+  alternatives_arise before (fits m) = tt
+  alternatives_arise before (misses_it m e fs) = alternatives_arise (miss_before before m e) fs
+  alternatives_arise {i} before (other_fault m e) = let h = part_arises m in (i ∷ h.0, in_alternative before e h.1)
 
 pub faults_arise : FaultsArise
 faults_arise bits ty order levels s f k j m = let h = means_arises m in record { path = h.0; arises = h.1 }
