@@ -4,7 +4,6 @@ use Rattle.pickle_tree.specs.declared.tree.ByteOrder.{ByteOrder}
 use Rattle.pickle_types.specs.declared.integer.IntegerType.{IntegerType}
 use Rattle.pickle_types.specs.Types.{Term, Bound, PokeType, StringOf, ArrayOf, StructOf, IntegralOf, UnionOf, Fields, FieldThen, Parts, NoParts, PartThen}
 use Rattle.bit_space.specs.declared.order.Order.{Order}
-use Rattle.bit_space.specs.declared.order.Order.TheVariants.{Big}
 use Rattle.pickle_map.specs.declared.extent.Extent.{Extent}
 use Rattle.pickle_map.specs.declared.faults.MapFaultKind.TheVariants as fault
 use Rattle.pickle_map.specs.Numbers.{number_at}
