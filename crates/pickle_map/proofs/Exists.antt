@@ -54,7 +54,7 @@ digits_exist_on {c} {levels} {s} more (Ok v) m =
     (λ f e. record { r = _; k = _; j = _; means = digits_refused m e })
 
 mutual
-  pub number_exists : (ty : PokeType) (n : ℕ) (levels : Levels) (s : ℕ) → NumberOutcome ty n levels s
+  number_exists : (ty : PokeType) (n : ℕ) (levels : Levels) (s : ℕ) → NumberOutcome ty n levels s
   number_exists (IntegerOf type) n levels s = record { r = _; k = _; j = _; means = integer }
   number_exists (OffsetOf type unit) n levels s = record { r = _; k = _; j = _; means = offset }
   number_exists StringOf n levels s = record { r = _; k = _; j = _; means = no_number refl }

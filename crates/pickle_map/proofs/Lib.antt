@@ -6,10 +6,10 @@ mod Rows
 mod Refused
 mod Basics
 mod Equations
-pub mod Comes
+mod Comes
 mod Widths
-pub mod Planned
-pub mod Exists
+mod Planned
+mod Exists
 mod Outcomes
 pub mod OnBits
 pub mod FamilyRows

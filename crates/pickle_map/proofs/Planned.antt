@@ -50,7 +50,7 @@ no_number_plan (UnionOf name alternatives) n levels s e = refl
 mutual
   unfolding number_plan
 
-  pub number_comes : {bits : List ℕ} {ty : PokeType} {n : ℕ} {levels : Levels} {s : ℕ} {r : Result Value FaultAt} {k j : ℕ} → NumberMeans ty n levels s r k j → Comes bits (Tick (number_plan ty n levels s)) r k j
+  number_comes : {bits : List ℕ} {ty : PokeType} {n : ℕ} {levels : Levels} {s : ℕ} {r : Result Value FaultAt} {k j : ℕ} → NumberMeans ty n levels s r k j → Comes bits (Tick (number_plan ty n levels s)) r k j
   number_comes integer = comes_tick (comes_made {j = 0} comes_ended)
   number_comes offset = comes_tick (comes_made {j = 0} comes_ended)
   number_comes (integral fs) = comes_as (omega arith) refl (comes_tick (comes_ok _ _ (digits_come fs) (comes_made {j = 0} comes_ended)))

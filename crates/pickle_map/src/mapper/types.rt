@@ -611,7 +611,7 @@ fn map_alternatives<S: Space, W: Watch>(
 }
 
 /// The order of a field: its prefix's, or the one around it.
-pub fn ordered(prefix: Option<ByteOrder>, order: Order) -> Order
+fn ordered(prefix: Option<ByteOrder>, order: Order) -> Order
     ensures { result ≡ ordered prefix order }
 {
     match prefix {

@@ -7,7 +7,7 @@ use crate::store::slots::Marks;
 
 impl Store {
     /// Opens a value, which has no parts yet. As many as 64 may be open.
-    pub fn open_level(&mut self)
+    pub(crate) fn open_level(&mut self)
         requires { length (levels self.old) ≤ 64 }
         ensures levels { levels self.new ≡ [] ∷ levels self.old }
         ensures room { self.new.room ≡ self.old.room }
@@ -30,7 +30,7 @@ impl Store {
     }
 
     /// Gives up the parts of the innermost open value, which stays open. What they took is free again.
-    pub fn clear_level(&mut self)
+    pub(crate) fn clear_level(&mut self)
         ensures levels { levels self.new ≡ [] ∷ outer_of (levels self.old) }
         ensures room { self.new.room ≡ self.old.room }
         ensures depth { length (levels self.new) ≡ length (levels self.old) }
