@@ -1,0 +1,3 @@
+pub mod Somehow
+pub mod Arises
+pub mod Laws

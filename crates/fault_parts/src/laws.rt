@@ -1,0 +1,13 @@
+//! The laws of where a fault arises. These functions do nothing: the contract of each is a law.
+
+ghost use Rattle.fault_parts.specs.Laws.{FaultsArise, ArisingIsMeant};
+
+/// Each fault that a type means on a file's bits arises in a part of it, or in itself.
+pub fn faults_arise()
+    ensures law { FaultsArise }
+{}
+
+/// A fault that arises in a part of a type, or in itself, is the one that the type means.
+pub fn arising_is_meant()
+    ensures law { ArisingIsMeant }
+{}

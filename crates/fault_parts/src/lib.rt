@@ -1,0 +1,4 @@
+//! The part of a type in which its fault arises.
+#![tactic(auto)]
+
+pub mod laws;
