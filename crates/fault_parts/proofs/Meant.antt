@@ -2,9 +2,9 @@
 use Rattle.std.proofs.Common.{ℕ, ◌+◌, max, Bool, List, Option, Err}
 use Rattle.bit_space.specs.declared.order.Order.{Order}
 use Rattle.pickle_types.specs.Types.{Term, PokeType, Fields, Parts}
-use Rattle.pickle_map.specs.Values.{end_of, Levels}
-use Rattle.pickle_map.specs.Clauses.{FaultAt}
-use Rattle.pickle_map.specs.Means.{Means, past_end, number_read, number_end, string_end, array, bound_fault, struct_fault, union_fault, NumberMeans, integral_fault, no_number, DigitsMean, next_digits, digits_refused, digits_fault, beyond_size, no_bits, element_fault, PartMeans, part_refused, part_fault, FieldsMean, absent, field, condition_fault, label_fault, field_fault, AlternativesMean, none_left, misses_it, other_fault}
+use Rattle.pickle_meaning.specs.Values.{end_of, Levels}
+use Rattle.pickle_meaning.specs.Clauses.{FaultAt}
+use Rattle.pickle_meaning.specs.Means.{Means, past_end, number_read, number_end, string_end, array, bound_fault, struct_fault, union_fault, NumberMeans, integral_fault, no_number, DigitsMean, next_digits, digits_refused, digits_fault, beyond_size, no_bits, element_fault, PartMeans, part_refused, part_fault, FieldsMean, absent, field, condition_fault, label_fault, field_fault, AlternativesMean, none_left, misses_it, other_fault}
 use Rattle.fault_parts.specs.Arises.{Path, DigitsBefore, no_digits_before, digits_before, NumberArises, is_no_number, in_digits, DigitsArise, digits_constraint, digits_inside, FieldsBefore, no_field_before, absent_before, value_before, MissesBefore, no_miss_before, miss_before, Arises, starts_past_end, number_past_end, string_past_end, bound_of_array, in_array, past_size, of_no_bits, in_element, in_struct, in_number, in_union, PartArises, constraint_of_part, in_part, FieldsArise, condition_of_field, label_of_field, in_field, AlternativesArise, none_fits, in_alternative}
 use Rattle.fault_parts.specs.Somehow.{Somehow}
 use Rattle.fault_parts.specs.Laws.{ArisingIsMeant}

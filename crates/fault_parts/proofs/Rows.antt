@@ -7,13 +7,13 @@ use Rattle.bit_space.specs.Bits.{bits_of, binary, number, digits, numeral_onto, 
 use Rattle.pickle_tree.specs.declared.tree.Infix.TheVariants.{Less, Divide}
 use Rattle.pickle_types.specs.Types.{Number, Name, Between, InUnit, ByCount, BySize, PokeType, IntegerOf, StringOf, ArrayOf, StructOf, IntegralOf, UnionOf, NoFields, FieldThen, NoParts, PartThen}
 use Rattle.pickle_types.specs.Operators.{divisor_in, greatest_divisor}
-use Rattle.pickle_map.specs.declared.faults.MapFaultKind.TheVariants as fault
-use Rattle.pickle_map.specs.declared.extent.Extent.{Extent}
-use Rattle.pickle_map.specs.Values.{Levels, no_values}
-use Rattle.pickle_map.specs.Arithmetic.{signed_type, unsigned_type, modulo, with_sign, converted, is_signed_in, brought, prefixed, on_common, on_integers, on_bits, on_scaled, combined, to_integer, to_offset, in_unit}
-use Rattle.pickle_map.specs.Evaluation.{and_operand, evaluation}
-use Rattle.pickle_map.specs.Clauses.{FaultAt, constraint, condition, field_start, extent_of}
-use Rattle.pickle_map.specs.Means.{Elements, number_read, integer, struct, all_fields, part, no_more, next_element, no_bytes, next_byte, part_refused}
+use Rattle.pickle_meaning.specs.declared.faults.MapFaultKind.TheVariants as fault
+use Rattle.pickle_meaning.specs.declared.extent.Extent.{Extent}
+use Rattle.pickle_meaning.specs.Values.{Levels, no_values}
+use Rattle.pickle_meaning.specs.Arithmetic.{signed_type, unsigned_type, modulo, with_sign, converted, is_signed_in, brought, prefixed, on_common, on_integers, on_bits, on_scaled, combined, to_integer, to_offset, in_unit}
+use Rattle.pickle_meaning.specs.Evaluation.{and_operand, evaluation}
+use Rattle.pickle_meaning.specs.Clauses.{FaultAt, constraint, condition, field_start, extent_of}
+use Rattle.pickle_meaning.specs.Means.{Elements, number_read, integer, struct, all_fields, part, no_more, next_element, no_bytes, next_byte, part_refused}
 use Rattle.fault_parts.specs.Arises.{Arises, starts_past_end, number_past_end, string_past_end, bound_of_array, in_array, past_size, of_no_bits, in_element, in_struct, in_number, in_union, in_part, constraint_of_part, no_field_before, absent_before, value_before, condition_of_field, label_of_field, in_field, no_digits_before, digits_before, is_no_number, in_digits, digits_constraint, no_miss_before, miss_before, none_fits, in_alternative}
 
 abbrev byte : PokeType

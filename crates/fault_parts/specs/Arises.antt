@@ -4,12 +4,12 @@ use Rattle.pickle_tree.specs.declared.tree.ByteOrder.{ByteOrder}
 use Rattle.pickle_types.specs.declared.integer.IntegerType.{IntegerType}
 use Rattle.pickle_types.specs.Types.{Term, Bound, PokeType, StringOf, ArrayOf, StructOf, IntegralOf, UnionOf, Fields, FieldThen, Parts, NoParts, PartThen}
 use Rattle.bit_space.specs.declared.order.Order.{Order}
-use Rattle.pickle_map.specs.declared.extent.Extent.{Extent}
-use Rattle.pickle_map.specs.declared.faults.MapFaultKind.TheVariants as fault
-use Rattle.pickle_map.specs.Numbers.{number_at}
-use Rattle.pickle_map.specs.Values.{Naming, Value, end_of, Levels, pushed, opened}
-use Rattle.pickle_map.specs.Clauses.{FaultAt, constraint, condition, field_start, extent_of, is_due, is_met, ends_before, misses}
-use Rattle.pickle_map.specs.Means.{ordered, number_type, width_in, first_digits, NumberMeans, Run, Means, Elements, PartMeans}
+use Rattle.pickle_meaning.specs.declared.extent.Extent.{Extent}
+use Rattle.pickle_meaning.specs.declared.faults.MapFaultKind.TheVariants as fault
+use Rattle.pickle_meaning.specs.Numbers.{number_at}
+use Rattle.pickle_meaning.specs.Values.{Naming, Value, end_of, Levels, pushed, opened}
+use Rattle.pickle_meaning.specs.Clauses.{FaultAt, constraint, condition, field_start, extent_of, is_due, is_met, ends_before, misses}
+use Rattle.pickle_meaning.specs.Means.{ordered, number_type, width_in, first_digits, NumberMeans, Run, Means, Elements, PartMeans}
 
 -- A path from a type to a part of it: the place of the part at each step, from 0. That of an element is its number, that of a field or
 -- an alternative the one among those that are declared.

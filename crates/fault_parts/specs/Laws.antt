@@ -2,9 +2,9 @@
 use Rattle.std.specs.Prelude.{◌≡◌, ℕ, List, Err}
 use Rattle.bit_space.specs.declared.order.Order.{Order}
 use Rattle.pickle_types.specs.Types.{PokeType}
-use Rattle.pickle_map.specs.Values.{Levels}
-use Rattle.pickle_map.specs.Clauses.{FaultAt}
-use Rattle.pickle_map.specs.Means.{Means}
+use Rattle.pickle_meaning.specs.Values.{Levels}
+use Rattle.pickle_meaning.specs.Clauses.{FaultAt}
+use Rattle.pickle_meaning.specs.Means.{Means}
 use Rattle.fault_parts.specs.Somehow.{Somehow}
 use Rattle.fault_parts.specs.Arises.{Path, Arises}
 
