@@ -80,14 +80,19 @@ fn put_next<W: Write>(
 const BLOCK: usize = 16;
 
 /// How many plain bytes come first. They are looked at in blocks as far as these are plain, and then one by one.
+#[inline(always)]
 pub fn plain_len(bytes: &[u8]) -> usize
     ensures { result ≡ prefix_len is_plain bytes.now }
 {
+    if bytes.len() < BLOCK {
+        return plain_run(bytes);
+    }
     let blocks = plain_blocks(bytes);
     blocks + plain_run(&bytes[blocks..])
 }
 
 // How many bytes the plain blocks have that come first.
+#[inline(never)]
 fn plain_blocks(bytes: &[u8]) -> usize
     ensures within { result ≤ length bytes.now }
     ensures plain { prefix_len is_plain bytes.now ≡ result + prefix_len is_plain (drop result bytes.now) }

@@ -1,4 +1,4 @@
-use Rattle.std.proofs.Common.{rules, ◌≡◌, ◌+◌, ◌≤◌, true, length, sym, ◌∙◌, arith}
+use Rattle.std.proofs.Common.{rules, ◌≡◌, ◌+◌, ◌≤◌, true, length, arith}
 use Rattle.std.specs.List.{list_all, slice_range}
 use Rattle.value_text.specs.ValueText.{is_plain}
 use Rattle.value_text.proofs.StringTexts.{plain_block}

@@ -9,4 +9,4 @@ pub overflow_add-result : goal.overflow_add-result
 overflow_add-result c =
     let bytes = c.args.bytes.now in
     let rest = ap (prefix_len is_plain) (take_rest bytes c.plain_blocks-blocks.result) in
-    omega (arith, c.plain_blocks-blocks.ensures.plain, c.plain_run.ensures, rest, prefix_len-le-length is_plain bytes, c.type_inv.bytes)
+    omega (arith, c.plain_blocks-blocks.ensures.plain, c.plain_run-2.ensures, rest, prefix_len-le-length is_plain bytes)
