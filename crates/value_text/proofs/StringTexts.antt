@@ -1,9 +1,10 @@
 -- Laws of the texts of strings.
-use Rattle.std.proofs.Common.{◌≡◌, ℕ, suc, ◌+◌, ◌-◌, ◌<◌, ◌≤◌, Option, List, [], ◌∷◌, ◌++◌, take, drop, length, refl, sym, ◌∙◌, ap, subst, arith, inl, inr}
+use Rattle.std.proofs.Common.{◌≡◌, ℕ, suc, true, ◌+◌, ◌-◌, ◌<◌, ◌≤◌, Option, List, [], ◌∷◌, ◌++◌, take, drop, length, refl, sym, ◌∙◌, ap, subst, arith, inl, inr}
 use Rattle.std.specs.Prelude.{slice_index}
-use Rattle.std.specs.List.{prefix_len}
-use Rattle.std.proofs.lemmas.Bool.{cases_Bool}
-use Rattle.std.proofs.lemmas.List.{append_assoc, take-append-drop, drop-drop, take_rest, length-drop}
+use Rattle.std.specs.List.{list_all, prefix_len, slice_range}
+use Rattle.std.proofs.lemmas.Bool.{cases_Bool, false≢true}
+use Rattle.std.proofs.lemmas.List.{append_assoc, take-append-drop, drop-drop, take_rest, length-take, length-drop}
+use Rattle.std.proofs.lemmas.List.Folds.{drop_split}
 use Rattle.text_forms.specs.Written.{AppendsPart}
 use Rattle.value_text.specs.Gathered.{Gathers}
 use Rattle.value_text.specs.ValueText.{spelled, spelled_byte, is_plain}
@@ -29,6 +30,22 @@ plain_text escape (b ∷ bytes) = elim (cases_Bool (is_plain b)) [
 
 pub plain_then : (escape : ℕ → List ℕ) (bytes : List ℕ) → spelled escape bytes ≡ take (prefix_len is_plain bytes) bytes ++ spelled escape (drop (prefix_len is_plain bytes) bytes)
 plain_then escape bytes = bytes_split escape (prefix_len is_plain bytes) bytes ∙ ap (λ s. s ++ spelled escape (drop (prefix_len is_plain bytes) bytes)) (plain_text escape bytes)
+
+-- plain bytes before others
+plain_before : (xs ys : List ℕ) → list_all is_plain xs ≡ true → prefix_len is_plain (xs ++ ys) ≡ length xs + prefix_len is_plain ys
+plain_before [] ys e = omega arith
+plain_before (x ∷ xs) ys e = elim (cases_Bool (is_plain x)) [
+  | inl hit ↦ rw hit (omega (arith, plain_before xs ys (rw hit at e)))
+  | inr miss ↦ absurd (false≢true (rw miss at e))
+]
+
+-- a plain block more
+pub plain_block : (bytes : List ℕ) (n m : ℕ) → n + m ≤ length bytes → prefix_len is_plain bytes ≡ n + prefix_len is_plain (drop n bytes) → list_all is_plain (slice_range bytes n (n + m)) ≡ true
+    → prefix_len is_plain bytes ≡ n + m + prefix_len is_plain (drop (n + m) bytes)
+plain_block bytes n m le so_far e =
+    let size : length (slice_range bytes n (n + m)) ≡ m = omega (arith, length-take (n + m - n) (drop n bytes), length-drop n bytes, le) in
+    let more = ap (prefix_len is_plain) (drop_split bytes n (n + m) (omega arith)) ∙ plain_before (slice_range bytes n (n + m)) (drop (n + m) bytes) e in
+    omega (arith, so_far, more, size)
 
 -- a first byte that isn't plain
 pub escape_then : (escape : ℕ → List ℕ) (bytes : List ℕ) → prefix_len is_plain bytes ≡ 0 → 0 < length bytes → spelled escape bytes ≡ escape (slice_index bytes 0) ++ spelled escape (drop 1 bytes)

@@ -1,6 +1,6 @@
 //! Prints strings.
-ghost use Rattle.std.specs.Prelude.{◌≡◌, ◌<◌, ◌≤◌, ◌++◌, false, take, length, slice_index, IfOk, OnErr, OnOk};
-ghost use Rattle.std.specs.List.{prefix_len};
+ghost use Rattle.std.specs.Prelude.{◌≡◌, ◌+◌, ◌<◌, ◌≤◌, ◌++◌, false, take, drop, length, slice_index, IfOk, OnErr, OnOk};
+ghost use Rattle.std.specs.List.{list_all, prefix_len};
 ghost use Rattle.text_forms.specs.Written.{AppendsPart};
 ghost use Rattle.value_text.specs.Gathered.{Gathers};
 ghost use Rattle.value_text.specs.ValueText.{string_text, is_plain};
@@ -76,8 +76,50 @@ fn put_next<W: Write>(
     }
 }
 
-/// How many plain bytes come first.
+/// How many bytes are looked at together.
+const BLOCK: usize = 16;
+
+/// How many plain bytes come first. They are looked at in blocks as far as these are plain, and then one by one.
+#[inline(always)]
 pub fn plain_len(bytes: &[u8]) -> usize
+    ensures { result ≡ prefix_len is_plain bytes.now }
+{
+    if bytes.len() < BLOCK {
+        return plain_run(bytes);
+    }
+    let blocks = plain_blocks(bytes);
+    blocks + plain_run(&bytes[blocks..])
+}
+
+// How many bytes the plain blocks have that come first.
+#[inline(never)]
+fn plain_blocks(bytes: &[u8]) -> usize
+    ensures within { result ≤ length bytes.now }
+    ensures plain { prefix_len is_plain bytes.now ≡ result + prefix_len is_plain (drop result bytes.now) }
+{
+    let mut done = 0;
+    while bytes.len() - done >= BLOCK {
+        if !is_plain_block(&bytes[done..done + BLOCK]) {
+            return done;
+        }
+        done += BLOCK;
+    }
+    done
+}
+
+// Whether all bytes of a block are plain. Each is looked at, whatever the others are, so that no branch stands between two.
+#[inline(always)]
+fn is_plain_block(block: &[u8]) -> bool
+    ensures { result ≡ list_all is_plain block.now }
+{
+    let mut plain = true;
+    for byte in block {
+        plain &= is_plain(*byte);
+    }
+    plain
+}
+
+fn plain_run(bytes: &[u8]) -> usize
     ensures { result ≡ prefix_len is_plain bytes.now }
 {
     bytes.iter().take_while(|byte| is_plain(**byte)).count()
