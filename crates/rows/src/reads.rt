@@ -28,10 +28,13 @@ type T = union { byte a : a == 2; byte b : b == 2; };
 type E = struct { byte v : v != 0; }; type A = struct { E[] es; byte z; };
   A 0 big 000000 | 26 7 | fault End at 24#b"#;
 
-/// Two pages, and fifty.
+/// Two pages, fifty, and ten.
 const PAGES: &str = r#"type T = byte[];
   T 0 big «0..8190 01»1234 | 16385 8193 | [«0..8190 1UB,»18UB,52UB]
-  T 0 big «0..204798 01»1234 | 409601 204801 | [«0..204798 1UB,»18UB,52UB]"#;
+  T 0 big «0..204798 01»1234 | 409601 204801 | [«0..204798 1UB,»18UB,52UB]
+
+type T = string[];
+  T 0 big «0..40960 00» | 122881 40961 | [«0..40959 "",»""]"#;
 
 /// A number whose bytes are in two pages.
 const ACROSS: &str = r#"

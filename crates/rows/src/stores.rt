@@ -4,7 +4,7 @@ ghost use Rattle.std.specs.Prelude.{◌≡◌, OnOk};
 ghost use Rattle.value_store.specs.Slots.{empty};
 
 use crate::mappings::{
-    LIMIT, expect, expect_mapped, fault_text, space_of, table_of, text, type_of,
+    LIMIT, expect, expect_mapped, fault_text, map_row, space_of, table_of, text, type_of,
 };
 use crate::tables::{Row, read_rows};
 use bit_space::Meter;
@@ -26,6 +26,27 @@ type T = struct { byte n; struct { byte[n] d; byte; } body; };
 /// A string behind one that is given up.
 const SECOND_STRING: &str = r#"type T = union { string a : 0 != 0; string b; };
   T 0 big «0..1000 61»00 | 2010 2003 | T {b="«0..1000 a»"}"#;
+
+/// Elements of which the last is given up.
+const ELEMENTS: &str = r#"type E = struct { byte v : v != 0; }; type A = struct { E[] es; byte z; };
+  A 0 big 050600 | 26 8 | A {es=[E {v=5UB},E {v=6UB}],z=0UB}"#;
+
+/// Elements whose first alternative is given up.
+const UNIONS: &str = r#"type U = union { ushort a : a == 1; byte b; }; type T = U[];
+  T 0 big 020304 | 23 7 | [U {b=2UB},U {b=3UB}]"#;
+
+/// Slots of each kind, and what is mapped in them. The bounds are 1005, 21 and 17.
+const ROOMS: [(usize, &str); 5] = [
+    (1005, SECOND_STRING),
+    (21, ELEMENTS),
+    (105, ELEMENTS),
+    (17, UNIONS),
+    (1_100_000, ELEMENTS),
+];
+
+/// An array that takes a slot for each element, and one for itself.
+const THREE: &str = r#"type T = byte[3];
+  T 0 big 010203 | 8 4 | [1UB,2UB,3UB]"#;
 
 // Maps a row, and clears the store after a value alone.
 fn map_and_empty(
@@ -69,14 +90,39 @@ fn maps_after_a_value_and_after_a_fault(rt: HostRuntime) -> Result<(), Fail> {
     Ok(())
 }
 
-// An alternative that is given up gives its bytes back: the bound has room for one string alone.
+// What an attempt took is given back before the next one, so a store has room for what is kept: one that never grows, too.
 #[test]
-fn gives_back_what_an_alternative_took(rt: HostRuntime) -> Result<(), Fail> {
+fn maps_in_so_many_slots(rt: HostRuntime) -> Result<(), Fail> {
     let alloc = rt.alloc();
-    for row in &read_rows(alloc, SECOND_STRING)? {
+    for (slots, rows) in ROOMS {
+        for row in &read_rows(alloc, rows)? {
+            let table = table_of(alloc, row.pickle)?;
+            let mut space = space_of(alloc, row)?;
+            let mut growing = Store::with_room(alloc, slots)?;
+            expect_mapped(&rt, alloc, &table, row, &mut space, &mut growing)?;
+            let mut fixed = Store::with_most(alloc, slots)?;
+            expect_mapped(&rt, alloc, &table, row, &mut space, &mut fixed)?;
+        }
+    }
+    Ok(())
+}
+
+#[test]
+fn counts_up_to_what_has_no_slot(rt: HostRuntime) -> Result<(), Fail> {
+    let alloc = rt.alloc();
+    for row in &read_rows(alloc, THREE)? {
         let table = table_of(alloc, row.pickle)?;
-        let mut store = Store::with_room(alloc, 1005)?;
         let mut space = space_of(alloc, row)?;
+        for (slots, steps) in [(0, 4), (1, 6), (2, 8), (3, 8)] {
+            let mut store = Store::with_most(alloc, slots)?;
+            let mut meter = Meter::new(LIMIT);
+            let said = map_row(alloc, &table, row, &mut space, &mut meter, &mut store)?;
+            assert_eq!(rt; said.as_str(), "fault Memory at 0#b");
+            assert_eq!(rt; meter.steps(), steps);
+            assert!(rt; meter.made() <= row.made);
+            assert!(rt; store.root(&table).is_none());
+        }
+        let mut store = Store::with_most(alloc, 4)?;
         expect_mapped(&rt, alloc, &table, row, &mut space, &mut store)?;
     }
     Ok(())

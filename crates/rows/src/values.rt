@@ -33,6 +33,19 @@ const PARTS: &str = "\
     9: Struct 112 0; 0 false 0 0; ; 0; -; -\n\
     10: nothing";
 
+/// Values of 16 bits: what was read and given up isn't theirs, and fields may share bits.
+const SIXTEEN_BITS: &str = r#"type T = uint<16>[];
+  T 0 big 000102 | 5 2 | [1UH]
+
+type T = struct { byte n; byte back @ 0#B; byte next; };
+  T 0 big 0708 | 9 4 | T {n=7UB,back=7UB,next=8UB}
+
+type T = pinned struct { uint<16> w; byte hi; };
+  T 0 big 1234 | 5 3 | T {w=4660UH,hi=18UB}
+
+type R = byte[2]; type T = R[];
+  T 0 big 010203 | 15 5 | [[1UB,2UB]]"#;
+
 /// The part at a place of the root, as `3`, or at a place of that, as `6 1`.
 fn part_at<'a>(root: ValueRef<'a>, path: &str) -> Result<Option<ValueRef<'a>>, Fail> {
     if path == "root" {
@@ -97,6 +110,24 @@ fn reads_each_part(rt: HostRuntime) -> Result<(), Fail> {
                 }
                 None => assert_eq!(rt; told, "nothing", "at {path}"),
             }
+        }
+    }
+    Ok(())
+}
+
+#[test]
+fn tells_sizes(rt: HostRuntime) -> Result<(), Fail> {
+    let alloc = rt.alloc();
+    for row in &read_rows(alloc, SIXTEEN_BITS)? {
+        let table = table_of(alloc, row.pickle)?;
+        let mut space = space_of(alloc, row)?;
+        let mut packing = Store::new(alloc);
+        expect_mapped(&rt, alloc, &table, row, &mut space, &mut packing)?;
+        let mut counting = Store::with_room(alloc, 100)?;
+        expect_mapped(&rt, alloc, &table, row, &mut space, &mut counting)?;
+        for store in [&packing, &counting] {
+            let root = store.root(&table).ok_or("no value")?;
+            assert_eq!(rt; root.size(), 16, "{}", row.line);
         }
     }
     Ok(())

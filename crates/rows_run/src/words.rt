@@ -1,8 +1,8 @@
 //! The words of command lines. A word `""` is empty.
 
-use poke_batch::words::{Job, WordFault, read_words};
+use poke_batch::words::{WordFault, read_words};
 use rows_kit::text::bytes_of;
-use std::alloc::{AllocError, Global};
+use std::alloc::Global;
 use std::test::Fail;
 
 /// Words, and the job that they ask for.
@@ -11,6 +11,8 @@ check - ==> Check { pickle: "-" }
 check p ==> Check { pickle: "p" }
 types p ==> Types { pickle: "p" }
 bound p T 25 ==> Bound { pickle: "p", name: "T", bits: 25 }
+bound p T 4294967321 ==> Bound { pickle: "p", name: "T", bits: 4294967321 }
+bound p T 18446744073709551615 ==> Bound { pickle: "p", name: "T", bits: 18446744073709551615 }
 bound --text p T 25 ==> BoundText { pickle: "p", name: "T", bits: 25, mode: None }
 bound p --text T --mode tree 25 ==> BoundText { pickle: "p", name: "T", bits: 25, mode: Some(Tree) }
 dump f ==> Dump { from: 0, size: 128, ruler: true, file: "f" }
@@ -119,26 +121,4 @@ fn helps(rt: HostRuntime) -> Result<(), Fail> {
         }
     }
     Ok(())
-}
-
-fn bound_words(alloc: Global) -> Result<Vec<String>, AllocError> {
-    let mut words = Vec::new(alloc);
-    for word in ["bound", "p", "T", "25"] {
-        words.push(String::from_str(alloc, word)?)?;
-    }
-    Ok(words)
-}
-
-#[test]
-fn reads_or_tells_want_of_memory(rt: HostRuntime) {
-    let Ok(words) = bound_words(rt.alloc()) else {
-        return;
-    };
-    let job = read_words(rt.alloc(), words);
-    let right = match &job {
-        Ok(Job::Bound { bits, .. }) => *bits == 25,
-        Ok(_) => false,
-        Err(fault) => matches!(fault, WordFault::Memory),
-    };
-    assert!(rt; right);
 }

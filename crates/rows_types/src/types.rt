@@ -116,6 +116,7 @@ type U = union { ushort a : a == 1; byte b; }; type T = U[]; ==> T 24 Some(37) S
 type T = union { string a : 0 != 0; string b; }; ==> T 8008 Some(2012) Some(1005)
 type R = struct { byte far @ 1#B; byte n @ 0#B; }; type T = R[2]; ==> T 32 Some(52) Some(31)
 type S = string; ==> S 25 Some(5) Some(5)
+type P = struct { byte x; }; type T = struct { P p; byte y : y == p.x ? 1 : 0; }; ==> T 16 Some(14) Some(7)
 type T1 = struct { byte a; byte b; };«1..63 type T^ = struct { T~ a; T~ b; };» ==> T63 24 Some(36893488147419103229) Some(36893488147419103229)
 type T1 = byte[];«1..4 type T^ = T~[];» ==> T4 1099511627776 None None"#;
 

@@ -11,6 +11,9 @@ type S = string; type T = S[]; type N = struct {}; type Z = N[3];
   bound N 24 | Done | steps 1`0aslots 1
   bound Z 16 | Done | steps 36`0aslots 35
 
+type P = struct { byte x; }; type T = struct { P p; byte y : y == p.x ? 1 : 0; };
+  bound T 16 | Done | steps 14`0aslots 7
+
 type T1 = byte[]; type T2 = T1[]; type T3 = T2[];
   bound T1 24 | Done | steps 9`0aslots 9
   bound T2 24 | Done | steps 251`0aslots 251
