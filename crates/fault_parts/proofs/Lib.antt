@@ -1,3 +1,5 @@
 pub mod Faults
 pub mod Meant
 mod Rows
+mod Paths
+mod Once

@@ -22,7 +22,7 @@ digits_from no_digits_before h = h
 digits_from (digits_before before m e) h = digits_from before (somehow _ _ (next_digits m e h.holds))
 
 mutual
-  number_meant : {ty : PokeType} {n : ℕ} {levels : Levels} {s : ℕ} {f : FaultAt} {path : Path} → NumberArises ty n levels s f path → Somehow (NumberMeans ty n levels s (Err f))
+  pub number_meant : {ty : PokeType} {n : ℕ} {levels : Levels} {s : ℕ} {f : FaultAt} {path : Path} → NumberArises ty n levels s f path → Somehow (NumberMeans ty n levels s (Err f))
   number_meant (is_no_number e) = somehow _ _ (no_number e)
   number_meant (in_digits h) = let d = digits_meant h in somehow _ _ (integral_fault d.holds)
 
@@ -52,7 +52,7 @@ alternatives_from (miss_before before m e) h = alternatives_from before (λ inde
 -- ---- types
 
 mutual
-  means_fault : {bits : List ℕ} {ty : PokeType} {order : Order} {levels : Levels} {s : ℕ} {f : FaultAt} {path : Path} → Arises bits ty order levels s f path → Somehow (Means bits ty order levels s (Err f))
+  pub means_fault : {bits : List ℕ} {ty : PokeType} {order : Order} {levels : Levels} {s : ℕ} {f : FaultAt} {path : Path} → Arises bits ty order levels s f path → Somehow (Means bits ty order levels s (Err f))
   means_fault (starts_past_end lt) = somehow _ _ (past_end lt)
   means_fault (number_past_end le e lt) = somehow _ _ (number_end le e lt)
   means_fault (string_past_end le run lt) = somehow _ _ (string_end le run lt)

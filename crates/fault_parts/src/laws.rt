@@ -1,6 +1,8 @@
 //! The laws of where a fault arises. These functions do nothing: the contract of each is a law.
 
-ghost use Rattle.fault_parts.specs.Laws.{FaultsArise, ArisingIsMeant};
+ghost use Rattle.fault_parts.specs.Laws.{FaultsArise, ArisingIsMeant, ArisesOnce};
+
+use pickle_map::laws::{has_one_outcome, plan_is_meant, values_are_wide};
 
 /// Each fault that a type means on a file's bits arises in a part of it, or in itself.
 pub fn faults_arise()
@@ -11,3 +13,12 @@ pub fn faults_arise()
 pub fn arising_is_meant()
     ensures law { ArisingIsMeant }
 {}
+
+/// A fault arises in one part alone.
+pub fn arises_once()
+    ensures law { ArisesOnce }
+{
+    has_one_outcome();
+    plan_is_meant();
+    values_are_wide();
+}
