@@ -6,15 +6,16 @@ use Rattle.std.proofs.lemmas.Option.{none-some}
 use Rattle.bit_space.specs.declared.order.Order.{Order}
 use Rattle.pickle_types.specs.declared.integer.IntegerType.{IntegerType}
 use Rattle.pickle_types.specs.Types.{Term, PokeType, IntegerOf, OffsetOf, StringOf, ArrayOf, StructOf, IntegralOf, UnionOf, Fields, FieldThen, Parts, PartThen}
-use Rattle.pickle_map.specs.declared.extent.Extent.{Extent}
-use Rattle.pickle_map.specs.declared.faults.MapFaultKind.TheVariants as fault
-use Rattle.pickle_map.specs.Values.{Value, end_of, Levels, pushed, opened}
-use Rattle.pickle_map.specs.Numbers.{number_at}
-use Rattle.pickle_map.specs.Clauses.{FaultAt, constraint, clause_steps, misses}
-use Rattle.pickle_map.specs.Laws.{HasOneOutcome, PlanIsMeant, ValuesAreWide}
-use Rattle.pickle_map.specs.Mapping.{plan, number_plan, digits_plan, constrained}
-use Rattle.pickle_map.specs.Means.{NumberMeans, integer, offset, integral, integral_fault, no_number, DigitsMean, no_digits, next_digits, digits_refused, digits_fault, Means, PartMeans, part, part_refused, part_fault, Elements, no_more, next_element, number_type, width_in}
-use Rattle.pickle_map.specs.Plan.{Plan, Ended, Tick, Made, Read, and_then, after, on_value, then_ok, result_of}
+use Rattle.pickle_meaning.specs.declared.extent.Extent.{Extent}
+use Rattle.pickle_meaning.specs.declared.faults.MapFaultKind.TheVariants as fault
+use Rattle.pickle_meaning.specs.Values.{Value, end_of, Levels, pushed, opened}
+use Rattle.pickle_meaning.specs.Numbers.{number_at}
+use Rattle.pickle_meaning.specs.Clauses.{FaultAt, constraint, clause_steps, misses}
+use Rattle.pickle_meaning.specs.Laws.{HasOneOutcome, ValuesAreWide}
+use Rattle.mapping_plans.specs.PlanLaws.{PlanIsMeant}
+use Rattle.mapping_plans.specs.Mapping.{plan, number_plan, digits_plan, constrained}
+use Rattle.pickle_meaning.specs.Means.{NumberMeans, integer, offset, integral, integral_fault, no_number, DigitsMean, no_digits, next_digits, digits_refused, digits_fault, Means, PartMeans, part, part_refused, part_fault, Elements, no_more, next_element, number_type, width_in}
+use Rattle.mapping_plans.specs.Plan.{Plan, Ended, Tick, Made, Read, and_then, after, on_value, then_ok, result_of}
 use Rattle.fault_parts.specs.Arises.{Path, DigitsBefore, no_digits_before, digits_before, NumberArises, is_no_number, in_digits, DigitsArise, digits_constraint, digits_inside, FieldsBefore, no_field_before, absent_before, value_before, MissesBefore, no_miss_before, miss_before, Arises, starts_past_end, number_past_end, string_past_end, bound_of_array, in_array, ElementsArise, past_size, of_no_bits, in_element, in_struct, in_number, in_union, PartArises, constraint_of_part, in_part, FieldsArise, condition_of_field, label_of_field, in_field, AlternativesArise, none_fits, in_alternative}
 use Rattle.fault_parts.specs.Somehow.{Somehow}
 use Rattle.fault_parts.specs.Laws.{ArisesOnce}

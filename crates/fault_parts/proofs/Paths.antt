@@ -3,13 +3,13 @@ use Rattle.std.proofs.Common.{ℕ, zero, suc, ◌+◌, ◌-◌, length, Bool, Li
 use Rattle.std.specs.Prelude.{nat_eq, nat_le, if◌then◌else◌}
 use Rattle.bit_space.specs.declared.order.Order.{Order}
 use Rattle.pickle_types.specs.Types.{Term, PokeType, IntegerOf, OffsetOf, StringOf, ArrayOf, StructOf, IntegralOf, UnionOf, Fields, NoFields, FieldThen, Parts, NoParts, PartThen}
-use Rattle.pickle_map.specs.declared.extent.Extent.{Extent}
-use Rattle.pickle_map.specs.Numbers.{number_at}
-use Rattle.pickle_map.specs.Values.{Value, end_of, Levels, pushed, opened}
-use Rattle.pickle_map.specs.Clauses.{FaultAt, constraint, condition, field_start, extent_of, is_due, ends_before, misses}
-use Rattle.pickle_map.specs.Mapping.{plan, number_plan}
-use Rattle.pickle_map.specs.Means.{ordered, number_type, width_in, first_digits}
-use Rattle.pickle_map.specs.Plan.{result_of}
+use Rattle.pickle_meaning.specs.declared.extent.Extent.{Extent}
+use Rattle.pickle_meaning.specs.Numbers.{number_at}
+use Rattle.pickle_meaning.specs.Values.{Value, end_of, Levels, pushed, opened}
+use Rattle.pickle_meaning.specs.Clauses.{FaultAt, constraint, condition, field_start, extent_of, is_due, ends_before, misses}
+use Rattle.mapping_plans.specs.Mapping.{plan, number_plan}
+use Rattle.pickle_meaning.specs.Means.{ordered, number_type, width_in, first_digits}
+use Rattle.mapping_plans.specs.Plan.{result_of}
 use Rattle.fault_parts.specs.Arises.{Path}
 
 -- the path by an outcome

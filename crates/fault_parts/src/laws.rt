@@ -2,7 +2,7 @@
 
 ghost use Rattle.fault_parts.specs.Laws.{FaultsArise, ArisingIsMeant, ArisesOnce};
 
-use pickle_map::laws::{has_one_outcome, plan_is_meant, values_are_wide};
+use mapping_plans::laws::{has_one_outcome, plan_is_meant, values_are_wide};
 
 /// Each fault that a type means on a file's bits arises in a part of it, or in itself.
 pub fn faults_arise()
