@@ -33,6 +33,7 @@ pub mod Lent
 pub mod Linked
 pub mod ShownPaths
 pub mod ShownLabels
+pub mod Integers
 pub mod Lookup
 pub mod Elements
 mod Always

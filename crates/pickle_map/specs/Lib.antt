@@ -23,6 +23,7 @@ pub mod Levels
 pub mod Links
 pub mod Packed
 pub mod Slots
+pub mod Integers
 pub mod Kinds
 pub mod Labels
 pub mod Shown

@@ -2,6 +2,7 @@ pub mod Parts
 pub mod Gathered
 pub mod StringTexts
 pub mod MemberTexts
+pub mod RowTexts
 pub mod LineTexts
 pub mod JsonTexts
 pub mod JsonWords
