@@ -6,7 +6,7 @@ use Rattle.pickle_types.specs.declared.integer.IntegerType.{IntegerType}
 use Rattle.pickle_types.specs.declared.table.Node.{Node}
 use Rattle.pickle_map.specs.declared.store.slots.Shape.TheVariants.{Integers}
 use Rattle.pickle_map.specs.Tree as tree
-use Rattle.pickle_map.specs.Values.{IntegerLabel, members_of, member_at}
+use Rattle.pickle_map.specs.Values.{IntegerLabel, members_of}
 use Rattle.pickle_map.specs.Integers.{IsIntegerOf, AreIntegersOf, IsStoredIntegerOf, HasIntegersOf}
 use Rattle.pickle_map.specs.Shown.{shown}
 use Rattle.pickle_map.specs.Slots.{elements}
