@@ -18,3 +18,4 @@ pub mod Linked
 pub mod ShownLabels
 pub mod Lookup
 pub mod ShownParts
+pub mod Integers

@@ -12,3 +12,4 @@ pub mod Linked
 pub mod Lent
 pub mod Owners
 pub mod Exceeding
+pub mod Integers

@@ -1,5 +1,6 @@
 ghost use Rattle.std.specs.Prelude.{◌≡◌, ◌<◌, length, IfSome};
 ghost use Rattle.std.specs.Option.{option_map};
+ghost use Rattle.value_store.specs.Integers.{HasIntegersOf};
 ghost use Rattle.value_store.specs.Kinds.{kind_of};
 ghost use Rattle.value_store.specs.Tree.{label, start, size, parts, part_at, number_of, signed_of, width_of, unit_of, bytes_of, type_of, taken_of};
 ghost use Rattle.value_store.specs.Lent.{place_value, place_links, place_packed, place_rank, IsPlace};
@@ -9,6 +10,7 @@ use crate::scalar::Scalar;
 use crate::store::Store;
 use crate::store::slots::{Link, Place};
 use crate::value::Kind;
+use pickle_types::integer::IntegerType;
 
 /// A value that a store holds, without the names of its type. It copies nothing.
 #[derive(Clone, Copy)]
@@ -146,6 +148,16 @@ impl<'a> StoredValue<'a> {
         match self.place {
             Place::Node(at) => self.store.links_from(at),
             Place::Element { .. } => &[],
+        }
+    }
+
+    /// The type of the parts, where they are packed integers.
+    pub(crate) fn row_type(&self) -> Option<IntegerType>
+        ensures { IfSome result (λ number. HasIntegersOf number (value_of self.now)) }
+    {
+        match self.place {
+            Place::Node(at) => self.store.row_type(at),
+            Place::Element { .. } => None,
         }
     }
 

@@ -1,6 +1,7 @@
 pub mod Gathered
 pub mod StringTexts
 pub mod MemberTexts
+pub mod RowTexts
 pub mod LineTexts
 pub mod JsonTexts
 pub mod JsonWords

@@ -1,11 +1,12 @@
 //! The elements of arrays of packed numbers.
-ghost use Rattle.std.specs.Prelude.{◌≡◌, ◌<◌, ◌≤◌, Some, length, slice_index};
+ghost use Rattle.std.specs.Prelude.{◌≡◌, ◌<◌, ◌≤◌, Some, length, slice_index, IfSome};
+ghost use Rattle.value_store.specs.Integers.{HasIntegersOf};
 ghost use Rattle.value_store.specs.Kinds.{kind_of};
 ghost use Rattle.value_store.specs.Tree.{label, start, size, number_of, signed_of, width_of, unit_of};
 ghost use Rattle.value_store.specs.Lent.{place_value, IsPlace};
 ghost use Rattle.value_store.specs.Packed.{bytes_number};
 ghost use Rattle.value_store.specs.Scalars.{scalar_label, scalar_in, IsScalar};
-ghost use Rattle.value_store.specs.Slots.{row_numbers, IsByteRow, AreNumbers};
+ghost use Rattle.value_store.specs.Slots.{row_numbers, value_at, IsByteRow, AreNumbers};
 ghost use Rattle.value_store.specs.declared.store.slots.Place.TheVariants.{Element};
 
 use crate::ranges::with_sign;
@@ -103,6 +104,17 @@ impl Store {
             Shape::Integers { width, signed } => IntegerType { width, signed },
             Shape::Offsets { width, signed, .. } => IntegerType { width, signed },
             _ => unreachable!(),
+        }
+    }
+
+    /// The type of the elements of the array at a node, where they are packed integers.
+    pub(crate) fn row_type(&self, array: usize) -> Option<IntegerType>
+        requires { array < length self.now.slots.nodes }
+        ensures { IfSome result (λ number. HasIntegersOf number (value_at self.now.slots array)) }
+    {
+        match self.node_at(array).shape {
+            Shape::Integers { width, signed } => Some(IntegerType { width, signed }),
+            _ => None,
         }
     }
 

@@ -2,11 +2,13 @@
 
 ghost use Rattle.std.specs.Prelude.{◌≡◌, ◌<◌, IfSome};
 ghost use Rattle.std.specs.Option.{option_map};
+ghost use Rattle.value_store.specs.Integers.{AreIntegersOf};
 ghost use Rattle.value_store.specs.Lent.{place_links, place_packed};
 ghost use Rattle.pickle_meaning.specs.Values.{members_of, member_count, member_at};
 
 use crate::store::slots::Link;
 use crate::value::ValueRef;
+use pickle_types::integer::IntegerType;
 
 /// The elements of an array, the declared fields of a struct, or the alternative that a union took.
 #[derive(Clone, Copy)]
@@ -33,6 +35,13 @@ impl<'a> Members<'a> {
             links,
             packed,
         }
+    }
+
+    /// The type of the members, where they are the integers of an array that are kept side by side. It is found once for all of them.
+    pub fn row_type(&self) -> Option<IntegerType>
+        ensures { IfSome result (λ number. AreIntegersOf number (members_of (value_shown (owner_of self.now)))) }
+    {
+        self.value.stored.row_type()
     }
 
     /// How many there are, absent fields too.

@@ -1,16 +1,19 @@
 //! Prints values on one line.
 ghost use Rattle.std.specs.Prelude.{◌++◌, OnOk, OnErr, codes};
 ghost use Rattle.std.specs.Option.{option_map};
+ghost use Rattle.value_store.specs.Integers.{AreIntegersOf};
 ghost use Rattle.value_store.specs.Refs.{value_shown};
+ghost use Rattle.pickle_meaning.specs.Values.{members_of};
 ghost use Rattle.text_forms.specs.Written.{AppendsPart};
 ghost use Rattle.value_text.specs.Gathered.{Gathers};
-ghost use Rattle.value_text.specs.ValueText.{flat_text, value_text};
+ghost use Rattle.value_text.specs.ValueText.{flat_text, value_text, integer_text, comma};
 ghost use Rattle.value_text.specs.PartText.{array_text, elements_text, titled_text, all_members_text, member_text};
 
 use super::line::Line;
-use super::name::{put_start, put_title};
+use super::name::{put_comma, put_start, put_title};
 use super::number::{put_integer, put_offset, type_of};
 use super::string::put_string;
+use pickle_types::integer::IntegerType;
 use std::io::Write;
 use text_forms::write::WriteFault;
 use value_store::{Kind, ValueRef};
@@ -68,6 +71,18 @@ fn put_elements<W: Write>(w: &mut W, line: &mut Line, value: ValueRef<'_>) -> Re
     ensures ok { OnOk result (Gathers (W.contents w.old) (W.contents w.new) line.old line.new (elements_text (value_shown value.entry))) }
     ensures err { OnErr result (AppendsPart (W.contents w.old) (W.contents w.new) (line.old ++ elements_text (value_shown value.entry))) }
 {
+    match value.members().row_type() {
+        Some(number) => put_row(w, line, value, number),
+        None => put_each(w, line, value),
+    }
+}
+
+// Writes elements, each by its kind.
+#[cycle(flat)]
+fn put_each<W: Write>(w: &mut W, line: &mut Line, value: ValueRef<'_>) -> Result<(), WriteFault>
+    ensures ok { OnOk result (Gathers (W.contents w.old) (W.contents w.new) line.old line.new (elements_text (value_shown value.entry))) }
+    ensures err { OnErr result (AppendsPart (W.contents w.old) (W.contents w.new) (line.old ++ elements_text (value_shown value.entry))) }
+{
     let elements = value.members();
     let mut first = true;
     for place in 0..elements.len() {
@@ -76,6 +91,46 @@ fn put_elements<W: Write>(w: &mut W, line: &mut Line, value: ValueRef<'_>) -> Re
             first = false;
         }
     }
+    Ok(())
+}
+
+// Writes the elements of an array that are integers of one type, which is looked at once.
+fn put_row<W: Write>(
+    w: &mut W,
+    line: &mut Line,
+    value: ValueRef<'_>,
+    number: IntegerType,
+) -> Result<(), WriteFault>
+    requires { AreIntegersOf number (members_of (value_shown value)) }
+    ensures ok { OnOk result (Gathers (W.contents w.old) (W.contents w.new) line.old line.new (elements_text (value_shown value.entry))) }
+    ensures err { OnErr result (AppendsPart (W.contents w.old) (W.contents w.new) (line.old ++ elements_text (value_shown value.entry))) }
+{
+    let elements = value.members();
+    let mut first = true;
+    for place in 0..elements.len() {
+        if let Some(element) = elements.get(place) {
+            put_item(w, line, first, number, element.number())?;
+            first = false;
+        }
+    }
+    Ok(())
+}
+
+// Writes an integer of a row.
+#[tactic(auto, using(crate::proofs::Gathered::gathered))]
+#[inline(always)]
+fn put_item<W: Write>(
+    w: &mut W,
+    line: &mut Line,
+    first: bool,
+    ty: IntegerType,
+    number: i128,
+) -> Result<(), WriteFault>
+    ensures ok { OnOk result (Gathers (W.contents w.old) (W.contents w.new) line.old line.new (comma first ++ integer_text ty number)) }
+    ensures err { OnErr result (AppendsPart (W.contents w.old) (W.contents w.new) (line.old ++ (comma first ++ integer_text ty number))) }
+{
+    put_comma(w, line, first)?;
+    put_integer(w, line, ty, number)?;
     Ok(())
 }
 

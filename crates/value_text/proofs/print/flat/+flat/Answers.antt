@@ -7,7 +7,7 @@ use Rattle.value_text.specs.ValueText.{title_text}
 use Rattle.value_text.specs.PartText.{all_members_text, elements_text, member_text}
 use Rattle.value_text.proofs.Gathered.{gathers_next, cut_first, cut_next, told_more, told_cut}
 use Rattle.value_text.proofs.MemberTexts.{told_present, told_absent, told_end}
-use Rattle.value_text.proofs.print.flat.+flat.Goals.{put_members-in-Some+in_ok-put_member, put_members-in_default, put_elements-in-Some+in_ok-put_member, put_elements-in_default}
+use Rattle.value_text.proofs.print.flat.+flat.Goals.{put_members-in-Some+in_ok-put_member, put_members-in_default, put_each-in-Some+in_ok-put_member, put_each-in_default}
 use Rattle.value_text.proofs.print.flat.+flat.Goals as goal
 
 pub put_array-returns-in_err-put-clause-err : goal.put_array-returns-in_err-put-clause-err
@@ -96,8 +96,8 @@ put_titled-returns-clause-ok g t c =
     (gathers_next _ _ _ _ _ _ (codes " {") _ c.in_ok-put.ensures.ok
     (gathers_next _ _ _ _ _ _ (all_members_text (value_shown c.args.value)) (codes "}") c.in_ok-put_members.ensures.ok c.in_ok-put-2.ensures.ok))
 
-pub put_elements-returns-in_err-put_member-clause-err : goal.put_elements-returns-in_err-put_member-clause-err
-put_elements-returns-in_err-put_member-clause-err g t c =
+pub put_each-returns-in_err-put_member-clause-err : goal.put_each-returns-in_err-put_member-clause-err
+put_each-returns-in_err-put_member-clause-err g t c =
     let len : c.len-place-end.result ≡ member_count (members_of (value_shown c.args.value)) = subst (λ v. c.len-place-end.result ≡ member_count (members_of (value_shown v))) c.members-elements.ensures c.len-place-end.ensures in
     let p = err_from_is_err_and c.from_residual.result c.from_residual.ensures.1 in
     let l = ArrayLabel in
@@ -107,23 +107,23 @@ put_elements-returns-in_err-put_member-clause-err g t c =
     let h = told_present _ _ _ _ l all u c.loop-place.first i _ (omega (arith, len, c.loop-place-test.true)) (subst (λ v. Some (value_shown c.in-Some.element) ≡ member_at (members_of (value_shown v)) i) c.members-elements.ensures c.in-Some.ensures.member) c.loop-place.invariant in
     rw p.1 (told_cut _ _ _ _ _ (member_text c.loop-place.first (None) u) _ _ h c.in_err-put_member.ensures.err)
 
-pub put_elements-loop-place-preserved : goal.put_elements-loop-place-preserved
-put_elements-loop-place-preserved g t c =
+pub put_each-loop-place-preserved : goal.put_each-loop-place-preserved
+put_each-loop-place-preserved g t c =
     let len : c.len-place-end.result ≡ member_count (members_of (value_shown c.args.value)) = subst (λ v. c.len-place-end.result ≡ member_count (members_of (value_shown v))) c.members-elements.ensures c.len-place-end.ensures in
     let l = ArrayLabel in
     let all = members_of (value_shown c.args.value) in
     let i = c.loop-place.place in
     elim c.match-get.branch [
-      | put_elements-in-Some+in_ok-put_member w ↦
+      | put_each-in-Some+in_ok-put_member w ↦
           (let u = value_shown w.in-Some.element in
           let h = told_present _ _ _ _ l all u c.loop-place.first i _ (omega (arith, len, c.loop-place-test.true)) (subst (λ v. Some (value_shown w.in-Some.element) ≡ member_at (members_of (value_shown v)) i) c.members-elements.ensures w.in-Some.ensures.member) c.loop-place.invariant in
           rw (w.w-is, w.line-is, w.first-is) (told_more _ _ _ _ _ _ (member_text c.loop-place.first (None) u) _ _ h w.in_ok-put_member.ensures.ok))
-      | put_elements-in_default w ↦
+      | put_each-in_default w ↦
           (let n : None ≡ member_at all i = subst (λ v. None ≡ member_at (members_of (value_shown v)) i) c.members-elements.ensures w.in_default.ensures.member in
           rw (w.w-is, w.line-is, w.first-is) (told_absent _ _ _ _ l all c.loop-place.first i _ (omega (arith, len, c.loop-place-test.true)) n c.loop-place.invariant))
     ]
 
-pub put_elements-returns-clause-ok : goal.put_elements-returns-clause-ok
-put_elements-returns-clause-ok g t c =
+pub put_each-returns-clause-ok : goal.put_each-returns-clause-ok
+put_each-returns-clause-ok g t c =
     let len : c.len-place-end.result ≡ member_count (members_of (value_shown c.args.value)) = subst (λ v. c.len-place-end.result ≡ member_count (members_of (value_shown v))) c.members-elements.ensures c.len-place-end.ensures in
     told_end _ _ _ _ (ArrayLabel) (members_of (value_shown c.args.value)) c.loop-place.first c.loop-place.place _ (omega (arith, len, c.loop-place-test.false)) c.loop-place.invariant

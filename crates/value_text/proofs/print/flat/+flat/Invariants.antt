@@ -8,27 +8,30 @@ use Rattle.value_text.proofs.MemberTexts.{members_from}
 use Rattle.value_text.proofs.print.flat.+flat.Given as goal
 
 abbrev pub decreases-put_array : goal.decreases-put_array
-decreases-put_array g l = 4 * rank_of l.value + 2
+decreases-put_array g l = 5 * rank_of l.value + 3
 
 abbrev pub decreases-put_elements : goal.decreases-put_elements
-decreases-put_elements g l = 4 * rank_of l.value + 1
+decreases-put_elements g l = 5 * rank_of l.value + 2
+
+abbrev pub decreases-put_each : goal.decreases-put_each
+decreases-put_each g l = 5 * rank_of l.value + 1
 
 abbrev pub decreases-put_member : goal.decreases-put_member
-decreases-put_member g l = 4 * rank_of l.member + 4
+decreases-put_member g l = 5 * rank_of l.member + 5
 
 abbrev pub decreases-put_members : goal.decreases-put_members
-decreases-put_members g l = 4 * rank_of l.value + 1
+decreases-put_members g l = 5 * rank_of l.value + 1
 
 abbrev pub decreases-put_titled : goal.decreases-put_titled
-decreases-put_titled g l = 4 * rank_of l.value + 2
+decreases-put_titled g l = 5 * rank_of l.value + 3
 
 abbrev pub decreases-put_value : goal.decreases-put_value
-decreases-put_value g l = 4 * rank_of l.value + 3
+decreases-put_value g l = 5 * rank_of l.value + 4
 
 abbrev pub invariant-put_members-loop-place : goal.invariant-put_members-loop-place
 invariant-put_members-loop-place g l =
     Told (g.W.Write.contents l.initial.w) (g.W.Write.contents l.w) l.initial.line l.line (members_text (label_of (value_shown l.value)) l.place l.first (members_from l.place (members_of (value_shown l.value)))) (all_members_text (value_shown l.value))
 
-abbrev pub invariant-put_elements-loop-place : goal.invariant-put_elements-loop-place
-invariant-put_elements-loop-place g l =
+abbrev pub invariant-put_each-loop-place : goal.invariant-put_each-loop-place
+invariant-put_each-loop-place g l =
     Told (g.W.Write.contents l.initial.w) (g.W.Write.contents l.w) l.initial.line l.line (members_text ArrayLabel l.place l.first (members_from l.place (members_of (value_shown l.fn.value)))) (elements_text (value_shown l.fn.value))
