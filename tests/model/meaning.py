@@ -1,0 +1,471 @@
+"""What a mapping means, said once more by the rules of docs/LANGUAGE.md, without the program's code or its definitions.
+
+`mapped` gives the text of the value or fault that a type has at a bit of a file, and its steps.
+"""
+from dataclasses import dataclass, field
+from math import gcd
+
+
+class Fault(Exception):
+    """A fault; that of an expression gets its place where the expression stands."""
+
+    def __init__(self, kind, at=None):
+        super().__init__(kind)
+        self.kind, self.at = kind, at
+
+
+# ---- numbers and expressions
+
+
+@dataclass(frozen=True)
+class Number:
+    """An integer or, with a unit in bits, an offset."""
+
+    value: int
+    width: int
+    signed: bool
+    unit: int = 0
+
+    @property
+    def type(self):
+        return self.width, self.signed
+
+
+@dataclass
+class Value:
+    """A mapped value: `content` is a Number, the bytes of a string, a list of elements, or pairs of names and fields."""
+
+    kind: str
+    start: int
+    end: int
+    content: object
+    name: str = ""
+
+
+@dataclass(frozen=True)
+class Term:
+    """An expression: a form and its operands."""
+
+    form: str
+    of: tuple = ()
+
+
+def converted(number, width, signed):
+    number %= 1 << width
+    return number - (1 << width) if signed and number >> (width - 1) else number
+
+
+def brought(number, width, signed):
+    if not signed:
+        return number % (1 << width)
+    if -(1 << (width - 1)) <= number < 1 << (width - 1):
+        return number
+    raise Fault("Overflow")
+
+
+def common(a, b):
+    return max(a[0], b[0]), a[1] and b[1]
+
+
+def truth(holds):
+    return Number(int(holds), 32, True)
+
+
+def quotient(a, b):
+    """Toward 0."""
+    if b == 0:
+        raise Fault("Zero")
+    return abs(a) // abs(b) * (1 if (a < 0) == (b < 0) else -1)
+
+
+COMPARED = {
+    "==": lambda a, b: a == b,
+    "!=": lambda a, b: a != b,
+    "<": lambda a, b: a < b,
+    "<=": lambda a, b: a <= b,
+    ">": lambda a, b: a > b,
+    ">=": lambda a, b: a >= b,
+}
+BITWISE = {"&": lambda a, b: a & b, "|": lambda a, b: a | b, "^": lambda a, b: a ^ b}
+EXACT = {
+    "+": lambda a, b: a + b,
+    "-": lambda a, b: a - b,
+    "*": lambda a, b: a * b,
+    "/": quotient,
+    "%": lambda a, b: a - quotient(a, b) * b,
+}
+
+
+def shifted(sign, a, b):
+    if not 0 <= b.value < a.width:
+        raise Fault("Index")
+    if sign == "<<":
+        return Number(brought(a.value << b.value, *a.type), *a.type)
+    return Number(a.value >> b.value, *a.type)
+
+
+def of_integers(sign, a, b):
+    if sign in ("<<", ">>"):
+        return shifted(sign, a, b)
+    of = common(a.type, b.type)
+    x, y = converted(a.value, *of), converted(b.value, *of)
+    if sign in COMPARED:
+        return truth(COMPARED[sign](x, y))
+    if sign in BITWISE:
+        return Number(converted(BITWISE[sign](x, y), *of), *of)
+    return Number(brought(EXACT[sign](x, y), *of), *of)
+
+
+def of_offsets(sign, a, b):
+    of, x, y = common(a.type, b.type), a.value * a.unit, b.value * b.unit
+    if sign in COMPARED:
+        return truth(COMPARED[sign](x, y))
+    if sign == "/":
+        return Number(brought(quotient(x, y), *of), *of)
+    unit = gcd(a.unit, b.unit)
+    return Number(brought(EXACT[sign](x, y) // unit, *of), *of, unit)
+
+
+def combined(sign, a, b):
+    if isinstance(a, bytes):
+        return truth(COMPARED[sign](a, b))
+    if a.unit and b.unit:
+        return of_offsets(sign, a, b)
+    if a.unit or b.unit:
+        of = common(a.type, b.type)
+        return Number(brought(a.value * b.value, *of), *of, a.unit or b.unit)
+    return of_integers(sign, a, b)
+
+
+def prefixed(sign, a):
+    if sign == "!":
+        return truth(a.value == 0)
+    if sign == "~":
+        return Number(converted(~a.value, *a.type), *a.type)
+    return Number(brought(a.value if sign == "+" else -a.value, *a.type), *a.type, a.unit)
+
+
+def plain(operand):
+    """What an operator sees of a value."""
+    return operand.content if isinstance(operand, Value) and operand.kind in ("number", "string") else operand
+
+
+@dataclass
+class Counts:
+    steps: int = 0
+
+
+@dataclass
+class Evaluation:
+    """The evaluation of expressions over scopes, the innermost first: lists of pairs of a name and a field, or None where that is absent."""
+
+    scopes: list
+    counts: Counts
+
+    def value(self, term):
+        return plain(self.operand(term))
+
+    def operand(self, term):
+        self.counts.steps += 1
+        return getattr(self, term.form)(*term.of)
+
+    def literal(self, number):
+        return number
+
+    def bracket(self, inner):
+        return self.operand(inner)
+
+    def named(self, name):
+        found = next(value for scope in self.scopes for known, value in reversed(scope) if known == name)
+        if found is None:
+            raise Fault("Absent")
+        return found
+
+    def prefix(self, sign, term):
+        return prefixed(sign, self.value(term))
+
+    def infix(self, sign, left, right):
+        if sign in ("&&", "||"):
+            if (self.value(left).value != 0) == (sign == "||"):
+                return truth(sign == "||")
+            return truth(self.value(right).value != 0)
+        return combined(sign, self.value(left), self.value(right))
+
+    def text_compared(self, sign, left, right):
+        a, b = self.value(left), self.value(right)
+        self.counts.steps += len(a if left.form == "literal" else b)
+        return combined(sign, a, b)
+
+    def choice(self, of, asked, left, right):
+        chosen = self.value(left if self.value(asked).value else right)
+        return Number(converted(chosen.value, *of), *of)
+
+    def as_integer(self, of, term):
+        return Number(converted(self.value(term).value, *of), *of)
+
+    def as_offset(self, of, unit, term):
+        offset = self.value(term)
+        return Number(converted(quotient(offset.value * offset.unit, unit), *of), *of, unit)
+
+    def in_unit(self, unit, term):
+        number = self.value(term)
+        return Number(number.value, *number.type, unit)
+
+    def length(self, path):
+        return Number(len(self.operand(path).content), 64, False)
+
+    def size(self, path):
+        value = self.operand(path)
+        return Number(value.end - value.start, 64, False, 1)
+
+    def element(self, path, index):
+        elements, place = self.operand(path).content, self.value(index).value
+        if not 0 <= place < len(elements):
+            raise Fault("Index")
+        return elements[place]
+
+    def selected(self, path, name):
+        found = dict(self.operand(path).content).get(name)
+        if found is None:
+            raise Fault("Absent")
+        return found
+
+
+# ---- types
+
+
+@dataclass
+class Field:
+    """A field of a struct, or an alternative of a union; order, constraint, label and condition where there are such."""
+
+    type: object
+    name: str = ""
+    order: str = ""
+    constraint: Term | None = None
+    label: Term | None = None
+    condition: Term | None = None
+
+
+@dataclass
+class Scalar:
+    """An integer or, with a unit, an offset."""
+
+    width: int
+    signed: bool
+    unit: int = 0
+
+
+@dataclass
+class String:
+    pass
+
+
+@dataclass
+class Array:
+    """An array, bounded by a count or a size where there is an expression for it."""
+
+    element: object
+    bound: Term | None = None
+
+
+@dataclass
+class Struct:
+    fields: list
+    name: str = ""
+    pinned: bool = False
+
+
+@dataclass
+class Integral:
+    """A struct that is read as one integer."""
+
+    fields: list
+    width: int
+    name: str = ""
+
+
+@dataclass
+class Union:
+    alternatives: list
+    name: str = ""
+
+
+@dataclass
+class Named:
+    """A type by its name: it sees nothing of where it is used."""
+
+    name: str
+    type: object
+
+
+def width_of(of):
+    return width_of(of.type) if isinstance(of, Named) else of.width
+
+
+def number_of(bits, order):
+    if order == "little":
+        bits = "".join(reversed([bits[place:place + 8] for place in range(0, len(bits), 8)]))
+    return int(bits, 2)
+
+
+@dataclass
+class Mapping:
+    """A mapping over the bits of a file."""
+
+    bits: str
+    counts: Counts = field(default_factory=Counts)
+
+    def evaluated(self, term, scopes, place):
+        try:
+            return Evaluation(scopes, self.counts).value(term)
+        except Fault as fault:
+            raise Fault(fault.kind, place) from None
+
+    def holds(self, field, scopes, place):
+        """Sees that a constraint holds, where there is one."""
+        if field.constraint and self.evaluated(field.constraint, scopes, place).value == 0:
+            raise Fault("Constraint", place)
+
+    def value(self, of, order, scopes, start):
+        if start > len(self.bits):
+            raise Fault("End", start)
+        if isinstance(of, Named):
+            return self.value(of.type, order, [], start)
+        kinds = {Scalar: self.number, Integral: self.number, String: self.string, Array: self.array, Struct: self.struct, Union: self.union}
+        return kinds[type(of)](of, order, scopes, start)
+
+    def number(self, of, order, scopes, start):
+        self.counts.steps += 1
+        end = start + of.width
+        if end > len(self.bits):
+            raise Fault("End", start)
+        return self.cut(of, number_of(self.bits[start:end], order), scopes, start)
+
+    def cut(self, of, number, scopes, start):
+        """The value of a type that is read as one number."""
+        if isinstance(of, Named):
+            return self.cut(of.type, number, [], start)
+        if isinstance(of, Scalar):
+            digits = Number(converted(number, of.width, of.signed), of.width, of.signed, of.unit)
+            return Value("number", start, start + of.width, digits)
+        left, mine = of.width, []
+        for field in of.fields:
+            self.counts.steps += 2
+            left -= width_of(field.type)
+            digits = number >> left & (1 << width_of(field.type)) - 1
+            mine.append((field.name, self.cut(field.type, digits, [mine, *scopes], start)))
+            self.holds(field, [mine, *scopes], start)
+        return Value("struct", start, start + of.width, mine, of.name)
+
+    def string(self, _of, _order, _scopes, start):
+        self.counts.steps += 1
+        text, place = bytearray(), start
+        while True:
+            self.counts.steps += 1
+            if place + 8 > len(self.bits):
+                raise Fault("End", start)
+            byte = int(self.bits[place:place + 8], 2)
+            place += 8
+            if byte == 0:
+                return Value("string", start, place, bytes(text))
+            text.append(byte)
+
+    def array(self, of, order, scopes, start):
+        self.counts.steps += 1
+        bound = self.evaluated(of.bound, scopes, start) if of.bound else None
+        if bound and bound.value < 0:
+            raise Fault("Bounds", start)
+        size = bound.value * bound.unit if bound and bound.unit else None
+        elements, place = [], start
+        while self.is_due(bound, size, len(elements), start, place):
+            self.counts.steps += 1
+            try:
+                element = self.value(of.element, order, scopes, place)
+            except Fault as fault:
+                if bound or fault.kind not in ("Constraint", "End"):
+                    raise
+                break
+            if element.end == place:
+                raise Fault("NoBits", place)
+            elements.append(element)
+            place = element.end
+        if size is not None and place - start != size:
+            raise Fault("Bounds", start)
+        return Value("array", start, place, elements)
+
+    def is_due(self, bound, size, count, start, place):
+        if size is not None:
+            return place - start < size
+        return count < bound.value if bound else place < len(self.bits)
+
+    def struct(self, of, order, scopes, start):
+        self.counts.steps += 1
+        mine, end, behind = [], start, start
+        for field in of.fields:
+            self.counts.steps += 1
+            if field.condition and self.evaluated(field.condition, [mine, *scopes], start).value == 0:
+                mine.append((field.name, None))
+                continue
+            place = self.place(field, of.pinned, [mine, *scopes], start, behind)
+            value = self.value(field.type, field.order or order, [mine, *scopes], place)
+            mine.append((field.name, value))
+            self.holds(field, [mine, *scopes], place)
+            behind, end = value.end, max(end, value.end)
+        return Value("struct", start, end, mine, of.name)
+
+    def place(self, field, pinned, scopes, start, behind):
+        if not field.label:
+            return start if pinned else behind
+        label = self.evaluated(field.label, scopes, start)
+        if label.value < 0:
+            raise Fault("Bounds", start)
+        return start + label.value * label.unit
+
+    def union(self, of, order, scopes, start):
+        self.counts.steps += 1
+        for field in of.alternatives:
+            self.counts.steps += 1
+            try:
+                value = self.value(field.type, field.order or order, scopes, start)
+                self.holds(field, [[(field.name, value)], *scopes], start)
+            except Fault as fault:
+                if fault.kind != "Constraint":
+                    raise
+                continue
+            return Value("union", start, value.end, [(field.name, value)], of.name)
+        raise Fault("Constraint", start)
+
+
+# ---- texts
+
+SUFFIXES = {32: "", 8: "B", 16: "H", 64: "L", 4: "N"}
+ESCAPES = {ord("\\"): r"\\", ord('"'): r"\"", ord("\n"): r"\n", ord("\t"): r"\t"}
+
+
+def number_text(number):
+    if number.width in SUFFIXES:
+        text = f"{number.value}{'' if number.signed else 'U'}{SUFFIXES[number.width]}"
+    else:
+        text = f"({'' if number.signed else 'u'}int<{number.width}>) {number.value}"
+    return text + f"#{ {1: 'b', 8: 'B'}.get(number.unit, number.unit) }" if number.unit else text
+
+
+def text_of(value):
+    if value.kind == "number":
+        return number_text(value.content)
+    if value.kind == "string":
+        plain_or_not = (ESCAPES.get(it) or (chr(it) if 0x20 <= it <= 0x7E else f"\\x{it:02x}") for it in value.content)
+        return f'"{"".join(plain_or_not)}"'
+    if value.kind == "array":
+        return f"[{','.join(map(text_of, value.content))}]"
+    parts = (f"{name}={text_of(it)}" if name else text_of(it) for name, it in value.content if it)
+    return f"{value.name or value.kind} {{{','.join(parts)}}}"
+
+
+def mapped(of, order, start, file):
+    """Whether the type has a value there, its text or the fault's line, and its steps."""
+    mapping = Mapping("".join(f"{byte:08b}" for byte in file))
+    try:
+        return True, text_of(mapping.value(of, order, [], start)), mapping.counts.steps
+    except Fault as fault:
+        return False, f"fault {fault.kind} at {fault.at}#b", mapping.counts.steps
