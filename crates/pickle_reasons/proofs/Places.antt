@@ -1,16 +1,10 @@
--- Texts that begin with a place.
-use Rattle.std.proofs.Common.{◌≡◌, ◌≤◌, ℕ, List, [], ◌++◌, length, take, fold, Result, Ok, Err, IfOk, subst}
+-- What is told of a refusal.
+use Rattle.std.proofs.Common.{◌≡◌, ℕ, List, [], fold, Result, Ok, Err, IfOk, subst}
 use Rattle.pickle_tree.specs.Tree.{DeclarationTree}
 use Rattle.pickle_types.specs.Names.{Names}
 use Rattle.run_parts.specs.Accepted.{IsAccepted}
 use Rattle.pickle_reasons.specs.Places.{Explains, placed, unplaced}
-use Rattle.pickle_script.specs.Places.{TellsPlace, place_line, line_behind, column_behind, called_by, shown_behind}
-
-pub tells_place : (pickle called before line_text below text sentence : List ℕ) (at line column : ℕ) → at ≤ length pickle → before ≡ take at pickle
-    → line ≡ line_behind before → column ≡ column_behind before → line_text ≡ place_line called line column sentence → text ≡ line_text ++ below
-    → TellsPlace pickle called text
-tells_place pickle called before line_text below text sentence at line column inside cut l c told whole =
-    record { at = at; inside = inside; sentence = sentence; rest = below; whole = cc }
+use Rattle.pickle_script.specs.Places.{TellsPlace, called_by, shown_behind}
 
 pub called_is : (path : List ℕ) {start shown called : List ℕ} → called ≡ shown → shown ≡ fold shown_behind start path → start ≡ [] → called ≡ called_by path
 called_is path same shown_is empty = cc

@@ -4,29 +4,12 @@
 ghost use Rattle.std.specs.Prelude.{IfOk};
 ghost use Rattle.pickle_reasons.specs.Places.{Explains};
 
-mod advice;
-mod clause;
-mod expected;
-mod lexical;
-mod limits;
-mod names;
-mod near;
-mod nodes;
-mod note;
-mod probe;
-mod search;
-mod shown;
-mod sorts;
-mod syntax;
-mod type_names;
-mod types;
-
-use crate::lexical::lexical_note;
-use crate::limits::{Limit, limit_note};
-use crate::note::{Note, note_text};
-use crate::syntax::syntax_note;
-use crate::type_names::no_such_type;
-use crate::types::types_note;
+use pickle_mistakes::lexical::lexical_note;
+use pickle_mistakes::limits::{Limit, limit_note};
+use pickle_mistakes::syntax::syntax_note;
+use pickle_mistakes::type_names::no_such_type;
+use pickle_mistakes::types::types_note;
+use pickle_notes::note::{Note, note_text};
 use pickle_script::script::Script;
 use pickle_script::text::Text;
 use run_parts::accept::{Refusal, accept};

@@ -3,7 +3,7 @@
 use crate::advice::{Around, advice};
 use crate::expected::{Expected, goes_on, say_expected};
 use crate::near::nearest;
-use crate::note::Note;
+use pickle_notes::note::Note;
 use pickle_script::script::{Script, cut};
 use pickle_script::text::Text;
 use std::alloc::{AllocError, Global};

@@ -1,6 +1,6 @@
 //! Sentences about limits of the syntax.
 
-use crate::note::Note;
+use pickle_notes::note::Note;
 use pickle_script::script::{Script, cut};
 use pickle_script::text::Text;
 use run_parts::accept::{Refusal, read_syntax};

@@ -2,9 +2,9 @@
 
 use crate::clause::{Finding, clause_finding};
 use crate::near::nearest;
-use crate::note::Note;
 use crate::probe::Probe;
 use crate::search::{Located, locate};
+use pickle_notes::note::Note;
 use pickle_script::anatomy::{FieldParts, declaration};
 use pickle_script::place::place_behind;
 use pickle_script::script::{Part, Script, cut};

@@ -1,0 +1,17 @@
+//! What is wrong with a pickle that is refused, as a note.
+#![tactic(auto)]
+
+mod advice;
+mod clause;
+mod expected;
+pub mod lexical;
+pub mod limits;
+mod names;
+mod near;
+mod nodes;
+mod probe;
+mod search;
+mod sorts;
+pub mod syntax;
+pub mod type_names;
+pub mod types;
