@@ -1,0 +1,1 @@
+map cpio.pk Archive cpio.cpio

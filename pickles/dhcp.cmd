@@ -1,0 +1,1 @@
+map dhcp.pk Message dhcp.bin
