@@ -1,5 +1,5 @@
 -- What the calls of a store do to the levels that it keeps.
-use Rattle.std.proofs.Common.{◌≡◌, ℕ, ◌+◌, ◌≤◌, List, [], ◌∷◌, Option, Some, Result, Ok, Err, ap, subst, ◌∙◌}
+use Rattle.std.proofs.Common.{◌≡◌, ℕ, ◌+◌, ◌≤◌, List, [], ◌∷◌, length, Option, Some, Result, Ok, Err, ap, subst, ◌∙◌}
 use Rattle.std.specs.Prelude.{OnOk, OnErr, IsOk}
 use Rattle.std.proofs.lemmas.Bool.{false≢true}
 use Rattle.pickle_types.specs.declared.table.Node.{Node}
@@ -7,7 +7,9 @@ use Rattle.value_store.specs.declared.store.room.Growth.TheVariants.{Never}
 use Rattle.value_store.specs.declared.store.room.Room.{Room}
 use Rattle.value_store.specs.Tree as tree
 use Rattle.value_store.specs.Levels as stored
-use Rattle.value_store.specs.Slots.{Held, levels}
+use Rattle.value_store.specs.Slots.{Held, levels, Regrown}
+use Rattle.value_store.proofs.Held.{regrown-levels}
+use Rattle.pickle_map.specs.Framed.{LevelStays}
 use Rattle.pickle_meaning.specs.Values.{Mapped, Levels, pushed, opened, top_of, outer_of, gathered}
 use Rattle.pickle_meaning.specs.Means.{value_of}
 use Rattle.pickle_meaning.specs.Room.{Slot, slots}
@@ -34,6 +36,18 @@ module _ (nodes : List Node) where
   pub kept_within : (old new : Held) → new.room ≡ old.room → old.room.growth ≡ Never → (new.room.growth ≡ Never → stored.FitsIn new.room (levels new)) → (kind : Slot) → slots kind (kept nodes new) ≤ old.room.least
   unfolding kept
   kept_within old new e never fits kind = subst (λ (r : Room). slots kind (shown_levels nodes (levels new)) ≤ r.least) e (within nodes new.room (levels new) (fits (ap (λ (r : Room). r.growth) e ∙ never)) kind)
+
+  -- a store that has grown keeps the same
+  pub regrown_kept : (old new : Held) → Regrown old new → kept nodes new ≡ kept nodes old
+  unfolding kept
+  regrown_kept old new e = ap (shown_levels nodes) (regrown-levels old new e)
+
+  -- a call that was refused leaves its level
+  pub regrown_stays : (first old new : Held) → outer_of (kept nodes old) ≡ outer_of (kept nodes first) → length (levels old) ≡ length (levels first) → Regrown old new → LevelStays nodes first new
+  regrown_stays first old new outer depth e = record {
+    outer = ap outer_of (regrown_kept old new e) ∙ outer;
+    depth = ap length (regrown-levels old new e) ∙ depth;
+  }
 
   pub full_member : {A E : Type 0} (r : Result A E) (old : Held) (m : Option tree.Value) → (stored.FitsIn old.room (stored.pushed (levels old) m) → IsOk r) → OnErr r (Exceeds old.room (pushed (kept nodes old) (shown_member nodes m)))
   unfolding kept

@@ -1,5 +1,5 @@
 -- Calls that follow the plan of an array whose elements are packed.
-use Rattle.std.proofs.Common.{◌≡◌, ℕ, zero, suc, ◌+◌, ◌*◌, ◌^◌, ◌<◌, ◌≤◌, max, true, false, List, [], ◌∷◌, ◌++◌, length, Some, None, Result, Ok, refl, sym, ap, subst, ◌∙◌, arith}
+use Rattle.std.proofs.Common.{◌≡◌, ℕ, zero, suc, ◌+◌, ◌*◌, ◌<◌, ◌≤◌, true, List, [], ◌∷◌, ◌++◌, length, Some, Ok, refl, sym, ap, ◌∙◌, arith}
 use Rattle.std.specs.Prelude.{IsTrue, nat_eq, ◌↔◌}
 use Rattle.std.proofs.lemmas.Bool.{false≢true, ne_eqb}
 use Rattle.std.proofs.lemmas.List.{map-append}
@@ -25,7 +25,7 @@ use Rattle.value_store.specs.Exceeding.{Exceeds}
 use Rattle.pickle_meaning.specs.Room.{PendingSlot, slots, level_slots}
 use Rattle.pickle_map.specs.Row.{IsArrayOf, row_levels}
 use Rattle.value_store.specs.Shown.{shown, shown_parts, shown_member, shown_level, shown_levels, kept}
-use Rattle.value_store.specs.Slots.{Held, HasNoNode, AreLevels, levels, packs_as, packs, IsPacked, IsPacking, element_width, element_value, elements, row_value}
+use Rattle.value_store.specs.Slots.{Held, HasNoNode, levels, packs_as, packs, IsPacked, IsPacking, element_width, element_value, elements, row_value}
 use Rattle.value_store.specs.Tree as tree
 use Rattle.pickle_meaning.specs.Values.{Value, Mapped, ArrayLabel, Levels, end_of, pushed, outer_of}
 use Rattle.pickle_map.proofs.Mapping.{number_is}

@@ -13,23 +13,23 @@ use Rattle.pickle_meaning.specs.Values.{Value, end_of, Levels, pushed, outer_of}
 use Rattle.pickle_meaning.specs.Clauses.{FaultAt}
 use Rattle.mapping_plans.specs.Plan.{Plan}
 use Rattle.pickle_map.specs.Follows.{World, Finish, Done, Follows}
-use Rattle.value_store.specs.Slots.{Held, levels}
+use Rattle.value_store.specs.Slots.{Held, KeepsRoom, levels}
 use Rattle.value_store.specs.Shown.{kept}
 
--- What every call leaves: the meter's limit, the store's room, the bytes of the space, and a count of failures that never falls.
+-- What every call leaves: the meter's limit, the room that the store has, the bytes of the space, and a count of failures that never falls.
 -- It makes no more values than it takes steps, with those taken ahead of it for which no value is made yet.
 pub record Frame (space space' : SpaceView) (meter meter' : Meter) (store store' : Held) (ahead : ℕ) : Type 0 where
   pub limit : meter'.limit ≡ meter.limit
   pub len : space'.len ≡ space.len
   pub bytes : space'.bytes ≡ space.bytes
   pub failures : space.failures ≤ space'.failures
-  pub room : store'.room ≡ store.room
+  pub room : KeepsRoom store store'
   pub made : meter'.made + meter.steps ≤ meter.made + meter'.steps + ahead
 
 -- the same of a call that reads nothing
 pub record WorkFrame (meter meter' : Meter) (store store' : Held) (ahead : ℕ) : Type 0 where
   pub limit : meter'.limit ≡ meter.limit
-  pub room : store'.room ≡ store.room
+  pub room : KeepsRoom store store'
   pub made : meter'.made + meter.steps ≤ meter.made + meter'.steps + ahead
 
 -- what was mapped from the bit `start` on ends in the space

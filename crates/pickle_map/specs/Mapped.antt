@@ -1,22 +1,28 @@
 -- What a mapping gives and answers.
-use Rattle.std.specs.Prelude.{◌≡◌, ℕ, List, Some, Result, Err}
+use Rattle.std.specs.Prelude.{◌≡◌, ℕ, ◌+◌, ◌-◌, ◌*◌, ◌<◌, ◌≤◌, List, Some, Result, Ok, Err, IfErr, OnOk, OnErr}
 use Rattle.bit_space.specs.declared.meter.Meter.{Meter}
 use Rattle.bit_space.specs.declared.order.Order.{Order}
-use Rattle.bit_space.specs.SpaceView.{SpaceView}
+use Rattle.bit_space.specs.Bits.{bits_of}
+use Rattle.bit_space.specs.SpaceView.{SpaceView, HasRisen}
 use Rattle.pickle_types.specs.declared.table.Node.{Node}
+use Rattle.pickle_types.specs.Bounds.{cost, room as room_of}
 use Rattle.pickle_types.specs.Types.{PokeType}
 use Rattle.pickle_meaning.specs.declared.faults.MapFault.{MapFault}
 use Rattle.pickle_meaning.specs.declared.faults.MapFaultKind.{MapFaultKind}
-use Rattle.pickle_meaning.specs.declared.faults.MapFaultKind.TheVariants as fault
+use Rattle.pickle_meaning.specs.declared.faults.MapFaultKind.TheVariants as faults
 use Rattle.pickle_map.specs.declared.mapper.stop.Stop.{Stop}
 use Rattle.pickle_map.specs.declared.mapper.stop.Stop.TheVariants.{Fault, Limit, Device, Memory}
 use Rattle.pickle_meaning.specs.Answer.{Answer, BrokenOff}
 use Rattle.pickle_meaning.specs.Clauses.{FaultAt}
+use Rattle.pickle_meaning.specs.Fits.{Fits}
+use Rattle.pickle_meaning.specs.Room.{Slot, NodeSlot, ByteSlot, value_slots, slots}
 use Rattle.pickle_map.specs.Follows.{Broken, NoRoom}
 use Rattle.pickle_map.specs.Framed.{Runs}
+use Rattle.mapping_plans.specs.Mapping.{plan}
 use Rattle.mapping_plans.specs.Plan.{Plan}
 use Rattle.value_store.specs.Shown.{kept}
-use Rattle.value_store.specs.Slots.{Held}
+use Rattle.value_store.specs.declared.store.room.Growth.TheVariants.{Never}
+use Rattle.value_store.specs.Slots.{Held, emptied, HoldsInRoom, KeepsRoom}
 use Rattle.pickle_meaning.specs.Values.{Value, no_values, pushed}
 
 -- a store that holds one value, with the names of a table, and a fact of that value
@@ -28,27 +34,57 @@ pub record Gives (nodes : List Node) (store : Held) (P : Value → Type 0) : Typ
 -- a stop, as the fault of a mapping that began at s: what ends a run is told there
 abbrev pub told : Stop → (s : ℕ) → MapFault
 told (Fault kind place) s = record { kind = kind; at = place }
-told Limit s = record { kind = fault.Limit; at = s }
-told Device s = record { kind = fault.Device; at = s }
-told Memory s = record { kind = fault.Memory; at = s }
+told Limit s = record { kind = faults.Limit; at = s }
+told Device s = record { kind = faults.Device; at = s }
+told Memory s = record { kind = faults.Memory; at = s }
 
 -- What a fault says on these bits: it is the answer under the limit of steps, and the steps and the values made are the
 -- answer's; or, where a device or want of memory broke the mapping off, these are at most the answer's.
 abbrev pub FaultMeans : List ℕ → PokeType → Order → (s limit : ℕ) → MapFaultKind → (at steps made : ℕ) → Type 0
-FaultMeans bits ty order s limit fault.Device at k j = BrokenOff bits ty order s limit k j
-FaultMeans bits ty order s limit fault.Memory at k j = BrokenOff bits ty order s limit k j
+FaultMeans bits ty order s limit faults.Device at k j = BrokenOff bits ty order s limit k j
+FaultMeans bits ty order s limit faults.Memory at k j = BrokenOff bits ty order s limit k j
 FaultMeans bits ty order s limit kind at k j = Answer bits ty order s limit (Err (kind, at)) k j
 
 -- Where a device or want of memory broke a mapping off, its calls counted the steps and the values of its plan up to the read that
 -- failed, or up to what was to be kept and had no room.
 abbrev pub CountsToThere : MapFaultKind → SpaceView → (meter meter' : Meter) → Held → Plan (Result Value FaultAt) → Type 0
-CountsToThere fault.Device space meter meter' store p = Runs space meter meter' store p Broken
-CountsToThere fault.Memory space meter meter' store p = Runs space meter meter' store p NoRoom
+CountsToThere faults.Device space meter meter' store p = Runs space meter meter' store p Broken
+CountsToThere faults.Memory space meter meter' store p = Runs space meter meter' store p NoRoom
 CountsToThere kind space meter meter' store p = Unit {0}
 
 -- faults that a run ends with, which no type means
 abbrev pub EndsRun : MapFaultKind → Type 0
-EndsRun fault.Limit = Unit {0}
-EndsRun fault.Device = Unit {0}
-EndsRun fault.Memory = Unit {0}
+EndsRun faults.Limit = Unit {0}
+EndsRun faults.Device = Unit {0}
+EndsRun faults.Memory = Unit {0}
 EndsRun kind = ⊥
+
+-- what a mapping of a type from the bit `start` on does, into an empty store
+pub record IsMapped (nodes : List Node) (type : PokeType) (order : Order) (start : ℕ) (space space' : SpaceView) (meter meter' : Meter) (store store' : Held) (result : Result (Unit {0}) MapFault) : Type 0 where
+  -- Where the bytes are known: the value that the type means there, in its steps and with its values made.
+  pub value : (bytes : List ℕ) → space.bytes ≡ Some bytes → OnOk result (Gives nodes store' (λ v. Answer (bits_of bytes) type order start (meter.limit - meter.steps) (Ok v) (meter'.steps - meter.steps) (meter'.made - meter.made)))
+  -- Where they are known: the fault that the type means there, or Limit where that takes more steps than are left.
+  pub fault : (bytes : List ℕ) → space.bytes ≡ Some bytes → IfErr result (λ f. FaultMeans (bits_of bytes) type order start (meter.limit - meter.steps) f.kind f.at (meter'.steps - meter.steps) (meter'.made - meter.made))
+  -- Whatever the space gives: a value fits its type by the parts that are kept, and each of them was counted.
+  pub fits : OnOk result (Gives nodes store' (λ v. Fits (8 * space.len) type no_values start v))
+  pub size : OnOk result (Gives nodes store' (λ v. meter.made + (value_slots NodeSlot v + value_slots ByteSlot v) ≤ meter'.made))
+  pub rise : meter.steps ≤ meter'.steps
+  pub steps : meter'.steps ≤ meter.steps + cost type (8 * space.len)
+  pub made : (meter.made ≤ meter'.made) × (meter'.made + meter.steps ≤ meter.made + meter'.steps)
+  pub limit : IfErr result (λ f. f.kind ≡ faults.Limit → (meter'.steps ≡ meter.limit) × (meter.limit < meter.steps + cost type (8 * space.len)))
+  pub memory : IfErr result (λ f. f.kind ≡ faults.Memory → store.room.least < room_of type (8 * space.len))
+  pub device : IfErr result (λ f. f.kind ≡ faults.Device → HasRisen space.failures space'.failures)
+  -- A mapping that was broken off counted its steps and values up to the read that failed, or to what had no room.
+  pub counts : IfErr result (λ f. CountsToThere f.kind space meter meter' store (plan (8 * space.len) type order no_values start))
+  -- What ends a run is told at the mapping's start.
+  pub place : IfErr result (λ f. EndsRun f.kind → f.at ≡ start)
+  pub emptied : OnErr result (store' ≡ emptied store')
+  -- Of each kind the store holds no more than it has room for, which never gets less.
+  pub holds : HoldsInRoom store'
+  pub room : KeepsRoom store store'
+  -- What a store that never grows holds at most.
+  pub held : OnOk result (store.room.growth ≡ Never → (kind : Slot) → slots kind (kept nodes store') ≤ store.room.least)
+  pub most : meter'.limit ≡ meter.limit
+  pub len : space'.len ≡ space.len
+  pub bytes : space'.bytes ≡ space.bytes
+  pub failures : space.failures ≤ space'.failures

@@ -8,11 +8,11 @@ ghost use Rattle.pickle_types.specs.TypeTable.{nodes_of, type_named, IsInTable};
 ghost use Rattle.pickle_meaning.specs.Answer.{Answer};
 ghost use Rattle.pickle_meaning.specs.Fits.{Fits};
 ghost use Rattle.mapping_plans.specs.Mapping.{plan};
-ghost use Rattle.pickle_map.specs.Mapped.{Gives, FaultMeans, CountsToThere, EndsRun, told};
+ghost use Rattle.pickle_map.specs.Mapped.{Gives, FaultMeans, CountsToThere, EndsRun, IsMapped, told};
 ghost use Rattle.pickle_meaning.specs.Room.{Slot, NodeSlot, ByteSlot, value_slots, slots};
 ghost use Rattle.value_store.specs.Shown.{kept};
 ghost use Rattle.value_store.specs.declared.store.room.Growth.TheVariants.{Never};
-ghost use Rattle.value_store.specs.Slots.{empty};
+ghost use Rattle.value_store.specs.Slots.{emptied, HoldsInRoom, KeepsRoom};
 ghost use Rattle.pickle_meaning.specs.Values.{no_values};
 
 pub(crate) mod blame;
@@ -35,7 +35,7 @@ use value_store::store::Store;
 use watch::{Unwatched, Watch};
 
 /// Maps a type from the bit `start` on: the store then holds the value that it has there, or is empty, with the fault
-/// that the type has there or that ended the run. A store keeps its room, and a meter its counts.
+/// that the type has there or that ended the run. A store keeps all its room, and a meter its counts.
 ///
 /// Each value and each byte of a string is counted by the meter, and kept in a slot of each kind that it needs. The steps
 /// of a mapping are those of the table's `step_bound` at most; its slots those of `slot_bound`.
@@ -49,7 +49,7 @@ pub fn map<S: Space>(
     store: &mut Store,
 ) -> Result<(), MapFault>
     requires known { IsInTable table.now id }
-    requires empty { store.old ≡ empty store.old.room }
+    requires empty { store.old ≡ emptied store.old }
     // Where the bytes are known: the value that the type means there, in its steps and with its values made.
     ensures value { (bytes : List ℕ) → (S.view space.old).bytes ≡ Some bytes → OnOk result (Gives (nodes_of table.now) store.new (λ v. Answer (bits_of bytes) (type_named table.now id) order start (meter.old.limit - meter.old.steps) (Ok v) (meter.new.steps - meter.old.steps) (meter.new.made - meter.old.made))) }
     // Where they are known: the fault that the type means there, or Limit where that takes more steps than are left.
@@ -67,8 +67,10 @@ pub fn map<S: Space>(
     ensures counts { IfErr result (λ f. CountsToThere f.kind (S.view space.old) meter.old meter.new store.old (plan (8 * (S.view space.old).len) (type_named table.now id) order no_values start)) }
     // What ends a run is told at the mapping's start.
     ensures place { IfErr result (λ f. EndsRun f.kind → f.at ≡ start) }
-    ensures emptied { OnErr result (store.new ≡ empty store.old.room) }
-    ensures room { store.new.room ≡ store.old.room }
+    ensures emptied { OnErr result (store.new ≡ emptied store.new) }
+    // Of each kind the store holds no more than it has room for, which never gets less.
+    ensures holds { HoldsInRoom store.new }
+    ensures room { KeepsRoom store.old store.new }
     // What a store that never grows holds at most.
     ensures held { OnOk result (store.old.room.growth ≡ Never → (kind : Slot) → slots kind (kept (nodes_of table.now) store.new) ≤ store.old.room.least) }
     ensures most { meter.new.limit ≡ meter.old.limit }
@@ -92,32 +94,8 @@ pub fn map_watched<S: Space, W: Watch>(
     watch: &mut W,
 ) -> Result<(), MapFault>
     requires known { IsInTable table.now id }
-    requires empty { store.old ≡ empty store.old.room }
-    // Where the bytes are known: the value that the type means there, in its steps and with its values made.
-    ensures value { (bytes : List ℕ) → (S.view space.old).bytes ≡ Some bytes → OnOk result (Gives (nodes_of table.now) store.new (λ v. Answer (bits_of bytes) (type_named table.now id) order start (meter.old.limit - meter.old.steps) (Ok v) (meter.new.steps - meter.old.steps) (meter.new.made - meter.old.made))) }
-    // Where they are known: the fault that the type means there, or Limit where that takes more steps than are left.
-    ensures fault { (bytes : List ℕ) → (S.view space.old).bytes ≡ Some bytes → IfErr result (λ f. FaultMeans (bits_of bytes) (type_named table.now id) order start (meter.old.limit - meter.old.steps) f.kind f.at (meter.new.steps - meter.old.steps) (meter.new.made - meter.old.made)) }
-    // Whatever the space gives: a value fits its type by the parts that are kept, and each of them was counted.
-    ensures fits { OnOk result (Gives (nodes_of table.now) store.new (λ v. Fits (8 * (S.view space.old).len) (type_named table.now id) no_values start v)) }
-    ensures size { OnOk result (Gives (nodes_of table.now) store.new (λ v. meter.old.made + (value_slots NodeSlot v + value_slots ByteSlot v) ≤ meter.new.made)) }
-    ensures rise { meter.old.steps ≤ meter.new.steps }
-    ensures steps { meter.new.steps ≤ meter.old.steps + cost (type_named table.now id) (8 * (S.view space.old).len) }
-    ensures made { (meter.old.made ≤ meter.new.made) × (meter.new.made + meter.old.steps ≤ meter.old.made + meter.new.steps) }
-    ensures limit { IfErr result (λ f. f.kind ≡ MapFaultKind.Limit → (meter.new.steps ≡ meter.old.limit) × (meter.old.limit < meter.old.steps + cost (type_named table.now id) (8 * (S.view space.old).len))) }
-    ensures memory { IfErr result (λ f. f.kind ≡ MapFaultKind.Memory → store.old.room.least < room (type_named table.now id) (8 * (S.view space.old).len)) }
-    ensures device { IfErr result (λ f. f.kind ≡ MapFaultKind.Device → HasRisen (S.view space.old).failures (S.view space.new).failures) }
-    // A mapping that was broken off counted its steps and values up to the read that failed, or to what had no room.
-    ensures counts { IfErr result (λ f. CountsToThere f.kind (S.view space.old) meter.old meter.new store.old (plan (8 * (S.view space.old).len) (type_named table.now id) order no_values start)) }
-    // What ends a run is told at the mapping's start.
-    ensures place { IfErr result (λ f. EndsRun f.kind → f.at ≡ start) }
-    ensures emptied { OnErr result (store.new ≡ empty store.old.room) }
-    ensures room { store.new.room ≡ store.old.room }
-    // What a store that never grows holds at most.
-    ensures held { OnOk result (store.old.room.growth ≡ Never → (kind : Slot) → slots kind (kept (nodes_of table.now) store.new) ≤ store.old.room.least) }
-    ensures most { meter.new.limit ≡ meter.old.limit }
-    ensures len { (S.view space.new).len ≡ (S.view space.old).len }
-    ensures bytes { (S.view space.new).bytes ≡ (S.view space.old).bytes }
-    ensures failures { (S.view space.old).failures ≤ (S.view space.new).failures }
+    requires empty { store.old ≡ emptied store.old }
+    ensures { IsMapped (nodes_of table.now) (type_named table.now id) order start (S.view space.old) (S.view space.new) meter.old meter.new store.old store.new result }
 {
     match map_type(
         table.nodes(),

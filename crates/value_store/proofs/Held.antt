@@ -5,8 +5,8 @@ use Rattle.value_store.specs.declared.store.room.Room.{Room}
 use Rattle.value_store.specs.declared.store.slots.Marks.{Marks}
 use Rattle.value_store.specs.declared.store.slots.Shape.{Shape}
 use Rattle.value_store.specs.Tree.{Tree, parts_of}
-use Rattle.value_store.specs.Levels.{no_values, top_of, outer_of, extended, pushed, FitsIn}
-use Rattle.value_store.specs.Slots.{Slots, Held, empty, levels, stack, cut_to, marks_of, level_of, innermost, AreLevels, levels_at, Adds, IsNumber, number_value, IsComposite, composite_label, with_leaf, with_family, with_absent, HasRoom, around}
+use Rattle.value_store.specs.Levels.{Levels, no_values, top_of, outer_of, extended, pushed, FitsIn}
+use Rattle.value_store.specs.Slots.{Slots, Held, empty, levels, stack, cut_to, marks_of, level_of, innermost, AreLevels, levels_at, Adds, IsNumber, number_value, IsComposite, composite_label, with_leaf, with_family, with_absent, HasRoom, around, Regrown}
 use Rattle.value_store.proofs.Counted.{levels-more, levels_at-more, levels-above, levels_at-above, levels-sound, Adds-none, Adds-level}
 use Rattle.value_store.proofs.Placed.{number-adds, number-nodes, family-adds, absent-adds}
 use Rattle.value_store.proofs.Fits.{counted-never, room-holds, room-more, room-whole, levels-replaced, levels_at-replaced, innermost-level}
@@ -16,9 +16,9 @@ module _ (h : Held) (shape : Shape) (start c : ℕ) (number : IsNumber shape) (a
   pub number-frames : AreLevels h.room h.frames (with_leaf shape start c h.slots)
   number-frames = levels-more h.room h.frames h.slots (with_leaf shape start c h.slots) (Some (number_value shape start c) ∷ []) all (number-adds h.room shape start c h.slots number (levels-sound h.room h.frames h.slots all))
 
-  pub number-levels : levels (record { slots = with_leaf shape start c h.slots; frames = h.frames; room = h.room }) ≡ pushed (levels h) (Some (number_value shape start c))
+  pub number-levels : (capacity : Marks) → levels (record { slots = with_leaf shape start c h.slots; frames = h.frames; room = h.room; capacity = capacity }) ≡ pushed (levels h) (Some (number_value shape start c))
   unfolding levels
-  number-levels = levels_at-more h.room h.frames h.slots (with_leaf shape start c h.slots) (Some (number_value shape start c) ∷ []) all (number-adds h.room shape start c h.slots number (levels-sound h.room h.frames h.slots all))
+  number-levels capacity = levels_at-more h.room h.frames h.slots (with_leaf shape start c h.slots) (Some (number_value shape start c) ∷ []) all (number-adds h.room shape start c h.slots number (levels-sound h.room h.frames h.slots all))
 
   pub number-room : FitsIn h.room (pushed (levels h) (Some (number_value shape start c))) → HasRoom h.room h.slots 1 0 1 0
   unfolding levels
@@ -42,9 +42,9 @@ module _ (h : Held) (shape : Shape) (start size : ℕ) (composite : IsComposite 
   pub family-frames : AreLevels h.room h.frames (with_family shape start size (innermost h.frames).pending h.slots)
   family-frames = levels-replaced h.room h.frames h.slots (with_family shape start size (innermost h.frames).pending h.slots) _ all family-adds-here
 
-  pub family-levels : levels (record { slots = with_family shape start size (innermost h.frames).pending h.slots; frames = h.frames; room = h.room }) ≡ (Some (Tree (composite_label shape) start size (parts_of (top_of (levels h)))) ∷ []) ∷ outer_of (levels h)
+  pub family-levels : (capacity : Marks) → levels (record { slots = with_family shape start size (innermost h.frames).pending h.slots; frames = h.frames; room = h.room; capacity = capacity }) ≡ (Some (Tree (composite_label shape) start size (parts_of (top_of (levels h)))) ∷ []) ∷ outer_of (levels h)
   unfolding levels
-  family-levels =
+  family-levels capacity =
       let i = innermost-level h.room h.frames h.slots all in
       levels_at-replaced h.room h.frames h.slots (with_family shape start size (innermost h.frames).pending h.slots) _ all family-adds-here
       ∙ ap (λ os. (Some (Tree (composite_label shape) start size (parts_of os)) ∷ []) ∷ outer_of (levels_at h.frames h.slots)) (sym i.top)
@@ -78,9 +78,9 @@ module _ (h : Held) (all : AreLevels h.room h.frames h.slots) where
   pub open-frames : AreLevels h.room (marks_of h.slots ∷ h.frames) h.slots
   open-frames = levels-above h.room h.frames h.slots h.slots [] all (Adds-none h.room h.slots (levels-sound h.room h.frames h.slots all))
 
-  pub open-levels : levels (record { slots = h.slots; frames = marks_of h.slots ∷ h.frames; room = h.room }) ≡ [] ∷ levels h
+  pub open-levels : (capacity : Marks) → levels (record { slots = h.slots; frames = marks_of h.slots ∷ h.frames; room = h.room; capacity = capacity }) ≡ [] ∷ levels h
   unfolding levels
-  open-levels = levels_at-above h.room h.frames h.slots h.slots [] (Adds-none h.room h.slots (levels-sound h.room h.frames h.slots all))
+  open-levels capacity = levels_at-above h.room h.frames h.slots h.slots [] (Adds-none h.room h.slots (levels-sound h.room h.frames h.slots all))
 
   clear-adds : Adds h.room (cut_to (innermost h.frames) h.slots) (cut_to (innermost h.frames) h.slots) []
   clear-adds = Adds-none h.room (cut_to (innermost h.frames) h.slots) (innermost-level h.room h.frames h.slots all).cut
@@ -88,9 +88,9 @@ module _ (h : Held) (all : AreLevels h.room h.frames h.slots) where
   pub clear-frames : AreLevels h.room h.frames (cut_to (innermost h.frames) h.slots)
   clear-frames = levels-replaced h.room h.frames h.slots (cut_to (innermost h.frames) h.slots) [] all clear-adds
 
-  pub clear-levels : levels (record { slots = cut_to (innermost h.frames) h.slots; frames = h.frames; room = h.room }) ≡ [] ∷ outer_of (levels h)
+  pub clear-levels : (capacity : Marks) → levels (record { slots = cut_to (innermost h.frames) h.slots; frames = h.frames; room = h.room; capacity = capacity }) ≡ [] ∷ outer_of (levels h)
   unfolding levels
-  clear-levels = levels_at-replaced h.room h.frames h.slots (cut_to (innermost h.frames) h.slots) [] all clear-adds
+  clear-levels capacity = levels_at-replaced h.room h.frames h.slots (cut_to (innermost h.frames) h.slots) [] all clear-adds
 
 lift-frames_at : (room : Room) (ks : List Marks) (s : Slots) → AreLevels room ks s → AreLevels room (around ks) s
 lift-frames_at room [] s all = all
@@ -103,17 +103,17 @@ lift-levels_at room (k ∷ ks) s all = levels_at-more room ks (cut_to k s) s (le
 pub lift-frames : (h : Held) → AreLevels h.room h.frames h.slots → AreLevels h.room (around h.frames) h.slots
 lift-frames h all = lift-frames_at h.room h.frames h.slots all
 
-pub lift-levels : (h : Held) → AreLevels h.room h.frames h.slots → levels (record { slots = h.slots; frames = around h.frames; room = h.room }) ≡ extended (outer_of (levels h)) (top_of (levels h))
+pub lift-levels : (h : Held) (capacity : Marks) → AreLevels h.room h.frames h.slots → levels (record { slots = h.slots; frames = around h.frames; room = h.room; capacity = capacity }) ≡ extended (outer_of (levels h)) (top_of (levels h))
 unfolding levels
-lift-levels h all = lift-levels_at h.room h.frames h.slots all
+lift-levels h capacity all = lift-levels_at h.room h.frames h.slots all
 
 -- absent fields
 pub absent-frames : (h : Held) → AreLevels h.room h.frames h.slots → AreLevels h.room h.frames (with_absent h.slots)
 absent-frames h all = levels-more h.room h.frames h.slots (with_absent h.slots) (None ∷ []) all (absent-adds h.room h.slots (levels-sound h.room h.frames h.slots all))
 
-pub absent-levels : (h : Held) → AreLevels h.room h.frames h.slots → levels (record { slots = with_absent h.slots; frames = h.frames; room = h.room }) ≡ pushed (levels h) None
+pub absent-levels : (h : Held) (capacity : Marks) → AreLevels h.room h.frames h.slots → levels (record { slots = with_absent h.slots; frames = h.frames; room = h.room; capacity = capacity }) ≡ pushed (levels h) None
 unfolding levels
-absent-levels h all = levels_at-more h.room h.frames h.slots (with_absent h.slots) (None ∷ []) all (absent-adds h.room h.slots (levels-sound h.room h.frames h.slots all))
+absent-levels h capacity all = levels_at-more h.room h.frames h.slots (with_absent h.slots) (None ∷ []) all (absent-adds h.room h.slots (levels-sound h.room h.frames h.slots all))
 
 pub absent-room : (h : Held) → AreLevels h.room h.frames h.slots → FitsIn h.room (pushed (levels h) None) → HasRoom h.room h.slots 0 0 1 0
 unfolding levels
@@ -140,8 +140,13 @@ depth-lift h n e =
     length-levels n ∙ ap (λ (ks : List Marks). 1 + length ks) e ∙ length-around h.frames ∙ ap (λ m. max 1 (m - 1)) (sym (length-levels h))
 
 -- an empty store builds nothing
-pub none-open : (room : Room) → levels (empty room) ≡ no_values
+pub none-open : (room : Room) (capacity : Marks) → levels (empty room capacity) ≡ no_values
 unfolding levels stack
-none-open room = refl
+none-open room capacity = refl
 
 pub ruleset none_open = (none-open)
+
+-- a store that has grown builds the same
+pub regrown-levels : (before after : Held) → Regrown before after → levels after ≡ levels before
+unfolding levels
+regrown-levels before after e = let f : Held → Levels = λ h. levels_at h.frames h.slots in ap f e

@@ -10,7 +10,7 @@ use Rattle.value_store.specs.declared.store.slots.Shape.{Shape}
 use Rattle.value_store.specs.declared.store.slots.Shape.TheVariants.{Integer, Offset, Text, Integers, Offsets, Array, Struct, Union}
 use Rattle.value_store.specs.Packed.{bytes_for, number_bytes, packed, numbers_in}
 use Rattle.value_store.specs.Levels.{Levels, top_of, outer_of, extended, pushed}
-use Rattle.value_store.specs.Slots.{Held, packs, levels, AreLevels, IsPacked, element_width, row_value, AreNumbers, with_bytes, with_more, AreBytes, bytes_value, MayKeep, HasNoNode, IsFilling, IsPacking, GoesOn}
+use Rattle.value_store.specs.Slots.{Held, packs, levels, AreLevels, IsPacked, element_width, row_value, AreNumbers, with_bytes, with_more, AreBytes, bytes_value, MayKeep, HasNoNode, IsFilling, IsPacking, GoesOn, Regrown}
 use Rattle.value_store.proofs.Packed.{length-number_bytes, le_bytes-take, packed-push, numbers_in-packed, packed-none, bytes_for-some, bytes_for-most}
 use Rattle.value_store.proofs.Writing.{filling-levels, filling-empty, filling-outer, fresh-empty, empty-fresh, stale-some, fresh-filling, stale-filling, stale-goes_on, opened-filling}
 
@@ -135,33 +135,33 @@ on_ok (Err x) f a = tt
 -- the clauses of the calls
 module _ (h n : Held) (shape : Shape) (width digits start : ℕ) (own : List ℕ) (p : IsPacked shape) (same : width ≡ element_width shape)
     (small : digits < 2 ^ width) (is : own ≡ number_bytes (bytes_for (element_width shape)) digits) where
-  fresh-takes : HasNoNode h → n ≡ record h { slots = with_bytes shape own start h.slots } → Takes h n shape width digits start
+  fresh-takes : HasNoNode h → Regrown (record h { slots = with_bytes shape own start h.slots }) n → Takes h n shape width digits start
   fresh-takes fresh e = λ numbers outer w short.
       let short : start + element_width shape * (length numbers + 1) < 2 ^ 64 = subst (λ m. start + m * (length numbers + 1) < 2 ^ 64) same short in
       let small : digits < 2 ^ element_width shape = subst (λ m. digits < 2 ^ m) same small in
       let bytes = number_bytes (bytes_for (element_width shape)) digits in
       let some : 0 < length bytes = omega (arith, length-number_bytes (bytes_for (element_width shape)) digits, bytes_for-some (element_width shape) (row-width shape p).0) in
-      let e : n ≡ record h { slots = with_bytes shape bytes start h.slots } = subst (λ bs. n ≡ record h { slots = with_bytes shape bs start h.slots }) is e in
+      let e : Regrown (record h { slots = with_bytes shape bytes start h.slots }) n = subst (λ bs. Regrown (record h { slots = with_bytes shape bs start h.slots }) n) is e in
       let are = one-are shape digits (length numbers) start p small short in
       more-packing h shape digits numbers start outer w p small short n
       (subst (λ u. IsFilling u shape (row_bytes shape numbers ++ bytes) start outer) (sym e)
-      (fresh-filling h shape bytes (row_bytes shape numbers) start outer w.filling fresh some are))
+      (fresh-filling h shape bytes (row_bytes shape numbers) start outer w.filling _ fresh some are))
 
-  stale-takes : (HasNoNode h → ⊥) → n ≡ record h { slots = with_more own h.slots } → Takes h n shape width digits start
+  stale-takes : (HasNoNode h → ⊥) → Regrown (record h { slots = with_more own h.slots }) n → Takes h n shape width digits start
   stale-takes stale e = λ numbers outer w short.
       let short : start + element_width shape * (length numbers + 1) < 2 ^ 64 = subst (λ m. start + m * (length numbers + 1) < 2 ^ 64) same short in
       let small : digits < 2 ^ element_width shape = subst (λ m. digits < 2 ^ m) same small in
       let bytes = number_bytes (bytes_for (element_width shape)) digits in
-      let e : n ≡ record h { slots = with_more bytes h.slots } = subst (λ bs. n ≡ record h { slots = with_more bs h.slots }) is e in
+      let e : Regrown (record h { slots = with_more bytes h.slots }) n = subst (λ bs. Regrown (record h { slots = with_more bs h.slots }) n) is e in
       let are = more-are h shape digits numbers start outer w p small short in
       more-packing h shape digits numbers start outer w p small short n
       (subst (λ u. IsFilling u shape (row_bytes shape numbers ++ bytes) start outer) (sym e)
-      (stale-filling h shape bytes (row_bytes shape numbers) start outer w.filling stale are))
+      (stale-filling h shape bytes (row_bytes shape numbers) start outer w.filling _ stale are))
 
-  pub fresh-packs : {T E : Type 0} (r : Result T E) → HasNoNode h → OnOk r (n ≡ record h { slots = with_bytes shape own start h.slots }) → OnOk r (Takes h n shape width digits start)
+  pub fresh-packs : {T E : Type 0} (r : Result T E) → HasNoNode h → OnOk r (Regrown (record h { slots = with_bytes shape own start h.slots }) n) → OnOk r (Takes h n shape width digits start)
   fresh-packs r fresh e = on_ok r (fresh-takes fresh) e
 
-  pub stale-packs : {T E : Type 0} (r : Result T E) → (HasNoNode h → ⊥) → OnOk r (n ≡ record h { slots = with_more own h.slots }) → OnOk r (Takes h n shape width digits start)
+  pub stale-packs : {T E : Type 0} (r : Result T E) → (HasNoNode h → ⊥) → OnOk r (Regrown (record h { slots = with_more own h.slots }) n) → OnOk r (Takes h n shape width digits start)
   stale-packs r stale e = on_ok r (stale-takes stale) e
 
 -- the array is closed

@@ -1,12 +1,12 @@
 -- The parts of the values that a store's trees show.
-use Rattle.std.proofs.Common.{◌≡◌, ℕ, zero, suc, List, [], ◌∷◌, length, Option, Some, None, Result, Ok, Err, Bool, true, false, ℤ, pos, negsuc, refl, arith}
-use Rattle.std.specs.Prelude.{slice_get, unwrap_or, nat_eq, nat_lt, if◌then◌else◌}
+use Rattle.std.proofs.Common.{◌≡◌, ℕ, zero, suc, List, [], ◌∷◌, length, Option, Some, None, refl, arith}
+use Rattle.std.specs.Prelude.{slice_get, unwrap_or}
 use Rattle.std.specs.Option.{option_map}
 use Rattle.pickle_types.specs.declared.table.Node.{Node}
 use Rattle.value_store.specs.Tree as tree
 use Rattle.value_store.specs.Levels as stored
 use Rattle.value_store.specs.Slots.{Held, levels}
-use Rattle.pickle_meaning.specs.Values.{Value, IntegerLabel, member_at, member_count, level_at, value_at}
+use Rattle.pickle_meaning.specs.Values.{member_at, member_count, level_at, value_at}
 use Rattle.value_store.specs.Shown.{shown, shown_parts, shown_member, shown_level, shown_levels, kept}
 
 module _ (nodes : List Node) where

@@ -4,12 +4,13 @@ use Rattle.std.specs.Prelude.{slice_set}
 use Rattle.std.proofs.Math.Seq.{take-length}
 use Rattle.std.proofs.lemmas.List.{append_assoc, length-append, length_push, length-set, take_at, take_more_set}
 use Rattle.value_store.specs.declared.store.room.Room.{Room}
+use Rattle.value_store.specs.declared.store.slots.Marks.{Marks}
 use Rattle.value_store.specs.declared.store.slots.Node.{Node}
 use Rattle.value_store.specs.declared.store.slots.Shape.{Shape}
 use Rattle.value_store.specs.declared.store.slots.Shape.TheVariants.{Text}
 use Rattle.value_store.specs.Tree.{text_value}
 use Rattle.value_store.specs.Levels.{Levels, top_of, outer_of, extended, pushed, text_level, FitsIn}
-use Rattle.value_store.specs.Slots.{Slots, Held, levels, AreLevels, levels_at, Adds, IsShort, with_bytes, with_more, AreBytes, bytes_value, MayKeep, written, HasRoom, HasNoNode, IsFilling, IsWriting, GoesOn}
+use Rattle.value_store.specs.Slots.{Slots, Held, levels, AreLevels, levels_at, Adds, IsShort, with_bytes, with_more, AreBytes, bytes_value, MayKeep, written, HasRoom, HasNoNode, IsFilling, IsWriting, GoesOn, Regrown}
 use Rattle.value_store.proofs.Counted.{levels-more, levels_at-more, levels-sound}
 use Rattle.value_store.proofs.PlacedBytes.{bytes-adds, bytes-takes}
 use Rattle.value_store.proofs.Fits.{room-more, room-byte, counted-pushed, total_nodes-extended, total_links-extended, total_pending-extended, total_bytes-extended}
@@ -22,9 +23,9 @@ module _ (h : Held) (shape : Shape) (bytes : List ℕ) (start : ℕ) (all : AreL
   pub bytes-frames : AreLevels h.room h.frames (with_bytes shape bytes start h.slots)
   bytes-frames = levels-more h.room h.frames h.slots (with_bytes shape bytes start h.slots) (Some (bytes_value shape bytes start) ∷ []) all adds-here
 
-  pub bytes-levels : levels (record { slots = with_bytes shape bytes start h.slots; frames = h.frames; room = h.room }) ≡ pushed (levels h) (Some (bytes_value shape bytes start))
+  pub bytes-levels : (capacity : Marks) → levels (record { slots = with_bytes shape bytes start h.slots; frames = h.frames; room = h.room; capacity = capacity }) ≡ pushed (levels h) (Some (bytes_value shape bytes start))
   unfolding levels
-  bytes-levels = levels_at-more h.room h.frames h.slots (with_bytes shape bytes start h.slots) (Some (bytes_value shape bytes start) ∷ []) all adds-here
+  bytes-levels capacity = levels_at-more h.room h.frames h.slots (with_bytes shape bytes start h.slots) (Some (bytes_value shape bytes start) ∷ []) all adds-here
 
   pub bytes-room : FitsIn h.room (pushed (levels h) (Some (bytes_value shape bytes start))) → HasRoom h.room h.slots 1 0 1 (length bytes)
   unfolding levels
@@ -131,12 +132,12 @@ stale-some h shape (b ∷ bytes) start outer w n = omega arith
 
 -- more bytes of a value that is fresh, or not
 module _ (h : Held) (shape : Shape) (more bytes : List ℕ) (start : ℕ) (outer : Levels) (w : IsFilling h shape bytes start outer) where
-  pub fresh-filling : HasNoNode h → 0 < length more → AreBytes shape more start →
-      IsFilling (record { slots = with_bytes shape more start h.slots; frames = h.frames; room = h.room }) shape (bytes ++ more) start outer
-  fresh-filling e some are =
+  pub fresh-filling : (capacity : Marks) → HasNoNode h → 0 < length more → AreBytes shape more start →
+      IsFilling (record { slots = with_bytes shape more start h.slots; frames = h.frames; room = h.room; capacity = capacity }) shape (bytes ++ more) start outer
+  fresh-filling capacity e some are =
       let none = fresh-empty h shape bytes start outer w e in
       let w' : IsFilling h shape [] start outer = subst (λ bs. IsFilling h shape bs start outer) none w in
-      let u : IsFilling (record { slots = with_bytes shape more start h.slots; frames = h.frames; room = h.room }) shape ([] ++ more) start outer = record {
+      let u : IsFilling (record { slots = with_bytes shape more start h.slots; frames = h.frames; room = h.room; capacity = capacity }) shape ([] ++ more) start outer = record {
         before = w'.before;
         is = ap (with_bytes shape more start) w'.is ∙ sym (written-some shape more start w'.before some);
         own = w'.own;
@@ -145,11 +146,11 @@ module _ (h : Held) (shape : Shape) (more bytes : List ℕ) (start : ℕ) (outer
         are = are;
         may = w'.may;
       } in
-      subst (λ bs. IsFilling (record { slots = with_bytes shape more start h.slots; frames = h.frames; room = h.room }) shape (bs ++ more) start outer) (sym none) u
+      subst (λ bs. IsFilling (record { slots = with_bytes shape more start h.slots; frames = h.frames; room = h.room; capacity = capacity }) shape (bs ++ more) start outer) (sym none) u
 
-  pub stale-filling : (HasNoNode h → ⊥) → AreBytes shape (bytes ++ more) start →
-      IsFilling (record { slots = with_more more h.slots; frames = h.frames; room = h.room }) shape (bytes ++ more) start outer
-  stale-filling n are =
+  pub stale-filling : (capacity : Marks) → (HasNoNode h → ⊥) → AreBytes shape (bytes ++ more) start →
+      IsFilling (record { slots = with_more more h.slots; frames = h.frames; room = h.room; capacity = capacity }) shape (bytes ++ more) start outer
+  stale-filling capacity n are =
       let some = stale-some h shape bytes start outer w n in
       let longer : 0 < length (bytes ++ more) = omega (arith, length-append bytes more) in
       record {
@@ -225,22 +226,22 @@ pub fresh-clause : {T E : Type 0} (r : Result T E) (h n : Held) (byte start : �
 fresh-clause (Ok x) h n byte start fresh e = λ bytes outer w short. e ∙ fresh-levels h byte bytes start outer w fresh
 fresh-clause (Err x) h n byte start fresh e = tt
 
-pub fresh-writes : {T E : Type 0} (r : Result T E) (h n : Held) (byte start : ℕ) → HasNoNode h → OnOk r (n ≡ record h { slots = with_bytes Text (byte ∷ []) start h.slots }) →
+pub fresh-writes : {T E : Type 0} (r : Result T E) (h n : Held) (byte start : ℕ) → HasNoNode h → OnOk r (Regrown (record h { slots = with_bytes Text (byte ∷ []) start h.slots }) n) →
     OnOk r ((bytes : List ℕ) (outer : Levels) → IsWriting h bytes start outer → IsShort (length bytes + 1) → IsWriting n (bytes ++ byte ∷ []) start outer)
 fresh-writes (Ok x) h n byte start fresh e = λ bytes outer w short.
-    subst (λ u. IsFilling u Text (bytes ++ byte ∷ []) start outer) (sym e) (fresh-filling h Text (byte ∷ []) bytes start outer w fresh (omega arith) (lit< tt))
+    subst (λ u. IsFilling u Text (bytes ++ byte ∷ []) start outer) (sym e) (fresh-filling h Text (byte ∷ []) bytes start outer w _ fresh (omega arith) (lit< tt))
 fresh-writes (Err x) h n byte start fresh e = tt
 
-pub stale-writes : {T E : Type 0} (r : Result T E) (h n : Held) (byte start : ℕ) → (HasNoNode h → ⊥) → OnOk r (n ≡ record h { slots = with_more (byte ∷ []) h.slots }) →
+pub stale-writes : {T E : Type 0} (r : Result T E) (h n : Held) (byte start : ℕ) → (HasNoNode h → ⊥) → OnOk r (Regrown (record h { slots = with_more (byte ∷ []) h.slots }) n) →
     OnOk r ((bytes : List ℕ) (outer : Levels) → IsWriting h bytes start outer → IsShort (length bytes + 1) → IsWriting n (bytes ++ byte ∷ []) start outer)
 stale-writes (Ok x) h n byte start stale e = λ bytes outer w short.
-    subst (λ u. IsFilling u Text (bytes ++ byte ∷ []) start outer) (sym e) (stale-filling h Text (byte ∷ []) bytes start outer w stale (short-push bytes byte short))
+    subst (λ u. IsFilling u Text (bytes ++ byte ∷ []) start outer) (sym e) (stale-filling h Text (byte ∷ []) bytes start outer w _ stale (short-push bytes byte short))
 stale-writes (Err x) h n byte start stale e = tt
 
-pub stale-clause : {T E : Type 0} (r : Result T E) (h n : Held) (byte start : ℕ) → (HasNoNode h → ⊥) → OnOk r (n ≡ record h { slots = with_more (byte ∷ []) h.slots }) →
+pub stale-clause : {T E : Type 0} (r : Result T E) (h n : Held) (byte start : ℕ) → (HasNoNode h → ⊥) → OnOk r (Regrown (record h { slots = with_more (byte ∷ []) h.slots }) n) →
     OnOk r ((bytes : List ℕ) (outer : Levels) → IsWriting h bytes start outer → IsShort (length bytes + 1) → levels n ≡ text_level (bytes ++ byte ∷ []) start outer)
 stale-clause (Ok x) h n byte start stale e = λ bytes outer w short.
-    ap levels e ∙ writing-levels _ _ _ _ (stale-filling h Text (byte ∷ []) bytes start outer w stale (short-push bytes byte short)) (omega (arith, length_push bytes byte))
+    ap levels e ∙ writing-levels _ _ _ _ (stale-filling h Text (byte ∷ []) bytes start outer w _ stale (short-push bytes byte short)) (omega (arith, length_push bytes byte))
 stale-clause (Err x) h n byte start stale e = tt
 
 -- the levels of a text that is lifted

@@ -1,5 +1,5 @@
 -- Levels for which a store has too little room.
-use Rattle.std.specs.Prelude.{ℕ, ◌<◌}
+use Rattle.std.specs.Prelude.{◌<◌}
 use Rattle.value_store.specs.declared.store.room.Room.{Room}
 use Rattle.pickle_meaning.specs.Room.{Slot, slots}
 use Rattle.pickle_meaning.specs.Values.{Levels}

@@ -27,11 +27,13 @@ pub record Slots : Type 0 where
 abbrev pub no_slots : Slots
 no_slots = record { nodes = []; families = []; links = []; pending = []; texts = []; bytes = [] }
 
--- a store: its slots, the marks of the values that are open, the innermost first, and the room that it keeps
+-- a store: its slots, the marks of the values that are open, the innermost first, the room that it was made with, and how many slots of
+-- each kind its vectors have room for
 pub record Held : Type 0 where
   pub slots : Slots
   pub frames : List Marks
   pub room : Room
+  pub capacity : Marks
 
 -- room for n slots of each kind at least, and for more where there is memory
 abbrev pub growing : ℕ → Room
@@ -53,8 +55,35 @@ packs room = packs_as room.growth room.least
 abbrev pub IsCounted : Room → Type 0
 IsCounted room = packs room ≡ false
 
-abbrev pub empty : Room → Held
-empty room = record { slots = no_slots; frames = []; room = room }
+abbrev pub empty : Room → (capacity : Marks) → Held
+empty room capacity = record { slots = no_slots; frames = []; room = room; capacity = capacity }
+
+-- a store without what it holds: all that its vectors have room for stays
+abbrev pub emptied : Held → Held
+emptied h = empty h.room h.capacity
+
+-- the same store, but for what its vectors have room for
+abbrev pub Regrown : (before after : Held) → Type 0
+Regrown before after = after ≡ record before { capacity = after.capacity }
+
+-- the room that a store was made with is the same, and no vector has room for less than before
+pub record KeepsRoom (before after : Held) : Type 0 where
+  pub room : after.room ≡ before.room
+  pub nodes : before.capacity.nodes ≤ after.capacity.nodes
+  pub families : before.capacity.families ≤ after.capacity.families
+  pub links : before.capacity.links ≤ after.capacity.links
+  pub pending : before.capacity.pending ≤ after.capacity.pending
+  pub texts : before.capacity.texts ≤ after.capacity.texts
+  pub bytes : before.capacity.bytes ≤ after.capacity.bytes
+
+-- of each kind a store holds no more than its vectors have room for
+pub record HoldsInRoom (h : Held) : Type 0 where
+  pub nodes : length h.slots.nodes ≤ h.capacity.nodes
+  pub families : length h.slots.families ≤ h.capacity.families
+  pub links : length h.slots.links ≤ h.capacity.links
+  pub pending : length h.slots.pending ≤ h.capacity.pending
+  pub texts : length h.slots.texts ≤ h.capacity.texts
+  pub bytes : length h.slots.bytes ≤ h.capacity.bytes
 
 -- `count` elements from `first` on
 abbrev pub part : {A : Type 0} → ℕ → ℕ → List A → List A
@@ -516,25 +545,25 @@ abbrev pub IsContentNumber : Bool → ℤ → Type 0
 IsContentNumber true z = FitsSigned w64 z
 IsContentNumber false z = FitsUnsigned w64 z
 
--- each vector has a capacity of just n
-pub record AreAll (n node_capacity family_capacity link_capacity pending_capacity text_capacity byte_capacity : ℕ) : Type 0 where
-  pub nodes : node_capacity ≡ n
-  pub families : family_capacity ≡ n
-  pub links : link_capacity ≡ n
-  pub pending : pending_capacity ≡ n
-  pub texts : text_capacity ≡ n
-  pub bytes : byte_capacity ≡ n
+-- each vector has room for just n
+pub record AreAll (n : ℕ) (capacity : Marks) : Type 0 where
+  pub nodes : capacity.nodes ≡ n
+  pub families : capacity.families ≡ n
+  pub links : capacity.links ≡ n
+  pub pending : capacity.pending ≡ n
+  pub texts : capacity.texts ≡ n
+  pub bytes : capacity.bytes ≡ n
 
--- What holds of a store, with the capacities of its vectors: each has the store's room, and just that where it never grows.
-pub record IsStore (h : Held) (node_capacity family_capacity link_capacity pending_capacity text_capacity byte_capacity : ℕ) : Type 0 where
+-- What holds of a store: each vector has the room that the store was made with, and just that where it never grows.
+pub record IsStore (h : Held) : Type 0 where
   pub levels : AreLevels h.room h.frames h.slots
-  pub nodes : h.room.least ≤ node_capacity
-  pub families : h.room.least ≤ family_capacity
-  pub links : h.room.least ≤ link_capacity
-  pub pending : h.room.least ≤ pending_capacity
-  pub texts : h.room.least ≤ text_capacity
-  pub bytes : h.room.least ≤ byte_capacity
-  pub fixed : h.room.growth ≡ Never → AreAll h.room.least node_capacity family_capacity link_capacity pending_capacity text_capacity byte_capacity
+  pub nodes : h.room.least ≤ h.capacity.nodes
+  pub families : h.room.least ≤ h.capacity.families
+  pub links : h.room.least ≤ h.capacity.links
+  pub pending : h.room.least ≤ h.capacity.pending
+  pub texts : h.room.least ≤ h.capacity.texts
+  pub bytes : h.room.least ≤ h.capacity.bytes
+  pub fixed : h.room.growth ≡ Never → AreAll h.room.least h.capacity
 
 -- the marks of the values around the innermost open one
 abbrev pub around : List Marks → List Marks

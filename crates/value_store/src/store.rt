@@ -1,7 +1,9 @@
+//! The store of the values of a mapping.
+
 ghost use Rattle.std.specs.Prelude.{◌≡◌, ◌≤◌, ◌-◌, ◌++◌, ◌∷◌, [], Some, None, take, drop, IfOk, IsTrue, ◌↔◌, vec_len, vec_capacity};
 ghost use Rattle.value_store.specs.Levels.{no_values, FitsIn};
 ghost use Rattle.value_store.specs.declared.store.room.Growth.TheVariants.{Never};
-ghost use Rattle.value_store.specs.Slots.{empty, growing, fixed, marks_of, innermost, levels};
+ghost use Rattle.value_store.specs.Slots.{empty, emptied, growing, fixed, marks_of, innermost, levels, HoldsInRoom};
 
 mod append;
 mod bytes;
@@ -49,20 +51,22 @@ impl Model for Store {
       slots = record { nodes = a.nodes.items; families = a.families.items; links = a.links.items; pending = a.pending.items; texts = a.texts.items; bytes = a.bytes.items };
       frames = reverse a.frames.items;
       room = a.room;
+      capacity = record { nodes = vec_capacity a.nodes; families = vec_capacity a.families; links = vec_capacity a.links; pending = vec_capacity a.pending; texts = vec_capacity a.texts; bytes = vec_capacity a.bytes };
     } };
 
     ghost invariant = { λ a. IsStore (record {
       slots = record { nodes = a.nodes.items; families = a.families.items; links = a.links.items; pending = a.pending.items; texts = a.texts.items; bytes = a.bytes.items };
       frames = reverse a.frames.items;
       room = a.room;
-    }) (vec_capacity a.nodes) (vec_capacity a.families) (vec_capacity a.links) (vec_capacity a.pending) (vec_capacity a.texts) (vec_capacity a.bytes) };
+      capacity = record { nodes = vec_capacity a.nodes; families = vec_capacity a.families; links = vec_capacity a.links; pending = vec_capacity a.pending; texts = vec_capacity a.texts; bytes = vec_capacity a.bytes };
+    }) };
 }
 
 #[tactic(auto, using(crate::proofs::Held::none_open))]
 impl Store {
     /// An empty store without room.
     pub fn new(alloc: Global) -> Store
-        ensures empty { result ≡ empty (growing 0) }
+        ensures empty { result ≡ empty (growing 0) result.capacity }
         ensures levels { levels result ≡ no_values }
     {
         Store {
@@ -82,7 +86,7 @@ impl Store {
 
     /// An empty store with room for `room` nodes, links, pending children and bytes of texts, each.
     pub fn with_room(alloc: Global, room: usize) -> Result<Store, Memory>
-        ensures empty { IfOk result (λ s. s ≡ empty (growing room)) }
+        ensures empty { IfOk result (λ s. s ≡ empty (growing room) s.capacity) }
         ensures levels { IfOk result (λ s. levels s ≡ no_values) }
     {
         Store::reserved(
@@ -97,7 +101,7 @@ impl Store {
     /// An empty store with room for `most` nodes, links, pending children and bytes of texts, each, which never asks for more:
     /// what doesn't fit is refused as want of memory.
     pub fn with_most(alloc: Global, most: usize) -> Result<Store, Memory>
-        ensures empty { IfOk result (λ s. s ≡ empty (fixed most)) }
+        ensures empty { IfOk result (λ s. s ≡ empty (fixed most) s.capacity) }
         ensures levels { IfOk result (λ s. levels s ≡ no_values) }
     {
         Store::reserved(
@@ -111,7 +115,7 @@ impl Store {
 
     // An empty store that has all its room.
     fn reserved(alloc: Global, room: Room) -> Result<Store, Memory>
-        ensures empty { IfOk result (λ s. s ≡ empty room) }
+        ensures empty { IfOk result (λ s. s ≡ empty room s.capacity) }
     {
         let nodes = Vec::with_capacity(alloc, room.least)?;
         let families = Vec::with_capacity(alloc, room.least)?;
@@ -131,9 +135,9 @@ impl Store {
         })
     }
 
-    /// Empties the store, and keeps its room.
+    /// Empties the store, and keeps all that its vectors have room for.
     pub fn clear(&mut self)
-        ensures empty { self.new ≡ empty self.old.room }
+        ensures empty { self.new ≡ emptied self.old }
         ensures levels { levels self.new ≡ no_values }
     {
         self.nodes.clear();
@@ -145,10 +149,12 @@ impl Store {
         self.frames.clear();
     }
 
-    /// Whether the store never asks for more room than it was made with. What such a store holds fits in that.
+    /// Whether the store never asks for more room than it was made with. What such a store holds fits in that, and what any store
+    /// holds in what its vectors have room for.
     pub fn never_grows(&self) -> bool
         ensures is { IsTrue result ↔ (self.now.room.growth ≡ Never) }
         ensures fits { self.now.room.growth ≡ Never → FitsIn self.now.room (levels self.now) }
+        ensures holds { HoldsInRoom self.now }
     {
         matches!(self.room.growth, Growth::Never)
     }

@@ -1,3 +1,5 @@
+//! References to values without the names of their types.
+
 ghost use Rattle.std.specs.Prelude.{◌≡◌, ◌<◌, length, IfSome};
 ghost use Rattle.std.specs.Option.{option_map};
 ghost use Rattle.value_store.specs.Integers.{HasIntegersOf};

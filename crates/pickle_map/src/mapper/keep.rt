@@ -5,7 +5,7 @@ ghost use Rattle.pickle_types.specs.Table.{IsWidth};
 ghost use Rattle.pickle_meaning.specs.Means.{integer_value, offset_value, array_value, struct_value, value_of};
 ghost use Rattle.pickle_meaning.specs.Values.{pushed, outer_of, UnionLabel};
 ghost use Rattle.value_store.specs.Exceeding.{Exceeds};
-ghost use Rattle.value_store.specs.Slots.{levels};
+ghost use Rattle.value_store.specs.Slots.{levels, KeepsRoom, Regrown};
 ghost use Rattle.value_store.specs.Shown.{kept, title_at, names_at, name_at};
 
 use bit_space::Memory;
@@ -26,8 +26,8 @@ pub fn keep_integer(
     requires width { IsWidth number }
     requires below { digits < 2 ^ number.width }
     ensures ok { OnOk result (kept nodes.now store.new ≡ pushed (kept nodes.now store.old) (Some (integer_value number digits start))) }
-    ensures same { OnErr result (store.new ≡ store.old) }
-    ensures room { store.new.room ≡ store.old.room }
+    ensures same { OnErr result (Regrown store.old store.new) }
+    ensures room { KeepsRoom store.old store.new }
     ensures depth { length (levels store.new) ≡ length (levels store.old) }
     ensures full { OnErr result (Exceeds store.old.room (pushed (kept nodes.now store.old) (Some (integer_value number digits start)))) }
 {
@@ -52,8 +52,8 @@ pub fn keep_offset(
     requires unit { 1 ≤ unit }
     requires below { digits < 2 ^ number.width }
     ensures ok { OnOk result (kept nodes.now store.new ≡ pushed (kept nodes.now store.old) (Some (offset_value number unit digits start))) }
-    ensures same { OnErr result (store.new ≡ store.old) }
-    ensures room { store.new.room ≡ store.old.room }
+    ensures same { OnErr result (Regrown store.old store.new) }
+    ensures room { KeepsRoom store.old store.new }
     ensures depth { length (levels store.new) ≡ length (levels store.old) }
     ensures full { OnErr result (Exceeds store.old.room (pushed (kept nodes.now store.old) (Some (offset_value number unit digits start)))) }
 {
@@ -69,8 +69,8 @@ pub fn keep_offset(
 /// Keeps the place of a field that is not there.
 pub fn keep_absent(nodes: &[Node], store: &mut Store) -> Result<(), Memory>
     ensures ok { OnOk result (kept nodes.now store.new ≡ pushed (kept nodes.now store.old) None) }
-    ensures same { OnErr result (store.new ≡ store.old) }
-    ensures room { store.new.room ≡ store.old.room }
+    ensures same { OnErr result (Regrown store.old store.new) }
+    ensures room { KeepsRoom store.old store.new }
     ensures depth { length (levels store.new) ≡ length (levels store.old) }
     ensures full { OnErr result (Exceeds store.old.room (pushed (kept nodes.now store.old) None)) }
 {
@@ -82,8 +82,8 @@ pub fn close_array(nodes: &[Node], store: &mut Store, start: u64, end: u64) -> R
     requires order { start ≤ end }
     requires open { 1 < length (levels store.old) }
     ensures ok { OnOk result (kept nodes.now store.new ≡ pushed (outer_of (kept nodes.now store.old)) (Some (array_value start end (kept nodes.now store.old)))) }
-    ensures same { OnErr result (store.new ≡ store.old) }
-    ensures room { store.new.room ≡ store.old.room }
+    ensures same { OnErr result (Regrown store.old store.new) }
+    ensures room { KeepsRoom store.old store.new }
     ensures closed { OnOk result (length (levels store.new) + 1 ≡ length (levels store.old)) }
     ensures full { OnErr result (Exceeds store.old.room (pushed (outer_of (kept nodes.now store.old)) (Some (array_value start end (kept nodes.now store.old))))) }
 {
@@ -101,8 +101,8 @@ pub fn close_struct(
     requires order { start ≤ end }
     requires open { 1 < length (levels store.old) }
     ensures ok { OnOk result (kept nodes.now store.new ≡ pushed (outer_of (kept nodes.now store.old)) (Some (struct_value (title_at nodes.now of) (names_at nodes.now of) start end (kept nodes.now store.old)))) }
-    ensures same { OnErr result (store.new ≡ store.old) }
-    ensures room { store.new.room ≡ store.old.room }
+    ensures same { OnErr result (Regrown store.old store.new) }
+    ensures room { KeepsRoom store.old store.new }
     ensures closed { OnOk result (length (levels store.new) + 1 ≡ length (levels store.old)) }
     ensures full { OnErr result (Exceeds store.old.room (pushed (outer_of (kept nodes.now store.old)) (Some (struct_value (title_at nodes.now of) (names_at nodes.now of) start end (kept nodes.now store.old))))) }
 {
@@ -121,8 +121,8 @@ pub fn close_union(
     requires order { start ≤ end }
     requires open { 1 < length (levels store.old) }
     ensures ok { OnOk result (kept nodes.now store.new ≡ pushed (outer_of (kept nodes.now store.old)) (Some (value_of (UnionLabel (title_at nodes.now of) taken (name_at nodes.now of taken)) start end (kept nodes.now store.old)))) }
-    ensures same { OnErr result (store.new ≡ store.old) }
-    ensures room { store.new.room ≡ store.old.room }
+    ensures same { OnErr result (Regrown store.old store.new) }
+    ensures room { KeepsRoom store.old store.new }
     ensures closed { OnOk result (length (levels store.new) + 1 ≡ length (levels store.old)) }
     ensures full { OnErr result (Exceeds store.old.room (pushed (outer_of (kept nodes.now store.old)) (Some (value_of (UnionLabel (title_at nodes.now of) taken (name_at nodes.now of taken)) start end (kept nodes.now store.old))))) }
 {

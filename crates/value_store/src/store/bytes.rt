@@ -1,7 +1,7 @@
 //! What is made of bytes: texts, and arrays of packed numbers.
 ghost use Rattle.std.specs.Prelude.{◌≡◌, ℕ, ◌+◌, ◌≤◌, Some, length, IsTrue, ◌↔◌, IsOk, OnOk, OnErr};
 ghost use Rattle.value_store.specs.Levels.{pushed, FitsIn};
-ghost use Rattle.value_store.specs.Slots.{levels, with_bytes, with_more, bytes_value, AreBytes, MayKeep, HasNoNode, GoesOn};
+ghost use Rattle.value_store.specs.Slots.{levels, with_bytes, with_more, bytes_value, AreBytes, MayKeep, HasNoNode, GoesOn, KeepsRoom, Regrown};
 
 use crate::store::Store;
 use crate::store::append::append;
@@ -19,10 +19,10 @@ impl Store {
     ) -> Result<(), Memory>
         requires are { AreBytes shape bytes.now start }
         requires may { MayKeep self.old.room shape }
-        ensures slots { OnOk result (self.new ≡ record self.old { slots = with_bytes shape bytes.now start self.old.slots }) }
+        ensures slots { OnOk result (Regrown (record self.old { slots = with_bytes shape bytes.now start self.old.slots }) self.new) }
         ensures levels { OnOk result (levels self.new ≡ pushed (levels self.old) (Some (bytes_value shape bytes.now start))) }
-        ensures err { OnErr result (self.new ≡ self.old) }
-        ensures room { self.new.room ≡ self.old.room }
+        ensures err { OnErr result (Regrown self.old self.new) }
+        ensures room { KeepsRoom self.old self.new }
         ensures depth { length (levels self.new) ≡ length (levels self.old) }
         ensures succeeds { FitsIn self.old.room (pushed (levels self.old) (Some (bytes_value shape bytes.now start))) → IsOk result }
     {
@@ -48,9 +48,9 @@ impl Store {
     #[inline(always)]
     pub(super) fn append_bytes(&mut self, shape: Shape, more: &[u8]) -> Result<(), Memory>
         requires { GoesOn self.old shape more.now }
-        ensures slots { OnOk result (self.new ≡ record self.old { slots = with_more more.now self.old.slots }) }
-        ensures err { OnErr result (self.new ≡ self.old) }
-        ensures room { self.new.room ≡ self.old.room }
+        ensures slots { OnOk result (Regrown (record self.old { slots = with_more more.now self.old.slots }) self.new) }
+        ensures err { OnErr result (Regrown self.old self.new) }
+        ensures room { KeepsRoom self.old self.new }
         ensures depth { length (levels self.new) ≡ length (levels self.old) }
         ensures succeeds { length self.old.slots.bytes + length more.now ≤ self.old.room.least → IsOk result }
     {

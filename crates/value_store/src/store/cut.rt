@@ -1,6 +1,8 @@
+//! Levels that are opened, closed and given up.
+
 ghost use Rattle.std.specs.Prelude.{◌≡◌, ◌+◌, ◌-◌, ◌<◌, ◌≤◌, ◌∷◌, [], length, max, take};
 ghost use Rattle.value_store.specs.Levels.{outer_of, top_of, extended};
-ghost use Rattle.value_store.specs.Slots.{Held, levels, cut_to, innermost, marks_of, HasNoNode, AreLevels};
+ghost use Rattle.value_store.specs.Slots.{Held, levels, cut_to, innermost, marks_of, HasNoNode, AreLevels, KeepsRoom};
 
 use crate::store::Store;
 use crate::store::slots::Marks;
@@ -10,7 +12,7 @@ impl Store {
     pub fn open_level(&mut self)
         requires { length (levels self.old) ≤ 64 }
         ensures levels { levels self.new ≡ [] ∷ levels self.old }
-        ensures room { self.new.room ≡ self.old.room }
+        ensures room { KeepsRoom self.old self.new }
         ensures depth { length (levels self.new) ≡ length (levels self.old) + 1 }
         ensures slots { self.new.slots ≡ self.old.slots }
         ensures sound { AreLevels self.new.room self.new.frames self.new.slots }
@@ -23,7 +25,7 @@ impl Store {
     /// Closes the innermost open value, and leaves its parts to the one around it.
     pub(crate) fn lift_level(&mut self)
         ensures levels { levels self.new ≡ extended (outer_of (levels self.old)) (top_of (levels self.old)) }
-        ensures room { self.new.room ≡ self.old.room }
+        ensures room { KeepsRoom self.old self.new }
         ensures depth { length (levels self.new) ≡ max 1 (length (levels self.old) - 1) }
     {
         let _ = self.frames.pop();
@@ -32,7 +34,7 @@ impl Store {
     /// Gives up the parts of the innermost open value, which stays open. What they took is free again.
     pub fn clear_level(&mut self)
         ensures levels { levels self.new ≡ [] ∷ outer_of (levels self.old) }
-        ensures room { self.new.room ≡ self.old.room }
+        ensures room { KeepsRoom self.old self.new }
         ensures depth { length (levels self.new) ≡ length (levels self.old) }
     {
         let marks = self.innermost();
@@ -48,7 +50,7 @@ impl Store {
     pub fn drop_level(&mut self)
         requires { 1 < length (levels self.old) }
         ensures levels { levels self.new ≡ outer_of (levels self.old) }
-        ensures room { self.new.room ≡ self.old.room }
+        ensures room { KeepsRoom self.old self.new }
         ensures depth { length (levels self.new) + 1 ≡ length (levels self.old) }
     {
         self.clear_level();

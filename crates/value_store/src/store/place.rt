@@ -1,8 +1,10 @@
+//! Values that are placed in the innermost open one.
+
 ghost use Rattle.std.specs.Prelude.{◌≡◌, ℕ, ◌+◌, ◌-◌, ◌<◌, ◌≤◌, ◌++◌, ◌∷◌, [], Some, None, ℤ, take, drop, length, max, min, IsOk, OnOk, OnErr, vec_len, vec_capacity, List};
 ghost use Rattle.value_store.specs.declared.store.room.Growth.TheVariants.{Never};
 ghost use Rattle.value_store.specs.Tree.{Tree, End, parts_of, text_value, IntegerLabel, OffsetLabel, ArrayLabel, StructLabel, UnionLabel};
 ghost use Rattle.value_store.specs.Levels.{Levels, pushed, outer_of, top_of, extended, text_level, FitsIn};
-ghost use Rattle.value_store.specs.Slots.{levels, IsNumber, number_value, number_in, IsContentNumber, IsComposite, composite_label};
+ghost use Rattle.value_store.specs.Slots.{levels, IsNumber, number_value, number_in, IsContentNumber, IsComposite, composite_label, KeepsRoom, Regrown};
 
 use crate::store::Store;
 use crate::store::append::append;
@@ -89,8 +91,8 @@ impl Store {
     fn place_number(&mut self, shape: Shape, start: u64, content: u64) -> Result<(), Memory>
         requires number { IsNumber shape }
         ensures ok { OnOk result (levels self.new ≡ pushed (levels self.old) (Some (number_value shape start content))) }
-        ensures err { OnErr result (self.new ≡ self.old) }
-        ensures room { self.new.room ≡ self.old.room }
+        ensures err { OnErr result (Regrown self.old self.new) }
+        ensures room { KeepsRoom self.old self.new }
         ensures depth { length (levels self.new) ≡ length (levels self.old) }
         ensures succeeds { FitsIn self.old.room (pushed (levels self.old) (Some (number_value shape start content))) → IsOk result }
     {
@@ -111,8 +113,8 @@ impl Store {
     fn place_family(&mut self, shape: Shape, start: u64, size: u64) -> Result<(), Memory>
         requires composite { IsComposite shape }
         ensures ok { OnOk result (levels self.new ≡ (Some (Tree (composite_label shape) start size (parts_of (top_of (levels self.old)))) ∷ []) ∷ outer_of (levels self.old)) }
-        ensures err { OnErr result (self.new ≡ self.old) }
-        ensures room { self.new.room ≡ self.old.room }
+        ensures err { OnErr result (Regrown self.old self.new) }
+        ensures room { KeepsRoom self.old self.new }
         ensures depth { length (levels self.new) ≡ length (levels self.old) }
         ensures succeeds { FitsIn self.old.room (pushed (outer_of (levels self.old)) (Some (Tree (composite_label shape) start size (parts_of (top_of (levels self.old)))))) → IsOk result }
     {
@@ -148,8 +150,8 @@ impl Store {
         requires width { (1 ≤ width) × (width ≤ 64) }
         requires number { IsContentNumber signed number }
         ensures ok { OnOk result (levels self.new ≡ pushed (levels self.old) (Some (Tree (IntegerLabel number width signed) start width End))) }
-        ensures err { OnErr result (self.new ≡ self.old) }
-        ensures room { self.new.room ≡ self.old.room }
+        ensures err { OnErr result (Regrown self.old self.new) }
+        ensures room { KeepsRoom self.old self.new }
         ensures depth { length (levels self.new) ≡ length (levels self.old) }
         ensures succeeds { FitsIn self.old.room (pushed (levels self.old) (Some (Tree (IntegerLabel number width signed) start width End))) → IsOk result }
     {
@@ -172,8 +174,8 @@ impl Store {
         requires width { (1 ≤ width) × (width ≤ 64) × (1 ≤ unit) }
         requires number { IsContentNumber signed number }
         ensures ok { OnOk result (levels self.new ≡ pushed (levels self.old) (Some (Tree (OffsetLabel number width signed unit) start width End))) }
-        ensures err { OnErr result (self.new ≡ self.old) }
-        ensures room { self.new.room ≡ self.old.room }
+        ensures err { OnErr result (Regrown self.old self.new) }
+        ensures room { KeepsRoom self.old self.new }
         ensures depth { length (levels self.new) ≡ length (levels self.old) }
         ensures succeeds { FitsIn self.old.room (pushed (levels self.old) (Some (Tree (OffsetLabel number width signed unit) start width End))) → IsOk result }
     {
@@ -191,8 +193,8 @@ impl Store {
     /// Places a field that is not there.
     pub fn push_absent(&mut self) -> Result<(), Memory>
         ensures ok { OnOk result (levels self.new ≡ pushed (levels self.old) None) }
-        ensures err { OnErr result (self.new ≡ self.old) }
-        ensures room { self.new.room ≡ self.old.room }
+        ensures err { OnErr result (Regrown self.old self.new) }
+        ensures room { KeepsRoom self.old self.new }
         ensures depth { length (levels self.new) ≡ length (levels self.old) }
         ensures succeeds { FitsIn self.old.room (pushed (levels self.old) None) → IsOk result }
     {
@@ -206,8 +208,8 @@ impl Store {
     fn close(&mut self, shape: Shape, start: u64, size: u64) -> Result<(), Memory>
         requires composite { IsComposite shape }
         ensures ok { OnOk result (levels self.new ≡ pushed (outer_of (levels self.old)) (Some (Tree (composite_label shape) start size (parts_of (top_of (levels self.old)))))) }
-        ensures err { OnErr result (self.new ≡ self.old) }
-        ensures room { self.new.room ≡ self.old.room }
+        ensures err { OnErr result (Regrown self.old self.new) }
+        ensures room { KeepsRoom self.old self.new }
         ensures depth { OnOk result (length (levels self.new) ≡ max 1 (length (levels self.old) - 1)) }
         ensures succeeds { FitsIn self.old.room (pushed (outer_of (levels self.old)) (Some (Tree (composite_label shape) start size (parts_of (top_of (levels self.old)))))) → IsOk result }
     {
@@ -219,8 +221,8 @@ impl Store {
     /// Closes the innermost open value as an array of `size` bits from the bit `start` on, whose elements are its parts.
     pub fn close_array(&mut self, start: u64, size: u64) -> Result<(), Memory>
         ensures ok { OnOk result (levels self.new ≡ pushed (outer_of (levels self.old)) (Some (Tree ArrayLabel start size (parts_of (top_of (levels self.old)))))) }
-        ensures err { OnErr result (self.new ≡ self.old) }
-        ensures room { self.new.room ≡ self.old.room }
+        ensures err { OnErr result (Regrown self.old self.new) }
+        ensures room { KeepsRoom self.old self.new }
         ensures depth { OnOk result (length (levels self.new) ≡ max 1 (length (levels self.old) - 1)) }
         ensures succeeds { FitsIn self.old.room (pushed (outer_of (levels self.old)) (Some (Tree ArrayLabel start size (parts_of (top_of (levels self.old)))))) → IsOk result }
     {
@@ -231,8 +233,8 @@ impl Store {
     /// fields, absent ones too.
     pub fn close_struct(&mut self, of: u32, start: u64, size: u64) -> Result<(), Memory>
         ensures ok { OnOk result (levels self.new ≡ pushed (outer_of (levels self.old)) (Some (Tree (StructLabel of) start size (parts_of (top_of (levels self.old)))))) }
-        ensures err { OnErr result (self.new ≡ self.old) }
-        ensures room { self.new.room ≡ self.old.room }
+        ensures err { OnErr result (Regrown self.old self.new) }
+        ensures room { KeepsRoom self.old self.new }
         ensures depth { OnOk result (length (levels self.new) ≡ max 1 (length (levels self.old) - 1)) }
         ensures succeeds { FitsIn self.old.room (pushed (outer_of (levels self.old)) (Some (Tree (StructLabel of) start size (parts_of (top_of (levels self.old)))))) → IsOk result }
     {
@@ -243,8 +245,8 @@ impl Store {
     /// alternative taken, which is the one at the index `taken`.
     pub fn close_union(&mut self, of: u32, taken: u16, start: u64, size: u64) -> Result<(), Memory>
         ensures ok { OnOk result (levels self.new ≡ pushed (outer_of (levels self.old)) (Some (Tree (UnionLabel of taken) start size (parts_of (top_of (levels self.old)))))) }
-        ensures err { OnErr result (self.new ≡ self.old) }
-        ensures room { self.new.room ≡ self.old.room }
+        ensures err { OnErr result (Regrown self.old self.new) }
+        ensures room { KeepsRoom self.old self.new }
         ensures depth { OnOk result (length (levels self.new) ≡ max 1 (length (levels self.old) - 1)) }
         ensures succeeds { FitsIn self.old.room (pushed (outer_of (levels self.old)) (Some (Tree (UnionLabel of taken) start size (parts_of (top_of (levels self.old)))))) → IsOk result }
     {

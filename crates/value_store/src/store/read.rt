@@ -1,3 +1,5 @@
+//! What is read of a value that is kept.
+
 ghost use Rattle.std.specs.Prelude.{◌≡◌, ◌+◌, ◌-◌, ◌<◌, ◌≤◌, [], Some, length, slice_get, slice_index, unwrap_or, IfSome};
 ghost use Rattle.std.specs.Option.{option_map};
 ghost use Rattle.pickle_types.specs.Sound.{IsSmall};

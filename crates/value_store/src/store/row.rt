@@ -2,7 +2,7 @@
 ghost use Rattle.std.specs.Prelude.{◌≡◌, ℕ, ◌+◌, ◌*◌, ◌<◌, ◌≤◌, ◌^◌, ◌++◌, ◌∷◌, [], Some, List, take, length, max, ◌-◌, IsTrue, ◌↔◌, OnOk, OnErr, true};
 ghost use Rattle.value_store.specs.Levels.{Levels, pushed};
 ghost use Rattle.value_store.specs.Packed.{bytes_for, number_bytes};
-ghost use Rattle.value_store.specs.Slots.{levels, packs, row_value, element_width, HasNoNode, IsPacked, IsPacking, IsRowOf, TakesNumber};
+ghost use Rattle.value_store.specs.Slots.{levels, packs, row_value, element_width, HasNoNode, IsPacked, IsPacking, IsRowOf, TakesNumber, KeepsRoom, Regrown};
 
 use crate::store::Store;
 use crate::store::slots::Shape;
@@ -40,8 +40,8 @@ impl Store {
         requires below { digits < 2 ^ width }
         requires first { IsTrue first ↔ HasNoNode self.old }
         ensures ok { OnOk result ((numbers : List ℕ) (outer : Levels) → IsPacking self.old shape numbers start outer → start + width * (length numbers + 1) < 2 ^ 64 → IsPacking self.new shape (numbers ++ digits ∷ []) start outer) }
-        ensures err { OnErr result (self.new ≡ self.old) }
-        ensures room { self.new.room ≡ self.old.room }
+        ensures err { OnErr result (Regrown self.old self.new) }
+        ensures room { KeepsRoom self.old self.new }
         ensures depth { length (levels self.new) ≡ length (levels self.old) }
     {
         let bytes = digits.to_le_bytes();
@@ -58,8 +58,8 @@ impl Store {
         requires row { IsRowOf self.old shape start }
         requires packed { IsPacked shape }
         ensures ok { OnOk result ((numbers : List ℕ) (outer : Levels) → IsPacking self.old shape numbers start outer → levels self.new ≡ (Some (row_value shape numbers start) ∷ []) ∷ outer) }
-        ensures err { OnErr result (self.new ≡ self.old) }
-        ensures room { self.new.room ≡ self.old.room }
+        ensures err { OnErr result (Regrown self.old self.new) }
+        ensures room { KeepsRoom self.old self.new }
         ensures depth { length (levels self.new) ≡ length (levels self.old) }
     {
         if self.has_no_node() {
@@ -74,8 +74,8 @@ impl Store {
         requires row { IsRowOf self.old shape start }
         requires packed { IsPacked shape }
         ensures ok { OnOk result ((numbers : List ℕ) (outer : Levels) → IsPacking self.old shape numbers start outer → levels self.new ≡ pushed outer (Some (row_value shape numbers start))) }
-        ensures err { OnErr result (self.new ≡ self.old) }
-        ensures room { self.new.room ≡ self.old.room }
+        ensures err { OnErr result (Regrown self.old self.new) }
+        ensures room { KeepsRoom self.old self.new }
         ensures depth { OnOk result (length (levels self.new) ≡ max 1 (length (levels self.old) - 1)) }
     {
         self.settle_row(shape, start)?;

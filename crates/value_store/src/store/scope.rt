@@ -1,3 +1,5 @@
+//! The values that are open, and their parts.
+
 ghost use Rattle.std.specs.Prelude.{◌≡◌, ℕ, ◌<◌, ◌≤◌, None, length, slice_get, unwrap_or, IfSome};
 ghost use Rattle.std.specs.Option.{option_map};
 ghost use Rattle.value_store.specs.Levels.{part_in, level_at};

@@ -1,3 +1,5 @@
+//! What the vectors of a store hold.
+
 ghost use Rattle.std.specs.Prelude.{◌≡◌, ◌<◌, ◌^◌, ◌-◌, Some, None, Option};
 
 use std::marker::Model;

@@ -11,7 +11,7 @@ use Rattle.pickle_meaning.specs.Values.{outer_of}
 use Rattle.pickle_map.proofs.Shapes.{opened_as, below_as, sound_as, names_as, parts_within, parts_bounded, part_bounded, of_one, integral_opened, parts_named}
 use Rattle.pickle_map.specs.Mappable.{IsPartOf}
 use Rattle.value_store.proofs.Held.{length-levels}
-use Rattle.pickle_map.proofs.Keeping.{keeps_opened, keeps_outer}
+use Rattle.pickle_map.proofs.Keeping.{keeps_opened, keeps_outer, regrown_stays}
 use Rattle.pickle_map.proofs.Clauses.{checks_ok, checks_stop}
 use Rattle.pickle_map.proofs.Placing.{digits_end, digits_no_tick, digits_stop, digits_goes}
 use Rattle.pickle_map.proofs.Walks.{follow_done, follow_here, follow_on, follow_tick, follow_stop, closes_no_room, closes_made, first_no_tick, in_room, outer_pushed}
@@ -27,7 +27,12 @@ integral_body-returns-in_err-close_struct-clause-is g t c =
     let p = err_from_is_err_and c.from_residual-in_err-close_struct.result c.from_residual-in_err-close_struct.ensures.1 in
     let named = c.requires.names ∙ sym (parts_named (type_of c.args.nodes.now) c.args.fields.now) in
     let full = rw (named, c.from.ensures) at c.in_err-close_struct.ensures.full in
-    rw (p.1, p.2) (λ known. closes_no_room _ _ _ (c.in_ok-place_fields.ensures.is known) c.in_ok-place_fields.ensures.frame.room full)
+    rw (p.1, p.2) (λ known. closes_no_room _ _ _ (c.in_ok-place_fields.ensures.is known) c.in_ok-place_fields.ensures.frame.room.room full)
+
+pub integral_body-returns-in_err-close_struct-clause-level : goal.integral_body-returns-in_err-close_struct-clause-level
+integral_body-returns-in_err-close_struct-clause-level g t c =
+    let p = err_from_is_err_and c.from_residual-in_err-close_struct.result c.from_residual-in_err-close_struct.ensures.1 in
+    rw p.1 (regrown_stays c.args.nodes.now _ _ _ c.in_ok-place_fields.ensures.outer c.in_ok-place_fields.ensures.depth c.in_err-close_struct.ensures.same)
 
 pub integral_body-returns-clause-is : goal.integral_body-returns-clause-is
 integral_body-returns-clause-is g t c =
@@ -70,7 +75,7 @@ place_fields-returns-in_err-place_part-clause-is g t c =
     let next = drop_more c.args.fields.now c.loop-part.part-index c.part-item.result (omega arith) in
     let next = rw (← c.part-item.is) at next in
     let cut = rw c.width_at-width.ensures.is at c.first_digits-digits.ensures.is in
-    rw (p.1, p.2) (λ known. follow_on (i.so_far known) (digits_stop _ _ _ _ _ _ _ _ next _ cut (e.limit ∙ i.frame.limit) e.ok e.made _ (in_room i.frame.room (c.in_err-place_part.ensures.is known))))
+    rw (p.1, p.2) (λ known. follow_on (i.so_far known) (digits_stop _ _ _ _ _ _ _ _ next _ cut (e.limit ∙ i.frame.limit) e.ok e.made _ (in_room i.frame.room.room (c.in_err-place_part.ensures.is known))))
 
 pub place_fields-loop-part-preserved : goal.place_fields-loop-part-preserved
 place_fields-loop-part-preserved g t c =
@@ -87,7 +92,7 @@ place_fields-loop-part-preserved g t c =
       depth = search rules;
       so_far = λ known.
           let h = c.in_ok-place_part.ensures.is known in
-          rw h.kept (follow_on (i.so_far known) (digits_goes _ _ _ _ _ _ _ _ next _ cut (e.limit ∙ i.frame.limit) e.ok e.made h.value _ less (in_room i.frame.room h.follows)));
+          rw h.kept (follow_on (i.so_far known) (digits_goes _ _ _ _ _ _ _ _ next _ cut (e.limit ∙ i.frame.limit) e.ok e.made h.value _ less (in_room i.frame.room.room h.follows)));
     }
 
 pub place_fields-returns-clause-is : goal.place_fields-returns-clause-is
@@ -109,13 +114,13 @@ pub place_integral-returns-in-Ok-clause-is : goal.place_integral-returns-in-Ok-c
 unfolding number_plan
 place_integral-returns-in-Ok-clause-is g t c =
     let opened = keeps_opened c.args.nodes.now c.args.store.now c.open_level.new.self c.open_level.ensures.levels in
-    λ known. rw (opened, c.open_level.ensures.room) at (c.in-Ok.ensures.is known)
+    λ known. rw (opened, c.open_level.ensures.room.room) at (c.in-Ok.ensures.is known)
 
 pub place_integral-returns-in-Err-clause-is : goal.place_integral-returns-in-Err-clause-is
 unfolding number_plan
 place_integral-returns-in-Err-clause-is g t c =
     let opened = keeps_opened c.args.nodes.now c.args.store.now c.open_level.new.self c.open_level.ensures.levels in
-    λ known. rw (opened, c.open_level.ensures.room) at (c.in-Err.ensures.is known)
+    λ known. rw (opened, c.open_level.ensures.room.room) at (c.in-Err.ensures.is known)
 
 pub place_number-place_integer-requires-clause-digits : goal.place_number-place_integer-requires-clause-digits
 place_number-place_integer-requires-clause-digits g t c = subst (λ x. c.args.digits < 2 ^ width_in (number_type x)) (opened_as c.args.nodes.now c.requires.table c.args.at c.requires.at c.index-nodes-at.result _ c.in-Integer.is) c.requires.digits

@@ -2,6 +2,7 @@ use Rattle.std.proofs.Common.{refl}
 use Rattle.std.proofs.lemmas.Result.{err_from_is_err_and}
 use Rattle.pickle_meaning.specs.Means.{integer_value}
 use Rattle.mapping_plans.specs.Mapping.{number_plan}
+use Rattle.pickle_map.proofs.Keeping.{regrown_kept}
 use Rattle.pickle_map.proofs.Walks.{follow_made, follow_done, follow_no_room}
 use Rattle.pickle_map.proofs.mapper.number.place_integer.Goals as goal
 
@@ -10,6 +11,11 @@ unfolding number_plan
 returns-in_err-keep_integer-clause-is c =
     let p = err_from_is_err_and c.from_residual.result c.from_residual.ensures.1 in
     rw (p.1, p.2) (λ known. follow_no_room c.in_err-keep_integer.ensures.full)
+
+pub returns-in_err-keep_integer-clause-same : goal.returns-in_err-keep_integer-clause-same
+returns-in_err-keep_integer-clause-same c =
+    let p = err_from_is_err_and c.from_residual.result c.from_residual.ensures.1 in
+    rw p.1 (regrown_kept c.args.nodes.now _ _ c.in_err-keep_integer.ensures.same)
 
 pub returns-clause-is : goal.returns-clause-is
 unfolding number_plan

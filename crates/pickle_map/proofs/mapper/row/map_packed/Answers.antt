@@ -9,6 +9,8 @@ use Rattle.mapping_plans.specs.Mapping.{plan}
 use Rattle.pickle_map.specs.Row.{row_levels}
 use Rattle.value_store.specs.Shown.{shown}
 use Rattle.value_store.specs.Slots.{levels, element_width, element_value}
+use Rattle.pickle_meaning.specs.Values.{outer_of}
+use Rattle.pickle_map.proofs.Keeping.{regrown_kept}
 use Rattle.pickle_map.proofs.Mapping.{in_world, few_enough, elements_end, elements_beyond, elements_no_tick, elements_goes, elements_over, elements_stop}
 use Rattle.pickle_map.proofs.Row.{some_bits, least_is, element_end, element_stops, element_no_room, element_goes, row_more, row_fresh, around_row, first_is}
 use Rattle.pickle_map.proofs.Walks.{follow_here, follow_on}
@@ -52,8 +54,8 @@ pub returns-in_err-push_packed-in-Ok-clause-outer : goal.returns-in_err-push_pac
 returns-in_err-push_packed-in-Ok-clause-outer g c =
     let i = c.loop-shape.invariant in
     let outer = stored.outer_of (levels c.args.store.now) in
-    rw c.in_err-push_packed-in-Ok.ensures.err
-    (around_row c.args.nodes.now c.loop-shape.store c.args.shape i.so_far.0 c.args.start outer i.so_far.5
+    ap outer_of (regrown_kept c.args.nodes.now _ _ c.in_err-push_packed-in-Ok.ensures.err)
+    ∙ (around_row c.args.nodes.now c.loop-shape.store c.args.shape i.so_far.0 c.args.start outer i.so_far.5
     ∙ sym (around_row c.args.nodes.now c.args.store.now c.args.shape [] c.args.start outer c.requires.packing))
 
 pub returns-in_err-push_packed-in-Ok-clause-is : goal.returns-in_err-push_packed-in-Ok-clause-is
@@ -66,9 +68,9 @@ returns-in_err-push_packed-in-Ok-clause-is g c =
     let due = rw c.len-bits.ensures at due in
     let fits = rw (i.frame.len, c.element_width-width.ensures) at r.inside in
     let may = rw c.element_width-width.ensures at r.ok in
-    let packs = rw (← i.frame.room) at c.requires.shape.packs in
+    let packs = rw (← i.frame.room.room) at c.requires.shape.packs in
     let h = element_no_room c.args.nodes.now c.args.shape (8 * (g.S.Space.view c.args.space.now).len) (type_of c.args.nodes.now c.args.element) c.args.order (row_levels c.args.nodes.now c.args.shape i.so_far.0 c.args.start (stored.outer_of (levels c.args.store.now))) c.loop-shape.place c.requires.shape.is i.inside c.in-Ok.digits r.limit r.steps r.made fits may packs in
-    let h = in_world (g.S.Space.view c.args.space.now) (g.S.Space.view c.loop-shape.space) c.args.store.now c.loop-shape.store i.frame.bytes i.frame.room h in
+    let h = in_world (g.S.Space.view c.args.space.now) (g.S.Space.view c.loop-shape.space) c.args.store.now c.loop-shape.store i.frame.bytes i.frame.room.room h in
     rw (p.1, p.2) (follow_on i.so_far.6 (elements_stop _ _ _ _ _ _ _ (max 1 (least_width (type_of c.args.nodes.now c.args.element))) _ i.so_far.2 i.inside due (e.limit ∙ i.frame.limit) e.ok e.made Memory refl h))
 
 pub loop-shape-preserved : goal.loop-shape-preserved
@@ -85,7 +87,7 @@ loop-shape-preserved g c =
     let fits = rw (i.frame.len, width) at r.inside in
     let may = rw width at r.ok in
     let h = element_goes c.args.nodes.now c.args.shape (8 * (g.S.Space.view c.args.space.now).len) (type_of c.args.nodes.now c.args.element) c.args.order (row_levels c.args.nodes.now c.args.shape i.so_far.0 c.args.start outer) c.loop-shape.place c.requires.shape.is i.inside c.in-Ok.digits r.limit r.steps r.made fits may n.steps n.made in
-    let h = in_world (g.S.Space.view c.args.space.now) (g.S.Space.view c.loop-shape.space) c.args.store.now c.loop-shape.store i.frame.bytes i.frame.room h in
+    let h = in_world (g.S.Space.view c.args.space.now) (g.S.Space.view c.loop-shape.space) c.args.store.now c.loop-shape.store i.frame.bytes i.frame.room.room h in
     let some = some_bits c.args.shape c.requires.shape.packed in
     let least = least_is c.args.shape (type_of c.args.nodes.now c.args.element) c.requires.shape.is in
     let far : c.loop-shape.place + max 1 (least_width (type_of c.args.nodes.now c.args.element)) ≤ c.loop-shape.place + element_width c.args.shape = omega (arith, some.0, least) in

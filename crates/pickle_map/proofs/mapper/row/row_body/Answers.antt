@@ -2,6 +2,7 @@ use Rattle.std.proofs.Common.{refl}
 use Rattle.std.proofs.lemmas.Result.{err_from_is_err_and}
 use Rattle.value_store.specs.Levels as stored
 use Rattle.value_store.specs.Slots.{levels}
+use Rattle.pickle_map.proofs.Keeping.{regrown_stays}
 use Rattle.pickle_map.proofs.Mapping.{array_no_room, array_made}
 use Rattle.pickle_map.proofs.Row.{row_kept, packs_no_more}
 use Rattle.pickle_map.proofs.Walks.{follow_stop}
@@ -17,6 +18,11 @@ returns-in_err-close_row-clause-is g c =
     let p = err_from_is_err_and c.from_residual-in_err-close_row.result c.from_residual-in_err-close_row.ensures.1 in
     let m = c.in_ok-end.ensures.is in
     rw (p.1, p.2) (array_no_room _ _ _ _ m.runs {room = c.args.store.now.room} refl (packs_no_more c.args.store.now.room _ _ c.requires.shape.packs))
+
+pub returns-in_err-close_row-clause-level : goal.returns-in_err-close_row-clause-level
+returns-in_err-close_row-clause-level g c =
+    let p = err_from_is_err_and c.from_residual-in_err-close_row.result c.from_residual-in_err-close_row.ensures.1 in
+    rw p.1 (regrown_stays c.args.nodes.now _ _ _ c.in_ok-end.ensures.outer c.in_ok-end.ensures.depth c.in_err-close_row.ensures.err)
 
 pub returns-clause-is : goal.returns-clause-is
 returns-clause-is g c =

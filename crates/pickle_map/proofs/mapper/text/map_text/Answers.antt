@@ -25,14 +25,14 @@ pub returns-in-Ok-clause-is : goal.returns-in-Ok-clause-is
 returns-in-Ok-clause-is g c =
     let e = c.in_ok-tick.ensures in
     let opened = keeps_opened c.args.nodes.now c.args.store.now c.open_text.new.self c.open_text.ensures.levels in
-    let h = rw (opened, c.open_text.ensures.room) at c.in-Ok.ensures.is in
+    let h = rw (opened, c.open_text.ensures.room.room) at c.in-Ok.ensures.is in
     record { value = h.value; kept = h.kept; ends = h.ends; follows = follow_tick e.limit e.ok e.made h.follows }
 
 pub returns-in-Err-clause-is : goal.returns-in-Err-clause-is
 returns-in-Err-clause-is g c =
     let e = c.in_ok-tick.ensures in
     let opened = keeps_opened c.args.nodes.now c.args.store.now c.open_text.new.self c.open_text.ensures.levels in
-    let h = rw (opened, c.open_text.ensures.room) at c.in-Err.ensures.is in
+    let h = rw (opened, c.open_text.ensures.room.room) at c.in-Err.ensures.is in
     follow_tick e.limit e.ok e.made h
 
 pub returns-in-Err-clause-same : goal.returns-in-Err-clause-same

@@ -3,6 +3,7 @@ use Rattle.std.proofs.lemmas.Result.{err_from_is_err_and}
 use Rattle.value_store.specs.Levels as stored
 use Rattle.value_store.specs.Slots.{levels}
 use Rattle.pickle_meaning.specs.Values.{text_value}
+use Rattle.pickle_map.proofs.Keeping.{regrown_stays}
 use Rattle.mapping_plans.proofs.Fitting.{longer}
 use Rattle.pickle_map.proofs.Walks.{follow_here, follow_on}
 use Rattle.pickle_map.proofs.Placing.{refusal_stops}
@@ -42,7 +43,7 @@ returns-in_err-close_text-in-Ok-clause-is g c =
     let full = not_closed c.args.nodes.now c.loop-byte.store i.so_far.0 c.args.start (stored.outer_of (levels c.args.store.now)) c.loop-byte.store.room (c.in_err-close_text-in-Ok.ensures.succeeds i.so_far.0 (stored.outer_of (levels c.args.store.now)) i.so_far.4) in
     let end : c.args.start + 8 * (length i.so_far.0 + 1) ≡ c.loop-byte.place + 8 = omega (arith, i.so_far.3) in
     let full = rw (← first, end) at full in
-    rw (p.1, p.2) (follow_on i.so_far.5 (text_not_closed _ _ _ _ _ _ i.so_far.2 i.inside _ (r.limit ∙ i.frame.limit) r.steps r.made fits may c.if-byte-eq0.true i.frame.room full))
+    rw (p.1, p.2) (follow_on i.so_far.5 (text_not_closed _ _ _ _ _ _ i.so_far.2 i.inside _ (r.limit ∙ i.frame.limit) r.steps r.made fits may c.if-byte-eq0.true i.frame.room.room full))
 
 pub returns-in_err-close_text-in-Ok-clause-level : goal.returns-in_err-close_text-in-Ok-clause-level
 returns-in_err-close_text-in-Ok-clause-level g c =
@@ -50,7 +51,7 @@ returns-in_err-close_text-in-Ok-clause-level g c =
     let i = c.loop-byte.invariant in
     let first = around_text c.args.nodes.now c.args.store.now [] c.args.start (stored.outer_of (levels c.args.store.now)) c.requires.writing in
     let same = around_text c.args.nodes.now c.loop-byte.store i.so_far.0 c.args.start (stored.outer_of (levels c.args.store.now)) i.so_far.4 ∙ sym first in
-    rw (p.1, c.in_err-close_text-in-Ok.ensures.err) (record { outer = same; depth = i.depth })
+    rw p.1 (regrown_stays c.args.nodes.now _ _ _ same i.depth c.in_err-close_text-in-Ok.ensures.err)
 
 pub returns-then-byte-eq0-clause-is : goal.returns-then-byte-eq0-clause-is
 returns-then-byte-eq0-clause-is g c =
@@ -81,7 +82,7 @@ returns-in_err-push_byte-in-Ok-clause-is g c =
     let may = may_same _ _ _ _ i.frame.bytes r.ok in
     let full = not_longer c.args.nodes.now c.loop-byte.store (i.so_far.0 ++ c.in-Ok.byte ∷ []) c.args.start (stored.outer_of (levels c.args.store.now)) c.loop-byte.store.room (c.in_err-push_byte-in-Ok.ensures.succeeds i.so_far.0 (stored.outer_of (levels c.args.store.now)) i.so_far.4) in
     let full = rw (← first) at full in
-    rw (p.1, p.2) (follow_on i.so_far.5 (text_no_room _ _ _ _ _ _ i.so_far.2 i.inside _ (r.limit ∙ i.frame.limit) r.steps r.made fits may c.if-byte-eq0.false i.frame.room full))
+    rw (p.1, p.2) (follow_on i.so_far.5 (text_no_room _ _ _ _ _ _ i.so_far.2 i.inside _ (r.limit ∙ i.frame.limit) r.steps r.made fits may c.if-byte-eq0.false i.frame.room.room full))
 
 pub returns-in_err-push_byte-in-Ok-clause-level : goal.returns-in_err-push_byte-in-Ok-clause-level
 returns-in_err-push_byte-in-Ok-clause-level g c =
@@ -89,7 +90,7 @@ returns-in_err-push_byte-in-Ok-clause-level g c =
     let i = c.loop-byte.invariant in
     let first = around_text c.args.nodes.now c.args.store.now [] c.args.start (stored.outer_of (levels c.args.store.now)) c.requires.writing in
     let same = around_text c.args.nodes.now c.loop-byte.store i.so_far.0 c.args.start (stored.outer_of (levels c.args.store.now)) i.so_far.4 ∙ sym first in
-    rw (p.1, c.in_err-push_byte-in-Ok.ensures.err) (record { outer = same; depth = i.depth })
+    rw p.1 (regrown_stays c.args.nodes.now _ _ _ same i.depth c.in_err-push_byte-in-Ok.ensures.err)
 
 pub loop-byte-preserved : goal.loop-byte-preserved
 loop-byte-preserved g c =

@@ -15,7 +15,7 @@ use Rattle.pickle_meaning.specs.Values.{pushed, outer_of}
 use Rattle.pickle_map.proofs.Clauses.{checks_ok, checks_stop, settles_ok, settles_stop}
 use Rattle.pickle_map.proofs.Followed.{followed_wide}
 use Rattle.value_store.proofs.Held.{length-levels}
-use Rattle.pickle_map.proofs.Keeping.{keeps_opened, keeps_outer, keeps_cleared}
+use Rattle.pickle_map.proofs.Keeping.{keeps_opened, keeps_outer, keeps_cleared, regrown_kept, regrown_stays}
 use Rattle.pickle_map.proofs.Mapping.{in_world, few_enough, inside_no_tick, inside_ticks, plan_past, number_is, text_is, struct_is, array_is, union_is, struct_no_room, struct_made, array_no_room, array_made, union_no_room, union_made, fields_end, fields_no_tick, condition_stops, absent_no_room, absent_goes, start_stops, field_stops, field_goes, elements_end, elements_beyond, elements_no_tick, elements_no_bits, elements_goes, elements_over, elements_stop, alternatives_end, alternatives_no_tick, alternatives_fit, alternatives_miss, alternatives_stop}
 use Rattle.value_store.proofs.PackedRows.{row-opened}
 use Rattle.pickle_map.proofs.Shapes.{opened_as, below_as, sound_as, names_as, fields_within, parts_within, fields_bounded, parts_bounded, field_bounded, part_bounded, of_one, name_of_one, struct_opened, union_opened, fields_named}
@@ -155,14 +155,14 @@ pub map_struct-returns-in-Ok-clause-is : goal.map_struct-returns-in-Ok-clause-is
 map_struct-returns-in-Ok-clause-is g t c =
     let e = c.in_ok-tick.ensures in
     let opened = keeps_opened c.args.nodes.now c.args.store.now c.open_level.new.self c.open_level.ensures.levels in
-    let h = rw (opened, c.open_level.ensures.room) at c.in-Ok.ensures.is in
+    let h = rw (opened, c.open_level.ensures.room.room) at c.in-Ok.ensures.is in
     record { value = h.value; kept = h.kept; ends = h.ends; follows = rw struct_is (inside_ticks _ _ _ c.requires.inside e.limit e.ok e.made h.follows) }
 
 pub map_struct-returns-in-Err-clause-is : goal.map_struct-returns-in-Err-clause-is
 map_struct-returns-in-Err-clause-is g t c =
     let e = c.in_ok-tick.ensures in
     let opened = keeps_opened c.args.nodes.now c.args.store.now c.open_level.new.self c.open_level.ensures.levels in
-    let h = rw (opened, c.open_level.ensures.room) at c.in-Err.ensures.is in
+    let h = rw (opened, c.open_level.ensures.room.room) at c.in-Err.ensures.is in
     rw struct_is (inside_ticks _ _ _ c.requires.inside e.limit e.ok e.made h)
 
 pub map_union-returns-in_err-tick-clause-is : goal.map_union-returns-in_err-tick-clause-is
@@ -183,14 +183,14 @@ pub map_union-returns-in-Ok-clause-is : goal.map_union-returns-in-Ok-clause-is
 map_union-returns-in-Ok-clause-is g t c =
     let e = c.in_ok-tick.ensures in
     let opened = keeps_opened c.args.nodes.now c.args.store.now c.open_level.new.self c.open_level.ensures.levels in
-    let h = rw (opened, c.open_level.ensures.room) at c.in-Ok.ensures.is in
+    let h = rw (opened, c.open_level.ensures.room.room) at c.in-Ok.ensures.is in
     record { value = h.value; kept = h.kept; ends = h.ends; follows = rw union_is (inside_ticks _ _ _ c.requires.inside e.limit e.ok e.made h.follows) }
 
 pub map_union-returns-in-Err-clause-is : goal.map_union-returns-in-Err-clause-is
 map_union-returns-in-Err-clause-is g t c =
     let e = c.in_ok-tick.ensures in
     let opened = keeps_opened c.args.nodes.now c.args.store.now c.open_level.new.self c.open_level.ensures.levels in
-    let h = rw (opened, c.open_level.ensures.room) at c.in-Err.ensures.is in
+    let h = rw (opened, c.open_level.ensures.room.room) at c.in-Err.ensures.is in
     rw union_is (inside_ticks _ _ _ c.requires.inside e.limit e.ok e.made h)
 
 pub map_array-returns-in_err-tick-clause-is : goal.map_array-returns-in_err-tick-clause-is
@@ -226,11 +226,11 @@ map_array-returns-in-Ok-clause-is g t c =
     let opened = keeps_opened c.args.nodes.now c.args.store.now c.open_level.new.self c.open_level.ensures.levels in
     elim c.match-packed_as.branch [
       | map_array-in-Some w ↦
-          let h = rw (sym w.mapped-is ∙ c.in-Ok.is, opened, c.open_level.ensures.room) at w.row_body-mapped.ensures.is in
+          let h = rw (sym w.mapped-is ∙ c.in-Ok.is, opened, c.open_level.ensures.room.room) at w.row_body-mapped.ensures.is in
           rw (w.store-is, w.meter-is)
           (record { value = h.value; kept = h.kept; ends = h.ends; follows = rw array_is (inside_ticks _ _ _ c.requires.inside e.limit e.ok e.made (follow_then_ok _ _ (settles_ok _ _ _ refl (rw c.from.ensures at c.in_ok-extent.ensures.is) c.in_ok-extent.ensures.made) (follow_at c.in_ok-extent.ensures.limit refl refl h.follows))) })
       | map_array-in-None w ↦
-          let h = rw (sym w.mapped-is ∙ c.in-Ok.is, opened, c.open_level.ensures.room) at w.array_body-mapped.ensures.is in
+          let h = rw (sym w.mapped-is ∙ c.in-Ok.is, opened, c.open_level.ensures.room.room) at w.array_body-mapped.ensures.is in
           rw (w.store-is, w.meter-is)
           (record { value = h.value; kept = h.kept; ends = h.ends; follows = rw array_is (inside_ticks _ _ _ c.requires.inside e.limit e.ok e.made (follow_then_ok _ _ (settles_ok _ _ _ refl (rw c.from.ensures at c.in_ok-extent.ensures.is) c.in_ok-extent.ensures.made) (follow_at c.in_ok-extent.ensures.limit refl refl h.follows))) })
     ]
@@ -241,10 +241,10 @@ map_array-returns-in-Err-clause-is g t c =
     let opened = keeps_opened c.args.nodes.now c.args.store.now c.open_level.new.self c.open_level.ensures.levels in
     elim c.match-packed_as.branch [
       | map_array-in-Some w ↦
-          let h = rw (sym w.mapped-is ∙ c.in-Err.is, opened, c.open_level.ensures.room) at w.row_body-mapped.ensures.is in
+          let h = rw (sym w.mapped-is ∙ c.in-Err.is, opened, c.open_level.ensures.room.room) at w.row_body-mapped.ensures.is in
           rw (w.meter-is, array_is) (inside_ticks _ _ _ c.requires.inside e.limit e.ok e.made (follow_then_ok _ _ (settles_ok _ _ _ refl (rw c.from.ensures at c.in_ok-extent.ensures.is) c.in_ok-extent.ensures.made) (follow_at c.in_ok-extent.ensures.limit refl refl h)))
       | map_array-in-None w ↦
-          let h = rw (sym w.mapped-is ∙ c.in-Err.is, opened, c.open_level.ensures.room) at w.array_body-mapped.ensures.is in
+          let h = rw (sym w.mapped-is ∙ c.in-Err.is, opened, c.open_level.ensures.room.room) at w.array_body-mapped.ensures.is in
           rw (w.meter-is, array_is) (inside_ticks _ _ _ c.requires.inside e.limit e.ok e.made (follow_then_ok _ _ (settles_ok _ _ _ refl (rw c.from.ensures at c.in_ok-extent.ensures.is) c.in_ok-extent.ensures.made) (follow_at c.in_ok-extent.ensures.limit refl refl h)))
     ]
 
@@ -297,7 +297,12 @@ struct_body-returns-in_err-close_struct-clause-is g t c =
     let p = err_from_is_err_and c.from_residual-in_err-close_struct.result c.from_residual-in_err-close_struct.ensures.1 in
     let named = c.requires.names ∙ sym (fields_named (type_of c.args.nodes.now) c.args.fields.now) in
     let full = rw named at c.in_err-close_struct.ensures.full in
-    rw (p.1, p.2) (struct_no_room _ _ _ _ c.in_ok-end.ensures.is _ _ c.in_ok-end.ensures.frame.room full)
+    rw (p.1, p.2) (struct_no_room _ _ _ _ c.in_ok-end.ensures.is _ _ c.in_ok-end.ensures.frame.room.room full)
+
+pub struct_body-returns-in_err-close_struct-clause-level : goal.struct_body-returns-in_err-close_struct-clause-level
+struct_body-returns-in_err-close_struct-clause-level g t c =
+    let p = err_from_is_err_and c.from_residual-in_err-close_struct.result c.from_residual-in_err-close_struct.ensures.1 in
+    rw p.1 (regrown_stays c.args.nodes.now _ _ _ c.in_ok-end.ensures.outer c.in_ok-end.ensures.depth c.in_err-close_struct.ensures.same)
 
 pub struct_body-returns-clause-is : goal.struct_body-returns-clause-is
 struct_body-returns-clause-is g t c =
@@ -314,7 +319,12 @@ array_body-returns-in_err-end-clause-is g t c =
 pub array_body-returns-in_err-close_array-clause-is : goal.array_body-returns-in_err-close_array-clause-is
 array_body-returns-in_err-close_array-clause-is g t c =
     let p = err_from_is_err_and c.from_residual-in_err-close_array.result c.from_residual-in_err-close_array.ensures.1 in
-    rw (p.1, p.2) (array_no_room _ _ _ _ c.in_ok-end.ensures.is c.in_ok-end.ensures.frame.room c.in_err-close_array.ensures.full)
+    rw (p.1, p.2) (array_no_room _ _ _ _ c.in_ok-end.ensures.is c.in_ok-end.ensures.frame.room.room c.in_err-close_array.ensures.full)
+
+pub array_body-returns-in_err-close_array-clause-level : goal.array_body-returns-in_err-close_array-clause-level
+array_body-returns-in_err-close_array-clause-level g t c =
+    let p = err_from_is_err_and c.from_residual-in_err-close_array.result c.from_residual-in_err-close_array.ensures.1 in
+    rw p.1 (regrown_stays c.args.nodes.now _ _ _ c.in_ok-end.ensures.outer c.in_ok-end.ensures.depth c.in_err-close_array.ensures.same)
 
 pub array_body-returns-clause-is : goal.array_body-returns-clause-is
 array_body-returns-clause-is g t c =
@@ -334,7 +344,12 @@ union_body-returns-in_err-close_union-clause-is g t c =
     let fresh = c.requires.fresh in
     let inside = h.keeps ∙ ap (λ ls. pushed ls (Some h.value)) fresh in
     let full = rw (inside, c.requires.names, ← h.ends) at c.in_err-close_union.ensures.full in
-    rw (p.1, p.2) (union_no_room _ _ _ _ _ h.follows c.in_ok-index.ensures.frame.room full)
+    rw (p.1, p.2) (union_no_room _ _ _ _ _ h.follows c.in_ok-index.ensures.frame.room.room full)
+
+pub union_body-returns-in_err-close_union-clause-level : goal.union_body-returns-in_err-close_union-clause-level
+union_body-returns-in_err-close_union-clause-level g t c =
+    let p = err_from_is_err_and c.from_residual-in_err-close_union.result c.from_residual-in_err-close_union.ensures.1 in
+    rw p.1 (regrown_stays c.args.nodes.now _ _ _ c.in_ok-index.ensures.outer c.in_ok-index.ensures.depth c.in_err-close_union.ensures.same)
 
 pub union_body-returns-clause-is : goal.union_body-returns-clause-is
 union_body-returns-clause-is g t c =
@@ -406,7 +421,7 @@ map_fields-returns-in_err-behind-clause-is g t c =
     let start = c.in_ok-place.ensures in
     let start_is = rw (c.from-origin.ensures, c.from.ensures) at start.is in
     let h = rw (i.frame.len, c.ordered.ensures) at c.in_err-behind.ensures.is in
-    let h = in_world (g.S.Space.view c.args.space.now) (g.S.Space.view c.loop-field.space) c.args.store.now c.loop-field.store i.frame.bytes i.frame.room h in
+    let h = in_world (g.S.Space.view c.args.space.now) (g.S.Space.view c.loop-field.space) c.args.store.now c.loop-field.store i.frame.bytes i.frame.room.room h in
     rw (p.1, p.2) (follow_on i.so_far (field_stops _ _ _ _ _ _ _ _ _ _ _ next (e.limit ∙ i.frame.limit) e.ok e.made there.made there_is there.limit start.made _ start_is start.limit _ h))
 
 pub map_fields-returns-in_err-keep_absent-clause-is : goal.map_fields-returns-in_err-keep_absent-clause-is
@@ -418,7 +433,11 @@ map_fields-returns-in_err-keep_absent-clause-is g t c =
     let next = rw (← c.field-item.is) at next in
     let there = c.in_ok-is_there.ensures in
     let there_is = rw (c.if-branch.false, c.from-origin.ensures) at there.is in
-    rw (p.1, p.2) (follow_on i.so_far (absent_no_room _ _ _ _ _ _ _ _ _ _ _ next (e.limit ∙ i.frame.limit) e.ok e.made there.made there_is i.frame.room c.in_err-keep_absent.ensures.full))
+    rw (p.1, p.2) (follow_on i.so_far (absent_no_room _ _ _ _ _ _ _ _ _ _ _ next (e.limit ∙ i.frame.limit) e.ok e.made there.made there_is i.frame.room.room c.in_err-keep_absent.ensures.full))
+
+pub map_fields-returns-in_err-keep_absent-clause-outer : goal.map_fields-returns-in_err-keep_absent-clause-outer
+map_fields-returns-in_err-keep_absent-clause-outer g t c =
+    ap outer_of (regrown_kept c.args.nodes.now _ _ c.in_err-keep_absent.ensures.same) ∙ c.loop-field.invariant.outer
 
 pub map_fields-loop-field-preserved : goal.map_fields-loop-field-preserved
 map_fields-loop-field-preserved g t c =
@@ -434,7 +453,7 @@ map_fields-loop-field-preserved g t c =
           let start_is = rw (c.from-origin.ensures, w.from.ensures) at start.is in
           let m = w.in_ok-behind.ensures.is in
           let h = rw (i.frame.len, w.ordered.ensures) at m.follows in
-          let h = in_world (g.S.Space.view c.args.space.now) (g.S.Space.view c.loop-field.space) c.args.store.now c.loop-field.store i.frame.bytes i.frame.room h in
+          let h = in_world (g.S.Space.view c.args.space.now) (g.S.Space.view c.loop-field.space) c.args.store.now c.loop-field.store i.frame.bytes i.frame.room.room h in
           let outer = ap outer_of m.kept ∙ outer_pushed (kept c.args.nodes.now c.loop-field.store) (Some m.value) ∙ i.outer in
           rw (w.space-is, w.meter-is, w.store-is, w.behind-is, w.top-is) (record {
             frame = search rules;
@@ -491,7 +510,7 @@ map_elements-returns-then-end-place-clause-is g t c =
     let due = sym c.is_due.ensures ∙ c.loop-order-test.true in
     let due = rw c.len-bits.ensures at due in
     let h = rw i.frame.len at c.in-Ok.ensures.is.follows in
-    let h = in_world (g.S.Space.view c.args.space.now) (g.S.Space.view c.loop-order.space) c.args.store.now c.loop-order.store i.frame.bytes i.frame.room h in
+    let h = in_world (g.S.Space.view c.args.space.now) (g.S.Space.view c.loop-order.space) c.args.store.now c.loop-order.store i.frame.bytes i.frame.room.room h in
     rw c.from.ensures (follow_on i.so_far.2 (elements_no_bits _ _ _ _ _ _ _ (max 1 (least_width (type_of c.args.nodes.now c.args.element))) _ i.so_far.1 i.inside due (e.limit ∙ i.frame.limit) e.ok e.made _ (c.in-Ok.ensures.is.ends ∙ c.if-end-place.true) h))
 
 pub map_elements-loop-order-preserved : goal.map_elements-loop-order-preserved
@@ -501,7 +520,7 @@ map_elements-loop-order-preserved g t c =
     let due = sym c.is_due.ensures ∙ c.loop-order-test.true in
     let due = rw c.len-bits.ensures at due in
     let h = rw i.frame.len at c.in-Ok.ensures.is.follows in
-    let h = in_world (g.S.Space.view c.args.space.now) (g.S.Space.view c.loop-order.space) c.args.store.now c.loop-order.store i.frame.bytes i.frame.room h in
+    let h = in_world (g.S.Space.view c.args.space.now) (g.S.Space.view c.loop-order.space) c.args.store.now c.loop-order.store i.frame.bytes i.frame.room.room h in
     let m = c.in-Ok.ensures.is in
     let wide = followed_wide _ _ _ _ _ h in
     let ends = m.ends in
@@ -524,7 +543,7 @@ map_elements-returns-then-ends-clause-is g t c =
     let due = sym c.is_due.ensures ∙ c.loop-order-test.true in
     let due = rw c.len-bits.ensures at due in
     let h = rw i.frame.len at c.in-Err.ensures.is in
-    let h = in_world (g.S.Space.view c.args.space.now) (g.S.Space.view c.loop-order.space) c.args.store.now c.loop-order.store i.frame.bytes i.frame.room h in
+    let h = in_world (g.S.Space.view c.args.space.now) (g.S.Space.view c.loop-order.space) c.args.store.now c.loop-order.store i.frame.bytes i.frame.room.room h in
     let ends = sym c.ends.ensures ∙ c.if-ends.true in
     rw c.in-Err.ensures.same (follow_on i.so_far.2 (elements_over _ _ _ _ _ _ _ (max 1 (least_width (type_of c.args.nodes.now c.args.element))) _ i.so_far.1 i.inside due (e.limit ∙ i.frame.limit) e.ok e.made _ ends h))
 
@@ -535,7 +554,7 @@ map_elements-returns-in-Err-clause-is g t c =
     let due = sym c.is_due.ensures ∙ c.loop-order-test.true in
     let due = rw c.len-bits.ensures at due in
     let h = rw i.frame.len at c.in-Err.ensures.is in
-    let h = in_world (g.S.Space.view c.args.space.now) (g.S.Space.view c.loop-order.space) c.args.store.now c.loop-order.store i.frame.bytes i.frame.room h in
+    let h = in_world (g.S.Space.view c.args.space.now) (g.S.Space.view c.loop-order.space) c.args.store.now c.loop-order.store i.frame.bytes i.frame.room.room h in
     let ends = sym c.ends.ensures ∙ c.if-ends.false in
     follow_on i.so_far.2 (elements_stop _ _ _ _ _ _ _ (max 1 (least_width (type_of c.args.nodes.now c.args.element))) _ i.so_far.1 i.inside due (e.limit ∙ i.frame.limit) e.ok e.made _ ends h)
 
@@ -585,7 +604,7 @@ map_alternatives-returns-in-Ok-clause-is g t c =
     let next = rw (← c.index-alternatives-index.is) at next in
     let m = c.in-Ok.ensures.is in
     let h = rw (i.frame.len, i.same, c.ordered-prefixed.ensures, c.from-origin.ensures) at m.follows in
-    let h = in_world (g.S.Space.view c.args.space.now) (g.S.Space.view c.loop-index.space) c.args.store.now c.loop-index.store i.frame.bytes i.frame.room h in
+    let h = in_world (g.S.Space.view c.args.space.now) (g.S.Space.view c.loop-index.space) c.args.store.now c.loop-index.store i.frame.bytes i.frame.room.room h in
     let keeps = m.kept ∙ ap (λ ls. pushed ls (Some m.value)) i.same in
     let named = name_of_one c.args.alternatives.now c.loop-index.index c.index-alternatives-index.result (omega arith) c.index-alternatives-index.is in
     record { value = m.value; keeps = keeps; ends = m.ends; follows = rw named (follow_on i.so_far (alternatives_fit _ _ _ _ _ _ _ _ _ next (e.limit ∙ i.frame.limit) e.ok e.made m.value h)) }
@@ -597,7 +616,7 @@ map_alternatives-returns-then-not-misses-clause-is g t c =
     let next = drop_more c.args.alternatives.now c.loop-index.index c.index-alternatives-index.result (omega arith) in
     let next = rw (← c.index-alternatives-index.is) at next in
     let h = rw (i.frame.len, i.same, c.ordered-prefixed.ensures, c.from-origin.ensures) at c.in-Err.ensures.is in
-    let h = in_world (g.S.Space.view c.args.space.now) (g.S.Space.view c.loop-index.space) c.args.store.now c.loop-index.store i.frame.bytes i.frame.room h in
+    let h = in_world (g.S.Space.view c.args.space.now) (g.S.Space.view c.loop-index.space) c.args.store.now c.loop-index.store i.frame.bytes i.frame.room.room h in
     follow_on i.so_far (alternatives_stop _ _ _ _ _ _ _ _ _ next (e.limit ∙ i.frame.limit) e.ok e.made _ (sym c.misses.ensures ∙ c.if-not-misses.true) h)
 
 pub map_alternatives-loop-index-preserved : goal.map_alternatives-loop-index-preserved
@@ -607,7 +626,7 @@ map_alternatives-loop-index-preserved g t c =
     let next = drop_more c.args.alternatives.now c.loop-index.index c.index-alternatives-index.result (omega arith) in
     let next = rw (← c.index-alternatives-index.is) at next in
     let h = rw (i.frame.len, i.same, c.ordered-prefixed.ensures, c.from-origin.ensures) at c.in-Err.ensures.is in
-    let h = in_world (g.S.Space.view c.args.space.now) (g.S.Space.view c.loop-index.space) c.args.store.now c.loop-index.store i.frame.bytes i.frame.room h in
+    let h = in_world (g.S.Space.view c.args.space.now) (g.S.Space.view c.loop-index.space) c.args.store.now c.loop-index.store i.frame.bytes i.frame.room.room h in
     let cleared = keeps_cleared c.args.nodes.now c.map_checked.new.store c.clear_level.new.self c.clear_level.ensures.levels in
     record {
       frame = search rules;

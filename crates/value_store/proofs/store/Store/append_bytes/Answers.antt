@@ -1,4 +1,5 @@
 use Rattle.std.proofs.Common.{refl, rules, ap, subst, sym, arith}
+use Rattle.std.specs.Prelude.{vec_capacity}
 use Rattle.value_store.specs.Slots.{Slots, Held, GoesOn}
 use Rattle.value_store.specs.contracts.store.Store.{the_view}
 use Rattle.value_store.proofs.Writing.{more-frames, more-placed}
@@ -33,7 +34,10 @@ returns-clause-slots c =
     let h = the_view c.self.inside in
     let g : GoesOn h c.args.shape c.args.more.now = subst (λ (h : Held). GoesOn h c.args.shape c.args.more.now) (sym c.self.view_is) c.requires in
     let e = more-placed h c.args.shape c.args.more.now c.len-last.result c.len.result c.append.new.to.items g (search rules) (search rules) (search rules) in
-    rw (← c.self.view_is) (ap (λ (x : Slots). record { slots = x; frames = h.frames; room = h.room }) e)
+    rw (← c.self.view_is) (ap (λ (x : Slots). record { slots = x; frames = h.frames; room = h.room; capacity = record { nodes = h.capacity.nodes; families = h.capacity.families; links = h.capacity.links; pending = h.capacity.pending; texts = h.capacity.texts; bytes = vec_capacity c.append.new.to } }) e)
+
+pub returns-in_err-reserve-clause-depth : goal.returns-in_err-reserve-clause-depth
+returns-in_err-reserve-clause-depth c = rw (← c.self.view_is) (depth-same _ _ refl)
 
 pub returns-clause-depth : goal.returns-clause-depth
 returns-clause-depth c = rw (← c.self.view_is) (depth-same _ _ refl)

@@ -35,7 +35,7 @@ returns-clause-levels c =
     let m : c.innermost-marks.result ≡ innermost (the_view c.self.inside).frames = search rules in
     let t : Slots = record { nodes = c.truncate.new.self.items; families = c.truncate-2.new.self.items; links = c.truncate-3.new.self.items; pending = c.truncate-4.new.self.items; texts = c.truncate-5.new.self.items; bytes = c.truncate-6.new.self.items } in
     let e : t ≡ cut_to c.innermost-marks.result s = search rules in
-    rw (← c.self.view_is) (rw (e, m) (clear-levels (the_view c.self.inside) c.self.invariant.levels))
+    rw (← c.self.view_is) (rw (e, m) (clear-levels (the_view c.self.inside) c.self.invariant.levels _))
 
 pub returns-clause-depth : goal.returns-clause-depth
 returns-clause-depth c = rw (← c.self.view_is) (depth-same _ _ refl)

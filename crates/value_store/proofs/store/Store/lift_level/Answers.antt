@@ -22,7 +22,7 @@ invariant_of-self c =
 pub returns-clause-levels : goal.returns-clause-levels
 returns-clause-levels c =
     let e : reverse c.pop.new.self.items ≡ around (the_view c.self.inside).frames = ap reverse c.pop.ensures.rest ∙ reverse-pop c.self.inside.frames.items in
-    rw (← c.self.view_is) (rw e (lift-levels (the_view c.self.inside) c.self.invariant.levels))
+    rw (← c.self.view_is) (rw e (lift-levels (the_view c.self.inside) _ c.self.invariant.levels))
 
 pub returns-clause-depth : goal.returns-clause-depth
 returns-clause-depth c =

@@ -30,7 +30,7 @@ pub returns-clause-levels : goal.returns-clause-levels
 returns-clause-levels c =
     let m : c.marks-marks.result ≡ marks_of (the_view c.self.inside).slots = search rules in
     let e : reverse c.push.new.self.items ≡ marks_of (the_view c.self.inside).slots ∷ (the_view c.self.inside).frames = ap reverse c.push.ensures.items ∙ reverse-push c.self.inside.frames.items c.marks-marks.result ∙ ap (λ k. k ∷ (the_view c.self.inside).frames) m in
-    rw (← c.self.view_is) (rw e (open-levels (the_view c.self.inside) c.self.invariant.levels))
+    rw (← c.self.view_is) (rw e (open-levels (the_view c.self.inside) c.self.invariant.levels _))
 
 pub returns-clause-sound : goal.returns-clause-sound
 returns-clause-sound c =

@@ -65,7 +65,19 @@ returns-clause-levels c =
     let s = (the_view c.self.inside).slots in
     let t : Slots = record { nodes = c.push_reserved-3.new.self.items; families = s.families; links = s.links; pending = c.push_reserved-2.new.self.items; texts = c.push_reserved.new.self.items; bytes = c.append.new.to.items } in
     let e : t ≡ with_bytes c.args.shape c.args.bytes.now c.args.start s = search rules in
-    rw (← c.self.view_is) (rw e (bytes-levels (the_view c.self.inside) c.args.shape c.args.bytes.now c.args.start c.self.invariant.levels c.requires.are may))
+    rw (← c.self.view_is) (rw e (bytes-levels (the_view c.self.inside) c.args.shape c.args.bytes.now c.args.start c.self.invariant.levels c.requires.are may _))
+
+pub returns-in_err-reserve-clause-depth : goal.returns-in_err-reserve-clause-depth
+returns-in_err-reserve-clause-depth c = rw (← c.self.view_is) (depth-same _ _ refl)
+
+pub returns-in_err-reserve-2-clause-depth : goal.returns-in_err-reserve-2-clause-depth
+returns-in_err-reserve-2-clause-depth c = rw (← c.self.view_is) (depth-same _ _ refl)
+
+pub returns-in_err-reserve-3-clause-depth : goal.returns-in_err-reserve-3-clause-depth
+returns-in_err-reserve-3-clause-depth c = rw (← c.self.view_is) (depth-same _ _ refl)
+
+pub returns-in_err-reserve-4-clause-depth : goal.returns-in_err-reserve-4-clause-depth
+returns-in_err-reserve-4-clause-depth c = rw (← c.self.view_is) (depth-same _ _ refl)
 
 pub returns-clause-depth : goal.returns-clause-depth
 returns-clause-depth c = rw (← c.self.view_is) (depth-same _ _ refl)

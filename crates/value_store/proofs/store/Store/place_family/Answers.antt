@@ -63,7 +63,19 @@ returns-clause-ok c =
     let m : c.innermost-mark.result ≡ innermost (the_view c.self.inside).frames = search rules in
     let t : Slots = record { nodes = c.push_reserved-3.new.self.items; families = c.push_reserved-2.new.self.items; links = c.move_above.new.to.items; pending = c.push_reserved.new.self.items; texts = s.texts; bytes = s.bytes } in
     let e : t ≡ with_family c.args.shape c.args.start c.args.size c.innermost-mark.result.pending s = search rules in
-    rw (← c.self.view_is) (rw (e, m) (family-levels (the_view c.self.inside) c.args.shape c.args.start c.args.size c.requires.composite c.self.invariant.levels))
+    rw (← c.self.view_is) (rw (e, m) (family-levels (the_view c.self.inside) c.args.shape c.args.start c.args.size c.requires.composite c.self.invariant.levels _))
+
+pub returns-in_err-reserve-clause-depth : goal.returns-in_err-reserve-clause-depth
+returns-in_err-reserve-clause-depth c = rw (← c.self.view_is) (depth-same _ _ refl)
+
+pub returns-in_err-reserve-2-clause-depth : goal.returns-in_err-reserve-2-clause-depth
+returns-in_err-reserve-2-clause-depth c = rw (← c.self.view_is) (depth-same _ _ refl)
+
+pub returns-in_err-reserve_moved-clause-depth : goal.returns-in_err-reserve_moved-clause-depth
+returns-in_err-reserve_moved-clause-depth c = rw (← c.self.view_is) (depth-same _ _ refl)
+
+pub returns-in_err-reserve_above-clause-depth : goal.returns-in_err-reserve_above-clause-depth
+returns-in_err-reserve_above-clause-depth c = rw (← c.self.view_is) (depth-same _ _ refl)
 
 pub returns-clause-depth : goal.returns-clause-depth
 returns-clause-depth c = rw (← c.self.view_is) (depth-same _ _ refl)

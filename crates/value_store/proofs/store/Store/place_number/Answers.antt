@@ -45,7 +45,13 @@ returns-clause-ok c =
     let s = (the_view c.self.inside).slots in
     let t : Slots = record { nodes = c.push_reserved-2.new.self.items; families = s.families; links = s.links; pending = c.push_reserved.new.self.items; texts = s.texts; bytes = s.bytes } in
     let e : t ≡ with_leaf c.args.shape c.args.start c.args.content s = search rules in
-    rw (← c.self.view_is) (rw e (number-levels (the_view c.self.inside) c.args.shape c.args.start c.args.content c.requires.number c.self.invariant.levels))
+    rw (← c.self.view_is) (rw e (number-levels (the_view c.self.inside) c.args.shape c.args.start c.args.content c.requires.number c.self.invariant.levels _))
+
+pub returns-in_err-reserve-clause-depth : goal.returns-in_err-reserve-clause-depth
+returns-in_err-reserve-clause-depth c = rw (← c.self.view_is) (depth-same _ _ refl)
+
+pub returns-in_err-reserve-2-clause-depth : goal.returns-in_err-reserve-2-clause-depth
+returns-in_err-reserve-2-clause-depth c = rw (← c.self.view_is) (depth-same _ _ refl)
 
 pub returns-clause-depth : goal.returns-clause-depth
 returns-clause-depth c = rw (← c.self.view_is) (depth-same _ _ refl)

@@ -34,7 +34,10 @@ invariant_of-self-2 c =
 pub returns-clause-ok : goal.returns-clause-ok
 returns-clause-ok c =
     let e : c.push_reserved.new.self.items ≡ (the_view c.self.inside).slots.pending ++ None ∷ [] = search rules in
-    rw (← c.self.view_is) (rw e (absent-levels (the_view c.self.inside) c.self.invariant.levels))
+    rw (← c.self.view_is) (rw e (absent-levels (the_view c.self.inside) _ c.self.invariant.levels))
+
+pub returns-in_err-reserve-clause-depth : goal.returns-in_err-reserve-clause-depth
+returns-in_err-reserve-clause-depth c = rw (← c.self.view_is) (depth-same _ _ refl)
 
 pub returns-clause-depth : goal.returns-clause-depth
 returns-clause-depth c = rw (← c.self.view_is) (depth-same _ _ refl)
