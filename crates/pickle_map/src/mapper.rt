@@ -16,10 +16,10 @@ ghost use Rattle.value_store.specs.Slots.{emptied, HoldsInRoom, KeepsRoom};
 ghost use Rattle.pickle_meaning.specs.Values.{no_values};
 
 pub(crate) mod blame;
-pub(crate) mod clauses;
-pub(crate) mod keep;
-pub(crate) mod number;
-pub(crate) mod read;
+pub mod clauses;
+pub mod keep;
+pub mod number;
+pub mod read;
 pub(crate) mod row;
 pub mod stop;
 pub(crate) mod text;

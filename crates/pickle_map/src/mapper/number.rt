@@ -80,7 +80,7 @@ pub(crate) fn map_integer<S: Space>(
 
 /// Keeps a number as the type at a place of the table, after its own first step.
 #[cycle(placing)]
-fn place_number<W: Watch>(
+pub fn place_number<W: Watch>(
     nodes: &[Node],
     at: usize,
     digits: u64,
@@ -336,7 +336,7 @@ fn place_part<W: Watch>(
 }
 
 /// The first `width` of the `left` binary digits of a number that are left.
-fn first_digits(digits: u64, left: u8, width: u8) -> u64
+pub fn first_digits(digits: u64, left: u8, width: u8) -> u64
     requires left { left ≤ 64 }
     requires width { width ≤ 64 }
     ensures is { result ≡ first_digits digits left width }
@@ -347,7 +347,7 @@ fn first_digits(digits: u64, left: u8, width: u8) -> u64
 }
 
 /// How many bits a type takes that is read as one number, else 0.
-fn width_at(nodes: &[Node], at: usize) -> u8
+pub fn width_at(nodes: &[Node], at: usize) -> u8
     requires table { IsTable nodes.now }
     requires at { at < length nodes.now }
     ensures is { result ≡ width_in (number_type (type_of nodes.now at)) }

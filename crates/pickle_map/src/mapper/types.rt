@@ -612,7 +612,7 @@ fn map_alternatives<S: Space, W: Watch>(
 }
 
 /// The order of a field: its prefix's, or the one around it.
-fn ordered(prefix: Option<ByteOrder>, order: Order) -> Order
+pub fn ordered(prefix: Option<ByteOrder>, order: Order) -> Order
     ensures { result ≡ ordered prefix order }
 {
     match prefix {
