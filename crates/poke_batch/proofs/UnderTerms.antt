@@ -5,7 +5,7 @@ use Rattle.std.proofs.lemmas.Bool.{le-leb, lt-leb}
 use Rattle.pickle_types.specs.Types.{PokeType, IntegerOf, OffsetOf, StringOf, ArrayOf, StructOf, IntegralOf, UnionOf, Fields, NoFields, FieldThen, Parts, NoParts, PartThen}
 use Rattle.pickle_meaning.specs.Fits.{ElementsFit, no_more_fit, one_more_fits, Fits, FitsNumber, FieldsFit, AlternativeFits}
 use Rattle.pickle_meaning.specs.Means.{Taken}
-use Rattle.value_store.specs.Slots.{Held, empty}
+use Rattle.value_store.specs.Slots.{Held, emptied}
 use Rattle.value_store.specs.declared.store.room.Room.{Room}
 use Rattle.pickle_types.specs.Bounds.{room}
 use Rattle.std.proofs.lemmas.Option.{same_Some}
@@ -150,7 +150,7 @@ refused_under (refusal.Types kind declaration) refuses = ended_under (refused_ma
 refused_under refusal.Memory refuses = ended_under (refused_map refuses)
 
 -- a store of the most slots has just these
-pub least_of : (most : Option ℕ) (old cleared : Held) {bound : ℕ} → IsStoreOf most old → cleared ≡ empty old.room → cleared.room.least < bound → (n : ℕ) → most ≡ Some n → n < bound
+pub least_of : (most : Option ℕ) (old cleared : Held) {bound : ℕ} → IsStoreOf most old → cleared ≡ emptied old → cleared.room.least < bound → (n : ℕ) → most ≡ Some n → n < bound
 least_of None old cleared is same less n e = absurd cc
 least_of (Some m) old cleared {bound} is same less n e =
     subst (λ x. x < bound) (ap (λ (h : Held). h.room.least) same ∙ ap (λ (r : Room). r.least) is ∙ same_Some m n e) less

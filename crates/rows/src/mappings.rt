@@ -1,7 +1,7 @@
 //! Every row of the tables, through the runs and through the library's own calls.
 
 ghost use Rattle.std.specs.Prelude.{◌≡◌, IfOk};
-ghost use Rattle.value_store.specs.Slots.{empty};
+ghost use Rattle.value_store.specs.Slots.{emptied};
 ghost use Rattle.pickle_types.specs.TypeTable.{IsInTable};
 
 use crate::devices::Failing;
@@ -49,7 +49,7 @@ pub fn map_row<S: Space>(
     meter: &mut Meter,
     store: &mut Store,
 ) -> Result<String, Fail>
-    requires empty { store.old ≡ empty store.old.room }
+    requires empty { store.old ≡ emptied store.old }
 {
     let id = type_of(table, row)?;
     match map(table, id, row.order, row.start, space, meter, store) {
@@ -92,7 +92,7 @@ pub fn expect_mapped<S: Space>(
     space: &mut S,
     store: &mut Store,
 ) -> Result<(), Fail>
-    requires empty { store.old ≡ empty store.old.room }
+    requires empty { store.old ≡ emptied store.old }
 {
     let mut meter = Meter::new(LIMIT);
     let said = map_row(alloc, table, row, space, &mut meter, store)?;

@@ -1,7 +1,7 @@
 //! Stores that are used again, after a value or a fault.
 
 ghost use Rattle.std.specs.Prelude.{◌≡◌, OnOk};
-ghost use Rattle.value_store.specs.Slots.{empty};
+ghost use Rattle.value_store.specs.Slots.{emptied, KeepsRoom};
 
 use crate::mappings::{
     LIMIT, expect, expect_mapped, fault_text, map_row, space_of, table_of, text, type_of,
@@ -55,8 +55,9 @@ fn map_and_empty(
     row: &Row<'_>,
     store: &mut Store,
 ) -> Result<(), Fail>
-    requires empty { store.old ≡ empty store.old.room }
-    ensures { OnOk result (store.new ≡ empty store.old.room) }
+    requires empty { store.old ≡ emptied store.old }
+    ensures emptied { OnOk result (store.new ≡ emptied store.new) }
+    ensures room { KeepsRoom store.old store.new }
 {
     let table = table_of(alloc, row.pickle)?;
     let id = type_of(&table, row)?;

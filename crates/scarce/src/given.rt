@@ -1,7 +1,7 @@
 //! What the calls are given.
 
 ghost use Rattle.std.specs.Prelude.{◌≡◌, IfOk, OnErr};
-ghost use Rattle.value_store.specs.Slots.{empty};
+ghost use Rattle.value_store.specs.Slots.{emptied, KeepsRoom};
 ghost use Rattle.pickle_types.specs.TypeTable.{IsInTable};
 
 use crate::ended::Ended;
@@ -56,8 +56,9 @@ pub fn map_type(
     store: &mut Store,
 ) -> Result<(), MapFault>
     requires known { IsInTable table.now id }
-    requires empty { store.old ≡ empty store.old.room }
-    ensures { OnErr result (store.new ≡ empty store.old.room) }
+    requires empty { store.old ≡ emptied store.old }
+    ensures emptied { OnErr result (store.new ≡ emptied store.new) }
+    ensures room { KeepsRoom store.old store.new }
 {
     let mut meter = Meter::new(10_000);
     map(table, id, Order::Big, 0, space, &mut meter, store)
@@ -81,7 +82,7 @@ pub fn is_mapped(
     sample: Sample<'_>,
 ) -> bool
     requires known { IsInTable table.now id }
-    requires empty { store.old ≡ empty store.old.room }
+    requires empty { store.old ≡ emptied store.old }
 {
     map_type(table, id, space, store).is_ok() && has_text(table, store, sample.text)
 }
