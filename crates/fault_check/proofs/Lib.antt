@@ -1,0 +1,7 @@
+pub mod Meant
+pub mod Steps
+pub mod Numbers
+pub mod Nodes
+pub mod IntegralFields
+pub mod ArrayElements
+pub mod Own

@@ -1,0 +1,17 @@
+use Rattle.std.proofs.Common.{◌≡◌, ◌*◌, ◌≤◌, length}
+use Rattle.pickle_types.specs.Table.{type_of}
+use Rattle.value_store.specs.Shown.{kept}
+use Rattle.value_store.specs.Slots.{levels}
+use Rattle.fault_check.specs.Ways.{OnBits, Leaves}
+use Rattle.fault_check.specs.Elements.{ElementsTo}
+use Rattle.fault_check.proofs.elements.elements_before.Given as goal
+
+abbrev pub invariant-loop-count : goal.invariant-loop-count
+invariant-loop-count g l = record {
+  leaves : Leaves (g.S.Space.view l.initial.space) (g.S.Space.view l.space) l.initial.meter l.meter;
+  after : l.start ≤ l.behind;
+  inside : l.behind ≤ 8 * (g.S.Space.view l.initial.space).len;
+  depth : length (levels l.store) ≡ length (levels l.initial.store);
+  before : OnBits (g.S.Space.view l.initial.space) (λ bits.
+      ElementsTo bits (type_of l.nodes l.element) l.order l.start l.extent (kept l.nodes l.initial.store) (kept l.nodes l.store) l.count l.behind);
+}

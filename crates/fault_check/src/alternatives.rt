@@ -1,0 +1,107 @@
+//! Alternatives of a union, on a way into one of them.
+
+ghost use Rattle.std.specs.Prelude.{◌≡◌, ℕ, ◌∷◌, [], length, List, All, IsTrue};
+ghost use Rattle.pickle_types.specs.declared.table.Node.{Node};
+ghost use Rattle.pickle_types.specs.Table.{IsTable, type_of, open_parts};
+ghost use Rattle.pickle_meaning.specs.Values.{outer_of};
+ghost use Rattle.pickle_map.specs.Mappable.{IsPartOf};
+ghost use Rattle.value_store.specs.Shown.{kept};
+ghost use Rattle.value_store.specs.Slots.{levels};
+ghost use Rattle.fault_parts.specs.Arises.{AlternativesArise};
+ghost use Rattle.fault_check.specs.Ways.{OnBits, Leaves, Misses, Enters, EntersAlternative, GoesOn, fault_of};
+
+use crate::mapped::map_checked;
+use crate::part::{Entered, Part};
+use bit_space::{Meter, Order, Space};
+use pickle_map::mapper::stop::Stop;
+use pickle_map::mapper::types::ordered;
+use pickle_meaning::faults::MapFault;
+use pickle_types::view::{Node, Part as Alternative};
+use value_store::store::Store;
+
+/// Goes by the alternatives of a union, which starts at the bit `start`, into the one at a place.
+pub fn enter_alternatives<'a, S: Space>(
+    nodes: &[Node],
+    alternatives: &'a [Alternative],
+    order: Order,
+    start: u64,
+    place: usize,
+    fault: MapFault,
+    space: &mut S,
+    meter: &mut Meter,
+    store: &mut Store,
+) -> Entered<'a>
+    requires table { IsTable nodes.now }
+    requires alternatives { All (IsPartOf nodes.now (length (levels store.old))) alternatives.now }
+    requires fresh { kept nodes.now store.old ≡ [] ∷ outer_of (kept nodes.now store.old) }
+    ensures leaves { Leaves (S.view space.old) (S.view space.new) meter.old meter.new }
+    ensures goes_on { GoesOn nodes.now (length (levels store.new)) result }
+    ensures is { OnBits (S.view space.old) (λ bits. Enters bits nodes.now (kept nodes.now store.new) place (fault_of fault) (AlternativesArise bits order (open_parts (type_of nodes.now) alternatives.now) (kept nodes.now store.old) start (fault_of fault)) result) }
+{
+    for (index, alternative) in alternatives.iter().enumerate() {
+        if index == place {
+            return enter_alternative(alternative, order, start, fault);
+        }
+        if !misses(nodes, alternative, order, start, space, meter, store) {
+            return Entered::Nowhere;
+        }
+    }
+    Entered::Nowhere
+}
+
+/// Whether an alternative misses. Its level is empty behind it where it does.
+fn misses<S: Space>(
+    nodes: &[Node],
+    alternative: &Alternative,
+    order: Order,
+    start: u64,
+    space: &mut S,
+    meter: &mut Meter,
+    store: &mut Store,
+) -> bool
+    requires table { IsTable nodes.now }
+    requires alternative { IsPartOf nodes.now (length (levels store.old)) alternative.now }
+    requires fresh { kept nodes.now store.old ≡ [] ∷ outer_of (kept nodes.now store.old) }
+    ensures leaves { Leaves (S.view space.old) (S.view space.new) meter.old meter.new }
+    ensures is { IsTrue result → OnBits (S.view space.old) (λ bits. Misses bits nodes.now alternative.now order (kept nodes.now store.old) start) }
+    ensures same { IsTrue result → kept nodes.now store.new ≡ kept nodes.now store.old }
+    ensures depth { IsTrue result → length (levels store.new) ≡ length (levels store.old) }
+{
+    match map_checked(
+        nodes,
+        alternative.node,
+        &alternative.constraint,
+        ordered(alternative.order, order),
+        u128::from(start),
+        space,
+        meter,
+        store,
+    ) {
+        Ok(_) => false,
+        Err(stop) => {
+            store.clear_level();
+            stop.misses()
+        }
+    }
+}
+
+/// Goes into an alternative, where the fault is no miss.
+fn enter_alternative<'a>(
+    alternative: &'a Alternative,
+    order: Order,
+    start: u64,
+    fault: MapFault,
+) -> Entered<'a>
+    ensures goes_on { (nodes : List Node) (levels : ℕ) → IsPartOf nodes levels alternative.now → GoesOn nodes levels result }
+    ensures is { EntersAlternative order alternative.now start (fault_of fault) result }
+{
+    if Stop::Fault(fault.kind, fault.at).misses() {
+        return Entered::Nowhere;
+    }
+    Entered::Part(Part {
+        node: alternative.node,
+        order: ordered(alternative.order, order),
+        start: u128::from(start),
+        constraint: Some(&alternative.constraint),
+    })
+}

@@ -1,0 +1,248 @@
+//! The check of a whole way.
+
+ghost use Rattle.std.specs.Prelude.{◌≡◌, ℕ, ◌+◌, ◌≤◌, ◌<◌, [], length, Err, IsTrue};
+ghost use Rattle.pickle_types.specs.Types.{depth};
+ghost use Rattle.pickle_types.specs.Table.{IsTable, type_of};
+ghost use Rattle.pickle_types.specs.TypeTable.{nodes_of, type_named, IsInTable};
+ghost use Rattle.pickle_types.specs.Sound.{IsSoundClause};
+ghost use Rattle.pickle_meaning.specs.Values.{no_values};
+ghost use Rattle.pickle_meaning.specs.Clauses.{constraint};
+ghost use Rattle.value_store.specs.Shown.{kept};
+ghost use Rattle.value_store.specs.Slots.{levels, emptied};
+ghost use Rattle.fault_parts.specs.Arises.{Arises};
+ghost use Rattle.fault_check.specs.Ways.{OnBits, Leaves, IsPart, InPart, InType, Enters, GoesOn, HasFault, constraint_of, fault_of};
+
+use crate::alternatives::enter_alternatives;
+use crate::digits::is_in_digits;
+use crate::elements::{enter_array, is_own_array};
+use crate::fields::enter_fields;
+use crate::mapped::{check_constraint, is_fault, map_part};
+use crate::part::{Entered, Part};
+use bit_space::{Meter, Order, Space};
+use pickle_map::mapper::stop::Stop;
+use pickle_meaning::faults::MapFault;
+use pickle_types::type_table::{Table, TypeId};
+use pickle_types::view::{Node, Shape};
+use value_store::store::Store;
+
+/// Whether the fault of a type, which is mapped from the bit `start` on, arises in the part to which a path leads: a place
+/// at each step, from 0, of an element, or of a field or an alternative among those that are declared.
+///
+/// It maps again what stands before that part. Where the answer is no, the fault may arise there all the same: a run may
+/// have ended before that was found.
+pub fn arises<S: Space>(
+    table: &Table,
+    id: TypeId,
+    order: Order,
+    start: u64,
+    fault: MapFault,
+    path: &[usize],
+    space: &mut S,
+    meter: &mut Meter,
+    store: &mut Store,
+) -> bool
+    requires known { IsInTable table.now id }
+    requires empty { store.old ≡ emptied store.old }
+    ensures leaves { Leaves (S.view space.old) (S.view space.new) meter.old meter.new }
+    ensures is { IsTrue result → OnBits (S.view space.old) (λ bits. Arises bits (type_named table.now id) order no_values start (fault_of fault) path.now) }
+    ensures emptied { store.new ≡ emptied store.new }
+{
+    let whole = Part {
+        node: id.node,
+        order,
+        start: u128::from(start),
+        constraint: None,
+    };
+    let found = follow(table.nodes(), whole, fault, path, space, meter, store);
+    store.clear();
+    found
+}
+
+/// Whether the fault arises in the part of a part to which a path leads.
+fn follow<S: Space>(
+    nodes: &[Node],
+    whole: Part<'_>,
+    fault: MapFault,
+    path: &[usize],
+    space: &mut S,
+    meter: &mut Meter,
+    store: &mut Store,
+) -> bool
+    requires table { IsTable nodes.now }
+    requires part { IsPart nodes.now (length (levels store.old)) whole }
+    ensures leaves { Leaves (S.view space.old) (S.view space.new) meter.old meter.new }
+    ensures is { IsTrue result → OnBits (S.view space.old) (λ bits. InPart bits nodes.now (kept nodes.now store.old) whole.entry (fault_of fault) path.now) }
+{
+    let mut part = whole;
+    for (step, place) in path.iter().enumerate() {
+        if is_integral(nodes, part.node) {
+            return is_in_digits(
+                nodes,
+                part.node,
+                part.order,
+                part.start,
+                fault,
+                &path[step..],
+                space,
+                meter,
+                store,
+            );
+        }
+        match enter(nodes, part, *place, fault, space, meter, store) {
+            Entered::Part(next) => part = next,
+            Entered::There => return step + 1 == path.len(),
+            Entered::Nowhere => return false,
+        }
+    }
+    is_own(nodes, part, fault, space, meter, store)
+}
+
+/// Goes into the part of a part at a place.
+fn enter<'a, S: Space>(
+    nodes: &'a [Node],
+    part: Part<'_>,
+    place: usize,
+    fault: MapFault,
+    space: &mut S,
+    meter: &mut Meter,
+    store: &mut Store,
+) -> Entered<'a>
+    requires table { IsTable nodes.now }
+    requires part { IsPart nodes.now (length (levels store.old)) part }
+    ensures leaves { Leaves (S.view space.old) (S.view space.new) meter.old meter.new }
+    ensures goes_on { GoesOn nodes.now (length (levels store.new)) result }
+    ensures is { OnBits (S.view space.old) (λ bits. Enters bits nodes.now (kept nodes.now store.new) place (fault_of fault) (InType bits nodes.now (kept nodes.now store.old) part.entry (fault_of fault)) result) }
+{
+    if u128::from(8 * space.len()) < part.start {
+        return Entered::Nowhere;
+    }
+    let start = part.start as u64;
+    match &nodes[part.node].shape {
+        Shape::Struct {
+            name: _,
+            pinned,
+            fields,
+        } => {
+            store.open_level();
+            enter_fields(
+                nodes, *pinned, fields, part.order, start, place, fault, space, meter, store,
+            )
+        }
+        Shape::Union {
+            name: _,
+            alternatives,
+        } => {
+            store.open_level();
+            enter_alternatives(
+                nodes,
+                alternatives,
+                part.order,
+                start,
+                place,
+                fault,
+                space,
+                meter,
+                store,
+            )
+        }
+        Shape::Array(element, bound) => {
+            enter_array(
+                nodes, *element, bound, part.order, part.start, place, fault, space, meter, store,
+            )
+        }
+        Shape::Integer(_) => Entered::Nowhere,
+        Shape::Offset(..) => Entered::Nowhere,
+        Shape::Integral { .. } => Entered::Nowhere,
+        Shape::String => Entered::Nowhere,
+    }
+}
+
+/// Whether the type at a place of the table is an integral struct.
+fn is_integral(nodes: &[Node], at: usize) -> bool
+    requires at { at < length nodes.now }
+{
+    matches!(nodes[at].shape, Shape::Integral { .. })
+}
+
+/// Whether a fault arises in a part itself: in its constraint, or in its type.
+fn is_own<S: Space>(
+    nodes: &[Node],
+    part: Part<'_>,
+    fault: MapFault,
+    space: &mut S,
+    meter: &mut Meter,
+    store: &mut Store,
+) -> bool
+    requires table { IsTable nodes.now }
+    requires part { IsPart nodes.now (length (levels store.old)) part }
+    ensures leaves { Leaves (S.view space.old) (S.view space.new) meter.old meter.new }
+    ensures is { IsTrue result → OnBits (S.view space.old) (λ bits. InPart bits nodes.now (kept nodes.now store.old) part.entry (fault_of fault) []) }
+{
+    match map_part(
+        nodes, part.node, part.order, part.start, space, meter, store,
+    ) {
+        Ok(_) => is_refused(nodes, part, fault, meter, store),
+        Err(stop) => {
+            is_fault(stop, fault) && is_own_fault(nodes, part, fault, space, meter, store)
+        }
+    }
+}
+
+/// Whether the constraint that stands beside a part stops with the fault, where the part's value stands last.
+fn is_refused(
+    nodes: &[Node],
+    part: Part<'_>,
+    fault: MapFault,
+    meter: &mut Meter,
+    store: &Store,
+) -> bool
+    requires sound { IsSoundClause (constraint_of part) }
+    ensures limit { meter.new.limit ≡ meter.old.limit }
+    ensures is { IsTrue result → constraint (constraint_of part.entry) (kept nodes.now store.now) part.entry.start ≡ Err (fault_of fault) }
+{
+    match part.constraint {
+        Some(clause) => match check_constraint(nodes, clause, part.start, meter, store) {
+            Ok(()) => false,
+            Err(stop) => is_fault(stop, fault),
+        },
+        None => false,
+    }
+}
+
+/// Whether a fault that the type of a part means arises in that type itself, and in no part of it.
+fn is_own_fault<S: Space>(
+    nodes: &[Node],
+    part: Part<'_>,
+    fault: MapFault,
+    space: &mut S,
+    meter: &mut Meter,
+    store: &mut Store,
+) -> bool
+    requires table { IsTable nodes.now }
+    requires part { IsPart nodes.now (length (levels store.old)) part }
+    requires has { OnBits (S.view space.old) (λ bits. HasFault bits nodes.now (kept nodes.now store.old) part (fault_of fault)) }
+    ensures leaves { Leaves (S.view space.old) (S.view space.new) meter.old meter.new }
+    ensures is { IsTrue result → OnBits (S.view space.old) (λ bits. InType bits nodes.now (kept nodes.now store.old) part.entry (fault_of fault) []) }
+{
+    let bits = u128::from(8 * space.len());
+    if bits < part.start {
+        return true;
+    }
+    match &nodes[part.node].shape {
+        Shape::Integer(_) => true,
+        Shape::Offset(..) => true,
+        Shape::String => true,
+        Shape::Struct { .. } => false,
+        Shape::Union { .. } => Stop::Fault(fault.kind, fault.at).misses(),
+        Shape::Integral {
+            name: _,
+            number,
+            fields: _,
+        } => bits < part.start + u128::from(number.width),
+        Shape::Array(element, bound) => {
+            is_own_array(
+                nodes, *element, bound, part.order, part.start, fault, space, meter, store,
+            )
+        }
+    }
+}

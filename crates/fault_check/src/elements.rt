@@ -1,0 +1,245 @@
+//! Arrays, on the way to the element in which a fault arises.
+
+ghost use Rattle.std.specs.Prelude.{◌≡◌, ◌+◌, ◌*◌, ◌<◌, ◌≤◌, [], length, IfOk, IfSome, IsTrue};
+ghost use Rattle.pickle_types.specs.Types.{depth};
+ghost use Rattle.pickle_types.specs.Table.{IsTable, type_of, bound_of};
+ghost use Rattle.pickle_types.specs.Sound.{IsSoundBound};
+ghost use Rattle.pickle_map.specs.Framed.{IsEnd};
+ghost use Rattle.value_store.specs.Shown.{kept};
+ghost use Rattle.value_store.specs.Slots.{levels};
+ghost use Rattle.fault_check.specs.Ways.{OnBits, Leaves, GoesOn};
+ghost use Rattle.fault_check.specs.Elements.{IsElement, OutgrowsSize, ArrayArises, EntersArray, EntersElements, KeepsElements, FindsEmpty};
+
+use crate::mapped::{is_fault, map_part};
+use crate::part::{Entered, Part};
+use bit_space::{Meter, Order, Space};
+use pickle_map::mapper::clauses::find_extent;
+use pickle_map::mapper::stop::Stop;
+use pickle_meaning::extent::Extent;
+use pickle_meaning::faults::{MapFault, MapFaultKind};
+use pickle_types::view::{Extent as Bound, Node};
+use value_store::store::Store;
+
+/// Goes into the element of an array at a place, behind those before it.
+pub fn enter_array<'a, S: Space>(
+    nodes: &[Node],
+    element: usize,
+    bound: &Bound,
+    order: Order,
+    start: u128,
+    place: usize,
+    fault: MapFault,
+    space: &mut S,
+    meter: &mut Meter,
+    store: &mut Store,
+) -> Entered<'a>
+    requires table { IsTable nodes.now }
+    requires element { element < length nodes.now }
+    requires open { length (levels store.old) + 1 + depth (type_of nodes.now element) ≤ 65 }
+    requires sound { IsSoundBound (bound_of bound.now) }
+    ensures leaves { Leaves (S.view space.old) (S.view space.new) meter.old meter.new }
+    ensures is { OnBits (S.view space.old) (EntersArray nodes.now element bound.now order start place fault store.old store.new result) }
+    ensures goes_on { GoesOn nodes.now (length (levels store.new)) result }
+{
+    if u128::from(8 * space.len()) < start {
+        return Entered::Nowhere;
+    }
+    let Ok(extent) = find_extent(nodes, bound, store, start, meter) else {
+        return Entered::Nowhere;
+    };
+    store.open_level();
+    enter_elements(
+        nodes,
+        element,
+        extent,
+        order,
+        start as u64,
+        place,
+        fault,
+        space,
+        meter,
+        store,
+    )
+}
+
+/// Goes into an element of an array whose level is open, behind those before it.
+fn enter_elements<'a, S: Space>(
+    nodes: &[Node],
+    element: usize,
+    extent: Extent,
+    order: Order,
+    start: u64,
+    place: usize,
+    fault: MapFault,
+    space: &mut S,
+    meter: &mut Meter,
+    store: &mut Store,
+) -> Entered<'a>
+    requires table { IsTable nodes.now }
+    requires element { element < length nodes.now }
+    requires open { length (levels store.old) + depth (type_of nodes.now element) ≤ 65 }
+    requires inside { start ≤ 8 * (S.view space.old).len }
+    ensures leaves { Leaves (S.view space.old) (S.view space.new) meter.old meter.new }
+    ensures is { OnBits (S.view space.old) (EntersElements nodes.now element extent order start place fault store.old store.new result) }
+    ensures goes_on { GoesOn nodes.now (length (levels store.new)) result }
+{
+    let Some(behind) = elements_before(
+        nodes, element, extent, order, start, place, space, meter, store,
+    ) else {
+        return Entered::Nowhere;
+    };
+    let due = extent.is_due(8 * space.len(), start, place as u64, behind);
+    if !due || Stop::Fault(fault.kind, fault.at).ends(extent) {
+        return Entered::Nowhere;
+    }
+    let no_bits = Stop::Fault(MapFaultKind::NoBits, u128::from(behind));
+    if is_fault(no_bits, fault) {
+        return empty_element(nodes, element, order, behind, space, meter, store);
+    }
+    Entered::Part(element_part(element, order, behind))
+}
+
+/// Keeps so many elements of an array, which are all due and have bits, and gives the bit behind them.
+fn elements_before<S: Space>(
+    nodes: &[Node],
+    element: usize,
+    extent: Extent,
+    order: Order,
+    start: u64,
+    place: usize,
+    space: &mut S,
+    meter: &mut Meter,
+    store: &mut Store,
+) -> Option<u64>
+    requires table { IsTable nodes.now }
+    requires element { element < length nodes.now }
+    requires open { length (levels store.old) + depth (type_of nodes.now element) ≤ 65 }
+    requires inside { start ≤ 8 * (S.view space.old).len }
+    ensures leaves { Leaves (S.view space.old) (S.view space.new) meter.old meter.new }
+    ensures ends { IfSome result (IsEnd start (S.view space.old)) }
+    ensures is { OnBits (S.view space.old) (KeepsElements nodes.now element extent order start place store.old store.new result) }
+    ensures depth { length (levels store.new) ≡ length (levels store.old) }
+{
+    let bits = 8 * space.len();
+    let mut behind = start;
+    for count in 0..place {
+        if !extent.is_due(bits, start, count as u64, behind) {
+            return None;
+        }
+        let at = u128::from(behind);
+        match map_part(nodes, element, order, at, space, meter, store) {
+            Ok(end) if behind < end => behind = end,
+            _ => return None,
+        }
+    }
+    Some(behind)
+}
+
+/// An element that takes no bits, or else the way into it.
+fn empty_element<'a, S: Space>(
+    nodes: &[Node],
+    element: usize,
+    order: Order,
+    at: u64,
+    space: &mut S,
+    meter: &mut Meter,
+    store: &mut Store,
+) -> Entered<'a>
+    requires table { IsTable nodes.now }
+    requires element { element < length nodes.now }
+    requires open { length (levels store.old) + depth (type_of nodes.now element) ≤ 65 }
+    ensures leaves { Leaves (S.view space.old) (S.view space.new) meter.old meter.new }
+    ensures is { OnBits (S.view space.old) (FindsEmpty nodes.now element order at store.old store.new result) }
+    ensures goes_on { GoesOn nodes.now (length (levels store.new)) result }
+{
+    match map_part(nodes, element, order, u128::from(at), space, meter, store) {
+        Ok(end) if end == at => Entered::There,
+        Ok(_) => Entered::Nowhere,
+        Err(_) => Entered::Part(element_part(element, order, at)),
+    }
+}
+
+/// An element of an array that starts at a bit.
+fn element_part<'a>(element: usize, order: Order, at: u64) -> Part<'a>
+    ensures { IsElement element order at result }
+{
+    Part {
+        node: element,
+        order,
+        start: u128::from(at),
+        constraint: None,
+    }
+}
+
+/// Whether a fault arises in an array itself: in its bound, or behind elements that end past its size.
+pub fn is_own_array<S: Space>(
+    nodes: &[Node],
+    element: usize,
+    bound: &Bound,
+    order: Order,
+    start: u128,
+    fault: MapFault,
+    space: &mut S,
+    meter: &mut Meter,
+    store: &mut Store,
+) -> bool
+    requires table { IsTable nodes.now }
+    requires element { element < length nodes.now }
+    requires open { length (levels store.old) + 1 + depth (type_of nodes.now element) ≤ 65 }
+    requires sound { IsSoundBound (bound_of bound.now) }
+    ensures leaves { Leaves (S.view space.old) (S.view space.new) meter.old meter.new }
+    ensures is { IsTrue result → OnBits (S.view space.old) (ArrayArises nodes.now element bound.now order start fault store.old []) }
+{
+    if u128::from(8 * space.len()) < start {
+        return false;
+    }
+    match find_extent(nodes, bound, store, start, meter) {
+        Ok(extent) => {
+            store.open_level();
+            is_fault(Stop::Fault(MapFaultKind::Bounds, start), fault)
+                && outgrows(
+                    nodes,
+                    element,
+                    extent,
+                    order,
+                    start as u64,
+                    space,
+                    meter,
+                    store,
+                )
+        }
+        Err(stop) => is_fault(stop, fault),
+    }
+}
+
+/// Whether the elements of an array whose level is open end past its size.
+fn outgrows<S: Space>(
+    nodes: &[Node],
+    element: usize,
+    extent: Extent,
+    order: Order,
+    start: u64,
+    space: &mut S,
+    meter: &mut Meter,
+    store: &mut Store,
+) -> bool
+    requires table { IsTable nodes.now }
+    requires element { element < length nodes.now }
+    requires open { length (levels store.old) + depth (type_of nodes.now element) ≤ 65 }
+    requires inside { start ≤ 8 * (S.view space.old).len }
+    ensures leaves { Leaves (S.view space.old) (S.view space.new) meter.old meter.new }
+    ensures is { IsTrue result → OnBits (S.view space.old) (OutgrowsSize nodes.now element extent order start store.old) }
+{
+    let bits = 8 * space.len();
+    let mut behind = start;
+    let mut count = 0;
+    while extent.is_due(bits, start, count, behind) {
+        let at = u128::from(behind);
+        match map_part(nodes, element, order, at, space, meter, store) {
+            Ok(end) if behind < end => behind = end,
+            _ => return false,
+        }
+        count += 1;
+    }
+    !extent.is_met(start, behind)
+}

@@ -1,0 +1,10 @@
+//! Checks in which part of a type a fault arises.
+#![tactic(auto)]
+
+pub mod alternatives;
+pub mod arises;
+pub mod digits;
+pub mod elements;
+pub mod fields;
+pub mod mapped;
+pub mod part;

@@ -1,0 +1,157 @@
+//! Parts that are mapped on a way, with what they mean.
+
+ghost use Rattle.std.specs.Prelude.{◌≡◌, ◌+◌, ◌≤◌, ◌<◌, length, IfOk, OnErr, IsTrue};
+ghost use Rattle.pickle_types.specs.Types.{depth};
+ghost use Rattle.pickle_types.specs.Table.{IsTable, type_of, optional_term};
+ghost use Rattle.pickle_types.specs.Sound.{IsSoundClause};
+ghost use Rattle.pickle_meaning.specs.Clauses.{constraint, condition, field_start};
+ghost use Rattle.pickle_meaning.specs.Means.{Means, PartMeans};
+ghost use Rattle.pickle_meaning.specs.Values.{outer_of};
+ghost use Rattle.pickle_map.specs.Framed.{Frame, IsEnd};
+ghost use Rattle.value_store.specs.Shown.{kept};
+ghost use Rattle.value_store.specs.Slots.{levels};
+ghost use Rattle.fault_check.specs.Ways.{OnBits, Comes, Settled, IsThere, IsFault, Leaves};
+
+use crate::part::Entered;
+use bit_space::{Meter, Order, Space};
+use pickle_map::mapper::clauses;
+use pickle_map::mapper::stop::Stop;
+use pickle_map::mapper::types::map_type;
+use pickle_map::mapper::watch::Unwatched;
+use pickle_meaning::faults::MapFault;
+use pickle_types::view::{Node, Resolved};
+use value_store::store::Store;
+
+/// Maps the type at a place of the table from the bit `start` on into the innermost level, and gives the bit behind it.
+pub fn map_part<S: Space>(
+    nodes: &[Node],
+    node: usize,
+    order: Order,
+    start: u128,
+    space: &mut S,
+    meter: &mut Meter,
+    store: &mut Store,
+) -> Result<u64, Stop>
+    requires table { IsTable nodes.now }
+    requires at { node < length nodes.now }
+    requires open { length (levels store.old) + depth (type_of nodes.now node) ≤ 65 }
+    ensures frame { Frame (S.view space.old) (S.view space.new) meter.old meter.new store.old store.new 0 }
+    ensures ends { IfOk result (IsEnd start (S.view space.old)) }
+    ensures is { OnBits (S.view space.old) (λ bits. Comes (Means bits (type_of nodes.now node) order (kept nodes.now store.old) start) (kept nodes.now store.old) (kept nodes.now store.new) result) }
+    ensures same { OnErr result (kept nodes.now store.new ≡ kept nodes.now store.old) }
+    ensures outer { outer_of (kept nodes.now store.new) ≡ outer_of (kept nodes.now store.old) }
+    ensures depth { length (levels store.new) ≡ length (levels store.old) }
+{
+    map_type(
+        nodes,
+        node,
+        order,
+        start,
+        space,
+        meter,
+        store,
+        &mut Unwatched,
+    )
+}
+
+/// Checks a constraint of the value that stands last in the innermost level and began at the bit `place`.
+pub fn check_constraint(
+    nodes: &[Node],
+    clause: &Option<Box<Resolved>>,
+    place: u128,
+    meter: &mut Meter,
+    store: &Store,
+) -> Result<(), Stop>
+    requires sound { IsSoundClause (optional_term clause.now) }
+    ensures limit { meter.new.limit ≡ meter.old.limit }
+    ensures is { Settled result (constraint (optional_term clause.now) (kept nodes.now store.now) place) }
+{
+    clauses::check(nodes, clause, store, place, meter)
+}
+
+/// Whether a field of a struct is there that starts at the bit `start`, by its condition.
+pub fn is_there(
+    nodes: &[Node],
+    clause: &Option<Box<Resolved>>,
+    start: u64,
+    meter: &mut Meter,
+    store: &Store,
+) -> Result<bool, Stop>
+    requires sound { IsSoundClause (optional_term clause.now) }
+    ensures limit { meter.new.limit ≡ meter.old.limit }
+    ensures is { Settled result (condition (optional_term clause.now) (kept nodes.now store.now) start) }
+{
+    clauses::is_there(nodes, clause, store, u128::from(start), meter)
+}
+
+/// The bit where a field starts of a struct that starts at the bit `start`, by its label.
+pub fn find_start(
+    nodes: &[Node],
+    pinned: bool,
+    label: &Option<Box<Resolved>>,
+    start: u64,
+    behind: u64,
+    meter: &mut Meter,
+    store: &Store,
+) -> Result<u128, Stop>
+    requires sound { IsSoundClause (optional_term label.now) }
+    ensures limit { meter.new.limit ≡ meter.old.limit }
+    ensures is { Settled result (field_start pinned (optional_term label.now) (kept nodes.now store.now) start behind) }
+{
+    clauses::find_start(
+        nodes,
+        pinned,
+        label,
+        store,
+        u128::from(start),
+        u128::from(behind),
+        meter,
+    )
+}
+
+/// Maps the type at a place of the table, and checks the constraint that stands beside it.
+pub fn map_checked<S: Space>(
+    nodes: &[Node],
+    node: usize,
+    clause: &Option<Box<Resolved>>,
+    order: Order,
+    start: u128,
+    space: &mut S,
+    meter: &mut Meter,
+    store: &mut Store,
+) -> Result<u64, Stop>
+    requires table { IsTable nodes.now }
+    requires at { node < length nodes.now }
+    requires open { length (levels store.old) + depth (type_of nodes.now node) ≤ 65 }
+    requires sound { IsSoundClause (optional_term clause.now) }
+    ensures leaves { Leaves (S.view space.old) (S.view space.new) meter.old meter.new }
+    ensures ends { IfOk result (IsEnd start (S.view space.old)) }
+    ensures is { OnBits (S.view space.old) (λ bits. Comes (PartMeans bits (type_of nodes.now node) (optional_term clause.now) order (kept nodes.now store.old) start) (kept nodes.now store.old) (kept nodes.now store.new) result) }
+    ensures outer { outer_of (kept nodes.now store.new) ≡ outer_of (kept nodes.now store.old) }
+    ensures depth { length (levels store.new) ≡ length (levels store.old) }
+{
+    let end = map_part(nodes, node, order, start, space, meter, store)?;
+    check_constraint(nodes, clause, start, meter, store)?;
+    Ok(end)
+}
+
+/// Whether a stop is this fault.
+pub fn is_fault(stop: Stop, fault: MapFault) -> bool
+    ensures { IsTrue result → IsFault stop fault }
+{
+    match stop {
+        Stop::Fault(kind, at) => kind == fault.kind && at == fault.at,
+        Stop::Limit | Stop::Device | Stop::Memory => false,
+    }
+}
+
+/// The way's end, where a stop is the fault.
+pub fn there_if<'a>(stop: Stop, fault: MapFault) -> Entered<'a>
+    ensures { IsThere stop fault result }
+{
+    if is_fault(stop, fault) {
+        Entered::There
+    } else {
+        Entered::Nowhere
+    }
+}
