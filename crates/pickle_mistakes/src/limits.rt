@@ -21,7 +21,7 @@ pub fn limit_note(alloc: Global, script: &Script<'_>, limit: Limit) -> Result<No
     let sentence = match limit {
         Limit::Depth => "here an expression, or types inside a type, have more than 64 levels",
         Limit::Count =>
-            "here are more than 1024 fields of a struct or union, or more than 4096 declarations",
+            "a struct or union ends with its 1024th field at the latest, a pickle with its 4096th declaration",
     };
     let help = match limit {
         Limit::Depth => "leave out brackets, or declare an inner type by a name",

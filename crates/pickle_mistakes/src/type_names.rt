@@ -41,7 +41,11 @@ fn say_types(alloc: Global, text: Text, types: &[&[u8]]) -> Result<Text, AllocEr
     for name in types.iter().take(MOST_TOLD) {
         words.push(Text::new(alloc).quote(name)?.into_bytes())?;
     }
-    let text = say_list(text.say(b"the types are ")?, words.as_slice(), b" and ")?;
+    let lead: &[u8] = match types {
+        [_] => b"the type is ",
+        _ => b"the types are ",
+    };
+    let text = say_list(text.say(lead)?, words.as_slice(), b" and ")?;
     match types.len().checked_sub(MOST_TOLD) {
         Some(more) if 0 < more => text.say(b", and ")?.say_number(more)?.say(b" more"),
         _ => Ok(text),

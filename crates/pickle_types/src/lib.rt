@@ -17,3 +17,6 @@ pub mod scopes;
 pub(crate) mod table;
 pub mod type_table;
 pub mod view;
+
+pub use fault::{FaultKind, TypeFault};
+pub use type_table::{Table, TypeId};

@@ -12,6 +12,16 @@ pub mod run;
 pub mod run_laws;
 mod tell_value;
 
+pub use command_words::ask::Ask;
+pub use command_words::offset_word::offset_word;
+pub use command_words::words::{Job, WordFault, read_words};
 pub use command_words::{ask, offset_word, path, terms, words};
+pub use run::{run_bound, run_check, run_map};
+pub use run_parts::dump::{DumpFault, dump};
+pub use run_parts::pickle::{PickleFault, read_pickle};
+pub use run_parts::status::Status;
 pub use run_parts::{accept, bound, dump, fault, pickle, status, tell, types};
+pub use value_text::mode::Mode;
+pub use value_text::print::print;
+pub use value_text::write::WriteFault;
 pub use value_text::{hex, laws, mode, print, write};

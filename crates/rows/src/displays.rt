@@ -1,7 +1,7 @@
 //! Faults display the lines that tell them.
 
 use pickle_map::{MapFault, MapFaultKind};
-use pickle_types::fault::FaultKind;
+use pickle_types::FaultKind;
 use poke_batch::accept::{Refusal, tell_refusal};
 use poke_batch::fault::tell_fault;
 use std::test::Fail;

@@ -6,7 +6,7 @@ ghost use Rattle.pickle_types.specs.TypeTable.{IsInTable};
 use bit_space::{MemSpace, Meter, Order};
 use fault_check::arises::arises;
 use pickle_map::{MapFault, Store, map};
-use pickle_types::type_table::{Table, TypeId};
+use pickle_types::{Table, TypeId};
 use rows_kit::text::hex_of;
 use run_parts::accept::accept;
 use std::alloc::Global;

@@ -9,10 +9,7 @@ mod files;
 mod values;
 
 use bit_space::{MemSpace, Order};
-use poke_batch::ask::Ask;
-use poke_batch::mode::Mode;
-use poke_batch::run::{run_bound, run_check, run_map};
-use poke_batch::status::Status;
+use poke_batch::{Ask, Mode, Status, run_bound, run_check, run_map};
 use rows_kit::streams::Halting;
 use rows_kit::text::{bytes_of, hex_of};
 use std::alloc::Global;

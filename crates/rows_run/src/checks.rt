@@ -1,7 +1,6 @@
 //! Which pickles are accepted, and what refuses the others.
 
-use poke_batch::run::run_check;
-use poke_batch::status::Status;
+use poke_batch::{Status, run_check};
 use rows_kit::text::bytes_of;
 use std::alloc::Global;
 use std::process::Abort;

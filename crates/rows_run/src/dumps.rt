@@ -1,7 +1,7 @@
 //! Dumps of bytes.
 
 use bit_space::MemSpace;
-use poke_batch::dump::{DumpFault, dump};
+use poke_batch::{DumpFault, dump};
 use rows_kit::devices::Shifting;
 use rows_kit::text::{bytes_of, hex_of};
 use std::alloc::Global;

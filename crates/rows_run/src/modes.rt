@@ -1,10 +1,7 @@
 //! Values in the modes other than the first.
 
 use bit_space::{MemSpace, Order};
-use poke_batch::ask::Ask;
-use poke_batch::mode::Mode;
-use poke_batch::run::run_map;
-use poke_batch::status::Status;
+use poke_batch::{Ask, Mode, Status, run_map};
 use rows_kit::streams::Halting;
 use serde_json::Value;
 use std::alloc::{AllocError, Global};

@@ -1,6 +1,6 @@
 //! Words that name offsets, with their bits.
 
-use poke_batch::offset_word::offset_word;
+use poke_batch::offset_word;
 use rows_kit::text::bytes_of;
 use std::test::Fail;
 

@@ -1,6 +1,6 @@
 //! Pickles are read as far as they go, and no further.
 
-use poke_batch::pickle::{PickleFault, read_pickle};
+use poke_batch::{PickleFault, read_pickle};
 use rows_kit::streams::{Blanks, OneByOne};
 use std::test::Fail;
 

@@ -1,6 +1,6 @@
 //! The words of command lines. A word `""` is empty.
 
-use poke_batch::words::{WordFault, read_words};
+use poke_batch::{WordFault, read_words};
 use rows_kit::text::bytes_of;
 use std::alloc::Global;
 use std::test::Fail;

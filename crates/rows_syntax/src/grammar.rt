@@ -1,10 +1,8 @@
 //! Rows of the grammar. Behind the arrow stands what comes of it.
 
-use pickle_syntax::lexer::lex;
-use pickle_syntax::parser::fault::ParseFault;
-use pickle_syntax::parser::parse;
 use pickle_syntax::token::Number;
 use pickle_syntax::tree::{Expression, Form, Reference, Suffix, Target};
+use pickle_syntax::{ParseFault, lex, parse};
 use rows_kit::text::bytes_of;
 use std::alloc::Global;
 use std::test::Fail;

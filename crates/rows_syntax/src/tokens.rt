@@ -1,6 +1,6 @@
 //! Rows of tokens. Behind the arrow stand the tokens, each before a blank, or the fault.
 
-use pickle_syntax::lexer::lex;
+use pickle_syntax::lex;
 use pickle_syntax::token::Kind;
 use rows_kit::text::bytes_of;
 use std::alloc::{AllocError, Global};

@@ -1,8 +1,7 @@
 //! Rows of types. Behind the arrow stands what comes of a pickle.
 
-use pickle_syntax::lexer::lex;
-use pickle_syntax::parser::parse;
-use pickle_types::type_table::Table;
+use pickle_syntax::{lex, parse};
+use pickle_types::Table;
 use rows_kit::text::bytes_of;
 use std::alloc::Global;
 use std::process::Abort;

@@ -9,11 +9,9 @@ use crate::samples::Sample;
 use arrayvec::ArrayVec;
 use bit_space::{MemSpace, Meter, Order};
 use pickle_map::{MapFault, Store, map};
-use pickle_types::type_table::{Table, TypeId};
+use pickle_types::{Table, TypeId};
 use poke_batch::accept::accept;
-use poke_batch::ask::Ask;
-use poke_batch::mode::Mode;
-use poke_batch::print::print;
+use poke_batch::{Ask, Mode, print};
 use std::alloc::Global;
 
 /// A writer that asks for no memory.

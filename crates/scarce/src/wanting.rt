@@ -5,17 +5,12 @@ use crate::given::{Written, ask_for_t, has_text, is_mapped, map_type, space_of, 
 use crate::samples::{MIXED, PAIR, Sample};
 use bit_space::{Memory, Meter, Order, Paged, Space, read_number};
 use pickle_map::{MapFaultKind, Store};
-use pickle_syntax::lexer::fault::LexFaultKind;
-use pickle_syntax::lexer::lex;
-use pickle_syntax::parser::fault::ParseFault;
-use pickle_syntax::parser::parse;
-use pickle_types::fault::FaultKind;
-use pickle_types::type_table::Table;
-use poke_batch::mode::Mode;
-use poke_batch::pickle::{PickleFault, read_pickle};
-use poke_batch::run::{run_bound, run_check, run_map};
-use poke_batch::status::Status;
-use poke_batch::words::{Job, WordFault, read_words};
+use pickle_syntax::{LexFaultKind, ParseFault, lex, parse};
+use pickle_types::{FaultKind, Table};
+use poke_batch::{
+    Job, Mode, PickleFault, Status, WordFault, read_pickle, read_words, run_bound, run_check,
+    run_map,
+};
 use std::alloc::Global;
 
 /// Reads the 33 tokens of the mixed sample.
