@@ -12,8 +12,8 @@ ghost use Rattle.pickle_meaning.specs.Evaluation.{evaluation, operand_label, lea
 ghost use Rattle.pickle_evaluation.specs.Operands.{Evaluated, IsOperand};
 ghost use Rattle.pickle_evaluation.specs.Comes.{Comes, Seen, computed_operand, IsApplied, infix_part, choice_part, index_part};
 ghost use Rattle.pickle_evaluation.specs.Contents.{IsSoundContent, IsHeld};
-ghost use Rattle.value_store.specs.Shown.{kept};
 ghost use Rattle.value_store.specs.Scalars.{computed_of, IsScalar};
+ghost use Rattle.value_store.specs.Slots.{levels};
 
 use crate::comparison::leaf;
 use crate::content::{Content, combined, in_unit, prefixed, seen, to_integer, to_offset, truth_of};
@@ -42,7 +42,7 @@ pub fn evaluate<'a>(
     ensures limit { meter.new.limit ≡ meter.old.limit }
     ensures made { meter.new.made ≡ meter.old.made }
     ensures steps { meter.old.steps ≤ meter.new.steps }
-    ensures is { Evaluated table.now meter.old.limit meter.old.steps meter.new.steps result (evaluation (term_of e.now) (kept table.now store.now)) }
+    ensures is { Evaluated table.now meter.old.limit meter.old.steps meter.new.steps result (evaluation (term_of e.now) (levels table.now store.now)) }
     ensures operand { IfOk result IsOperand }
 {
     meter.tick()?;
@@ -78,7 +78,7 @@ fn applied<'a>(
     ensures limit { meter.new.limit ≡ meter.old.limit }
     ensures made { meter.new.made ≡ meter.old.made }
     ensures steps { meter.old.steps ≤ meter.new.steps }
-    ensures is { (before : ℕ) → meter.old.steps ≡ before + 1 → Evaluated table.now meter.old.limit before meter.new.steps result (evaluation (term_of e.now) (kept table.now store.now)) }
+    ensures is { (before : ℕ) → meter.old.steps ≡ before + 1 → Evaluated table.now meter.old.limit before meter.new.steps result (evaluation (term_of e.now) (levels table.now store.now)) }
     ensures operand { IfOk result IsOperand }
 {
     match e {
@@ -124,7 +124,7 @@ pub fn look<'a>(
     ensures limit { meter.new.limit ≡ meter.old.limit }
     ensures made { meter.new.made ≡ meter.old.made }
     ensures steps { meter.old.steps ≤ meter.new.steps }
-    ensures is { Seen meter.old.limit meter.old.steps meter.new.steps result (evaluation (term_of e.now) (kept table.now store.now)) }
+    ensures is { Seen meter.old.limit meter.old.steps meter.new.steps result (evaluation (term_of e.now) (levels table.now store.now)) }
     ensures sound { IfOk result IsSoundContent }
 {
     if let Some(n) = leaf(e, store) {
@@ -156,7 +156,7 @@ fn infix(
     ensures limit { meter.new.limit ≡ meter.old.limit }
     ensures made { meter.new.made ≡ meter.old.made }
     ensures steps { meter.old.steps ≤ meter.new.steps }
-    ensures is { Evaluated table.now meter.old.limit meter.old.steps meter.new.steps (computed_operand result) (infix_part op (term_of a.now) (term_of b.now) (kept table.now store.now)) }
+    ensures is { Evaluated table.now meter.old.limit meter.old.steps meter.new.steps (computed_operand result) (infix_part op (term_of a.now) (term_of b.now) (levels table.now store.now)) }
     ensures scalar { IfOk result IsScalar }
 {
     let left = look(table, a, store, meter)?;
@@ -187,7 +187,7 @@ fn choice<'a>(
     ensures limit { meter.new.limit ≡ meter.old.limit }
     ensures made { meter.new.made ≡ meter.old.made }
     ensures steps { meter.old.steps ≤ meter.new.steps }
-    ensures is { Evaluated table.now meter.old.limit meter.old.steps meter.new.steps result (choice_part common.now (term_of c.now) (term_of x.now) (term_of y.now) (kept table.now store.now)) }
+    ensures is { Evaluated table.now meter.old.limit meter.old.steps meter.new.steps result (choice_part common.now (term_of c.now) (term_of x.now) (term_of y.now) (levels table.now store.now)) }
     ensures operand { IfOk result IsOperand }
 {
     let t = look(table, c, store, meter)?;
@@ -226,7 +226,7 @@ fn index<'a>(
     ensures limit { meter.new.limit ≡ meter.old.limit }
     ensures made { meter.new.made ≡ meter.old.made }
     ensures steps { meter.old.steps ≤ meter.new.steps }
-    ensures is { Evaluated table.now meter.old.limit meter.old.steps meter.new.steps result (index_part (term_of e.now) (term_of i.now) (kept table.now store.now)) }
+    ensures is { Evaluated table.now meter.old.limit meter.old.steps meter.new.steps result (index_part (term_of e.now) (term_of i.now) (levels table.now store.now)) }
     ensures operand { IfOk result IsOperand }
 {
     let p = evaluate(table, e, store, meter)?;
