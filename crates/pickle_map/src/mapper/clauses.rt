@@ -8,7 +8,7 @@ ghost use Rattle.pickle_meaning.specs.Evaluation.{evaluation, truth_of};
 ghost use Rattle.pickle_meaning.specs.Clauses.{constraint, condition, field_start, extent_of, clause_steps, label_steps, bound_steps, satisfied, kind_at, told_at, behind_start, count_of, size_of};
 ghost use Rattle.pickle_evaluation.specs.Contents.{IsHeld, IsSoundContent};
 ghost use Rattle.pickle_map.specs.Settles.{Ends, Settles, Sees, natural};
-ghost use Rattle.value_store.specs.Shown.{kept};
+ghost use Rattle.value_store.specs.Slots.{levels};
 
 use crate::mapper::stop::Stop;
 use bit_space::Meter;
@@ -36,7 +36,7 @@ pub fn check(
     ensures limit { meter.new.limit ≡ meter.old.limit }
     ensures made { meter.new.made ≡ meter.old.made }
     ensures steps { meter.old.steps ≤ meter.new.steps }
-    ensures is { Settles meter.old.limit meter.old.steps meter.new.steps result (constraint (optional_term clause.now) (kept table.now store.now) place) (clause_steps (optional_term clause.now) (kept table.now store.now)) }
+    ensures is { Settles meter.old.limit meter.old.steps meter.new.steps result (constraint (optional_term clause.now) (levels table.now store.now) place) (clause_steps (optional_term clause.now) (levels table.now store.now)) }
 {
     match clause {
         None => Ok(()),
@@ -56,7 +56,7 @@ pub fn is_there(
     ensures limit { meter.new.limit ≡ meter.old.limit }
     ensures made { meter.new.made ≡ meter.old.made }
     ensures steps { meter.old.steps ≤ meter.new.steps }
-    ensures is { Settles meter.old.limit meter.old.steps meter.new.steps result (condition (optional_term clause.now) (kept table.now store.now) start) (clause_steps (optional_term clause.now) (kept table.now store.now)) }
+    ensures is { Settles meter.old.limit meter.old.steps meter.new.steps result (condition (optional_term clause.now) (levels table.now store.now) start) (clause_steps (optional_term clause.now) (levels table.now store.now)) }
 {
     match clause {
         None => Ok(true),
@@ -82,7 +82,7 @@ pub fn find_start(
     ensures limit { meter.new.limit ≡ meter.old.limit }
     ensures made { meter.new.made ≡ meter.old.made }
     ensures steps { meter.old.steps ≤ meter.new.steps }
-    ensures is { Settles meter.old.limit meter.old.steps meter.new.steps result (field_start pinned (optional_term label.now) (kept table.now store.now) start behind) (label_steps pinned (optional_term label.now) (kept table.now store.now)) }
+    ensures is { Settles meter.old.limit meter.old.steps meter.new.steps result (field_start pinned (optional_term label.now) (levels table.now store.now) start behind) (label_steps pinned (optional_term label.now) (levels table.now store.now)) }
 {
     if pinned {
         return Ok(start);
@@ -106,7 +106,7 @@ pub fn find_extent(
     ensures limit { meter.new.limit ≡ meter.old.limit }
     ensures made { meter.new.made ≡ meter.old.made }
     ensures steps { meter.old.steps ≤ meter.new.steps }
-    ensures is { Settles meter.old.limit meter.old.steps meter.new.steps result (extent_of (bound_of bound.now) (kept table.now store.now) start) (bound_steps (bound_of bound.now) (kept table.now store.now)) }
+    ensures is { Settles meter.old.limit meter.old.steps meter.new.steps result (extent_of (bound_of bound.now) (levels table.now store.now) start) (bound_steps (bound_of bound.now) (levels table.now store.now)) }
 {
     match bound {
         Bound::Unbounded => Ok(Extent::Open),
@@ -129,7 +129,7 @@ fn labelled_start(
     ensures limit { meter.new.limit ≡ meter.old.limit }
     ensures made { meter.new.made ≡ meter.old.made }
     ensures steps { meter.old.steps ≤ meter.new.steps }
-    ensures is { Settles meter.old.limit meter.old.steps meter.new.steps result (told_at start (behind_start start) (evaluation (term_of e.now) (kept table.now store.now)).outcome) (evaluation (term_of e.now) (kept table.now store.now)).steps }
+    ensures is { Settles meter.old.limit meter.old.steps meter.new.steps result (told_at start (behind_start start) (evaluation (term_of e.now) (levels table.now store.now)).outcome) (evaluation (term_of e.now) (levels table.now store.now)).steps }
 {
     behind_start(told(table, e, store, start, meter)?, start)
 }
@@ -147,7 +147,7 @@ fn evaluated_count(
     ensures limit { meter.new.limit ≡ meter.old.limit }
     ensures made { meter.new.made ≡ meter.old.made }
     ensures steps { meter.old.steps ≤ meter.new.steps }
-    ensures is { Settles meter.old.limit meter.old.steps meter.new.steps result (told_at start (count_of start) (evaluation (term_of e.now) (kept table.now store.now)).outcome) (evaluation (term_of e.now) (kept table.now store.now)).steps }
+    ensures is { Settles meter.old.limit meter.old.steps meter.new.steps result (told_at start (count_of start) (evaluation (term_of e.now) (levels table.now store.now)).outcome) (evaluation (term_of e.now) (levels table.now store.now)).steps }
 {
     count_of(told(table, e, store, start, meter)?, start)
 }
@@ -165,7 +165,7 @@ fn evaluated_size(
     ensures limit { meter.new.limit ≡ meter.old.limit }
     ensures made { meter.new.made ≡ meter.old.made }
     ensures steps { meter.old.steps ≤ meter.new.steps }
-    ensures is { Settles meter.old.limit meter.old.steps meter.new.steps result (told_at start (size_of start) (evaluation (term_of e.now) (kept table.now store.now)).outcome) (evaluation (term_of e.now) (kept table.now store.now)).steps }
+    ensures is { Settles meter.old.limit meter.old.steps meter.new.steps result (told_at start (size_of start) (evaluation (term_of e.now) (levels table.now store.now)).outcome) (evaluation (term_of e.now) (levels table.now store.now)).steps }
 {
     size_of(told(table, e, store, start, meter)?, start)
 }
@@ -182,7 +182,7 @@ fn told<'a>(
     ensures limit { meter.new.limit ≡ meter.old.limit }
     ensures made { meter.new.made ≡ meter.old.made }
     ensures steps { meter.old.steps ≤ meter.new.steps }
-    ensures is { Sees meter.old.limit meter.old.steps meter.new.steps place result (evaluation (term_of e.now) (kept table.now store.now)) }
+    ensures is { Sees meter.old.limit meter.old.steps meter.new.steps place result (evaluation (term_of e.now) (levels table.now store.now)) }
     ensures sound { IfOk result IsSoundContent }
 {
     match look(table, e, store, meter) {
@@ -205,7 +205,7 @@ fn truth_told(
     ensures limit { meter.new.limit ≡ meter.old.limit }
     ensures made { meter.new.made ≡ meter.old.made }
     ensures steps { meter.old.steps ≤ meter.new.steps }
-    ensures is { Settles meter.old.limit meter.old.steps meter.new.steps result (told_at place (λ x. kind_at place (truth_of x)) (evaluation (term_of e.now) (kept table.now store.now)).outcome) (evaluation (term_of e.now) (kept table.now store.now)).steps }
+    ensures is { Settles meter.old.limit meter.old.steps meter.new.steps result (told_at place (λ x. kind_at place (truth_of x)) (evaluation (term_of e.now) (levels table.now store.now)).outcome) (evaluation (term_of e.now) (levels table.now store.now)).steps }
 {
     match comparison(e, store) {
         Some(holds) => {
@@ -231,7 +231,7 @@ fn evaluated_truth(
     ensures limit { meter.new.limit ≡ meter.old.limit }
     ensures made { meter.new.made ≡ meter.old.made }
     ensures steps { meter.old.steps ≤ meter.new.steps }
-    ensures is { Settles meter.old.limit meter.old.steps meter.new.steps result (told_at place (λ x. kind_at place (truth_of x)) (evaluation (term_of e.now) (kept table.now store.now)).outcome) (evaluation (term_of e.now) (kept table.now store.now)).steps }
+    ensures is { Settles meter.old.limit meter.old.steps meter.new.steps result (told_at place (λ x. kind_at place (truth_of x)) (evaluation (term_of e.now) (levels table.now store.now)).outcome) (evaluation (term_of e.now) (levels table.now store.now)).steps }
 {
     told_truth(told(table, e, store, place, meter)?, place)
 }
