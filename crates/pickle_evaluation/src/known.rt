@@ -32,7 +32,7 @@ pub fn known_value<'a>(table: &'a [Node], e: &'a Resolved, store: &'a Store) -> 
     ensures { KnownOf result (evaluation (term_of e.now) (levels table.now store.now)) }
 {
     let mut meter = Meter::new(u64::MAX);
-    match evaluate(table, e, store, &mut meter) {
+    match evaluate(e, store, &mut meter) {
         Ok(Operand::Scalar(Scalar::Integer(number, of))) => Some(Known::Integer(number, of)),
         Ok(Operand::Scalar(Scalar::Offset(magnitude, of, unit))) => {
             Some(Known::Offset(magnitude, of, unit))

@@ -1,6 +1,7 @@
 //! Types that are read as one number: integers, offsets and integral structs.
 
-ghost use Rattle.std.specs.Prelude.{◌≡◌, ◌≢◌, ◌+◌, ◌*◌, ◌<◌, ◌≤◌, ◌^◌, Some, map, length, All, IfOk, IfErr, OnErr};
+ghost use Rattle.std.specs.Prelude.{◌≡◌, List, ◌≢◌, ◌+◌, ◌*◌, ◌<◌, ◌≤◌, ◌^◌, Some, map, length, All, IfOk, IfErr, OnErr};
+ghost use Rattle.pickle_types.specs.declared.table.Node.{Node as TableNode};
 ghost use Rattle.pickle_types.specs.Types.{IntegerOf, OffsetOf, depth};
 ghost use Rattle.pickle_types.specs.Table.{IsTable, type_of, IsWidth};
 ghost use Rattle.pickle_map.specs.Calls.{as_number, as_integer, Maps, integral_at, Places, PlacesLevel, PlacesPart, PlacesFields};
@@ -55,7 +56,6 @@ pub(crate) fn map_number<S: Space, W: Watch>(
 /// Maps an integer from the bit `start` on, and gives the bit behind it.
 #[inline(always)]
 pub(crate) fn map_integer<S: Space>(
-    nodes: &[Node],
     number: IntegerType,
     order: Order,
     start: u64,
@@ -67,13 +67,13 @@ pub(crate) fn map_integer<S: Space>(
     requires inside { start ≤ 8 * (S.view space.old).len }
     ensures frame { Frame (S.view space.old) (S.view space.new) meter.old meter.new store.old store.new 0 }
     ensures ends { IfOk result (IsEnd start (S.view space.old)) }
-    ensures is { Maps nodes.now (S.view space.old) meter.old meter.new store.old store.new (as_integer number order start) result }
-    ensures same { OnErr result (levels nodes.now store.new ≡ levels nodes.now store.old) }
+    ensures is { (nodes : List TableNode) → Maps nodes (S.view space.old) meter.old meter.new store.old store.new (as_integer number order start) result }
+    ensures same { (nodes : List TableNode) → OnErr result (levels nodes store.new ≡ levels nodes store.old) }
     ensures depth { level_count store.new ≡ level_count store.old }
     ensures device { IfErr result (DeviceFailed (S.view space.old) (S.view space.new)) }
 {
     let digits = read_digits(space, start, number.width, order, meter)?;
-    place_integer(nodes, number, digits, start, meter, store)?;
+    place_integer(number, digits, start, meter, store)?;
     Ok(start + u64::from(number.width))
 }
 
@@ -101,10 +101,8 @@ pub fn place_number<W: Watch>(
     ensures stays { IfErr result (λ stop. stop ≢ Stop.Device) }
 {
     match &nodes[at].shape {
-        Shape::Integer(number) => place_integer(nodes, *number, digits, start, meter, store),
-        Shape::Offset(number, unit) => {
-            place_offset(nodes, *number, *unit, digits, start, meter, store)
-        }
+        Shape::Integer(number) => place_integer(*number, digits, start, meter, store),
+        Shape::Offset(number, unit) => { place_offset(*number, *unit, digits, start, meter, store) }
         Shape::Integral {
             name: _,
             number,
@@ -129,7 +127,6 @@ fn no_number(start: u64) -> Stop
 /// Keeps an integer.
 #[inline(always)]
 fn place_integer(
-    nodes: &[Node],
     number: IntegerType,
     digits: u64,
     start: u64,
@@ -140,8 +137,8 @@ fn place_integer(
     requires digits { digits < 2 ^ number.width }
     requires free { meter.old.made < meter.old.steps }
     ensures frame { WorkFrame meter.old meter.new store.old store.new 1 }
-    ensures is { Places nodes.now meter.old meter.new store.old store.new (IntegerOf number) digits start result }
-    ensures same { OnErr result (levels nodes.now store.new ≡ levels nodes.now store.old) }
+    ensures is { (nodes : List TableNode) → Places nodes meter.old meter.new store.old store.new (IntegerOf number) digits start result }
+    ensures same { (nodes : List TableNode) → OnErr result (levels nodes store.new ≡ levels nodes store.old) }
     ensures depth { level_count store.new ≡ level_count store.old }
     ensures stays { IfErr result (λ stop. stop ≢ Stop.Device) }
 {
@@ -152,7 +149,6 @@ fn place_integer(
 
 /// Keeps an offset.
 fn place_offset(
-    nodes: &[Node],
     number: IntegerType,
     unit: u32,
     digits: u64,
@@ -165,8 +161,8 @@ fn place_offset(
     requires digits { digits < 2 ^ number.width }
     requires free { meter.old.made < meter.old.steps }
     ensures frame { WorkFrame meter.old meter.new store.old store.new 1 }
-    ensures is { Places nodes.now meter.old meter.new store.old store.new (OffsetOf number unit) digits start result }
-    ensures same { OnErr result (levels nodes.now store.new ≡ levels nodes.now store.old) }
+    ensures is { (nodes : List TableNode) → Places nodes meter.old meter.new store.old store.new (OffsetOf number unit) digits start result }
+    ensures same { (nodes : List TableNode) → OnErr result (levels nodes store.new ≡ levels nodes store.old) }
     ensures depth { level_count store.new ≡ level_count store.old }
     ensures stays { IfErr result (λ stop. stop ≢ Stop.Device) }
 {

@@ -80,7 +80,7 @@ fn map_inside<S: Space, W: Watch>(
     ensures device { IfErr result (DeviceFailed (S.view space.old) (S.view space.new)) }
 {
     match &nodes[at].shape {
-        Shape::Integer(number) => map_integer(nodes, *number, order, start, space, meter, store),
+        Shape::Integer(number) => map_integer(*number, order, start, space, meter, store),
         Shape::String => map_text(nodes, start, space, meter, store),
         _ => map_shape(nodes, at, order, start, space, meter, store, watch),
     }

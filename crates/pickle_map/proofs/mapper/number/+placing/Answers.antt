@@ -145,10 +145,10 @@ place_number-place_integral-requires g t c =
     rw c.deref.ensures.value (search rules)
 
 pub place_number-returns-in-Integer-clause-is : goal.place_number-returns-in-Integer-clause-is
-place_number-returns-in-Integer-clause-is g t c = rw (opened_as c.args.nodes.now c.requires.table c.args.at c.requires.at c.index-nodes-at.result _ c.in-Integer.is) c.place_integer.ensures.is
+place_number-returns-in-Integer-clause-is g t c = rw (opened_as c.args.nodes.now c.requires.table c.args.at c.requires.at c.index-nodes-at.result _ c.in-Integer.is) (c.place_integer.ensures.is c.args.nodes.now)
 
 pub place_number-returns-in-Offset-clause-is : goal.place_number-returns-in-Offset-clause-is
-place_number-returns-in-Offset-clause-is g t c = rw (opened_as c.args.nodes.now c.requires.table c.args.at c.requires.at c.index-nodes-at.result _ c.in-Offset.is) c.place_offset.ensures.is
+place_number-returns-in-Offset-clause-is g t c = rw (opened_as c.args.nodes.now c.requires.table c.args.at c.requires.at c.index-nodes-at.result _ c.in-Offset.is) (c.place_offset.ensures.is c.args.nodes.now)
 
 pub place_number-returns-in-Integral-clause-is : goal.place_number-returns-in-Integral-clause-is
 place_number-returns-in-Integral-clause-is g t c = rw (integral_opened c.args.nodes.now c.requires.table c.args.at c.requires.at c.index-nodes-at.result _ _ _ _ c.in-Integral.is c.deref.ensures.value) c.place_integral.ensures.is

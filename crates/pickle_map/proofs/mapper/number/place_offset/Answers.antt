@@ -8,22 +8,22 @@ use Rattle.pickle_map.proofs.mapper.number.place_offset.Goals as goal
 
 pub returns-in_err-push_offset-clause-is : goal.returns-in_err-push_offset-clause-is
 unfolding number_plan
-returns-in_err-push_offset-clause-is c =
+returns-in_err-push_offset-clause-is c nodes =
     let p = err_from_is_err_and c.from_residual.result c.from_residual.ensures.1 in
-    rw (p.1, p.2) (λ known. follow_no_room (c.in_err-push_offset.ensures.full c.args.nodes.now))
+    rw (p.1, p.2) (λ known. follow_no_room (c.in_err-push_offset.ensures.full nodes))
 
 pub returns-in_err-push_offset-clause-same : goal.returns-in_err-push_offset-clause-same
-returns-in_err-push_offset-clause-same c =
+returns-in_err-push_offset-clause-same c nodes =
     let p = err_from_is_err_and c.from_residual.result c.from_residual.ensures.1 in
-    rw p.1 (regrown-levels c.args.nodes.now _ _ c.in_err-push_offset.ensures.err)
+    rw p.1 (regrown-levels nodes _ _ c.in_err-push_offset.ensures.err)
 
 pub returns-clause-is : goal.returns-clause-is
 unfolding number_plan
-returns-clause-is c =
+returns-clause-is c nodes =
     let n = c.note_made.ensures in
     λ known. record {
       value = offset_value c.args.number c.args.unit c.args.digits c.args.start;
-      kept = c.in_ok-push_offset.ensures.ok c.args.nodes.now;
+      kept = c.in_ok-push_offset.ensures.ok nodes;
       ends = refl;
       follows = follow_made n.limit n.steps n.made follow_done;
     }
