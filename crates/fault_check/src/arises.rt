@@ -200,7 +200,7 @@ fn is_refused(
     ensures is { IsTrue result → constraint (constraint_of part.entry) (levels nodes.now store.now) part.entry.start ≡ Err (fault_of fault) }
 {
     match part.constraint {
-        Some(clause) => match check_constraint(nodes, clause, part.start, meter, store) {
+        Some(clause) => match check_constraint(clause, part.start, meter, store) {
             Ok(()) => false,
             Err(stop) => is_fault(stop, fault),
         },

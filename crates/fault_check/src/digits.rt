@@ -163,7 +163,7 @@ fn pass_field(
     ensures is { IfOk result (λ _. PassesNumber nodes.now digits start field.now (levels nodes.now store.old) (levels nodes.now store.new)) }
 {
     keep_number(nodes, field.node, digits, start, meter, store)?;
-    check_constraint(nodes, &field.constraint, u128::from(start), meter, store)
+    check_constraint(&field.constraint, u128::from(start), meter, store)
 }
 
 /// Whether a fault is that of the constraint of a field of an integral struct.
@@ -186,7 +186,7 @@ fn is_refused(
     let Ok(()) = keep_number(nodes, field.node, digits, start, meter, store) else {
         return false;
     };
-    match check_constraint(nodes, &field.constraint, u128::from(start), meter, store) {
+    match check_constraint(&field.constraint, u128::from(start), meter, store) {
         Ok(()) => false,
         Err(stop) => is_fault(stop, fault),
     }

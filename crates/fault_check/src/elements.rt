@@ -43,7 +43,7 @@ pub fn enter_array<'a, S: Space>(
     if u128::from(8 * space.len()) < start {
         return Entered::Nowhere;
     }
-    let Ok(extent) = find_extent(nodes, bound, store, start, meter) else {
+    let Ok(extent) = find_extent(bound, store, start, meter) else {
         return Entered::Nowhere;
     };
     store.open_level();
@@ -192,7 +192,7 @@ pub fn is_own_array<S: Space>(
     if u128::from(8 * space.len()) < start {
         return false;
     }
-    match find_extent(nodes, bound, store, start, meter) {
+    match find_extent(bound, store, start, meter) {
         Ok(extent) => {
             store.open_level();
             is_fault(Stop::Fault(MapFaultKind::Bounds, start), fault)

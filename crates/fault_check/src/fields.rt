@@ -70,11 +70,11 @@ fn pass_field<S: Space>(
     ensures is { IfOk result (λ end. OnBits (S.view space.old) (λ bits. PassesField bits nodes.now pinned start order field.now (levels nodes.now store.old) (levels nodes.now store.new) behind end)) }
     ensures depth { level_count store.new ≡ level_count store.old }
 {
-    if !is_there(nodes, &field.condition, start, meter, store)? {
+    if !is_there(&field.condition, start, meter, store)? {
         store.push_absent()?;
         return Ok(behind);
     }
-    let place = find_start(nodes, pinned, &field.label, start, behind, meter, store)?;
+    let place = find_start(pinned, &field.label, start, behind, meter, store)?;
     map_checked(
         nodes,
         field.node,
@@ -104,12 +104,12 @@ fn enter_field<'a>(
     ensures goes_on { GoesOn nodes.now (level_count store.now) result }
     ensures is { EntersField nodes.now pinned start order field.now (levels nodes.now store.now) behind (fault_of fault) result }
 {
-    match is_there(nodes, &field.condition, start, meter, store) {
+    match is_there(&field.condition, start, meter, store) {
         Ok(true) => {}
         Ok(false) => return Entered::Nowhere,
         Err(stop) => return there_if(stop, fault),
     }
-    match find_start(nodes, pinned, &field.label, start, behind, meter, store) {
+    match find_start(pinned, &field.label, start, behind, meter, store) {
         Ok(place) => Entered::Part(Part {
             node: field.node,
             order: ordered(field.order, order),

@@ -1,6 +1,7 @@
 //! Parts that are mapped on a way, with what they mean.
 
-ghost use Rattle.std.specs.Prelude.{◌≡◌, ◌+◌, ◌≤◌, ◌<◌, length, IfOk, OnErr, IsTrue};
+ghost use Rattle.std.specs.Prelude.{◌≡◌, ◌+◌, ◌≤◌, ◌<◌, length, IfOk, OnErr, IsTrue, List};
+ghost use Rattle.pickle_types.specs.declared.table.Node.{Node as TableNode};
 ghost use Rattle.pickle_types.specs.Types.{depth};
 ghost use Rattle.pickle_types.specs.Table.{IsTable, type_of, optional_term};
 ghost use Rattle.pickle_types.specs.Sound.{IsSoundClause};
@@ -55,7 +56,6 @@ pub fn map_part<S: Space>(
 
 /// Checks a constraint of the value that stands last in the innermost level and began at the bit `place`.
 pub fn check_constraint(
-    nodes: &[Node],
     clause: &Option<Box<Resolved>>,
     place: u128,
     meter: &mut Meter,
@@ -63,14 +63,13 @@ pub fn check_constraint(
 ) -> Result<(), Stop>
     requires sound { IsSoundClause (optional_term clause.now) }
     ensures limit { meter.new.limit ≡ meter.old.limit }
-    ensures is { Settled result (constraint (optional_term clause.now) (levels nodes.now store.now) place) }
+    ensures is { (nodes : List TableNode) → Settled result (constraint (optional_term clause.now) (levels nodes store.now) place) }
 {
-    clauses::check(nodes, clause, store, place, meter)
+    clauses::check(clause, store, place, meter)
 }
 
 /// Whether a field of a struct is there that starts at the bit `start`, by its condition.
 pub fn is_there(
-    nodes: &[Node],
     clause: &Option<Box<Resolved>>,
     start: u64,
     meter: &mut Meter,
@@ -78,14 +77,13 @@ pub fn is_there(
 ) -> Result<bool, Stop>
     requires sound { IsSoundClause (optional_term clause.now) }
     ensures limit { meter.new.limit ≡ meter.old.limit }
-    ensures is { Settled result (condition (optional_term clause.now) (levels nodes.now store.now) start) }
+    ensures is { (nodes : List TableNode) → Settled result (condition (optional_term clause.now) (levels nodes store.now) start) }
 {
-    clauses::is_there(nodes, clause, store, u128::from(start), meter)
+    clauses::is_there(clause, store, u128::from(start), meter)
 }
 
 /// The bit where a field starts of a struct that starts at the bit `start`, by its label.
 pub fn find_start(
-    nodes: &[Node],
     pinned: bool,
     label: &Option<Box<Resolved>>,
     start: u64,
@@ -95,10 +93,9 @@ pub fn find_start(
 ) -> Result<u128, Stop>
     requires sound { IsSoundClause (optional_term label.now) }
     ensures limit { meter.new.limit ≡ meter.old.limit }
-    ensures is { Settled result (field_start pinned (optional_term label.now) (levels nodes.now store.now) start behind) }
+    ensures is { (nodes : List TableNode) → Settled result (field_start pinned (optional_term label.now) (levels nodes store.now) start behind) }
 {
     clauses::find_start(
-        nodes,
         pinned,
         label,
         store,
@@ -130,7 +127,7 @@ pub fn map_checked<S: Space>(
     ensures depth { level_count store.new ≡ level_count store.old }
 {
     let end = map_part(nodes, node, order, start, space, meter, store)?;
-    check_constraint(nodes, clause, start, meter, store)?;
+    check_constraint(clause, start, meter, store)?;
     Ok(end)
 }
 

@@ -1,4 +1,4 @@
-use Rattle.std.proofs.Common.{rules, refl, length, arith}
+use Rattle.std.proofs.Common.{rules, refl, arith}
 use Rattle.pickle_map.specs.Mappable.{IsPartOf}
 use Rattle.pickle_map.proofs.Shapes.{of_one}
 use Rattle.value_store.specs.Slots.{level_count}

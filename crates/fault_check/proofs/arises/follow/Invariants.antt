@@ -1,4 +1,4 @@
-use Rattle.std.proofs.Common.{length, drop}
+use Rattle.std.proofs.Common.{drop}
 use Rattle.value_store.specs.Slots.{levels, level_count}
 use Rattle.fault_check.specs.Ways.{OnBits, Leaves, IsPart, InPart, fault_of}
 use Rattle.fault_check.proofs.arises.follow.Given as goal

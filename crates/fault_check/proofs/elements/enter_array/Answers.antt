@@ -15,4 +15,4 @@ returns-clause-is g c =
     let opened = c.open_level.ensures.levels c.args.nodes.now in
     let entered = rw opened at (c.enter_elements.ensures.is bytes e) in
     enters_array (bits_of bytes) c.args.nodes.now (type_of c.args.nodes.now c.args.element) (bound_of c.args.bound.now) c.args.order c.args.start c.in-Ok.extent (levels c.args.nodes.now c.args.store.now) (levels c.args.nodes.now c.enter_elements.new.store)
-    c.args.place (fault_of c.args.fault) inside c.in-Ok.ensures.is.0 c.enter_elements.result entered
+    c.args.place (fault_of c.args.fault) inside (c.in-Ok.ensures.is c.args.nodes.now).0 c.enter_elements.result entered

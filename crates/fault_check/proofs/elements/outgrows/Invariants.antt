@@ -1,4 +1,4 @@
-use Rattle.std.proofs.Common.{◌≡◌, ◌+◌, ◌-◌, ◌*◌, ◌≤◌, length}
+use Rattle.std.proofs.Common.{◌≡◌, ◌+◌, ◌-◌, ◌*◌, ◌≤◌}
 use Rattle.pickle_types.specs.Table.{type_of}
 use Rattle.value_store.specs.Slots.{levels, level_count}
 use Rattle.fault_check.specs.Ways.{OnBits, Leaves}

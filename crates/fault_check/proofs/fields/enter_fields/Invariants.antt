@@ -1,4 +1,4 @@
-use Rattle.std.proofs.Common.{◌≡◌, length, drop}
+use Rattle.std.proofs.Common.{◌≡◌, drop}
 use Rattle.pickle_types.specs.Table.{type_of, open_fields}
 use Rattle.value_store.specs.Slots.{levels, level_count}
 use Rattle.fault_parts.specs.Arises.{FieldsBefore}

@@ -13,7 +13,7 @@ pub returns-in_err-check_constraint-clause-is : goal.returns-in_err-check_constr
 returns-in_err-check_constraint-clause-is g c =
     let p = err_from_is_err_and c.from_residual-in_err-check_constraint.result c.from_residual-in_err-check_constraint.ensures.1 in
     let inside = levels c.args.nodes.now c.map_part.new.store in
-    λ bytes known. rw (p.1, p.2) (part_refuses _ _ _ _ _ inside _ inside _ (c.in_ok-end.ensures.is bytes known) c.in_err-check_constraint.ensures.is)
+    λ bytes known. rw (p.1, p.2) (part_refuses _ _ _ _ _ inside _ inside _ (c.in_ok-end.ensures.is bytes known) (c.in_err-check_constraint.ensures.is c.args.nodes.now))
 
 pub returns-clause-is : goal.returns-clause-is
-returns-clause-is g c = λ bytes known. part_keeps _ _ _ _ _ _ _ (c.in_ok-end.ensures.is bytes known) c.in_ok-check_constraint.ensures.is
+returns-clause-is g c = λ bytes known. part_keeps _ _ _ _ _ _ _ (c.in_ok-end.ensures.is bytes known) (c.in_ok-check_constraint.ensures.is c.args.nodes.now)
