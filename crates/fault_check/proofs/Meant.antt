@@ -20,8 +20,7 @@ use Rattle.pickle_map.specs.Follows.{World, Follows, Done}
 use Rattle.pickle_map.specs.Settles.{Settles}
 use Rattle.pickle_map.proofs.Followed.{walk_leaves}
 use Rattle.pickle_map.proofs.Walks.{outer_pushed}
-use Rattle.value_store.specs.Shown.{kept}
-use Rattle.value_store.specs.Slots.{Held}
+use Rattle.value_store.specs.Slots.{Held, levels}
 use Rattle.fault_parts.specs.Somehow.{Somehow}
 use Rattle.fault_check.specs.Ways.{OnBits, Comes, Settled}
 
@@ -36,15 +35,15 @@ followed_means bits ty order levels s known h =
 
 module _ (nodes : List Node) (space : SpaceView) (meter meter' : Meter) (store store' : Held) (at : ℕ) (order : Order) (s : ℕ) (whole : IsWhole space) where
   pub comes_mapped : (result : Result ℕ Stop) → Maps nodes space meter meter' store store' (as_type at order s) result →
-      OnBits space (λ bits. Comes (Means bits (type_of nodes at) order (kept nodes store) s) (kept nodes store) (kept nodes store') result)
+      OnBits space (λ bits. Comes (Means bits (type_of nodes at) order (levels nodes store) s) (levels nodes store) (levels nodes store') result)
   comes_mapped (Ok end) h bytes e =
       let len = ap (λ n. 8 * n) (sym (whole bytes e)) ∙ sym (length-bits_of bytes) in
       let follows = rw len at h.follows in
-      record { value = h.value; keeps = h.kept; ends = h.ends; means = followed_means (bits_of bytes) (type_of nodes at) order (kept nodes store) s (ap (option_map bits_of) e) follows }
+      record { value = h.value; keeps = h.kept; ends = h.ends; means = followed_means (bits_of bytes) (type_of nodes at) order (levels nodes store) s (ap (option_map bits_of) e) follows }
   comes_mapped (Err (Fault kind place)) h bytes e =
       let len = ap (λ n. 8 * n) (sym (whole bytes e)) ∙ sym (length-bits_of bytes) in
       let follows = rw len at h in
-      followed_means (bits_of bytes) (type_of nodes at) order (kept nodes store) s (ap (option_map bits_of) e) follows
+      followed_means (bits_of bytes) (type_of nodes at) order (levels nodes store) s (ap (option_map bits_of) e) follows
   comes_mapped (Err Limit) h bytes e = tt
   comes_mapped (Err Device) h bytes e = tt
   comes_mapped (Err Memory) h bytes e = tt
@@ -59,6 +58,6 @@ settled limit before after steps (Err Memory) o h = tt
 
 -- the levels around the innermost one, behind a mapping
 pub outer_mapped : (nodes : List Node) (space : SpaceView) (meter meter' : Meter) (store store' : Held) (planned : Planned Value) (result : Result ℕ Stop) → Maps nodes space meter meter' store store' planned result →
-    OnErr result (kept nodes store' ≡ kept nodes store) → outer_of (kept nodes store') ≡ outer_of (kept nodes store)
-outer_mapped nodes space meter meter' store store' planned (Ok end) h same = ap outer_of h.kept ∙ outer_pushed (kept nodes store) (Some h.value)
+    OnErr result (levels nodes store' ≡ levels nodes store) → outer_of (levels nodes store') ≡ outer_of (levels nodes store)
+outer_mapped nodes space meter meter' store store' planned (Ok end) h same = ap outer_of h.kept ∙ outer_pushed (levels nodes store) (Some h.value)
 outer_mapped nodes space meter meter' store store' planned (Err stop) h same = ap outer_of same

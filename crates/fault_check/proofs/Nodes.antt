@@ -14,7 +14,7 @@ use Rattle.pickle_types.specs.Sound.{IsSoundBound}
 use Rattle.pickle_types.specs.Table.{IsTable, IsWidth, type_of, bound_of, open_fields, open_parts}
 use Rattle.pickle_map.specs.Mappable.{IsFieldOf, IsPartOf}
 use Rattle.pickle_map.proofs.Shapes.{below_as, sound_as, opened_as, struct_opened, integral_opened, union_opened, fields_within, parts_within}
-use Rattle.value_store.specs.Shown.{title_at}
+use Rattle.value_store.specs.Names.{title_at}
 
 -- an integral struct in a table, where so many levels are open
 pub record IntegralNode (nodes : List Node) (at levels : ℕ) (number : IntegerType) (fields : List Part) : Type 0 where

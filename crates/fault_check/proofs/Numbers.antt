@@ -14,8 +14,7 @@ use Rattle.pickle_types.specs.declared.table.Node.{Node}
 use Rattle.pickle_map.specs.declared.mapper.stop.Stop.{Stop}
 use Rattle.pickle_map.specs.Calls.{Places}
 use Rattle.pickle_map.proofs.Followed.{walk_leaves}
-use Rattle.value_store.specs.Shown.{kept}
-use Rattle.value_store.specs.Slots.{Held}
+use Rattle.value_store.specs.Slots.{Held, levels}
 use Rattle.fault_check.specs.Digits.{KeepsNumber}
 use Rattle.fault_parts.specs.Somehow.{Somehow}
 
@@ -116,11 +115,11 @@ module _ (bits : List ℕ) where
 
 -- a number that was placed is kept as it means
 pub number_kept : (nodes : List Node) (meter meter' : Meter) (store store' : Held) (ty : PokeType) (n s : ℕ) (result : Result (Unit {0}) Stop) → Places nodes meter meter' store store' ty n s result →
-    IfOk result (λ u. KeepsNumber ty n s (kept nodes store) (kept nodes store'))
+    IfOk result (λ u. KeepsNumber ty n s (levels nodes store) (levels nodes store'))
 number_kept nodes meter meter' store store' ty n s (Ok u) h =
     let one = h (Some []) in
     let leaves = walk_leaves [] refl one.follows.walk in
     let is = rw one.follows.ends at leaves.result in
-    let m = number_planned [] ty n (kept nodes store) s in
+    let m = number_planned [] ty n (levels nodes store) s in
     record { value = one.value; means = rw is at m; keeps = one.kept }
 number_kept nodes meter meter' store store' ty n s (Err stop) h = tt

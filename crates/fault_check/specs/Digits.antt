@@ -9,8 +9,7 @@ use Rattle.pickle_meaning.specs.Values.{Value, Levels, pushed}
 use Rattle.pickle_meaning.specs.Clauses.{FaultAt, constraint}
 use Rattle.pickle_meaning.specs.Means.{NumberMeans}
 use Rattle.pickle_meaning.specs.declared.faults.MapFault.{MapFault}
-use Rattle.value_store.specs.Shown.{kept}
-use Rattle.value_store.specs.Slots.{Held}
+use Rattle.value_store.specs.Slots.{Held, levels}
 use Rattle.fault_check.specs.Ways.{fault_of}
 use Rattle.fault_parts.specs.Arises.{Path, DigitsBefore, Arises}
 use Rattle.fault_parts.specs.Somehow.{Somehow}
@@ -42,4 +41,4 @@ pub record ReachesNumber (nodes : List Node) (n s : ℕ) (fields : List Part) (w
 
 -- the fault arises at the end of a path in the type at a place of a table, on bits
 abbrev pub ArisesAt : List Node → (at : ℕ) → Order → (start : ℕ) → MapFault → Held → Path → (bits : List ℕ) → Type 0
-ArisesAt nodes at order start fault store path bits = Arises bits (type_of nodes at) order (kept nodes store) start (fault_of fault) path
+ArisesAt nodes at order start fault store path bits = Arises bits (type_of nodes at) order (levels nodes store) start (fault_of fault) path

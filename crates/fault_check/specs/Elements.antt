@@ -16,8 +16,7 @@ use Rattle.fault_check.specs.declared.part.Entered.TheVariants as entered
 use Rattle.fault_check.specs.Ways.{constraint_of, fault_of, Enters}
 use Rattle.fault_parts.specs.Arises.{Path, Arises, ElementsArise}
 use Rattle.fault_parts.specs.Somehow.{Somehow}
-use Rattle.value_store.specs.Shown.{kept}
-use Rattle.value_store.specs.Slots.{Held}
+use Rattle.value_store.specs.Slots.{Held, levels}
 
 -- the elements of an array up to one are values
 abbrev pub ElementsTo : List ℕ → PokeType → Order → (s : ℕ) → Extent → (levels levels' : Levels) → (n end : ℕ) → Type 0
@@ -55,27 +54,27 @@ pub record Outgrows (bits : List ℕ) (ty : PokeType) (order : Order) (s : ℕ) 
 module _ (nodes : List Node) (element : ℕ) where
   -- the fault arises in the array at the end of a path
   abbrev pub ArrayArises : Bound → Order → (start : ℕ) → MapFault → Held → Path → (bits : List ℕ) → Type 0
-  ArrayArises bound order start fault store path bits = Arises bits (ArrayOf (type_of nodes element) (bound_of bound)) order (kept nodes store) start (fault_of fault) path
+  ArrayArises bound order start fault store path bits = Arises bits (ArrayOf (type_of nodes element) (bound_of bound)) order (levels nodes store) start (fault_of fault) path
 
   -- the array was entered at a place
   abbrev pub EntersArray : Bound → Order → (start place : ℕ) → MapFault → (store store' : Held) → Entered → (bits : List ℕ) → Type 0
   EntersArray bound order start place fault store store' entered bits =
-      Enters bits nodes (kept nodes store') place (fault_of fault) (λ path. ArrayArises bound order start fault store path bits) entered
+      Enters bits nodes (levels nodes store') place (fault_of fault) (λ path. ArrayArises bound order start fault store path bits) entered
 
   -- its elements were entered at a place
   abbrev pub EntersElements : Extent → Order → (start place : ℕ) → MapFault → (store store' : Held) → Entered → (bits : List ℕ) → Type 0
   EntersElements extent order start place fault store store' entered bits =
-      Enters bits nodes (kept nodes store') place (fault_of fault) (ElementsArise bits (type_of nodes element) order start extent (kept nodes store) (fault_of fault)) entered
+      Enters bits nodes (levels nodes store') place (fault_of fault) (ElementsArise bits (type_of nodes element) order start extent (levels nodes store) (fault_of fault)) entered
 
   -- so many elements were kept, where the call gives their end
   abbrev pub KeepsElements : Extent → Order → (start count : ℕ) → (store store' : Held) → Option ℕ → (bits : List ℕ) → Type 0
   KeepsElements extent order start count store store' end bits =
-      IfSome end (ElementsTo bits (type_of nodes element) order start extent (kept nodes store) (kept nodes store') count)
+      IfSome end (ElementsTo bits (type_of nodes element) order start extent (levels nodes store) (levels nodes store') count)
 
   -- an element was found to be without bits, or is entered
   abbrev pub FindsEmpty : Order → (at : ℕ) → (store store' : Held) → Entered → (bits : List ℕ) → Type 0
-  FindsEmpty order at store store' entered bits = IsEmpty bits (type_of nodes element) element order (kept nodes store) (kept nodes store') at entered
+  FindsEmpty order at store store' entered bits = IsEmpty bits (type_of nodes element) element order (levels nodes store) (levels nodes store') at entered
 
   -- its elements end past its size
   abbrev pub OutgrowsSize : Extent → Order → (start : ℕ) → Held → (bits : List ℕ) → Type 0
-  OutgrowsSize extent order start store bits = Outgrows bits (type_of nodes element) order start extent (kept nodes store)
+  OutgrowsSize extent order start store bits = Outgrows bits (type_of nodes element) order start extent (levels nodes store)

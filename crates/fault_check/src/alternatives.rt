@@ -5,8 +5,7 @@ ghost use Rattle.pickle_types.specs.declared.table.Node.{Node};
 ghost use Rattle.pickle_types.specs.Table.{IsTable, type_of, open_parts};
 ghost use Rattle.pickle_meaning.specs.Values.{outer_of};
 ghost use Rattle.pickle_map.specs.Mappable.{IsPartOf};
-ghost use Rattle.value_store.specs.Shown.{kept};
-ghost use Rattle.value_store.specs.Slots.{levels};
+ghost use Rattle.value_store.specs.Slots.{levels, level_count};
 ghost use Rattle.fault_parts.specs.Arises.{AlternativesArise};
 ghost use Rattle.fault_check.specs.Ways.{OnBits, Leaves, Misses, Enters, EntersAlternative, GoesOn, fault_of};
 
@@ -32,11 +31,11 @@ pub fn enter_alternatives<'a, S: Space>(
     store: &mut Store,
 ) -> Entered<'a>
     requires table { IsTable nodes.now }
-    requires alternatives { All (IsPartOf nodes.now (length (levels store.old))) alternatives.now }
-    requires fresh { kept nodes.now store.old ≡ [] ∷ outer_of (kept nodes.now store.old) }
+    requires alternatives { All (IsPartOf nodes.now (level_count store.old)) alternatives.now }
+    requires fresh { levels nodes.now store.old ≡ [] ∷ outer_of (levels nodes.now store.old) }
     ensures leaves { Leaves (S.view space.old) (S.view space.new) meter.old meter.new }
-    ensures goes_on { GoesOn nodes.now (length (levels store.new)) result }
-    ensures is { OnBits (S.view space.old) (λ bits. Enters bits nodes.now (kept nodes.now store.new) place (fault_of fault) (AlternativesArise bits order (open_parts (type_of nodes.now) alternatives.now) (kept nodes.now store.old) start (fault_of fault)) result) }
+    ensures goes_on { GoesOn nodes.now (level_count store.new) result }
+    ensures is { OnBits (S.view space.old) (λ bits. Enters bits nodes.now (levels nodes.now store.new) place (fault_of fault) (AlternativesArise bits order (open_parts (type_of nodes.now) alternatives.now) (levels nodes.now store.old) start (fault_of fault)) result) }
 {
     for (index, alternative) in alternatives.iter().enumerate() {
         if index == place {
@@ -60,12 +59,12 @@ fn misses<S: Space>(
     store: &mut Store,
 ) -> bool
     requires table { IsTable nodes.now }
-    requires alternative { IsPartOf nodes.now (length (levels store.old)) alternative.now }
-    requires fresh { kept nodes.now store.old ≡ [] ∷ outer_of (kept nodes.now store.old) }
+    requires alternative { IsPartOf nodes.now (level_count store.old) alternative.now }
+    requires fresh { levels nodes.now store.old ≡ [] ∷ outer_of (levels nodes.now store.old) }
     ensures leaves { Leaves (S.view space.old) (S.view space.new) meter.old meter.new }
-    ensures is { IsTrue result → OnBits (S.view space.old) (λ bits. Misses bits nodes.now alternative.now order (kept nodes.now store.old) start) }
-    ensures same { IsTrue result → kept nodes.now store.new ≡ kept nodes.now store.old }
-    ensures depth { IsTrue result → length (levels store.new) ≡ length (levels store.old) }
+    ensures is { IsTrue result → OnBits (S.view space.old) (λ bits. Misses bits nodes.now alternative.now order (levels nodes.now store.old) start) }
+    ensures same { IsTrue result → levels nodes.now store.new ≡ levels nodes.now store.old }
+    ensures depth { IsTrue result → level_count store.new ≡ level_count store.old }
 {
     match map_checked(
         nodes,

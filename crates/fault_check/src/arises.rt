@@ -7,8 +7,7 @@ ghost use Rattle.pickle_types.specs.TypeTable.{nodes_of, type_named, IsInTable};
 ghost use Rattle.pickle_types.specs.Sound.{IsSoundClause};
 ghost use Rattle.pickle_meaning.specs.Values.{no_values};
 ghost use Rattle.pickle_meaning.specs.Clauses.{constraint};
-ghost use Rattle.value_store.specs.Shown.{kept};
-ghost use Rattle.value_store.specs.Slots.{levels, emptied};
+ghost use Rattle.value_store.specs.Slots.{levels, emptied, level_count};
 ghost use Rattle.fault_parts.specs.Arises.{Arises};
 ghost use Rattle.fault_check.specs.Ways.{OnBits, Leaves, IsPart, InPart, InType, Enters, GoesOn, HasFault, constraint_of, fault_of};
 
@@ -69,9 +68,9 @@ fn follow<S: Space>(
     store: &mut Store,
 ) -> bool
     requires table { IsTable nodes.now }
-    requires part { IsPart nodes.now (length (levels store.old)) whole }
+    requires part { IsPart nodes.now (level_count store.old) whole }
     ensures leaves { Leaves (S.view space.old) (S.view space.new) meter.old meter.new }
-    ensures is { IsTrue result → OnBits (S.view space.old) (λ bits. InPart bits nodes.now (kept nodes.now store.old) whole.entry (fault_of fault) path.now) }
+    ensures is { IsTrue result → OnBits (S.view space.old) (λ bits. InPart bits nodes.now (levels nodes.now store.old) whole.entry (fault_of fault) path.now) }
 {
     let mut part = whole;
     for (step, place) in path.iter().enumerate() {
@@ -108,10 +107,10 @@ fn enter<'a, S: Space>(
     store: &mut Store,
 ) -> Entered<'a>
     requires table { IsTable nodes.now }
-    requires part { IsPart nodes.now (length (levels store.old)) part }
+    requires part { IsPart nodes.now (level_count store.old) part }
     ensures leaves { Leaves (S.view space.old) (S.view space.new) meter.old meter.new }
-    ensures goes_on { GoesOn nodes.now (length (levels store.new)) result }
-    ensures is { OnBits (S.view space.old) (λ bits. Enters bits nodes.now (kept nodes.now store.new) place (fault_of fault) (InType bits nodes.now (kept nodes.now store.old) part.entry (fault_of fault)) result) }
+    ensures goes_on { GoesOn nodes.now (level_count store.new) result }
+    ensures is { OnBits (S.view space.old) (λ bits. Enters bits nodes.now (levels nodes.now store.new) place (fault_of fault) (InType bits nodes.now (levels nodes.now store.old) part.entry (fault_of fault)) result) }
 {
     if u128::from(8 * space.len()) < part.start {
         return Entered::Nowhere;
@@ -174,9 +173,9 @@ fn is_own<S: Space>(
     store: &mut Store,
 ) -> bool
     requires table { IsTable nodes.now }
-    requires part { IsPart nodes.now (length (levels store.old)) part }
+    requires part { IsPart nodes.now (level_count store.old) part }
     ensures leaves { Leaves (S.view space.old) (S.view space.new) meter.old meter.new }
-    ensures is { IsTrue result → OnBits (S.view space.old) (λ bits. InPart bits nodes.now (kept nodes.now store.old) part.entry (fault_of fault) []) }
+    ensures is { IsTrue result → OnBits (S.view space.old) (λ bits. InPart bits nodes.now (levels nodes.now store.old) part.entry (fault_of fault) []) }
 {
     match map_part(
         nodes, part.node, part.order, part.start, space, meter, store,
@@ -198,10 +197,10 @@ fn is_refused(
 ) -> bool
     requires sound { IsSoundClause (constraint_of part) }
     ensures limit { meter.new.limit ≡ meter.old.limit }
-    ensures is { IsTrue result → constraint (constraint_of part.entry) (kept nodes.now store.now) part.entry.start ≡ Err (fault_of fault) }
+    ensures is { IsTrue result → constraint (constraint_of part.entry) (levels nodes.now store.now) part.entry.start ≡ Err (fault_of fault) }
 {
     match part.constraint {
-        Some(clause) => match check_constraint(nodes, clause, part.start, meter, store) {
+        Some(clause) => match check_constraint(clause, part.start, meter, store) {
             Ok(()) => false,
             Err(stop) => is_fault(stop, fault),
         },
@@ -219,10 +218,10 @@ fn is_own_fault<S: Space>(
     store: &mut Store,
 ) -> bool
     requires table { IsTable nodes.now }
-    requires part { IsPart nodes.now (length (levels store.old)) part }
-    requires has { OnBits (S.view space.old) (λ bits. HasFault bits nodes.now (kept nodes.now store.old) part (fault_of fault)) }
+    requires part { IsPart nodes.now (level_count store.old) part }
+    requires has { OnBits (S.view space.old) (λ bits. HasFault bits nodes.now (levels nodes.now store.old) part (fault_of fault)) }
     ensures leaves { Leaves (S.view space.old) (S.view space.new) meter.old meter.new }
-    ensures is { IsTrue result → OnBits (S.view space.old) (λ bits. InType bits nodes.now (kept nodes.now store.old) part.entry (fault_of fault) []) }
+    ensures is { IsTrue result → OnBits (S.view space.old) (λ bits. InType bits nodes.now (levels nodes.now store.old) part.entry (fault_of fault) []) }
 {
     let bits = u128::from(8 * space.len());
     if bits < part.start {

@@ -5,8 +5,7 @@ ghost use Rattle.pickle_types.specs.Types.{depth};
 ghost use Rattle.pickle_types.specs.Table.{IsTable, type_of};
 ghost use Rattle.pickle_meaning.specs.Means.{number_type, width_in};
 ghost use Rattle.pickle_map.specs.Mappable.{IsPartOf};
-ghost use Rattle.value_store.specs.Shown.{kept};
-ghost use Rattle.value_store.specs.Slots.{levels};
+ghost use Rattle.value_store.specs.Slots.{levels, level_count};
 ghost use Rattle.fault_parts.specs.Arises.{NumberArises};
 ghost use Rattle.fault_check.specs.Ways.{OnBits, Leaves, fault_of};
 ghost use Rattle.fault_check.specs.Digits.{KeepsNumber, PassesNumber, RefusesNumber, ReachesNumber, ArisesAt};
@@ -36,7 +35,7 @@ pub fn is_in_digits<S: Space>(
 ) -> bool
     requires table { IsTable nodes.now }
     requires at { at < length nodes.now }
-    requires open { length (levels store.old) + depth (type_of nodes.now at) ≤ 65 }
+    requires open { level_count store.old + depth (type_of nodes.now at) ≤ 65 }
     ensures leaves { Leaves (S.view space.old) (S.view space.new) meter.old meter.new }
     ensures is { IsTrue result → OnBits (S.view space.old) (ArisesAt nodes.now at order start fault store.old path.now) }
 {
@@ -72,10 +71,10 @@ fn number_arises(
 ) -> bool
     requires table { IsTable nodes.now }
     requires at { at < length nodes.now }
-    requires open { length (levels store.old) + depth (type_of nodes.now at) ≤ 65 }
+    requires open { level_count store.old + depth (type_of nodes.now at) ≤ 65 }
     requires start { start < 2 ^ 63 }
     ensures limit { meter.new.limit ≡ meter.old.limit }
-    ensures is { IsTrue result → NumberArises (type_of nodes.now at) digits (kept nodes.now store.old) start (fault_of fault) path.now }
+    ensures is { IsTrue result → NumberArises (type_of nodes.now at) digits (levels nodes.now store.old) start (fault_of fault) path.now }
 {
     let [place, rest @ ..] = path else {
         return false;
@@ -124,12 +123,12 @@ fn reach_field(
     store: &mut Store,
 ) -> Option<u8>
     requires table { IsTable nodes.now }
-    requires fields { All (IsPartOf nodes.now (length (levels store.old))) fields.now }
+    requires fields { All (IsPartOf nodes.now (level_count store.old)) fields.now }
     requires width { width ≤ 64 }
     requires start { start < 2 ^ 63 }
     ensures limit { meter.new.limit ≡ meter.old.limit }
-    ensures depth { length (levels store.new) ≡ length (levels store.old) }
-    ensures is { IfSome result (ReachesNumber nodes.now digits start fields.now width (kept nodes.now store.old) place (kept nodes.now store.new)) }
+    ensures depth { level_count store.new ≡ level_count store.old }
+    ensures is { IfSome result (ReachesNumber nodes.now digits start fields.now width (levels nodes.now store.old) place (levels nodes.now store.new)) }
 {
     let mut left = width;
     for (index, field) in fields.iter().enumerate() {
@@ -156,15 +155,15 @@ fn pass_field(
     store: &mut Store,
 ) -> Result<(), Stop>
     requires table { IsTable nodes.now }
-    requires field { IsPartOf nodes.now (length (levels store.old)) field.now }
+    requires field { IsPartOf nodes.now (level_count store.old) field.now }
     requires digits { digits < 2 ^ width_in (number_type (type_of nodes.now field.now.node)) }
     requires start { start < 2 ^ 63 }
     ensures limit { meter.new.limit ≡ meter.old.limit }
-    ensures depth { length (levels store.new) ≡ length (levels store.old) }
-    ensures is { IfOk result (λ _. PassesNumber nodes.now digits start field.now (kept nodes.now store.old) (kept nodes.now store.new)) }
+    ensures depth { level_count store.new ≡ level_count store.old }
+    ensures is { IfOk result (λ _. PassesNumber nodes.now digits start field.now (levels nodes.now store.old) (levels nodes.now store.new)) }
 {
     keep_number(nodes, field.node, digits, start, meter, store)?;
-    check_constraint(nodes, &field.constraint, u128::from(start), meter, store)
+    check_constraint(&field.constraint, u128::from(start), meter, store)
 }
 
 /// Whether a fault is that of the constraint of a field of an integral struct.
@@ -178,16 +177,16 @@ fn is_refused(
     store: &mut Store,
 ) -> bool
     requires table { IsTable nodes.now }
-    requires field { IsPartOf nodes.now (length (levels store.old)) field.now }
+    requires field { IsPartOf nodes.now (level_count store.old) field.now }
     requires digits { digits < 2 ^ width_in (number_type (type_of nodes.now field.now.node)) }
     requires start { start < 2 ^ 63 }
     ensures limit { meter.new.limit ≡ meter.old.limit }
-    ensures is { IsTrue result → RefusesNumber nodes.now digits start field.now (kept nodes.now store.old) (fault_of fault) }
+    ensures is { IsTrue result → RefusesNumber nodes.now digits start field.now (levels nodes.now store.old) (fault_of fault) }
 {
     let Ok(()) = keep_number(nodes, field.node, digits, start, meter, store) else {
         return false;
     };
-    match check_constraint(nodes, &field.constraint, u128::from(start), meter, store) {
+    match check_constraint(&field.constraint, u128::from(start), meter, store) {
         Ok(()) => false,
         Err(stop) => is_fault(stop, fault),
     }
@@ -204,12 +203,12 @@ fn keep_number(
 ) -> Result<(), Stop>
     requires table { IsTable nodes.now }
     requires at { at < length nodes.now }
-    requires open { length (levels store.old) + depth (type_of nodes.now at) ≤ 65 }
+    requires open { level_count store.old + depth (type_of nodes.now at) ≤ 65 }
     requires digits { digits < 2 ^ width_in (number_type (type_of nodes.now at)) }
     requires start { start < 2 ^ 63 }
     ensures limit { meter.new.limit ≡ meter.old.limit }
-    ensures depth { length (levels store.new) ≡ length (levels store.old) }
-    ensures is { IfOk result (λ _. KeepsNumber (type_of nodes.now at) digits start (kept nodes.now store.old) (kept nodes.now store.new)) }
+    ensures depth { level_count store.new ≡ level_count store.old }
+    ensures is { IfOk result (λ _. KeepsNumber (type_of nodes.now at) digits start (levels nodes.now store.old) (levels nodes.now store.new)) }
 {
     meter.tick()?;
     place_number(nodes, at, digits, start, meter, store, &mut Unwatched)

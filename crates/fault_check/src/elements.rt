@@ -5,8 +5,7 @@ ghost use Rattle.pickle_types.specs.Types.{depth};
 ghost use Rattle.pickle_types.specs.Table.{IsTable, type_of, bound_of};
 ghost use Rattle.pickle_types.specs.Sound.{IsSoundBound};
 ghost use Rattle.pickle_map.specs.Framed.{IsEnd};
-ghost use Rattle.value_store.specs.Shown.{kept};
-ghost use Rattle.value_store.specs.Slots.{levels};
+ghost use Rattle.value_store.specs.Slots.{level_count};
 ghost use Rattle.fault_check.specs.Ways.{OnBits, Leaves, GoesOn};
 ghost use Rattle.fault_check.specs.Elements.{IsElement, OutgrowsSize, ArrayArises, EntersArray, EntersElements, KeepsElements, FindsEmpty};
 
@@ -35,16 +34,16 @@ pub fn enter_array<'a, S: Space>(
 ) -> Entered<'a>
     requires table { IsTable nodes.now }
     requires element { element < length nodes.now }
-    requires open { length (levels store.old) + 1 + depth (type_of nodes.now element) ≤ 65 }
+    requires open { level_count store.old + 1 + depth (type_of nodes.now element) ≤ 65 }
     requires sound { IsSoundBound (bound_of bound.now) }
     ensures leaves { Leaves (S.view space.old) (S.view space.new) meter.old meter.new }
     ensures is { OnBits (S.view space.old) (EntersArray nodes.now element bound.now order start place fault store.old store.new result) }
-    ensures goes_on { GoesOn nodes.now (length (levels store.new)) result }
+    ensures goes_on { GoesOn nodes.now (level_count store.new) result }
 {
     if u128::from(8 * space.len()) < start {
         return Entered::Nowhere;
     }
-    let Ok(extent) = find_extent(nodes, bound, store, start, meter) else {
+    let Ok(extent) = find_extent(bound, store, start, meter) else {
         return Entered::Nowhere;
     };
     store.open_level();
@@ -77,11 +76,11 @@ fn enter_elements<'a, S: Space>(
 ) -> Entered<'a>
     requires table { IsTable nodes.now }
     requires element { element < length nodes.now }
-    requires open { length (levels store.old) + depth (type_of nodes.now element) ≤ 65 }
+    requires open { level_count store.old + depth (type_of nodes.now element) ≤ 65 }
     requires inside { start ≤ 8 * (S.view space.old).len }
     ensures leaves { Leaves (S.view space.old) (S.view space.new) meter.old meter.new }
     ensures is { OnBits (S.view space.old) (EntersElements nodes.now element extent order start place fault store.old store.new result) }
-    ensures goes_on { GoesOn nodes.now (length (levels store.new)) result }
+    ensures goes_on { GoesOn nodes.now (level_count store.new) result }
 {
     let Some(behind) = elements_before(
         nodes, element, extent, order, start, place, space, meter, store,
@@ -113,12 +112,12 @@ fn elements_before<S: Space>(
 ) -> Option<u64>
     requires table { IsTable nodes.now }
     requires element { element < length nodes.now }
-    requires open { length (levels store.old) + depth (type_of nodes.now element) ≤ 65 }
+    requires open { level_count store.old + depth (type_of nodes.now element) ≤ 65 }
     requires inside { start ≤ 8 * (S.view space.old).len }
     ensures leaves { Leaves (S.view space.old) (S.view space.new) meter.old meter.new }
     ensures ends { IfSome result (IsEnd start (S.view space.old)) }
     ensures is { OnBits (S.view space.old) (KeepsElements nodes.now element extent order start place store.old store.new result) }
-    ensures depth { length (levels store.new) ≡ length (levels store.old) }
+    ensures depth { level_count store.new ≡ level_count store.old }
 {
     let bits = 8 * space.len();
     let mut behind = start;
@@ -147,10 +146,10 @@ fn empty_element<'a, S: Space>(
 ) -> Entered<'a>
     requires table { IsTable nodes.now }
     requires element { element < length nodes.now }
-    requires open { length (levels store.old) + depth (type_of nodes.now element) ≤ 65 }
+    requires open { level_count store.old + depth (type_of nodes.now element) ≤ 65 }
     ensures leaves { Leaves (S.view space.old) (S.view space.new) meter.old meter.new }
     ensures is { OnBits (S.view space.old) (FindsEmpty nodes.now element order at store.old store.new result) }
-    ensures goes_on { GoesOn nodes.now (length (levels store.new)) result }
+    ensures goes_on { GoesOn nodes.now (level_count store.new) result }
 {
     match map_part(nodes, element, order, u128::from(at), space, meter, store) {
         Ok(end) if end == at => Entered::There,
@@ -185,7 +184,7 @@ pub fn is_own_array<S: Space>(
 ) -> bool
     requires table { IsTable nodes.now }
     requires element { element < length nodes.now }
-    requires open { length (levels store.old) + 1 + depth (type_of nodes.now element) ≤ 65 }
+    requires open { level_count store.old + 1 + depth (type_of nodes.now element) ≤ 65 }
     requires sound { IsSoundBound (bound_of bound.now) }
     ensures leaves { Leaves (S.view space.old) (S.view space.new) meter.old meter.new }
     ensures is { IsTrue result → OnBits (S.view space.old) (ArrayArises nodes.now element bound.now order start fault store.old []) }
@@ -193,7 +192,7 @@ pub fn is_own_array<S: Space>(
     if u128::from(8 * space.len()) < start {
         return false;
     }
-    match find_extent(nodes, bound, store, start, meter) {
+    match find_extent(bound, store, start, meter) {
         Ok(extent) => {
             store.open_level();
             is_fault(Stop::Fault(MapFaultKind::Bounds, start), fault)
@@ -225,7 +224,7 @@ fn outgrows<S: Space>(
 ) -> bool
     requires table { IsTable nodes.now }
     requires element { element < length nodes.now }
-    requires open { length (levels store.old) + depth (type_of nodes.now element) ≤ 65 }
+    requires open { level_count store.old + depth (type_of nodes.now element) ≤ 65 }
     requires inside { start ≤ 8 * (S.view space.old).len }
     ensures leaves { Leaves (S.view space.old) (S.view space.new) meter.old meter.new }
     ensures is { IsTrue result → OnBits (S.view space.old) (OutgrowsSize nodes.now element extent order start store.old) }

@@ -3,15 +3,13 @@
 ghost use Rattle.std.specs.Prelude.{◌≡◌, length, All, IfOk};
 ghost use Rattle.pickle_types.specs.Table.{IsTable, type_of, open_fields};
 ghost use Rattle.pickle_map.specs.Mappable.{IsFieldOf};
-ghost use Rattle.value_store.specs.Shown.{kept};
-ghost use Rattle.value_store.specs.Slots.{levels};
+ghost use Rattle.value_store.specs.Slots.{levels, level_count};
 ghost use Rattle.fault_parts.specs.Arises.{FieldsArise};
 ghost use Rattle.fault_check.specs.Ways.{OnBits, Leaves, PassesField, EntersField, Enters, GoesOn, fault_of};
 
 use crate::mapped::{find_start, is_there, map_checked, there_if};
 use crate::part::{Entered, Part};
 use bit_space::{Meter, Order, Space};
-use pickle_map::mapper::keep::keep_absent;
 use pickle_map::mapper::stop::Stop;
 use pickle_map::mapper::types::ordered;
 use pickle_meaning::faults::MapFault;
@@ -32,10 +30,10 @@ pub fn enter_fields<'a, S: Space>(
     store: &mut Store,
 ) -> Entered<'a>
     requires table { IsTable nodes.now }
-    requires fields { All (IsFieldOf nodes.now (length (levels store.old))) fields.now }
+    requires fields { All (IsFieldOf nodes.now (level_count store.old)) fields.now }
     ensures leaves { Leaves (S.view space.old) (S.view space.new) meter.old meter.new }
-    ensures goes_on { GoesOn nodes.now (length (levels store.new)) result }
-    ensures is { OnBits (S.view space.old) (λ bits. Enters bits nodes.now (kept nodes.now store.new) place (fault_of fault) (FieldsArise bits pinned start order (open_fields (type_of nodes.now) fields.now) (kept nodes.now store.old) (fault_of fault)) result) }
+    ensures goes_on { GoesOn nodes.now (level_count store.new) result }
+    ensures is { OnBits (S.view space.old) (λ bits. Enters bits nodes.now (levels nodes.now store.new) place (fault_of fault) (FieldsArise bits pinned start order (open_fields (type_of nodes.now) fields.now) (levels nodes.now store.old) (fault_of fault)) result) }
 {
     let mut behind = start;
     for (index, field) in fields.iter().enumerate() {
@@ -67,16 +65,16 @@ fn pass_field<S: Space>(
     store: &mut Store,
 ) -> Result<u64, Stop>
     requires table { IsTable nodes.now }
-    requires field { IsFieldOf nodes.now (length (levels store.old)) field.now }
+    requires field { IsFieldOf nodes.now (level_count store.old) field.now }
     ensures leaves { Leaves (S.view space.old) (S.view space.new) meter.old meter.new }
-    ensures is { IfOk result (λ end. OnBits (S.view space.old) (λ bits. PassesField bits nodes.now pinned start order field.now (kept nodes.now store.old) (kept nodes.now store.new) behind end)) }
-    ensures depth { length (levels store.new) ≡ length (levels store.old) }
+    ensures is { IfOk result (λ end. OnBits (S.view space.old) (λ bits. PassesField bits nodes.now pinned start order field.now (levels nodes.now store.old) (levels nodes.now store.new) behind end)) }
+    ensures depth { level_count store.new ≡ level_count store.old }
 {
-    if !is_there(nodes, &field.condition, start, meter, store)? {
-        keep_absent(nodes, store)?;
+    if !is_there(&field.condition, start, meter, store)? {
+        store.push_absent()?;
         return Ok(behind);
     }
-    let place = find_start(nodes, pinned, &field.label, start, behind, meter, store)?;
+    let place = find_start(pinned, &field.label, start, behind, meter, store)?;
     map_checked(
         nodes,
         field.node,
@@ -101,17 +99,17 @@ fn enter_field<'a>(
     meter: &mut Meter,
     store: &Store,
 ) -> Entered<'a>
-    requires field { IsFieldOf nodes.now (length (levels store.now)) field.now }
+    requires field { IsFieldOf nodes.now (level_count store.now) field.now }
     ensures limit { meter.new.limit ≡ meter.old.limit }
-    ensures goes_on { GoesOn nodes.now (length (levels store.now)) result }
-    ensures is { EntersField nodes.now pinned start order field.now (kept nodes.now store.now) behind (fault_of fault) result }
+    ensures goes_on { GoesOn nodes.now (level_count store.now) result }
+    ensures is { EntersField nodes.now pinned start order field.now (levels nodes.now store.now) behind (fault_of fault) result }
 {
-    match is_there(nodes, &field.condition, start, meter, store) {
+    match is_there(&field.condition, start, meter, store) {
         Ok(true) => {}
         Ok(false) => return Entered::Nowhere,
         Err(stop) => return there_if(stop, fault),
     }
-    match find_start(nodes, pinned, &field.label, start, behind, meter, store) {
+    match find_start(pinned, &field.label, start, behind, meter, store) {
         Ok(place) => Entered::Part(Part {
             node: field.node,
             order: ordered(field.order, order),

@@ -1,6 +1,7 @@
 //! Parts that are mapped on a way, with what they mean.
 
-ghost use Rattle.std.specs.Prelude.{◌≡◌, ◌+◌, ◌≤◌, ◌<◌, length, IfOk, OnErr, IsTrue};
+ghost use Rattle.std.specs.Prelude.{◌≡◌, ◌+◌, ◌≤◌, ◌<◌, length, IfOk, OnErr, IsTrue, List};
+ghost use Rattle.pickle_types.specs.declared.table.Node.{Node as TableNode};
 ghost use Rattle.pickle_types.specs.Types.{depth};
 ghost use Rattle.pickle_types.specs.Table.{IsTable, type_of, optional_term};
 ghost use Rattle.pickle_types.specs.Sound.{IsSoundClause};
@@ -8,8 +9,7 @@ ghost use Rattle.pickle_meaning.specs.Clauses.{constraint, condition, field_star
 ghost use Rattle.pickle_meaning.specs.Means.{Means, PartMeans};
 ghost use Rattle.pickle_meaning.specs.Values.{outer_of};
 ghost use Rattle.pickle_map.specs.Framed.{Frame, IsEnd};
-ghost use Rattle.value_store.specs.Shown.{kept};
-ghost use Rattle.value_store.specs.Slots.{levels};
+ghost use Rattle.value_store.specs.Slots.{levels, level_count};
 ghost use Rattle.fault_check.specs.Ways.{OnBits, Comes, Settled, IsThere, IsFault, Leaves};
 
 use crate::part::Entered;
@@ -34,13 +34,13 @@ pub fn map_part<S: Space>(
 ) -> Result<u64, Stop>
     requires table { IsTable nodes.now }
     requires at { node < length nodes.now }
-    requires open { length (levels store.old) + depth (type_of nodes.now node) ≤ 65 }
+    requires open { level_count store.old + depth (type_of nodes.now node) ≤ 65 }
     ensures frame { Frame (S.view space.old) (S.view space.new) meter.old meter.new store.old store.new 0 }
     ensures ends { IfOk result (IsEnd start (S.view space.old)) }
-    ensures is { OnBits (S.view space.old) (λ bits. Comes (Means bits (type_of nodes.now node) order (kept nodes.now store.old) start) (kept nodes.now store.old) (kept nodes.now store.new) result) }
-    ensures same { OnErr result (kept nodes.now store.new ≡ kept nodes.now store.old) }
-    ensures outer { outer_of (kept nodes.now store.new) ≡ outer_of (kept nodes.now store.old) }
-    ensures depth { length (levels store.new) ≡ length (levels store.old) }
+    ensures is { OnBits (S.view space.old) (λ bits. Comes (Means bits (type_of nodes.now node) order (levels nodes.now store.old) start) (levels nodes.now store.old) (levels nodes.now store.new) result) }
+    ensures same { OnErr result (levels nodes.now store.new ≡ levels nodes.now store.old) }
+    ensures outer { outer_of (levels nodes.now store.new) ≡ outer_of (levels nodes.now store.old) }
+    ensures depth { level_count store.new ≡ level_count store.old }
 {
     map_type(
         nodes,
@@ -56,7 +56,6 @@ pub fn map_part<S: Space>(
 
 /// Checks a constraint of the value that stands last in the innermost level and began at the bit `place`.
 pub fn check_constraint(
-    nodes: &[Node],
     clause: &Option<Box<Resolved>>,
     place: u128,
     meter: &mut Meter,
@@ -64,14 +63,13 @@ pub fn check_constraint(
 ) -> Result<(), Stop>
     requires sound { IsSoundClause (optional_term clause.now) }
     ensures limit { meter.new.limit ≡ meter.old.limit }
-    ensures is { Settled result (constraint (optional_term clause.now) (kept nodes.now store.now) place) }
+    ensures is { (nodes : List TableNode) → Settled result (constraint (optional_term clause.now) (levels nodes store.now) place) }
 {
-    clauses::check(nodes, clause, store, place, meter)
+    clauses::check(clause, store, place, meter)
 }
 
 /// Whether a field of a struct is there that starts at the bit `start`, by its condition.
 pub fn is_there(
-    nodes: &[Node],
     clause: &Option<Box<Resolved>>,
     start: u64,
     meter: &mut Meter,
@@ -79,14 +77,13 @@ pub fn is_there(
 ) -> Result<bool, Stop>
     requires sound { IsSoundClause (optional_term clause.now) }
     ensures limit { meter.new.limit ≡ meter.old.limit }
-    ensures is { Settled result (condition (optional_term clause.now) (kept nodes.now store.now) start) }
+    ensures is { (nodes : List TableNode) → Settled result (condition (optional_term clause.now) (levels nodes store.now) start) }
 {
-    clauses::is_there(nodes, clause, store, u128::from(start), meter)
+    clauses::is_there(clause, store, u128::from(start), meter)
 }
 
 /// The bit where a field starts of a struct that starts at the bit `start`, by its label.
 pub fn find_start(
-    nodes: &[Node],
     pinned: bool,
     label: &Option<Box<Resolved>>,
     start: u64,
@@ -96,10 +93,9 @@ pub fn find_start(
 ) -> Result<u128, Stop>
     requires sound { IsSoundClause (optional_term label.now) }
     ensures limit { meter.new.limit ≡ meter.old.limit }
-    ensures is { Settled result (field_start pinned (optional_term label.now) (kept nodes.now store.now) start behind) }
+    ensures is { (nodes : List TableNode) → Settled result (field_start pinned (optional_term label.now) (levels nodes store.now) start behind) }
 {
     clauses::find_start(
-        nodes,
         pinned,
         label,
         store,
@@ -122,16 +118,16 @@ pub fn map_checked<S: Space>(
 ) -> Result<u64, Stop>
     requires table { IsTable nodes.now }
     requires at { node < length nodes.now }
-    requires open { length (levels store.old) + depth (type_of nodes.now node) ≤ 65 }
+    requires open { level_count store.old + depth (type_of nodes.now node) ≤ 65 }
     requires sound { IsSoundClause (optional_term clause.now) }
     ensures leaves { Leaves (S.view space.old) (S.view space.new) meter.old meter.new }
     ensures ends { IfOk result (IsEnd start (S.view space.old)) }
-    ensures is { OnBits (S.view space.old) (λ bits. Comes (PartMeans bits (type_of nodes.now node) (optional_term clause.now) order (kept nodes.now store.old) start) (kept nodes.now store.old) (kept nodes.now store.new) result) }
-    ensures outer { outer_of (kept nodes.now store.new) ≡ outer_of (kept nodes.now store.old) }
-    ensures depth { length (levels store.new) ≡ length (levels store.old) }
+    ensures is { OnBits (S.view space.old) (λ bits. Comes (PartMeans bits (type_of nodes.now node) (optional_term clause.now) order (levels nodes.now store.old) start) (levels nodes.now store.old) (levels nodes.now store.new) result) }
+    ensures outer { outer_of (levels nodes.now store.new) ≡ outer_of (levels nodes.now store.old) }
+    ensures depth { level_count store.new ≡ level_count store.old }
 {
     let end = map_part(nodes, node, order, start, space, meter, store)?;
-    check_constraint(nodes, clause, start, meter, store)?;
+    check_constraint(clause, start, meter, store)?;
     Ok(end)
 }
 

@@ -1,8 +1,7 @@
 -- Comparisons of integers, as the parts of an expression come to them.
-use Rattle.std.proofs.Common.{◌≡◌, ℕ, ◌+◌, if◌then◌else◌, Bool, true, Some, None, Result, Ok, Err, ℤ, pos, List, refl}
+use Rattle.std.proofs.Common.{◌≡◌, ℕ, ◌+◌, if◌then◌else◌, Bool, true, Some, None, Result, Ok, Err, ℤ, pos, refl}
 use Rattle.pickle_tree.specs.declared.tree.Infix.{Infix}
 use Rattle.pickle_tree.specs.declared.tree.Infix.TheVariants.{LogicalOr, LogicalAnd, BitOr, BitXor, BitAnd, Equal, NotEqual, Less, LessEqual, Greater, GreaterEqual, ShiftLeft, ShiftRight, Add, Subtract, Multiply, Divide, Remainder}
-use Rattle.pickle_types.specs.declared.table.Node.{Node}
 use Rattle.pickle_types.specs.declared.integer.IntegerType.{IntegerType}
 use Rattle.pickle_types.specs.Types.{Term, Name, Between}
 use Rattle.pickle_types.specs.Operators.{common}
@@ -10,10 +9,8 @@ use Rattle.pickle_meaning.specs.declared.faults.MapFaultKind.{MapFaultKind}
 use Rattle.pickle_meaning.specs.Arithmetic.{Computed, converted, on_common, on_integers, combined, truth, signed_type}
 use Rattle.pickle_evaluation.specs.Comes.{ComesTo, is_comparison}
 use Rattle.pickle_meaning.specs.Evaluation.{Operand, Plain, AtPath, operand_label, Evaluation, evaluation, and_operand, unless_settled, settled, truth_of, between, literal_length, with_steps, gives}
-use Rattle.value_store.specs.Tree as tree
 use Rattle.value_store.specs.Scalars.{scalar_in}
-use Rattle.value_store.specs.Shown.{shown, shown_label}
-use Rattle.pickle_meaning.specs.Values.{Label, IntegerLabel, Levels, label_of, value_at}
+use Rattle.pickle_meaning.specs.Values.{Label, IntegerLabel, OffsetLabel, TextLabel, ArrayLabel, StructLabel, UnionLabel, Value, Levels, label_of, value_at}
 
 -- neither side settles a comparison alone
 pub not_settled : (op : Infix) (t : Result Bool MapFaultKind) → is_comparison op ≡ true → settled op t ≡ None
@@ -91,22 +88,19 @@ integers_between op k x t y u c e = rw (← e) (no_more c)
     no_more (Ok l) = refl
     no_more (Err f) = refl
 
-shown_integer : (nodes : List Node) (l : tree.Label) (n : ℤ) (t : IntegerType) → scalar_in l ≡ Some (IntegerLabel n t) → shown_label nodes l ≡ IntegerLabel n t
-shown_integer nodes (tree.IntegerLabel number width signed) n t e = cc
-shown_integer nodes (tree.OffsetLabel number width signed unit) n t e = cc
-shown_integer nodes (tree.TextLabel bytes) n t e = cc
-shown_integer nodes tree.ArrayLabel n t e = cc
-shown_integer nodes (tree.StructLabel of) n t e = cc
-shown_integer nodes (tree.UnionLabel of taken) n t e = cc
-
-shown_as_integer : (nodes : List Node) (v : tree.Value) (n : ℤ) (t : IntegerType) → scalar_in (tree.label v) ≡ Some (IntegerLabel n t) → label_of (shown nodes v) ≡ IntegerLabel n t
-shown_as_integer nodes (tree.Tree l start size parts) n t e = shown_integer nodes l n t e
+label_integer : (l : Label) (n : ℤ) (t : IntegerType) → scalar_in l ≡ Some (IntegerLabel n t) → l ≡ IntegerLabel n t
+label_integer (IntegerLabel number type) n t e = cc
+label_integer (OffsetLabel magnitude type unit) n t e = cc
+label_integer (TextLabel bytes) n t e = cc
+label_integer ArrayLabel n t e = cc
+label_integer (StructLabel name fields) n t e = cc
+label_integer (UnionLabel name index alternative) n t e = cc
 
 -- a name of an integer
-pub names_integer : (nodes : List Node) (levels : Levels) (level place : ℕ) (v : tree.Value) (n : ℤ) (t : IntegerType) → value_at levels level place ≡ Some (shown nodes v) →
-    scalar_in (tree.label v) ≡ Some (IntegerLabel n t) → ComesTo (evaluation (Name level place) levels) (IntegerLabel n t) 1
+pub names_integer : (levels : Levels) (level place : ℕ) (v : Value) (n : ℤ) (t : IntegerType) → value_at levels level place ≡ Some v →
+    scalar_in (label_of v) ≡ Some (IntegerLabel n t) → ComesTo (evaluation (Name level place) levels) (IntegerLabel n t) 1
 unfolding evaluation
-names_integer nodes levels level place v n t e l = rw e (AtPath (shown nodes v), refl, shown_as_integer nodes v n t l, refl)
+names_integer levels level place v n t e l = rw e (AtPath v, refl, label_integer (label_of v) n t l, refl)
 
 -- a comparison of two integers that are there at once
 pub compares : (op : Infix) (a b : Term) (levels : Levels) (x : ℤ) (t : IntegerType) (y : ℤ) (u : IntegerType) (holds : Bool) → is_comparison op ≡ true →

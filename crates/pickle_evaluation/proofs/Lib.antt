@@ -2,7 +2,6 @@ pub mod Digits
 pub mod Signed
 pub mod Sizes
 pub mod Elements
-pub mod ShownPaths
 pub mod Evaluations
 pub mod Arms
 pub mod Comparisons

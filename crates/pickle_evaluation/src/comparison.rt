@@ -9,8 +9,8 @@ ghost use Rattle.pickle_types.specs.Types.{Name};
 ghost use Rattle.pickle_meaning.specs.Arithmetic.{on_common, on_integers, signed_type, truth};
 ghost use Rattle.pickle_evaluation.specs.Comes.{ComesTo, is_comparison};
 ghost use Rattle.pickle_meaning.specs.Evaluation.{evaluation};
-ghost use Rattle.value_store.specs.Shown.{kept};
 ghost use Rattle.pickle_meaning.specs.Values.{IntegerLabel};
+ghost use Rattle.value_store.specs.Slots.{levels};
 
 use crate::integers::common;
 use pickle_tree::tree::Infix;
@@ -33,7 +33,7 @@ pub struct Typed {
 #[inline(never)]
 pub fn comparison(e: &Resolved, store: &Store) -> Option<bool>
     requires { IsSoundTerm (term_of e.now) }
-    ensures { (nodes : List TableNode) → IfSome result (λ holds. ComesTo (evaluation (term_of e.now) (kept nodes store.now)) (IntegerLabel (if holds then pos 1 else pos 0) (signed_type 32)) 3) }
+    ensures { (nodes : List TableNode) → IfSome result (λ holds. ComesTo (evaluation (term_of e.now) (levels nodes store.now)) (IntegerLabel (if holds then pos 1 else pos 0) (signed_type 32)) 3) }
 {
     let Resolved::Infix(op, a, b) = e else {
         return None;
@@ -66,7 +66,7 @@ fn is_comparison(op: Infix) -> bool
 #[inline(always)]
 pub fn leaf(e: &Resolved, store: &Store) -> Option<Typed>
     requires { IsSoundTerm (term_of e.now) }
-    ensures is { (nodes : List TableNode) → IfSome result (λ n. ComesTo (evaluation (term_of e.now) (kept nodes store.now)) (IntegerLabel n.number n.of) 1) }
+    ensures is { (nodes : List TableNode) → IfSome result (λ n. ComesTo (evaluation (term_of e.now) (levels nodes store.now)) (IntegerLabel n.number n.of) 1) }
     ensures width { IfSome result (λ n. IsWidth n.of × IsSmall n.of.signed n.number) }
 {
     match e {
@@ -82,7 +82,7 @@ pub fn leaf(e: &Resolved, store: &Store) -> Option<Typed>
 /// The integer that a name stands for.
 #[inline(always)]
 fn named(level: usize, place: usize, store: &Store) -> Option<Typed>
-    ensures is { (nodes : List TableNode) → IfSome result (λ n. ComesTo (evaluation (Name level place) (kept nodes store.now)) (IntegerLabel n.number n.of) 1) }
+    ensures is { (nodes : List TableNode) → IfSome result (λ n. ComesTo (evaluation (Name level place) (levels nodes store.now)) (IntegerLabel n.number n.of) 1) }
     ensures width { IfSome result (λ n. IsWidth n.of × IsSmall n.of.signed n.number) }
 {
     let value = match store.part(level, place) {

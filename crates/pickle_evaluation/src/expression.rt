@@ -12,8 +12,8 @@ ghost use Rattle.pickle_meaning.specs.Evaluation.{evaluation, operand_label, lea
 ghost use Rattle.pickle_evaluation.specs.Operands.{Evaluated, IsOperand};
 ghost use Rattle.pickle_evaluation.specs.Comes.{Comes, Seen, computed_operand, IsApplied, infix_part, choice_part, index_part};
 ghost use Rattle.pickle_evaluation.specs.Contents.{IsSoundContent, IsHeld};
-ghost use Rattle.value_store.specs.Shown.{kept};
 ghost use Rattle.value_store.specs.Scalars.{computed_of, IsScalar};
+ghost use Rattle.value_store.specs.Slots.{levels};
 
 use crate::comparison::leaf;
 use crate::content::{Content, combined, in_unit, prefixed, seen, to_integer, to_offset, truth_of};
@@ -24,7 +24,7 @@ use bit_space::{LimitPassed, Meter};
 use pickle_meaning::faults::MapFaultKind;
 use pickle_tree::tree::{Attribute, Infix};
 use pickle_types::integer::IntegerType;
-use pickle_types::view::{Node, Resolved};
+use pickle_types::view::Resolved;
 use value_store::scalar::Scalar;
 use value_store::store::Store;
 use value_store::value::Kind;
@@ -33,7 +33,6 @@ use value_store::value::Kind;
 #[cycle(evaluate)]
 #[inline(never)]
 pub fn evaluate<'a>(
-    table: &[Node],
     e: &'a Resolved,
     store: &'a Store,
     meter: &mut Meter,
@@ -42,7 +41,7 @@ pub fn evaluate<'a>(
     ensures limit { meter.new.limit ≡ meter.old.limit }
     ensures made { meter.new.made ≡ meter.old.made }
     ensures steps { meter.old.steps ≤ meter.new.steps }
-    ensures is { Evaluated table.now meter.old.limit meter.old.steps meter.new.steps result (evaluation (term_of e.now) (kept table.now store.now)) }
+    ensures is { (nodes : List TableNode) → Evaluated nodes meter.old.limit meter.old.steps meter.new.steps result (evaluation (term_of e.now) (levels nodes store.now)) }
     ensures operand { IfOk result IsOperand }
 {
     meter.tick()?;
@@ -56,11 +55,11 @@ pub fn evaluate<'a>(
             Some(value) => Ok(Operand::Value(value)),
             None => Err(Unvalued::Fault(MapFaultKind::Absent)),
         },
-        Resolved::Bracket(e) => evaluate(table, e, store, meter),
-        Resolved::Infix(op, a, b) => { Ok(Operand::Scalar(infix(table, *op, a, b, store, meter)?)) }
-        Resolved::Choice(common, c, x, y) => choice(table, common, c, x, y, store, meter),
-        Resolved::Index(e, i) => index(table, e, i, store, meter),
-        _ => applied(table, e, store, meter),
+        Resolved::Bracket(e) => evaluate(e, store, meter),
+        Resolved::Infix(op, a, b) => { Ok(Operand::Scalar(infix(*op, a, b, store, meter)?)) }
+        Resolved::Choice(common, c, x, y) => choice(common, c, x, y, store, meter),
+        Resolved::Index(e, i) => index(e, i, store, meter),
+        _ => applied(e, store, meter),
     }
 }
 
@@ -68,7 +67,6 @@ pub fn evaluate<'a>(
 #[cycle(evaluate)]
 #[inline(never)]
 fn applied<'a>(
-    table: &[Node],
     e: &'a Resolved,
     store: &'a Store,
     meter: &mut Meter,
@@ -78,32 +76,32 @@ fn applied<'a>(
     ensures limit { meter.new.limit ≡ meter.old.limit }
     ensures made { meter.new.made ≡ meter.old.made }
     ensures steps { meter.old.steps ≤ meter.new.steps }
-    ensures is { (before : ℕ) → meter.old.steps ≡ before + 1 → Evaluated table.now meter.old.limit before meter.new.steps result (evaluation (term_of e.now) (kept table.now store.now)) }
+    ensures is { (nodes : List TableNode) (before : ℕ) → meter.old.steps ≡ before + 1 → Evaluated nodes meter.old.limit before meter.new.steps result (evaluation (term_of e.now) (levels nodes store.now)) }
     ensures operand { IfOk result IsOperand }
 {
     match e {
         Resolved::Prefix(op, e) => {
-            let x = look(table, e, store, meter)?;
+            let x = look(e, store, meter)?;
             Ok(Operand::Scalar(prefixed(*op, x)?))
         }
         Resolved::Select(e, place) => {
-            let x = evaluate(table, e, store, meter)?;
+            let x = evaluate(e, store, meter)?;
             Ok(selected(x, *place)?)
         }
         Resolved::Attribute(attribute, e) => {
-            let x = evaluate(table, e, store, meter)?;
+            let x = evaluate(e, store, meter)?;
             Ok(Operand::Scalar(attribute_of(*attribute, x)?))
         }
         Resolved::ToInteger(number, e) => {
-            let x = look(table, e, store, meter)?;
+            let x = look(e, store, meter)?;
             Ok(Operand::Scalar(to_integer(*number, x)?))
         }
         Resolved::ToOffset(number, unit, e) => {
-            let x = look(table, e, store, meter)?;
+            let x = look(e, store, meter)?;
             Ok(Operand::Scalar(to_offset(*number, *unit, x)?))
         }
         Resolved::InUnit(unit, e) => {
-            let x = look(table, e, store, meter)?;
+            let x = look(e, store, meter)?;
             Ok(Operand::Scalar(in_unit(*unit, x)?))
         }
         // No other expression comes here.
@@ -115,7 +113,6 @@ fn applied<'a>(
 #[cycle(evaluate)]
 #[inline(never)]
 pub fn look<'a>(
-    table: &[Node],
     e: &'a Resolved,
     store: &'a Store,
     meter: &mut Meter,
@@ -124,7 +121,7 @@ pub fn look<'a>(
     ensures limit { meter.new.limit ≡ meter.old.limit }
     ensures made { meter.new.made ≡ meter.old.made }
     ensures steps { meter.old.steps ≤ meter.new.steps }
-    ensures is { Seen meter.old.limit meter.old.steps meter.new.steps result (evaluation (term_of e.now) (kept table.now store.now)) }
+    ensures is { (nodes : List TableNode) → Seen meter.old.limit meter.old.steps meter.new.steps result (evaluation (term_of e.now) (levels nodes store.now)) }
     ensures sound { IfOk result IsSoundContent }
 {
     if let Some(n) = leaf(e, store) {
@@ -134,9 +131,9 @@ pub fn look<'a>(
     match e {
         Resolved::Infix(op, a, b) => {
             meter.tick()?;
-            Ok(Content::Scalar(infix(table, *op, a, b, store, meter)?))
+            Ok(Content::Scalar(infix(*op, a, b, store, meter)?))
         }
-        _ => Ok(seen(evaluate(table, e, store, meter)?)),
+        _ => Ok(seen(evaluate(e, store, meter)?)),
     }
 }
 
@@ -144,7 +141,6 @@ pub fn look<'a>(
 #[cycle(evaluate)]
 #[inline(never)]
 fn infix(
-    table: &[Node],
     op: Infix,
     a: &Resolved,
     b: &Resolved,
@@ -156,14 +152,14 @@ fn infix(
     ensures limit { meter.new.limit ≡ meter.old.limit }
     ensures made { meter.new.made ≡ meter.old.made }
     ensures steps { meter.old.steps ≤ meter.new.steps }
-    ensures is { Evaluated table.now meter.old.limit meter.old.steps meter.new.steps (computed_operand result) (infix_part op (term_of a.now) (term_of b.now) (kept table.now store.now)) }
+    ensures is { (nodes : List TableNode) → Evaluated nodes meter.old.limit meter.old.steps meter.new.steps (computed_operand result) (infix_part op (term_of a.now) (term_of b.now) (levels nodes store.now)) }
     ensures scalar { IfOk result IsScalar }
 {
-    let left = look(table, a, store, meter)?;
+    let left = look(a, store, meter)?;
     if let Some(holds) = settled(op, truth_of(left)) {
         return Ok(truth(holds));
     }
-    let right = look(table, b, store, meter)?;
+    let right = look(b, store, meter)?;
     let literal = literal_length(a) + literal_length(b);
     between(op, literal, left, right, meter)
 }
@@ -172,7 +168,6 @@ fn infix(
 #[cycle(evaluate)]
 #[inline(never)]
 fn choice<'a>(
-    table: &[Node],
     common: &Option<IntegerType>,
     c: &'a Resolved,
     x: &'a Resolved,
@@ -187,14 +182,14 @@ fn choice<'a>(
     ensures limit { meter.new.limit ≡ meter.old.limit }
     ensures made { meter.new.made ≡ meter.old.made }
     ensures steps { meter.old.steps ≤ meter.new.steps }
-    ensures is { Evaluated table.now meter.old.limit meter.old.steps meter.new.steps result (choice_part common.now (term_of c.now) (term_of x.now) (term_of y.now) (kept table.now store.now)) }
+    ensures is { (nodes : List TableNode) → Evaluated nodes meter.old.limit meter.old.steps meter.new.steps result (choice_part common.now (term_of c.now) (term_of x.now) (term_of y.now) (levels nodes store.now)) }
     ensures operand { IfOk result IsOperand }
 {
-    let t = look(table, c, store, meter)?;
+    let t = look(c, store, meter)?;
     if truth_of(t)? {
-        chosen(common, evaluate(table, x, store, meter))
+        chosen(common, evaluate(x, store, meter))
     } else {
-        chosen(common, evaluate(table, y, store, meter))
+        chosen(common, evaluate(y, store, meter))
     }
 }
 
@@ -215,7 +210,6 @@ fn chosen<'a>(
 #[cycle(evaluate)]
 #[inline(never)]
 fn index<'a>(
-    table: &[Node],
     e: &'a Resolved,
     i: &'a Resolved,
     store: &'a Store,
@@ -226,11 +220,11 @@ fn index<'a>(
     ensures limit { meter.new.limit ≡ meter.old.limit }
     ensures made { meter.new.made ≡ meter.old.made }
     ensures steps { meter.old.steps ≤ meter.new.steps }
-    ensures is { Evaluated table.now meter.old.limit meter.old.steps meter.new.steps result (index_part (term_of e.now) (term_of i.now) (kept table.now store.now)) }
+    ensures is { (nodes : List TableNode) → Evaluated nodes meter.old.limit meter.old.steps meter.new.steps result (index_part (term_of e.now) (term_of i.now) (levels nodes store.now)) }
     ensures operand { IfOk result IsOperand }
 {
-    let p = evaluate(table, e, store, meter)?;
-    let n = look(table, i, store, meter)?;
+    let p = evaluate(e, store, meter)?;
+    let n = look(i, store, meter)?;
     Ok(element(p, n)?)
 }
 

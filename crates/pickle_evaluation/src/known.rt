@@ -4,7 +4,7 @@ ghost use Rattle.pickle_types.specs.Sound.{IsSoundTerm};
 ghost use Rattle.pickle_types.specs.Table.{term_of};
 ghost use Rattle.pickle_meaning.specs.Evaluation.{evaluation};
 ghost use Rattle.pickle_evaluation.specs.Known.{KnownOf};
-ghost use Rattle.value_store.specs.Shown.{kept};
+ghost use Rattle.value_store.specs.Slots.{levels};
 
 use crate::expression::evaluate;
 use crate::operand::Operand;
@@ -29,10 +29,10 @@ pub enum Known<'a> {
 /// What an expression comes to on the open values of a store; nothing where it has a fault.
 pub fn known_value<'a>(table: &'a [Node], e: &'a Resolved, store: &'a Store) -> Option<Known<'a>>
     requires { IsSoundTerm (term_of e.now) }
-    ensures { KnownOf result (evaluation (term_of e.now) (kept table.now store.now)) }
+    ensures { KnownOf result (evaluation (term_of e.now) (levels table.now store.now)) }
 {
     let mut meter = Meter::new(u64::MAX);
-    match evaluate(table, e, store, &mut meter) {
+    match evaluate(e, store, &mut meter) {
         Ok(Operand::Scalar(Scalar::Integer(number, of))) => Some(Known::Integer(number, of)),
         Ok(Operand::Scalar(Scalar::Offset(magnitude, of, unit))) => {
             Some(Known::Offset(magnitude, of, unit))

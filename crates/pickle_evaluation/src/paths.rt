@@ -1,9 +1,13 @@
 //! Values at paths.
 
-ghost use Rattle.std.specs.Prelude.{◌≡◌, ℕ, ◌<◌, ◌≤◌, Some, None, Ok, Err, length, IfSome, IfOk};
+ghost use Rattle.std.specs.Prelude.{◌≡◌, List};
 ghost use Rattle.std.specs.Option.{option_map};
 ghost use Rattle.value_store.specs.Refs.{value_of};
-ghost use Rattle.pickle_evaluation.specs.Operands.{tree_selected, tree_element, found_value};
+ghost use Rattle.pickle_types.specs.declared.integer.IntegerType.{IntegerType};
+ghost use Rattle.pickle_types.specs.declared.table.Node.{Node};
+ghost use Rattle.pickle_meaning.specs.Evaluation.{AtPath, selected, element};
+ghost use Rattle.pickle_meaning.specs.Values.{IntegerLabel};
+ghost use Rattle.pickle_evaluation.specs.Operands.{found_value};
 
 use pickle_meaning::faults::MapFaultKind;
 use value_store::scalar::Scalar;
@@ -12,7 +16,7 @@ use value_store::value::Kind;
 
 /// The field of a struct, or the alternative of a union if it was taken.
 pub fn selected(value: StoredValue<'_>, place: usize) -> Option<StoredValue<'_>>
-    ensures { option_map value_of result ≡ tree_selected (value_of value.entry) place }
+    ensures { (nodes : List Node) → option_map (value_of nodes) result ≡ selected (AtPath (value_of nodes value.entry)) place }
 {
     match value.kind() {
         Kind::Struct => value.child(place),
@@ -24,10 +28,9 @@ pub fn selected(value: StoredValue<'_>, place: usize) -> Option<StoredValue<'_>>
     }
 }
 
-#[tactic(auto, using(crate::proofs::Elements::element_before, crate::proofs::Elements::element_behind))]
 /// The element of an array, by an index that is not negative and below the count.
 pub fn element(value: StoredValue<'_>, index: i128) -> Result<StoredValue<'_>, MapFaultKind>
-    ensures { found_value result ≡ tree_element (value_of value.entry) index }
+    ensures { (nodes : List Node) (type : IntegerType) → found_value nodes result ≡ element (AtPath (value_of nodes value.entry)) (IntegerLabel index type) }
 {
     if !matches!(value.kind(), Kind::Array) {
         return Err(MapFaultKind::Absent);

@@ -14,7 +14,7 @@ use Rattle.pickle_types.specs.Types.{PokeType, StructOf, IntegralOf, UnionOf, de
 use Rattle.pickle_types.specs.Table.{open_shape, open_fields, open_parts, type_of, FieldsBelow, PartsBelow, NamesBelow, IsSoundField, IsSoundPart, IsSoundShape, IsTable}
 use Rattle.pickle_types.proofs.Tables.{opens}
 use Rattle.pickle_meaning.specs.Means.{field_names, part_names}
-use Rattle.value_store.specs.Shown.{field_name, part_name, shape_title, shape_names, found_title, found_names, title_at, names_at}
+use Rattle.value_store.specs.Names.{field_name, part_name, shape_title, shape_names, found_title, found_names, title_at, names_at}
 use Rattle.pickle_map.specs.Mappable.{IsFieldOf, IsPartOf}
 
 module _ (nodes : List Node) (table : IsTable nodes) (at : ℕ) (inside : at < length nodes) (other : Node) (s : Shape) (is : (get_or nodes at other).shape ≡ s) where

@@ -6,7 +6,6 @@ use Rattle.bit_space.specs.Bits.{bits_of}
 use Rattle.bit_space.specs.SpaceView.{SpaceView, IsWhole}
 use Rattle.bit_space.proofs.Digits.{length-bits_of}
 use Rattle.pickle_types.specs.declared.table.Node.{Node}
-use Rattle.value_store.specs.Shown.{shown_levels, kept}
 use Rattle.value_store.specs.Slots.{Held, levels, emptied}
 use Rattle.value_store.proofs.Held.{none-open}
 use Rattle.pickle_types.specs.Types.{PokeType}
@@ -111,9 +110,8 @@ module _ {world : World} {limit : ℕ} (bits : List ℕ) (ty : PokeType) (order 
   told_means Memory h = followed_part bits ty order s known within h
 
 -- an empty store keeps no values
-pub none_kept : (nodes : List Node) (store : Held) → store ≡ emptied store → kept nodes store ≡ no_values
-unfolding kept
-none_kept nodes store e = ap (shown_levels nodes) (ap levels e ∙ none-open store.room store.capacity)
+pub none_kept : (nodes : List Node) (store : Held) → store ≡ emptied store → levels nodes store ≡ no_values
+none_kept nodes store e = ap (levels nodes) e ∙ none-open nodes store.room store.capacity
 
 -- a plan on so many bits as known bytes have
 pub in_bits : {A : Type 0} (P : ℕ → A → Type 0) (a : A) (space : SpaceView) (bytes : List ℕ) → IsWhole space → space.bytes ≡ Some bytes → P (8 * space.len) a → P (length (bits_of bytes)) a

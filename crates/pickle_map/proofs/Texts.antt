@@ -1,27 +1,20 @@
 -- Calls that follow the plan of a string.
-use Rattle.std.proofs.Common.{◌≡◌, ℕ, zero, suc, inl, inr, true, false, ◌+◌, ◌-◌, ◌*◌, ◌^◌, ◌<◌, ◌≤◌, List, [], ◌∷◌, ◌++◌, Option, Some, Ok, length, option_map, refl, sym, ap, subst, ◌∙◌, arith}
-use Rattle.std.proofs.lemmas.Bool.{false≢true, cases_lt}
+use Rattle.std.proofs.Common.{◌≡◌, ℕ, zero, suc, inl, inr, ◌+◌, ◌-◌, ◌*◌, ◌^◌, ◌<◌, ◌≤◌, List, [], ◌∷◌, ◌++◌, Option, Some, Ok, option_map, refl, subst, arith}
+use Rattle.std.proofs.lemmas.Bool.{cases_lt}
 use Rattle.bit_space.specs.declared.order.Order.TheVariants.{Big}
 use Rattle.bit_space.specs.Bits.{bits_of}
 use Rattle.bit_space.specs.SpaceView.{SpaceView, HasRisen}
 use Rattle.bit_space.specs.Reading.{MayRead}
-use Rattle.pickle_types.specs.declared.table.Node.{Node}
 use Rattle.value_store.specs.declared.store.room.Room.{Room}
 use Rattle.pickle_map.specs.declared.mapper.stop.Stop.{Stop}
-use Rattle.pickle_meaning.specs.Values.{Levels, pushed, outer_of, text_value, text_level}
-use Rattle.value_store.specs.Levels as stored
-use Rattle.value_store.specs.Tree as tree
-use Rattle.value_store.specs.Slots.{Held, levels, IsWriting}
+use Rattle.pickle_meaning.specs.Values.{Levels, pushed, text_value, text_level}
 use Rattle.pickle_map.specs.Framed.{ReadStops}
 use Rattle.pickle_map.specs.Follows.{World, Done, NoRoom, Partly, Follows}
 use Rattle.mapping_plans.specs.Mapping.{text_plan, after_byte}
 use Rattle.value_store.specs.Exceeding.{Exceeds}
-use Rattle.value_store.specs.Shown.{shown_levels, kept}
 use Rattle.pickle_map.specs.Stops.{stop_finish}
 use Rattle.pickle_map.proofs.Placing.{read_stops, read_goes}
-use Rattle.value_store.proofs.ShownLevels.{shown_pushed, shown_outer, exceeds}
 use Rattle.pickle_map.proofs.Walks.{follow_done, follow_here, follow_made, follow_no_room}
-use Rattle.value_store.proofs.Writing.{writing-outer}
 
 module _ {world : World} {limit : ℕ} (m n : ℕ) (bytes : List ℕ) (outer : Levels) (s place : ℕ) {k j k1 j1 : ℕ} (left : m < place + 8 * n) (inside : place ≤ m) where
   pub text_stops : (before after : SpaceView) {limit' : ℕ} (stop : Stop) → limit' ≡ limit → m ≡ 8 * before.len → ReadStops stop s (place + 8) before after limit' k k1 → j1 ≡ j →
@@ -69,24 +62,6 @@ module _ {world : World} {limit : ℕ} (m n : ℕ) (bytes : List ℕ) (outer : L
         by_byte b may some zero left = absurd (omega arith)
         by_byte zero may some (suc n) left = absurd (some refl)
         by_byte (suc b) may some (suc n) left = (n, omega arith, read_goes m s place 8 Big _ (suc b) el ek ej fits may (follow_made {limit' = limit1} refl ek2 ej2 follow_here))
-
-module _ (nodes : List Node) (store : Held) (bytes : List ℕ) (start : ℕ) (outer : stored.Levels) where
-  -- the levels around a text under way
-  pub around_text : IsWriting store bytes start outer → outer_of (kept nodes store) ≡ shown_levels nodes outer
-  unfolding kept
-  around_text w = sym (shown_outer nodes (levels store)) ∙ ap (shown_levels nodes) (writing-outer store bytes start outer w)
-
-  -- a text that doesn't go into the levels around it
-  pub not_closed : (room : Room) → (stored.FitsIn room (stored.pushed outer (Some (tree.text_value bytes start))) → false ≡ true) → Exceeds room (pushed (shown_levels nodes outer) (Some (text_value bytes start (start + 8 * (length bytes + 1)))))
-  not_closed room h = subst (Exceeds room) (shown_pushed nodes outer (Some (tree.text_value bytes start))) (exceeds nodes room (stored.pushed outer (Some (tree.text_value bytes start))) (λ fits. false≢true (h fits)))
-
-  -- a text that doesn't take a byte more
-  pub not_longer : (room : Room) → (stored.FitsIn room (stored.text_level bytes start outer) → false ≡ true) → Exceeds room (text_level bytes start (shown_levels nodes outer))
-  not_longer room h = exceeds nodes room (stored.text_level bytes start outer) (λ fits. false≢true (h fits))
-
-  pub keeps_text : levels store ≡ stored.pushed outer (Some (tree.text_value bytes start)) → kept nodes store ≡ pushed (shown_levels nodes outer) (Some (text_value bytes start (start + 8 * (length bytes + 1))))
-  unfolding kept
-  keeps_text e = ap (shown_levels nodes) e ∙ shown_pushed nodes outer (Some (tree.text_value bytes start))
 
 -- a read that gives what the same bytes give
 pub may_same : (bytes bytes' : Option (List ℕ)) (place n : ℕ) → bytes' ≡ bytes → MayRead (option_map bits_of bytes') Big place 8 n → MayRead (option_map bits_of bytes) Big place 8 n

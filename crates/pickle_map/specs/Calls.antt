@@ -23,10 +23,9 @@ use Rattle.mapping_plans.specs.Plan.{Plan, Tick, then_ok}
 use Rattle.mapping_plans.specs.Mapping.{plan, read_plan, number_plan, digits_plan, text_plan, fields_plan, elements_plan, alternatives_plan, constrained, closes, array_closes, struct_closes, union_closes}
 use Rattle.pickle_map.specs.Follows.{Done}
 use Rattle.pickle_map.specs.Framed.{world_of, KeepsOne, Runs, Works}
-use Rattle.value_store.specs.Levels as stored
 use Rattle.pickle_map.specs.Row.{Packs}
 use Rattle.value_store.specs.Slots.{Held, levels}
-use Rattle.value_store.specs.Shown.{kept, title_at, part_name}
+use Rattle.value_store.specs.Names.{title_at, part_name}
 use Rattle.pickle_map.specs.Stops.{stop_finish}
 
 -- ---- what a call is to do
@@ -98,29 +97,29 @@ as_union_level at alternatives order start = λ nodes m levels.
 module _ (nodes : List Node) (space : SpaceView) (meter meter' : Meter) (store store' : Held) where
   -- it kept one more value in these levels, or stopped
   abbrev pub MapsIn : Levels → Plan (Result Value FaultAt) → Result ℕ Stop → Type 0
-  MapsIn levels p (Ok end) = KeepsOne (world_of space store) meter.limit p meter.steps meter.made meter'.steps meter'.made levels (kept nodes store') end
-  MapsIn levels p (Err stop) = Runs space meter meter' store p (stop_finish stop)
+  MapsIn before p (Ok end) = KeepsOne (world_of space store) meter.limit p meter.steps meter.made meter'.steps meter'.made before (levels nodes store') end
+  MapsIn before p (Err stop) = Runs space meter meter' store p (stop_finish stop)
 
   -- it kept one more value in the innermost level
   abbrev pub Maps : Planned Value → Result ℕ Stop → Type 0
-  Maps planned result = MapsIn (kept nodes store) (planned nodes (8 * space.len) (kept nodes store)) result
+  Maps planned result = MapsIn (levels nodes store) (planned nodes (8 * space.len) (levels nodes store)) result
 
   -- it closed the innermost level as a value
   abbrev pub Closes : Planned Value → Result ℕ Stop → Type 0
-  Closes planned result = MapsIn (outer_of (kept nodes store)) (planned nodes (8 * space.len) (kept nodes store)) result
+  Closes planned result = MapsIn (outer_of (levels nodes store)) (planned nodes (8 * space.len) (levels nodes store)) result
 
   -- it kept parts of the innermost level, which end at a bit
   abbrev pub FillsBy : Plan (Result Opened FaultAt) → Result ℕ Stop → Type 0
-  FillsBy p (Ok end) = Runs space meter meter' store p (Done (Ok (kept nodes store', end)))
+  FillsBy p (Ok end) = Runs space meter meter' store p (Done (Ok (levels nodes store', end)))
   FillsBy p (Err stop) = Runs space meter meter' store p (stop_finish stop)
 
   abbrev pub Fills : Planned Opened → Result ℕ Stop → Type 0
-  Fills planned result = FillsBy (planned nodes (8 * space.len) (kept nodes store)) result
+  Fills planned result = FillsBy (planned nodes (8 * space.len) (levels nodes store)) result
 
   -- it kept the alternative of that number, which ends at `end`, of those with these names
   pub record TakesOne (names : List Naming) (p : Plan (Result Taken FaultAt)) (index end : ℕ) : Type 0 where
     pub value : Value
-    pub keeps : kept nodes store' ≡ pushed (kept nodes store) (Some value)
+    pub keeps : levels nodes store' ≡ pushed (levels nodes store) (Some value)
     pub ends : end_of value ≡ end
     pub follows : Runs space meter meter' store p (Done (Ok (record { index = index; name = unwrap_or (slice_get names index) None; value = value })))
 
@@ -131,16 +130,16 @@ module _ (nodes : List Node) (space : SpaceView) (meter meter' : Meter) (store s
   -- it kept one of these alternatives
   abbrev pub Takes : List Part → Order → (start : ℕ) → Result (ℕ × ℕ) Stop → Type 0
   Takes alternatives order start result =
-      TakesBy (map part_name alternatives) (as_alternatives alternatives order start nodes (8 * space.len) (kept nodes store)) result
+      TakesBy (map part_name alternatives) (as_alternatives alternatives order start nodes (8 * space.len) (levels nodes store)) result
 
   -- it packed the elements of an array in the innermost level, which end at a bit
   abbrev pub PacksBy : Shape → (start : ℕ) → Plan (Result Opened FaultAt) → Result ℕ Stop → Type 0
-  PacksBy shape start p (Ok end) = Packs nodes space meter meter' store store' shape start (stored.outer_of (levels store)) p end
+  PacksBy shape start p (Ok end) = Packs nodes space meter meter' store store' shape start (outer_of (levels nodes store)) p end
   PacksBy shape start p (Err stop) = Runs space meter meter' store p (stop_finish stop)
 
   abbrev pub PacksRow : Shape → (element : ℕ) → Extent → Order → (start : ℕ) → Result ℕ Stop → Type 0
   PacksRow shape element extent order start result =
-      PacksBy shape start (as_elements element extent order start nodes (8 * space.len) (kept nodes store)) result
+      PacksBy shape start (as_elements element extent order start nodes (8 * space.len) (levels nodes store)) result
 
 -- ---- what a call did with a number that was read
 
@@ -151,35 +150,35 @@ integral_at nodes at number fields = IntegralOf (title_at nodes at) number (open
 module _ (nodes : List Node) (meter meter' : Meter) (store store' : Held) where
   -- it kept one more value in these levels, which ends at `end`, or stopped
   abbrev pub PlacesIn : Levels → Plan (Result Value FaultAt) → (end : ℕ) → Result (Unit {0}) Stop → Type 0
-  PlacesIn levels p end (Ok u) =
-      (known : Option (List ℕ)) → KeepsOne (record { known = known; room = store.room }) meter.limit p meter.steps meter.made meter'.steps meter'.made levels (kept nodes store') end
-  PlacesIn levels p end (Err stop) = Works meter meter' store p (stop_finish stop)
+  PlacesIn before p end (Ok u) =
+      (known : Option (List ℕ)) → KeepsOne (record { known = known; room = store.room }) meter.limit p meter.steps meter.made meter'.steps meter'.made before (levels nodes store') end
+  PlacesIn before p end (Err stop) = Works meter meter' store p (stop_finish stop)
 
   -- it kept the number as a value of a type, after its own first step
   abbrev pub Places : PokeType → (digits start : ℕ) → Result (Unit {0}) Stop → Type 0
   Places ty digits start result =
-      PlacesIn (kept nodes store) (number_plan ty digits (kept nodes store) start) (start + width_in (number_type ty)) result
+      PlacesIn (levels nodes store) (number_plan ty digits (levels nodes store) start) (start + width_in (number_type ty)) result
 
   -- it kept the fields of an integral struct in the innermost level, and closed that
   abbrev pub PlacesLevel : (at : ℕ) → IntegerType → List Part → (digits start : ℕ) → Result (Unit {0}) Stop → Type 0
   PlacesLevel at number fields digits start result =
-      PlacesIn (outer_of (kept nodes store))
-      (then_ok (digits_plan (open_parts (type_of nodes) fields) digits number.width (kept nodes store) start)
+      PlacesIn (outer_of (levels nodes store))
+      (then_ok (digits_plan (open_parts (type_of nodes) fields) digits number.width (levels nodes store) start)
       (closes (struct_value (title_at nodes at) (part_names (open_parts (type_of nodes) fields)) start (start + number.width))))
       (start + number.width) result
 
   -- it kept a field of an integral struct, whose constraint holds
   abbrev pub PlacesPart : Part → (digits start : ℕ) → Result (Unit {0}) Stop → Type 0
   PlacesPart part digits start result =
-      PlacesIn (kept nodes store)
-      (then_ok (Tick (number_plan (type_of nodes part.node) digits (kept nodes store) start)) (constrained (optional_term part.constraint) (kept nodes store) start))
+      PlacesIn (levels nodes store)
+      (then_ok (Tick (number_plan (type_of nodes part.node) digits (levels nodes store) start)) (constrained (optional_term part.constraint) (levels nodes store) start))
       (start + width_in (number_type (type_of nodes part.node))) result
 
   -- it kept the fields that a number of that width is cut into
   abbrev pub PlacesBy : Plan (Result Levels FaultAt) → Result (Unit {0}) Stop → Type 0
-  PlacesBy p (Ok u) = Works meter meter' store p (Done (Ok (kept nodes store')))
+  PlacesBy p (Ok u) = Works meter meter' store p (Done (Ok (levels nodes store')))
   PlacesBy p (Err stop) = Works meter meter' store p (stop_finish stop)
 
   abbrev pub PlacesFields : List Part → (digits width start : ℕ) → Result (Unit {0}) Stop → Type 0
   PlacesFields fields digits width start result =
-      PlacesBy (digits_plan (open_parts (type_of nodes) fields) digits width (kept nodes store) start) result
+      PlacesBy (digits_plan (open_parts (type_of nodes) fields) digits width (levels nodes store) start) result

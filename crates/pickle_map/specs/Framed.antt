@@ -1,5 +1,5 @@
 -- What each call of a mapping leaves as it was, what may only rise, and what it is to have followed a plan.
-use Rattle.std.specs.Prelude.{◌≡◌, ℕ, ◌+◌, ◌*◌, ◌<◌, ◌≤◌, length, List, Option, Some, Result, Ok, Err}
+use Rattle.std.specs.Prelude.{◌≡◌, ℕ, ◌+◌, ◌*◌, ◌<◌, ◌≤◌, List, Option, Some, Result, Ok, Err}
 use Rattle.bit_space.specs.declared.meter.Meter.{Meter}
 use Rattle.bit_space.specs.declared.number.BitFault.{BitFault}
 use Rattle.bit_space.specs.declared.number.BitFault.TheVariants as refused
@@ -13,8 +13,7 @@ use Rattle.pickle_meaning.specs.Values.{Value, end_of, Levels, pushed, outer_of}
 use Rattle.pickle_meaning.specs.Clauses.{FaultAt}
 use Rattle.mapping_plans.specs.Plan.{Plan}
 use Rattle.pickle_map.specs.Follows.{World, Finish, Done, Follows}
-use Rattle.value_store.specs.Slots.{Held, KeepsRoom, levels}
-use Rattle.value_store.specs.Shown.{kept}
+use Rattle.value_store.specs.Slots.{Held, KeepsRoom, levels, level_count}
 
 -- What every call leaves: the meter's limit, the room that the store has, the bytes of the space, and a count of failures that never falls.
 -- It makes no more values than it takes steps, with those taken ahead of it for which no value is made yet.
@@ -42,12 +41,12 @@ DeviceFailed before after stop = stop ≡ Device → HasRisen before.failures af
 
 -- a stop leaves the levels as many, and those around the innermost one as they were
 pub record LevelStays (nodes : List Node) (store store' : Held) : Type 0 where
-  pub outer : outer_of (kept nodes store') ≡ outer_of (kept nodes store)
-  pub depth : length (levels store') ≡ length (levels store)
+  pub outer : outer_of (levels nodes store') ≡ outer_of (levels nodes store)
+  pub depth : level_count store' ≡ level_count store
 
 -- a call closes the innermost level, or stops in it
 abbrev pub LeavesLevel : {A : Type 0} → List Node → (store store' : Held) → Result A Stop → Type 0
-LeavesLevel nodes store store' (Ok x) = length (levels store') + 1 ≡ length (levels store)
+LeavesLevel nodes store store' (Ok x) = level_count store' + 1 ≡ level_count store
 LeavesLevel nodes store store' (Err stop) = LevelStays nodes store store'
 
 -- the bits of a space, and the room of a store

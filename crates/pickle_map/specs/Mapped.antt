@@ -20,15 +20,14 @@ use Rattle.pickle_map.specs.Follows.{Broken, NoRoom}
 use Rattle.pickle_map.specs.Framed.{Runs}
 use Rattle.mapping_plans.specs.Mapping.{plan}
 use Rattle.mapping_plans.specs.Plan.{Plan}
-use Rattle.value_store.specs.Shown.{kept}
 use Rattle.value_store.specs.declared.store.room.Growth.TheVariants.{Never}
-use Rattle.value_store.specs.Slots.{Held, emptied, HoldsInRoom, KeepsRoom}
+use Rattle.value_store.specs.Slots.{Held, emptied, HoldsInRoom, KeepsRoom, levels}
 use Rattle.pickle_meaning.specs.Values.{Value, no_values, pushed}
 
 -- a store that holds one value, with the names of a table, and a fact of that value
 pub record Gives (nodes : List Node) (store : Held) (P : Value → Type 0) : Type 0 where
   pub value : Value
-  pub keeps : kept nodes store ≡ pushed no_values (Some value)
+  pub keeps : levels nodes store ≡ pushed no_values (Some value)
   pub holds : P value
 
 -- a stop, as the fault of a mapping that began at s: what ends a run is told there
@@ -83,7 +82,7 @@ pub record IsMapped (nodes : List Node) (type : PokeType) (order : Order) (start
   pub holds : HoldsInRoom store'
   pub room : KeepsRoom store store'
   -- What a store that never grows holds at most.
-  pub held : OnOk result (store.room.growth ≡ Never → (kind : Slot) → slots kind (kept nodes store') ≤ store.room.least)
+  pub held : OnOk result (store.room.growth ≡ Never → (kind : Slot) → slots kind (levels nodes store') ≤ store.room.least)
   pub most : meter'.limit ≡ meter.limit
   pub len : space'.len ≡ space.len
   pub bytes : space'.bytes ≡ space.bytes

@@ -10,10 +10,8 @@ use Rattle.value_store.specs.declared.store.slots.Shape.TheVariants.{Integer, Of
 use Rattle.pickle_meaning.specs.Clauses.{FaultAt}
 use Rattle.pickle_map.specs.Framed.{Runs}
 use Rattle.pickle_map.specs.Follows.{Done}
-use Rattle.value_store.specs.Levels as stored
 use Rattle.pickle_meaning.specs.Means.{Opened}
 use Rattle.mapping_plans.specs.Plan.{Plan}
-use Rattle.value_store.specs.Shown.{shown_level, shown_levels}
 use Rattle.value_store.specs.Slots.{Held, IsPacked, IsPacking, elements, element_width, packs}
 use Rattle.pickle_meaning.specs.Values.{Levels}
 
@@ -35,12 +33,12 @@ pub record PacksAs (shape : Shape) (ty : PokeType) (room : Room) : Type 0 where
   pub packs : packs room ≡ true
 
 -- the levels in which these elements stand, from the bit `start` on, inside others
-abbrev pub row_levels : List Node → Shape → List ℕ → (start : ℕ) → stored.Levels → Levels
-row_levels nodes shape numbers start outer = shown_level nodes (elements shape start numbers) ∷ shown_levels nodes outer
+abbrev pub row_levels : Shape → List ℕ → (start : ℕ) → Levels → Levels
+row_levels shape numbers start outer = elements shape start numbers ∷ outer
 
 -- an array of packed numbers whose elements are mapped, by the plan of its elements
-pub record Packs (nodes : List Node) (space : SpaceView) (meter meter' : Meter) (store store' : Held) (shape : Shape) (start : ℕ) (outer : stored.Levels) (p : Plan (Result Opened FaultAt)) (end : ℕ) : Type 0 where
+pub record Packs (nodes : List Node) (space : SpaceView) (meter meter' : Meter) (store store' : Held) (shape : Shape) (start : ℕ) (outer : Levels) (p : Plan (Result Opened FaultAt)) (end : ℕ) : Type 0 where
   pub numbers : List ℕ
-  pub packing : IsPacking store' shape numbers start outer
+  pub packing : IsPacking nodes store' shape numbers start outer
   pub ends : end ≡ start + element_width shape * length numbers
-  pub runs : Runs space meter meter' store p (Done (Ok (row_levels nodes shape numbers start outer, end)))
+  pub runs : Runs space meter meter' store p (Done (Ok (row_levels shape numbers start outer, end)))

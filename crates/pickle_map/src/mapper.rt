@@ -10,14 +10,12 @@ ghost use Rattle.pickle_meaning.specs.Fits.{Fits};
 ghost use Rattle.mapping_plans.specs.Mapping.{plan};
 ghost use Rattle.pickle_map.specs.Mapped.{Gives, FaultMeans, CountsToThere, EndsRun, IsMapped, told};
 ghost use Rattle.pickle_meaning.specs.Room.{Slot, NodeSlot, ByteSlot, value_slots, slots};
-ghost use Rattle.value_store.specs.Shown.{kept};
 ghost use Rattle.value_store.specs.declared.store.room.Growth.TheVariants.{Never};
-ghost use Rattle.value_store.specs.Slots.{emptied, HoldsInRoom, KeepsRoom};
+ghost use Rattle.value_store.specs.Slots.{emptied, HoldsInRoom, KeepsRoom, levels};
 ghost use Rattle.pickle_meaning.specs.Values.{no_values};
 
 pub(crate) mod blame;
 pub mod clauses;
-pub mod keep;
 pub mod number;
 pub mod read;
 pub(crate) mod row;
@@ -72,7 +70,7 @@ pub fn map<S: Space>(
     ensures holds { HoldsInRoom store.new }
     ensures room { KeepsRoom store.old store.new }
     // What a store that never grows holds at most.
-    ensures held { OnOk result (store.old.room.growth ≡ Never → (kind : Slot) → slots kind (kept (nodes_of table.now) store.new) ≤ store.old.room.least) }
+    ensures held { OnOk result (store.old.room.growth ≡ Never → (kind : Slot) → slots kind (levels (nodes_of table.now) store.new) ≤ store.old.room.least) }
     ensures most { meter.new.limit ≡ meter.old.limit }
     ensures len { (S.view space.new).len ≡ (S.view space.old).len }
     ensures bytes { (S.view space.new).bytes ≡ (S.view space.old).bytes }

@@ -12,8 +12,7 @@ use Rattle.pickle_types.specs.Types.{PokeType}
 use Rattle.pickle_meaning.specs.Answer.{Answer}
 use Rattle.pickle_meaning.specs.Clauses.{FaultAt}
 use Rattle.pickle_map.specs.Mapped.{FaultMeans, EndsRun, Gives}
-use Rattle.value_store.specs.Shown.{kept}
-use Rattle.value_store.specs.Slots.{Held}
+use Rattle.value_store.specs.Slots.{Held, levels}
 use Rattle.pickle_meaning.specs.Values.{Value, value_at}
 use Rattle.pickle_meaning.specs.declared.faults.MapFaultKind.{MapFaultKind}
 use Rattle.pickle_meaning.specs.declared.faults.MapFaultKind.TheVariants as fault
@@ -79,14 +78,14 @@ fault_says pickle ask before after type at most used taken k j fault.Device same
 fault_says pickle ask before after type at most used taken k j fault.Memory same none a means over place risen = no_memory
 
 -- the value that a store gives, as the value that is shown at its root
-pub root_given : {nodes : List Node} {store : Held} {P : Value → Type 0} (g : Gives nodes store P) → value_at (kept nodes store) 0 0 ≡ Some g.value
+pub root_given : {nodes : List Node} {store : Held} {P : Value → Type 0} (g : Gives nodes store P) → value_at (levels nodes store) 0 0 ≡ Some g.value
 root_given g = ap (λ levels. value_at levels 0 0) g.keeps
 
 -- the answer that a mapping has by its value
 pub value_answers : (type : PokeType) (order : Order) (start limit most used k j : ℕ) (known : Option (List ℕ)) (nodes : List Node) (store : Held) (v : Value)
     → most ≡ limit → used ≡ 0
     → ((bytes : List ℕ) → known ≡ Some bytes → Gives nodes store (λ v. Answer (bits_of bytes) type order start (most - used) (Ok v) k j))
-    → value_at (kept nodes store) 0 0 ≡ Some v
+    → value_at (levels nodes store) 0 0 ≡ Some v
     → (bytes : List ℕ) → known ≡ Some bytes → HasAnswer bytes type order start limit (Ok v)
 value_answers type order start limit most used k j known nodes store v same none means root bytes is =
     let m = means bytes is in

@@ -4,12 +4,12 @@ ghost use Rattle.std.specs.Prelude.{◌≡◌, ℕ, ◌*◌, ◌≤◌, List, So
 ghost use Rattle.std.specs.Io.KnownBytes.{Appends};
 ghost use Rattle.bit_space.specs.SpaceView.{Keeps};
 ghost use Rattle.pickle_types.specs.TypeTable.{nodes_of, type_named, IsInTable};
-ghost use Rattle.value_store.specs.Shown.{kept};
 ghost use Rattle.pickle_meaning.specs.Values.{Value, value_at, start_of, end_of};
 ghost use Rattle.run_parts.specs.Told.{Says, IsSaid};
 ghost use Rattle.poke_batch.specs.Runs.{ChecksAs, BoundsAs, IsAsked, MapsAs, types_text};
 ghost use Rattle.poke_batch.specs.RunsUnder.{MapsUnder, IsStoreOf, end_saying, fixed_saying, SaysIt, value_saying};
 ghost use Rattle.text_forms.specs.Written.{AppendsPart};
+ghost use Rattle.value_store.specs.Slots.{levels};
 
 use crate::tell_value::tell_value;
 use bit_space::{Memory, Meter, Space};
@@ -219,10 +219,10 @@ fn tell_root<O: Write, E: Write>(
     out: &mut O,
     err: &mut E,
 ) -> Status
-    requires held { IsSome (value_at (kept (nodes_of table.now) store.now) 0 0) }
-    requires forward { (value : Value) → value_at (kept (nodes_of table.now) store.now) 0 0 ≡ Some value
+    requires held { IsSome (value_at (levels (nodes_of table.now) store.now) 0 0) }
+    requires forward { (value : Value) → value_at (levels (nodes_of table.now) store.now) 0 0 ≡ Some value
         → start_of value ≤ end_of value }
-    ensures { (value : Value) → value_at (kept (nodes_of table.now) store.now) 0 0 ≡ Some value
+    ensures { (value : Value) → value_at (levels (nodes_of table.now) store.now) 0 0 ≡ Some value
         → Says (SaysIt (value_saying ask.now terms.now (8 * bytes) value)) result
         (O.contents out.old) (O.contents out.new) (E.contents err.old) (E.contents err.new) }
 {

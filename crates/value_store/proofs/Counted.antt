@@ -3,41 +3,42 @@ use Rattle.std.proofs.Common.{◌≡◌, ◌+◌, ◌≤◌, List, [], ◌∷◌
 use Rattle.std.proofs.lemmas.List.{append-nil, length-take, drop-append-le, drop_at, take_all, take-take, take-append-drop}
 use Rattle.value_store.specs.declared.store.room.Room.{Room}
 use Rattle.value_store.specs.declared.store.slots.Marks.{Marks}
-use Rattle.value_store.specs.Tree.{Value, parts_of}
-use Rattle.value_store.specs.Levels.{extended, nodes_in_parts, links_in_parts, bytes_in_parts, level_nodes, level_links, level_bytes}
+use Rattle.pickle_meaning.specs.Room.{Slot, NodeSlot, LinkSlot, PendingSlot, ByteSlot, value_slots, members_slots, place_slots, level_slots}
+use Rattle.pickle_meaning.specs.Values.{Value, Mapped, Members, NoMembers, MemberThen, AbsentThen, gathered, member_count}
+use Rattle.value_store.specs.Levels.{extended}
+use Rattle.value_store.specs.Names.{Names}
 use Rattle.value_store.specs.Slots.{Slots, stack, IsSound, cut_to, marks_of, root_marks, IsWithin, level_of, IsLevel, AreLevels, levels_at, Adds}
 use Rattle.value_store.proofs.Grown.{length-stack, stack-cut}
 
-pub level_nodes-append : (xs ys : List (Option Value)) → level_nodes (xs ++ ys) ≡ level_nodes xs + level_nodes ys
-level_nodes-append [] ys = sym (zero-add (level_nodes ys))
-level_nodes-append (None ∷ xs) ys = level_nodes-append xs ys
-level_nodes-append (Some v ∷ xs) ys = omega (arith, level_nodes-append xs ys)
+pub level_slots-append : (kind : Slot) (xs ys : List (Option Value)) → level_slots kind (xs ++ ys) ≡ level_slots kind xs + level_slots kind ys
+level_slots-append kind [] ys = sym (zero-add (level_slots kind ys))
+level_slots-append kind (v ∷ xs) ys = omega (arith, level_slots-append kind xs ys)
 
-pub level_links-append : (xs ys : List (Option Value)) → level_links (xs ++ ys) ≡ level_links xs + level_links ys
-level_links-append [] ys = sym (zero-add (level_links ys))
-level_links-append (None ∷ xs) ys = level_links-append xs ys
-level_links-append (Some v ∷ xs) ys = omega (arith, level_links-append xs ys)
+-- what the members of a value take, where their places take none
+pub members_slots-of : (kind : Slot) (os : List (Option Value)) → place_slots kind ≡ 0 → members_slots kind (gathered os) ≡ level_slots kind os
+members_slots-of kind [] e = refl
+members_slots-of kind (None ∷ os) e = omega (arith, e, members_slots-of kind os e)
+members_slots-of kind (Some v ∷ os) e = omega (arith, e, members_slots-of kind os e)
 
-pub level_bytes-append : (xs ys : List (Option Value)) → level_bytes (xs ++ ys) ≡ level_bytes xs + level_bytes ys
-level_bytes-append [] ys = sym (zero-add (level_bytes ys))
-level_bytes-append (None ∷ xs) ys = level_bytes-append xs ys
-level_bytes-append (Some v ∷ xs) ys = omega (arith, level_bytes-append xs ys)
+pub member_count-of : (os : List (Option Value)) → member_count (gathered os) ≡ length os
+member_count-of [] = refl
+member_count-of (None ∷ os) = omega (arith, member_count-of os)
+member_count-of (Some v ∷ os) = omega (arith, member_count-of os)
 
--- what the parts of a value take, its links to them included
-pub nodes_in_parts-of : (os : List (Option Value)) → nodes_in_parts (parts_of os) ≡ level_nodes os
-nodes_in_parts-of [] = refl
-nodes_in_parts-of (None ∷ os) = nodes_in_parts-of os
-nodes_in_parts-of (Some v ∷ os) = omega (arith, nodes_in_parts-of os)
+-- a value has no pending children
+mutual
+  value_pending : (v : Value) → value_slots PendingSlot v ≡ 0
+  value_pending (Mapped label start end members) = omega (arith, members_pending members)
 
-pub links_in_parts-of : (os : List (Option Value)) → links_in_parts (parts_of os) ≡ length os + level_links os
-links_in_parts-of [] = refl
-links_in_parts-of (None ∷ os) = omega (arith, links_in_parts-of os)
-links_in_parts-of (Some v ∷ os) = omega (arith, links_in_parts-of os)
+  members_pending : (members : Members) → members_slots PendingSlot members ≡ 0
+  members_pending NoMembers = refl
+  members_pending (MemberThen v rest) = omega (arith, value_pending v, members_pending rest)
+  members_pending (AbsentThen rest) = members_pending rest
 
-pub bytes_in_parts-of : (os : List (Option Value)) → bytes_in_parts (parts_of os) ≡ level_bytes os
-bytes_in_parts-of [] = refl
-bytes_in_parts-of (None ∷ os) = bytes_in_parts-of os
-bytes_in_parts-of (Some v ∷ os) = omega (arith, bytes_in_parts-of os)
+pub level_pending : (os : List (Option Value)) → level_slots PendingSlot os ≡ length os
+level_pending [] = refl
+level_pending (None ∷ os) = omega (arith, level_pending os)
+level_pending (Some v ∷ os) = omega (arith, value_pending v, level_pending os)
 
 -- cutting below what is kept
 pub cut-cut : (j k : Marks) (s : Slots) → IsWithin j (cut_to k s) → cut_to j (cut_to k s) ≡ cut_to j s
@@ -65,7 +66,7 @@ within-length : {A : Type 0} (xs ys : List A) → take (length xs) ys ≡ xs →
 within-length xs ys e = omega (arith, ap length e, length-take (length xs) ys)
 
 -- what is kept is within what was added to
-pub Adds-within : (room : Room) (s u : Slots) (vs : List (Option Value)) → Adds room s u vs → IsWithin (marks_of s) u
+pub Adds-within : (room : Room) (s u : Slots) (vs : Names → List (Option Value)) → Adds room s u vs → IsWithin (marks_of s) u
 Adds-within room s u vs h = record {
   nodes = within-length s.nodes u.nodes (ap (λ (x : Slots). x.nodes) h.rest);
   families = within-length s.families u.families (ap (λ (x : Slots). x.families) h.rest);
@@ -85,72 +86,73 @@ within-more k s u h g = record {
   bytes = omega (arith, h.bytes, g.bytes);
 }
 
-level-more : (room : Room) (k : Marks) (s u : Slots) (vs : List (Option Value)) → IsWithin k s → Adds room s u vs → level_of k u ≡ level_of k s ++ vs
-level-more room k s u vs w h = ap (drop k.pending) h.stack ∙ drop-append-le k.pending (stack s) vs (omega (arith, w.pending, length-stack s))
+level-more : (names : Names) (room : Room) (k : Marks) (s u : Slots) (vs : Names → List (Option Value)) → IsWithin k s → Adds room s u vs → level_of names k u ≡ level_of names k s ++ vs names
+level-more names room k s u vs w h = ap (drop k.pending) (h.stack names) ∙ drop-append-le k.pending (stack names s) (vs names) (omega (arith, w.pending, length-stack names s))
 
-IsLevel-more : (room : Room) (k : Marks) (s u : Slots) (vs : List (Option Value)) → IsLevel room k s → Adds room s u vs → IsLevel room k u
-IsLevel-more room k s u vs h g =
-    let e = level-more room k s u vs h.within g in
-    record {
-      within = within-more k s u h.within (Adds-within room s u vs g);
-      nodes = λ counted. omega (arith, h.nodes counted, g.nodes counted, ap level_nodes e, level_nodes-append (level_of k s) vs);
-      links = λ counted. omega (arith, h.links counted, g.links counted, ap level_links e, level_links-append (level_of k s) vs);
-      bytes = λ counted. omega (arith, h.bytes counted, g.bytes counted, ap level_bytes e, level_bytes-append (level_of k s) vs);
-    }
+more-slots : (names : Names) (kind : Slot) (room : Room) (k : Marks) (s u : Slots) (vs : Names → List (Option Value)) → IsWithin k s → Adds room s u vs →
+    level_slots kind (level_of names k u) ≡ level_slots kind (level_of names k s) + level_slots kind (vs names)
+more-slots names kind room k s u vs w h = ap (level_slots kind) (level-more names room k s u vs w h) ∙ level_slots-append kind (level_of names k s) (vs names)
 
-cut-more : (room : Room) (k : Marks) (s u : Slots) (vs : List (Option Value)) → IsWithin k s → Adds room s u vs → cut_to k u ≡ cut_to k s
+IsLevel-more : (room : Room) (k : Marks) (s u : Slots) (vs : Names → List (Option Value)) → IsLevel room k s → Adds room s u vs → IsLevel room k u
+IsLevel-more room k s u vs h g = record {
+  within = within-more k s u h.within (Adds-within room s u vs g);
+  nodes = λ counted names. omega (arith, h.nodes counted names, g.nodes counted names, more-slots names NodeSlot room k s u vs h.within g);
+  links = λ counted names. omega (arith, h.links counted names, g.links counted names, more-slots names LinkSlot room k s u vs h.within g);
+  bytes = λ counted names. omega (arith, h.bytes counted names, g.bytes counted names, more-slots names ByteSlot room k s u vs h.within g);
+}
+
+cut-more : (room : Room) (k : Marks) (s u : Slots) (vs : Names → List (Option Value)) → IsWithin k s → Adds room s u vs → cut_to k u ≡ cut_to k s
 cut-more room k s u vs w h =
     let w' : IsWithin k (cut_to (marks_of s) u) = subst (λ x. IsWithin k x) (sym h.rest) w in
     sym (cut-cut k (marks_of s) u w') ∙ ap (cut_to k) h.rest
 
 -- values are added to the innermost open value
-pub levels-more : (room : Room) (ks : List Marks) (s u : Slots) (vs : List (Option Value)) → AreLevels room ks s → Adds room s u vs → AreLevels room ks u
+pub levels-more : (room : Room) (ks : List Marks) (s u : Slots) (vs : Names → List (Option Value)) → AreLevels room ks s → Adds room s u vs → AreLevels room ks u
 levels-more room [] s u vs h g = (g.sound, IsLevel-more room root_marks s u vs h.1 g)
 levels-more room (k ∷ ks) s u vs h g = (g.sound, (IsLevel-more room k s u vs h.1.0 g, subst (λ x. AreLevels room ks x) (sym (cut-more room k s u vs h.1.0.within g)) h.1.1))
 
-pub levels_at-more : (room : Room) (ks : List Marks) (s u : Slots) (vs : List (Option Value)) → AreLevels room ks s → Adds room s u vs → levels_at ks u ≡ extended (levels_at ks s) vs
-levels_at-more room [] s u vs h g = ap (λ top. top ∷ []) (level-more room root_marks s u vs h.1.within g)
-levels_at-more room (k ∷ ks) s u vs h g =
-    let e = level-more room k s u vs h.1.0.within g in
+pub levels_at-more : (names : Names) (room : Room) (ks : List Marks) (s u : Slots) (vs : Names → List (Option Value)) → AreLevels room ks s → Adds room s u vs → levels_at names ks u ≡ extended (levels_at names ks s) (vs names)
+levels_at-more names room [] s u vs h g = ap (λ top. top ∷ []) (level-more names room root_marks s u vs h.1.within g)
+levels_at-more names room (k ∷ ks) s u vs h g =
+    let e = level-more names room k s u vs h.1.0.within g in
     let r = cut-more room k s u vs h.1.0.within g in
-    ap (λ top. top ∷ levels_at ks (cut_to k u)) e ∙ ap (λ x. (level_of k s ++ vs) ∷ levels_at ks x) r
+    ap (λ top. top ∷ levels_at names ks (cut_to k u)) e ∙ ap (λ x. (level_of names k s ++ vs names) ∷ levels_at names ks x) r
 
 -- a level above all that a store holds
-level-above : (room : Room) (s u : Slots) (vs : List (Option Value)) → Adds room s u vs → level_of (marks_of s) u ≡ vs
-level-above room s u vs h = ap (drop (length s.pending)) h.stack ∙ drop_at (stack s) vs (length s.pending) (length-stack s)
+level-above : (names : Names) (room : Room) (s u : Slots) (vs : Names → List (Option Value)) → Adds room s u vs → level_of names (marks_of s) u ≡ vs names
+level-above names room s u vs h = ap (drop (length s.pending)) (h.stack names) ∙ drop_at (stack names s) (vs names) (length s.pending) (length-stack names s)
 
-pub levels-above : (room : Room) (ks : List Marks) (s u : Slots) (vs : List (Option Value)) → AreLevels room ks s → Adds room s u vs → AreLevels room (marks_of s ∷ ks) u
-levels-above room ks s u vs h g =
-    let e = level-above room s u vs g in (
-      g.sound,
-      (
-        record {
-          within = Adds-within room s u vs g;
-          nodes = λ counted. omega (arith, g.nodes counted, ap level_nodes e);
-          links = λ counted. omega (arith, g.links counted, ap level_links e);
-          bytes = λ counted. omega (arith, g.bytes counted, ap level_bytes e);
-        },
-        subst (λ x. AreLevels room ks x) (sym g.rest) h,
-      ),
-    )
+pub levels-above : (room : Room) (ks : List Marks) (s u : Slots) (vs : Names → List (Option Value)) → AreLevels room ks s → Adds room s u vs → AreLevels room (marks_of s ∷ ks) u
+levels-above room ks s u vs h g = (
+  g.sound,
+  (
+    record {
+      within = Adds-within room s u vs g;
+      nodes = λ counted names. omega (arith, g.nodes counted names, ap (level_slots NodeSlot) (level-above names room s u vs g));
+      links = λ counted names. omega (arith, g.links counted names, ap (level_slots LinkSlot) (level-above names room s u vs g));
+      bytes = λ counted names. omega (arith, g.bytes counted names, ap (level_slots ByteSlot) (level-above names room s u vs g));
+    },
+    subst (λ x. AreLevels room ks x) (sym g.rest) h,
+  ),
+)
 
-pub levels_at-above : (room : Room) (ks : List Marks) (s u : Slots) (vs : List (Option Value)) → Adds room s u vs → levels_at (marks_of s ∷ ks) u ≡ vs ∷ levels_at ks s
-levels_at-above room ks s u vs g =
-    ap (λ top. top ∷ levels_at ks (cut_to (marks_of s) u)) (level-above room s u vs g) ∙ ap (λ x. vs ∷ levels_at ks x) g.rest
+pub levels_at-above : (names : Names) (room : Room) (ks : List Marks) (s u : Slots) (vs : Names → List (Option Value)) → Adds room s u vs → levels_at names (marks_of s ∷ ks) u ≡ vs names ∷ levels_at names ks s
+levels_at-above names room ks s u vs g =
+    ap (λ top. top ∷ levels_at names ks (cut_to (marks_of s) u)) (level-above names room s u vs g) ∙ ap (λ x. vs names ∷ levels_at names ks x) g.rest
 
 pub levels-sound : (room : Room) (ks : List Marks) (s : Slots) → AreLevels room ks s → IsSound s
 levels-sound room [] s h = h.0
 levels-sound room (k ∷ ks) s h = h.0
 
 -- nothing is added
-pub Adds-none : (room : Room) (s : Slots) → IsSound s → Adds room s s []
+pub Adds-none : (room : Room) (s : Slots) → IsSound s → Adds room s s (λ names. [])
 Adds-none room s h = record {
   sound = h;
   rest = cut-all s;
-  stack = sym (append-nil (stack s));
-  nodes = λ counted. omega arith;
-  links = λ counted. omega arith;
-  bytes = λ counted. omega arith;
+  stack = λ names. sym (append-nil (stack names s));
+  nodes = λ counted names. omega arith;
+  links = λ counted names. omega arith;
+  bytes = λ counted names. omega arith;
 }
 
 pub marks-cut : (k : Marks) (s : Slots) → IsWithin k s → marks_of (cut_to k s) ≡ k
@@ -165,15 +167,15 @@ marks-cut k s w =
     cc
 
 -- an open value is what was added since it was opened
-pub Adds-level : (room : Room) (k : Marks) (ks : List Marks) (s : Slots) → AreLevels room (k ∷ ks) s → Adds room (cut_to k s) s (level_of k s)
+pub Adds-level : (room : Room) (k : Marks) (ks : List Marks) (s : Slots) → AreLevels room (k ∷ ks) s → Adds room (cut_to k s) s (λ names. level_of names k s)
 Adds-level room k ks s h =
     let w = h.1.0.within in
     let m = marks-cut k s w in
     record {
       sound = h.0;
       rest = ap (λ (j : Marks). cut_to j s) m;
-      stack = sym (ap (λ vs. vs ++ level_of k s) (stack-cut k s (levels-sound room ks (cut_to k s) h.1.1)) ∙ take-append-drop k.pending (stack s));
-      nodes = λ counted. omega (arith, h.1.0.nodes counted, ap (λ (j : Marks). j.nodes) m);
-      links = λ counted. omega (arith, h.1.0.links counted, ap (λ (j : Marks). j.links) m);
-      bytes = λ counted. omega (arith, h.1.0.bytes counted, ap (λ (j : Marks). j.bytes) m);
+      stack = λ names. sym (ap (λ vs. vs ++ level_of names k s) (stack-cut names k s (levels-sound room ks (cut_to k s) h.1.1)) ∙ take-append-drop k.pending (stack names s));
+      nodes = λ counted names. omega (arith, h.1.0.nodes counted names, ap (λ (j : Marks). j.nodes) m);
+      links = λ counted names. omega (arith, h.1.0.links counted names, ap (λ (j : Marks). j.links) m);
+      bytes = λ counted names. omega (arith, h.1.0.bytes counted names, ap (λ (j : Marks). j.bytes) m);
     }

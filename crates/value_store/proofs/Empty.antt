@@ -11,9 +11,9 @@ no_slots-level : (room : Room) → IsLevel room root_marks no_slots
 unfolding stack trees
 no_slots-level room = record {
   within = record { nodes = omega arith; families = omega arith; links = omega arith; pending = omega arith; texts = omega arith; bytes = omega arith };
-  nodes = λ counted. refl;
-  links = λ counted. refl;
-  bytes = λ counted. refl;
+  nodes = λ counted names. refl;
+  links = λ counted names. refl;
+  bytes = λ counted names. refl;
 }
 
 pub no_slots-levels : (room : Room) → AreLevels room [] no_slots

@@ -6,7 +6,8 @@ use Rattle.value_store.specs.declared.store.slots.Family.{Family}
 use Rattle.value_store.specs.declared.store.slots.Shape.{Shape}
 use Rattle.value_store.specs.declared.store.slots.Shape.TheVariants.{Integer, Offset, Text, Integers, Offsets, Array, Struct, Union}
 use Rattle.value_store.specs.Packed.{numbers_in}
-use Rattle.value_store.specs.Tree.{Value, TextLabel}
+use Rattle.pickle_meaning.specs.Values.{Value, TextLabel}
+use Rattle.value_store.specs.Names.{Names}
 use Rattle.value_store.specs.Slots.{Slots, part, family_at, first_link, family_links, first_byte, text_bytes, row_numbers, elements, label_in, size_in, links_of, opened, parts_in, IsFamily, IsByteRow, IsTextRow, AreNumbers, IsContent}
 
 pub slice_get-append : {A : Type 0} (xs ys : List A) (i : ℕ) → i < length xs → slice_get (xs ++ ys) i ≡ slice_get xs i
@@ -126,15 +127,15 @@ parts_in-grow s u ts Array start c g h = ap (map (opened ts)) (family_links-grow
 parts_in-grow s u ts (Struct t) start c g h = ap (map (opened ts)) (family_links-grow s u c g h)
 parts_in-grow s u ts (Union i t) start c g h = ap (map (opened ts)) (family_links-grow s u c g h)
 
-pub label_in-grow : (s u : Slots) (shape : Shape) (start c : ℕ) → Grows s u → IsContent s shape start c → label_in u shape c ≡ label_in s shape c
-label_in-grow s u (Integer w x) start c g h = refl
-label_in-grow s u (Offset w x y) start c g h = refl
-label_in-grow s u Text start c g h = ap TextLabel (text_bytes-grow s u c g h.0)
-label_in-grow s u (Integers w x) start c g h = refl
-label_in-grow s u (Offsets w x y) start c g h = refl
-label_in-grow s u Array start c g h = refl
-label_in-grow s u (Struct t) start c g h = refl
-label_in-grow s u (Union i t) start c g h = refl
+pub label_in-grow : (names : Names) (s u : Slots) (shape : Shape) (start c : ℕ) → Grows s u → IsContent s shape start c → label_in names u shape c ≡ label_in names s shape c
+label_in-grow names s u (Integer w x) start c g h = refl
+label_in-grow names s u (Offset w x y) start c g h = refl
+label_in-grow names s u Text start c g h = ap TextLabel (text_bytes-grow s u c g h.0)
+label_in-grow names s u (Integers w x) start c g h = refl
+label_in-grow names s u (Offsets w x y) start c g h = refl
+label_in-grow names s u Array start c g h = refl
+label_in-grow names s u (Struct t) start c g h = refl
+label_in-grow names s u (Union i t) start c g h = refl
 
 text_size-grow : (s u : Slots) (c : ℕ) → Grows s u → IsByteRow s c → 8 * (slice_index u.texts c - first_byte u.texts c + 1) ≡ 8 * (slice_index s.texts c - first_byte s.texts c + 1)
 text_size-grow s u c g h =

@@ -6,7 +6,8 @@ use Rattle.value_store.specs.declared.store.slots.Node.{Node}
 use Rattle.value_store.specs.declared.store.slots.Marks.{Marks}
 use Rattle.value_store.specs.declared.store.slots.Shape.{Shape}
 use Rattle.value_store.specs.declared.store.slots.Shape.TheVariants.{Integer, Offset, Text, Integers, Offsets, Array, Struct, Union}
-use Rattle.value_store.specs.Tree.{Value, Tree, parts_of}
+use Rattle.pickle_meaning.specs.Values.{Value, Mapped, gathered}
+use Rattle.value_store.specs.Names.{Names}
 use Rattle.value_store.specs.Slots.{Slots, opened, label_in, size_in, links_of, parts_in, tree_of, trees_from, trees, stack, LinksBelow, IsNodeAt, AreNodesFrom, IsSound, cut_to}
 use Rattle.value_store.proofs.FamilyRows.{Grows, slice_get-append, slice_get-push, IsContent-grow, links_of-grow, parts_in-grow, label_in-grow, size_in-grow}
 
@@ -49,32 +50,32 @@ parts_in-more s ts us (Struct t) start c h = opened-grow ts us _ h
 parts_in-more s ts us (Union i t) start c h = opened-grow ts us _ h
 
 -- a node's value does not change as rows are added
-tree_of-grow : (s u : Slots) (ts : List Value) (i : ℕ) (n : Node) → Grows s u → IsNodeAt s i n → tree_of u ts n ≡ tree_of s ts n
-tree_of-grow s u ts i n g h =
-    let l = label_in-grow s u n.shape n.start n.content g h.content in
+tree_of-grow : (names : Names) (s u : Slots) (ts : List Value) (i : ℕ) (n : Node) → Grows s u → IsNodeAt s i n → tree_of names u ts n ≡ tree_of names s ts n
+tree_of-grow names s u ts i n g h =
+    let l = label_in-grow names s u n.shape n.start n.content g h.content in
     let z = size_in-grow s u n.shape n.start n.content g h.content in
     let p = parts_in-grow s u ts n.shape n.start n.content g h.content in cc
 
-pub trees_from-grow : (s u : Slots) (ts : List Value) (i : ℕ) (ns : List Node) → Grows s u → AreNodesFrom s i ns → trees_from u ts ns ≡ trees_from s ts ns
-trees_from-grow s u ts i [] g h = refl
-trees_from-grow s u ts i (n ∷ ns) g h =
-    ap (λ t. trees_from u (ts ++ t ∷ []) ns) (tree_of-grow s u ts i n g h.0)
-    ∙ trees_from-grow s u (ts ++ tree_of s ts n ∷ []) (i + 1) ns g h.1
+pub trees_from-grow : (names : Names) (s u : Slots) (ts : List Value) (i : ℕ) (ns : List Node) → Grows s u → AreNodesFrom s i ns → trees_from names u ts ns ≡ trees_from names s ts ns
+trees_from-grow names s u ts i [] g h = refl
+trees_from-grow names s u ts i (n ∷ ns) g h =
+    ap (λ t. trees_from names u (ts ++ t ∷ []) ns) (tree_of-grow names s u ts i n g h.0)
+    ∙ trees_from-grow names s u (ts ++ tree_of names s ts n ∷ []) (i + 1) ns g h.1
 
-pub trees_from-append : (s : Slots) (ts : List Value) (ns ms : List Node) → trees_from s ts (ns ++ ms) ≡ trees_from s (trees_from s ts ns) ms
-trees_from-append s ts [] ms = refl
-trees_from-append s ts (n ∷ ns) ms = trees_from-append s (ts ++ tree_of s ts n ∷ []) ns ms
+pub trees_from-append : (names : Names) (s : Slots) (ts : List Value) (ns ms : List Node) → trees_from names s ts (ns ++ ms) ≡ trees_from names s (trees_from names s ts ns) ms
+trees_from-append names s ts [] ms = refl
+trees_from-append names s ts (n ∷ ns) ms = trees_from-append names s (ts ++ tree_of names s ts n ∷ []) ns ms
 
-pub length-trees_from : (s : Slots) (ts : List Value) (ns : List Node) → length (trees_from s ts ns) ≡ length ts + length ns
-length-trees_from s ts [] = omega arith
-length-trees_from s ts (n ∷ ns) =
-    let t = tree_of s ts n in omega (arith, length-trees_from s (ts ++ t ∷ []) ns, length_push ts t)
+pub length-trees_from : (names : Names) (s : Slots) (ts : List Value) (ns : List Node) → length (trees_from names s ts ns) ≡ length ts + length ns
+length-trees_from names s ts [] = omega arith
+length-trees_from names s ts (n ∷ ns) =
+    let t = tree_of names s ts n in omega (arith, length-trees_from names s (ts ++ t ∷ []) ns, length_push ts t)
 
-pub trees_from-more : (s : Slots) (ts : List Value) (ns : List Node) → (us : List Value) × (trees_from s ts ns ≡ ts ++ us)
-trees_from-more s ts [] = ([], sym (append-nil ts))
-trees_from-more s ts (n ∷ ns) =
-    let t = tree_of s ts n in
-    let r = trees_from-more s (ts ++ t ∷ []) ns in
+pub trees_from-more : (names : Names) (s : Slots) (ts : List Value) (ns : List Node) → (us : List Value) × (trees_from names s ts ns ≡ ts ++ us)
+trees_from-more names s ts [] = ([], sym (append-nil ts))
+trees_from-more names s ts (n ∷ ns) =
+    let t = tree_of names s ts n in
+    let r = trees_from-more names s (ts ++ t ∷ []) ns in
     (t ∷ r.0, r.1 ∙ append_assoc ts (t ∷ []) r.0)
 
 IsNodeAt-grow : (s u : Slots) (i : ℕ) (n : Node) → Grows s u → IsNodeAt s i n → IsNodeAt u i n
@@ -94,31 +95,31 @@ AreNodes-push s i (m ∷ ns) n h g =
     (h.0, AreNodes-push s (i + 1) ns n h.1 (rw e g))
 
 -- the value of a node: its children are among the same values
-pub get-trees_from : (s : Slots) (ts : List Value) (ns : List Node) (k : ℕ) (n : Node) → AreNodesFrom s (length ts) ns → slice_get ns k ≡ Some n → slice_get (trees_from s ts ns) (length ts + k) ≡ Some (tree_of s (trees_from s ts ns) n)
-get-trees_from s ts [] k n h g = cc
-get-trees_from s ts (m ∷ ns) zero n h g =
-    let t = tree_of s ts m in
-    let r = trees_from-more s (ts ++ t ∷ []) ns in
-    let f = trees_from s (ts ++ t ∷ []) ns in
+pub get-trees_from : (names : Names) (s : Slots) (ts : List Value) (ns : List Node) (k : ℕ) (n : Node) → AreNodesFrom s (length ts) ns → slice_get ns k ≡ Some n → slice_get (trees_from names s ts ns) (length ts + k) ≡ Some (tree_of names s (trees_from names s ts ns) n)
+get-trees_from names s ts [] k n h g = cc
+get-trees_from names s ts (m ∷ ns) zero n h g =
+    let t = tree_of names s ts m in
+    let r = trees_from-more names s (ts ++ t ∷ []) ns in
+    let f = trees_from names s (ts ++ t ∷ []) ns in
     let e : f ≡ ts ++ t ∷ r.0 = r.1 ∙ append_assoc ts (t ∷ []) r.0 in
     let at : slice_get f (length ts) ≡ Some t = rw e (slice_get-push ts t r.0) in
     let own : parts_in s f m.shape m.start m.content ≡ parts_in s ts m.shape m.start m.content =
     ap (λ us. parts_in s us m.shape m.start m.content) e ∙ parts_in-more s ts (t ∷ r.0) m.shape m.start m.content h.0.below in
-    let same : tree_of s f m ≡ t = ap (λ os. Tree (label_in s m.shape m.content) m.start (size_in s m.shape m.content) (parts_of os)) own in
+    let same : tree_of names s f m ≡ t = ap (λ os. Mapped (label_in names s m.shape m.content) m.start (m.start + size_in s m.shape m.content) (gathered os)) own in
     let is : m ≡ n = cc in
-    rw add-zero (subst (λ x. slice_get f (length ts) ≡ Some (tree_of s f x)) is (at ∙ ap Some (sym same)))
-get-trees_from s ts (m ∷ ns) (suc k) n h g =
-    let t = tree_of s ts m in
+    rw add-zero (subst (λ x. slice_get f (length ts) ≡ Some (tree_of names s f x)) is (at ∙ ap Some (sym same)))
+get-trees_from names s ts (m ∷ ns) (suc k) n h g =
+    let t = tree_of names s ts m in
     let e : length ts + suc k ≡ length (ts ++ t ∷ []) + k = omega (arith, length_push ts t) in
-    rw e (get-trees_from s (ts ++ t ∷ []) ns k n (rw (length_push ts t) h.1) g)
+    rw e (get-trees_from names s (ts ++ t ∷ []) ns k n (rw (length_push ts t) h.1) g)
 
-pub length-trees : (s : Slots) → length (trees s) ≡ length s.nodes
+pub length-trees : (names : Names) (s : Slots) → length (trees names s) ≡ length s.nodes
 unfolding trees
-length-trees s = omega (arith, length-trees_from s [] s.nodes)
+length-trees names s = omega (arith, length-trees_from names s [] s.nodes)
 
-pub length-stack : (s : Slots) → length (stack s) ≡ length s.pending
+pub length-stack : (names : Names) (s : Slots) → length (stack names s) ≡ length s.pending
 unfolding stack
-length-stack s = length-map s.pending (opened (trees s))
+length-stack names s = length-map s.pending (opened (trees names s))
 
 -- u is s with one more node, which may have rows of its own
 pub record NewNode (s u : Slots) (n : Node) : Type 0 where
@@ -126,13 +127,13 @@ pub record NewNode (s u : Slots) (n : Node) : Type 0 where
   pub nodes : u.nodes ≡ s.nodes ++ n ∷ []
   pub is : IsNodeAt u (length s.nodes) n
 
-pub trees-new : (s u : Slots) (n : Node) → IsSound s → NewNode s u n → trees u ≡ trees s ++ tree_of u (trees s) n ∷ []
+pub trees-new : (names : Names) (s u : Slots) (n : Node) → IsSound s → NewNode s u n → trees names u ≡ trees names s ++ tree_of names u (trees names s) n ∷ []
 unfolding trees
-trees-new s u n h g =
-    let e : trees_from u [] s.nodes ≡ trees_from s [] s.nodes = trees_from-grow s u [] 0 s.nodes g.grows h.nodes in
-    ap (trees_from u []) g.nodes
-    ∙ trees_from-append u [] s.nodes (n ∷ [])
-    ∙ ap (λ ts. ts ++ tree_of u ts n ∷ []) e
+trees-new names s u n h g =
+    let e : trees_from names u [] s.nodes ≡ trees_from names s [] s.nodes = trees_from-grow names s u [] 0 s.nodes g.grows h.nodes in
+    ap (trees_from names u []) g.nodes
+    ∙ trees_from-append names u [] s.nodes (n ∷ [])
+    ∙ ap (λ ts. ts ++ tree_of names u ts n ∷ []) e
 
 pub nodes-new : (s u : Slots) (n : Node) → IsSound s → NewNode s u n → AreNodesFrom u 0 u.nodes
 nodes-new s u n h g =
@@ -146,13 +147,13 @@ pending-new s u n mark h g e =
     rw (e, count) (LinksBelow-append (length s.nodes + 1) (take mark s.pending) (Some (length s.nodes) ∷ [])
     (LinksBelow-take (length s.nodes + 1) mark s.pending (LinksBelow-weaker (length s.nodes) (length s.nodes + 1) s.pending (omega arith) h.pending)) (omega arith, tt))
 
-pub stack-new : (s u : Slots) (n : Node) (mark : ℕ) → IsSound s → NewNode s u n → u.pending ≡ take mark s.pending ++ Some (length s.nodes) ∷ [] → stack u ≡ take mark (stack s) ++ Some (tree_of u (trees s) n) ∷ []
+pub stack-new : (names : Names) (s u : Slots) (n : Node) (mark : ℕ) → IsSound s → NewNode s u n → u.pending ≡ take mark s.pending ++ Some (length s.nodes) ∷ [] → stack names u ≡ take mark (stack names s) ++ Some (tree_of names u (trees names s) n) ∷ []
 unfolding stack
-stack-new s u n mark h g e =
-    let ts = trees s in
-    let t = tree_of u ts n in
-    let grown : trees u ≡ ts ++ t ∷ [] = trees-new s u n h g in
-    let len : length ts ≡ length s.nodes = length-trees s in
+stack-new names s u n mark h g e =
+    let ts = trees names s in
+    let t = tree_of names u ts n in
+    let grown : trees names u ≡ ts ++ t ∷ [] = trees-new names s u n h g in
+    let len : length ts ≡ length s.nodes = length-trees names s in
     let low : LinksBelow (length ts) (take mark s.pending) = LinksBelow-weaker (length s.nodes) (length ts) (take mark s.pending) (omega arith) (LinksBelow-take (length s.nodes) mark s.pending h.pending) in
     ap (λ us. map (opened us) u.pending) grown
     ∙ ap (map (opened (ts ++ t ∷ []))) e
@@ -173,19 +174,19 @@ Grows-cut k s = record {
   bytes = sym (take-append-drop k.bytes s.bytes);
 }
 
-pub trees-cut : (k : Marks) (s : Slots) → IsSound (cut_to k s) → (us : List Value) × (trees s ≡ trees (cut_to k s) ++ us)
+pub trees-cut : (names : Names) (k : Marks) (s : Slots) → IsSound (cut_to k s) → (us : List Value) × (trees names s ≡ trees names (cut_to k s) ++ us)
 unfolding trees
-trees-cut k s h =
+trees-cut names k s h =
     let below = take k.nodes s.nodes in
     let above = drop k.nodes s.nodes in
-    let e : trees_from s [] below ≡ trees_from (cut_to k s) [] below = trees_from-grow (cut_to k s) s [] 0 below (Grows-cut k s) h.nodes in
-    let r = trees_from-more s (trees_from s [] below) above in
-    (r.0, ap (trees_from s []) (sym (take-append-drop k.nodes s.nodes)) ∙ trees_from-append s [] below above ∙ r.1 ∙ ap (λ ts. ts ++ r.0) e)
+    let e : trees_from names s [] below ≡ trees_from names (cut_to k s) [] below = trees_from-grow names (cut_to k s) s [] 0 below (Grows-cut k s) h.nodes in
+    let r = trees_from-more names s (trees_from names s [] below) above in
+    (r.0, ap (trees_from names s []) (sym (take-append-drop k.nodes s.nodes)) ∙ trees_from-append names s [] below above ∙ r.1 ∙ ap (λ ts. ts ++ r.0) e)
 
-pub stack-cut : (k : Marks) (s : Slots) → IsSound (cut_to k s) → stack (cut_to k s) ≡ take k.pending (stack s)
+pub stack-cut : (names : Names) (k : Marks) (s : Slots) → IsSound (cut_to k s) → stack names (cut_to k s) ≡ take k.pending (stack names s)
 unfolding stack
-stack-cut k s h =
-    let r = trees-cut k s h in
-    let ts = trees (cut_to k s) in
-    let low : LinksBelow (length ts) (take k.pending s.pending) = LinksBelow-weaker (length (take k.nodes s.nodes)) (length ts) (take k.pending s.pending) (omega (arith, length-trees (cut_to k s))) h.pending in
+stack-cut names k s h =
+    let r = trees-cut names k s h in
+    let ts = trees names (cut_to k s) in
+    let low : LinksBelow (length ts) (take k.pending s.pending) = LinksBelow-weaker (length (take k.nodes s.nodes)) (length ts) (take k.pending s.pending) (omega (arith, length-trees names (cut_to k s))) h.pending in
     sym (ap (λ us. take k.pending (map (opened us) s.pending)) r.1 ∙ take-map (opened (ts ++ r.0)) k.pending s.pending ∙ opened-grow ts r.0 (take k.pending s.pending) low)

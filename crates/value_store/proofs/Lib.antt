@@ -11,11 +11,9 @@ pub mod Frames
 pub mod Writing
 pub mod PackedRows
 pub mod Packed
-pub mod ShownLevels
 pub mod Found
 pub mod Lent
 pub mod Linked
-pub mod ShownLabels
 pub mod Lookup
-pub mod ShownParts
 pub mod Integers
+pub mod Naming

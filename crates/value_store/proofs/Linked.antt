@@ -9,10 +9,12 @@ use Rattle.value_store.specs.declared.store.slots.Place.TheVariants as place
 use Rattle.value_store.specs.declared.store.slots.Shape.{Shape}
 use Rattle.value_store.specs.declared.store.slots.Shape.TheVariants.{Integer, Offset, Text, Integers, Offsets, Array, Struct, Union}
 use Rattle.value_store.specs.Slots.{Slots, opened, IsSound, links_of, parts_in, trees, value_at, row_numbers, elements, element_width, IsPacked, IsContent, IsRead}
-use Rattle.value_store.specs.Tree.{Value, parts, part_at}
+use Rattle.pickle_meaning.specs.Values.{Value, members_of, member_count, member_at, gathered}
+use Rattle.value_store.specs.Names.{Names}
 use Rattle.value_store.specs.Linked.{node_links, links_from}
 use Rattle.value_store.specs.Lent.{place_value, numbers_of, element_in, packed_count, element_count, IsPlace}
-use Rattle.value_store.proofs.Found.{child-found, read-node}
+use Rattle.value_store.proofs.Counted.{member_count-of}
+use Rattle.value_store.proofs.Found.{child-found, read-node, member_at-gathered}
 use Rattle.value_store.proofs.Lent.{length-elements, elements-at}
 
 packed-parts : (s : Slots) (ts : List Value) (shape : Shape) (start c : ℕ) → IsPacked shape → parts_in s ts shape start c ≡ elements shape start (row_numbers s (element_width shape) c)
@@ -42,20 +44,21 @@ linked-parts s ts (Union t i) start c p = refl
 
 -- what links tell of the parts of a node
 pub record AreLinks (s : Slots) (at : ℕ) (links : List (Option ℕ)) : Type 0 where
-  pub count : length links ≡ length (parts (value_at s at))
-  pub part : (k : ℕ) → option_map (value_at s) (unwrap_or (slice_get links k) None) ≡ part_at (value_at s at) k
+  pub count : (names : Names) → length links ≡ member_count (members_of (value_at names s at))
+  pub part : (names : Names) (k : ℕ) → option_map (value_at names s) (unwrap_or (slice_get links k) None) ≡ member_at (members_of (value_at names s at)) k
   pub below : (k : ℕ) → IfSome (unwrap_or (slice_get links k) None) (λ j. j < at)
 
 pub are_links : (s : Slots) (at : ℕ) (n : Node) (links : List (Option ℕ)) → slice_get s.nodes at ≡ Some n → IsRead s at n → HasLinks n.shape → links ≡ links_from s at → AreLinks s at links
 are_links s at n links got r has is =
     let ls = links_of s n.shape n.content in
     let within : at < length s.nodes = slice_get_within s.nodes at n got in
-    let own : parts (value_at s at) ≡ map (opened (trees s)) ls = r.parts ∙ linked-parts s (trees s) n.shape n.start n.content has in
+    let own : (names : Names) → members_of (value_at names s at) ≡ gathered (map (opened (trees names s)) ls) = λ names. r.members names ∙ ap gathered (linked-parts s (trees names s) n.shape n.start n.content has) in
     let are : AreLinks s at (node_links s (Some n)) = record {
-      count = sym (ap length own ∙ length-map ls (opened (trees s)));
-      part = λ k.
-          child-found s at ls (slice_get ls k) (omega (arith, within)) (r.below k)
-          ∙ sym (ap (λ os. unwrap_or (slice_get os k) None) own ∙ ap (λ o. unwrap_or o None) (slice_get-map (opened (trees s)) ls k));
+      count = λ names. let os = map (opened (trees names s)) ls in sym (ap member_count (own names) ∙ member_count-of os ∙ length-map ls (opened (trees names s)));
+      part = λ names k.
+          let os = map (opened (trees names s)) ls in
+          child-found names s at ls (slice_get ls k) (omega (arith, within)) (r.below k)
+          ∙ sym (ap (λ ms. member_at ms k) (own names) ∙ member_at-gathered os k ∙ ap (λ o. unwrap_or o None) (slice_get-map (opened (trees names s)) ls k));
       below = r.below;
     } in
     subst (AreLinks s at) (sym is) (subst (λ o. AreLinks s at (node_links s o)) (sym got) are)
@@ -76,25 +79,31 @@ row_shape s shape start c w (inr (g, u, e)) h =
     subst (λ x. IsRowShape s x c w) (sym e) (record { packed = (own.1.0.some, own.1.0.most, own.1.1); width = refl; count = refl })
 
 -- an array of packed numbers has its elements as parts
-pub row-count : (s : Slots) (at : ℕ) (n : Node) (w : ℕ) → IsRead s at n → IsRowShape s n.shape n.content w → length (parts (value_at s at)) ≡ length (row_numbers s w n.content)
-row-count s at n w r is =
-    ap length (r.parts ∙ packed-parts s (trees s) n.shape n.start n.content is.packed)
-    ∙ length-elements n.shape n.start (numbers_of s n)
-    ∙ ap (λ k. length (row_numbers s k n.content)) is.width
+module _ (names : Names) (s : Slots) (at : ℕ) (n : Node) (w : ℕ) (r : IsRead s at n) (is : IsRowShape s n.shape n.content w) where
+  row-members : members_of (value_at names s at) ≡ gathered (elements n.shape n.start (numbers_of s n))
+  row-members = r.members names ∙ ap gathered (packed-parts s (trees names s) n.shape n.start n.content is.packed)
 
-pub row-part : (s : Slots) (at : ℕ) (n : Node) (w i : ℕ) → slice_get s.nodes at ≡ Some n → IsRead s at n → IsRowShape s n.shape n.content w → i < length (row_numbers s w n.content) →
-    part_at (value_at s at) i ≡ Some (place_value s (place.Element at i))
-row-part s at n w i got r is p =
-    let own : parts (value_at s at) ≡ elements n.shape n.start (numbers_of s n) = r.parts ∙ packed-parts s (trees s) n.shape n.start n.content is.packed in
-    let within : i < length (numbers_of s n) = subst (λ k. i < length (row_numbers s k n.content)) (sym is.width) p in
-    ap (λ os. unwrap_or (slice_get os i) None) own
-    ∙ ap (λ o. unwrap_or o None) (elements-at n.shape n.start (numbers_of s n) i within)
-    ∙ ap (λ o. Some (element_in s o i)) (sym got)
+  pub row-count : member_count (members_of (value_at names s at)) ≡ length (row_numbers s w n.content)
+  row-count =
+      ap member_count row-members ∙ member_count-of (elements n.shape n.start (numbers_of s n))
+      ∙ length-elements n.shape n.start (numbers_of s n)
+      ∙ ap (λ k. length (row_numbers s k n.content)) is.width
 
-pub row-past : (s : Slots) (at : ℕ) (n : Node) (w i : ℕ) → IsRead s at n → IsRowShape s n.shape n.content w → length (row_numbers s w n.content) ≤ i → part_at (value_at s at) i ≡ None
-row-past s at n w i r is past =
-    let count = row-count s at n w r is in
-    ap (λ o. unwrap_or o None) (slice_get_past (parts (value_at s at)) i (omega (arith, count, past)))
+  row-at : (i : ℕ) → member_at (members_of (value_at names s at)) i ≡ unwrap_or (slice_get (elements n.shape n.start (numbers_of s n)) i) None
+  row-at i = ap (λ ms. member_at ms i) row-members ∙ member_at-gathered (elements n.shape n.start (numbers_of s n)) i
+
+  pub row-part : (i : ℕ) → slice_get s.nodes at ≡ Some n → i < length (row_numbers s w n.content) → member_at (members_of (value_at names s at)) i ≡ Some (place_value names s (place.Element at i))
+  row-part i got p =
+      let within : i < length (numbers_of s n) = subst (λ k. i < length (row_numbers s k n.content)) (sym is.width) p in
+      row-at i
+      ∙ ap (λ o. unwrap_or o None) (elements-at n.shape n.start (numbers_of s n) i within)
+      ∙ ap (λ o. Some (element_in s o i)) (sym got)
+
+  pub row-past : (i : ℕ) → length (row_numbers s w n.content) ≤ i → member_at (members_of (value_at names s at)) i ≡ None
+  row-past i past =
+      let own = elements n.shape n.start (numbers_of s n) in
+      let count : length own ≡ length (row_numbers s w n.content) = length-elements n.shape n.start (numbers_of s n) ∙ ap (λ k. length (row_numbers s k n.content)) is.width in
+      row-at i ∙ ap (λ o. unwrap_or o None) (slice_get_past own i (omega (arith, count, past)))
 
 pub has_element : (s : Slots) (at : ℕ) (n : Node) (w i : ℕ) → slice_get s.nodes at ≡ Some n → IsRowShape s n.shape n.content w → i < length (row_numbers s w n.content) →
     IsPlace s (place.Element at i)
@@ -102,11 +111,11 @@ has_element s at n w i got is p = subst (λ o. i < element_count s o) (sym got) 
 
 -- what the parts of a node are, by its links and how many packed numbers it has
 pub record ArePartsAt (s : Slots) (at : ℕ) (links : List (Option ℕ)) (packed : ℕ) : Type 0 where
-  pub packed_count : 0 < packed → packed ≡ length (parts (value_at s at))
-  pub link_count : packed ≡ 0 → length links ≡ length (parts (value_at s at))
-  pub packed_part : (i : ℕ) → i < packed → Some (place_value s (place.Element at i)) ≡ part_at (value_at s at) i
+  pub packed_count : (names : Names) → 0 < packed → packed ≡ member_count (members_of (value_at names s at))
+  pub link_count : (names : Names) → packed ≡ 0 → length links ≡ member_count (members_of (value_at names s at))
+  pub packed_part : (names : Names) (i : ℕ) → i < packed → Some (place_value names s (place.Element at i)) ≡ member_at (members_of (value_at names s at)) i
   pub packed_place : (i : ℕ) → i < packed → IsPlace s (place.Element at i)
-  pub link_part : (i : ℕ) → packed ≤ i → option_map (value_at s) (unwrap_or (slice_get links i) None) ≡ part_at (value_at s at) i
+  pub link_part : (names : Names) (i : ℕ) → packed ≤ i → option_map (value_at names s) (unwrap_or (slice_get links i) None) ≡ member_at (members_of (value_at names s at)) i
   pub below : (i : ℕ) → IfSome (unwrap_or (slice_get links i) None) (λ j. j < at)
 
 parts_by_links : (s : Slots) (at : ℕ) (n : Node) → slice_get s.nodes at ≡ Some n → IsRead s at n → HasLinks n.shape → packed_count s n.shape n.content ≡ 0 →
@@ -115,11 +124,11 @@ parts_by_links s at n got r has none =
     let links = are_links s at n (links_from s at) got r has refl in
     let zero : element_count s (slice_get s.nodes at) ≡ 0 = ap (element_count s) got ∙ none in
     record {
-      packed_count = λ p. absurd (omega (arith, p, zero));
-      link_count = λ e. links.count;
-      packed_part = λ i p. absurd (omega (arith, p, zero));
+      packed_count = λ names p. absurd (omega (arith, p, zero));
+      link_count = λ names e. links.count names;
+      packed_part = λ names i p. absurd (omega (arith, p, zero));
       packed_place = λ i p. absurd (omega (arith, p, zero));
-      link_part = λ i p. links.part i;
+      link_part = λ names i p. links.part names i;
       below = links.below;
     }
 
@@ -130,13 +139,12 @@ parts_by_row s at n w got r is none =
     let count : element_count s (slice_get s.nodes at) ≡ row = ap (element_count s) got ∙ is.count in
     let links : links_from s at ≡ [] = ap (node_links s) got ∙ none in
     let found : (i : ℕ) → unwrap_or (slice_get (links_from s at) i) None ≡ None = λ i. ap (λ ls. unwrap_or (slice_get ls i) None) links in
-    let whole = row-count s at n w r is in
     record {
-      packed_count = λ p. count ∙ sym whole;
-      link_count = λ e. ap length links ∙ sym (whole ∙ sym count ∙ e);
-      packed_part = λ i p. sym (row-part s at n w i got r is (omega (arith, p, count)));
+      packed_count = λ names p. count ∙ sym (row-count names s at n w r is);
+      link_count = λ names e. ap length links ∙ sym (row-count names s at n w r is ∙ sym count ∙ e);
+      packed_part = λ names i p. sym (row-part names s at n w r is i got (omega (arith, p, count)));
       packed_place = λ i p. has_element s at n w i got is (omega (arith, p, count));
-      link_part = λ i p. ap (option_map (value_at s)) (found i) ∙ sym (row-past s at n w i r is (omega (arith, p, count)));
+      link_part = λ names i p. ap (option_map (value_at names s)) (found i) ∙ sym (row-past names s at n w r is i (omega (arith, p, count)));
       below = λ i. subst (λ o. IfSome o (λ j. j < at)) (sym (found i)) tt;
     }
 

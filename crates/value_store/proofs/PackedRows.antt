@@ -9,8 +9,12 @@ use Rattle.value_store.specs.declared.store.room.Room.{Room}
 use Rattle.value_store.specs.declared.store.slots.Shape.{Shape}
 use Rattle.value_store.specs.declared.store.slots.Shape.TheVariants.{Integer, Offset, Text, Integers, Offsets, Array, Struct, Union}
 use Rattle.value_store.specs.Packed.{bytes_for, number_bytes, packed, numbers_in}
-use Rattle.value_store.specs.Levels.{Levels, top_of, outer_of, extended, pushed}
+use Rattle.pickle_meaning.specs.Values.{Levels, top_of, outer_of, pushed}
+use Rattle.value_store.specs.Filling.{Packs, SettlesRow}
+use Rattle.value_store.specs.Levels.{extended}
+use Rattle.value_store.specs.Names.{Names}
 use Rattle.value_store.specs.Slots.{Held, packs, levels, AreLevels, IsPacked, element_width, row_value, AreNumbers, with_bytes, with_more, AreBytes, bytes_value, MayKeep, HasNoNode, IsFilling, IsPacking, GoesOn, Regrown}
+use Rattle.value_store.proofs.Fits.{pushed-extended}
 use Rattle.value_store.proofs.Packed.{length-number_bytes, le_bytes-take, packed-push, numbers_in-packed, packed-none, bytes_for-some, bytes_for-most}
 use Rattle.value_store.proofs.Writing.{filling-levels, filling-empty, filling-outer, fresh-empty, empty-fresh, stale-some, fresh-filling, stale-filling, stale-goes_on, opened-filling}
 
@@ -66,30 +70,30 @@ row-width (Struct t) p = absurd p
 row-width (Union i t) p = absurd p
 
 -- an array that is opened
-pub row-opened : (n : Held) (shape : Shape) (start : ℕ) (outer : Levels) → IsPacked shape → packs n.room ≡ true → start < 2 ^ 64 → HasNoNode n →
-    AreLevels n.room n.frames n.slots → levels n ≡ [] ∷ outer → IsPacking n shape [] start outer
-row-opened n shape start outer p e short fresh all is =
+pub row-opened : (names : Names) (n : Held) (shape : Shape) (start : ℕ) (outer : Levels) → IsPacked shape → packs n.room ≡ true → start < 2 ^ 64 → HasNoNode n →
+    AreLevels n.room n.frames n.slots → levels names n ≡ [] ∷ outer → IsPacking names n shape [] start outer
+row-opened names n shape start outer p e short fresh all is =
     let below : All (λ n. n < 2 ^ element_width shape) [] = λ k d h. absurd (omega arith) in
     let are : AreBytes shape [] start = row-are shape [] start p below (omega (arith, mul-zero (element_width shape))) in
-    record { filling = opened-filling n shape start outer are (row-may n.room shape e) fresh all is; below = below }
+    record { filling = opened-filling names n shape start outer are (row-may n.room shape e) fresh all is; below = below }
 
 -- it stands inside the outer levels
-pub packing-outer : (h : Held) (shape : Shape) (numbers : List ℕ) (start : ℕ) (outer : Levels) → IsPacking h shape numbers start outer → outer_of (levels h) ≡ outer
-packing-outer h shape numbers start outer w = filling-outer h shape (row_bytes shape numbers) start outer w.filling
+pub packing-outer : (names : Names) (h : Held) (shape : Shape) (numbers : List ℕ) (start : ℕ) (outer : Levels) → IsPacking names h shape numbers start outer → outer_of (levels names h) ≡ outer
+packing-outer names h shape numbers start outer w = filling-outer names h shape (row_bytes shape numbers) start outer w.filling
 
-pub packing-empty : (h : Held) (shape : Shape) (start : ℕ) (outer : Levels) → IsPacking h shape [] start outer → levels h ≡ [] ∷ outer
-packing-empty h shape start outer w = filling-empty h shape start outer w.filling
+pub packing-empty : (names : Names) (h : Held) (shape : Shape) (start : ℕ) (outer : Levels) → IsPacking names h shape [] start outer → levels names h ≡ [] ∷ outer
+packing-empty names h shape start outer w = filling-empty names h shape start outer w.filling
 
 -- it has a node just where it has numbers
-pub packing-fresh : (h : Held) (shape : Shape) (numbers : List ℕ) (start : ℕ) (outer : Levels) → IsPacking h shape numbers start outer → HasNoNode h → IsPacked shape → numbers ≡ []
-packing-fresh h shape numbers start outer w e p = packed-none (element_width shape) numbers (row-width shape p).0 (fresh-empty h shape (row_bytes shape numbers) start outer w.filling e)
+pub packing-fresh : (names : Names) (h : Held) (shape : Shape) (numbers : List ℕ) (start : ℕ) (outer : Levels) → IsPacking names h shape numbers start outer → HasNoNode h → IsPacked shape → numbers ≡ []
+packing-fresh names h shape numbers start outer w e p = packed-none (element_width shape) numbers (row-width shape p).0 (fresh-empty names h shape (row_bytes shape numbers) start outer w.filling e)
 
-pub packing-stale : (h : Held) (shape : Shape) (numbers : List ℕ) (start : ℕ) (outer : Levels) → IsPacking h shape numbers start outer → numbers ≡ [] → HasNoNode h
-packing-stale h shape numbers start outer w e =
-    empty-fresh h shape start outer (subst (λ ns. IsFilling h shape (row_bytes shape ns) start outer) e w.filling)
+pub packing-stale : (names : Names) (h : Held) (shape : Shape) (numbers : List ℕ) (start : ℕ) (outer : Levels) → IsPacking names h shape numbers start outer → numbers ≡ [] → HasNoNode h
+packing-stale names h shape numbers start outer w e =
+    empty-fresh names h shape start outer (subst (λ ns. IsFilling names h shape (row_bytes shape ns) start outer) e w.filling)
 
 -- a number more
-module _ (h : Held) (shape : Shape) (digits : ℕ) (numbers : List ℕ) (start : ℕ) (outer : Levels) (w : IsPacking h shape numbers start outer) (p : IsPacked shape)
+module _ (names : Names) (h : Held) (shape : Shape) (digits : ℕ) (numbers : List ℕ) (start : ℕ) (outer : Levels) (w : IsPacking names h shape numbers start outer) (p : IsPacked shape)
     (small : digits < 2 ^ element_width shape) (short : start + element_width shape * (length numbers + 1) < 2 ^ 64) where
   more-below : All (λ n. n < 2 ^ element_width shape) (numbers ++ digits ∷ [])
   more-below = All-push (λ n. n < 2 ^ element_width shape) numbers digits w.below small
@@ -99,14 +103,14 @@ module _ (h : Held) (shape : Shape) (digits : ℕ) (numbers : List ℕ) (start :
       let count : start + element_width shape * length (numbers ++ digits ∷ []) < 2 ^ 64 = subst (λ n. start + element_width shape * n < 2 ^ 64) (sym (length_push numbers digits)) short in
       subst (λ bs. AreBytes shape bs start) (packed-push (bytes_for (element_width shape)) digits numbers) (row-are shape (numbers ++ digits ∷ []) start p more-below count)
 
-  pub more-packing : (n : Held) → IsFilling n shape (row_bytes shape numbers ++ number_bytes (bytes_for (element_width shape)) digits) start outer → IsPacking n shape (numbers ++ digits ∷ []) start outer
+  pub more-packing : (n : Held) → IsFilling names n shape (row_bytes shape numbers ++ number_bytes (bytes_for (element_width shape)) digits) start outer → IsPacking names n shape (numbers ++ digits ∷ []) start outer
   more-packing n f = record {
-    filling = subst (λ bs. IsFilling n shape bs start outer) (sym (packed-push (bytes_for (element_width shape)) digits numbers)) f;
+    filling = subst (λ bs. IsFilling names n shape bs start outer) (sym (packed-push (bytes_for (element_width shape)) digits numbers)) f;
     below = more-below;
   }
 
   pub stale-row : (HasNoNode h → ⊥) → GoesOn h shape (number_bytes (bytes_for (element_width shape)) digits)
-  stale-row n = stale-goes_on h shape (number_bytes (bytes_for (element_width shape)) digits) (row_bytes shape numbers) start outer w.filling n more-are
+  stale-row n = stale-goes_on names h shape (number_bytes (bytes_for (element_width shape)) digits) (row_bytes shape numbers) start outer w.filling n more-are
 
 pub one-are : (shape : Shape) (digits numbers_count start : ℕ) → IsPacked shape → digits < 2 ^ element_width shape →
     start + element_width shape * (numbers_count + 1) < 2 ^ 64 → AreBytes shape (number_bytes (bytes_for (element_width shape)) digits) start
@@ -123,11 +127,6 @@ own-bytes shape width digits count bytes p same counts is =
     let counted : count ≡ bytes_for (element_width shape) = counts ∙ ap (λ w. bytes_for w) same in
     rw (counted, is) (le_bytes-take (bytes_for (element_width shape)) digits (bytes_for-most (element_width shape) (row-width shape p).1))
 
--- the array under way takes the digits
-abbrev Takes : (h n : Held) → Shape → (width digits start : ℕ) → Type 0
-Takes h n shape width digits start = (numbers : List ℕ) (outer : Levels) → IsPacking h shape numbers start outer →
-    start + width * (length numbers + 1) < 2 ^ 64 → IsPacking n shape (numbers ++ digits ∷ []) start outer
-
 on_ok : {T E A B : Type 0} (r : Result T E) → (A → B) → OnOk r A → OnOk r B
 on_ok (Ok x) f a = f a
 on_ok (Err x) f a = tt
@@ -135,53 +134,51 @@ on_ok (Err x) f a = tt
 -- the clauses of the calls
 module _ (h n : Held) (shape : Shape) (width digits start : ℕ) (own : List ℕ) (p : IsPacked shape) (same : width ≡ element_width shape)
     (small : digits < 2 ^ width) (is : own ≡ number_bytes (bytes_for (element_width shape)) digits) where
-  fresh-takes : HasNoNode h → Regrown (record h { slots = with_bytes shape own start h.slots }) n → Takes h n shape width digits start
-  fresh-takes fresh e = λ numbers outer w short.
-      let short : start + element_width shape * (length numbers + 1) < 2 ^ 64 = subst (λ m. start + m * (length numbers + 1) < 2 ^ 64) same short in
+  fresh-takes : HasNoNode h → Regrown (record h { slots = with_bytes shape own start h.slots }) n → Packs h n shape digits start
+  fresh-takes fresh e = λ names numbers outer w short.
       let small : digits < 2 ^ element_width shape = subst (λ m. digits < 2 ^ m) same small in
       let bytes = number_bytes (bytes_for (element_width shape)) digits in
       let some : 0 < length bytes = omega (arith, length-number_bytes (bytes_for (element_width shape)) digits, bytes_for-some (element_width shape) (row-width shape p).0) in
       let e : Regrown (record h { slots = with_bytes shape bytes start h.slots }) n = subst (λ bs. Regrown (record h { slots = with_bytes shape bs start h.slots }) n) is e in
       let are = one-are shape digits (length numbers) start p small short in
-      more-packing h shape digits numbers start outer w p small short n
-      (subst (λ u. IsFilling u shape (row_bytes shape numbers ++ bytes) start outer) (sym e)
-      (fresh-filling h shape bytes (row_bytes shape numbers) start outer w.filling _ fresh some are))
+      more-packing names h shape digits numbers start outer w p small short n
+      (subst (λ u. IsFilling names u shape (row_bytes shape numbers ++ bytes) start outer) (sym e)
+      (fresh-filling names h shape bytes (row_bytes shape numbers) start outer w.filling _ fresh some are))
 
-  stale-takes : (HasNoNode h → ⊥) → Regrown (record h { slots = with_more own h.slots }) n → Takes h n shape width digits start
-  stale-takes stale e = λ numbers outer w short.
-      let short : start + element_width shape * (length numbers + 1) < 2 ^ 64 = subst (λ m. start + m * (length numbers + 1) < 2 ^ 64) same short in
+  stale-takes : (HasNoNode h → ⊥) → Regrown (record h { slots = with_more own h.slots }) n → Packs h n shape digits start
+  stale-takes stale e = λ names numbers outer w short.
       let small : digits < 2 ^ element_width shape = subst (λ m. digits < 2 ^ m) same small in
       let bytes = number_bytes (bytes_for (element_width shape)) digits in
       let e : Regrown (record h { slots = with_more bytes h.slots }) n = subst (λ bs. Regrown (record h { slots = with_more bs h.slots }) n) is e in
-      let are = more-are h shape digits numbers start outer w p small short in
-      more-packing h shape digits numbers start outer w p small short n
-      (subst (λ u. IsFilling u shape (row_bytes shape numbers ++ bytes) start outer) (sym e)
-      (stale-filling h shape bytes (row_bytes shape numbers) start outer w.filling _ stale are))
+      let are = more-are names h shape digits numbers start outer w p small short in
+      more-packing names h shape digits numbers start outer w p small short n
+      (subst (λ u. IsFilling names u shape (row_bytes shape numbers ++ bytes) start outer) (sym e)
+      (stale-filling names h shape bytes (row_bytes shape numbers) start outer w.filling _ stale are))
 
-  pub fresh-packs : {T E : Type 0} (r : Result T E) → HasNoNode h → OnOk r (Regrown (record h { slots = with_bytes shape own start h.slots }) n) → OnOk r (Takes h n shape width digits start)
+  pub fresh-packs : {T E : Type 0} (r : Result T E) → HasNoNode h → OnOk r (Regrown (record h { slots = with_bytes shape own start h.slots }) n) → OnOk r (Packs h n shape digits start)
   fresh-packs r fresh e = on_ok r (fresh-takes fresh) e
 
-  pub stale-packs : {T E : Type 0} (r : Result T E) → (HasNoNode h → ⊥) → OnOk r (Regrown (record h { slots = with_more own h.slots }) n) → OnOk r (Takes h n shape width digits start)
+  pub stale-packs : {T E : Type 0} (r : Result T E) → (HasNoNode h → ⊥) → OnOk r (Regrown (record h { slots = with_more own h.slots }) n) → OnOk r (Packs h n shape digits start)
   stale-packs r stale e = on_ok r (stale-takes stale) e
 
 -- the array is closed
-pub settled-row : {T E : Type 0} (r : Result T E) (h n : Held) (shape : Shape) (start : ℕ) → IsPacked shape → HasNoNode h → OnOk r (levels n ≡ pushed (levels h) (Some (bytes_value shape [] start))) →
-    OnOk r ((numbers : List ℕ) (outer : Levels) → IsPacking h shape numbers start outer → levels n ≡ (Some (row_value shape numbers start) ∷ []) ∷ outer)
-settled-row (Ok x) h n shape start p fresh e = λ numbers outer w.
-    let none = packing-fresh h shape numbers start outer w fresh p in
-    let w' : IsPacking h shape [] start outer = subst (λ ns. IsPacking h shape ns start outer) none w in
-    e ∙ ap (λ ls. pushed ls (Some (bytes_value shape [] start))) (packing-empty h shape start outer w')
+pub settled-row : {T E : Type 0} (r : Result T E) (h n : Held) (shape : Shape) (start : ℕ) → IsPacked shape → HasNoNode h →
+    OnOk r ((names : Names) → levels names n ≡ pushed (levels names h) (Some (bytes_value shape [] start))) → OnOk r (SettlesRow h n shape start)
+settled-row r h n shape start p fresh = on_ok r (λ e names numbers outer w.
+    let none = packing-fresh names h shape numbers start outer w fresh p in
+    let w' : IsPacking names h shape [] start outer = subst (λ ns. IsPacking names h shape ns start outer) none w in
+    e names
+    ∙ ap (λ ls. pushed ls (Some (bytes_value shape [] start))) (packing-empty names h shape start outer w')
     ∙ ap (λ v. (Some v ∷ []) ∷ outer) (row-is shape [] start p w'.below)
-    ∙ ap (λ ns. (Some (row_value shape ns start) ∷ []) ∷ outer) (sym none)
-settled-row (Err x) h n shape start p fresh e = tt
+    ∙ ap (λ ns. (Some (row_value shape ns start) ∷ []) ∷ outer) (sym none))
 
-pub stale-row_levels : (h : Held) (shape : Shape) (numbers : List ℕ) (start : ℕ) (outer : Levels) → IsPacking h shape numbers start outer → IsPacked shape → (HasNoNode h → ⊥) →
-    levels h ≡ (Some (row_value shape numbers start) ∷ []) ∷ outer
-stale-row_levels h shape numbers start outer w p stale =
-    filling-levels h shape (row_bytes shape numbers) start outer w.filling (stale-some h shape (row_bytes shape numbers) start outer w.filling stale)
+pub stale-row_levels : (names : Names) (h : Held) (shape : Shape) (numbers : List ℕ) (start : ℕ) (outer : Levels) → IsPacking names h shape numbers start outer → IsPacked shape → (HasNoNode h → ⊥) →
+    levels names h ≡ (Some (row_value shape numbers start) ∷ []) ∷ outer
+stale-row_levels names h shape numbers start outer w p stale =
+    filling-levels names h shape (row_bytes shape numbers) start outer w.filling (stale-some names h shape (row_bytes shape numbers) start outer w.filling stale)
     ∙ ap (λ v. (Some v ∷ []) ∷ outer) (row-is shape numbers start p w.below)
 
 -- the levels of an array that is lifted
 pub lifted-row : (shape : Shape) (numbers : List ℕ) (start : ℕ) (outer ls : Levels) → ls ≡ (Some (row_value shape numbers start) ∷ []) ∷ outer →
     extended (outer_of ls) (top_of ls) ≡ pushed outer (Some (row_value shape numbers start))
-lifted-row shape numbers start outer ls e = ap (λ l. extended (outer_of l) (top_of l)) e
+lifted-row shape numbers start outer ls e = ap (λ l. extended (outer_of l) (top_of l)) e ∙ pushed-extended outer (Some (row_value shape numbers start))

@@ -8,12 +8,13 @@ use Rattle.value_store.specs.declared.store.slots.Family.{Family}
 use Rattle.value_store.specs.declared.store.slots.Marks.{Marks}
 use Rattle.value_store.specs.declared.store.slots.Shape.{Shape}
 use Rattle.value_store.specs.declared.store.slots.Shape.TheVariants.{Integer, Offset, Text, Integers, Offsets, Array, Struct, Union}
-use Rattle.value_store.specs.Tree.{Value, Tree, parts_of, bytes_of}
-use Rattle.value_store.specs.Levels.{level_nodes, level_links, level_bytes}
+use Rattle.pickle_meaning.specs.Room.{NodeSlot, LinkSlot, ByteSlot, text_length, level_slots}
+use Rattle.pickle_meaning.specs.Values.{Value, Mapped, gathered}
+use Rattle.value_store.specs.Names.{Names}
 use Rattle.value_store.specs.Slots.{Slots, opened, family_at, first_link, family_links, links_of, tree_of, trees, trees_from, stack, LinksBelow, IsFamily, IsContent, IsSound, cut_to, marks_of, level_of, IsLevel, Adds, with_leaf, with_family, with_absent, IsComposite, composite_label, IsNumber, number_value}
 use Rattle.value_store.proofs.FamilyRows.{Grows, part-all, first_link-grow}
 use Rattle.value_store.proofs.Grown.{NewNode, AreNodes-grow, trees_from-grow, nodes-new, pending-new, stack-new, stack-cut, length-stack, LinksBelow-append, LinksBelow-drop}
-use Rattle.value_store.proofs.Counted.{nodes_in_parts-of, links_in_parts-of, bytes_in_parts-of, marks-cut}
+use Rattle.value_store.proofs.Counted.{members_slots-of, member_count-of, marks-cut}
 
 -- numbers
 
@@ -37,17 +38,17 @@ number-links s Array c i h = absurd h
 number-links s (Struct t) c i h = absurd h
 number-links s (Union j t) c i h = absurd h
 
-number-tree : (s : Slots) (ts : List Value) (shape : Shape) (start c : ℕ) → IsNumber shape → tree_of s ts (record { start = start; content = c; shape = shape }) ≡ number_value shape start c
-number-tree s ts (Integer w g) start c h = refl
-number-tree s ts (Offset w g u) start c h = refl
-number-tree s ts Text start c h = absurd h
-number-tree s ts (Integers w g) start c h = absurd h
-number-tree s ts (Offsets w g u) start c h = absurd h
-number-tree s ts Array start c h = absurd h
-number-tree s ts (Struct t) start c h = absurd h
-number-tree s ts (Union i t) start c h = absurd h
+number-tree : (names : Names) (s : Slots) (ts : List Value) (shape : Shape) (start c : ℕ) → IsNumber shape → tree_of names s ts (record { start = start; content = c; shape = shape }) ≡ number_value shape start c
+number-tree names s ts (Integer w g) start c h = refl
+number-tree names s ts (Offset w g u) start c h = refl
+number-tree names s ts Text start c h = absurd h
+number-tree names s ts (Integers w g) start c h = absurd h
+number-tree names s ts (Offsets w g u) start c h = absurd h
+number-tree names s ts Array start c h = absurd h
+number-tree names s ts (Struct t) start c h = absurd h
+number-tree names s ts (Union i t) start c h = absurd h
 
-pub number-nodes : (shape : Shape) (start c : ℕ) → IsNumber shape → (level_nodes (Some (number_value shape start c) ∷ []) ≡ 1) × ((level_links (Some (number_value shape start c) ∷ []) ≡ 0) × (level_bytes (Some (number_value shape start c) ∷ []) ≡ 0))
+pub number-nodes : (shape : Shape) (start c : ℕ) → IsNumber shape → (level_slots NodeSlot (Some (number_value shape start c) ∷ []) ≡ 1) × ((level_slots LinkSlot (Some (number_value shape start c) ∷ []) ≡ 0) × (level_slots ByteSlot (Some (number_value shape start c) ∷ []) ≡ 0))
 number-nodes (Integer w g) start c h = (refl, (refl, refl))
 number-nodes (Offset w g u) start c h = (refl, (refl, refl))
 number-nodes Text start c h = absurd h
@@ -61,10 +62,10 @@ number-nodes (Union i t) start c h = absurd h
 pub pending-last : (s : Slots) → s.pending ++ Some (length s.nodes) ∷ [] ≡ take (length s.pending) s.pending ++ Some (length s.nodes) ∷ []
 pending-last s = ap (λ ps. ps ++ Some (length s.nodes) ∷ []) (sym (take_all (length s.pending) s.pending (omega arith)))
 
-pub stack-last : (s u : Slots) (n : Node) → IsSound s → NewNode s u n → u.pending ≡ s.pending ++ Some (length s.nodes) ∷ [] → stack u ≡ stack s ++ Some (tree_of u (trees s) n) ∷ []
-stack-last s u n h g e =
-    stack-new s u n (length s.pending) h g (e ∙ pending-last s)
-    ∙ ap (λ os. os ++ Some (tree_of u (trees s) n) ∷ []) (take_all (length s.pending) (stack s) (omega (arith, length-stack s)))
+pub stack-last : (names : Names) (s u : Slots) (n : Node) → IsSound s → NewNode s u n → u.pending ≡ s.pending ++ Some (length s.nodes) ∷ [] → stack names u ≡ stack names s ++ Some (tree_of names u (trees names s) n) ∷ []
+stack-last names s u n h g e =
+    stack-new names s u n (length s.pending) h g (e ∙ pending-last s)
+    ∙ ap (λ os. os ++ Some (tree_of names u (trees names s) n) ∷ []) (take_all (length s.pending) (stack names s) (omega (arith, length-stack names s)))
 
 leaf-new : (shape : Shape) (start c : ℕ) (s : Slots) → IsNumber shape → NewNode s (with_leaf shape start c s) (record { start = start; content = c; shape = shape })
 leaf-new shape start c s number = record {
@@ -95,7 +96,7 @@ leaf-rest shape start c s =
     cc
 
 -- a number adds its value
-pub number-adds : (room : Room) (shape : Shape) (start c : ℕ) (s : Slots) → IsNumber shape → IsSound s → Adds room s (with_leaf shape start c s) (Some (number_value shape start c) ∷ [])
+pub number-adds : (room : Room) (shape : Shape) (start c : ℕ) (s : Slots) → IsNumber shape → IsSound s → Adds room s (with_leaf shape start c s) (λ names. Some (number_value shape start c) ∷ [])
 number-adds room shape start c s number sound =
     let u = with_leaf shape start c s in
     let n : Node = record { start = start; content = c; shape = shape } in
@@ -112,10 +113,10 @@ number-adds room shape start c s number sound =
         texts = omega (arith, sound.texts, count);
       };
       rest = leaf-rest shape start c s;
-      stack = stack-last s u n sound new refl ∙ ap (λ t. stack s ++ Some t ∷ []) (number-tree u (trees s) shape start c number);
-      nodes = λ counted. omega (arith, count, takes.0);
-      links = λ counted. omega (arith, takes.1.0);
-      bytes = λ counted. omega (arith, takes.1.1);
+      stack = λ names. stack-last names s u n sound new refl ∙ ap (λ t. stack names s ++ Some t ∷ []) (number-tree names u (trees names s) shape start c number);
+      nodes = λ counted names. omega (arith, count, takes.0);
+      links = λ counted names. omega (arith, takes.1.0);
+      bytes = λ counted names. omega (arith, takes.1.1);
     }
 
 -- arrays, structs and unions
@@ -140,25 +141,25 @@ family-links s Array c h = refl
 family-links s (Struct t) c h = refl
 family-links s (Union i t) c h = refl
 
-family-tree : (s : Slots) (ts : List Value) (shape : Shape) (start c : ℕ) → IsComposite shape → tree_of s ts (record { start = start; content = c; shape = shape }) ≡ Tree (composite_label shape) start (family_at s.families c).size (parts_of (map (opened ts) (family_links s.families s.links c)))
-family-tree s ts (Integer w g) start c h = absurd h
-family-tree s ts (Offset w g u) start c h = absurd h
-family-tree s ts Text start c h = absurd h
-family-tree s ts (Integers w g) start c h = absurd h
-family-tree s ts (Offsets w g u) start c h = absurd h
-family-tree s ts Array start c h = refl
-family-tree s ts (Struct t) start c h = refl
-family-tree s ts (Union i t) start c h = refl
+family-tree : (names : Names) (s : Slots) (ts : List Value) (shape : Shape) (start c : ℕ) → IsComposite shape → tree_of names s ts (record { start = start; content = c; shape = shape }) ≡ Mapped (composite_label names shape) start (start + (family_at s.families c).size) (gathered (map (opened ts) (family_links s.families s.links c)))
+family-tree names s ts (Integer w g) start c h = absurd h
+family-tree names s ts (Offset w g u) start c h = absurd h
+family-tree names s ts Text start c h = absurd h
+family-tree names s ts (Integers w g) start c h = absurd h
+family-tree names s ts (Offsets w g u) start c h = absurd h
+family-tree names s ts Array start c h = refl
+family-tree names s ts (Struct t) start c h = refl
+family-tree names s ts (Union i t) start c h = refl
 
-no-bytes : (shape : Shape) → IsComposite shape → bytes_of (composite_label shape) ≡ []
-no-bytes (Integer w g) h = absurd h
-no-bytes (Offset w g u) h = absurd h
-no-bytes Text h = absurd h
-no-bytes (Integers w g) h = absurd h
-no-bytes (Offsets w g u) h = absurd h
-no-bytes Array h = refl
-no-bytes (Struct t) h = refl
-no-bytes (Union i t) h = refl
+no-bytes : (names : Names) (shape : Shape) → IsComposite shape → text_length (composite_label names shape) ≡ 0
+no-bytes names (Integer w g) h = absurd h
+no-bytes names (Offset w g u) h = absurd h
+no-bytes names Text h = absurd h
+no-bytes names (Integers w g) h = absurd h
+no-bytes names (Offsets w g u) h = absurd h
+no-bytes names Array h = refl
+no-bytes names (Struct t) h = refl
+no-bytes names (Union i t) h = refl
 
 module _ (shape : Shape) (start size mark : ℕ) (s : Slots) (composite : IsComposite shape) (sound : IsSound s) (within : mark ≤ length s.pending) where
   new_family : Family
@@ -217,31 +218,29 @@ module _ (shape : Shape) (start size mark : ℕ) (s : Slots) (composite : IsComp
         texts = omega (arith, sound.texts, count);
       }
 
-  family-stack : stack (with_family shape start size mark s) ≡ take mark (stack s) ++ Some (Tree (composite_label shape) start size (parts_of (drop mark (stack s)))) ∷ []
+  family-stack : (names : Names) → stack names (with_family shape start size mark s) ≡ take mark (stack names s) ++ Some (Mapped (composite_label names shape) start (start + size) (gathered (drop mark (stack names s)))) ∷ []
   unfolding stack
-  family-stack =
+  family-stack names =
       let u = with_family shape start size mark s in
       let n : Node = record { start = start; content = length s.families; shape = shape } in
-      let ts = trees s in
-      let is : tree_of u ts n ≡ Tree (composite_label shape) start size (parts_of (drop mark (map (opened ts) s.pending))) =
-      family-tree u ts shape start (length s.families) composite
-      ∙ ap (λ (f : Family). Tree (composite_label shape) start f.size (parts_of (map (opened ts) (family_links u.families u.links (length s.families))))) family-end
-      ∙ ap (λ ls. Tree (composite_label shape) start size (parts_of (map (opened ts) ls))) family-row
-      ∙ ap (λ os. Tree (composite_label shape) start size (parts_of os)) (sym (drop-map (opened ts) mark s.pending)) in
-      stack-new s u n mark sound family-new refl ∙ ap (λ t. take mark (stack s) ++ Some t ∷ []) is
+      let ts = trees names s in
+      let is : tree_of names u ts n ≡ Mapped (composite_label names shape) start (start + size) (gathered (drop mark (map (opened ts) s.pending))) =
+      family-tree names u ts shape start (length s.families) composite
+      ∙ ap (λ (f : Family). Mapped (composite_label names shape) start (start + f.size) (gathered (map (opened ts) (family_links u.families u.links (length s.families))))) family-end
+      ∙ ap (λ ls. Mapped (composite_label names shape) start (start + size) (gathered (map (opened ts) ls))) family-row
+      ∙ ap (λ os. Mapped (composite_label names shape) start (start + size) (gathered os)) (sym (drop-map (opened ts) mark s.pending)) in
+      stack-new names s u n mark sound family-new refl ∙ ap (λ t. take mark (stack names s) ++ Some t ∷ []) is
 
 -- the parts of an open value become one value in their place
 pub family-adds : (room : Room) (shape : Shape) (start size : ℕ) (k : Marks) (s : Slots) → IsComposite shape → IsSound s → IsLevel room k s → IsSound (cut_to k s) →
-    Adds room (cut_to k s) (with_family shape start size k.pending s) (Some (Tree (composite_label shape) start size (parts_of (level_of k s))) ∷ [])
+    Adds room (cut_to k s) (with_family shape start size k.pending s) (λ names. Some (Mapped (composite_label names shape) start (start + size) (gathered (level_of names k s))) ∷ [])
 family-adds room shape start size k s composite sound is below =
     let u = with_family shape start size k.pending s in
     let n : Node = record { start = start; content = length s.families; shape = shape } in
     let f : Family = record { end = length s.links + (length s.pending - k.pending); size = size } in
     let w = is.within in
     let m = marks-cut k s w in
-    let level = level_of k s in
     let count = length_push s.nodes n in
-    let wide : length level ≡ length s.pending - k.pending = omega (arith, length-drop k.pending (stack s), length-stack s) in
     let nodes = take-append-le k.nodes s.nodes (n ∷ []) w.nodes in
     let families = take-append-le k.families s.families (f ∷ []) w.families in
     let links = take-append-le k.links s.links (drop k.pending s.pending) w.links in
@@ -250,10 +249,10 @@ family-adds room shape start size k s composite sound is below =
     record {
       sound = family-sound shape start size k.pending s composite sound w.pending;
       rest = ap (λ (j : Marks). cut_to j u) m ∙ left;
-      stack = family-stack shape start size k.pending s composite sound w.pending ∙ ap (λ os. os ++ Some (Tree (composite_label shape) start size (parts_of level)) ∷ []) (sym (stack-cut k s below));
-      nodes = λ counted. omega (arith, count, is.nodes counted, ap (λ (j : Marks). j.nodes) m, nodes_in_parts-of level);
-      links = λ counted. omega (arith, is.links counted, ap (λ (j : Marks). j.links) m, links_in_parts-of level, wide, length-append s.links (drop k.pending s.pending), length-drop k.pending s.pending);
-      bytes = λ counted. omega (arith, is.bytes counted, ap (λ (j : Marks). j.bytes) m, bytes_in_parts-of level, ap length (no-bytes shape composite));
+      stack = λ names. family-stack shape start size k.pending s composite sound w.pending names ∙ ap (λ os. os ++ Some (Mapped (composite_label names shape) start (start + size) (gathered (level_of names k s))) ∷ []) (sym (stack-cut names k s below));
+      nodes = λ counted names. omega (arith, count, is.nodes counted names, ap (λ (j : Marks). j.nodes) m, members_slots-of NodeSlot (level_of names k s) refl);
+      links = λ counted names. omega (arith, is.links counted names, ap (λ (j : Marks). j.links) m, members_slots-of LinkSlot (level_of names k s) refl, member_count-of (level_of names k s), length-drop k.pending (stack names s), length-stack names s, length-append s.links (drop k.pending s.pending), length-drop k.pending s.pending);
+      bytes = λ counted names. omega (arith, is.bytes counted names, ap (λ (j : Marks). j.bytes) m, members_slots-of ByteSlot (level_of names k s) refl, no-bytes names shape composite);
     }
 
 -- a field that is not there
@@ -280,13 +279,13 @@ absent-rest s =
     let eta : record { nodes = s.nodes; families = s.families; links = s.links; pending = s.pending; texts = s.texts; bytes = s.bytes } ≡ s = refl in
     cc
 
-absent-stack : (s : Slots) → IsSound s → stack (with_absent s) ≡ stack s ++ None ∷ []
+absent-stack : (names : Names) (s : Slots) → IsSound s → stack names (with_absent s) ≡ stack names s ++ None ∷ []
 unfolding stack trees
-absent-stack s sound =
-    let e : trees_from (with_absent s) [] s.nodes ≡ trees_from s [] s.nodes = trees_from-grow s (with_absent s) [] 0 s.nodes (absent-same s) sound.nodes in
-    ap (λ ts. map (opened ts) (s.pending ++ None ∷ [])) e ∙ map-append (opened (trees s)) s.pending (None ∷ [])
+absent-stack names s sound =
+    let e : trees_from names (with_absent s) [] s.nodes ≡ trees_from names s [] s.nodes = trees_from-grow names s (with_absent s) [] 0 s.nodes (absent-same s) sound.nodes in
+    ap (λ ts. map (opened ts) (s.pending ++ None ∷ [])) e ∙ map-append (opened (trees names s)) s.pending (None ∷ [])
 
-pub absent-adds : (room : Room) (s : Slots) → IsSound s → Adds room s (with_absent s) (None ∷ [])
+pub absent-adds : (room : Room) (s : Slots) → IsSound s → Adds room s (with_absent s) (λ names. None ∷ [])
 absent-adds room s sound = record {
   sound = record {
     nodes = AreNodes-grow s (with_absent s) 0 s.nodes (absent-same s) sound.nodes;
@@ -297,8 +296,8 @@ absent-adds room s sound = record {
     texts = sound.texts;
   };
   rest = absent-rest s;
-  stack = absent-stack s sound;
-  nodes = λ counted. omega arith;
-  links = λ counted. omega arith;
-  bytes = λ counted. omega arith;
+  stack = λ names. absent-stack names s sound;
+  nodes = λ counted names. omega arith;
+  links = λ counted names. omega arith;
+  bytes = λ counted names. omega arith;
 }

@@ -9,8 +9,9 @@ use Rattle.value_store.specs.declared.store.slots.Node.{Node}
 use Rattle.value_store.specs.declared.store.slots.Shape.{Shape}
 use Rattle.value_store.specs.declared.store.slots.Shape.TheVariants.{Integer, Offset, Text, Integers, Offsets, Array, Struct, Union}
 use Rattle.value_store.specs.Packed.{numbers_in}
-use Rattle.value_store.specs.Tree.{Value, Tree, TextLabel, ArrayLabel, End, parts_of}
-use Rattle.value_store.specs.Levels.{level_nodes, level_links, level_bytes}
+use Rattle.pickle_meaning.specs.Room.{NodeSlot, LinkSlot, ByteSlot, level_slots}
+use Rattle.pickle_meaning.specs.Values.{Value, Mapped, NoMembers, TextLabel, ArrayLabel, gathered}
+use Rattle.value_store.specs.Names.{Names}
 use Rattle.value_store.specs.Slots.{Slots, IsCounted, first_byte, text_bytes, elements, links_of, tree_of, trees, stack, LinksBelow, IsShort, IsByteRow, AreNumbers, IsContent, IsSound, cut_to, marks_of, Adds, with_bytes, AreBytes, bytes_value, MayKeep}
 use Rattle.value_store.proofs.FamilyRows.{part-all, first_byte-grow}
 use Rattle.value_store.proofs.Grown.{NewNode, nodes-new, pending-new}
@@ -79,26 +80,26 @@ bytes-links s Array bytes start c i h = absurd h
 bytes-links s (Struct t) bytes start c i h = absurd h
 bytes-links s (Union j t) bytes start c i h = absurd h
 
-bytes-tree : (shape : Shape) (bytes : List ℕ) (start : ℕ) (s : Slots) (ts : List Value) → IsSound s → AreBytes shape bytes start →
-    tree_of (with_bytes shape bytes start s) ts (record { start = start; content = length s.texts; shape = shape }) ≡ bytes_value shape bytes start
-bytes-tree (Integer w g) bytes start s ts sound h = absurd h
-bytes-tree (Offset w g u) bytes start s ts sound h = absurd h
-bytes-tree Text bytes start s ts sound h =
-    ap (λ bs. Tree (TextLabel bs) start (8 * (slice_index (with_bytes Text bytes start s).texts (length s.texts) - first_byte (with_bytes Text bytes start s).texts (length s.texts) + 1)) End) (bytes-here Text bytes start s sound)
-    ∙ ap (λ n. Tree (TextLabel bytes) start (8 * (n + 1)) End) (bytes-count Text bytes start s sound)
-bytes-tree (Integers w g) bytes start s ts sound h =
-    ap (λ bs. Tree ArrayLabel start (w * length (numbers_in w bs)) (parts_of (elements (Integers w g) start (numbers_in w bs)))) (bytes-here (Integers w g) bytes start s sound)
-bytes-tree (Offsets w g u) bytes start s ts sound h =
-    ap (λ bs. Tree ArrayLabel start (w * length (numbers_in w bs)) (parts_of (elements (Offsets w g u) start (numbers_in w bs)))) (bytes-here (Offsets w g u) bytes start s sound)
-bytes-tree Array bytes start s ts sound h = absurd h
-bytes-tree (Struct t) bytes start s ts sound h = absurd h
-bytes-tree (Union i t) bytes start s ts sound h = absurd h
+bytes-tree : (names : Names) (shape : Shape) (bytes : List ℕ) (start : ℕ) (s : Slots) (ts : List Value) → IsSound s → AreBytes shape bytes start →
+    tree_of names (with_bytes shape bytes start s) ts (record { start = start; content = length s.texts; shape = shape }) ≡ bytes_value shape bytes start
+bytes-tree names (Integer w g) bytes start s ts sound h = absurd h
+bytes-tree names (Offset w g u) bytes start s ts sound h = absurd h
+bytes-tree names Text bytes start s ts sound h =
+    ap (λ bs. Mapped (TextLabel bs) start (start + 8 * (slice_index (with_bytes Text bytes start s).texts (length s.texts) - first_byte (with_bytes Text bytes start s).texts (length s.texts) + 1)) NoMembers) (bytes-here Text bytes start s sound)
+    ∙ ap (λ n. Mapped (TextLabel bytes) start (start + 8 * (n + 1)) NoMembers) (bytes-count Text bytes start s sound)
+bytes-tree names (Integers w g) bytes start s ts sound h =
+    ap (λ bs. Mapped ArrayLabel start (start + w * length (numbers_in w bs)) (gathered (elements (Integers w g) start (numbers_in w bs)))) (bytes-here (Integers w g) bytes start s sound)
+bytes-tree names (Offsets w g u) bytes start s ts sound h =
+    ap (λ bs. Mapped ArrayLabel start (start + w * length (numbers_in w bs)) (gathered (elements (Offsets w g u) start (numbers_in w bs)))) (bytes-here (Offsets w g u) bytes start s sound)
+bytes-tree names Array bytes start s ts sound h = absurd h
+bytes-tree names (Struct t) bytes start s ts sound h = absurd h
+bytes-tree names (Union i t) bytes start s ts sound h = absurd h
 
 -- the slots of a text, and of nothing else where slots are counted
 pub record TakesBytes (shape : Shape) (own : List ℕ) (start : ℕ) : Type 0 where
-  pub nodes : level_nodes (Some (bytes_value shape own start) ∷ []) ≡ 1
-  pub links : level_links (Some (bytes_value shape own start) ∷ []) ≡ 0
-  pub bytes : level_bytes (Some (bytes_value shape own start) ∷ []) ≡ length own
+  pub nodes : level_slots NodeSlot (Some (bytes_value shape own start) ∷ []) ≡ 1
+  pub links : level_slots LinkSlot (Some (bytes_value shape own start) ∷ []) ≡ 0
+  pub bytes : level_slots ByteSlot (Some (bytes_value shape own start) ∷ []) ≡ length own
 
 pub bytes-takes : (room : Room) (shape : Shape) (bytes : List ℕ) (start : ℕ) → AreBytes shape bytes start → MayKeep room shape → IsCounted room → TakesBytes shape bytes start
 bytes-takes room (Integer w g) bytes start h may counted = absurd h
@@ -131,7 +132,7 @@ bytes-new shape bytes start s sound h = record {
 }
 
 pub bytes-adds : (room : Room) (shape : Shape) (bytes : List ℕ) (start : ℕ) (s : Slots) → IsSound s → AreBytes shape bytes start → MayKeep room shape →
-    Adds room s (with_bytes shape bytes start s) (Some (bytes_value shape bytes start) ∷ [])
+    Adds room s (with_bytes shape bytes start s) (λ names. Some (bytes_value shape bytes start) ∷ [])
 bytes-adds room shape bytes start s sound are may =
     let u = with_bytes shape bytes start s in
     let n : Node = record { start = start; content = length s.texts; shape = shape } in
@@ -147,8 +148,8 @@ bytes-adds room shape bytes start s sound are may =
         texts = omega (arith, sound.texts, count, length_push s.texts (length s.bytes + length bytes));
       };
       rest = bytes-rest shape bytes start s;
-      stack = stack-last s u n sound new refl ∙ ap (λ t. stack s ++ Some t ∷ []) (bytes-tree shape bytes start s (trees s) sound are);
-      nodes = λ counted. omega (arith, count, (bytes-takes room shape bytes start are may counted).nodes);
-      links = λ counted. omega (arith, (bytes-takes room shape bytes start are may counted).links);
-      bytes = λ counted. omega (arith, length-append s.bytes bytes, (bytes-takes room shape bytes start are may counted).bytes);
+      stack = λ names. stack-last names s u n sound new refl ∙ ap (λ t. stack names s ++ Some t ∷ []) (bytes-tree names shape bytes start s (trees names s) sound are);
+      nodes = λ counted names. omega (arith, count, (bytes-takes room shape bytes start are may counted).nodes);
+      links = λ counted names. omega (arith, (bytes-takes room shape bytes start are may counted).links);
+      bytes = λ counted names. omega (arith, length-append s.bytes bytes, (bytes-takes room shape bytes start are may counted).bytes);
     }

@@ -1,7 +1,6 @@
 -- Arrays whose elements are integers of one type.
 use Rattle.std.specs.Prelude.{◌≡◌, ℕ, IfSome}
 use Rattle.pickle_types.specs.declared.integer.IntegerType.{IntegerType}
-use Rattle.value_store.specs.Tree as tree
 use Rattle.pickle_meaning.specs.Values.{Value, Members, IntegerLabel, label_of, member_at}
 use Rattle.value_store.specs.Labels.{number_of}
 
@@ -12,10 +11,3 @@ IsIntegerOf type v = label_of v ≡ IntegerLabel (number_of (label_of v)) type
 -- the members that are there are such
 abbrev pub AreIntegersOf : IntegerType → Members → Type 0
 AreIntegersOf type members = (i : ℕ) → IfSome (member_at members i) (IsIntegerOf type)
-
--- the same of a value that a store holds, and of its parts
-abbrev pub IsStoredIntegerOf : IntegerType → tree.Value → Type 0
-IsStoredIntegerOf type v = tree.label v ≡ tree.IntegerLabel (tree.number_of (tree.label v)) type.width type.signed
-
-abbrev pub HasIntegersOf : IntegerType → tree.Value → Type 0
-HasIntegersOf type v = (i : ℕ) → IfSome (tree.part_at v i) (IsStoredIntegerOf type)

@@ -1,5 +1,5 @@
 -- What the label of a value tells of it.
-use Rattle.std.specs.Prelude.{ℕ, zero, suc, ℤ, pos, Bool, false, List, [], None, slice_get, unwrap_or}
+use Rattle.std.specs.Prelude.{ℕ, zero, suc, ℤ, pos, Bool, false, List, [], Option, Some, None, slice_get, unwrap_or}
 use Rattle.value_store.specs.declared.value.Kind.{Kind}
 use Rattle.value_store.specs.declared.value.Kind.TheVariants.{Integer, Offset, Text, Array, Struct, Union}
 use Rattle.pickle_meaning.specs.Values.{Naming, Label, IntegerLabel, OffsetLabel, TextLabel, ArrayLabel, StructLabel, UnionLabel}
@@ -61,6 +61,15 @@ name_of (TextLabel bytes) = None
 name_of ArrayLabel = None
 name_of (StructLabel name fields) = name
 name_of (UnionLabel name index alternative) = name
+
+-- the alternative that a union took
+abbrev pub taken_of : Label → Option ℕ
+taken_of (IntegerLabel number type) = None
+taken_of (OffsetLabel magnitude type unit) = None
+taken_of (TextLabel bytes) = None
+taken_of ArrayLabel = None
+taken_of (StructLabel name fields) = None
+taken_of (UnionLabel name index alternative) = Some index
 
 -- the name of a union's only member, which is the alternative taken
 abbrev pub only_name : Naming → ℕ → Naming

@@ -5,8 +5,9 @@ use Rattle.value_store.specs.declared.store.slots.Place.{Place}
 use Rattle.value_store.specs.declared.store.slots.Place.TheVariants as place
 use Rattle.value_store.specs.declared.store.slots.Shape.{Shape}
 use Rattle.value_store.specs.declared.store.slots.Shape.TheVariants as shape
-use Rattle.value_store.specs.Tree.{Value, Tree, ArrayLabel, End}
-use Rattle.value_store.specs.Slots.{Slots, value_at, row_numbers, element_width, element_value}
+use Rattle.pickle_meaning.specs.Values.{Value}
+use Rattle.value_store.specs.Names.{Names}
+use Rattle.value_store.specs.Slots.{Slots, no_value, value_at, row_numbers, element_width, element_value}
 use Rattle.value_store.specs.Linked.{links_from}
 
 -- the numbers of an array of packed numbers
@@ -14,7 +15,7 @@ abbrev pub numbers_of : Slots → Node → List ℕ
 numbers_of s n = row_numbers s (element_width n.shape) n.content
 
 abbrev pub element_in : Slots → Option Node → ℕ → Value
-element_in s None i = Tree ArrayLabel 0 0 End
+element_in s None i = no_value
 element_in s (Some n) i = element_value n.shape (n.start + element_width n.shape * i) (slice_index (numbers_of s n) i)
 
 -- how many packed numbers there are, of an array of these
@@ -44,9 +45,9 @@ place_count s (place.Element array index) = element_count s (slice_get s.nodes a
 abbrev pub IsPlace : Slots → Place → Type 0
 IsPlace s p = place_index p < place_count s p
 
-abbrev pub place_value : Slots → Place → Value
-place_value s (place.Node at) = value_at s at
-place_value s (place.Element array index) = element_in s (slice_get s.nodes array) index
+abbrev pub place_value : Names → Slots → Place → Value
+place_value names s (place.Node at) = value_at names s at
+place_value names s (place.Element array index) = element_in s (slice_get s.nodes array) index
 
 -- how many packed numbers are the parts of the value there
 abbrev pub place_packed : Slots → Place → ℕ

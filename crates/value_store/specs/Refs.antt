@@ -2,17 +2,16 @@
 use Rattle.std.specs.Prelude.{ℕ}
 use Rattle.value_store.specs.declared.stored.StoredValue.{StoredValue}
 use Rattle.value_store.specs.declared.value.ValueRef.{ValueRef}
-use Rattle.value_store.specs.Tree as tree
 use Rattle.value_store.specs.Lent.{place_value, place_rank}
+use Rattle.value_store.specs.Names.{Names}
 use Rattle.pickle_meaning.specs.Values.{Value}
-use Rattle.value_store.specs.Shown.{shown}
 
-abbrev pub value_of : StoredValue → tree.Value
-value_of r = place_value r.store.now.slots r.place
+abbrev pub value_of : Names → StoredValue → Value
+value_of names r = place_value names r.store.now.slots r.place
 
--- the same with the names of its type
+-- the same with the names of its table
 abbrev pub value_shown : ValueRef → Value
-value_shown r = shown r.nodes.now (value_of r.stored)
+value_shown r = value_of r.nodes.now r.stored
 
 -- a number that falls from a value to each of its members
 abbrev pub stored_rank : StoredValue → ℕ

@@ -5,9 +5,8 @@ use Rattle.pickle_types.specs.Sound.{IsSmall}
 use Rattle.pickle_meaning.specs.declared.faults.MapFaultKind.{MapFaultKind}
 use Rattle.value_store.specs.declared.scalar.Scalar.{Scalar}
 use Rattle.value_store.specs.declared.scalar.Scalar.TheVariants as scalar
-use Rattle.pickle_meaning.specs.Values.{Label, IntegerLabel, OffsetLabel}
+use Rattle.pickle_meaning.specs.Values.{Label, IntegerLabel, OffsetLabel, TextLabel, ArrayLabel, StructLabel, UnionLabel}
 use Rattle.pickle_meaning.specs.Arithmetic.{Computed}
-use Rattle.value_store.specs.Tree as tree
 
 abbrev pub scalar_label : Scalar → Label
 scalar_label (scalar.Integer number type) = IntegerLabel number type
@@ -28,10 +27,10 @@ IsShift width count (Some n) = (count ≡ pos n) × (n < width)
 IsShift width count None = (n : ℕ) → count ≡ pos n → width ≤ n
 
 -- the number that a value is, where it is an integer or an offset
-abbrev pub scalar_in : tree.Label → Option Label
-scalar_in (tree.IntegerLabel number width signed) = Some (IntegerLabel number (record { width = width; signed = signed }))
-scalar_in (tree.OffsetLabel number width signed unit) = Some (OffsetLabel number (record { width = width; signed = signed }) unit)
-scalar_in (tree.TextLabel bytes) = None
-scalar_in tree.ArrayLabel = None
-scalar_in (tree.StructLabel of) = None
-scalar_in (tree.UnionLabel of taken) = None
+abbrev pub scalar_in : Label → Option Label
+scalar_in (IntegerLabel number type) = Some (IntegerLabel number type)
+scalar_in (OffsetLabel magnitude type unit) = Some (OffsetLabel magnitude type unit)
+scalar_in (TextLabel bytes) = None
+scalar_in ArrayLabel = None
+scalar_in (StructLabel name fields) = None
+scalar_in (UnionLabel name index alternative) = None

@@ -9,10 +9,12 @@ use Rattle.value_store.specs.declared.store.slots.Family.{Family}
 use Rattle.value_store.specs.declared.store.slots.Marks.{Marks}
 use Rattle.value_store.specs.declared.store.slots.Shape.{Shape}
 use Rattle.value_store.specs.declared.store.slots.Shape.TheVariants.{Integer, Offset, Text, Integers, Offsets, Array, Struct, Union}
+use Rattle.pickle_types.specs.declared.integer.IntegerType.{IntegerType}
 use Rattle.pickle_meaning.specs.Arithmetic.{with_sign}
 use Rattle.value_store.specs.Packed.{bytes_for, packed, numbers_in}
-use Rattle.value_store.specs.Tree.{Label, IntegerLabel, OffsetLabel, TextLabel, ArrayLabel, StructLabel, UnionLabel, Value, Tree, End, parts_of, label, start, size, parts, text_value}
-use Rattle.value_store.specs.Levels.{Levels, level_nodes, level_links, level_bytes}
+use Rattle.value_store.specs.Names.{Names, title_at, names_at, name_at}
+use Rattle.pickle_meaning.specs.Values.{Label, IntegerLabel, OffsetLabel, TextLabel, ArrayLabel, StructLabel, UnionLabel, Value, Mapped, NoMembers, Levels, label_of, start_of, end_of, members_of, gathered, text_value}
+use Rattle.pickle_meaning.specs.Room.{NodeSlot, LinkSlot, ByteSlot, level_slots}
 
 -- the slots of a store, each a list of its own
 pub record Slots : Type 0 where
@@ -134,16 +136,20 @@ element_width Array = 0
 element_width (Struct t) = 0
 element_width (Union t i) = 0
 
+-- what stands where there is no value
+abbrev pub no_value : Value
+no_value = Mapped ArrayLabel 0 0 NoMembers
+
 -- the element of such binary digits
 abbrev pub element_value : Shape → (start digits : ℕ) → Value
-element_value (Integer w g) start n = Tree ArrayLabel 0 0 End
-element_value (Offset w g u) start n = Tree ArrayLabel 0 0 End
-element_value Text start n = Tree ArrayLabel 0 0 End
-element_value (Integers w g) start n = Tree (IntegerLabel (with_sign (record { width = w; signed = g }) n) w g) start w End
-element_value (Offsets w g u) start n = Tree (OffsetLabel (with_sign (record { width = w; signed = g }) n) w g u) start w End
-element_value Array start n = Tree ArrayLabel 0 0 End
-element_value (Struct t) start n = Tree ArrayLabel 0 0 End
-element_value (Union t i) start n = Tree ArrayLabel 0 0 End
+element_value (Integer w g) start n = no_value
+element_value (Offset w g u) start n = no_value
+element_value Text start n = no_value
+element_value (Integers w g) start n = let type : IntegerType = record { width = w; signed = g } in Mapped (IntegerLabel (with_sign type n) type) start (start + w) NoMembers
+element_value (Offsets w g u) start n = let type : IntegerType = record { width = w; signed = g } in Mapped (OffsetLabel (with_sign type n) type u) start (start + w) NoMembers
+element_value Array start n = no_value
+element_value (Struct t) start n = no_value
+element_value (Union t i) start n = no_value
 
 -- elements from the bit `start` on
 abbrev pub elements : Shape → (start : ℕ) → List ℕ → List (Option Value)
@@ -152,22 +158,22 @@ elements shape start (n ∷ ns) = Some (element_value shape start n) ∷ element
 
 -- an array of packed numbers
 abbrev pub row_value : Shape → List ℕ → (start : ℕ) → Value
-row_value shape numbers start = Tree ArrayLabel start (element_width shape * length numbers) (parts_of (elements shape start numbers))
+row_value shape numbers start = Mapped ArrayLabel start (start + element_width shape * length numbers) (gathered (elements shape start numbers))
 
 -- the number that 64 bits stand for
 abbrev pub number_in : Bool → ℕ → ℤ
 number_in true n = cast_signed w64 n
 number_in false n = pos n
 
-abbrev pub label_in : Slots → Shape → ℕ → Label
-label_in s (Integer w g) c = IntegerLabel (number_in g c) w g
-label_in s (Offset w g u) c = OffsetLabel (number_in g c) w g u
-label_in s Text c = TextLabel (text_bytes s.texts s.bytes c)
-label_in s (Integers w g) c = ArrayLabel
-label_in s (Offsets w g u) c = ArrayLabel
-label_in s Array c = ArrayLabel
-label_in s (Struct t) c = StructLabel t
-label_in s (Union i t) c = UnionLabel t i
+abbrev pub label_in : Names → Slots → Shape → ℕ → Label
+label_in names s (Integer w g) c = IntegerLabel (number_in g c) (record { width = w; signed = g })
+label_in names s (Offset w g u) c = OffsetLabel (number_in g c) (record { width = w; signed = g }) u
+label_in names s Text c = TextLabel (text_bytes s.texts s.bytes c)
+label_in names s (Integers w g) c = ArrayLabel
+label_in names s (Offsets w g u) c = ArrayLabel
+label_in names s Array c = ArrayLabel
+label_in names s (Struct of) c = StructLabel (title_at names of) (names_at names of)
+label_in names s (Union taken of) c = UnionLabel (title_at names of) taken (name_at names of taken)
 
 abbrev pub size_in : Slots → Shape → ℕ → ℕ
 size_in s (Integer w g) c = w
@@ -200,15 +206,15 @@ IsComposite Array = Unit {0}
 IsComposite (Struct t) = Unit {0}
 IsComposite (Union t i) = Unit {0}
 
-abbrev pub composite_label : Shape → Label
-composite_label (Integer w g) = ArrayLabel
-composite_label (Offset w g u) = ArrayLabel
-composite_label Text = ArrayLabel
-composite_label (Integers w g) = ArrayLabel
-composite_label (Offsets w g u) = ArrayLabel
-composite_label Array = ArrayLabel
-composite_label (Struct t) = StructLabel t
-composite_label (Union i t) = UnionLabel t i
+abbrev pub composite_label : Names → Shape → Label
+composite_label names (Integer w g) = ArrayLabel
+composite_label names (Offset w g u) = ArrayLabel
+composite_label names Text = ArrayLabel
+composite_label names (Integers w g) = ArrayLabel
+composite_label names (Offsets w g u) = ArrayLabel
+composite_label names Array = ArrayLabel
+composite_label names (Struct of) = StructLabel (title_at names of) (names_at names of)
+composite_label names (Union taken of) = UnionLabel (title_at names of) taken (name_at names of taken)
 
 -- a shape whose content is a number, of 1 to 64 bits
 abbrev pub IsNumber : Shape → Type 0
@@ -222,14 +228,14 @@ IsNumber (Struct t) = ⊥
 IsNumber (Union t i) = ⊥
 
 abbrev pub number_value : Shape → ℕ → ℕ → Value
-number_value (Integer w g) start c = Tree (IntegerLabel (number_in g c) w g) start w End
-number_value (Offset w g u) start c = Tree (OffsetLabel (number_in g c) w g u) start w End
-number_value Text start c = Tree ArrayLabel 0 0 End
-number_value (Integers w g) start c = Tree ArrayLabel 0 0 End
-number_value (Offsets w g u) start c = Tree ArrayLabel 0 0 End
-number_value Array start c = Tree ArrayLabel 0 0 End
-number_value (Struct t) start c = Tree ArrayLabel 0 0 End
-number_value (Union t i) start c = Tree ArrayLabel 0 0 End
+number_value (Integer w g) start c = Mapped (IntegerLabel (number_in g c) (record { width = w; signed = g })) start (start + w) NoMembers
+number_value (Offset w g u) start c = Mapped (OffsetLabel (number_in g c) (record { width = w; signed = g }) u) start (start + w) NoMembers
+number_value Text start c = no_value
+number_value (Integers w g) start c = no_value
+number_value (Offsets w g u) start c = no_value
+number_value Array start c = no_value
+number_value (Struct t) start c = no_value
+number_value (Union t i) start c = no_value
 
 -- the value that a link stands for, among these
 abbrev pub opened : List Value → Option ℕ → Option Value
@@ -248,24 +254,25 @@ parts_in s ts (Struct t) start c = map (opened ts) (family_links s.families s.li
 parts_in s ts (Union t i) start c = map (opened ts) (family_links s.families s.links c)
 
 -- the value of a node, after the values of the nodes before it
-abbrev pub tree_of : Slots → List Value → Node → Value
-tree_of s ts n = Tree (label_in s n.shape n.content) n.start (size_in s n.shape n.content) (parts_of (parts_in s ts n.shape n.start n.content))
+abbrev pub tree_of : Names → Slots → List Value → Node → Value
+tree_of names s ts n =
+    Mapped (label_in names s n.shape n.content) n.start (n.start + size_in s n.shape n.content) (gathered (parts_in s ts n.shape n.start n.content))
 
 -- the values of nodes, after those of the nodes before them
-abbrev pub trees_from : Slots → List Value → List Node → List Value
-trees_from s ts [] = ts
-trees_from s ts (n ∷ ns) = trees_from s (ts ++ tree_of s ts n ∷ []) ns
+abbrev pub trees_from : Names → Slots → List Value → List Node → List Value
+trees_from names s ts [] = ts
+trees_from names s ts (n ∷ ns) = trees_from names s (ts ++ tree_of names s ts n ∷ []) ns
 
-unfoldable pub trees : Slots → List Value
-trees s = trees_from s [] s.nodes
+unfoldable pub trees : Names → Slots → List Value
+trees names s = trees_from names s [] s.nodes
 
 -- the value of the node at a place
-unfoldable pub value_at : Slots → ℕ → Value
-value_at s i = slice_index_or (trees s) i (Tree ArrayLabel 0 0 End)
+unfoldable pub value_at : Names → Slots → ℕ → Value
+value_at names s i = slice_index_or (trees names s) i no_value
 
 -- the pending children as values
-unfoldable pub stack : Slots → List (Option Value)
-stack s = map (opened (trees s)) s.pending
+unfoldable pub stack : Names → Slots → List (Option Value)
+stack names s = map (opened (trees names s)) s.pending
 
 -- each link refers to a node below
 abbrev pub LinksBelow : ℕ → List (Option ℕ) → Type 0
@@ -359,15 +366,15 @@ pub record IsWithin (k : Marks) (s : Slots) : Type 0 where
   pub bytes : k.bytes ≤ length s.bytes
 
 -- the parts of the value that is open above some marks
-abbrev pub level_of : Marks → Slots → List (Option Value)
-level_of k s = drop k.pending (stack s)
+abbrev pub level_of : Names → Marks → Slots → List (Option Value)
+level_of names k s = drop k.pending (stack names s)
 
 -- above some marks there is just what the parts of the open value take, where slots are counted
 pub record IsLevel (room : Room) (k : Marks) (s : Slots) : Type 0 where
   pub within : IsWithin k s
-  pub nodes : IsCounted room → length s.nodes ≡ k.nodes + level_nodes (level_of k s)
-  pub links : IsCounted room → length s.links ≡ k.links + level_links (level_of k s)
-  pub bytes : IsCounted room → length s.bytes ≡ k.bytes + level_bytes (level_of k s)
+  pub nodes : IsCounted room → (names : Names) → length s.nodes ≡ k.nodes + level_slots NodeSlot (level_of names k s)
+  pub links : IsCounted room → (names : Names) → length s.links ≡ k.links + level_slots LinkSlot (level_of names k s)
+  pub bytes : IsCounted room → (names : Names) → length s.bytes ≡ k.bytes + level_slots ByteSlot (level_of names k s)
 
 abbrev pub innermost : List Marks → Marks
 innermost [] = root_marks
@@ -377,22 +384,26 @@ abbrev pub AreLevels : Room → List Marks → Slots → Type 0
 AreLevels room [] s = IsSound s × IsLevel room root_marks s
 AreLevels room (k ∷ ks) s = IsSound s × (IsLevel room k s × AreLevels room ks (cut_to k s))
 
-abbrev pub levels_at : List Marks → Slots → Levels
-levels_at [] s = level_of root_marks s ∷ []
-levels_at (k ∷ ks) s = level_of k s ∷ levels_at ks (cut_to k s)
+abbrev pub levels_at : Names → List Marks → Slots → Levels
+levels_at names [] s = level_of names root_marks s ∷ []
+levels_at names (k ∷ ks) s = level_of names k s ∷ levels_at names ks (cut_to k s)
 
--- the values that a store is building, level by level
-unfoldable pub levels : Held → Levels
-levels h = levels_at h.frames h.slots
+-- the values that a store is building, level by level, with the names of a table
+unfoldable pub levels : Names → Held → Levels
+levels names h = levels_at names h.frames h.slots
+
+-- how many levels there are: one for each open value, and the last for the whole
+abbrev pub level_count : Held → ℕ
+level_count h = 1 + length h.frames
 
 -- u is s with these values on its stack, and just the slots more that they take, where these are counted
-pub record Adds (room : Room) (s u : Slots) (vs : List (Option Value)) : Type 0 where
+pub record Adds (room : Room) (s u : Slots) (vs : Names → List (Option Value)) : Type 0 where
   pub sound : IsSound u
   pub rest : cut_to (marks_of s) u ≡ s
-  pub stack : stack u ≡ stack s ++ vs
-  pub nodes : IsCounted room → length u.nodes ≡ length s.nodes + level_nodes vs
-  pub links : IsCounted room → length u.links ≡ length s.links + level_links vs
-  pub bytes : IsCounted room → length u.bytes ≡ length s.bytes + level_bytes vs
+  pub stack : (names : Names) → stack names u ≡ stack names s ++ vs names
+  pub nodes : IsCounted room → (names : Names) → length u.nodes ≡ length s.nodes + level_slots NodeSlot (vs names)
+  pub links : IsCounted room → (names : Names) → length u.links ≡ length s.links + level_slots LinkSlot (vs names)
+  pub bytes : IsCounted room → (names : Names) → length u.bytes ≡ length s.bytes + level_slots ByteSlot (vs names)
 
 -- a new node without children
 abbrev pub with_leaf : Shape → ℕ → ℕ → Slots → Slots
@@ -455,14 +466,14 @@ AreBytes (Union t i) bytes start = ⊥
 
 -- the value that they are
 abbrev pub bytes_value : Shape → List ℕ → (start : ℕ) → Value
-bytes_value (Integer w g) bytes start = Tree ArrayLabel 0 0 End
-bytes_value (Offset w g u) bytes start = Tree ArrayLabel 0 0 End
-bytes_value Text bytes start = text_value bytes start
+bytes_value (Integer w g) bytes start = no_value
+bytes_value (Offset w g u) bytes start = no_value
+bytes_value Text bytes start = text_value bytes start (start + 8 * (length bytes + 1))
 bytes_value (Integers w g) bytes start = row_value (Integers w g) (numbers_in w bytes) start
 bytes_value (Offsets w g u) bytes start = row_value (Offsets w g u) (numbers_in w bytes) start
-bytes_value Array bytes start = Tree ArrayLabel 0 0 End
-bytes_value (Struct t) bytes start = Tree ArrayLabel 0 0 End
-bytes_value (Union t i) bytes start = Tree ArrayLabel 0 0 End
+bytes_value Array bytes start = no_value
+bytes_value (Struct t) bytes start = no_value
+bytes_value (Union t i) bytes start = no_value
 
 -- numbers are packed only where slots aren't counted
 abbrev pub MayKeep : Room → Shape → Type 0
@@ -476,22 +487,22 @@ written shape [] start s = s
 written shape (b ∷ bytes) start s = with_bytes shape (b ∷ bytes) start s
 
 -- the innermost open value is made of bytes, these so far; there is no node for it before it has a byte
-pub record IsFilling (h : Held) (shape : Shape) (bytes : List ℕ) (start : ℕ) (outer : Levels) : Type 0 where
+pub record IsFilling (names : Names) (h : Held) (shape : Shape) (bytes : List ℕ) (start : ℕ) (outer : Levels) : Type 0 where
   pub before : Slots
   pub is : h.slots ≡ written shape bytes start before
   pub own : AreLevels h.room h.frames before
-  pub above : levels_at h.frames before ≡ [] ∷ outer
+  pub above : levels_at names h.frames before ≡ [] ∷ outer
   pub none : length before.nodes ≡ (innermost h.frames).nodes
   pub are : AreBytes shape bytes start
   pub may : MayKeep h.room shape
 
 -- the innermost open value is a text under way, of these bytes so far
-abbrev pub IsWriting : Held → List ℕ → (start : ℕ) → Levels → Type 0
-IsWriting h bytes start outer = IsFilling h Text bytes start outer
+abbrev pub IsWriting : Names → Held → List ℕ → (start : ℕ) → Levels → Type 0
+IsWriting names h bytes start outer = IsFilling names h Text bytes start outer
 
 -- the innermost open value is an array of packed numbers under way, of these so far
-pub record IsPacking (h : Held) (shape : Shape) (numbers : List ℕ) (start : ℕ) (outer : Levels) : Type 0 where
-  pub filling : IsFilling h shape (packed (bytes_for (element_width shape)) numbers) start outer
+pub record IsPacking (names : Names) (h : Held) (shape : Shape) (numbers : List ℕ) (start : ℕ) (outer : Levels) : Type 0 where
+  pub filling : IsFilling names h shape (packed (bytes_for (element_width shape)) numbers) start outer
   pub below : All (λ n. n < 2 ^ element_width shape) numbers
 
 -- the innermost open value has no node yet
@@ -500,37 +511,42 @@ HasNoNode h = length h.slots.nodes ≡ (innermost h.frames).nodes
 
 -- a text is under way that begins there
 pub record IsText (h : Held) (start : ℕ) : Type 0 where
+  pub names : Names
   pub bytes : List ℕ
   pub outer : Levels
-  pub writing : IsWriting h bytes start outer
+  pub writing : IsWriting names h bytes start outer
 
 -- an array of packed numbers is under way that begins there
 pub record IsRowOf (h : Held) (shape : Shape) (start : ℕ) : Type 0 where
+  pub names : Names
   pub numbers : List ℕ
   pub outer : Levels
-  pub packing : IsPacking h shape numbers start outer
+  pub packing : IsPacking names h shape numbers start outer
 
 -- more bytes go on with what is under way
 pub record GoesOn (h : Held) (shape : Shape) (more : List ℕ) : Type 0 where
+  pub names : Names
   pub bytes : List ℕ
   pub start : ℕ
   pub outer : Levels
-  pub filling : IsFilling h shape bytes start outer
+  pub filling : IsFilling names h shape bytes start outer
   pub some : 0 < length bytes
   pub are : AreBytes shape (bytes ++ more) start
 
 -- a text under way that takes a byte more
 pub record TakesByte (h : Held) (start : ℕ) : Type 0 where
+  pub names : Names
   pub bytes : List ℕ
   pub outer : Levels
-  pub writing : IsWriting h bytes start outer
+  pub writing : IsWriting names h bytes start outer
   pub short : IsShort (length bytes + 1)
 
 -- an array of packed numbers under way that takes one more
 pub record TakesNumber (h : Held) (shape : Shape) (start : ℕ) : Type 0 where
+  pub names : Names
   pub numbers : List ℕ
   pub outer : Levels
-  pub packing : IsPacking h shape numbers start outer
+  pub packing : IsPacking names h shape numbers start outer
   pub short : start + element_width shape * (length numbers + 1) < 2 ^ 64
 
 -- room of that many of each kind is enough for so many more
@@ -572,10 +588,10 @@ around (k ∷ ks) = ks
 
 -- what the value of a node has of it
 pub record IsRead (s : Slots) (i : ℕ) (n : Node) : Type 0 where
-  pub label : label (value_at s i) ≡ label_in s n.shape n.content
-  pub start : start (value_at s i) ≡ n.start
-  pub size : size (value_at s i) ≡ size_in s n.shape n.content
-  pub parts : parts (value_at s i) ≡ parts_in s (trees s) n.shape n.start n.content
+  pub label : (names : Names) → label_of (value_at names s i) ≡ label_in names s n.shape n.content
+  pub start : (names : Names) → start_of (value_at names s i) ≡ n.start
+  pub end : (names : Names) → end_of (value_at names s i) ≡ n.start + size_in s n.shape n.content
+  pub members : (names : Names) → members_of (value_at names s i) ≡ gathered (parts_in s (trees names s) n.shape n.start n.content)
   pub content : IsContent s n.shape n.start n.content
   pub below : (k : ℕ) → IfSome (unwrap_or (slice_get (links_of s n.shape n.content) k) None) (λ j. j < i)
 

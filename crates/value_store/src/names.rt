@@ -3,7 +3,7 @@
 ghost use Rattle.std.specs.Prelude.{◌≡◌, None, slice_get, unwrap_or};
 ghost use Rattle.std.specs.Option.{option_map};
 ghost use Rattle.pickle_types.specs.Table.{name_of};
-ghost use Rattle.value_store.specs.Shown.{shape_title, shape_names, title_at, name_at, field_name, part_name};
+ghost use Rattle.value_store.specs.Names.{shape_title, shape_names, title_at, name_at, field_name, part_name};
 
 use pickle_types::view::{Field, Name, Node, Part, Shape};
 
@@ -38,7 +38,7 @@ fn shape_title(shape: &Shape) -> Option<&[u8]>
     }
 }
 
-#[tactic(auto, using(crate::proofs::ShownLabels::names_mapped))]
+#[tactic(auto, using(crate::proofs::Naming::names_mapped))]
 fn name_in(shape: &Shape, place: usize) -> Option<&[u8]>
     ensures { option_map (λ name. name.now) result ≡ unwrap_or (slice_get (shape_names shape.now) place) None }
 {

@@ -1,7 +1,9 @@
 //! The store of the values of a mapping.
 
 ghost use Rattle.std.specs.Prelude.{◌≡◌, ◌≤◌, ◌-◌, ◌++◌, ◌∷◌, [], Some, None, take, drop, IfOk, IsTrue, ◌↔◌, vec_len, vec_capacity};
-ghost use Rattle.value_store.specs.Levels.{no_values, FitsIn};
+ghost use Rattle.pickle_meaning.specs.Values.{no_values};
+ghost use Rattle.value_store.specs.Levels.{FitsIn};
+ghost use Rattle.value_store.specs.Names.{Names};
 ghost use Rattle.value_store.specs.declared.store.room.Growth.TheVariants.{Never};
 ghost use Rattle.value_store.specs.Slots.{empty, emptied, growing, fixed, marks_of, innermost, levels, HoldsInRoom};
 
@@ -67,7 +69,7 @@ impl Store {
     /// An empty store without room.
     pub fn new(alloc: Global) -> Store
         ensures empty { result ≡ empty (growing 0) result.capacity }
-        ensures levels { levels result ≡ no_values }
+        ensures levels { (names : Names) → levels names result ≡ no_values }
     {
         Store {
             nodes: Vec::new(alloc),
@@ -87,7 +89,7 @@ impl Store {
     /// An empty store with room for `room` nodes, links, pending children and bytes of texts, each.
     pub fn with_room(alloc: Global, room: usize) -> Result<Store, Memory>
         ensures empty { IfOk result (λ s. s ≡ empty (growing room) s.capacity) }
-        ensures levels { IfOk result (λ s. levels s ≡ no_values) }
+        ensures levels { IfOk result (λ s. (names : Names) → levels names s ≡ no_values) }
     {
         Store::reserved(
             alloc,
@@ -102,7 +104,7 @@ impl Store {
     /// what doesn't fit is refused as want of memory.
     pub fn with_most(alloc: Global, most: usize) -> Result<Store, Memory>
         ensures empty { IfOk result (λ s. s ≡ empty (fixed most) s.capacity) }
-        ensures levels { IfOk result (λ s. levels s ≡ no_values) }
+        ensures levels { IfOk result (λ s. (names : Names) → levels names s ≡ no_values) }
     {
         Store::reserved(
             alloc,
@@ -138,7 +140,7 @@ impl Store {
     /// Empties the store, and keeps all that its vectors have room for.
     pub fn clear(&mut self)
         ensures empty { self.new ≡ emptied self.old }
-        ensures levels { levels self.new ≡ no_values }
+        ensures levels { (names : Names) → levels names self.new ≡ no_values }
     {
         self.nodes.clear();
         self.families.clear();
@@ -153,7 +155,7 @@ impl Store {
     /// holds in what its vectors have room for.
     pub fn never_grows(&self) -> bool
         ensures is { IsTrue result ↔ (self.now.room.growth ≡ Never) }
-        ensures fits { self.now.room.growth ≡ Never → FitsIn self.now.room (levels self.now) }
+        ensures fits { self.now.room.growth ≡ Never → (names : Names) → FitsIn self.now.room (levels names self.now) }
         ensures holds { HoldsInRoom self.now }
     {
         matches!(self.room.growth, Growth::Never)

@@ -1,10 +1,11 @@
 //! References to values without the names of their types.
 
-ghost use Rattle.std.specs.Prelude.{◌≡◌, ◌<◌, length, IfSome};
+ghost use Rattle.std.specs.Prelude.{◌≡◌, ℕ, ◌+◌, ◌<◌, IfSome};
 ghost use Rattle.std.specs.Option.{option_map};
-ghost use Rattle.value_store.specs.Integers.{HasIntegersOf};
-ghost use Rattle.value_store.specs.Kinds.{kind_of};
-ghost use Rattle.value_store.specs.Tree.{label, start, size, parts, part_at, number_of, signed_of, width_of, unit_of, bytes_of, type_of, taken_of};
+ghost use Rattle.pickle_meaning.specs.Values.{label_of, start_of, end_of, members_of, member_count, member_at};
+ghost use Rattle.value_store.specs.Integers.{AreIntegersOf};
+ghost use Rattle.value_store.specs.Labels.{kind_of, number_of, signed_of, width_of, unit_of, bytes_of, taken_of, name_of, member_name};
+ghost use Rattle.value_store.specs.Names.{Names, title_found, member_found};
 ghost use Rattle.value_store.specs.Lent.{place_value, place_links, place_packed, place_rank, IsPlace};
 ghost use Rattle.value_store.specs.Scalars.{scalar_label, scalar_in, IsScalar};
 
@@ -27,13 +28,13 @@ impl<'a> StoredValue<'a> {
 
     pub(crate) fn new(store: &'a Store, place: Place) -> StoredValue<'a>
         requires { IsPlace store.now.slots place }
-        ensures { value_of result ≡ place_value store.now.slots place }
+        ensures { (names : Names) → value_of names result ≡ place_value names store.now.slots place }
     {
         StoredValue { store, place }
     }
 
     pub fn kind(&self) -> Kind
-        ensures { result ≡ kind_of (label (value_of self.now)) }
+        ensures { (names : Names) → result ≡ kind_of (label_of (value_of names self.now)) }
     {
         match self.place {
             Place::Node(at) => self.store.kind_at(at),
@@ -43,7 +44,7 @@ impl<'a> StoredValue<'a> {
 
     /// The bit at which the value starts.
     pub fn start(&self) -> u64
-        ensures { result ≡ start (value_of self.now) }
+        ensures { (names : Names) → result ≡ start_of (value_of names self.now) }
     {
         match self.place {
             Place::Node(at) => self.store.start_at(at),
@@ -53,7 +54,7 @@ impl<'a> StoredValue<'a> {
 
     /// How many bits the value takes.
     pub fn size(&self) -> u64
-        ensures { result ≡ size (value_of self.now) }
+        ensures { (names : Names) → start_of (value_of names self.now) + result ≡ end_of (value_of names self.now) }
     {
         match self.place {
             Place::Node(at) => self.store.size_at(at),
@@ -65,7 +66,7 @@ impl<'a> StoredValue<'a> {
 
     /// The number of an integer, the magnitude of an offset, else 0.
     pub fn number(&self) -> i128
-        ensures { result ≡ number_of (label (value_of self.now)) }
+        ensures { (names : Names) → result ≡ number_of (label_of (value_of names self.now)) }
     {
         match self.place {
             Place::Node(at) => self.store.number_at(at),
@@ -75,7 +76,7 @@ impl<'a> StoredValue<'a> {
 
     /// Whether the type of an integer or of an offset's magnitude has a sign, else false.
     pub fn signed(&self) -> bool
-        ensures { result ≡ signed_of (label (value_of self.now)) }
+        ensures { (names : Names) → result ≡ signed_of (label_of (value_of names self.now)) }
     {
         match self.place {
             Place::Node(at) => self.store.signed_at(at),
@@ -86,7 +87,7 @@ impl<'a> StoredValue<'a> {
     /// The number of an integer or an offset, with its type.
     #[inline(always)]
     pub fn scalar(&self) -> Option<Scalar>
-        ensures is { option_map scalar_label result ≡ scalar_in (label (value_of self.now)) }
+        ensures is { (names : Names) → option_map scalar_label result ≡ scalar_in (label_of (value_of names self.now)) }
         ensures scalar { IfSome result IsScalar }
     {
         match self.place {
@@ -97,7 +98,7 @@ impl<'a> StoredValue<'a> {
 
     /// The width in bits of an integer or of an offset's magnitude, else 0.
     pub fn width(&self) -> u8
-        ensures { result ≡ width_of (label (value_of self.now)) }
+        ensures { (names : Names) → result ≡ width_of (label_of (value_of names self.now)) }
     {
         match self.place {
             Place::Node(at) => self.store.width_at(at),
@@ -107,7 +108,7 @@ impl<'a> StoredValue<'a> {
 
     /// The unit of an offset in bits, else 0.
     pub fn unit(&self) -> u32
-        ensures { result ≡ unit_of (label (value_of self.now)) }
+        ensures { (names : Names) → result ≡ unit_of (label_of (value_of names self.now)) }
     {
         match self.place {
             Place::Node(at) => self.store.unit_at(at),
@@ -117,7 +118,7 @@ impl<'a> StoredValue<'a> {
 
     /// The bytes of a text without its final 0, else none.
     pub fn bytes(&self) -> &'a [u8]
-        ensures { result.now ≡ bytes_of (label (value_of self.now)) }
+        ensures { (names : Names) → result.now ≡ bytes_of (label_of (value_of names self.now)) }
     {
         match self.place {
             Place::Node(at) => self.store.bytes_at(at),
@@ -127,7 +128,7 @@ impl<'a> StoredValue<'a> {
 
     /// The number of elements of an array, of declared fields of a struct, absent ones too; 1 for a union, else 0.
     pub fn len(&self) -> usize
-        ensures { result ≡ length (parts (value_of self.now)) }
+        ensures { (names : Names) → result ≡ member_count (members_of (value_of names self.now)) }
     {
         match self.place {
             Place::Node(at) => self.store.len_at(at),
@@ -137,7 +138,7 @@ impl<'a> StoredValue<'a> {
 
     /// The element or field at a place, the alternative taken at place 0; nothing for an absent field and past the end.
     pub fn child(&self, i: usize) -> Option<StoredValue<'a>>
-        ensures part { option_map value_of result ≡ part_at (value_of self.now) i }
+        ensures part { (names : Names) → option_map (value_of names) result ≡ member_at (members_of (value_of names self.now)) i }
         ensures below { IfSome result (λ c. place_rank c.place < place_rank self.now.place) }
     {
         self.linked(self.links(), self.packed(), i)
@@ -155,7 +156,7 @@ impl<'a> StoredValue<'a> {
 
     /// The type of the parts, where they are packed integers.
     pub(crate) fn row_type(&self) -> Option<IntegerType>
-        ensures { IfSome result (λ number. HasIntegersOf number (value_of self.now)) }
+        ensures { (names : Names) → IfSome result (λ number. AreIntegersOf number (members_of (value_of names self.now))) }
     {
         match self.place {
             Place::Node(at) => self.store.row_type(at),
@@ -177,7 +178,7 @@ impl<'a> StoredValue<'a> {
     pub(crate) fn count_linked(&self, links: &[Link], packed: usize) -> usize
         requires links { links.now ≡ place_links self.now.store.now.slots self.now.place }
         requires packed { packed ≡ place_packed self.now.store.now.slots self.now.place }
-        ensures { result ≡ length (parts (value_of self.now)) }
+        ensures { (names : Names) → result ≡ member_count (members_of (value_of names self.now)) }
     {
         match self.place {
             Place::Node(at) => self.store.count_linked(at, links, packed),
@@ -189,7 +190,7 @@ impl<'a> StoredValue<'a> {
     pub(crate) fn linked(&self, links: &[Link], packed: usize, i: usize) -> Option<StoredValue<'a>>
         requires links { links.now ≡ place_links self.now.store.now.slots self.now.place }
         requires packed { packed ≡ place_packed self.now.store.now.slots self.now.place }
-        ensures part { option_map value_of result ≡ part_at (value_of self.now) i }
+        ensures part { (names : Names) → option_map (value_of names) result ≡ member_at (members_of (value_of names self.now)) i }
         ensures below { IfSome result (λ c. place_rank c.place < place_rank self.now.place) }
     {
         let at = match self.place {
@@ -207,7 +208,8 @@ impl<'a> StoredValue<'a> {
 
     /// The index of the type that names a struct or a union.
     pub(crate) fn type_index(&self) -> Option<u32>
-        ensures { result ≡ type_of (label (value_of self.now)) }
+        ensures title { (names : Names) → title_found names result ≡ name_of (label_of (value_of names self.now)) }
+        ensures members { (names : Names) (i : ℕ) → let l = label_of (value_of names self.now) in member_found names result (taken_of l) i ≡ member_name l i }
     {
         match self.place {
             Place::Node(at) => self.store.type_at(at),
@@ -217,7 +219,7 @@ impl<'a> StoredValue<'a> {
 
     /// The alternative that a union took.
     pub fn taken(&self) -> Option<u16>
-        ensures { result ≡ taken_of (label (value_of self.now)) }
+        ensures { (names : Names) → result ≡ taken_of (label_of (value_of names self.now)) }
     {
         match self.place {
             Place::Node(at) => self.store.taken_at(at),

@@ -4,7 +4,6 @@ ghost use Rattle.std.specs.Prelude.{◌≡◌, ◌<◌, ◌-◌, IfSome};
 ghost use Rattle.std.specs.Option.{option_map};
 ghost use Rattle.pickle_meaning.specs.Values.{label_of, start_of, end_of, members_of, member_count, member_at};
 ghost use Rattle.value_store.specs.Labels.{kind_of, number_of, signed_of, width_of, unit_of, bytes_of, name_of, member_name};
-ghost use Rattle.value_store.specs.Shown.{shown};
 
 mod members;
 
@@ -31,13 +30,12 @@ pub struct ValueRef<'a> {
     nodes: &'a [Node],
 }
 
-#[tactic(auto, using(crate::proofs::ShownLabels::shown_reads))]
 impl<'a> ValueRef<'a> {
     ghost use Rattle.value_store.specs.Refs.{value_of, value_shown, rank_of};
     ghost use Rattle.value_store.specs.Owners.{owner_of};
 
     pub fn new(stored: StoredValue<'a>, nodes: &'a [Node]) -> ValueRef<'a>
-        ensures { value_shown result ≡ shown nodes.now (value_of stored.entry) }
+        ensures { value_shown result ≡ value_of nodes.now stored.entry }
     {
         ValueRef { stored, nodes }
     }

@@ -5,7 +5,7 @@ ghost use Rattle.pickle_types.specs.Table.{optional_term, bound_of};
 ghost use Rattle.pickle_types.specs.Sound.{IsSoundClause, IsSoundBound};
 ghost use Rattle.pickle_meaning.specs.Clauses.{constraint, condition, field_start, extent_of, clause_steps, label_steps, bound_steps};
 ghost use Rattle.pickle_map.specs.Settles.{Settles};
-ghost use Rattle.value_store.specs.Shown.{kept};
+ghost use Rattle.value_store.specs.Slots.{levels};
 
 use crate::mapper::clauses;
 use crate::mapper::stop::Stop;
@@ -29,9 +29,9 @@ pub fn check<W: Watch>(
     ensures limit { meter.new.limit ≡ meter.old.limit }
     ensures made { meter.new.made ≡ meter.old.made }
     ensures steps { meter.old.steps ≤ meter.new.steps }
-    ensures is { Settles meter.old.limit meter.old.steps meter.new.steps result (constraint (optional_term clause.now) (kept table.now store.now) place) (clause_steps (optional_term clause.now) (kept table.now store.now)) }
+    ensures is { Settles meter.old.limit meter.old.steps meter.new.steps result (constraint (optional_term clause.now) (levels table.now store.now) place) (clause_steps (optional_term clause.now) (levels table.now store.now)) }
 {
-    let checked = clauses::check(table, clause, store, place, meter);
+    let checked = clauses::check(clause, store, place, meter);
     if let Err(stop) = checked {
         blame_clause(table, Clause::Constraint, clause, store, stop, watch);
     }
@@ -52,9 +52,9 @@ pub fn is_there<W: Watch>(
     ensures limit { meter.new.limit ≡ meter.old.limit }
     ensures made { meter.new.made ≡ meter.old.made }
     ensures steps { meter.old.steps ≤ meter.new.steps }
-    ensures is { Settles meter.old.limit meter.old.steps meter.new.steps result (condition (optional_term clause.now) (kept table.now store.now) start) (clause_steps (optional_term clause.now) (kept table.now store.now)) }
+    ensures is { Settles meter.old.limit meter.old.steps meter.new.steps result (condition (optional_term clause.now) (levels table.now store.now) start) (clause_steps (optional_term clause.now) (levels table.now store.now)) }
 {
-    let there = clauses::is_there(table, clause, store, start, meter);
+    let there = clauses::is_there(clause, store, start, meter);
     if let Err(stop) = there {
         blame_clause(table, Clause::Condition, clause, store, stop, watch);
     }
@@ -78,9 +78,9 @@ pub fn find_start<W: Watch>(
     ensures limit { meter.new.limit ≡ meter.old.limit }
     ensures made { meter.new.made ≡ meter.old.made }
     ensures steps { meter.old.steps ≤ meter.new.steps }
-    ensures is { Settles meter.old.limit meter.old.steps meter.new.steps result (field_start pinned (optional_term label.now) (kept table.now store.now) start behind) (label_steps pinned (optional_term label.now) (kept table.now store.now)) }
+    ensures is { Settles meter.old.limit meter.old.steps meter.new.steps result (field_start pinned (optional_term label.now) (levels table.now store.now) start behind) (label_steps pinned (optional_term label.now) (levels table.now store.now)) }
 {
-    let found = clauses::find_start(table, pinned, label, store, start, behind, meter);
+    let found = clauses::find_start(pinned, label, store, start, behind, meter);
     if let Err(stop) = found {
         blame_clause(table, Clause::Label, label, store, stop, watch);
     }
@@ -101,9 +101,9 @@ pub fn find_extent<W: Watch>(
     ensures limit { meter.new.limit ≡ meter.old.limit }
     ensures made { meter.new.made ≡ meter.old.made }
     ensures steps { meter.old.steps ≤ meter.new.steps }
-    ensures is { Settles meter.old.limit meter.old.steps meter.new.steps result (extent_of (bound_of bound.now) (kept table.now store.now) start) (bound_steps (bound_of bound.now) (kept table.now store.now)) }
+    ensures is { Settles meter.old.limit meter.old.steps meter.new.steps result (extent_of (bound_of bound.now) (levels table.now store.now) start) (bound_steps (bound_of bound.now) (levels table.now store.now)) }
 {
-    let extent = clauses::find_extent(table, bound, store, start, meter);
+    let extent = clauses::find_extent(bound, store, start, meter);
     if let Err(stop) = extent {
         blame_bound(table, bound, store, stop, watch);
         watch.stop(stop);

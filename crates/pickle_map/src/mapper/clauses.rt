@@ -1,6 +1,7 @@
 //! What stands beside the types in a pickle: constraints, conditions, labels and bounds.
 
-ghost use Rattle.std.specs.Prelude.{◌≡◌, ℕ, ◌+◌, ◌<◌, ◌≤◌, ◌^◌, Ok, IfOk};
+ghost use Rattle.std.specs.Prelude.{◌≡◌, ℕ, List, ◌+◌, ◌<◌, ◌≤◌, ◌^◌, Ok, IfOk};
+ghost use Rattle.pickle_types.specs.declared.table.Node.{Node as TableNode};
 ghost use Rattle.pickle_types.specs.Table.{term_of, optional_term, bound_of};
 ghost use Rattle.pickle_types.specs.Sound.{IsSoundTerm, IsSoundClause, IsSoundBound};
 ghost use Rattle.pickle_meaning.specs.Values.{Label};
@@ -8,7 +9,7 @@ ghost use Rattle.pickle_meaning.specs.Evaluation.{evaluation, truth_of};
 ghost use Rattle.pickle_meaning.specs.Clauses.{constraint, condition, field_start, extent_of, clause_steps, label_steps, bound_steps, satisfied, kind_at, told_at, behind_start, count_of, size_of};
 ghost use Rattle.pickle_evaluation.specs.Contents.{IsHeld, IsSoundContent};
 ghost use Rattle.pickle_map.specs.Settles.{Ends, Settles, Sees, natural};
-ghost use Rattle.value_store.specs.Shown.{kept};
+ghost use Rattle.value_store.specs.Slots.{levels};
 
 use crate::mapper::stop::Stop;
 use bit_space::Meter;
@@ -19,14 +20,13 @@ use pickle_evaluation::offsets::bits_in;
 use pickle_evaluation::operand::Unvalued;
 use pickle_meaning::extent::Extent;
 use pickle_meaning::faults::MapFaultKind;
-use pickle_types::view::{Extent as Bound, Node, Resolved};
+use pickle_types::view::{Extent as Bound, Resolved};
 use value_store::scalar::Scalar;
 use value_store::store::Store;
 
 /// Checks a constraint on the last value of the innermost level; one that is 0 is a Constraint fault. All its faults are
 /// told at `place`, the bit where that value starts.
 pub fn check(
-    table: &[Node],
     clause: &Option<Box<Resolved>>,
     store: &Store,
     place: u128,
@@ -36,17 +36,16 @@ pub fn check(
     ensures limit { meter.new.limit ≡ meter.old.limit }
     ensures made { meter.new.made ≡ meter.old.made }
     ensures steps { meter.old.steps ≤ meter.new.steps }
-    ensures is { Settles meter.old.limit meter.old.steps meter.new.steps result (constraint (optional_term clause.now) (kept table.now store.now) place) (clause_steps (optional_term clause.now) (kept table.now store.now)) }
+    ensures is { (nodes : List TableNode) → Settles meter.old.limit meter.old.steps meter.new.steps result (constraint (optional_term clause.now) (levels nodes store.now) place) (clause_steps (optional_term clause.now) (levels nodes store.now)) }
 {
     match clause {
         None => Ok(()),
-        Some(e) => satisfied(truth_told(table, e, store, place, meter)?, place),
+        Some(e) => satisfied(truth_told(e, store, place, meter)?, place),
     }
 }
 
 /// Whether a field of a struct is there: its condition isn't 0. Faults are told at `start`, the struct's first bit.
 pub fn is_there(
-    table: &[Node],
     clause: &Option<Box<Resolved>>,
     store: &Store,
     start: u128,
@@ -56,11 +55,11 @@ pub fn is_there(
     ensures limit { meter.new.limit ≡ meter.old.limit }
     ensures made { meter.new.made ≡ meter.old.made }
     ensures steps { meter.old.steps ≤ meter.new.steps }
-    ensures is { Settles meter.old.limit meter.old.steps meter.new.steps result (condition (optional_term clause.now) (kept table.now store.now) start) (clause_steps (optional_term clause.now) (kept table.now store.now)) }
+    ensures is { (nodes : List TableNode) → Settles meter.old.limit meter.old.steps meter.new.steps result (condition (optional_term clause.now) (levels nodes store.now) start) (clause_steps (optional_term clause.now) (levels nodes store.now)) }
 {
     match clause {
         None => Ok(true),
-        Some(e) => truth_told(table, e, store, start, meter),
+        Some(e) => truth_told(e, store, start, meter),
     }
 }
 
@@ -69,7 +68,6 @@ pub fn is_there(
 /// Bounds fault. A label's faults are told at `start`.
 #[inline(always)]
 pub fn find_start(
-    table: &[Node],
     pinned: bool,
     label: &Option<Box<Resolved>>,
     store: &Store,
@@ -82,21 +80,20 @@ pub fn find_start(
     ensures limit { meter.new.limit ≡ meter.old.limit }
     ensures made { meter.new.made ≡ meter.old.made }
     ensures steps { meter.old.steps ≤ meter.new.steps }
-    ensures is { Settles meter.old.limit meter.old.steps meter.new.steps result (field_start pinned (optional_term label.now) (kept table.now store.now) start behind) (label_steps pinned (optional_term label.now) (kept table.now store.now)) }
+    ensures is { (nodes : List TableNode) → Settles meter.old.limit meter.old.steps meter.new.steps result (field_start pinned (optional_term label.now) (levels nodes store.now) start behind) (label_steps pinned (optional_term label.now) (levels nodes store.now)) }
 {
     if pinned {
         return Ok(start);
     }
     match label {
         None => Ok(behind),
-        Some(e) => labelled_start(table, e, store, start, meter),
+        Some(e) => labelled_start(e, store, start, meter),
     }
 }
 
 /// How far an array goes, by its bound. A negative one is a Bounds fault. A bound's faults are told at `start`, the
 /// array's first bit.
 pub fn find_extent(
-    table: &[Node],
     bound: &Bound,
     store: &Store,
     start: u128,
@@ -106,38 +103,31 @@ pub fn find_extent(
     ensures limit { meter.new.limit ≡ meter.old.limit }
     ensures made { meter.new.made ≡ meter.old.made }
     ensures steps { meter.old.steps ≤ meter.new.steps }
-    ensures is { Settles meter.old.limit meter.old.steps meter.new.steps result (extent_of (bound_of bound.now) (kept table.now store.now) start) (bound_steps (bound_of bound.now) (kept table.now store.now)) }
+    ensures is { (nodes : List TableNode) → Settles meter.old.limit meter.old.steps meter.new.steps result (extent_of (bound_of bound.now) (levels nodes store.now) start) (bound_steps (bound_of bound.now) (levels nodes store.now)) }
 {
     match bound {
         Bound::Unbounded => Ok(Extent::Open),
-        Bound::Count(e) => evaluated_count(table, e, store, start, meter),
-        Bound::Size(e) => evaluated_size(table, e, store, start, meter),
+        Bound::Count(e) => evaluated_count(e, store, start, meter),
+        Bound::Size(e) => evaluated_size(e, store, start, meter),
     }
 }
 
 /// The bit that a label leads to; its fault is told at `start`.
 #[inline(never)]
-fn labelled_start(
-    table: &[Node],
-    e: &Resolved,
-    store: &Store,
-    start: u128,
-    meter: &mut Meter,
-) -> Result<u128, Stop>
+fn labelled_start(e: &Resolved, store: &Store, start: u128, meter: &mut Meter) -> Result<u128, Stop>
     requires sound { IsSoundTerm (term_of e.now) }
     requires start { start < 2 ^ 127 }
     ensures limit { meter.new.limit ≡ meter.old.limit }
     ensures made { meter.new.made ≡ meter.old.made }
     ensures steps { meter.old.steps ≤ meter.new.steps }
-    ensures is { Settles meter.old.limit meter.old.steps meter.new.steps result (told_at start (behind_start start) (evaluation (term_of e.now) (kept table.now store.now)).outcome) (evaluation (term_of e.now) (kept table.now store.now)).steps }
+    ensures is { (nodes : List TableNode) → Settles meter.old.limit meter.old.steps meter.new.steps result (told_at start (behind_start start) (evaluation (term_of e.now) (levels nodes store.now)).outcome) (evaluation (term_of e.now) (levels nodes store.now)).steps }
 {
-    behind_start(told(table, e, store, start, meter)?, start)
+    behind_start(told(e, store, start, meter)?, start)
 }
 
 /// The number of elements that a bound comes to; its fault is told at `start`.
 #[inline(never)]
 fn evaluated_count(
-    table: &[Node],
     e: &Resolved,
     store: &Store,
     start: u128,
@@ -147,15 +137,14 @@ fn evaluated_count(
     ensures limit { meter.new.limit ≡ meter.old.limit }
     ensures made { meter.new.made ≡ meter.old.made }
     ensures steps { meter.old.steps ≤ meter.new.steps }
-    ensures is { Settles meter.old.limit meter.old.steps meter.new.steps result (told_at start (count_of start) (evaluation (term_of e.now) (kept table.now store.now)).outcome) (evaluation (term_of e.now) (kept table.now store.now)).steps }
+    ensures is { (nodes : List TableNode) → Settles meter.old.limit meter.old.steps meter.new.steps result (told_at start (count_of start) (evaluation (term_of e.now) (levels nodes store.now)).outcome) (evaluation (term_of e.now) (levels nodes store.now)).steps }
 {
-    count_of(told(table, e, store, start, meter)?, start)
+    count_of(told(e, store, start, meter)?, start)
 }
 
 /// The number of bits that a bound comes to; its fault is told at `start`.
 #[inline(never)]
 fn evaluated_size(
-    table: &[Node],
     e: &Resolved,
     store: &Store,
     start: u128,
@@ -165,14 +154,13 @@ fn evaluated_size(
     ensures limit { meter.new.limit ≡ meter.old.limit }
     ensures made { meter.new.made ≡ meter.old.made }
     ensures steps { meter.old.steps ≤ meter.new.steps }
-    ensures is { Settles meter.old.limit meter.old.steps meter.new.steps result (told_at start (size_of start) (evaluation (term_of e.now) (kept table.now store.now)).outcome) (evaluation (term_of e.now) (kept table.now store.now)).steps }
+    ensures is { (nodes : List TableNode) → Settles meter.old.limit meter.old.steps meter.new.steps result (told_at start (size_of start) (evaluation (term_of e.now) (levels nodes store.now)).outcome) (evaluation (term_of e.now) (levels nodes store.now)).steps }
 {
-    size_of(told(table, e, store, start, meter)?, start)
+    size_of(told(e, store, start, meter)?, start)
 }
 
 /// What operators see of an expression's value; its fault is told at a place.
 fn told<'a>(
-    table: &[Node],
     e: &'a Resolved,
     store: &'a Store,
     place: u128,
@@ -182,10 +170,10 @@ fn told<'a>(
     ensures limit { meter.new.limit ≡ meter.old.limit }
     ensures made { meter.new.made ≡ meter.old.made }
     ensures steps { meter.old.steps ≤ meter.new.steps }
-    ensures is { Sees meter.old.limit meter.old.steps meter.new.steps place result (evaluation (term_of e.now) (kept table.now store.now)) }
+    ensures is { (nodes : List TableNode) → Sees meter.old.limit meter.old.steps meter.new.steps place result (evaluation (term_of e.now) (levels nodes store.now)) }
     ensures sound { IfOk result IsSoundContent }
 {
-    match look(table, e, store, meter) {
+    match look(e, store, meter) {
         Ok(x) => Ok(x),
         Err(Unvalued::Fault(kind)) => Err(Stop::Fault(kind, place)),
         Err(Unvalued::Limit) => Err(Stop::Limit),
@@ -194,18 +182,12 @@ fn told<'a>(
 
 /// The truth of an expression; its fault is told at a place. Comparisons of integers that are there are met at a glance.
 #[inline(always)]
-fn truth_told(
-    table: &[Node],
-    e: &Resolved,
-    store: &Store,
-    place: u128,
-    meter: &mut Meter,
-) -> Result<bool, Stop>
+fn truth_told(e: &Resolved, store: &Store, place: u128, meter: &mut Meter) -> Result<bool, Stop>
     requires { IsSoundTerm (term_of e.now) }
     ensures limit { meter.new.limit ≡ meter.old.limit }
     ensures made { meter.new.made ≡ meter.old.made }
     ensures steps { meter.old.steps ≤ meter.new.steps }
-    ensures is { Settles meter.old.limit meter.old.steps meter.new.steps result (told_at place (λ x. kind_at place (truth_of x)) (evaluation (term_of e.now) (kept table.now store.now)).outcome) (evaluation (term_of e.now) (kept table.now store.now)).steps }
+    ensures is { (nodes : List TableNode) → Settles meter.old.limit meter.old.steps meter.new.steps result (told_at place (λ x. kind_at place (truth_of x)) (evaluation (term_of e.now) (levels nodes store.now)).outcome) (evaluation (term_of e.now) (levels nodes store.now)).steps }
 {
     match comparison(e, store) {
         Some(holds) => {
@@ -214,14 +196,13 @@ fn truth_told(
             meter.tick()?;
             Ok(holds)
         }
-        None => evaluated_truth(table, e, store, place, meter),
+        None => evaluated_truth(e, store, place, meter),
     }
 }
 
 /// The truth of an expression's value; its fault is told at a place.
 #[inline(never)]
 fn evaluated_truth(
-    table: &[Node],
     e: &Resolved,
     store: &Store,
     place: u128,
@@ -231,9 +212,9 @@ fn evaluated_truth(
     ensures limit { meter.new.limit ≡ meter.old.limit }
     ensures made { meter.new.made ≡ meter.old.made }
     ensures steps { meter.old.steps ≤ meter.new.steps }
-    ensures is { Settles meter.old.limit meter.old.steps meter.new.steps result (told_at place (λ x. kind_at place (truth_of x)) (evaluation (term_of e.now) (kept table.now store.now)).outcome) (evaluation (term_of e.now) (kept table.now store.now)).steps }
+    ensures is { (nodes : List TableNode) → Settles meter.old.limit meter.old.steps meter.new.steps result (told_at place (λ x. kind_at place (truth_of x)) (evaluation (term_of e.now) (levels nodes store.now)).outcome) (evaluation (term_of e.now) (levels nodes store.now)).steps }
 {
-    told_truth(told(table, e, store, place, meter)?, place)
+    told_truth(told(e, store, place, meter)?, place)
 }
 
 /// Whether a constraint is satisfied.

@@ -1,6 +1,7 @@
 //! Types that are read as one number: integers, offsets and integral structs.
 
-ghost use Rattle.std.specs.Prelude.{◌≡◌, ◌≢◌, ◌+◌, ◌*◌, ◌<◌, ◌≤◌, ◌^◌, Some, map, length, All, IfOk, IfErr, OnErr};
+ghost use Rattle.std.specs.Prelude.{◌≡◌, List, ◌≢◌, ◌+◌, ◌*◌, ◌<◌, ◌≤◌, ◌^◌, Some, map, length, All, IfOk, IfErr, OnErr};
+ghost use Rattle.pickle_types.specs.declared.table.Node.{Node as TableNode};
 ghost use Rattle.pickle_types.specs.Types.{IntegerOf, OffsetOf, depth};
 ghost use Rattle.pickle_types.specs.Table.{IsTable, type_of, IsWidth};
 ghost use Rattle.pickle_map.specs.Calls.{as_number, as_integer, Maps, integral_at, Places, PlacesLevel, PlacesPart, PlacesFields};
@@ -8,11 +9,10 @@ ghost use Rattle.pickle_map.specs.Framed.{Frame, WorkFrame, IsEnd, DeviceFailed,
 ghost use Rattle.pickle_meaning.specs.Values.{outer_of};
 ghost use Rattle.pickle_map.specs.Mappable.{IsPartOf};
 ghost use Rattle.pickle_meaning.specs.Means.{first_digits, number_type, width_in};
-ghost use Rattle.value_store.specs.Shown.{kept, names_at, part_name};
-ghost use Rattle.value_store.specs.Slots.{levels};
+ghost use Rattle.value_store.specs.Names.{names_at, part_name};
+ghost use Rattle.value_store.specs.Slots.{levels, level_count};
 
 use crate::mapper::blame::check;
-use crate::mapper::keep::{close_struct, keep_integer, keep_offset};
 use crate::mapper::read::read_digits;
 use crate::mapper::stop::Stop;
 use crate::mapper::watch::Watch;
@@ -37,15 +37,15 @@ pub(crate) fn map_number<S: Space, W: Watch>(
 ) -> Result<u64, Stop>
     requires table { IsTable nodes.now }
     requires at { at < length nodes.now }
-    requires open { length (levels store.old) + depth (type_of nodes.now at) ≤ 65 }
+    requires open { level_count store.old + depth (type_of nodes.now at) ≤ 65 }
     requires number { number_type (type_of nodes.now at) ≡ Some number }
     requires width { IsWidth number }
     requires inside { start ≤ 8 * (S.view space.old).len }
     ensures frame { Frame (S.view space.old) (S.view space.new) meter.old meter.new store.old store.new 0 }
     ensures ends { IfOk result (IsEnd start (S.view space.old)) }
     ensures is { Maps nodes.now (S.view space.old) meter.old meter.new store.old store.new (as_number at number order start) result }
-    ensures same { OnErr result (kept nodes.now store.new ≡ kept nodes.now store.old) }
-    ensures depth { length (levels store.new) ≡ length (levels store.old) }
+    ensures same { OnErr result (levels nodes.now store.new ≡ levels nodes.now store.old) }
+    ensures depth { level_count store.new ≡ level_count store.old }
     ensures device { IfErr result (DeviceFailed (S.view space.old) (S.view space.new)) }
 {
     let digits = read_digits(space, start, number.width, order, meter)?;
@@ -56,7 +56,6 @@ pub(crate) fn map_number<S: Space, W: Watch>(
 /// Maps an integer from the bit `start` on, and gives the bit behind it.
 #[inline(always)]
 pub(crate) fn map_integer<S: Space>(
-    nodes: &[Node],
     number: IntegerType,
     order: Order,
     start: u64,
@@ -68,13 +67,13 @@ pub(crate) fn map_integer<S: Space>(
     requires inside { start ≤ 8 * (S.view space.old).len }
     ensures frame { Frame (S.view space.old) (S.view space.new) meter.old meter.new store.old store.new 0 }
     ensures ends { IfOk result (IsEnd start (S.view space.old)) }
-    ensures is { Maps nodes.now (S.view space.old) meter.old meter.new store.old store.new (as_integer number order start) result }
-    ensures same { OnErr result (kept nodes.now store.new ≡ kept nodes.now store.old) }
-    ensures depth { length (levels store.new) ≡ length (levels store.old) }
+    ensures is { (nodes : List TableNode) → Maps nodes (S.view space.old) meter.old meter.new store.old store.new (as_integer number order start) result }
+    ensures same { (nodes : List TableNode) → OnErr result (levels nodes store.new ≡ levels nodes store.old) }
+    ensures depth { level_count store.new ≡ level_count store.old }
     ensures device { IfErr result (DeviceFailed (S.view space.old) (S.view space.new)) }
 {
     let digits = read_digits(space, start, number.width, order, meter)?;
-    place_integer(nodes, number, digits, start, meter, store)?;
+    place_integer(number, digits, start, meter, store)?;
     Ok(start + u64::from(number.width))
 }
 
@@ -91,21 +90,19 @@ pub fn place_number<W: Watch>(
 ) -> Result<(), Stop>
     requires table { IsTable nodes.now }
     requires at { at < length nodes.now }
-    requires open { length (levels store.old) + depth (type_of nodes.now at) ≤ 65 }
+    requires open { level_count store.old + depth (type_of nodes.now at) ≤ 65 }
     requires digits { digits < 2 ^ width_in (number_type (type_of nodes.now at)) }
     requires start { start < 2 ^ 63 }
     requires free { meter.old.made < meter.old.steps }
     ensures frame { WorkFrame meter.old meter.new store.old store.new 1 }
     ensures is { Places nodes.now meter.old meter.new store.old store.new (type_of nodes.now at) digits start result }
-    ensures same { OnErr result (kept nodes.now store.new ≡ kept nodes.now store.old) }
-    ensures depth { length (levels store.new) ≡ length (levels store.old) }
+    ensures same { OnErr result (levels nodes.now store.new ≡ levels nodes.now store.old) }
+    ensures depth { level_count store.new ≡ level_count store.old }
     ensures stays { IfErr result (λ stop. stop ≢ Stop.Device) }
 {
     match &nodes[at].shape {
-        Shape::Integer(number) => place_integer(nodes, *number, digits, start, meter, store),
-        Shape::Offset(number, unit) => {
-            place_offset(nodes, *number, *unit, digits, start, meter, store)
-        }
+        Shape::Integer(number) => place_integer(*number, digits, start, meter, store),
+        Shape::Offset(number, unit) => { place_offset(*number, *unit, digits, start, meter, store) }
         Shape::Integral {
             name: _,
             number,
@@ -130,7 +127,6 @@ fn no_number(start: u64) -> Stop
 /// Keeps an integer.
 #[inline(always)]
 fn place_integer(
-    nodes: &[Node],
     number: IntegerType,
     digits: u64,
     start: u64,
@@ -141,19 +137,18 @@ fn place_integer(
     requires digits { digits < 2 ^ number.width }
     requires free { meter.old.made < meter.old.steps }
     ensures frame { WorkFrame meter.old meter.new store.old store.new 1 }
-    ensures is { Places nodes.now meter.old meter.new store.old store.new (IntegerOf number) digits start result }
-    ensures same { OnErr result (kept nodes.now store.new ≡ kept nodes.now store.old) }
-    ensures depth { length (levels store.new) ≡ length (levels store.old) }
+    ensures is { (nodes : List TableNode) → Places nodes meter.old meter.new store.old store.new (IntegerOf number) digits start result }
+    ensures same { (nodes : List TableNode) → OnErr result (levels nodes store.new ≡ levels nodes store.old) }
+    ensures depth { level_count store.new ≡ level_count store.old }
     ensures stays { IfErr result (λ stop. stop ≢ Stop.Device) }
 {
-    keep_integer(nodes, store, number, digits, start)?;
+    store.push_integer(number, digits, start)?;
     meter.note_made();
     Ok(())
 }
 
 /// Keeps an offset.
 fn place_offset(
-    nodes: &[Node],
     number: IntegerType,
     unit: u32,
     digits: u64,
@@ -166,12 +161,12 @@ fn place_offset(
     requires digits { digits < 2 ^ number.width }
     requires free { meter.old.made < meter.old.steps }
     ensures frame { WorkFrame meter.old meter.new store.old store.new 1 }
-    ensures is { Places nodes.now meter.old meter.new store.old store.new (OffsetOf number unit) digits start result }
-    ensures same { OnErr result (kept nodes.now store.new ≡ kept nodes.now store.old) }
-    ensures depth { length (levels store.new) ≡ length (levels store.old) }
+    ensures is { (nodes : List TableNode) → Places nodes meter.old meter.new store.old store.new (OffsetOf number unit) digits start result }
+    ensures same { (nodes : List TableNode) → OnErr result (levels nodes store.new ≡ levels nodes store.old) }
+    ensures depth { level_count store.new ≡ level_count store.old }
     ensures stays { IfErr result (λ stop. stop ≢ Stop.Device) }
 {
-    keep_offset(nodes, store, number, unit, digits, start)?;
+    store.push_offset(number, unit, digits, start)?;
     meter.note_made();
     Ok(())
 }
@@ -191,16 +186,16 @@ fn place_integral<W: Watch>(
 ) -> Result<(), Stop>
     requires table { IsTable nodes.now }
     requires at { at < length nodes.now }
-    requires fields { All (IsPartOf nodes.now (length (levels store.old) + 1)) fields.now }
+    requires fields { All (IsPartOf nodes.now (level_count store.old + 1)) fields.now }
     requires names { names_at nodes.now at ≡ map part_name fields.now }
-    requires open { length (levels store.old) ≤ 64 }
+    requires open { level_count store.old ≤ 64 }
     requires width { IsWidth number }
     requires start { start < 2 ^ 63 }
     requires free { meter.old.made < meter.old.steps }
     ensures frame { WorkFrame meter.old meter.new store.old store.new 1 }
     ensures is { Places nodes.now meter.old meter.new store.old store.new (integral_at nodes.now at number fields.now) digits start result }
-    ensures same { OnErr result (kept nodes.now store.new ≡ kept nodes.now store.old) }
-    ensures depth { length (levels store.new) ≡ length (levels store.old) }
+    ensures same { OnErr result (levels nodes.now store.new ≡ levels nodes.now store.old) }
+    ensures depth { level_count store.new ≡ level_count store.old }
     ensures stays { IfErr result (λ stop. stop ≢ Stop.Device) }
 {
     watch.open(at);
@@ -235,9 +230,9 @@ fn integral_body<W: Watch>(
 ) -> Result<(), Stop>
     requires table { IsTable nodes.now }
     requires at { at < length nodes.now }
-    requires fields { All (IsPartOf nodes.now (length (levels store.old))) fields.now }
+    requires fields { All (IsPartOf nodes.now (level_count store.old)) fields.now }
     requires names { names_at nodes.now at ≡ map part_name fields.now }
-    requires open { 1 < length (levels store.old) }
+    requires open { 1 < level_count store.old }
     requires width { IsWidth number }
     requires start { start < 2 ^ 63 }
     requires free { meter.old.made < meter.old.steps }
@@ -256,13 +251,7 @@ fn integral_body<W: Watch>(
         store,
         watch,
     )?;
-    close_struct(
-        nodes,
-        store,
-        at as u32,
-        start,
-        start + u64::from(number.width),
-    )?;
+    store.close_struct(at as u32, start, start + u64::from(number.width))?;
     meter.note_made();
     Ok(())
 }
@@ -280,13 +269,13 @@ fn place_fields<W: Watch>(
     watch: &mut W,
 ) -> Result<(), Stop>
     requires table { IsTable nodes.now }
-    requires fields { All (IsPartOf nodes.now (length (levels store.old))) fields.now }
+    requires fields { All (IsPartOf nodes.now (level_count store.old)) fields.now }
     requires width { width ≤ 64 }
     requires start { start < 2 ^ 63 }
     ensures frame { WorkFrame meter.old meter.new store.old store.new 0 }
     ensures is { PlacesFields nodes.now meter.old meter.new store.old store.new fields.now digits width start result }
-    ensures outer { outer_of (kept nodes.now store.new) ≡ outer_of (kept nodes.now store.old) }
-    ensures depth { length (levels store.new) ≡ length (levels store.old) }
+    ensures outer { outer_of (levels nodes.now store.new) ≡ outer_of (levels nodes.now store.old) }
+    ensures depth { level_count store.new ≡ level_count store.old }
     ensures stays { IfErr result (λ stop. stop ≢ Stop.Device) }
 {
     let mut left = width;
@@ -313,13 +302,13 @@ fn place_part<W: Watch>(
     watch: &mut W,
 ) -> Result<(), Stop>
     requires table { IsTable nodes.now }
-    requires part { IsPartOf nodes.now (length (levels store.old)) part.now }
+    requires part { IsPartOf nodes.now (level_count store.old) part.now }
     requires digits { digits < 2 ^ width_in (number_type (type_of nodes.now part.now.node)) }
     requires start { start < 2 ^ 63 }
     ensures frame { WorkFrame meter.old meter.new store.old store.new 0 }
     ensures is { PlacesPart nodes.now meter.old meter.new store.old store.new part.now digits start result }
-    ensures outer { outer_of (kept nodes.now store.new) ≡ outer_of (kept nodes.now store.old) }
-    ensures depth { length (levels store.new) ≡ length (levels store.old) }
+    ensures outer { outer_of (levels nodes.now store.new) ≡ outer_of (levels nodes.now store.old) }
+    ensures depth { level_count store.new ≡ level_count store.old }
     ensures stays { IfErr result (λ stop. stop ≢ Stop.Device) }
 {
     meter.tick()?;

@@ -4,10 +4,8 @@ ghost use Rattle.std.specs.Prelude.{◌≡◌, ◌*◌, ◌<◌, ◌≤◌, [], 
 ghost use Rattle.pickle_types.specs.Table.{IsTable, type_of};
 ghost use Rattle.pickle_map.specs.Calls.{as_array_level, Closes, PacksRow};
 ghost use Rattle.pickle_map.specs.Framed.{Frame, IsEnd, DeviceFailed, LeavesLevel};
-ghost use Rattle.value_store.specs.Levels as stored;
 ghost use Rattle.pickle_map.specs.Row.{PacksAs};
-ghost use Rattle.value_store.specs.Shown.{kept};
-ghost use Rattle.value_store.specs.Slots.{levels, IsPacking};
+ghost use Rattle.value_store.specs.Slots.{levels, IsPacking, level_count};
 ghost use Rattle.pickle_meaning.specs.Values.{outer_of};
 
 use crate::mapper::read::read_digits;
@@ -57,8 +55,8 @@ pub(crate) fn row_body<S: Space, W: Watch>(
     watch: &mut W,
 ) -> Result<u64, Stop>
     requires shape { PacksAs shape (type_of nodes.now element) store.old.room }
-    requires packing { IsPacking store.old shape [] start (stored.outer_of (levels store.old)) }
-    requires open { 1 < length (levels store.old) }
+    requires packing { IsPacking nodes.now store.old shape [] start (outer_of (levels nodes.now store.old)) }
+    requires open { 1 < level_count store.old }
     requires inside { start ≤ 8 * (S.view space.old).len }
     requires free { meter.old.made < meter.old.steps }
     ensures frame { Frame (S.view space.old) (S.view space.new) meter.old meter.new store.old store.new 1 }
@@ -90,13 +88,13 @@ fn map_packed<S: Space, W: Watch>(
     watch: &mut W,
 ) -> Result<u64, Stop>
     requires shape { PacksAs shape (type_of nodes.now element) store.old.room }
-    requires packing { IsPacking store.old shape [] start (stored.outer_of (levels store.old)) }
+    requires packing { IsPacking nodes.now store.old shape [] start (outer_of (levels nodes.now store.old)) }
     requires inside { start ≤ 8 * (S.view space.old).len }
     ensures frame { Frame (S.view space.old) (S.view space.new) meter.old meter.new store.old store.new 0 }
     ensures ends { IfOk result (IsEnd start (S.view space.old)) }
     ensures is { PacksRow nodes.now (S.view space.old) meter.old meter.new store.old store.new shape element extent order start result }
-    ensures outer { outer_of (kept nodes.now store.new) ≡ outer_of (kept nodes.now store.old) }
-    ensures depth { length (levels store.new) ≡ length (levels store.old) }
+    ensures outer { outer_of (levels nodes.now store.new) ≡ outer_of (levels nodes.now store.old) }
+    ensures depth { level_count store.new ≡ level_count store.old }
     ensures device { IfErr result (DeviceFailed (S.view space.old) (S.view space.new)) }
 {
     let bits = 8 * space.len();

@@ -6,9 +6,8 @@ ghost use Rattle.bit_space.specs.Reading.{MayRead};
 ghost use Rattle.bit_space.specs.declared.order.Order.TheVariants.{Big};
 ghost use Rattle.pickle_map.specs.Calls.{as_text, as_text_level, Maps, Closes};
 ghost use Rattle.pickle_map.specs.Framed.{Frame, IsEnd, DeviceFailed, LeavesLevel, RefusesReading};
-ghost use Rattle.value_store.specs.Shown.{kept};
-ghost use Rattle.value_store.specs.Levels as stored;
-ghost use Rattle.value_store.specs.Slots.{levels, IsWriting};
+ghost use Rattle.pickle_meaning.specs.Values.{outer_of};
+ghost use Rattle.value_store.specs.Slots.{levels, IsWriting, level_count};
 
 use crate::mapper::read::refusal_at;
 use crate::mapper::stop::Stop;
@@ -25,12 +24,12 @@ pub(crate) fn map_text<S: Space>(
     store: &mut Store,
 ) -> Result<u64, Stop>
     requires inside { start ≤ 8 * (S.view space.old).len }
-    requires open { length (levels store.old) ≤ 64 }
+    requires open { level_count store.old ≤ 64 }
     ensures frame { Frame (S.view space.old) (S.view space.new) meter.old meter.new store.old store.new 0 }
     ensures ends { IfOk result (IsEnd start (S.view space.old)) }
     ensures is { Maps nodes.now (S.view space.old) meter.old meter.new store.old store.new (as_text start) result }
-    ensures same { OnErr result (kept nodes.now store.new ≡ kept nodes.now store.old) }
-    ensures depth { length (levels store.new) ≡ length (levels store.old) }
+    ensures same { OnErr result (levels nodes.now store.new ≡ levels nodes.now store.old) }
+    ensures depth { level_count store.new ≡ level_count store.old }
     ensures device { IfErr result (DeviceFailed (S.view space.old) (S.view space.new)) }
 {
     meter.tick()?;
@@ -54,8 +53,8 @@ fn text_body<S: Space>(
     store: &mut Store,
 ) -> Result<u64, Stop>
     requires inside { start ≤ 8 * (S.view space.old).len }
-    requires writing { IsWriting store.old [] start (stored.outer_of (levels store.old)) }
-    requires open { 1 < length (levels store.old) }
+    requires writing { IsWriting nodes.now store.old [] start (outer_of (levels nodes.now store.old)) }
+    requires open { 1 < level_count store.old }
     requires free { meter.old.made < meter.old.steps }
     ensures frame { Frame (S.view space.old) (S.view space.new) meter.old meter.new store.old store.new 0 }
     ensures ends { IfOk result (IsEnd start (S.view space.old)) }

@@ -9,11 +9,10 @@ ghost use Rattle.pickle_meaning.specs.Values.{outer_of};
 ghost use Rattle.pickle_map.specs.Mappable.{IsFieldOf, IsPartOf};
 ghost use Rattle.pickle_meaning.specs.Means.{ordered};
 ghost use Rattle.pickle_types.specs.Sound.{IsSoundClause, IsSoundBound};
-ghost use Rattle.value_store.specs.Shown.{kept, names_at, field_name, part_name};
-ghost use Rattle.value_store.specs.Slots.{levels};
+ghost use Rattle.value_store.specs.Names.{names_at, field_name, part_name};
+ghost use Rattle.value_store.specs.Slots.{levels, level_count};
 
 use crate::mapper::blame::{check, find_extent, find_start, is_there};
-use crate::mapper::keep::{close_array, close_struct, close_union, keep_absent};
 use crate::mapper::number::{map_integer, map_number};
 use crate::mapper::row::{packed_as, row_body};
 use crate::mapper::stop::Stop;
@@ -41,12 +40,12 @@ pub fn map_type<S: Space, W: Watch>(
 ) -> Result<u64, Stop>
     requires table { IsTable nodes.now }
     requires at { at < length nodes.now }
-    requires open { length (levels store.old) + depth (type_of nodes.now at) ≤ 65 }
+    requires open { level_count store.old + depth (type_of nodes.now at) ≤ 65 }
     ensures frame { Frame (S.view space.old) (S.view space.new) meter.old meter.new store.old store.new 0 }
     ensures ends { IfOk result (IsEnd start (S.view space.old)) }
     ensures is { Maps nodes.now (S.view space.old) meter.old meter.new store.old store.new (as_type at order start) result }
-    ensures same { OnErr result (kept nodes.now store.new ≡ kept nodes.now store.old) }
-    ensures depth { length (levels store.new) ≡ length (levels store.old) }
+    ensures same { OnErr result (levels nodes.now store.new ≡ levels nodes.now store.old) }
+    ensures depth { level_count store.new ≡ level_count store.old }
     ensures device { IfErr result (DeviceFailed (S.view space.old) (S.view space.new)) }
 {
     if u128::from(8 * space.len()) < start {
@@ -71,17 +70,17 @@ fn map_inside<S: Space, W: Watch>(
 ) -> Result<u64, Stop>
     requires table { IsTable nodes.now }
     requires at { at < length nodes.now }
-    requires open { length (levels store.old) + depth (type_of nodes.now at) ≤ 65 }
+    requires open { level_count store.old + depth (type_of nodes.now at) ≤ 65 }
     requires inside { start ≤ 8 * (S.view space.old).len }
     ensures frame { Frame (S.view space.old) (S.view space.new) meter.old meter.new store.old store.new 0 }
     ensures ends { IfOk result (IsEnd start (S.view space.old)) }
     ensures is { Maps nodes.now (S.view space.old) meter.old meter.new store.old store.new (as_type at order start) result }
-    ensures same { OnErr result (kept nodes.now store.new ≡ kept nodes.now store.old) }
-    ensures depth { length (levels store.new) ≡ length (levels store.old) }
+    ensures same { OnErr result (levels nodes.now store.new ≡ levels nodes.now store.old) }
+    ensures depth { level_count store.new ≡ level_count store.old }
     ensures device { IfErr result (DeviceFailed (S.view space.old) (S.view space.new)) }
 {
     match &nodes[at].shape {
-        Shape::Integer(number) => map_integer(nodes, *number, order, start, space, meter, store),
+        Shape::Integer(number) => map_integer(*number, order, start, space, meter, store),
         Shape::String => map_text(nodes, start, space, meter, store),
         _ => map_shape(nodes, at, order, start, space, meter, store, watch),
     }
@@ -102,13 +101,13 @@ fn map_shape<S: Space, W: Watch>(
 ) -> Result<u64, Stop>
     requires table { IsTable nodes.now }
     requires at { at < length nodes.now }
-    requires open { length (levels store.old) + depth (type_of nodes.now at) ≤ 65 }
+    requires open { level_count store.old + depth (type_of nodes.now at) ≤ 65 }
     requires inside { start ≤ 8 * (S.view space.old).len }
     ensures frame { Frame (S.view space.old) (S.view space.new) meter.old meter.new store.old store.new 0 }
     ensures ends { IfOk result (IsEnd start (S.view space.old)) }
     ensures is { Maps nodes.now (S.view space.old) meter.old meter.new store.old store.new (as_type at order start) result }
-    ensures same { OnErr result (kept nodes.now store.new ≡ kept nodes.now store.old) }
-    ensures depth { length (levels store.new) ≡ length (levels store.old) }
+    ensures same { OnErr result (levels nodes.now store.new ≡ levels nodes.now store.old) }
+    ensures depth { level_count store.new ≡ level_count store.old }
     ensures device { IfErr result (DeviceFailed (S.view space.old) (S.view space.new)) }
 {
     match &nodes[at].shape {
@@ -169,13 +168,13 @@ fn map_checked<S: Space, W: Watch>(
 ) -> Result<u64, Stop>
     requires table { IsTable nodes.now }
     requires at { node < length nodes.now }
-    requires open { length (levels store.old) + depth (type_of nodes.now node) ≤ 65 }
+    requires open { level_count store.old + depth (type_of nodes.now node) ≤ 65 }
     requires sound { IsSoundClause (optional_term constraint.now) }
     ensures frame { Frame (S.view space.old) (S.view space.new) meter.old meter.new store.old store.new 0 }
     ensures ends { IfOk result (IsEnd start (S.view space.old)) }
     ensures is { Maps nodes.now (S.view space.old) meter.old meter.new store.old store.new (as_checked node constraint.now order start) result }
-    ensures outer { outer_of (kept nodes.now store.new) ≡ outer_of (kept nodes.now store.old) }
-    ensures depth { length (levels store.new) ≡ length (levels store.old) }
+    ensures outer { outer_of (levels nodes.now store.new) ≡ outer_of (levels nodes.now store.old) }
+    ensures depth { level_count store.new ≡ level_count store.old }
     ensures device { IfErr result (DeviceFailed (S.view space.old) (S.view space.new)) }
 {
     let end = map_type(nodes, node, order, start, space, meter, store, watch)?;
@@ -199,14 +198,14 @@ fn map_array<S: Space, W: Watch>(
 ) -> Result<u64, Stop>
     requires table { IsTable nodes.now }
     requires element { element < length nodes.now }
-    requires open { length (levels store.old) + 1 + depth (type_of nodes.now element) ≤ 65 }
+    requires open { level_count store.old + 1 + depth (type_of nodes.now element) ≤ 65 }
     requires sound { IsSoundBound (bound_of bound.now) }
     requires inside { start ≤ 8 * (S.view space.old).len }
     ensures frame { Frame (S.view space.old) (S.view space.new) meter.old meter.new store.old store.new 0 }
     ensures ends { IfOk result (IsEnd start (S.view space.old)) }
     ensures is { Maps nodes.now (S.view space.old) meter.old meter.new store.old store.new (as_array element bound.now order start) result }
-    ensures same { OnErr result (kept nodes.now store.new ≡ kept nodes.now store.old) }
-    ensures depth { length (levels store.new) ≡ length (levels store.old) }
+    ensures same { OnErr result (levels nodes.now store.new ≡ levels nodes.now store.old) }
+    ensures depth { level_count store.new ≡ level_count store.old }
     ensures device { IfErr result (DeviceFailed (S.view space.old) (S.view space.new)) }
 {
     meter.tick()?;
@@ -249,7 +248,7 @@ fn array_body<S: Space, W: Watch>(
 ) -> Result<u64, Stop>
     requires table { IsTable nodes.now }
     requires element { element < length nodes.now }
-    requires open { (1 < length (levels store.old)) × (length (levels store.old) + depth (type_of nodes.now element) ≤ 65) }
+    requires open { (1 < level_count store.old) × (level_count store.old + depth (type_of nodes.now element) ≤ 65) }
     requires inside { start ≤ 8 * (S.view space.old).len }
     requires free { meter.old.made < meter.old.steps }
     ensures frame { Frame (S.view space.old) (S.view space.new) meter.old meter.new store.old store.new 1 }
@@ -261,7 +260,7 @@ fn array_body<S: Space, W: Watch>(
     let end = map_elements(
         nodes, element, extent, order, start, space, meter, store, watch,
     )?;
-    close_array(nodes, store, start, end)?;
+    store.close_array(start, end)?;
     meter.note_made();
     Ok(end)
 }
@@ -281,13 +280,13 @@ fn map_elements<S: Space, W: Watch>(
 ) -> Result<u64, Stop>
     requires table { IsTable nodes.now }
     requires element { element < length nodes.now }
-    requires open { length (levels store.old) + depth (type_of nodes.now element) ≤ 65 }
+    requires open { level_count store.old + depth (type_of nodes.now element) ≤ 65 }
     requires inside { start ≤ 8 * (S.view space.old).len }
     ensures frame { Frame (S.view space.old) (S.view space.new) meter.old meter.new store.old store.new 0 }
     ensures ends { IfOk result (IsEnd start (S.view space.old)) }
     ensures is { Fills nodes.now (S.view space.old) meter.old meter.new store.old store.new (as_elements element extent order start) result }
-    ensures outer { outer_of (kept nodes.now store.new) ≡ outer_of (kept nodes.now store.old) }
-    ensures depth { length (levels store.new) ≡ length (levels store.old) }
+    ensures outer { outer_of (levels nodes.now store.new) ≡ outer_of (levels nodes.now store.old) }
+    ensures depth { level_count store.new ≡ level_count store.old }
     ensures device { IfErr result (DeviceFailed (S.view space.old) (S.view space.new)) }
 {
     let bits = 8 * space.len();
@@ -338,15 +337,15 @@ fn map_struct<S: Space, W: Watch>(
 ) -> Result<u64, Stop>
     requires table { IsTable nodes.now }
     requires at { at < length nodes.now }
-    requires fields { All (IsFieldOf nodes.now (length (levels store.old) + 1)) fields.now }
+    requires fields { All (IsFieldOf nodes.now (level_count store.old + 1)) fields.now }
     requires names { names_at nodes.now at ≡ map field_name fields.now }
-    requires open { length (levels store.old) ≤ 64 }
+    requires open { level_count store.old ≤ 64 }
     requires inside { start ≤ 8 * (S.view space.old).len }
     ensures frame { Frame (S.view space.old) (S.view space.new) meter.old meter.new store.old store.new 0 }
     ensures ends { IfOk result (IsEnd start (S.view space.old)) }
     ensures is { Maps nodes.now (S.view space.old) meter.old meter.new store.old store.new (as_struct at pinned fields.now order start) result }
-    ensures same { OnErr result (kept nodes.now store.new ≡ kept nodes.now store.old) }
-    ensures depth { length (levels store.new) ≡ length (levels store.old) }
+    ensures same { OnErr result (levels nodes.now store.new ≡ levels nodes.now store.old) }
+    ensures depth { level_count store.new ≡ level_count store.old }
     ensures device { IfErr result (DeviceFailed (S.view space.old) (S.view space.new)) }
 {
     meter.tick()?;
@@ -383,9 +382,9 @@ fn struct_body<S: Space, W: Watch>(
 ) -> Result<u64, Stop>
     requires table { IsTable nodes.now }
     requires at { at < length nodes.now }
-    requires fields { All (IsFieldOf nodes.now (length (levels store.old))) fields.now }
+    requires fields { All (IsFieldOf nodes.now (level_count store.old)) fields.now }
     requires names { names_at nodes.now at ≡ map field_name fields.now }
-    requires open { 1 < length (levels store.old) }
+    requires open { 1 < level_count store.old }
     requires inside { start ≤ 8 * (S.view space.old).len }
     requires free { meter.old.made < meter.old.steps }
     ensures frame { Frame (S.view space.old) (S.view space.new) meter.old meter.new store.old store.new 1 }
@@ -397,7 +396,7 @@ fn struct_body<S: Space, W: Watch>(
     let end = map_fields(
         nodes, pinned, fields, order, start, space, meter, store, watch,
     )?;
-    close_struct(nodes, store, at as u32, start, end)?;
+    store.close_struct(at as u32, start, end)?;
     meter.note_made();
     Ok(end)
 }
@@ -416,13 +415,13 @@ fn map_fields<S: Space, W: Watch>(
     watch: &mut W,
 ) -> Result<u64, Stop>
     requires table { IsTable nodes.now }
-    requires fields { All (IsFieldOf nodes.now (length (levels store.old))) fields.now }
+    requires fields { All (IsFieldOf nodes.now (level_count store.old)) fields.now }
     requires inside { start ≤ 8 * (S.view space.old).len }
     ensures frame { Frame (S.view space.old) (S.view space.new) meter.old meter.new store.old store.new 0 }
     ensures ends { IfOk result (IsEnd start (S.view space.old)) }
     ensures is { Fills nodes.now (S.view space.old) meter.old meter.new store.old store.new (as_fields pinned fields.now order start) result }
-    ensures outer { outer_of (kept nodes.now store.new) ≡ outer_of (kept nodes.now store.old) }
-    ensures depth { length (levels store.new) ≡ length (levels store.old) }
+    ensures outer { outer_of (levels nodes.now store.new) ≡ outer_of (levels nodes.now store.old) }
+    ensures depth { level_count store.new ≡ level_count store.old }
     ensures device { IfErr result (DeviceFailed (S.view space.old) (S.view space.new)) }
 {
     let origin = u128::from(start);
@@ -455,7 +454,7 @@ fn map_fields<S: Space, W: Watch>(
             )?;
             top = top.max(behind);
         } else {
-            keep_absent(nodes, store)?;
+            store.push_absent()?;
         }
     }
     Ok(top)
@@ -476,16 +475,16 @@ fn map_union<S: Space, W: Watch>(
 ) -> Result<u64, Stop>
     requires table { IsTable nodes.now }
     requires at { at < length nodes.now }
-    requires alternatives { All (IsPartOf nodes.now (length (levels store.old) + 1)) alternatives.now }
+    requires alternatives { All (IsPartOf nodes.now (level_count store.old + 1)) alternatives.now }
     requires few { length alternatives.now ≤ 2 ^ 16 }
     requires names { names_at nodes.now at ≡ map part_name alternatives.now }
-    requires open { length (levels store.old) ≤ 64 }
+    requires open { level_count store.old ≤ 64 }
     requires inside { start ≤ 8 * (S.view space.old).len }
     ensures frame { Frame (S.view space.old) (S.view space.new) meter.old meter.new store.old store.new 0 }
     ensures ends { IfOk result (IsEnd start (S.view space.old)) }
     ensures is { Maps nodes.now (S.view space.old) meter.old meter.new store.old store.new (as_union at alternatives.now order start) result }
-    ensures same { OnErr result (kept nodes.now store.new ≡ kept nodes.now store.old) }
-    ensures depth { length (levels store.new) ≡ length (levels store.old) }
+    ensures same { OnErr result (levels nodes.now store.new ≡ levels nodes.now store.old) }
+    ensures depth { level_count store.new ≡ level_count store.old }
     ensures device { IfErr result (DeviceFailed (S.view space.old) (S.view space.new)) }
 {
     meter.tick()?;
@@ -529,11 +528,11 @@ fn union_body<S: Space, W: Watch>(
 ) -> Result<u64, Stop>
     requires table { IsTable nodes.now }
     requires at { at < length nodes.now }
-    requires alternatives { All (IsPartOf nodes.now (length (levels store.old))) alternatives.now }
+    requires alternatives { All (IsPartOf nodes.now (level_count store.old)) alternatives.now }
     requires few { length alternatives.now ≤ 2 ^ 16 }
     requires names { names_at nodes.now at ≡ map part_name alternatives.now }
-    requires open { 1 < length (levels store.old) }
-    requires fresh { kept nodes.now store.old ≡ [] ∷ outer_of (kept nodes.now store.old) }
+    requires open { 1 < level_count store.old }
+    requires fresh { levels nodes.now store.old ≡ [] ∷ outer_of (levels nodes.now store.old) }
     requires inside { start ≤ 8 * (S.view space.old).len }
     requires free { meter.old.made < meter.old.steps }
     ensures frame { Frame (S.view space.old) (S.view space.new) meter.old meter.new store.old store.new 1 }
@@ -552,7 +551,7 @@ fn union_body<S: Space, W: Watch>(
         store,
         watch,
     )?;
-    close_union(nodes, store, at as u32, index as u16, start, end)?;
+    store.close_union(at as u32, index as u16, start, end)?;
     meter.note_made();
     Ok(end)
 }
@@ -570,14 +569,14 @@ fn map_alternatives<S: Space, W: Watch>(
     watch: &mut W,
 ) -> Result<(usize, u64), Stop>
     requires table { IsTable nodes.now }
-    requires alternatives { All (IsPartOf nodes.now (length (levels store.old))) alternatives.now }
-    requires fresh { kept nodes.now store.old ≡ [] ∷ outer_of (kept nodes.now store.old) }
+    requires alternatives { All (IsPartOf nodes.now (level_count store.old)) alternatives.now }
+    requires fresh { levels nodes.now store.old ≡ [] ∷ outer_of (levels nodes.now store.old) }
     requires inside { start ≤ 8 * (S.view space.old).len }
     ensures frame { Frame (S.view space.old) (S.view space.new) meter.old meter.new store.old store.new 0 }
     ensures ends { IfOk result (λ r. IsEnd start (S.view space.old) r.1 × (r.0 < length alternatives.now)) }
     ensures is { Takes nodes.now (S.view space.old) meter.old meter.new store.old store.new alternatives.now order start result }
-    ensures outer { outer_of (kept nodes.now store.new) ≡ outer_of (kept nodes.now store.old) }
-    ensures depth { length (levels store.new) ≡ length (levels store.old) }
+    ensures outer { outer_of (levels nodes.now store.new) ≡ outer_of (levels nodes.now store.old) }
+    ensures depth { level_count store.new ≡ level_count store.old }
     ensures device { IfErr result (DeviceFailed (S.view space.old) (S.view space.new)) }
 {
     for (index, part) in alternatives.iter().enumerate() {

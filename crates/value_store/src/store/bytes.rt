@@ -1,7 +1,9 @@
 //! What is made of bytes: texts, and arrays of packed numbers.
-ghost use Rattle.std.specs.Prelude.{◌≡◌, ℕ, ◌+◌, ◌≤◌, Some, length, IsTrue, ◌↔◌, IsOk, OnOk, OnErr};
-ghost use Rattle.value_store.specs.Levels.{pushed, FitsIn};
-ghost use Rattle.value_store.specs.Slots.{levels, with_bytes, with_more, bytes_value, AreBytes, MayKeep, HasNoNode, GoesOn, KeepsRoom, Regrown};
+ghost use Rattle.std.specs.Prelude.{◌≡◌, ℕ, ◌+◌, ◌<◌, Some, length, IsTrue, ◌↔◌, OnOk, OnErr};
+ghost use Rattle.pickle_meaning.specs.Values.{pushed};
+ghost use Rattle.value_store.specs.Exceeding.{Exceeds};
+ghost use Rattle.value_store.specs.Names.{Names};
+ghost use Rattle.value_store.specs.Slots.{levels, level_count, with_bytes, with_more, bytes_value, AreBytes, MayKeep, HasNoNode, GoesOn, KeepsRoom, Regrown};
 
 use crate::store::Store;
 use crate::store::append::append;
@@ -20,11 +22,11 @@ impl Store {
         requires are { AreBytes shape bytes.now start }
         requires may { MayKeep self.old.room shape }
         ensures slots { OnOk result (Regrown (record self.old { slots = with_bytes shape bytes.now start self.old.slots }) self.new) }
-        ensures levels { OnOk result (levels self.new ≡ pushed (levels self.old) (Some (bytes_value shape bytes.now start))) }
+        ensures levels { OnOk result ((names : Names) → levels names self.new ≡ pushed (levels names self.old) (Some (bytes_value shape bytes.now start))) }
         ensures err { OnErr result (Regrown self.old self.new) }
         ensures room { KeepsRoom self.old self.new }
-        ensures depth { length (levels self.new) ≡ length (levels self.old) }
-        ensures succeeds { FitsIn self.old.room (pushed (levels self.old) (Some (bytes_value shape bytes.now start))) → IsOk result }
+        ensures depth { level_count self.new ≡ level_count self.old }
+        ensures full { OnErr result ((names : Names) → Exceeds self.old.room (pushed (levels names self.old) (Some (bytes_value shape bytes.now start)))) }
     {
         let index = self.nodes.len();
         let content = self.texts.len() as u64;
@@ -51,8 +53,8 @@ impl Store {
         ensures slots { OnOk result (Regrown (record self.old { slots = with_more more.now self.old.slots }) self.new) }
         ensures err { OnErr result (Regrown self.old self.new) }
         ensures room { KeepsRoom self.old self.new }
-        ensures depth { length (levels self.new) ≡ length (levels self.old) }
-        ensures succeeds { length self.old.slots.bytes + length more.now ≤ self.old.room.least → IsOk result }
+        ensures depth { level_count self.new ≡ level_count self.old }
+        ensures full { OnErr result (self.old.room.least < length self.old.slots.bytes + length more.now) }
     {
         self.room.reserve(&mut self.bytes, more.len())?;
         append(&mut self.bytes, more, self.room);

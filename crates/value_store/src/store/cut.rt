@@ -1,8 +1,10 @@
 //! Levels that are opened, closed and given up.
 
 ghost use Rattle.std.specs.Prelude.{◌≡◌, ◌+◌, ◌-◌, ◌<◌, ◌≤◌, ◌∷◌, [], length, max, take};
-ghost use Rattle.value_store.specs.Levels.{outer_of, top_of, extended};
-ghost use Rattle.value_store.specs.Slots.{Held, levels, cut_to, innermost, marks_of, HasNoNode, AreLevels, KeepsRoom};
+ghost use Rattle.pickle_meaning.specs.Values.{opened, outer_of, top_of};
+ghost use Rattle.value_store.specs.Levels.{extended};
+ghost use Rattle.value_store.specs.Names.{Names};
+ghost use Rattle.value_store.specs.Slots.{Held, levels, level_count, cut_to, innermost, marks_of, HasNoNode, AreLevels, KeepsRoom};
 
 use crate::store::Store;
 use crate::store::slots::Marks;
@@ -10,10 +12,10 @@ use crate::store::slots::Marks;
 impl Store {
     /// Opens a value, which has no parts yet. As many as 64 may be open.
     pub fn open_level(&mut self)
-        requires { length (levels self.old) ≤ 64 }
-        ensures levels { levels self.new ≡ [] ∷ levels self.old }
+        requires { level_count self.old ≤ 64 }
+        ensures levels { (names : Names) → levels names self.new ≡ opened (levels names self.old) }
         ensures room { KeepsRoom self.old self.new }
-        ensures depth { length (levels self.new) ≡ length (levels self.old) + 1 }
+        ensures depth { level_count self.new ≡ level_count self.old + 1 }
         ensures slots { self.new.slots ≡ self.old.slots }
         ensures sound { AreLevels self.new.room self.new.frames self.new.slots }
         ensures fresh { HasNoNode self.new }
@@ -24,18 +26,18 @@ impl Store {
 
     /// Closes the innermost open value, and leaves its parts to the one around it.
     pub(crate) fn lift_level(&mut self)
-        ensures levels { levels self.new ≡ extended (outer_of (levels self.old)) (top_of (levels self.old)) }
+        ensures levels { (names : Names) → levels names self.new ≡ extended (outer_of (levels names self.old)) (top_of (levels names self.old)) }
         ensures room { KeepsRoom self.old self.new }
-        ensures depth { length (levels self.new) ≡ max 1 (length (levels self.old) - 1) }
+        ensures depth { level_count self.new ≡ max 1 (level_count self.old - 1) }
     {
         let _ = self.frames.pop();
     }
 
     /// Gives up the parts of the innermost open value, which stays open. What they took is free again.
     pub fn clear_level(&mut self)
-        ensures levels { levels self.new ≡ [] ∷ outer_of (levels self.old) }
+        ensures levels { (names : Names) → levels names self.new ≡ opened (outer_of (levels names self.old)) }
         ensures room { KeepsRoom self.old self.new }
-        ensures depth { length (levels self.new) ≡ length (levels self.old) }
+        ensures depth { level_count self.new ≡ level_count self.old }
     {
         let marks = self.innermost();
         self.nodes.truncate(marks.nodes);
@@ -48,10 +50,10 @@ impl Store {
 
     /// Gives up the innermost open value with its parts. What they took is free again.
     pub fn drop_level(&mut self)
-        requires { 1 < length (levels self.old) }
-        ensures levels { levels self.new ≡ outer_of (levels self.old) }
+        requires { 1 < level_count self.old }
+        ensures levels { (names : Names) → levels names self.new ≡ outer_of (levels names self.old) }
         ensures room { KeepsRoom self.old self.new }
-        ensures depth { length (levels self.new) + 1 ≡ length (levels self.old) }
+        ensures depth { level_count self.new + 1 ≡ level_count self.old }
     {
         self.clear_level();
         self.lift_level();

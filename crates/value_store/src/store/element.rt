@@ -1,9 +1,10 @@
 //! The elements of arrays of packed numbers.
-ghost use Rattle.std.specs.Prelude.{◌≡◌, ◌<◌, ◌≤◌, Some, length, slice_index, IfSome};
-ghost use Rattle.value_store.specs.Integers.{HasIntegersOf};
-ghost use Rattle.value_store.specs.Kinds.{kind_of};
-ghost use Rattle.value_store.specs.Tree.{label, start, size, number_of, signed_of, width_of, unit_of};
-ghost use Rattle.value_store.specs.Lent.{place_value, IsPlace};
+ghost use Rattle.std.specs.Prelude.{◌≡◌, ◌+◌, ◌<◌, ◌≤◌, Some, length, slice_get, slice_index, IfSome};
+ghost use Rattle.value_store.specs.Integers.{AreIntegersOf};
+ghost use Rattle.pickle_meaning.specs.Values.{label_of, start_of, end_of, members_of};
+ghost use Rattle.value_store.specs.Labels.{kind_of, number_of, signed_of, width_of, unit_of};
+ghost use Rattle.value_store.specs.Names.{Names};
+ghost use Rattle.value_store.specs.Lent.{element_in, IsPlace};
 ghost use Rattle.value_store.specs.Packed.{bytes_number};
 ghost use Rattle.value_store.specs.Scalars.{scalar_label, scalar_in, IsScalar};
 ghost use Rattle.value_store.specs.Slots.{row_numbers, value_at, IsByteRow, AreNumbers};
@@ -66,7 +67,7 @@ impl Store {
     #[inline(never)]
     pub(crate) fn element_number(&self, array: usize, index: usize) -> i128
         requires { IsPlace self.now.slots (Element array index) }
-        ensures { result ≡ number_of (label (place_value self.now.slots (Element array index))) }
+        ensures { result ≡ number_of (label_of (element_in self.now.slots (slice_get self.now.slots.nodes array) index)) }
     {
         let node = self.node_at(array);
         let row = node.content as usize;
@@ -83,7 +84,7 @@ impl Store {
     #[inline(always)]
     pub(crate) fn element_kind(&self, array: usize, index: usize) -> Kind
         requires { IsPlace self.now.slots (Element array index) }
-        ensures { result ≡ kind_of (label (place_value self.now.slots (Element array index))) }
+        ensures { result ≡ kind_of (label_of (element_in self.now.slots (slice_get self.now.slots.nodes array) index)) }
     {
         match self.node_at(array).shape {
             Shape::Integers { .. } => Kind::Integer,
@@ -96,9 +97,9 @@ impl Store {
     #[inline(always)]
     pub(crate) fn element_type(&self, array: usize, index: usize) -> IntegerType
         requires { IsPlace self.now.slots (Element array index) }
-        ensures width { result.width ≡ width_of (label (place_value self.now.slots (Element array index))) }
-        ensures signed { result.signed ≡ signed_of (label (place_value self.now.slots (Element array index))) }
-        ensures size { result.width ≡ size (place_value self.now.slots (Element array index)) }
+        ensures width { result.width ≡ width_of (label_of (element_in self.now.slots (slice_get self.now.slots.nodes array) index)) }
+        ensures signed { result.signed ≡ signed_of (label_of (element_in self.now.slots (slice_get self.now.slots.nodes array) index)) }
+        ensures size { let v = element_in self.now.slots (slice_get self.now.slots.nodes array) index in start_of v + result.width ≡ end_of v }
     {
         match self.node_at(array).shape {
             Shape::Integers { width, signed } => IntegerType { width, signed },
@@ -110,7 +111,7 @@ impl Store {
     /// The type of the elements of the array at a node, where they are packed integers.
     pub(crate) fn row_type(&self, array: usize) -> Option<IntegerType>
         requires { array < length self.now.slots.nodes }
-        ensures { IfSome result (λ number. HasIntegersOf number (value_at self.now.slots array)) }
+        ensures { (names : Names) → IfSome result (λ number. AreIntegersOf number (members_of (value_at names self.now.slots array))) }
     {
         match self.node_at(array).shape {
             Shape::Integers { width, signed } => Some(IntegerType { width, signed }),
@@ -122,7 +123,7 @@ impl Store {
     #[inline(always)]
     pub(crate) fn element_unit(&self, array: usize, index: usize) -> u32
         requires { IsPlace self.now.slots (Element array index) }
-        ensures { result ≡ unit_of (label (place_value self.now.slots (Element array index))) }
+        ensures { result ≡ unit_of (label_of (element_in self.now.slots (slice_get self.now.slots.nodes array) index)) }
     {
         match self.node_at(array).shape {
             Shape::Offsets { unit, .. } => unit,
@@ -133,7 +134,7 @@ impl Store {
     /// The element at a place of the array of packed numbers at a node.
     pub(crate) fn element_at(&self, array: usize, index: usize) -> Scalar
         requires { IsPlace self.now.slots (Element array index) }
-        ensures is { Some (scalar_label result) ≡ scalar_in (label (place_value self.now.slots (Element array index))) }
+        ensures is { Some (scalar_label result) ≡ scalar_in (label_of (element_in self.now.slots (slice_get self.now.slots.nodes array) index)) }
         ensures scalar { IsScalar result }
     {
         let node = self.node_at(array);
@@ -160,7 +161,7 @@ impl Store {
     /// The bit at which an element of the array of packed numbers at a node starts.
     pub(crate) fn element_start(&self, array: usize, index: usize) -> u64
         requires { IsPlace self.now.slots (Element array index) }
-        ensures { result ≡ start (place_value self.now.slots (Element array index)) }
+        ensures { result ≡ start_of (element_in self.now.slots (slice_get self.now.slots.nodes array) index) }
     {
         let node = self.node_at(array);
         node.start + u64::from(node.shape.element_width()) * index as u64

@@ -1,16 +1,22 @@
 //! Values that are placed in the innermost open one.
 
-ghost use Rattle.std.specs.Prelude.{◌≡◌, ℕ, ◌+◌, ◌-◌, ◌<◌, ◌≤◌, ◌++◌, ◌∷◌, [], Some, None, ℤ, take, drop, length, max, min, IsOk, OnOk, OnErr, vec_len, vec_capacity, List};
+ghost use Rattle.std.specs.Prelude.{◌≡◌, ◌+◌, ◌-◌, ◌^◌, ◌<◌, ◌≤◌, ◌++◌, ◌∷◌, [], Some, None, take, drop, max, OnOk, OnErr, vec_len, vec_capacity};
 ghost use Rattle.value_store.specs.declared.store.room.Growth.TheVariants.{Never};
-ghost use Rattle.value_store.specs.Tree.{Tree, End, parts_of, text_value, IntegerLabel, OffsetLabel, ArrayLabel, StructLabel, UnionLabel};
-ghost use Rattle.value_store.specs.Levels.{Levels, pushed, outer_of, top_of, extended, text_level, FitsIn};
-ghost use Rattle.value_store.specs.Slots.{levels, IsNumber, number_value, number_in, IsContentNumber, IsComposite, composite_label, KeepsRoom, Regrown};
+ghost use Rattle.pickle_types.specs.Table.{IsWidth};
+ghost use Rattle.pickle_meaning.specs.Means.{integer_value, offset_value};
+ghost use Rattle.pickle_meaning.specs.Values.{ArrayLabel, pushed};
+ghost use Rattle.value_store.specs.Closed.{closed, placed, struct_label, union_label};
+ghost use Rattle.value_store.specs.Exceeding.{Exceeds};
+ghost use Rattle.value_store.specs.Names.{Names};
+ghost use Rattle.value_store.specs.Slots.{levels, level_count, IsNumber, number_value, number_in, IsContentNumber, IsComposite, composite_label, KeepsRoom, Regrown};
 
+use crate::ranges::with_sign;
 use crate::store::Store;
 use crate::store::append::append;
 use crate::store::room::Room;
 use crate::store::slots::{Family, Link, Node, Shape};
 use bit_space::Memory;
+use pickle_types::integer::IntegerType;
 
 // Moves the links above a mark, for which there is room, and leaves room for one there. The vectors change places where
 // all links move to an empty one of the same capacity: an array of numbers has as many as the file has bytes.
@@ -90,11 +96,11 @@ impl Store {
     #[inline(always)]
     fn place_number(&mut self, shape: Shape, start: u64, content: u64) -> Result<(), Memory>
         requires number { IsNumber shape }
-        ensures ok { OnOk result (levels self.new ≡ pushed (levels self.old) (Some (number_value shape start content))) }
+        ensures ok { OnOk result ((names : Names) → levels names self.new ≡ pushed (levels names self.old) (Some (number_value shape start content))) }
         ensures err { OnErr result (Regrown self.old self.new) }
         ensures room { KeepsRoom self.old self.new }
-        ensures depth { length (levels self.new) ≡ length (levels self.old) }
-        ensures succeeds { FitsIn self.old.room (pushed (levels self.old) (Some (number_value shape start content))) → IsOk result }
+        ensures depth { level_count self.new ≡ level_count self.old }
+        ensures full { OnErr result ((names : Names) → Exceeds self.old.room (pushed (levels names self.old) (Some (number_value shape start content)))) }
     {
         let index = self.nodes.len();
         self.room.reserve(&mut self.nodes, 1)?;
@@ -112,11 +118,11 @@ impl Store {
     #[inline(always)]
     fn place_family(&mut self, shape: Shape, start: u64, size: u64) -> Result<(), Memory>
         requires composite { IsComposite shape }
-        ensures ok { OnOk result (levels self.new ≡ (Some (Tree (composite_label shape) start size (parts_of (top_of (levels self.old)))) ∷ []) ∷ outer_of (levels self.old)) }
+        ensures ok { OnOk result ((names : Names) → levels names self.new ≡ placed (composite_label names shape) start (start + size) (levels names self.old)) }
         ensures err { OnErr result (Regrown self.old self.new) }
         ensures room { KeepsRoom self.old self.new }
-        ensures depth { length (levels self.new) ≡ length (levels self.old) }
-        ensures succeeds { FitsIn self.old.room (pushed (outer_of (levels self.old)) (Some (Tree (composite_label shape) start size (parts_of (top_of (levels self.old)))))) → IsOk result }
+        ensures depth { level_count self.new ≡ level_count self.old }
+        ensures full { OnErr result ((names : Names) → Exceeds self.old.room (closed (composite_label names shape) start (start + size) (levels names self.old))) }
     {
         let mark = self.innermost().pending;
         let index = self.nodes.len();
@@ -138,65 +144,67 @@ impl Store {
         Ok(())
     }
 
-    /// Places an integer of `width` bits from the bit `start` on.
+    /// Places an integer of these binary digits, from the bit `start` on.
     #[inline(always)]
     pub fn push_integer(
         &mut self,
-        width: u8,
-        signed: bool,
-        number: i128,
+        number: IntegerType,
+        digits: u64,
         start: u64,
     ) -> Result<(), Memory>
-        requires width { (1 ≤ width) × (width ≤ 64) }
-        requires number { IsContentNumber signed number }
-        ensures ok { OnOk result (levels self.new ≡ pushed (levels self.old) (Some (Tree (IntegerLabel number width signed) start width End))) }
+        requires width { IsWidth number }
+        requires below { digits < 2 ^ number.width }
+        ensures ok { OnOk result ((names : Names) → levels names self.new ≡ pushed (levels names self.old) (Some (integer_value number digits start))) }
         ensures err { OnErr result (Regrown self.old self.new) }
         ensures room { KeepsRoom self.old self.new }
-        ensures depth { length (levels self.new) ≡ length (levels self.old) }
-        ensures succeeds { FitsIn self.old.room (pushed (levels self.old) (Some (Tree (IntegerLabel number width signed) start width End))) → IsOk result }
+        ensures depth { level_count self.new ≡ level_count self.old }
+        ensures full { OnErr result ((names : Names) → Exceeds self.old.room (pushed (levels names self.old) (Some (integer_value number digits start)))) }
     {
         self.place_number(
-            Shape::Integer { width, signed },
+            Shape::Integer {
+                width: number.width,
+                signed: number.signed,
+            },
             start,
-            content_of(signed, number),
+            content_of(number.signed, with_sign(number, digits)),
         )
     }
 
-    /// Places an offset of a magnitude of `width` bits, in units of `unit` bits, from the bit `start` on.
+    /// Places an offset whose magnitude has these binary digits, in units of `unit` bits, from the bit `start` on.
     pub fn push_offset(
         &mut self,
-        width: u8,
-        signed: bool,
+        number: IntegerType,
         unit: u32,
-        number: i128,
+        digits: u64,
         start: u64,
     ) -> Result<(), Memory>
-        requires width { (1 ≤ width) × (width ≤ 64) × (1 ≤ unit) }
-        requires number { IsContentNumber signed number }
-        ensures ok { OnOk result (levels self.new ≡ pushed (levels self.old) (Some (Tree (OffsetLabel number width signed unit) start width End))) }
+        requires width { IsWidth number }
+        requires unit { 1 ≤ unit }
+        requires below { digits < 2 ^ number.width }
+        ensures ok { OnOk result ((names : Names) → levels names self.new ≡ pushed (levels names self.old) (Some (offset_value number unit digits start))) }
         ensures err { OnErr result (Regrown self.old self.new) }
         ensures room { KeepsRoom self.old self.new }
-        ensures depth { length (levels self.new) ≡ length (levels self.old) }
-        ensures succeeds { FitsIn self.old.room (pushed (levels self.old) (Some (Tree (OffsetLabel number width signed unit) start width End))) → IsOk result }
+        ensures depth { level_count self.new ≡ level_count self.old }
+        ensures full { OnErr result ((names : Names) → Exceeds self.old.room (pushed (levels names self.old) (Some (offset_value number unit digits start)))) }
     {
         self.place_number(
             Shape::Offset {
-                width,
-                signed,
+                width: number.width,
+                signed: number.signed,
                 unit,
             },
             start,
-            content_of(signed, number),
+            content_of(number.signed, with_sign(number, digits)),
         )
     }
 
     /// Places a field that is not there.
     pub fn push_absent(&mut self) -> Result<(), Memory>
-        ensures ok { OnOk result (levels self.new ≡ pushed (levels self.old) None) }
+        ensures ok { OnOk result ((names : Names) → levels names self.new ≡ pushed (levels names self.old) None) }
         ensures err { OnErr result (Regrown self.old self.new) }
         ensures room { KeepsRoom self.old self.new }
-        ensures depth { length (levels self.new) ≡ length (levels self.old) }
-        ensures succeeds { FitsIn self.old.room (pushed (levels self.old) None) → IsOk result }
+        ensures depth { level_count self.new ≡ level_count self.old }
+        ensures full { OnErr result ((names : Names) → Exceeds self.old.room (pushed (levels names self.old) None)) }
     {
         self.room.reserve(&mut self.pending, 1)?;
         self.pending.push_reserved(Link::absent());
@@ -207,49 +215,52 @@ impl Store {
     #[inline(always)]
     fn close(&mut self, shape: Shape, start: u64, size: u64) -> Result<(), Memory>
         requires composite { IsComposite shape }
-        ensures ok { OnOk result (levels self.new ≡ pushed (outer_of (levels self.old)) (Some (Tree (composite_label shape) start size (parts_of (top_of (levels self.old)))))) }
+        ensures ok { OnOk result ((names : Names) → levels names self.new ≡ closed (composite_label names shape) start (start + size) (levels names self.old)) }
         ensures err { OnErr result (Regrown self.old self.new) }
         ensures room { KeepsRoom self.old self.new }
-        ensures depth { OnOk result (length (levels self.new) ≡ max 1 (length (levels self.old) - 1)) }
-        ensures succeeds { FitsIn self.old.room (pushed (outer_of (levels self.old)) (Some (Tree (composite_label shape) start size (parts_of (top_of (levels self.old)))))) → IsOk result }
+        ensures depth { OnOk result (level_count self.new ≡ max 1 (level_count self.old - 1)) }
+        ensures full { OnErr result ((names : Names) → Exceeds self.old.room (closed (composite_label names shape) start (start + size) (levels names self.old))) }
     {
         self.place_family(shape, start, size)?;
         self.lift_level();
         Ok(())
     }
 
-    /// Closes the innermost open value as an array of `size` bits from the bit `start` on, whose elements are its parts.
-    pub fn close_array(&mut self, start: u64, size: u64) -> Result<(), Memory>
-        ensures ok { OnOk result (levels self.new ≡ pushed (outer_of (levels self.old)) (Some (Tree ArrayLabel start size (parts_of (top_of (levels self.old)))))) }
+    /// Closes the innermost open value as an array from the bit `start` to `end`, whose elements are its parts.
+    pub fn close_array(&mut self, start: u64, end: u64) -> Result<(), Memory>
+        requires order { start ≤ end }
+        ensures ok { OnOk result ((names : Names) → levels names self.new ≡ closed ArrayLabel start end (levels names self.old)) }
         ensures err { OnErr result (Regrown self.old self.new) }
         ensures room { KeepsRoom self.old self.new }
-        ensures depth { OnOk result (length (levels self.new) ≡ max 1 (length (levels self.old) - 1)) }
-        ensures succeeds { FitsIn self.old.room (pushed (outer_of (levels self.old)) (Some (Tree ArrayLabel start size (parts_of (top_of (levels self.old)))))) → IsOk result }
+        ensures depth { OnOk result (level_count self.new ≡ max 1 (level_count self.old - 1)) }
+        ensures full { OnErr result ((names : Names) → Exceeds self.old.room (closed ArrayLabel start end (levels names self.old))) }
     {
-        self.close(Shape::Array, start, size)
+        self.close(Shape::Array, start, end - start)
     }
 
-    /// Closes the innermost open value as a struct of the type at the index `of`, of `size` bits from the bit `start` on. Its parts are its
+    /// Closes the innermost open value as a struct of the type at the index `of`, from the bit `start` to `end`. Its parts are its
     /// fields, absent ones too.
-    pub fn close_struct(&mut self, of: u32, start: u64, size: u64) -> Result<(), Memory>
-        ensures ok { OnOk result (levels self.new ≡ pushed (outer_of (levels self.old)) (Some (Tree (StructLabel of) start size (parts_of (top_of (levels self.old)))))) }
+    pub fn close_struct(&mut self, of: u32, start: u64, end: u64) -> Result<(), Memory>
+        requires order { start ≤ end }
+        ensures ok { OnOk result ((names : Names) → levels names self.new ≡ closed (struct_label names of) start end (levels names self.old)) }
         ensures err { OnErr result (Regrown self.old self.new) }
         ensures room { KeepsRoom self.old self.new }
-        ensures depth { OnOk result (length (levels self.new) ≡ max 1 (length (levels self.old) - 1)) }
-        ensures succeeds { FitsIn self.old.room (pushed (outer_of (levels self.old)) (Some (Tree (StructLabel of) start size (parts_of (top_of (levels self.old)))))) → IsOk result }
+        ensures depth { OnOk result (level_count self.new ≡ max 1 (level_count self.old - 1)) }
+        ensures full { OnErr result ((names : Names) → Exceeds self.old.room (closed (struct_label names of) start end (levels names self.old))) }
     {
-        self.close(Shape::Struct { of }, start, size)
+        self.close(Shape::Struct { of }, start, end - start)
     }
 
-    /// Closes the innermost open value as a union of the type at the index `of`, of `size` bits from the bit `start` on. Its part is the
+    /// Closes the innermost open value as a union of the type at the index `of`, from the bit `start` to `end`. Its part is the
     /// alternative taken, which is the one at the index `taken`.
-    pub fn close_union(&mut self, of: u32, taken: u16, start: u64, size: u64) -> Result<(), Memory>
-        ensures ok { OnOk result (levels self.new ≡ pushed (outer_of (levels self.old)) (Some (Tree (UnionLabel of taken) start size (parts_of (top_of (levels self.old)))))) }
+    pub fn close_union(&mut self, of: u32, taken: u16, start: u64, end: u64) -> Result<(), Memory>
+        requires order { start ≤ end }
+        ensures ok { OnOk result ((names : Names) → levels names self.new ≡ closed (union_label names of taken) start end (levels names self.old)) }
         ensures err { OnErr result (Regrown self.old self.new) }
         ensures room { KeepsRoom self.old self.new }
-        ensures depth { OnOk result (length (levels self.new) ≡ max 1 (length (levels self.old) - 1)) }
-        ensures succeeds { FitsIn self.old.room (pushed (outer_of (levels self.old)) (Some (Tree (UnionLabel of taken) start size (parts_of (top_of (levels self.old)))))) → IsOk result }
+        ensures depth { OnOk result (level_count self.new ≡ max 1 (level_count self.old - 1)) }
+        ensures full { OnErr result ((names : Names) → Exceeds self.old.room (closed (union_label names of taken) start end (levels names self.old))) }
     {
-        self.close(Shape::Union { taken, of }, start, size)
+        self.close(Shape::Union { taken, of }, start, end - start)
     }
 }

@@ -1,11 +1,11 @@
 //! What is read of a value that is kept.
 
-ghost use Rattle.std.specs.Prelude.{◌≡◌, ◌+◌, ◌-◌, ◌<◌, ◌≤◌, [], Some, length, slice_get, slice_index, unwrap_or, IfSome};
+ghost use Rattle.std.specs.Prelude.{◌≡◌, ℕ, ◌+◌, ◌-◌, ◌<◌, ◌≤◌, [], Some, length, slice_get, slice_index, unwrap_or, IfSome};
 ghost use Rattle.std.specs.Option.{option_map};
 ghost use Rattle.pickle_types.specs.Sound.{IsSmall};
-ghost use Rattle.value_store.specs.Kinds.{kind_of};
-ghost use Rattle.value_store.specs.Tree.{label, start, size, parts, part_at, number_of, signed_of, width_of, unit_of, bytes_of, type_of, taken_of};
-ghost use Rattle.value_store.specs.Levels.{part_in};
+ghost use Rattle.pickle_meaning.specs.Values.{label_of, start_of, end_of, members_of, member_count, member_at};
+ghost use Rattle.value_store.specs.Labels.{kind_of, number_of, signed_of, width_of, unit_of, bytes_of, taken_of, name_of, member_name};
+ghost use Rattle.value_store.specs.Names.{Names, title_found, member_found};
 ghost use Rattle.value_store.specs.Slots.{levels, marks_at, level_end, value_at, number_in, first_link, family_at, family_links, first_byte, text_bytes, links_of, IsContent, IsFamily, IsByteRow, IsRead};
 ghost use Rattle.value_store.specs.Linked.{links_from};
 ghost use Rattle.value_store.specs.Lent.{place_value, place_rank, element_count, IsPlace};
@@ -30,8 +30,6 @@ fn number_from(signed: bool, content: u64) -> i128
 }
 
 impl Store {
-    ghost use Rattle.value_store.specs.Refs.{value_of};
-
     // The node at a place, and what its value has of it.
     pub(super) fn node_at(&self, at: usize) -> Node
         requires { at < length self.now.slots.nodes }
@@ -79,7 +77,7 @@ impl Store {
 
     pub(crate) fn kind_at(&self, at: usize) -> Kind
         requires { at < length self.now.slots.nodes }
-        ensures { result ≡ kind_of (label (value_at self.now.slots at)) }
+        ensures { (names : Names) → result ≡ kind_of (label_of (value_at names self.now.slots at)) }
     {
         match self.node_at(at).shape {
             Shape::Integer { .. } => Kind::Integer,
@@ -93,7 +91,7 @@ impl Store {
 
     pub(crate) fn number_at(&self, at: usize) -> i128
         requires { at < length self.now.slots.nodes }
-        ensures { result ≡ number_of (label (value_at self.now.slots at)) }
+        ensures { (names : Names) → result ≡ number_of (label_of (value_at names self.now.slots at)) }
     {
         let node = self.node_at(at);
         match node.shape {
@@ -105,7 +103,7 @@ impl Store {
 
     pub(crate) fn signed_at(&self, at: usize) -> bool
         requires { at < length self.now.slots.nodes }
-        ensures { result ≡ signed_of (label (value_at self.now.slots at)) }
+        ensures { (names : Names) → result ≡ signed_of (label_of (value_at names self.now.slots at)) }
     {
         match self.node_at(at).shape {
             Shape::Integer { signed, .. } => signed,
@@ -116,7 +114,7 @@ impl Store {
 
     pub(crate) fn width_at(&self, at: usize) -> u8
         requires { at < length self.now.slots.nodes }
-        ensures { result ≡ width_of (label (value_at self.now.slots at)) }
+        ensures { (names : Names) → result ≡ width_of (label_of (value_at names self.now.slots at)) }
     {
         match self.node_at(at).shape {
             Shape::Integer { width, .. } => width,
@@ -127,7 +125,7 @@ impl Store {
 
     pub(crate) fn unit_at(&self, at: usize) -> u32
         requires { at < length self.now.slots.nodes }
-        ensures { result ≡ unit_of (label (value_at self.now.slots at)) }
+        ensures { (names : Names) → result ≡ unit_of (label_of (value_at names self.now.slots at)) }
     {
         match self.node_at(at).shape {
             Shape::Offset { unit, .. } => unit,
@@ -138,7 +136,8 @@ impl Store {
     // The index of the type that names a struct or a union.
     pub(crate) fn type_at(&self, at: usize) -> Option<u32>
         requires { at < length self.now.slots.nodes }
-        ensures { result ≡ type_of (label (value_at self.now.slots at)) }
+        ensures title { (names : Names) → title_found names result ≡ name_of (label_of (value_at names self.now.slots at)) }
+        ensures members { (names : Names) (i : ℕ) → let l = label_of (value_at names self.now.slots at) in member_found names result (taken_of l) i ≡ member_name l i }
     {
         match self.node_at(at).shape {
             Shape::Struct { of } => Some(of),
@@ -150,7 +149,7 @@ impl Store {
     // The alternative that a union took.
     pub(crate) fn taken_at(&self, at: usize) -> Option<u16>
         requires { at < length self.now.slots.nodes }
-        ensures { result ≡ taken_of (label (value_at self.now.slots at)) }
+        ensures { (names : Names) → result ≡ taken_of (label_of (value_at names self.now.slots at)) }
     {
         match self.node_at(at).shape {
             Shape::Union { taken, .. } => Some(taken),
@@ -160,14 +159,14 @@ impl Store {
 
     pub(crate) fn start_at(&self, at: usize) -> u64
         requires { at < length self.now.slots.nodes }
-        ensures { result ≡ start (value_at self.now.slots at) }
+        ensures { (names : Names) → result ≡ start_of (value_at names self.now.slots at) }
     {
         self.node_at(at).start
     }
 
     pub(crate) fn size_at(&self, at: usize) -> u64
         requires { at < length self.now.slots.nodes }
-        ensures { result ≡ size (value_at self.now.slots at) }
+        ensures { (names : Names) → let v = value_at names self.now.slots at in start_of v + result ≡ end_of v }
     {
         let node = self.node_at(at);
         match node.shape {
@@ -184,7 +183,7 @@ impl Store {
 
     pub(crate) fn bytes_at(&self, at: usize) -> &[u8]
         requires { at < length self.now.slots.nodes }
-        ensures { result.now ≡ bytes_of (label (value_at self.now.slots at)) }
+        ensures { (names : Names) → result.now ≡ bytes_of (label_of (value_at names self.now.slots at)) }
     {
         let node = self.node_at(at);
         match node.shape {
@@ -195,7 +194,7 @@ impl Store {
 
     pub(crate) fn len_at(&self, at: usize) -> usize
         requires { at < length self.now.slots.nodes }
-        ensures { result ≡ length (parts (value_at self.now.slots at)) }
+        ensures { (names : Names) → result ≡ member_count (members_of (value_at names self.now.slots at)) }
     {
         self.count_linked(at, self.links_from(at), self.packed_from(at))
     }
@@ -228,7 +227,7 @@ impl Store {
         requires node { at < length self.now.slots.nodes }
         requires links { links.now ≡ links_from self.now.slots at }
         requires packed { packed ≡ element_count self.now.slots (slice_get self.now.slots.nodes at) }
-        ensures { result ≡ length (parts (value_at self.now.slots at)) }
+        ensures { (names : Names) → result ≡ member_count (members_of (value_at names self.now.slots at)) }
     {
         // Nothing of the store is read: that it is sound is all that is needed of it.
         let _ = &self.nodes;
@@ -240,7 +239,7 @@ impl Store {
         requires node { at < length self.now.slots.nodes }
         requires links { links.now ≡ links_from self.now.slots at }
         requires packed { packed ≡ element_count self.now.slots (slice_get self.now.slots.nodes at) }
-        ensures part { option_map (place_value self.now.slots) result ≡ part_at (value_at self.now.slots at) i }
+        ensures part { (names : Names) → option_map (place_value names self.now.slots) result ≡ member_at (members_of (value_at names self.now.slots at)) i }
         ensures is { IfSome result (IsPlace self.now.slots) }
         ensures below { IfSome result (λ p. place_rank p ≤ at) }
     {
@@ -262,7 +261,7 @@ impl Store {
 
     pub(crate) fn child_at(&self, at: usize, i: usize) -> Option<Place>
         requires { at < length self.now.slots.nodes }
-        ensures part { option_map (place_value self.now.slots) result ≡ part_at (value_at self.now.slots at) i }
+        ensures part { (names : Names) → option_map (place_value names self.now.slots) result ≡ member_at (members_of (value_at names self.now.slots at)) i }
         ensures is { IfSome result (IsPlace self.now.slots) }
         ensures below { IfSome result (λ p. place_rank p ≤ at) }
     {
@@ -273,7 +272,7 @@ impl Store {
     #[inline(always)]
     pub(crate) fn scalar_at(&self, at: usize) -> Option<Scalar>
         requires { at < length self.now.slots.nodes }
-        ensures is { option_map scalar_label result ≡ scalar_in (label (value_at self.now.slots at)) }
+        ensures is { (names : Names) → option_map scalar_label result ≡ scalar_in (label_of (value_at names self.now.slots at)) }
         ensures scalar { IfSome result IsScalar }
     {
         let node = self.node_at(at);

@@ -1,8 +1,8 @@
 //! Arrays of packed numbers.
-ghost use Rattle.std.specs.Prelude.{◌≡◌, ℕ, ◌+◌, ◌*◌, ◌<◌, ◌≤◌, ◌^◌, ◌++◌, ◌∷◌, [], Some, List, take, length, max, ◌-◌, IsTrue, ◌↔◌, OnOk, OnErr, true};
-ghost use Rattle.value_store.specs.Levels.{Levels, pushed};
+ghost use Rattle.std.specs.Prelude.{◌≡◌, ◌<◌, ◌-◌, ◌^◌, max, take, IsTrue, ◌↔◌, OnOk, OnErr};
+ghost use Rattle.value_store.specs.Filling.{Packs, SettlesRow, ClosesRow};
 ghost use Rattle.value_store.specs.Packed.{bytes_for, number_bytes};
-ghost use Rattle.value_store.specs.Slots.{levels, packs, row_value, element_width, HasNoNode, IsPacked, IsPacking, IsRowOf, TakesNumber, KeepsRoom, Regrown};
+ghost use Rattle.value_store.specs.Slots.{level_count, packs, element_width, HasNoNode, IsPacked, IsRowOf, TakesNumber, KeepsRoom, Regrown};
 
 use crate::store::Store;
 use crate::store::slots::Shape;
@@ -39,10 +39,10 @@ impl Store {
         requires width { width ≡ element_width shape }
         requires below { digits < 2 ^ width }
         requires first { IsTrue first ↔ HasNoNode self.old }
-        ensures ok { OnOk result ((numbers : List ℕ) (outer : Levels) → IsPacking self.old shape numbers start outer → start + width * (length numbers + 1) < 2 ^ 64 → IsPacking self.new shape (numbers ++ digits ∷ []) start outer) }
+        ensures ok { OnOk result (Packs self.old self.new shape digits start) }
         ensures err { OnErr result (Regrown self.old self.new) }
         ensures room { KeepsRoom self.old self.new }
-        ensures depth { length (levels self.new) ≡ length (levels self.old) }
+        ensures depth { level_count self.new ≡ level_count self.old }
     {
         let bytes = digits.to_le_bytes();
         let own = &bytes[..bytes_for(width)];
@@ -57,10 +57,10 @@ impl Store {
     fn settle_row(&mut self, shape: Shape, start: u64) -> Result<(), Memory>
         requires row { IsRowOf self.old shape start }
         requires packed { IsPacked shape }
-        ensures ok { OnOk result ((numbers : List ℕ) (outer : Levels) → IsPacking self.old shape numbers start outer → levels self.new ≡ (Some (row_value shape numbers start) ∷ []) ∷ outer) }
+        ensures ok { OnOk result (SettlesRow self.old self.new shape start) }
         ensures err { OnErr result (Regrown self.old self.new) }
         ensures room { KeepsRoom self.old self.new }
-        ensures depth { length (levels self.new) ≡ length (levels self.old) }
+        ensures depth { level_count self.new ≡ level_count self.old }
     {
         if self.has_no_node() {
             self.place_bytes(shape, start, &[])
@@ -73,10 +73,10 @@ impl Store {
     pub fn close_row(&mut self, shape: Shape, start: u64) -> Result<(), Memory>
         requires row { IsRowOf self.old shape start }
         requires packed { IsPacked shape }
-        ensures ok { OnOk result ((numbers : List ℕ) (outer : Levels) → IsPacking self.old shape numbers start outer → levels self.new ≡ pushed outer (Some (row_value shape numbers start))) }
+        ensures ok { OnOk result (ClosesRow self.old self.new shape start) }
         ensures err { OnErr result (Regrown self.old self.new) }
         ensures room { KeepsRoom self.old self.new }
-        ensures depth { OnOk result (length (levels self.new) ≡ max 1 (length (levels self.old) - 1)) }
+        ensures depth { OnOk result (level_count self.new ≡ max 1 (level_count self.old - 1)) }
     {
         self.settle_row(shape, start)?;
         self.lift_level();

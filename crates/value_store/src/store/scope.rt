@@ -2,10 +2,9 @@
 
 ghost use Rattle.std.specs.Prelude.{◌≡◌, ℕ, ◌<◌, ◌≤◌, None, length, slice_get, unwrap_or, IfSome};
 ghost use Rattle.std.specs.Option.{option_map};
-ghost use Rattle.value_store.specs.Levels.{part_in, level_at};
-ghost use Rattle.value_store.specs.Slots.{levels, marks_at, level_end, value_at};
-ghost use Rattle.pickle_meaning.specs.Values.{value_at as shown_at};
-ghost use Rattle.value_store.specs.Shown.{kept};
+ghost use Rattle.pickle_meaning.specs.Values.{level_at, value_at};
+ghost use Rattle.value_store.specs.Names.{Names};
+ghost use Rattle.value_store.specs.Slots.{levels, marks_at, level_end, value_at as node_value};
 
 use crate::store::Store;
 use crate::store::slots::{Link, Marks, Place};
@@ -44,16 +43,16 @@ impl Store {
 
     // The links of the parts of an open value.
     fn level_links(&self, level: usize) -> &[Link]
-        ensures parts { (i : ℕ) → option_map (value_at self.now.slots) (unwrap_or (slice_get result.now i) None) ≡ part_in (levels self.now) level i }
+        ensures parts { (names : Names) (i : ℕ) → option_map (node_value names self.now.slots) (unwrap_or (slice_get result.now i) None) ≡ value_at (levels names self.now) level i }
         ensures below { (i : ℕ) → IfSome (unwrap_or (slice_get result.now i) None) (λ j. j < length self.now.slots.nodes) }
-        ensures count { length result.now ≡ length (level_at (levels self.now) level) }
+        ensures count { (names : Names) → length result.now ≡ length (level_at (levels names self.now) level) }
     {
         &self.pending[self.frame(level).pending..self.end_of_level(level)]
     }
 
     // The node of the part at a place of an open value, unless it is absent or there is none.
     fn part_at(&self, level: usize, i: usize) -> Option<usize>
-        ensures part { option_map (value_at self.now.slots) result ≡ part_in (levels self.now) level i }
+        ensures part { (names : Names) → option_map (node_value names self.now.slots) result ≡ value_at (levels names self.now) level i }
         ensures below { IfSome result (λ j. j < length self.now.slots.nodes) }
     {
         match self.level_links(level).get(i) {
@@ -64,7 +63,7 @@ impl Store {
 
     /// How many parts an open value has so far, absent ones too. Open values are counted from the innermost, and the last is the whole.
     pub fn count(&self, level: usize) -> usize
-        ensures { result ≡ length (level_at (levels self.now) level) }
+        ensures { (names : Names) → result ≡ length (level_at (levels names self.now) level) }
     {
         self.level_links(level).len()
     }
@@ -72,7 +71,7 @@ impl Store {
     /// The part at a place of an open value, unless it is absent or there is none. Open values are counted from the innermost, and the last is
     /// the whole.
     pub fn part(&self, level: usize, i: usize) -> Option<StoredValue<'_>>
-        ensures { option_map value_of result ≡ part_in (levels self.now) level i }
+        ensures { (names : Names) → option_map (value_of names) result ≡ value_at (levels names self.now) level i }
     {
         match self.part_at(level, i) {
             Some(node) => Some(StoredValue::new(self, Place::Node(node))),
@@ -82,7 +81,7 @@ impl Store {
 
     /// The value that was mapped, with the names of its table, where no value is open; nothing in an empty store.
     pub fn root<'a>(&'a self, table: &'a Table) -> Option<ValueRef<'a>>
-        ensures { option_map value_shown result ≡ shown_at (kept table.now.nodes.items self.now) 0 0 }
+        ensures { option_map value_shown result ≡ value_at (levels table.now.nodes.items self.now) 0 0 }
     {
         match self.part(0, 0) {
             Some(stored) => Some(ValueRef::new(stored, table.nodes())),

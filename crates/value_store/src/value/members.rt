@@ -20,7 +20,6 @@ pub struct Members<'a> {
     ghost counted: { packed ≡ place_packed value.stored.store.now.slots value.stored.place },
 }
 
-#[tactic(auto, using(crate::proofs::ShownLabels::shown_reads))]
 impl<'a> Members<'a> {
     ghost use Rattle.value_store.specs.Refs.{value_of, value_shown, rank_of};
     ghost use Rattle.value_store.specs.Owners.{owner_of};

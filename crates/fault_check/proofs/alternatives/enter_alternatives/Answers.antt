@@ -1,7 +1,7 @@
-use Rattle.std.proofs.Common.{rules, refl, length, arith}
+use Rattle.std.proofs.Common.{rules, refl, arith}
 use Rattle.pickle_map.specs.Mappable.{IsPartOf}
 use Rattle.pickle_map.proofs.Shapes.{of_one}
-use Rattle.value_store.specs.Slots.{levels}
+use Rattle.value_store.specs.Slots.{level_count}
 use Rattle.fault_parts.specs.Arises.{no_miss_before}
 use Rattle.fault_check.proofs.alternatives.enter_alternatives.Goals as goal
 
@@ -15,6 +15,6 @@ loop-index-init g c = record {
 
 pub returns-then-index-place-clause-goes_on : goal.returns-then-index-place-clause-goes_on
 returns-then-index-place-clause-goes_on g c =
-    let part = of_one (IsPartOf c.args.nodes.now (length (levels c.args.store.now))) c.args.alternatives.now c.loop-index.index c.index-alternatives-index.result c.requires.alternatives (omega arith) c.index-alternatives-index.is in
+    let part = of_one (IsPartOf c.args.nodes.now (level_count c.args.store.now)) c.args.alternatives.now c.loop-index.index c.index-alternatives-index.result c.requires.alternatives (omega arith) c.index-alternatives-index.is in
     let part = rw (← c.loop-index.invariant.depth) at part in
-    c.enter_alternative.ensures.goes_on c.args.nodes.now (length (levels c.loop-index.store)) part
+    c.enter_alternative.ensures.goes_on c.args.nodes.now (level_count c.loop-index.store) part

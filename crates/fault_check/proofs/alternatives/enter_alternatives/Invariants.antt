@@ -1,7 +1,6 @@
-use Rattle.std.proofs.Common.{◌≡◌, length, drop}
+use Rattle.std.proofs.Common.{◌≡◌, drop}
 use Rattle.pickle_types.specs.Table.{type_of, open_parts}
-use Rattle.value_store.specs.Shown.{kept}
-use Rattle.value_store.specs.Slots.{levels}
+use Rattle.value_store.specs.Slots.{levels, level_count}
 use Rattle.fault_parts.specs.Arises.{MissesBefore}
 use Rattle.fault_check.specs.Ways.{OnBits, Leaves}
 use Rattle.fault_check.proofs.alternatives.enter_alternatives.Given as goal
@@ -9,8 +8,8 @@ use Rattle.fault_check.proofs.alternatives.enter_alternatives.Given as goal
 abbrev pub invariant-loop-index : goal.invariant-loop-index
 invariant-loop-index g l = record {
   leaves : Leaves (g.S.Space.view l.initial.space) (g.S.Space.view l.space) l.initial.meter l.meter;
-  depth : length (levels l.store) ≡ length (levels l.initial.store);
-  same : kept l.nodes l.store ≡ kept l.nodes l.initial.store;
-  so_far : OnBits (g.S.Space.view l.initial.space) (λ bits. MissesBefore bits l.order (open_parts (type_of l.nodes) l.alternatives) (kept l.nodes l.initial.store) l.start l.index
+  depth : level_count l.store ≡ level_count l.initial.store;
+  same : levels l.nodes l.store ≡ levels l.nodes l.initial.store;
+  so_far : OnBits (g.S.Space.view l.initial.space) (λ bits. MissesBefore bits l.order (open_parts (type_of l.nodes) l.alternatives) (levels l.nodes l.initial.store) l.start l.index
       (open_parts (type_of l.nodes) (drop l.index l.alternatives)));
 }

@@ -1,17 +1,16 @@
-use Rattle.std.proofs.Common.{◌+◌, ◌≤◌, length, refl, ap, ◌∙◌, arith}
+use Rattle.std.proofs.Common.{◌+◌, ◌≤◌, refl, ap, arith}
 use Rattle.pickle_types.specs.Types.{depth}
 use Rattle.pickle_types.specs.Table.{type_of}
 use Rattle.pickle_map.proofs.Stopped.{none_kept}
-use Rattle.value_store.proofs.Held.{none-open}
-use Rattle.value_store.specs.Slots.{levels}
+use Rattle.value_store.specs.Slots.{level_count}
 use Rattle.fault_check.proofs.ArrayElements.{of_bare}
 use Rattle.fault_check.proofs.arises.arises.Goals as goal
 
 pub follow-found-requires-clause-part : goal.follow-found-requires-clause-part
 follow-found-requires-clause-part g c =
-    let one = ap length (ap levels c.requires.empty ∙ none-open c.args.store.now.room c.args.store.now.capacity) in
+    let one = ap level_count c.requires.empty in
     let deep = c.args.table.now.sound.deep c.args.id.node c.requires.known in
-    let held : length (levels c.args.store.now) + depth (type_of c.args.table.now.nodes.items c.args.id.node) ≤ 65 = omega (arith, one, deep) in
+    let held : level_count c.args.store.now + depth (type_of c.args.table.now.nodes.items c.args.id.node) ≤ 65 = omega (arith, one, deep) in
     rw c.nodes.ensures (record { inside = c.requires.known; deep = held; sound = tt })
 
 pub returns-clause-is : goal.returns-clause-is

@@ -4,7 +4,7 @@ use Rattle.bit_space.specs.Bits.{bits_of}
 use Rattle.bit_space.proofs.Digits.{length-bits_of}
 use Rattle.pickle_types.specs.Table.{type_of}
 use Rattle.pickle_map.proofs.Shapes.{opened_as}
-use Rattle.value_store.specs.Slots.{levels}
+use Rattle.value_store.specs.Slots.{level_count}
 use Rattle.fault_check.proofs.Nodes.{integral_node, union_node, array_node}
 use Rattle.fault_check.proofs.Own.{own_integer, own_offset, own_string, own_union, own_integral, own_past}
 use Rattle.fault_check.proofs.arises.is_own_fault.Goals as goal
@@ -18,17 +18,17 @@ returns-then-bits-part-clause-is g c =
 
 pub is_own_array-requires-clause-element : goal.is_own_array-requires-clause-element
 is_own_array-requires-clause-element g c =
-    let n = array_node c.args.nodes.now c.requires.table c.args.part.node c.requires.part.inside (length (levels c.args.store.now)) c.requires.part.deep c.index-nodes-part.result _ _ c.in-Array.is in
+    let n = array_node c.args.nodes.now c.requires.table c.args.part.node c.requires.part.inside (level_count c.args.store.now) c.requires.part.deep c.index-nodes-part.result _ _ c.in-Array.is in
     n.inside
 
 pub is_own_array-requires-clause-open : goal.is_own_array-requires-clause-open
 is_own_array-requires-clause-open g c =
-    let n = array_node c.args.nodes.now c.requires.table c.args.part.node c.requires.part.inside (length (levels c.args.store.now)) c.requires.part.deep c.index-nodes-part.result _ _ c.in-Array.is in
+    let n = array_node c.args.nodes.now c.requires.table c.args.part.node c.requires.part.inside (level_count c.args.store.now) c.requires.part.deep c.index-nodes-part.result _ _ c.in-Array.is in
     n.deep
 
 pub is_own_array-requires-clause-sound : goal.is_own_array-requires-clause-sound
 is_own_array-requires-clause-sound g c =
-    let n = array_node c.args.nodes.now c.requires.table c.args.part.node c.requires.part.inside (length (levels c.args.store.now)) c.requires.part.deep c.index-nodes-part.result _ _ c.in-Array.is in
+    let n = array_node c.args.nodes.now c.requires.table c.args.part.node c.requires.part.inside (level_count c.args.store.now) c.requires.part.deep c.index-nodes-part.result _ _ c.in-Array.is in
     n.sound
 
 pub returns-in-Integer-clause-is : goal.returns-in-Integer-clause-is
@@ -55,14 +55,14 @@ returns-in-String-clause-is g c =
 pub returns-in-Union-clause-is : goal.returns-in-Union-clause-is
 returns-in-Union-clause-is g c =
     λ yes bytes e.
-    let n = union_node c.args.nodes.now c.requires.table c.args.part.node c.requires.part.inside (length (levels c.args.store.now)) c.requires.part.deep c.index-nodes-part.result _ _ c.in-Union.is in
+    let n = union_node c.args.nodes.now c.requires.table c.args.part.node c.requires.part.inside (level_count c.args.store.now) c.requires.part.deep c.index-nodes-part.result _ _ c.in-Union.is in
     let has = rw n.type_is at (c.requires.has bytes e) in
     rw n.type_is (own_union _ _ (sym c.misses.ensures ∙ yes) has)
 
 pub returns-in-Integral-clause-is : goal.returns-in-Integral-clause-is
 returns-in-Integral-clause-is g c =
     λ yes bytes e.
-    let n = integral_node c.args.nodes.now c.requires.table c.args.part.node c.requires.part.inside (length (levels c.args.store.now)) c.requires.part.deep c.index-nodes-part.result _ _ _ c.in-Integral.is in
+    let n = integral_node c.args.nodes.now c.requires.table c.args.part.node c.requires.part.inside (level_count c.args.store.now) c.requires.part.deep c.index-nodes-part.result _ _ _ c.in-Integral.is in
     let has = rw n.type_is at (c.requires.has bytes e) in
     let whole = g.met.S.Space.whole c.args.space.now bytes e in
     let less : c.from-bits.result < c.args.part.start + c.from.result = ltb-true _ _ yes in
@@ -72,5 +72,5 @@ returns-in-Integral-clause-is g c =
 pub returns-in-Array-clause-is : goal.returns-in-Array-clause-is
 returns-in-Array-clause-is g c =
     λ yes bytes e.
-    let n = array_node c.args.nodes.now c.requires.table c.args.part.node c.requires.part.inside (length (levels c.args.store.now)) c.requires.part.deep c.index-nodes-part.result _ _ c.in-Array.is in
+    let n = array_node c.args.nodes.now c.requires.table c.args.part.node c.requires.part.inside (level_count c.args.store.now) c.requires.part.deep c.index-nodes-part.result _ _ c.in-Array.is in
     rw n.type_is (c.is_own_array.ensures.is yes bytes e)

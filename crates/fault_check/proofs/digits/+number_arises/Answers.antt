@@ -2,10 +2,8 @@ use Rattle.std.proofs.Common.{rules, ◌+◌, ◌-◌, ◌<◌, length, get_or, 
 use Rattle.std.proofs.lemmas.List.{drop_more, length-take}
 use Rattle.pickle_meaning.specs.Values.{opened}
 use Rattle.pickle_map.specs.Mappable.{IsPartOf}
-use Rattle.pickle_map.proofs.Keeping.{keeps_opened}
 use Rattle.pickle_map.proofs.Shapes.{of_one}
-use Rattle.value_store.specs.Shown.{kept}
-use Rattle.value_store.specs.Slots.{levels}
+use Rattle.value_store.specs.Slots.{levels, level_count}
 use Rattle.fault_parts.specs.Arises.{in_digits}
 use Rattle.fault_check.specs.Ways.{fault_of}
 use Rattle.fault_check.proofs.Nodes.{integral_node}
@@ -14,38 +12,38 @@ use Rattle.fault_check.proofs.digits.+number_arises.Goals as goal
 
 pub open_level-requires : goal.open_level-requires
 open_level-requires t c =
-    let n = integral_node c.args.nodes.now c.requires.table c.args.at c.requires.at (length (levels c.args.store.now)) c.requires.open c.index-nodes-at.result _ _ _ c.in-Integral.is in
+    let n = integral_node c.args.nodes.now c.requires.table c.args.at c.requires.at (level_count c.args.store.now) c.requires.open c.index-nodes-at.result _ _ _ c.in-Integral.is in
     n.few
 
 pub reach_field-requires-clause-fields : goal.reach_field-requires-clause-fields
 reach_field-requires-clause-fields t c =
-    let n = integral_node c.args.nodes.now c.requires.table c.args.at c.requires.at (length (levels c.args.store.now)) c.requires.open c.index-nodes-at.result _ _ _ c.in-Integral.is in
+    let n = integral_node c.args.nodes.now c.requires.table c.args.at c.requires.at (level_count c.args.store.now) c.requires.open c.index-nodes-at.result _ _ _ c.in-Integral.is in
     rw (c.deref.ensures.value, c.open_level.ensures.depth) n.fields_are
 
 pub reach_field-requires-clause-width : goal.reach_field-requires-clause-width
 reach_field-requires-clause-width t c =
-    let n = integral_node c.args.nodes.now c.requires.table c.args.at c.requires.at (length (levels c.args.store.now)) c.requires.open c.index-nodes-at.result _ _ _ c.in-Integral.is in
+    let n = integral_node c.args.nodes.now c.requires.table c.args.at c.requires.at (level_count c.args.store.now) c.requires.open c.index-nodes-at.result _ _ _ c.in-Integral.is in
     n.width.most
 
 pub width_at-requires-clause-at : goal.width_at-requires-clause-at
 width_at-requires-clause-at t c =
-    let n = integral_node c.args.nodes.now c.requires.table c.args.at c.requires.at (length (levels c.args.store.now)) c.requires.open c.index-nodes-at.result _ _ _ c.in-Integral.is in
+    let n = integral_node c.args.nodes.now c.requires.table c.args.at c.requires.at (level_count c.args.store.now) c.requires.open c.index-nodes-at.result _ _ _ c.in-Integral.is in
     let inside = rw c.deref.ensures.value at c.in-Some.ensures.is.inside in
-    let field = of_one (IsPartOf c.args.nodes.now (length (levels c.args.store.now) + 1)) c.in-Integral.fields.items (get_or c.args.path.now 0 0) c.index-field.result.now n.fields_are inside c.index-field.ensures in
+    let field = of_one (IsPartOf c.args.nodes.now (level_count c.args.store.now + 1)) c.in-Integral.fields.items (get_or c.args.path.now 0 0) c.index-field.result.now n.fields_are inside c.index-field.ensures in
     field.inside
 
 pub is_refused-requires-clause-field : goal.is_refused-requires-clause-field
 is_refused-requires-clause-field t c =
-    let n = integral_node c.args.nodes.now c.requires.table c.args.at c.requires.at (length (levels c.args.store.now)) c.requires.open c.index-nodes-at.result _ _ _ c.in-Integral.is in
+    let n = integral_node c.args.nodes.now c.requires.table c.args.at c.requires.at (level_count c.args.store.now) c.requires.open c.index-nodes-at.result _ _ _ c.in-Integral.is in
     let inside = rw c.deref.ensures.value at c.in-Some.ensures.is.inside in
-    let field = of_one (IsPartOf c.args.nodes.now (length (levels c.args.store.now) + 1)) c.in-Integral.fields.items (get_or c.args.path.now 0 0) c.index-field.result.now n.fields_are inside c.index-field.ensures in
+    let field = of_one (IsPartOf c.args.nodes.now (level_count c.args.store.now + 1)) c.in-Integral.fields.items (get_or c.args.path.now 0 0) c.index-field.result.now n.fields_are inside c.index-field.ensures in
     rw (c.in-Some.ensures.depth, c.open_level.ensures.depth) field
 
 pub number_arises-requires : goal.number_arises-requires
 number_arises-requires t c =
-    let n = integral_node c.args.nodes.now c.requires.table c.args.at c.requires.at (length (levels c.args.store.now)) c.requires.open c.index-nodes-at.result _ _ _ c.in-Integral.is in
+    let n = integral_node c.args.nodes.now c.requires.table c.args.at c.requires.at (level_count c.args.store.now) c.requires.open c.index-nodes-at.result _ _ _ c.in-Integral.is in
     let inside = rw c.deref.ensures.value at c.in-Some.ensures.is.inside in
-    let field = of_one (IsPartOf c.args.nodes.now (length (levels c.args.store.now) + 1)) c.in-Integral.fields.items (get_or c.args.path.now 0 0) c.index-field.result.now n.fields_are inside c.index-field.ensures in
+    let field = of_one (IsPartOf c.args.nodes.now (level_count c.args.store.now + 1)) c.in-Integral.fields.items (get_or c.args.path.now 0 0) c.index-field.result.now n.fields_are inside c.index-field.ensures in
     let field = rw (← c.open_level.ensures.depth, ← c.in-Some.ensures.depth) at field in
     let there = field.inside in
     let deep = field.deep in
@@ -56,25 +54,25 @@ number_arises-requires t c =
 pub returns-then-is_empty-clause-is : goal.returns-then-is_empty-clause-is
 returns-then-is_empty-clause-is t c =
     λ yes.
-    let n = integral_node c.args.nodes.now c.requires.table c.args.at c.requires.at (length (levels c.args.store.now)) c.requires.open c.index-nodes-at.result _ _ _ c.in-Integral.is in
+    let n = integral_node c.args.nodes.now c.requires.table c.args.at c.requires.at (level_count c.args.store.now) c.requires.open c.index-nodes-at.result _ _ _ c.in-Integral.is in
     let inside = rw c.deref.ensures.value at c.in-Some.ensures.is.inside in
     let next = drop_more c.in-Integral.fields.items (get_or c.args.path.now 0 0) c.index-field.result.now inside in
     let next = rw (← c.index-field.ensures) at next in
-    let opens = keeps_opened c.args.nodes.now c.args.store.now c.open_level.new.self c.open_level.ensures.levels in
+    let opens = c.open_level.ensures.levels c.args.nodes.now in
     let before = rw (c.deref.ensures.value, opens) at c.in-Some.ensures.is.before in
     let arises = digits_refused_there c.args.nodes.now c.in-Integral.fields.items c.args.digits c.args.start c.in-Integral.number.width (get_or c.args.path.now 0 0) c.in-Some.left c.first_digits-cut.result c.width_at.result
-    (opened (kept c.args.nodes.now c.args.store.now)) (kept c.args.nodes.now c.reach_field.new.store) (fault_of c.args.fault) c.index-field.result.now next c.width_at.ensures.is c.first_digits-cut.ensures.is before (c.is_refused.ensures.is yes) in
+    (opened (levels c.args.nodes.now c.args.store.now)) (levels c.args.nodes.now c.reach_field.new.store) (fault_of c.args.fault) c.index-field.result.now next c.width_at.ensures.is c.first_digits-cut.ensures.is before (c.is_refused.ensures.is yes) in
     rw (n.type_is, path_ends c.args.path.now c.in-len1-up.len_at_least (sym c.is_empty.ensures ∙ c.if-is_empty.true)) (in_digits arises)
 
 pub returns-else-is_empty-clause-is : goal.returns-else-is_empty-clause-is
 returns-else-is_empty-clause-is t c =
     λ yes.
-    let n = integral_node c.args.nodes.now c.requires.table c.args.at c.requires.at (length (levels c.args.store.now)) c.requires.open c.index-nodes-at.result _ _ _ c.in-Integral.is in
+    let n = integral_node c.args.nodes.now c.requires.table c.args.at c.requires.at (level_count c.args.store.now) c.requires.open c.index-nodes-at.result _ _ _ c.in-Integral.is in
     let inside = rw c.deref.ensures.value at c.in-Some.ensures.is.inside in
     let next = drop_more c.in-Integral.fields.items (get_or c.args.path.now 0 0) c.index-field.result.now inside in
     let next = rw (← c.index-field.ensures) at next in
-    let opens = keeps_opened c.args.nodes.now c.args.store.now c.open_level.new.self c.open_level.ensures.levels in
+    let opens = c.open_level.ensures.levels c.args.nodes.now in
     let before = rw (c.deref.ensures.value, opens) at c.in-Some.ensures.is.before in
     let arises = digits_arise_inside c.args.nodes.now c.in-Integral.fields.items c.args.digits c.args.start c.in-Integral.number.width (get_or c.args.path.now 0 0) c.in-Some.left c.first_digits-cut.result c.width_at.result
-    (opened (kept c.args.nodes.now c.args.store.now)) (kept c.args.nodes.now c.reach_field.new.store) (fault_of c.args.fault) c.index-field.result.now next c.width_at.ensures.is c.first_digits-cut.ensures.is before _ (c.number_arises.ensures.is yes) in
+    (opened (levels c.args.nodes.now c.args.store.now)) (levels c.args.nodes.now c.reach_field.new.store) (fault_of c.args.fault) c.index-field.result.now next c.width_at.ensures.is c.first_digits-cut.ensures.is before _ (c.number_arises.ensures.is yes) in
     rw (n.type_is, path_is c.args.path.now c.in-len1-up.len_at_least) (in_digits arises)

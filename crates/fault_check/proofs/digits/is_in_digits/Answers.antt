@@ -3,7 +3,7 @@ use Rattle.bit_space.specs.Bits.{bits_of}
 use Rattle.bit_space.proofs.Digits.{length-bits_of}
 use Rattle.pickle_types.specs.Table.{type_of}
 use Rattle.pickle_meaning.specs.Means.{number_type}
-use Rattle.value_store.specs.Slots.{levels}
+use Rattle.value_store.specs.Slots.{level_count}
 use Rattle.fault_parts.specs.Arises.{in_number}
 use Rattle.fault_check.proofs.Nodes.{integral_node}
 use Rattle.fault_check.proofs.digits.is_in_digits.Goals as goal
@@ -11,7 +11,7 @@ use Rattle.fault_check.proofs.digits.is_in_digits.Goals as goal
 pub returns-in-Ok-clause-is : goal.returns-in-Ok-clause-is
 returns-in-Ok-clause-is g c =
     λ yes bytes e.
-    let n = integral_node c.args.nodes.now c.requires.table c.args.at c.requires.at (length (levels c.args.store.now)) c.requires.open c.index-nodes-at.result _ _ _ c.in-Integral.is in
+    let n = integral_node c.args.nodes.now c.requires.table c.args.at c.requires.at (level_count c.args.store.now) c.requires.open c.index-nodes-at.result _ _ _ c.in-Integral.is in
     let whole = g.met.S.Space.whole c.args.space.now bytes e in
     let here : c.args.start ≤ length (bits_of bytes) = rw length-bits_of (omega (arith, whole, c.if-from-start.false, c.from.ensures, c.len.ensures)) in
     let ends : c.args.start + c.in-Integral.number.width ≤ length (bits_of bytes) = rw length-bits_of (omega (arith, whole, c.in-Ok.ensures.inside)) in

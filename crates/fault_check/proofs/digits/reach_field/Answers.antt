@@ -1,9 +1,9 @@
 use Rattle.std.proofs.Common.{rules, refl, arith}
 use Rattle.std.proofs.lemmas.List.{drop_more}
 use Rattle.pickle_types.specs.Table.{type_of, open_parts}
-use Rattle.value_store.specs.Shown.{kept}
 use Rattle.fault_parts.specs.Arises.{no_digits_before}
 use Rattle.fault_check.proofs.IntegralFields.{digits_more}
+use Rattle.value_store.specs.Slots.{levels}
 use Rattle.fault_check.proofs.digits.reach_field.Goals as goal
 
 pub loop-index-init : goal.loop-index-init
@@ -19,6 +19,6 @@ loop-index-preserved c =
       depth = search rules;
       few = search rules;
       before = digits_more c.args.nodes.now c.args.fields.now c.args.digits c.args.start c.args.width c.loop-index.index c.loop-index.left c.first_digits-cut.result c.width_at-width.result c.saturating_sub-left.result
-          (open_parts (type_of c.args.nodes.now) c.args.fields.now) (kept c.args.nodes.now c.args.store.now) (kept c.args.nodes.now c.loop-index.store) (kept c.args.nodes.now c.pass_field.new.store)
+          (open_parts (type_of c.args.nodes.now) c.args.fields.now) (levels c.args.nodes.now c.args.store.now) (levels c.args.nodes.now c.loop-index.store) (levels c.args.nodes.now c.pass_field.new.store)
           c.index-fields-index.result next c.width_at-width.ensures.is c.first_digits-cut.ensures.is c.saturating_sub-left.ensures i.before c.in-Ok.ensures.is;
     }

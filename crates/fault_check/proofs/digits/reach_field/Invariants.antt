@@ -1,15 +1,14 @@
-use Rattle.std.proofs.Common.{◌≡◌, ◌≤◌, drop, length}
+use Rattle.std.proofs.Common.{◌≡◌, ◌≤◌, drop}
 use Rattle.pickle_types.specs.Table.{type_of, open_parts}
-use Rattle.value_store.specs.Shown.{kept}
-use Rattle.value_store.specs.Slots.{levels}
+use Rattle.value_store.specs.Slots.{levels, level_count}
 use Rattle.fault_parts.specs.Arises.{DigitsBefore}
 use Rattle.fault_check.proofs.digits.reach_field.Given as goal
 
 abbrev pub invariant-loop-index : goal.invariant-loop-index
 invariant-loop-index l = record {
   limit : l.meter.limit ≡ l.initial.meter.limit;
-  depth : length (levels l.store) ≡ length (levels l.initial.store);
+  depth : level_count l.store ≡ level_count l.initial.store;
   few : l.left ≤ 64;
-  before : DigitsBefore l.digits l.start (open_parts (type_of l.nodes) l.fields) l.width (kept l.nodes l.initial.store) l.index
-      (open_parts (type_of l.nodes) (drop l.index l.fields)) l.left (kept l.nodes l.store);
+  before : DigitsBefore l.digits l.start (open_parts (type_of l.nodes) l.fields) l.width (levels l.nodes l.initial.store) l.index
+      (open_parts (type_of l.nodes) (drop l.index l.fields)) l.left (levels l.nodes l.store);
 }

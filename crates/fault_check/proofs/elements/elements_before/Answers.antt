@@ -1,7 +1,7 @@
 use Rattle.std.proofs.Common.{rules, ◌*◌, sym, ap, ◌∙◌}
 use Rattle.pickle_types.specs.Table.{type_of}
-use Rattle.value_store.specs.Shown.{kept}
 use Rattle.fault_check.proofs.ArrayElements.{no_elements, elements_go}
+use Rattle.value_store.specs.Slots.{levels}
 use Rattle.fault_check.proofs.elements.elements_before.Goals as goal
 
 pub loop-count-init : goal.loop-count-init
@@ -24,6 +24,6 @@ loop-count-preserved g c =
       inside = search rules;
       depth = search rules;
       before = elements_go (g.S.Space.view c.args.space.now) (g.S.Space.view c.loop-count.space) (g.met.S.Space.whole c.args.space.now) i.leaves.bytes (type_of c.args.nodes.now c.args.element) c.args.order c.args.start c.args.extent
-          (kept c.args.nodes.now c.args.store.now) (kept c.args.nodes.now c.loop-count.store) (kept c.args.nodes.now c.map_part.new.store)
+          (levels c.args.nodes.now c.args.store.now) (levels c.args.nodes.now c.loop-count.store) (levels c.args.nodes.now c.map_part.new.store)
           c.loop-count.count c.loop-count.behind c.in-Ok.end _ (ap (λ n. 8 * n) c.len-bits.ensures) due c.if-behind-end.true i.before mapped;
     }

@@ -1,7 +1,6 @@
-use Rattle.std.proofs.Common.{◌≡◌, ◌*◌, ◌≤◌, length}
+use Rattle.std.proofs.Common.{◌≡◌, ◌*◌, ◌≤◌}
 use Rattle.pickle_types.specs.Table.{type_of}
-use Rattle.value_store.specs.Shown.{kept}
-use Rattle.value_store.specs.Slots.{levels}
+use Rattle.value_store.specs.Slots.{levels, level_count}
 use Rattle.fault_check.specs.Ways.{OnBits, Leaves}
 use Rattle.fault_check.specs.Elements.{ElementsTo}
 use Rattle.fault_check.proofs.elements.elements_before.Given as goal
@@ -11,7 +10,7 @@ invariant-loop-count g l = record {
   leaves : Leaves (g.S.Space.view l.initial.space) (g.S.Space.view l.space) l.initial.meter l.meter;
   after : l.start ≤ l.behind;
   inside : l.behind ≤ 8 * (g.S.Space.view l.initial.space).len;
-  depth : length (levels l.store) ≡ length (levels l.initial.store);
+  depth : level_count l.store ≡ level_count l.initial.store;
   before : OnBits (g.S.Space.view l.initial.space) (λ bits.
-      ElementsTo bits (type_of l.nodes l.element) l.order l.start l.extent (kept l.nodes l.initial.store) (kept l.nodes l.store) l.count l.behind);
+      ElementsTo bits (type_of l.nodes l.element) l.order l.start l.extent (levels l.nodes l.initial.store) (levels l.nodes l.store) l.count l.behind);
 }

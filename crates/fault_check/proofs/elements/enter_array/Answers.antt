@@ -2,10 +2,9 @@ use Rattle.std.proofs.Common.{◌≤◌, length, arith}
 use Rattle.bit_space.specs.Bits.{bits_of}
 use Rattle.bit_space.proofs.Digits.{length-bits_of}
 use Rattle.pickle_types.specs.Table.{type_of, bound_of}
-use Rattle.value_store.specs.Shown.{kept}
-use Rattle.pickle_map.proofs.Keeping.{keeps_opened}
 use Rattle.fault_check.specs.Ways.{fault_of}
 use Rattle.fault_check.proofs.ArrayElements.{enters_array}
+use Rattle.value_store.specs.Slots.{levels}
 use Rattle.fault_check.proofs.elements.enter_array.Goals as goal
 
 pub returns-clause-is : goal.returns-clause-is
@@ -13,7 +12,7 @@ returns-clause-is g c =
     λ bytes e.
     let whole = g.met.S.Space.whole c.args.space.now bytes e in
     let inside : c.args.start ≤ length (bits_of bytes) = rw length-bits_of (omega (arith, whole, c.if-from-start.false, c.from.ensures, c.len.ensures)) in
-    let opened = keeps_opened c.args.nodes.now c.args.store.now c.open_level.new.self c.open_level.ensures.levels in
+    let opened = c.open_level.ensures.levels c.args.nodes.now in
     let entered = rw opened at (c.enter_elements.ensures.is bytes e) in
-    enters_array (bits_of bytes) c.args.nodes.now (type_of c.args.nodes.now c.args.element) (bound_of c.args.bound.now) c.args.order c.args.start c.in-Ok.extent (kept c.args.nodes.now c.args.store.now) (kept c.args.nodes.now c.enter_elements.new.store)
-    c.args.place (fault_of c.args.fault) inside c.in-Ok.ensures.is.0 c.enter_elements.result entered
+    enters_array (bits_of bytes) c.args.nodes.now (type_of c.args.nodes.now c.args.element) (bound_of c.args.bound.now) c.args.order c.args.start c.in-Ok.extent (levels c.args.nodes.now c.args.store.now) (levels c.args.nodes.now c.enter_elements.new.store)
+    c.args.place (fault_of c.args.fault) inside (c.in-Ok.ensures.is c.args.nodes.now).0 c.enter_elements.result entered

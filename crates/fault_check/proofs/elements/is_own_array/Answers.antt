@@ -2,7 +2,6 @@ use Rattle.std.proofs.Common.{◌≤◌, length, arith}
 use Rattle.bit_space.specs.Bits.{bits_of}
 use Rattle.bit_space.proofs.Digits.{length-bits_of}
 use Rattle.pickle_meaning.specs.declared.faults.MapFaultKind.TheVariants.{Bounds}
-use Rattle.pickle_map.proofs.Keeping.{keeps_opened}
 use Rattle.fault_parts.specs.Arises.{bound_of_array, in_array, past_size}
 use Rattle.fault_check.proofs.ArrayElements.{same_fault}
 use Rattle.fault_check.proofs.elements.is_own_array.Goals as goal
@@ -12,15 +11,15 @@ returns-then-is_fault-clause-is g c =
     λ yes bytes e.
     let whole = g.met.S.Space.whole c.args.space.now bytes e in
     let inside : c.args.start ≤ length (bits_of bytes) = rw length-bits_of (omega (arith, whole, c.if-from-start.false, c.from.ensures, c.len.ensures)) in
-    let opened = keeps_opened c.args.nodes.now c.args.store.now c.open_level.new.self c.open_level.ensures.levels in
+    let opened = c.open_level.ensures.levels c.args.nodes.now in
     let grown = rw opened at (c.outgrows.ensures.is yes bytes e) in
     rw (same_fault Bounds c.args.start c.args.fault (c.is_fault.ensures c.if-is_fault.true))
-    (in_array inside c.in-Ok.ensures.is.0 (past_size grown.elements.holds grown.over grown.unmet))
+    (in_array inside (c.in-Ok.ensures.is c.args.nodes.now).0 (past_size grown.elements.holds grown.over grown.unmet))
 
 pub returns-in-Err-clause-is : goal.returns-in-Err-clause-is
 returns-in-Err-clause-is g c =
     λ yes bytes e.
     let whole = g.met.S.Space.whole c.args.space.now bytes e in
     let inside : c.args.start ≤ length (bits_of bytes) = rw length-bits_of (omega (arith, whole, c.if-from-start.false, c.from.ensures, c.len.ensures)) in
-    let bound = rw (c.is_fault-in-Err.ensures yes) at c.in-Err.ensures.is in
+    let bound = rw (c.is_fault-in-Err.ensures yes) at (c.in-Err.ensures.is c.args.nodes.now) in
     bound_of_array inside bound.0

@@ -1,7 +1,6 @@
-use Rattle.std.proofs.Common.{◌≡◌, length, drop}
+use Rattle.std.proofs.Common.{◌≡◌, drop}
 use Rattle.pickle_types.specs.Table.{type_of, open_fields}
-use Rattle.value_store.specs.Shown.{kept}
-use Rattle.value_store.specs.Slots.{levels}
+use Rattle.value_store.specs.Slots.{levels, level_count}
 use Rattle.fault_parts.specs.Arises.{FieldsBefore}
 use Rattle.fault_check.specs.Ways.{OnBits, Leaves}
 use Rattle.fault_check.proofs.fields.enter_fields.Given as goal
@@ -9,7 +8,7 @@ use Rattle.fault_check.proofs.fields.enter_fields.Given as goal
 abbrev pub invariant-loop-index : goal.invariant-loop-index
 invariant-loop-index g l = record {
   leaves : Leaves (g.S.Space.view l.initial.space) (g.S.Space.view l.space) l.initial.meter l.meter;
-  depth : length (levels l.store) ≡ length (levels l.initial.store);
-  so_far : OnBits (g.S.Space.view l.initial.space) (λ bits. FieldsBefore bits l.pinned l.start l.order (open_fields (type_of l.nodes) l.fields) (kept l.nodes l.initial.store) l.index
-      (open_fields (type_of l.nodes) (drop l.index l.fields)) (kept l.nodes l.store) l.behind);
+  depth : level_count l.store ≡ level_count l.initial.store;
+  so_far : OnBits (g.S.Space.view l.initial.space) (λ bits. FieldsBefore bits l.pinned l.start l.order (open_fields (type_of l.nodes) l.fields) (levels l.nodes l.initial.store) l.index
+      (open_fields (type_of l.nodes) (drop l.index l.fields)) (levels l.nodes l.store) l.behind);
 }

@@ -10,9 +10,7 @@ use Rattle.value_store.specs.declared.scalar.Scalar.TheVariants as scalar
 use Rattle.pickle_evaluation.specs.Contents.{IsHeld}
 use Rattle.pickle_meaning.specs.Values.{IntegerLabel}
 use Rattle.value_store.specs.Refs.{value_of}
-use Rattle.pickle_evaluation.specs.Operands.{tree_element}
-use Rattle.pickle_meaning.specs.Evaluation.{leads_to}
-use Rattle.pickle_evaluation.proofs.ShownPaths.{element_shown, shown_found}
+use Rattle.pickle_meaning.specs.Evaluation.{AtPath, element, leads_to}
 use Rattle.pickle_evaluation.proofs.expression.element.Goals as goal
 
 pub returns-in_err-element-in-Value-Scalar-Integer-clause-is :
@@ -24,8 +22,7 @@ returns-in_err-element-in-Value-Scalar-Integer-clause-is c nodes x held =
     let b : c.args.n ≡ content.Scalar (scalar.Integer c.in-Value-Scalar-Integer.i c.in-Value-Scalar-Integer._number) = cc in
     let h : x ≡ IntegerLabel c.in-Value-Scalar-Integer.i c.in-Value-Scalar-Integer._number = subst (λ (n : Content). IsHeld n x) b held in
     rw (p.1, p.2, a, h)
-    (ap (λ r. (leads_to r).outcome) (element_shown nodes (value_of c.in-Value-Scalar-Integer.value) c.in-Value-Scalar-Integer.i c.in-Value-Scalar-Integer._number
-    ∙ ap (λ i. shown_found nodes (tree_element (value_of c.in-Value-Scalar-Integer.value) i)) (sym (to_z-of_z w128 c.in-Value-Scalar-Integer.i fits)) ∙ ap (shown_found nodes) (sym c.in_err-element-in-Value-Scalar-Integer.ensures)))
+    (ap (λ r. (leads_to r).outcome) (ap (λ i. element (AtPath (value_of nodes c.in-Value-Scalar-Integer.value)) (IntegerLabel i c.in-Value-Scalar-Integer._number)) (sym (to_z-of_z w128 c.in-Value-Scalar-Integer.i fits)) ∙ sym (c.in_err-element-in-Value-Scalar-Integer.ensures nodes c.in-Value-Scalar-Integer._number)))
 
 pub returns-in_ok-element-in-Value-Scalar-Integer-clause-is :
     goal.returns-in_ok-element-in-Value-Scalar-Integer-clause-is
@@ -35,5 +32,4 @@ returns-in_ok-element-in-Value-Scalar-Integer-clause-is c nodes x held =
     let b : c.args.n ≡ content.Scalar (scalar.Integer c.in-Value-Scalar-Integer.i c.in-Value-Scalar-Integer._number) = cc in
     let h : x ≡ IntegerLabel c.in-Value-Scalar-Integer.i c.in-Value-Scalar-Integer._number = subst (λ (n : Content). IsHeld n x) b held in
     rw (a, h)
-    (ap (λ r. (leads_to r).outcome) (element_shown nodes (value_of c.in-Value-Scalar-Integer.value) c.in-Value-Scalar-Integer.i c.in-Value-Scalar-Integer._number
-    ∙ ap (λ i. shown_found nodes (tree_element (value_of c.in-Value-Scalar-Integer.value) i)) (sym (to_z-of_z w128 c.in-Value-Scalar-Integer.i fits)) ∙ ap (shown_found nodes) (sym c.in_ok-element-in-Value-Scalar-Integer.ensures)))
+    (ap (λ r. (leads_to r).outcome) (ap (λ i. element (AtPath (value_of nodes c.in-Value-Scalar-Integer.value)) (IntegerLabel i c.in-Value-Scalar-Integer._number)) (sym (to_z-of_z w128 c.in-Value-Scalar-Integer.i fits)) ∙ sym (c.in_ok-element-in-Value-Scalar-Integer.ensures nodes c.in-Value-Scalar-Integer._number)))

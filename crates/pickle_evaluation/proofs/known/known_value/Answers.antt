@@ -12,4 +12,4 @@ unknown_by nodes limit before after (Fault kind) e l b h = faulty kind h.0
 unknown_by nodes limit before after Limit e l b h = endless (omega (arith, h.1, l, b))
 
 pub returns-in-Err : goal.returns-in-Err
-returns-in-Err c = unknown_by c.args.table.now _ _ _ c.in-Err.field-0 _ c.new-meter.ensures.limit c.new-meter.ensures.steps c.in-Err.ensures.is
+returns-in-Err c = unknown_by c.args.table.now _ _ _ c.in-Err.field-0 _ c.new-meter.ensures.limit c.new-meter.ensures.steps (c.in-Err.ensures.is c.args.table.now)

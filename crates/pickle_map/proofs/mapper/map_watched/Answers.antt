@@ -1,19 +1,17 @@
-use Rattle.std.proofs.Common.{◌*◌, length, option_map, refl, sym, ap, ◌∙◌, arith}
+use Rattle.std.proofs.Common.{◌*◌, option_map, refl, sym, ap, ◌∙◌, arith}
 use Rattle.bit_space.specs.Bits.{bits_of}
 use Rattle.bit_space.proofs.Digits.{length-bits_of}
 use Rattle.pickle_types.specs.Table.{type_of}
-use Rattle.value_store.specs.Slots.{levels}
+use Rattle.value_store.specs.Slots.{level_count}
 use Rattle.pickle_meaning.specs.Values.{no_values}
 use Rattle.pickle_map.proofs.Followed.{walk_rises, followed_steps, followed_made, followed_fits, followed_size, followed_result}
-use Rattle.value_store.proofs.Held.{none-open}
 use Rattle.pickle_map.proofs.Keeping.{kept_within}
 use Rattle.pickle_map.proofs.Stopped.{told_there, told_limit, told_memory, told_device, told_counts, told_means, none_kept}
 use Rattle.pickle_map.proofs.mapper.map_watched.Goals as goal
 
 pub map_type-requires-clause-open : goal.map_type-requires-clause-open
 map_type-requires-clause-open g c =
-    let none = ap levels c.requires.empty ∙ none-open c.args.store.now.room c.args.store.now.capacity in
-    let one = ap length none in
+    let one = ap level_count c.requires.empty in
     let deep = c.args.table.now.sound.deep c.args.id.node c.requires.known in
     rw c.nodes.ensures (omega (arith, one, deep))
 
@@ -46,7 +44,7 @@ returns-in-Ok g c =
       emptied = tt;
       holds = c.never_grows-fixed.ensures.holds;
       room = c.in-Ok.ensures.frame.room;
-      held = λ never. kept_within c.args.table.now.nodes.items c.args.store.now c.map_type.new.store c.in-Ok.ensures.frame.room.room never c.never_grows-fixed.ensures.fits;
+      held = λ never. kept_within c.args.table.now.nodes.items c.args.store.now c.map_type.new.store c.in-Ok.ensures.frame.room.room never (λ e. c.never_grows-fixed.ensures.fits e c.args.table.now.nodes.items);
       most = limit;
       len = c.in-Ok.ensures.frame.len;
       bytes = c.in-Ok.ensures.frame.bytes;

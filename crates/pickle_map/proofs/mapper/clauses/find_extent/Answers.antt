@@ -4,12 +4,12 @@ use Rattle.pickle_map.proofs.mapper.clauses.find_extent.Goals as goal
 
 pub returns-in-Unbounded-clause-is : goal.returns-in-Unbounded-clause-is
 unfolding extent_of
-returns-in-Unbounded-clause-is c = rw c.in-Unbounded.is (refl, omega arith)
+returns-in-Unbounded-clause-is c nodes = rw c.in-Unbounded.is (refl, omega arith)
 
 pub returns-in-Count-clause-is : goal.returns-in-Count-clause-is
 unfolding extent_of
-returns-in-Count-clause-is c = rw (c.in-Count.is, ← c.deref.ensures) c.evaluated_count.ensures.is
+returns-in-Count-clause-is c nodes = rw (c.in-Count.is, ← c.deref.ensures) (c.evaluated_count.ensures.is nodes)
 
 pub returns-in-Size-clause-is : goal.returns-in-Size-clause-is
 unfolding extent_of
-returns-in-Size-clause-is c = rw (c.in-Size.is, ← c.deref-in-Size.ensures) c.evaluated_size.ensures.is
+returns-in-Size-clause-is c nodes = rw (c.in-Size.is, ← c.deref-in-Size.ensures) (c.evaluated_size.ensures.is nodes)

@@ -1,17 +1,15 @@
-use Rattle.std.proofs.Common.{rules, ◌+◌, ◌^◌, ◌<◌, Some, None, length, refl, sym, ap, subst, ◌∙◌, arith}
+use Rattle.std.proofs.Common.{rules, ◌+◌, ◌^◌, ◌<◌, Some, None, refl, sym, ap, subst, ◌∙◌, arith}
 use Rattle.std.proofs.lemmas.List.{drop_more, drop_all}
 use Rattle.std.proofs.lemmas.Result.{err_from_is_err_and}
 use Rattle.pickle_types.specs.Table.{type_of}
 use Rattle.pickle_types.specs.Types.{parts_depth}
 use Rattle.mapping_plans.specs.Mapping.{number_plan}
 use Rattle.pickle_meaning.specs.Means.{number_type, width_in}
-use Rattle.value_store.specs.Shown.{kept}
-use Rattle.value_store.specs.Slots.{levels}
+use Rattle.value_store.specs.Slots.{levels, level_count}
 use Rattle.pickle_meaning.specs.Values.{outer_of}
 use Rattle.pickle_map.proofs.Shapes.{opened_as, below_as, sound_as, names_as, parts_within, parts_bounded, part_bounded, of_one, integral_opened, parts_named}
 use Rattle.pickle_map.specs.Mappable.{IsPartOf}
-use Rattle.value_store.proofs.Held.{length-levels}
-use Rattle.pickle_map.proofs.Keeping.{keeps_opened, keeps_outer, regrown_stays}
+use Rattle.pickle_map.proofs.Keeping.{regrown_stays}
 use Rattle.pickle_map.proofs.Clauses.{checks_ok, checks_stop}
 use Rattle.pickle_map.proofs.Placing.{digits_end, digits_no_tick, digits_stop, digits_goes}
 use Rattle.pickle_map.proofs.Walks.{follow_done, follow_here, follow_on, follow_tick, follow_stop, closes_no_room, closes_made, first_no_tick, in_room, outer_pushed}
@@ -26,19 +24,19 @@ pub integral_body-returns-in_err-close_struct-clause-is : goal.integral_body-ret
 integral_body-returns-in_err-close_struct-clause-is g t c =
     let p = err_from_is_err_and c.from_residual-in_err-close_struct.result c.from_residual-in_err-close_struct.ensures.1 in
     let named = c.requires.names ∙ sym (parts_named (type_of c.args.nodes.now) c.args.fields.now) in
-    let full = rw (named, c.from.ensures) at c.in_err-close_struct.ensures.full in
+    let full = rw (named, c.from.ensures) at (c.in_err-close_struct.ensures.full c.args.nodes.now) in
     rw (p.1, p.2) (λ known. closes_no_room _ _ _ (c.in_ok-place_fields.ensures.is known) c.in_ok-place_fields.ensures.frame.room.room full)
 
 pub integral_body-returns-in_err-close_struct-clause-level : goal.integral_body-returns-in_err-close_struct-clause-level
 integral_body-returns-in_err-close_struct-clause-level g t c =
     let p = err_from_is_err_and c.from_residual-in_err-close_struct.result c.from_residual-in_err-close_struct.ensures.1 in
-    rw p.1 (regrown_stays c.args.nodes.now _ _ _ c.in_ok-place_fields.ensures.outer c.in_ok-place_fields.ensures.depth c.in_err-close_struct.ensures.same)
+    rw p.1 (regrown_stays c.args.nodes.now _ _ _ c.in_ok-place_fields.ensures.outer c.in_ok-place_fields.ensures.depth c.in_err-close_struct.ensures.err)
 
 pub integral_body-returns-clause-is : goal.integral_body-returns-clause-is
 integral_body-returns-clause-is g t c =
     let n = c.note_made.ensures in
     let named = c.requires.names ∙ sym (parts_named (type_of c.args.nodes.now) c.args.fields.now) in
-    let h = rw (named, c.from.ensures, c.in_ok-place_fields.ensures.outer) at c.in_ok-close_struct.ensures.ok in
+    let h = rw (named, c.from.ensures, c.in_ok-place_fields.ensures.outer) at (c.in_ok-close_struct.ensures.ok c.args.nodes.now) in
     λ known. record { value = _; kept = h; ends = refl; follows = closes_made _ _ _ (c.in_ok-place_fields.ensures.is known) n.steps n.made }
 
 pub place_fields-loop-part-init : goal.place_fields-loop-part-init
@@ -62,7 +60,7 @@ place_fields-returns-in_err-tick-clause-is g t c =
 pub place_fields-place_part-requires : goal.place_fields-place_part-requires
 place_fields-place_part-requires g t c =
     let bounded = part_bounded c.args.fields.now c.loop-part.part-index c.part-item.result (omega arith) c.part-item.is in
-    let part = of_one (IsPartOf c.args.nodes.now (length (levels c.args.store.now))) c.args.fields.now c.loop-part.part-index c.part-item.result c.requires.fields (omega arith) c.part-item.is in
+    let part = of_one (IsPartOf c.args.nodes.now (level_count c.args.store.now)) c.args.fields.now c.loop-part.part-index c.part-item.result c.requires.fields (omega arith) c.part-item.is in
     let part = rw (← c.loop-part.invariant.depth) at part in
     let below = rw c.width_at-width.ensures.is at c.first_digits-digits.ensures.below in
     search rules
@@ -104,22 +102,21 @@ pub place_integral-integral_body-requires : goal.place_integral-integral_body-re
 place_integral-integral_body-requires g t c =
     let depth = c.open_level.ensures.depth in
     let fields = rw (← depth) at c.requires.fields in
-    let some = length-levels c.args.store.now in
     search rules
 
 pub place_integral-drop_level-requires : goal.place_integral-drop_level-requires
-place_integral-drop_level-requires g t c = omega (arith, c.in-Err.ensures.level.depth, c.open_level.ensures.depth, length-levels c.args.store.now)
+place_integral-drop_level-requires g t c = omega (arith, c.in-Err.ensures.level.depth, c.open_level.ensures.depth)
 
 pub place_integral-returns-in-Ok-clause-is : goal.place_integral-returns-in-Ok-clause-is
 unfolding number_plan
 place_integral-returns-in-Ok-clause-is g t c =
-    let opened = keeps_opened c.args.nodes.now c.args.store.now c.open_level.new.self c.open_level.ensures.levels in
+    let opened = c.open_level.ensures.levels c.args.nodes.now in
     λ known. rw (opened, c.open_level.ensures.room.room) at (c.in-Ok.ensures.is known)
 
 pub place_integral-returns-in-Err-clause-is : goal.place_integral-returns-in-Err-clause-is
 unfolding number_plan
 place_integral-returns-in-Err-clause-is g t c =
-    let opened = keeps_opened c.args.nodes.now c.args.store.now c.open_level.new.self c.open_level.ensures.levels in
+    let opened = c.open_level.ensures.levels c.args.nodes.now in
     λ known. rw (opened, c.open_level.ensures.room.room) at (c.in-Err.ensures.is known)
 
 pub place_number-place_integer-requires-clause-digits : goal.place_number-place_integer-requires-clause-digits
@@ -142,16 +139,16 @@ place_number-place_integral-requires g t c =
     let sound = sound_as c.args.nodes.now c.requires.table c.args.at c.requires.at c.index-nodes-at.result _ c.in-Integral.is in
     let opened = opened_as c.args.nodes.now c.requires.table c.args.at c.requires.at c.index-nodes-at.result _ c.in-Integral.is in
     let deep = rw opened at c.requires.open in
-    let fields = parts_within c.args.nodes.now c.args.at c.requires.at (length (levels c.args.store.now) + 1) c.in-Integral.fields.items below.1 sound (omega (arith, deep)) in
+    let fields = parts_within c.args.nodes.now c.args.at c.requires.at (level_count c.args.store.now + 1) c.in-Integral.fields.items below.1 sound (omega (arith, deep)) in
     let bounded = parts_bounded c.args.at c.in-Integral.fields.items below.1 in
     let wide = below.0 in
     rw c.deref.ensures.value (search rules)
 
 pub place_number-returns-in-Integer-clause-is : goal.place_number-returns-in-Integer-clause-is
-place_number-returns-in-Integer-clause-is g t c = rw (opened_as c.args.nodes.now c.requires.table c.args.at c.requires.at c.index-nodes-at.result _ c.in-Integer.is) c.place_integer.ensures.is
+place_number-returns-in-Integer-clause-is g t c = rw (opened_as c.args.nodes.now c.requires.table c.args.at c.requires.at c.index-nodes-at.result _ c.in-Integer.is) (c.place_integer.ensures.is c.args.nodes.now)
 
 pub place_number-returns-in-Offset-clause-is : goal.place_number-returns-in-Offset-clause-is
-place_number-returns-in-Offset-clause-is g t c = rw (opened_as c.args.nodes.now c.requires.table c.args.at c.requires.at c.index-nodes-at.result _ c.in-Offset.is) c.place_offset.ensures.is
+place_number-returns-in-Offset-clause-is g t c = rw (opened_as c.args.nodes.now c.requires.table c.args.at c.requires.at c.index-nodes-at.result _ c.in-Offset.is) (c.place_offset.ensures.is c.args.nodes.now)
 
 pub place_number-returns-in-Integral-clause-is : goal.place_number-returns-in-Integral-clause-is
 place_number-returns-in-Integral-clause-is g t c = rw (integral_opened c.args.nodes.now c.requires.table c.args.at c.requires.at c.index-nodes-at.result _ _ _ _ c.in-Integral.is c.deref.ensures.value) c.place_integral.ensures.is
@@ -204,14 +201,14 @@ place_part-returns-in_err-check-clause-is g t c =
 pub place_part-returns-clause-outer : goal.place_part-returns-clause-outer
 place_part-returns-clause-outer g t c =
     let h = c.in_ok-place_number.ensures.is None in
-    ap outer_of h.kept ∙ outer_pushed (kept c.args.nodes.now c.args.store.now) (Some h.value)
+    ap outer_of h.kept ∙ outer_pushed (levels c.args.nodes.now c.args.store.now) (Some h.value)
 
 pub place_part-returns-in_err-check-clause-outer : goal.place_part-returns-in_err-check-clause-outer
 place_part-returns-in_err-check-clause-outer g t c =
     let h = c.in_ok-place_number.ensures.is None in
-    ap outer_of h.kept ∙ outer_pushed (kept c.args.nodes.now c.args.store.now) (Some h.value)
+    ap outer_of h.kept ∙ outer_pushed (levels c.args.nodes.now c.args.store.now) (Some h.value)
 
 pub place_integral-returns-in-Err-clause-same : goal.place_integral-returns-in-Err-clause-same
 place_integral-returns-in-Err-clause-same g t c =
-    let opened = keeps_opened c.args.nodes.now c.args.store.now c.open_level.new.self c.open_level.ensures.levels in
-    keeps_outer c.args.nodes.now c.integral_body.new.store c.drop_level.new.self c.drop_level.ensures.levels ∙ c.in-Err.ensures.level.outer ∙ ap outer_of opened
+    let opened = c.open_level.ensures.levels c.args.nodes.now in
+    c.drop_level.ensures.levels c.args.nodes.now ∙ c.in-Err.ensures.level.outer ∙ ap outer_of opened

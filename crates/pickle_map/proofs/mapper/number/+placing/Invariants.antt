@@ -1,11 +1,10 @@
-use Rattle.std.proofs.Common.{◌≡◌, ◌+◌, ◌*◌, ◌≤◌, drop, length}
+use Rattle.std.proofs.Common.{◌≡◌, ◌+◌, ◌*◌, ◌≤◌, drop}
 use Rattle.pickle_types.specs.Table.{type_of, open_parts}
 use Rattle.pickle_map.specs.Follows.{Partly}
 use Rattle.pickle_map.specs.Framed.{WorkFrame, Works}
 use Rattle.pickle_meaning.specs.Values.{outer_of}
 use Rattle.mapping_plans.specs.Mapping.{digits_plan}
-use Rattle.value_store.specs.Shown.{kept}
-use Rattle.value_store.specs.Slots.{levels}
+use Rattle.value_store.specs.Slots.{levels, level_count}
 use Rattle.pickle_map.proofs.Shapes.{parts_bound}
 use Rattle.pickle_map.proofs.mapper.number.+placing.Given as goal
 
@@ -28,9 +27,9 @@ abbrev pub invariant-place_fields-loop-part : goal.invariant-place_fields-loop-p
 invariant-place_fields-loop-part g l = record {
   frame : WorkFrame l.initial.meter l.meter l.initial.store l.store 0;
   left : l.left ≤ 64;
-  outer : outer_of (kept l.nodes l.store) ≡ outer_of (kept l.nodes l.initial.store);
-  depth : length (levels l.store) ≡ length (levels l.initial.store);
+  outer : outer_of (levels l.nodes l.store) ≡ outer_of (levels l.nodes l.initial.store);
+  depth : level_count l.store ≡ level_count l.initial.store;
   so_far : Works l.initial.meter l.meter l.initial.store
-      (digits_plan (open_parts (type_of l.nodes) l.fields) l.digits l.width (kept l.nodes l.initial.store) l.start)
-      (Partly (digits_plan (open_parts (type_of l.nodes) (drop l.part-index l.fields)) l.digits l.left (kept l.nodes l.store) l.start));
+      (digits_plan (open_parts (type_of l.nodes) l.fields) l.digits l.width (levels l.nodes l.initial.store) l.start)
+      (Partly (digits_plan (open_parts (type_of l.nodes) (drop l.part-index l.fields)) l.digits l.left (levels l.nodes l.store) l.start));
 }

@@ -7,20 +7,20 @@ use Rattle.pickle_map.proofs.mapper.number.map_integer.Goals as goal
 
 pub returns-in_err-digits-clause-is : goal.returns-in_err-digits-clause-is
 unfolding read_plan
-returns-in_err-digits-clause-is g c =
+returns-in_err-digits-clause-is g c nodes =
     let p = err_from_is_err_and c.from_residual.result c.from_residual.ensures.1 in
     rw (p.1, p.2) (read_stops _ _ _ _ _ _ _ _ _ refl refl c.in_err-digits.ensures.err c.in_err-digits.ensures.made)
 
 pub returns-in_err-place_integer-clause-is : goal.returns-in_err-place_integer-clause-is
 unfolding read_plan
-returns-in_err-place_integer-clause-is g c =
+returns-in_err-place_integer-clause-is g c nodes =
     let p = err_from_is_err_and c.from_residual-in_err-place_integer.result c.from_residual-in_err-place_integer.ensures.1 in
     let r = c.in_ok-digits.ensures in
-    rw (p.1, p.2) (read_goes _ _ _ _ _ _ _ r.limit r.steps r.made r.inside r.ok (c.in_err-place_integer.ensures.is (known_bits (g.S.Space.view c.args.space.now))))
+    rw (p.1, p.2) (read_goes _ _ _ _ _ _ _ r.limit r.steps r.made r.inside r.ok (c.in_err-place_integer.ensures.is nodes (known_bits (g.S.Space.view c.args.space.now))))
 
 pub returns-clause-is : goal.returns-clause-is
 unfolding read_plan
-returns-clause-is g c =
+returns-clause-is g c nodes =
     let r = c.in_ok-digits.ensures in
-    let h = c.in_ok-place_integer.ensures.is (known_bits (g.S.Space.view c.args.space.now)) in
+    let h = c.in_ok-place_integer.ensures.is nodes (known_bits (g.S.Space.view c.args.space.now)) in
     rw c.from.ensures (record { value = h.value; kept = h.kept; ends = h.ends; follows = read_goes _ _ _ _ _ _ _ r.limit r.steps r.made r.inside r.ok h.follows })

@@ -2,28 +2,28 @@ use Rattle.std.proofs.Common.{refl}
 use Rattle.std.proofs.lemmas.Result.{err_from_is_err_and}
 use Rattle.pickle_meaning.specs.Means.{offset_value}
 use Rattle.mapping_plans.specs.Mapping.{number_plan}
-use Rattle.pickle_map.proofs.Keeping.{regrown_kept}
+use Rattle.value_store.proofs.Held.{regrown-levels}
 use Rattle.pickle_map.proofs.Walks.{follow_made, follow_done, follow_no_room}
 use Rattle.pickle_map.proofs.mapper.number.place_offset.Goals as goal
 
-pub returns-in_err-keep_offset-clause-is : goal.returns-in_err-keep_offset-clause-is
+pub returns-in_err-push_offset-clause-is : goal.returns-in_err-push_offset-clause-is
 unfolding number_plan
-returns-in_err-keep_offset-clause-is c =
+returns-in_err-push_offset-clause-is c nodes =
     let p = err_from_is_err_and c.from_residual.result c.from_residual.ensures.1 in
-    rw (p.1, p.2) (λ known. follow_no_room c.in_err-keep_offset.ensures.full)
+    rw (p.1, p.2) (λ known. follow_no_room (c.in_err-push_offset.ensures.full nodes))
 
-pub returns-in_err-keep_offset-clause-same : goal.returns-in_err-keep_offset-clause-same
-returns-in_err-keep_offset-clause-same c =
+pub returns-in_err-push_offset-clause-same : goal.returns-in_err-push_offset-clause-same
+returns-in_err-push_offset-clause-same c nodes =
     let p = err_from_is_err_and c.from_residual.result c.from_residual.ensures.1 in
-    rw p.1 (regrown_kept c.args.nodes.now _ _ c.in_err-keep_offset.ensures.same)
+    rw p.1 (regrown-levels nodes _ _ c.in_err-push_offset.ensures.err)
 
 pub returns-clause-is : goal.returns-clause-is
 unfolding number_plan
-returns-clause-is c =
+returns-clause-is c nodes =
     let n = c.note_made.ensures in
     λ known. record {
       value = offset_value c.args.number c.args.unit c.args.digits c.args.start;
-      kept = c.in_ok-keep_offset.ensures.ok;
+      kept = c.in_ok-push_offset.ensures.ok nodes;
       ends = refl;
       follows = follow_made n.limit n.steps n.made follow_done;
     }

@@ -4,22 +4,21 @@ use Rattle.std.proofs.lemmas.Result.{err_from_is_err_and}
 use Rattle.pickle_types.specs.Bounds.{least_width, count_of}
 use Rattle.pickle_types.specs.Table.{type_of}
 use Rattle.pickle_map.specs.declared.mapper.stop.Stop.TheVariants.{Memory}
-use Rattle.value_store.specs.Levels as stored
 use Rattle.mapping_plans.specs.Mapping.{plan}
 use Rattle.pickle_map.specs.Row.{row_levels}
-use Rattle.value_store.specs.Shown.{shown}
 use Rattle.value_store.specs.Slots.{levels, element_width, element_value}
 use Rattle.pickle_meaning.specs.Values.{outer_of}
-use Rattle.pickle_map.proofs.Keeping.{regrown_kept}
+use Rattle.value_store.proofs.Held.{regrown-levels}
+use Rattle.value_store.proofs.PackedRows.{packing-outer, packing-empty}
 use Rattle.pickle_map.proofs.Mapping.{in_world, few_enough, elements_end, elements_beyond, elements_no_tick, elements_goes, elements_over, elements_stop}
-use Rattle.pickle_map.proofs.Row.{some_bits, least_is, element_end, element_stops, element_no_room, element_goes, row_more, row_fresh, around_row, first_is}
+use Rattle.pickle_map.proofs.Row.{some_bits, least_is, element_end, element_stops, element_no_room, element_goes, row_more, first_is}
 use Rattle.pickle_map.proofs.Walks.{follow_here, follow_on}
 use Rattle.pickle_map.proofs.mapper.row.map_packed.Goals as goal
 
 pub loop-shape-init : goal.loop-shape-init
 loop-shape-init g c =
     let few = few_enough (8 * (g.S.Space.view c.args.space.now).len) (least_width (type_of c.args.nodes.now c.args.element)) in
-    let fresh = row_fresh c.args.nodes.now c.args.store.now c.args.shape c.args.start (stored.outer_of (levels c.args.store.now)) c.requires.packing in
+    let fresh = packing-empty c.args.nodes.now c.args.store.now c.args.shape c.args.start (outer_of (levels c.args.nodes.now c.args.store.now)) c.requires.packing in
     record {
       frame = search rules;
       after = search rules;
@@ -32,9 +31,8 @@ loop-shape-init g c =
 pub returns-in_err-tick-clause-outer : goal.returns-in_err-tick-clause-outer
 returns-in_err-tick-clause-outer g c =
     let i = c.loop-shape.invariant in
-    let outer = stored.outer_of (levels c.args.store.now) in
-    around_row c.args.nodes.now c.loop-shape.store c.args.shape i.so_far.0 c.args.start outer i.so_far.5
-    ∙ sym (around_row c.args.nodes.now c.args.store.now c.args.shape [] c.args.start outer c.requires.packing)
+    let outer = outer_of (levels c.args.nodes.now c.args.store.now) in
+    packing-outer c.args.nodes.now c.loop-shape.store c.args.shape i.so_far.0 c.args.start outer i.so_far.5
 
 pub returns-in_err-tick-clause-is : goal.returns-in_err-tick-clause-is
 returns-in_err-tick-clause-is g c =
@@ -48,15 +46,14 @@ returns-in_err-tick-clause-is g c =
 pub push_packed-requires-clause-first : goal.push_packed-requires-clause-first
 push_packed-requires-clause-first g c =
     let i = c.loop-shape.invariant in
-    first_is c.loop-shape.store c.args.shape i.so_far.0 c.args.start (stored.outer_of (levels c.args.store.now)) c.loop-shape.count i.so_far.5 c.requires.shape.packed i.so_far.4
+    first_is c.args.nodes.now c.loop-shape.store c.args.shape i.so_far.0 c.args.start (outer_of (levels c.args.nodes.now c.args.store.now)) c.loop-shape.count i.so_far.5 c.requires.shape.packed i.so_far.4
 
 pub returns-in_err-push_packed-in-Ok-clause-outer : goal.returns-in_err-push_packed-in-Ok-clause-outer
 returns-in_err-push_packed-in-Ok-clause-outer g c =
     let i = c.loop-shape.invariant in
-    let outer = stored.outer_of (levels c.args.store.now) in
-    ap outer_of (regrown_kept c.args.nodes.now _ _ c.in_err-push_packed-in-Ok.ensures.err)
-    ∙ (around_row c.args.nodes.now c.loop-shape.store c.args.shape i.so_far.0 c.args.start outer i.so_far.5
-    ∙ sym (around_row c.args.nodes.now c.args.store.now c.args.shape [] c.args.start outer c.requires.packing))
+    let outer = outer_of (levels c.args.nodes.now c.args.store.now) in
+    ap outer_of (regrown-levels c.args.nodes.now _ _ c.in_err-push_packed-in-Ok.ensures.err)
+    ∙ packing-outer c.args.nodes.now c.loop-shape.store c.args.shape i.so_far.0 c.args.start outer i.so_far.5
 
 pub returns-in_err-push_packed-in-Ok-clause-is : goal.returns-in_err-push_packed-in-Ok-clause-is
 returns-in_err-push_packed-in-Ok-clause-is g c =
@@ -69,7 +66,7 @@ returns-in_err-push_packed-in-Ok-clause-is g c =
     let fits = rw (i.frame.len, c.element_width-width.ensures) at r.inside in
     let may = rw c.element_width-width.ensures at r.ok in
     let packs = rw (← i.frame.room.room) at c.requires.shape.packs in
-    let h = element_no_room c.args.nodes.now c.args.shape (8 * (g.S.Space.view c.args.space.now).len) (type_of c.args.nodes.now c.args.element) c.args.order (row_levels c.args.nodes.now c.args.shape i.so_far.0 c.args.start (stored.outer_of (levels c.args.store.now))) c.loop-shape.place c.requires.shape.is i.inside c.in-Ok.digits r.limit r.steps r.made fits may packs in
+    let h = element_no_room c.args.shape (8 * (g.S.Space.view c.args.space.now).len) (type_of c.args.nodes.now c.args.element) c.args.order (row_levels c.args.shape i.so_far.0 c.args.start (outer_of (levels c.args.nodes.now c.args.store.now))) c.loop-shape.place c.requires.shape.is i.inside c.in-Ok.digits r.limit r.steps r.made fits may packs in
     let h = in_world (g.S.Space.view c.args.space.now) (g.S.Space.view c.loop-shape.space) c.args.store.now c.loop-shape.store i.frame.bytes i.frame.room.room h in
     rw (p.1, p.2) (follow_on i.so_far.6 (elements_stop _ _ _ _ _ _ _ (max 1 (least_width (type_of c.args.nodes.now c.args.element))) _ i.so_far.2 i.inside due (e.limit ∙ i.frame.limit) e.ok e.made Memory refl h))
 
@@ -80,23 +77,23 @@ loop-shape-preserved g c =
     let r = c.in-Ok.ensures in
     let n = c.note_made.ensures in
     let k = c.in_ok-push_packed-in-Ok.ensures in
-    let outer = stored.outer_of (levels c.args.store.now) in
+    let outer = outer_of (levels c.args.nodes.now c.args.store.now) in
     let due = sym c.is_due.ensures ∙ c.loop-shape-test.true in
     let due = rw c.len-bits.ensures at due in
     let width = c.element_width-width.ensures in
     let fits = rw (i.frame.len, width) at r.inside in
     let may = rw width at r.ok in
-    let h = element_goes c.args.nodes.now c.args.shape (8 * (g.S.Space.view c.args.space.now).len) (type_of c.args.nodes.now c.args.element) c.args.order (row_levels c.args.nodes.now c.args.shape i.so_far.0 c.args.start outer) c.loop-shape.place c.requires.shape.is i.inside c.in-Ok.digits r.limit r.steps r.made fits may n.steps n.made in
+    let h = element_goes c.args.shape (8 * (g.S.Space.view c.args.space.now).len) (type_of c.args.nodes.now c.args.element) c.args.order (row_levels c.args.shape i.so_far.0 c.args.start outer) c.loop-shape.place c.requires.shape.is i.inside c.in-Ok.digits r.limit r.steps r.made fits may n.steps n.made in
     let h = in_world (g.S.Space.view c.args.space.now) (g.S.Space.view c.loop-shape.space) c.args.store.now c.loop-shape.store i.frame.bytes i.frame.room.room h in
     let some = some_bits c.args.shape c.requires.shape.packed in
     let least = least_is c.args.shape (type_of c.args.nodes.now c.args.element) c.requires.shape.is in
     let far : c.loop-shape.place + max 1 (least_width (type_of c.args.nodes.now c.args.element)) ≤ c.loop-shape.place + element_width c.args.shape = omega (arith, some.0, least) in
-    let next = elements_goes (plan (8 * (g.S.Space.view c.args.space.now).len) (type_of c.args.nodes.now c.args.element) c.args.order) (8 * (g.S.Space.view c.args.space.now).len) c.args.start c.args.extent c.loop-shape.count (row_levels c.args.nodes.now c.args.shape i.so_far.0 c.args.start outer) c.loop-shape.place (max 1 (least_width (type_of c.args.nodes.now c.args.element))) _ i.so_far.2 i.inside due (e.limit ∙ i.frame.limit) e.ok e.made (shown c.args.nodes.now (element_value c.args.shape c.loop-shape.place c.in-Ok.digits)) (c.loop-shape.place + element_width c.args.shape) (c.loop-shape.count + 1) refl (element_end c.args.nodes.now c.args.shape c.loop-shape.place c.in-Ok.digits c.requires.shape.packed) (λ same. omega (arith, same, some.0)) far h in
+    let next = elements_goes (plan (8 * (g.S.Space.view c.args.space.now).len) (type_of c.args.nodes.now c.args.element) c.args.order) (8 * (g.S.Space.view c.args.space.now).len) c.args.start c.args.extent c.loop-shape.count (row_levels c.args.shape i.so_far.0 c.args.start outer) c.loop-shape.place (max 1 (least_width (type_of c.args.nodes.now c.args.element))) _ i.so_far.2 i.inside due (e.limit ∙ i.frame.limit) e.ok e.made (element_value c.args.shape c.loop-shape.place c.in-Ok.digits) (c.loop-shape.place + element_width c.args.shape) (c.loop-shape.count + 1) refl (element_end c.args.shape c.loop-shape.place c.in-Ok.digits c.requires.shape.packed) (λ same. omega (arith, same, some.0)) far h in
     let short = g.met.S.Space.short c.args.space.now in
     let more = length_push i.so_far.0 c.in-Ok.digits in
     let place : c.loop-shape.place + element_width c.args.shape ≡ c.args.start + element_width c.args.shape * (length i.so_far.0 + 1) = omega (arith, i.so_far.3) in
-    let packed = k.ok i.so_far.0 outer i.so_far.5 (rw width (omega (arith, place, fits, short))) in
-    let levels = row_more c.args.nodes.now c.args.shape i.so_far.0 c.in-Ok.digits c.args.start c.loop-shape.place outer i.so_far.3 in
+    let packed = k.ok c.args.nodes.now i.so_far.0 outer i.so_far.5 ((omega (arith, place, fits, short))) in
+    let levels = row_more c.args.shape i.so_far.0 c.in-Ok.digits c.args.start c.loop-shape.place outer i.so_far.3 in
     record {
       frame = search rules;
       after = search rules;
@@ -115,7 +112,7 @@ returns-then-ends-clause-is g c =
     let due = sym c.is_due.ensures ∙ c.loop-shape-test.true in
     let due = rw c.len-bits.ensures at due in
     let stops = rw c.element_width-width.ensures at r.err in
-    let h = element_stops c.args.nodes.now c.args.shape (8 * (g.S.Space.view c.args.space.now).len) (type_of c.args.nodes.now c.args.element) c.args.order (row_levels c.args.nodes.now c.args.shape i.so_far.0 c.args.start (stored.outer_of (levels c.args.store.now))) c.loop-shape.place c.requires.shape.is i.inside _ _ _ refl (ap (λ l. 8 * l) (sym i.frame.len)) stops r.made in
+    let h = element_stops c.args.shape (8 * (g.S.Space.view c.args.space.now).len) (type_of c.args.nodes.now c.args.element) c.args.order (row_levels c.args.shape i.so_far.0 c.args.start (outer_of (levels c.args.nodes.now c.args.store.now))) c.loop-shape.place c.requires.shape.is i.inside _ _ _ refl (ap (λ l. 8 * l) (sym i.frame.len)) stops r.made in
     let ends = sym c.ends.ensures ∙ c.if-ends.true in
     record {
       numbers = i.so_far.0;
@@ -127,16 +124,14 @@ returns-then-ends-clause-is g c =
 pub returns-then-ends-clause-outer : goal.returns-then-ends-clause-outer
 returns-then-ends-clause-outer g c =
     let i = c.loop-shape.invariant in
-    let outer = stored.outer_of (levels c.args.store.now) in
-    around_row c.args.nodes.now c.loop-shape.store c.args.shape i.so_far.0 c.args.start outer i.so_far.5
-    ∙ sym (around_row c.args.nodes.now c.args.store.now c.args.shape [] c.args.start outer c.requires.packing)
+    let outer = outer_of (levels c.args.nodes.now c.args.store.now) in
+    packing-outer c.args.nodes.now c.loop-shape.store c.args.shape i.so_far.0 c.args.start outer i.so_far.5
 
 pub returns-in-Err-clause-outer : goal.returns-in-Err-clause-outer
 returns-in-Err-clause-outer g c =
     let i = c.loop-shape.invariant in
-    let outer = stored.outer_of (levels c.args.store.now) in
-    around_row c.args.nodes.now c.loop-shape.store c.args.shape i.so_far.0 c.args.start outer i.so_far.5
-    ∙ sym (around_row c.args.nodes.now c.args.store.now c.args.shape [] c.args.start outer c.requires.packing)
+    let outer = outer_of (levels c.args.nodes.now c.args.store.now) in
+    packing-outer c.args.nodes.now c.loop-shape.store c.args.shape i.so_far.0 c.args.start outer i.so_far.5
 
 pub returns-in-Err-clause-is : goal.returns-in-Err-clause-is
 returns-in-Err-clause-is g c =
@@ -146,7 +141,7 @@ returns-in-Err-clause-is g c =
     let due = sym c.is_due.ensures ∙ c.loop-shape-test.true in
     let due = rw c.len-bits.ensures at due in
     let stops = rw c.element_width-width.ensures at r.err in
-    let h = element_stops c.args.nodes.now c.args.shape (8 * (g.S.Space.view c.args.space.now).len) (type_of c.args.nodes.now c.args.element) c.args.order (row_levels c.args.nodes.now c.args.shape i.so_far.0 c.args.start (stored.outer_of (levels c.args.store.now))) c.loop-shape.place c.requires.shape.is i.inside _ _ _ refl (ap (λ l. 8 * l) (sym i.frame.len)) stops r.made in
+    let h = element_stops c.args.shape (8 * (g.S.Space.view c.args.space.now).len) (type_of c.args.nodes.now c.args.element) c.args.order (row_levels c.args.shape i.so_far.0 c.args.start (outer_of (levels c.args.nodes.now c.args.store.now))) c.loop-shape.place c.requires.shape.is i.inside _ _ _ refl (ap (λ l. 8 * l) (sym i.frame.len)) stops r.made in
     let ends = sym c.ends.ensures ∙ c.if-ends.false in
     follow_on i.so_far.6 (elements_stop _ _ _ _ _ _ _ (max 1 (least_width (type_of c.args.nodes.now c.args.element))) _ i.so_far.2 i.inside due (e.limit ∙ i.frame.limit) e.ok e.made _ ends h)
 
@@ -165,16 +160,14 @@ returns-then-is_met-clause-is g c =
 pub returns-then-is_met-clause-outer : goal.returns-then-is_met-clause-outer
 returns-then-is_met-clause-outer g c =
     let i = c.loop-shape.invariant in
-    let outer = stored.outer_of (levels c.args.store.now) in
-    around_row c.args.nodes.now c.loop-shape.store c.args.shape i.so_far.0 c.args.start outer i.so_far.5
-    ∙ sym (around_row c.args.nodes.now c.args.store.now c.args.shape [] c.args.start outer c.requires.packing)
+    let outer = outer_of (levels c.args.nodes.now c.args.store.now) in
+    packing-outer c.args.nodes.now c.loop-shape.store c.args.shape i.so_far.0 c.args.start outer i.so_far.5
 
 pub returns-else-is_met-clause-outer : goal.returns-else-is_met-clause-outer
 returns-else-is_met-clause-outer g c =
     let i = c.loop-shape.invariant in
-    let outer = stored.outer_of (levels c.args.store.now) in
-    around_row c.args.nodes.now c.loop-shape.store c.args.shape i.so_far.0 c.args.start outer i.so_far.5
-    ∙ sym (around_row c.args.nodes.now c.args.store.now c.args.shape [] c.args.start outer c.requires.packing)
+    let outer = outer_of (levels c.args.nodes.now c.args.store.now) in
+    packing-outer c.args.nodes.now c.loop-shape.store c.args.shape i.so_far.0 c.args.start outer i.so_far.5
 
 pub returns-else-is_met-clause-is : goal.returns-else-is_met-clause-is
 returns-else-is_met-clause-is g c =

@@ -4,11 +4,10 @@ use Rattle.pickle_types.specs.Table.{type_of}
 use Rattle.pickle_map.specs.Calls.{as_elements}
 use Rattle.pickle_map.specs.Framed.{Frame, Runs}
 use Rattle.pickle_map.specs.Follows.{Partly}
-use Rattle.value_store.specs.Levels as stored
+use Rattle.pickle_meaning.specs.Values.{outer_of}
 use Rattle.mapping_plans.specs.Mapping.{plan, elements_plan}
 use Rattle.pickle_map.specs.Row.{row_levels}
-use Rattle.value_store.specs.Shown.{kept}
-use Rattle.value_store.specs.Slots.{levels, element_width, IsPacking}
+use Rattle.value_store.specs.Slots.{levels, element_width, IsPacking, level_count}
 use Rattle.pickle_map.proofs.mapper.row.map_packed.Given as goal
 
 abbrev pub decreases-loop-shape : goal.decreases-loop-shape
@@ -19,11 +18,11 @@ invariant-loop-shape g l = record {
   frame : Frame (g.S.Space.view l.initial.space) (g.S.Space.view l.space) l.initial.meter l.meter l.initial.store l.store 0;
   after : l.start ≤ l.place;
   inside : l.place ≤ 8 * (g.S.Space.view l.initial.space).len;
-  depth : length (levels l.store) ≡ length (levels l.initial.store);
+  depth : level_count l.store ≡ level_count l.initial.store;
   counted : l.count + l.start ≤ l.place;
   so_far : (numbers : List ℕ) × (n : ℕ) × (8 * (g.S.Space.view l.initial.space).len < l.place + n * max 1 (least_width (type_of l.nodes l.element))) ×
-      (l.place ≡ l.start + element_width l.shape * length numbers) × (l.count ≡ length numbers) × IsPacking l.store l.shape numbers l.start (stored.outer_of (levels l.initial.store)) ×
+      (l.place ≡ l.start + element_width l.shape * length numbers) × (l.count ≡ length numbers) × IsPacking l.nodes l.store l.shape numbers l.start (outer_of (levels l.nodes l.initial.store)) ×
       Runs (g.S.Space.view l.initial.space) l.initial.meter l.meter l.initial.store
-      (as_elements l.element l.extent l.order l.start l.nodes (8 * (g.S.Space.view l.initial.space).len) (kept l.nodes l.initial.store))
-      (Partly (elements_plan (plan (8 * (g.S.Space.view l.initial.space).len) (type_of l.nodes l.element) l.order) (8 * (g.S.Space.view l.initial.space).len) l.start l.extent n l.count (row_levels l.nodes l.shape numbers l.start (stored.outer_of (levels l.initial.store))) l.place));
+      (as_elements l.element l.extent l.order l.start l.nodes (8 * (g.S.Space.view l.initial.space).len) (levels l.nodes l.initial.store))
+      (Partly (elements_plan (plan (8 * (g.S.Space.view l.initial.space).len) (type_of l.nodes l.element) l.order) (8 * (g.S.Space.view l.initial.space).len) l.start l.extent n l.count (row_levels l.shape numbers l.start (outer_of (levels l.nodes l.initial.store))) l.place));
 }

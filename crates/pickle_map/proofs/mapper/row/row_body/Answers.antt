@@ -1,10 +1,11 @@
 use Rattle.std.proofs.Common.{refl}
 use Rattle.std.proofs.lemmas.Result.{err_from_is_err_and}
-use Rattle.value_store.specs.Levels as stored
+use Rattle.std.proofs.Common.{Some, ap, ◌∙◌}
+use Rattle.pickle_meaning.specs.Values.{outer_of, pushed}
 use Rattle.value_store.specs.Slots.{levels}
 use Rattle.pickle_map.proofs.Keeping.{regrown_stays}
 use Rattle.pickle_map.proofs.Mapping.{array_no_room, array_made}
-use Rattle.pickle_map.proofs.Row.{row_kept, packs_no_more}
+use Rattle.pickle_map.proofs.Row.{row_closed, packs_no_more}
 use Rattle.pickle_map.proofs.Walks.{follow_stop}
 use Rattle.pickle_map.proofs.mapper.row.row_body.Goals as goal
 
@@ -28,6 +29,6 @@ pub returns-clause-is : goal.returns-clause-is
 returns-clause-is g c =
     let n = c.note_made.ensures in
     let m = c.in_ok-end.ensures.is in
-    let outer = stored.outer_of (levels c.args.store.now) in
-    let kept = row_kept c.args.nodes.now c.args.store.now c.close_row.new.self c.args.shape m.numbers c.args.start c.in_ok-end.end outer c.requires.packing m.ends (c.in_ok-close_row.ensures.ok m.numbers outer m.packing) in
+    let outer = outer_of (levels c.args.nodes.now c.args.store.now) in
+    let kept = c.in_ok-close_row.ensures.ok c.args.nodes.now m.numbers outer m.packing ∙ ap (λ v. pushed outer (Some v)) (row_closed c.args.shape m.numbers c.args.start c.in_ok-end.end outer m.ends) in
     record { value = _; kept = kept; ends = refl; follows = array_made _ _ _ _ m.runs n.steps n.made }

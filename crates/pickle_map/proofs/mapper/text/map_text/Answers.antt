@@ -1,9 +1,7 @@
 use Rattle.std.proofs.Common.{refl, ap, ◌∙◌, arith}
 use Rattle.std.proofs.lemmas.Result.{err_from_is_err_and}
 use Rattle.pickle_meaning.specs.Values.{outer_of}
-use Rattle.pickle_map.proofs.Keeping.{keeps_opened, keeps_outer}
 use Rattle.pickle_map.proofs.Walks.{follow_tick, follow_no_tick}
-use Rattle.value_store.proofs.Held.{length-levels}
 use Rattle.pickle_map.proofs.mapper.text.map_text.Goals as goal
 
 pub returns-in_err-tick-clause-is : goal.returns-in_err-tick-clause-is
@@ -13,29 +11,29 @@ returns-in_err-tick-clause-is g c =
     rw (p.1, p.2) (follow_no_tick e.err (e.err ∙ e.refused.0 refl) e.made)
 
 pub text_body-requires-clause-writing : goal.text_body-requires-clause-writing
-text_body-requires-clause-writing g c = rw c.open_text.ensures.levels (c.open_text.ensures.writes c.args.start)
+text_body-requires-clause-writing g c = rw (c.open_text.ensures.levels c.args.nodes.now) (c.open_text.ensures.writes c.args.nodes.now c.args.start)
 
 pub text_body-requires-clause-open : goal.text_body-requires-clause-open
-text_body-requires-clause-open g c = omega (arith, c.open_text.ensures.depth, length-levels c.args.store.now)
+text_body-requires-clause-open g c = omega (arith, c.open_text.ensures.depth)
 
 pub drop_level-requires : goal.drop_level-requires
-drop_level-requires g c = omega (arith, c.in-Err.ensures.level.depth, c.open_text.ensures.depth, length-levels c.args.store.now)
+drop_level-requires g c = omega (arith, c.in-Err.ensures.level.depth, c.open_text.ensures.depth)
 
 pub returns-in-Ok-clause-is : goal.returns-in-Ok-clause-is
 returns-in-Ok-clause-is g c =
     let e = c.in_ok-tick.ensures in
-    let opened = keeps_opened c.args.nodes.now c.args.store.now c.open_text.new.self c.open_text.ensures.levels in
+    let opened = c.open_text.ensures.levels c.args.nodes.now in
     let h = rw (opened, c.open_text.ensures.room.room) at c.in-Ok.ensures.is in
     record { value = h.value; kept = h.kept; ends = h.ends; follows = follow_tick e.limit e.ok e.made h.follows }
 
 pub returns-in-Err-clause-is : goal.returns-in-Err-clause-is
 returns-in-Err-clause-is g c =
     let e = c.in_ok-tick.ensures in
-    let opened = keeps_opened c.args.nodes.now c.args.store.now c.open_text.new.self c.open_text.ensures.levels in
+    let opened = c.open_text.ensures.levels c.args.nodes.now in
     let h = rw (opened, c.open_text.ensures.room.room) at c.in-Err.ensures.is in
     follow_tick e.limit e.ok e.made h
 
 pub returns-in-Err-clause-same : goal.returns-in-Err-clause-same
 returns-in-Err-clause-same g c =
-    let opened = keeps_opened c.args.nodes.now c.args.store.now c.open_text.new.self c.open_text.ensures.levels in
-    keeps_outer c.args.nodes.now c.text_body.new.store c.drop_level.new.self c.drop_level.ensures.levels ∙ c.in-Err.ensures.level.outer ∙ ap outer_of opened
+    let opened = c.open_text.ensures.levels c.args.nodes.now in
+    c.drop_level.ensures.levels c.args.nodes.now ∙ c.in-Err.ensures.level.outer ∙ ap outer_of opened

@@ -1,13 +1,13 @@
 use Rattle.std.proofs.Common.{rules, ◌≡◌, ◌+◌, ◌*◌, [], ◌∷◌, ◌++◌, length, refl, sym, ap, ◌∙◌, arith}
 use Rattle.std.proofs.lemmas.Result.{err_from_is_err_and}
-use Rattle.value_store.specs.Levels as stored
 use Rattle.value_store.specs.Slots.{levels}
-use Rattle.pickle_meaning.specs.Values.{text_value}
+use Rattle.pickle_meaning.specs.Values.{outer_of, text_value}
+use Rattle.value_store.proofs.Writing.{writing-outer}
 use Rattle.pickle_map.proofs.Keeping.{regrown_stays}
 use Rattle.mapping_plans.proofs.Fitting.{longer}
 use Rattle.pickle_map.proofs.Walks.{follow_here, follow_on}
 use Rattle.pickle_map.proofs.Placing.{refusal_stops}
-use Rattle.pickle_map.proofs.Texts.{text_stops, text_not_closed, text_closed, text_no_room, text_goes, around_text, not_closed, not_longer, keeps_text, may_same}
+use Rattle.pickle_map.proofs.Texts.{text_stops, text_not_closed, text_closed, text_no_room, text_goes, may_same}
 use Rattle.pickle_map.proofs.mapper.text.text_body.Goals as goal
 
 pub loop-byte-init : goal.loop-byte-init
@@ -29,28 +29,25 @@ returns-in-Err-clause-is g c =
 pub returns-in-Err-clause-level : goal.returns-in-Err-clause-level
 returns-in-Err-clause-level g c =
     let i = c.loop-byte.invariant in
-    let first = around_text c.args.nodes.now c.args.store.now [] c.args.start (stored.outer_of (levels c.args.store.now)) c.requires.writing in
-    record { outer = around_text c.args.nodes.now c.loop-byte.store i.so_far.0 c.args.start (stored.outer_of (levels c.args.store.now)) i.so_far.4 ∙ sym first; depth = i.depth }
+    record { outer = writing-outer c.args.nodes.now c.loop-byte.store i.so_far.0 c.args.start (outer_of (levels c.args.nodes.now c.args.store.now)) i.so_far.4; depth = i.depth }
 
 pub returns-in_err-close_text-in-Ok-clause-is : goal.returns-in_err-close_text-in-Ok-clause-is
 returns-in_err-close_text-in-Ok-clause-is g c =
     let p = err_from_is_err_and c.from_residual.result c.from_residual.ensures.1 in
     let i = c.loop-byte.invariant in
     let r = c.in-Ok.ensures in
-    let first = around_text c.args.nodes.now c.args.store.now [] c.args.start (stored.outer_of (levels c.args.store.now)) c.requires.writing in
     let fits = rw i.frame.len at r.inside in
     let may = may_same _ _ _ _ i.frame.bytes r.ok in
-    let full = not_closed c.args.nodes.now c.loop-byte.store i.so_far.0 c.args.start (stored.outer_of (levels c.args.store.now)) c.loop-byte.store.room (c.in_err-close_text-in-Ok.ensures.succeeds i.so_far.0 (stored.outer_of (levels c.args.store.now)) i.so_far.4) in
+    let full = c.in_err-close_text-in-Ok.ensures.full c.args.nodes.now i.so_far.0 (outer_of (levels c.args.nodes.now c.args.store.now)) i.so_far.4 in
     let end : c.args.start + 8 * (length i.so_far.0 + 1) ≡ c.loop-byte.place + 8 = omega (arith, i.so_far.3) in
-    let full = rw (← first, end) at full in
+    let full = rw end at full in
     rw (p.1, p.2) (follow_on i.so_far.5 (text_not_closed _ _ _ _ _ _ i.so_far.2 i.inside _ (r.limit ∙ i.frame.limit) r.steps r.made fits may c.if-byte-eq0.true i.frame.room.room full))
 
 pub returns-in_err-close_text-in-Ok-clause-level : goal.returns-in_err-close_text-in-Ok-clause-level
 returns-in_err-close_text-in-Ok-clause-level g c =
     let p = err_from_is_err_and c.from_residual.result c.from_residual.ensures.1 in
     let i = c.loop-byte.invariant in
-    let first = around_text c.args.nodes.now c.args.store.now [] c.args.start (stored.outer_of (levels c.args.store.now)) c.requires.writing in
-    let same = around_text c.args.nodes.now c.loop-byte.store i.so_far.0 c.args.start (stored.outer_of (levels c.args.store.now)) i.so_far.4 ∙ sym first in
+    let same = writing-outer c.args.nodes.now c.loop-byte.store i.so_far.0 c.args.start (outer_of (levels c.args.nodes.now c.args.store.now)) i.so_far.4 in
     rw p.1 (regrown_stays c.args.nodes.now _ _ _ same i.depth c.in_err-close_text-in-Ok.ensures.err)
 
 pub returns-then-byte-eq0-clause-is : goal.returns-then-byte-eq0-clause-is
@@ -58,13 +55,11 @@ returns-then-byte-eq0-clause-is g c =
     let n = c.note_made.ensures in
     let i = c.loop-byte.invariant in
     let r = c.in-Ok.ensures in
-    let first = around_text c.args.nodes.now c.args.store.now [] c.args.start (stored.outer_of (levels c.args.store.now)) c.requires.writing in
     let fits = rw i.frame.len at r.inside in
     let may = may_same _ _ _ _ i.frame.bytes r.ok in
-    let closed = c.in_ok-close_text-in-Ok.ensures.ok i.so_far.0 (stored.outer_of (levels c.args.store.now)) i.so_far.4 in
-    let keeps = keeps_text c.args.nodes.now c.close_text.new.self i.so_far.0 c.args.start (stored.outer_of (levels c.args.store.now)) closed in
+    let keeps = c.in_ok-close_text-in-Ok.ensures.ok c.args.nodes.now i.so_far.0 (outer_of (levels c.args.nodes.now c.args.store.now)) i.so_far.4 in
     let end : c.args.start + 8 * (length i.so_far.0 + 1) ≡ c.loop-byte.place + 8 = omega (arith, i.so_far.3) in
-    let keeps = rw (← first, end) at keeps in
+    let keeps = rw end at keeps in
     record {
       value = text_value i.so_far.0 c.args.start (c.loop-byte.place + 8);
       kept = keeps;
@@ -77,19 +72,16 @@ returns-in_err-push_byte-in-Ok-clause-is g c =
     let p = err_from_is_err_and c.from_residual-in_err-push_byte-in-Ok.result c.from_residual-in_err-push_byte-in-Ok.ensures.1 in
     let i = c.loop-byte.invariant in
     let r = c.in-Ok.ensures in
-    let first = around_text c.args.nodes.now c.args.store.now [] c.args.start (stored.outer_of (levels c.args.store.now)) c.requires.writing in
     let fits = rw i.frame.len at r.inside in
     let may = may_same _ _ _ _ i.frame.bytes r.ok in
-    let full = not_longer c.args.nodes.now c.loop-byte.store (i.so_far.0 ++ c.in-Ok.byte ∷ []) c.args.start (stored.outer_of (levels c.args.store.now)) c.loop-byte.store.room (c.in_err-push_byte-in-Ok.ensures.succeeds i.so_far.0 (stored.outer_of (levels c.args.store.now)) i.so_far.4) in
-    let full = rw (← first) at full in
+    let full = c.in_err-push_byte-in-Ok.ensures.full c.args.nodes.now i.so_far.0 (outer_of (levels c.args.nodes.now c.args.store.now)) i.so_far.4 in
     rw (p.1, p.2) (follow_on i.so_far.5 (text_no_room _ _ _ _ _ _ i.so_far.2 i.inside _ (r.limit ∙ i.frame.limit) r.steps r.made fits may c.if-byte-eq0.false i.frame.room.room full))
 
 pub returns-in_err-push_byte-in-Ok-clause-level : goal.returns-in_err-push_byte-in-Ok-clause-level
 returns-in_err-push_byte-in-Ok-clause-level g c =
     let p = err_from_is_err_and c.from_residual-in_err-push_byte-in-Ok.result c.from_residual-in_err-push_byte-in-Ok.ensures.1 in
     let i = c.loop-byte.invariant in
-    let first = around_text c.args.nodes.now c.args.store.now [] c.args.start (stored.outer_of (levels c.args.store.now)) c.requires.writing in
-    let same = around_text c.args.nodes.now c.loop-byte.store i.so_far.0 c.args.start (stored.outer_of (levels c.args.store.now)) i.so_far.4 ∙ sym first in
+    let same = writing-outer c.args.nodes.now c.loop-byte.store i.so_far.0 c.args.start (outer_of (levels c.args.nodes.now c.args.store.now)) i.so_far.4 in
     rw p.1 (regrown_stays c.args.nodes.now _ _ _ same i.depth c.in_err-push_byte-in-Ok.ensures.err)
 
 pub loop-byte-preserved : goal.loop-byte-preserved
@@ -97,7 +89,6 @@ loop-byte-preserved g c =
     let n = c.note_made-in-Ok.ensures in
     let i = c.loop-byte.invariant in
     let r = c.in-Ok.ensures in
-    let first = around_text c.args.nodes.now c.args.store.now [] c.args.start (stored.outer_of (levels c.args.store.now)) c.requires.writing in
     let fits = rw i.frame.len at r.inside in
     let may = may_same _ _ _ _ i.frame.bytes r.ok in
     let next = text_goes _ _ _ _ _ _ i.so_far.2 i.inside _ (r.limit ∙ i.frame.limit) r.steps r.made fits may c.if-byte-eq0.false n.steps n.made in
@@ -108,5 +99,5 @@ loop-byte-preserved g c =
       after = search rules;
       inside = search rules;
       depth = search rules;
-      so_far = (i.so_far.0 ++ c.in-Ok.byte ∷ [], next.0, next.1, omega (arith, i.so_far.3, more), c.in_ok-push_byte-in-Ok.ensures.writes i.so_far.0 (stored.outer_of (levels c.args.store.now)) i.so_far.4 (omega (arith, i.so_far.3, fits, short)), follow_on i.so_far.5 next.2);
+      so_far = (i.so_far.0 ++ c.in-Ok.byte ∷ [], next.0, next.1, omega (arith, i.so_far.3, more), c.in_ok-push_byte-in-Ok.ensures.writes c.args.nodes.now i.so_far.0 (outer_of (levels c.args.nodes.now c.args.store.now)) i.so_far.4 (omega (arith, i.so_far.3, fits, short)), follow_on i.so_far.5 next.2);
     }

@@ -2,10 +2,8 @@ use Rattle.std.proofs.Common.{◌≡◌, ℕ, ◌+◌, ◌-◌, ◌*◌, ◌≤�
 use Rattle.pickle_map.specs.Calls.{as_text_level}
 use Rattle.pickle_map.specs.Framed.{Frame, Runs}
 use Rattle.pickle_map.specs.Follows.{Partly}
-use Rattle.value_store.specs.Levels as stored
 use Rattle.mapping_plans.specs.Mapping.{text_plan}
-use Rattle.value_store.specs.Shown.{kept}
-use Rattle.value_store.specs.Slots.{levels, IsWriting}
+use Rattle.value_store.specs.Slots.{levels, IsWriting, level_count}
 use Rattle.pickle_meaning.specs.Values.{outer_of}
 use Rattle.pickle_map.proofs.mapper.text.text_body.Given as goal
 
@@ -14,11 +12,11 @@ invariant-loop-byte g l = record {
   frame : Frame (g.S.Space.view l.initial.space) (g.S.Space.view l.space) l.initial.meter l.meter l.initial.store l.store 0;
   after : l.start ≤ l.place;
   inside : l.place ≤ 8 * (g.S.Space.view l.initial.space).len;
-  depth : length (levels l.store) ≡ length (levels l.initial.store);
-  so_far : (bytes : List ℕ) × (n : ℕ) × (8 * (g.S.Space.view l.initial.space).len < l.place + 8 * n) × (l.place ≡ l.start + 8 * length bytes) × IsWriting l.store bytes l.start (stored.outer_of (levels l.initial.store)) ×
+  depth : level_count l.store ≡ level_count l.initial.store;
+  so_far : (bytes : List ℕ) × (n : ℕ) × (8 * (g.S.Space.view l.initial.space).len < l.place + 8 * n) × (l.place ≡ l.start + 8 * length bytes) × IsWriting l.nodes l.store bytes l.start (outer_of (levels l.nodes l.initial.store)) ×
       Runs (g.S.Space.view l.initial.space) l.initial.meter l.meter l.initial.store
-      (as_text_level l.start l.nodes (8 * (g.S.Space.view l.initial.space).len) (kept l.nodes l.initial.store))
-      (Partly (text_plan (8 * (g.S.Space.view l.initial.space).len) n bytes (outer_of (kept l.nodes l.initial.store)) l.start l.place));
+      (as_text_level l.start l.nodes (8 * (g.S.Space.view l.initial.space).len) (levels l.nodes l.initial.store))
+      (Partly (text_plan (8 * (g.S.Space.view l.initial.space).len) n bytes (outer_of (levels l.nodes l.initial.store)) l.start l.place));
 }
 
 abbrev pub decreases-loop-byte : goal.decreases-loop-byte

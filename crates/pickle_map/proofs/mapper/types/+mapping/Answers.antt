@@ -1,21 +1,19 @@
-use Rattle.pickle_map.proofs.mapper.types.+mapping.Goals.{map_array-in-Some, map_array-in-None, map_fields-then-branch+in_ok-place+in_ok-behind, map_fields-else-branch+in_ok-keep_absent}
-use Rattle.std.proofs.Common.{rules, ◌≡◌, ◌+◌, ◌*◌, ◌≤◌, max, [], ◌∷◌, length, Some, None, refl, sym, ap, ◌∙◌, arith}
+use Rattle.pickle_map.proofs.mapper.types.+mapping.Goals.{map_array-in-Some, map_array-in-None, map_fields-then-branch+in_ok-place+in_ok-behind, map_fields-else-branch+in_ok-push_absent}
+use Rattle.std.proofs.Common.{rules, ◌≡◌, ◌+◌, ◌*◌, ◌≤◌, max, [], ◌∷◌, Some, None, refl, sym, ap, ◌∙◌, arith}
 use Rattle.std.proofs.lemmas.List.{drop_more, drop_all}
 use Rattle.std.proofs.lemmas.Result.{err_from_is_err_and}
 use Rattle.pickle_types.specs.Types.{depth}
 use Rattle.pickle_types.specs.Bounds.{least_width}
 use Rattle.pickle_types.specs.Table.{type_of}
 use Rattle.pickle_map.specs.Mappable.{IsFieldOf, IsPartOf}
-use Rattle.value_store.specs.Levels as stored
 use Rattle.mapping_plans.specs.Mapping.{plan}
 use Rattle.pickle_meaning.specs.Means.{number_type}
-use Rattle.value_store.specs.Shown.{kept}
-use Rattle.value_store.specs.Slots.{levels}
+use Rattle.value_store.specs.Slots.{levels, level_count}
 use Rattle.pickle_meaning.specs.Values.{pushed, outer_of}
 use Rattle.pickle_map.proofs.Clauses.{checks_ok, checks_stop, settles_ok, settles_stop}
 use Rattle.pickle_map.proofs.Followed.{followed_wide}
-use Rattle.value_store.proofs.Held.{length-levels}
-use Rattle.pickle_map.proofs.Keeping.{keeps_opened, keeps_outer, keeps_cleared, regrown_kept, regrown_stays}
+use Rattle.value_store.proofs.Held.{regrown-levels}
+use Rattle.pickle_map.proofs.Keeping.{regrown_stays}
 use Rattle.pickle_map.proofs.Mapping.{in_world, few_enough, inside_no_tick, inside_ticks, plan_past, number_is, text_is, struct_is, array_is, union_is, struct_no_room, struct_made, array_no_room, array_made, union_no_room, union_made, fields_end, fields_no_tick, condition_stops, absent_no_room, absent_goes, start_stops, field_stops, field_goes, elements_end, elements_beyond, elements_no_tick, elements_no_bits, elements_goes, elements_over, elements_stop, alternatives_end, alternatives_no_tick, alternatives_fit, alternatives_miss, alternatives_stop}
 use Rattle.value_store.proofs.PackedRows.{row-opened}
 use Rattle.pickle_map.proofs.Shapes.{opened_as, below_as, sound_as, names_as, fields_within, parts_within, fields_bounded, parts_bounded, field_bounded, part_bounded, of_one, name_of_one, struct_opened, union_opened, fields_named}
@@ -32,7 +30,7 @@ map_inside-map_integer-requires g t c =
     search rules
 
 pub map_inside-returns-in-Integer-clause-is : goal.map_inside-returns-in-Integer-clause-is
-map_inside-returns-in-Integer-clause-is g t c = rw (opened_as c.args.nodes.now c.requires.table c.args.at c.requires.at c.index-nodes-at.result _ c.in-Integer.is, number_is _ _ _ _ _ _ refl c.requires.inside) c.map_integer.ensures.is
+map_inside-returns-in-Integer-clause-is g t c = rw (opened_as c.args.nodes.now c.requires.table c.args.at c.requires.at c.index-nodes-at.result _ c.in-Integer.is, number_is _ _ _ _ _ _ refl c.requires.inside) (c.map_integer.ensures.is c.args.nodes.now)
 
 pub map_inside-map_text-requires-clause-open : goal.map_inside-map_text-requires-clause-open
 unfolding depth
@@ -91,7 +89,7 @@ map_shape-map_struct-requires g t c =
     let names = names_as c.args.nodes.now c.requires.table c.args.at c.requires.at c.index-nodes-at.result _ c.in-Struct.is in
     let sound = sound_as c.args.nodes.now c.requires.table c.args.at c.requires.at c.index-nodes-at.result _ c.in-Struct.is in
     let deep = rw (opened_as c.args.nodes.now c.requires.table c.args.at c.requires.at c.index-nodes-at.result _ c.in-Struct.is) at c.requires.open in
-    let fields = fields_within c.args.nodes.now c.args.at c.requires.at (length (levels c.args.store.now) + 1) c.in-Struct.fields.items below sound (omega (arith, deep)) in
+    let fields = fields_within c.args.nodes.now c.args.at c.requires.at (level_count c.args.store.now + 1) c.in-Struct.fields.items below sound (omega (arith, deep)) in
     let bounded = fields_bounded c.args.at c.in-Struct.fields.items below in
     rw c.deref.ensures.value (search rules)
 
@@ -102,7 +100,7 @@ map_shape-map_union-requires g t c =
     let names = names_as c.args.nodes.now c.requires.table c.args.at c.requires.at c.index-nodes-at.result _ c.in-Union.is in
     let sound = sound_as c.args.nodes.now c.requires.table c.args.at c.requires.at c.index-nodes-at.result _ c.in-Union.is in
     let deep = rw (opened_as c.args.nodes.now c.requires.table c.args.at c.requires.at c.index-nodes-at.result _ c.in-Union.is) at c.requires.open in
-    let alternatives = parts_within c.args.nodes.now c.args.at c.requires.at (length (levels c.args.store.now) + 1) c.in-Union.alternatives.items below sound.0 (omega (arith, deep)) in
+    let alternatives = parts_within c.args.nodes.now c.args.at c.requires.at (level_count c.args.store.now + 1) c.in-Union.alternatives.items below sound.0 (omega (arith, deep)) in
     let bounded = parts_bounded c.args.at c.in-Union.alternatives.items below in
     let few = sound.1 in
     rw c.deref-in-Union.ensures.value (search rules)
@@ -144,24 +142,24 @@ map_struct-returns-in_err-tick-clause-is g t c =
     rw (p.1, p.2, struct_is) (inside_no_tick _ _ _ c.requires.inside e.err (e.err ∙ e.refused.0 refl) e.made)
 
 pub map_struct-drop_level-requires : goal.map_struct-drop_level-requires
-map_struct-drop_level-requires g t c = omega (arith, c.in-Err.ensures.level.depth, c.open_level.ensures.depth, length-levels c.args.store.now)
+map_struct-drop_level-requires g t c = omega (arith, c.in-Err.ensures.level.depth, c.open_level.ensures.depth)
 
 pub map_struct-returns-in-Err-clause-same : goal.map_struct-returns-in-Err-clause-same
 map_struct-returns-in-Err-clause-same g t c =
-    let opened = keeps_opened c.args.nodes.now c.args.store.now c.open_level.new.self c.open_level.ensures.levels in
-    keeps_outer c.args.nodes.now c.struct_body.new.store c.drop_level.new.self c.drop_level.ensures.levels ∙ c.in-Err.ensures.level.outer ∙ ap outer_of opened
+    let opened = c.open_level.ensures.levels c.args.nodes.now in
+    c.drop_level.ensures.levels c.args.nodes.now ∙ c.in-Err.ensures.level.outer ∙ ap outer_of opened
 
 pub map_struct-returns-in-Ok-clause-is : goal.map_struct-returns-in-Ok-clause-is
 map_struct-returns-in-Ok-clause-is g t c =
     let e = c.in_ok-tick.ensures in
-    let opened = keeps_opened c.args.nodes.now c.args.store.now c.open_level.new.self c.open_level.ensures.levels in
+    let opened = c.open_level.ensures.levels c.args.nodes.now in
     let h = rw (opened, c.open_level.ensures.room.room) at c.in-Ok.ensures.is in
     record { value = h.value; kept = h.kept; ends = h.ends; follows = rw struct_is (inside_ticks _ _ _ c.requires.inside e.limit e.ok e.made h.follows) }
 
 pub map_struct-returns-in-Err-clause-is : goal.map_struct-returns-in-Err-clause-is
 map_struct-returns-in-Err-clause-is g t c =
     let e = c.in_ok-tick.ensures in
-    let opened = keeps_opened c.args.nodes.now c.args.store.now c.open_level.new.self c.open_level.ensures.levels in
+    let opened = c.open_level.ensures.levels c.args.nodes.now in
     let h = rw (opened, c.open_level.ensures.room.room) at c.in-Err.ensures.is in
     rw struct_is (inside_ticks _ _ _ c.requires.inside e.limit e.ok e.made h)
 
@@ -172,24 +170,24 @@ map_union-returns-in_err-tick-clause-is g t c =
     rw (p.1, p.2, union_is) (inside_no_tick _ _ _ c.requires.inside e.err (e.err ∙ e.refused.0 refl) e.made)
 
 pub map_union-drop_level-requires : goal.map_union-drop_level-requires
-map_union-drop_level-requires g t c = omega (arith, c.in-Err.ensures.level.depth, c.open_level.ensures.depth, length-levels c.args.store.now)
+map_union-drop_level-requires g t c = omega (arith, c.in-Err.ensures.level.depth, c.open_level.ensures.depth)
 
 pub map_union-returns-in-Err-clause-same : goal.map_union-returns-in-Err-clause-same
 map_union-returns-in-Err-clause-same g t c =
-    let opened = keeps_opened c.args.nodes.now c.args.store.now c.open_level.new.self c.open_level.ensures.levels in
-    keeps_outer c.args.nodes.now c.union_body.new.store c.drop_level.new.self c.drop_level.ensures.levels ∙ c.in-Err.ensures.level.outer ∙ ap outer_of opened
+    let opened = c.open_level.ensures.levels c.args.nodes.now in
+    c.drop_level.ensures.levels c.args.nodes.now ∙ c.in-Err.ensures.level.outer ∙ ap outer_of opened
 
 pub map_union-returns-in-Ok-clause-is : goal.map_union-returns-in-Ok-clause-is
 map_union-returns-in-Ok-clause-is g t c =
     let e = c.in_ok-tick.ensures in
-    let opened = keeps_opened c.args.nodes.now c.args.store.now c.open_level.new.self c.open_level.ensures.levels in
+    let opened = c.open_level.ensures.levels c.args.nodes.now in
     let h = rw (opened, c.open_level.ensures.room.room) at c.in-Ok.ensures.is in
     record { value = h.value; kept = h.kept; ends = h.ends; follows = rw union_is (inside_ticks _ _ _ c.requires.inside e.limit e.ok e.made h.follows) }
 
 pub map_union-returns-in-Err-clause-is : goal.map_union-returns-in-Err-clause-is
 map_union-returns-in-Err-clause-is g t c =
     let e = c.in_ok-tick.ensures in
-    let opened = keeps_opened c.args.nodes.now c.args.store.now c.open_level.new.self c.open_level.ensures.levels in
+    let opened = c.open_level.ensures.levels c.args.nodes.now in
     let h = rw (opened, c.open_level.ensures.room.room) at c.in-Err.ensures.is in
     rw union_is (inside_ticks _ _ _ c.requires.inside e.limit e.ok e.made h)
 
@@ -204,26 +202,26 @@ map_array-drop_level-requires g t c =
     elim c.match-packed_as.branch [
       | map_array-in-Some w ↦
           let stays = rw (sym w.mapped-is ∙ c.in-Err.is) at w.row_body-mapped.ensures.level in
-          rw w.store-is (omega (arith, stays.depth, c.open_level.ensures.depth, length-levels c.args.store.now))
+          rw w.store-is (omega (arith, stays.depth, c.open_level.ensures.depth))
       | map_array-in-None w ↦
           let stays = rw (sym w.mapped-is ∙ c.in-Err.is) at w.array_body-mapped.ensures.level in
-          rw w.store-is (omega (arith, stays.depth, c.open_level.ensures.depth, length-levels c.args.store.now))
+          rw w.store-is (omega (arith, stays.depth, c.open_level.ensures.depth))
     ]
 
 pub map_array-returns-in-Err-clause-same : goal.map_array-returns-in-Err-clause-same
 map_array-returns-in-Err-clause-same g t c =
-    let opened = keeps_opened c.args.nodes.now c.args.store.now c.open_level.new.self c.open_level.ensures.levels in
-    let outer : outer_of (kept c.args.nodes.now c.match-packed_as.store) ≡ outer_of (kept c.args.nodes.now c.open_level.new.self) =
+    let opened = c.open_level.ensures.levels c.args.nodes.now in
+    let outer : outer_of (levels c.args.nodes.now c.match-packed_as.store) ≡ outer_of (levels c.args.nodes.now c.open_level.new.self) =
     elim c.match-packed_as.branch [
       | map_array-in-Some w ↦ let stays = rw (sym w.mapped-is ∙ c.in-Err.is) at w.row_body-mapped.ensures.level in rw w.store-is stays.outer
       | map_array-in-None w ↦ let stays = rw (sym w.mapped-is ∙ c.in-Err.is) at w.array_body-mapped.ensures.level in rw w.store-is stays.outer
     ] in
-    keeps_outer c.args.nodes.now c.match-packed_as.store c.drop_level.new.self c.drop_level.ensures.levels ∙ outer ∙ ap outer_of opened
+    c.drop_level.ensures.levels c.args.nodes.now ∙ outer ∙ ap outer_of opened
 
 pub map_array-returns-in-Ok-clause-is : goal.map_array-returns-in-Ok-clause-is
 map_array-returns-in-Ok-clause-is g t c =
     let e = c.in_ok-tick.ensures in
-    let opened = keeps_opened c.args.nodes.now c.args.store.now c.open_level.new.self c.open_level.ensures.levels in
+    let opened = c.open_level.ensures.levels c.args.nodes.now in
     elim c.match-packed_as.branch [
       | map_array-in-Some w ↦
           let h = rw (sym w.mapped-is ∙ c.in-Ok.is, opened, c.open_level.ensures.room.room) at w.row_body-mapped.ensures.is in
@@ -238,7 +236,7 @@ map_array-returns-in-Ok-clause-is g t c =
 pub map_array-returns-in-Err-clause-is : goal.map_array-returns-in-Err-clause-is
 map_array-returns-in-Err-clause-is g t c =
     let e = c.in_ok-tick.ensures in
-    let opened = keeps_opened c.args.nodes.now c.args.store.now c.open_level.new.self c.open_level.ensures.levels in
+    let opened = c.open_level.ensures.levels c.args.nodes.now in
     elim c.match-packed_as.branch [
       | map_array-in-Some w ↦
           let h = rw (sym w.mapped-is ∙ c.in-Err.is, opened, c.open_level.ensures.room.room) at w.row_body-mapped.ensures.is in
@@ -259,31 +257,28 @@ map_array-row_body-mapped-requires-clause-packing g t c =
     let packs = c.in-Some.ensures in
     let o = c.open_level.ensures in
     let short = g.met.S.Space.short c.args.space.now in
-    row-opened c.open_level.new.self c.in-Some.shape c.args.start (stored.outer_of (levels c.open_level.new.self)) packs.packed packs.packs
-    (omega (arith, c.requires.inside, short)) o.fresh o.sound (o.levels ∙ sym (ap (λ ls. [] ∷ stored.outer_of ls) o.levels))
+    row-opened c.args.nodes.now c.open_level.new.self c.in-Some.shape c.args.start (outer_of (levels c.args.nodes.now c.open_level.new.self)) packs.packed packs.packs
+    (omega (arith, c.requires.inside, short)) o.fresh o.sound (o.levels c.args.nodes.now ∙ sym (ap (λ ls. [] ∷ outer_of ls) (o.levels c.args.nodes.now)))
 
 pub map_array-row_body-mapped-requires-clause-open : goal.map_array-row_body-mapped-requires-clause-open
-map_array-row_body-mapped-requires-clause-open g t c = omega (arith, c.open_level.ensures.depth, length-levels c.args.store.now)
+map_array-row_body-mapped-requires-clause-open g t c = omega (arith, c.open_level.ensures.depth)
 
 pub map_array-array_body-mapped-requires : goal.map_array-array_body-mapped-requires
 map_array-array_body-mapped-requires g t c =
-    let some = length-levels c.args.store.now in
     let depth = c.open_level.ensures.depth in
     search rules
 
 pub map_struct-struct_body-requires : goal.map_struct-struct_body-requires
 map_struct-struct_body-requires g t c =
-    let some = length-levels c.args.store.now in
     let depth = c.open_level.ensures.depth in
     let fields = rw (← depth) at c.requires.fields in
     search rules
 
 pub map_union-union_body-requires : goal.map_union-union_body-requires
 map_union-union_body-requires g t c =
-    let some = length-levels c.args.store.now in
     let depth = c.open_level.ensures.depth in
     let alternatives = rw (← depth) at c.requires.alternatives in
-    let opened = keeps_opened c.args.nodes.now c.args.store.now c.open_level.new.self c.open_level.ensures.levels in
+    let opened = c.open_level.ensures.levels c.args.nodes.now in
     let fresh = opened ∙ ap (λ o. [] ∷ o) (sym (ap outer_of opened)) in
     search rules
 
@@ -296,19 +291,19 @@ pub struct_body-returns-in_err-close_struct-clause-is : goal.struct_body-returns
 struct_body-returns-in_err-close_struct-clause-is g t c =
     let p = err_from_is_err_and c.from_residual-in_err-close_struct.result c.from_residual-in_err-close_struct.ensures.1 in
     let named = c.requires.names ∙ sym (fields_named (type_of c.args.nodes.now) c.args.fields.now) in
-    let full = rw named at c.in_err-close_struct.ensures.full in
+    let full = rw named at (c.in_err-close_struct.ensures.full c.args.nodes.now) in
     rw (p.1, p.2) (struct_no_room _ _ _ _ c.in_ok-end.ensures.is _ _ c.in_ok-end.ensures.frame.room.room full)
 
 pub struct_body-returns-in_err-close_struct-clause-level : goal.struct_body-returns-in_err-close_struct-clause-level
 struct_body-returns-in_err-close_struct-clause-level g t c =
     let p = err_from_is_err_and c.from_residual-in_err-close_struct.result c.from_residual-in_err-close_struct.ensures.1 in
-    rw p.1 (regrown_stays c.args.nodes.now _ _ _ c.in_ok-end.ensures.outer c.in_ok-end.ensures.depth c.in_err-close_struct.ensures.same)
+    rw p.1 (regrown_stays c.args.nodes.now _ _ _ c.in_ok-end.ensures.outer c.in_ok-end.ensures.depth c.in_err-close_struct.ensures.err)
 
 pub struct_body-returns-clause-is : goal.struct_body-returns-clause-is
 struct_body-returns-clause-is g t c =
     let n = c.note_made.ensures in
     let named = c.requires.names ∙ sym (fields_named (type_of c.args.nodes.now) c.args.fields.now) in
-    let h = rw (named, c.in_ok-end.ensures.outer) at c.in_ok-close_struct.ensures.ok in
+    let h = rw (named, c.in_ok-end.ensures.outer) at (c.in_ok-close_struct.ensures.ok c.args.nodes.now) in
     record { value = _; kept = h; ends = refl; follows = struct_made _ _ _ _ c.in_ok-end.ensures.is _ _ n.steps n.made }
 
 pub array_body-returns-in_err-end-clause-is : goal.array_body-returns-in_err-end-clause-is
@@ -319,17 +314,17 @@ array_body-returns-in_err-end-clause-is g t c =
 pub array_body-returns-in_err-close_array-clause-is : goal.array_body-returns-in_err-close_array-clause-is
 array_body-returns-in_err-close_array-clause-is g t c =
     let p = err_from_is_err_and c.from_residual-in_err-close_array.result c.from_residual-in_err-close_array.ensures.1 in
-    rw (p.1, p.2) (array_no_room _ _ _ _ c.in_ok-end.ensures.is c.in_ok-end.ensures.frame.room.room c.in_err-close_array.ensures.full)
+    rw (p.1, p.2) (array_no_room _ _ _ _ c.in_ok-end.ensures.is c.in_ok-end.ensures.frame.room.room (c.in_err-close_array.ensures.full c.args.nodes.now))
 
 pub array_body-returns-in_err-close_array-clause-level : goal.array_body-returns-in_err-close_array-clause-level
 array_body-returns-in_err-close_array-clause-level g t c =
     let p = err_from_is_err_and c.from_residual-in_err-close_array.result c.from_residual-in_err-close_array.ensures.1 in
-    rw p.1 (regrown_stays c.args.nodes.now _ _ _ c.in_ok-end.ensures.outer c.in_ok-end.ensures.depth c.in_err-close_array.ensures.same)
+    rw p.1 (regrown_stays c.args.nodes.now _ _ _ c.in_ok-end.ensures.outer c.in_ok-end.ensures.depth c.in_err-close_array.ensures.err)
 
 pub array_body-returns-clause-is : goal.array_body-returns-clause-is
 array_body-returns-clause-is g t c =
     let n = c.note_made.ensures in
-    let h = rw c.in_ok-end.ensures.outer at c.in_ok-close_array.ensures.ok in
+    let h = rw c.in_ok-end.ensures.outer at (c.in_ok-close_array.ensures.ok c.args.nodes.now) in
     record { value = _; kept = h; ends = refl; follows = array_made _ _ _ _ c.in_ok-end.ensures.is n.steps n.made }
 
 pub union_body-returns-in_err-index-clause-is : goal.union_body-returns-in_err-index-clause-is
@@ -343,13 +338,13 @@ union_body-returns-in_err-close_union-clause-is g t c =
     let h = c.in_ok-index.ensures.is in
     let fresh = c.requires.fresh in
     let inside = h.keeps ∙ ap (λ ls. pushed ls (Some h.value)) fresh in
-    let full = rw (inside, c.requires.names, ← h.ends) at c.in_err-close_union.ensures.full in
+    let full = rw (inside, c.requires.names, ← h.ends) at (c.in_err-close_union.ensures.full c.args.nodes.now) in
     rw (p.1, p.2) (union_no_room _ _ _ _ _ h.follows c.in_ok-index.ensures.frame.room.room full)
 
 pub union_body-returns-in_err-close_union-clause-level : goal.union_body-returns-in_err-close_union-clause-level
 union_body-returns-in_err-close_union-clause-level g t c =
     let p = err_from_is_err_and c.from_residual-in_err-close_union.result c.from_residual-in_err-close_union.ensures.1 in
-    rw p.1 (regrown_stays c.args.nodes.now _ _ _ c.in_ok-index.ensures.outer c.in_ok-index.ensures.depth c.in_err-close_union.ensures.same)
+    rw p.1 (regrown_stays c.args.nodes.now _ _ _ c.in_ok-index.ensures.outer c.in_ok-index.ensures.depth c.in_err-close_union.ensures.err)
 
 pub union_body-returns-clause-is : goal.union_body-returns-clause-is
 union_body-returns-clause-is g t c =
@@ -357,7 +352,7 @@ union_body-returns-clause-is g t c =
     let fresh = c.requires.fresh in
     let inside = h.keeps ∙ ap (λ ls. pushed ls (Some h.value)) fresh in
     let n = c.note_made.ensures in
-    let closed = rw (inside, c.requires.names, ← h.ends) at c.in_ok-close_union.ensures.ok in
+    let closed = rw (inside, c.requires.names, ← h.ends) at (c.in_ok-close_union.ensures.ok c.args.nodes.now) in
     record { value = _; kept = closed; ends = h.ends; follows = union_made _ _ _ _ _ h.follows n.steps n.made }
 
 pub map_fields-loop-field-init : goal.map_fields-loop-field-init
@@ -405,7 +400,7 @@ map_fields-returns-in_err-place-clause-is g t c =
 pub map_fields-map_checked-requires : goal.map_fields-map_checked-requires
 map_fields-map_checked-requires g t c =
     let bounded = field_bounded c.args.fields.now c.loop-field.field-index c.field-item.result (omega arith) c.field-item.is in
-    let field = of_one (IsFieldOf c.args.nodes.now (length (levels c.args.store.now))) c.args.fields.now c.loop-field.field-index c.field-item.result c.requires.fields (omega arith) c.field-item.is in
+    let field = of_one (IsFieldOf c.args.nodes.now (level_count c.args.store.now)) c.args.fields.now c.loop-field.field-index c.field-item.result c.requires.fields (omega arith) c.field-item.is in
     let field = rw (← c.loop-field.invariant.depth) at field in
     search rules
 
@@ -424,20 +419,20 @@ map_fields-returns-in_err-behind-clause-is g t c =
     let h = in_world (g.S.Space.view c.args.space.now) (g.S.Space.view c.loop-field.space) c.args.store.now c.loop-field.store i.frame.bytes i.frame.room.room h in
     rw (p.1, p.2) (follow_on i.so_far (field_stops _ _ _ _ _ _ _ _ _ _ _ next (e.limit ∙ i.frame.limit) e.ok e.made there.made there_is there.limit start.made _ start_is start.limit _ h))
 
-pub map_fields-returns-in_err-keep_absent-clause-is : goal.map_fields-returns-in_err-keep_absent-clause-is
-map_fields-returns-in_err-keep_absent-clause-is g t c =
-    let p = err_from_is_err_and c.from_residual-in_err-keep_absent.result c.from_residual-in_err-keep_absent.ensures.1 in
+pub map_fields-returns-in_err-push_absent-clause-is : goal.map_fields-returns-in_err-push_absent-clause-is
+map_fields-returns-in_err-push_absent-clause-is g t c =
+    let p = err_from_is_err_and c.from_residual-in_err-push_absent.result c.from_residual-in_err-push_absent.ensures.1 in
     let i = c.loop-field.invariant in
     let e = c.in_ok-tick.ensures in
     let next = drop_more c.args.fields.now c.loop-field.field-index c.field-item.result (omega arith) in
     let next = rw (← c.field-item.is) at next in
     let there = c.in_ok-is_there.ensures in
     let there_is = rw (c.if-branch.false, c.from-origin.ensures) at there.is in
-    rw (p.1, p.2) (follow_on i.so_far (absent_no_room _ _ _ _ _ _ _ _ _ _ _ next (e.limit ∙ i.frame.limit) e.ok e.made there.made there_is i.frame.room.room c.in_err-keep_absent.ensures.full))
+    rw (p.1, p.2) (follow_on i.so_far (absent_no_room _ _ _ _ _ _ _ _ _ _ _ next (e.limit ∙ i.frame.limit) e.ok e.made there.made there_is i.frame.room.room (c.in_err-push_absent.ensures.full c.args.nodes.now)))
 
-pub map_fields-returns-in_err-keep_absent-clause-outer : goal.map_fields-returns-in_err-keep_absent-clause-outer
-map_fields-returns-in_err-keep_absent-clause-outer g t c =
-    ap outer_of (regrown_kept c.args.nodes.now _ _ c.in_err-keep_absent.ensures.same) ∙ c.loop-field.invariant.outer
+pub map_fields-returns-in_err-push_absent-clause-outer : goal.map_fields-returns-in_err-push_absent-clause-outer
+map_fields-returns-in_err-push_absent-clause-outer g t c =
+    ap outer_of (regrown-levels c.args.nodes.now _ _ c.in_err-push_absent.ensures.err) ∙ c.loop-field.invariant.outer
 
 pub map_fields-loop-field-preserved : goal.map_fields-loop-field-preserved
 map_fields-loop-field-preserved g t c =
@@ -454,7 +449,7 @@ map_fields-loop-field-preserved g t c =
           let m = w.in_ok-behind.ensures.is in
           let h = rw (i.frame.len, w.ordered.ensures) at m.follows in
           let h = in_world (g.S.Space.view c.args.space.now) (g.S.Space.view c.loop-field.space) c.args.store.now c.loop-field.store i.frame.bytes i.frame.room.room h in
-          let outer = ap outer_of m.kept ∙ outer_pushed (kept c.args.nodes.now c.loop-field.store) (Some m.value) ∙ i.outer in
+          let outer = ap outer_of m.kept ∙ outer_pushed (levels c.args.nodes.now c.loop-field.store) (Some m.value) ∙ i.outer in
           rw (w.space-is, w.meter-is, w.store-is, w.behind-is, w.top-is) (record {
             frame = search rules;
             after = search rules;
@@ -463,14 +458,14 @@ map_fields-loop-field-preserved g t c =
             depth = search rules;
             so_far = rw m.kept (follow_on i.so_far (field_goes _ _ _ _ _ _ _ _ _ _ _ next (e.limit ∙ i.frame.limit) e.ok e.made there.made there_is there.limit start.made _ start_is start.limit m.value _ _ m.ends w.max-top.ensures h));
           })
-      | map_fields-else-branch+in_ok-keep_absent w ↦
+      | map_fields-else-branch+in_ok-push_absent w ↦
           let there_is = rw (w.if-branch.false, c.from-origin.ensures) at there.is in
-          let keeps = w.in_ok-keep_absent.ensures.ok in
+          let keeps = (w.in_ok-push_absent.ensures.ok c.args.nodes.now) in
           rw (w.space-is, w.meter-is, w.store-is, w.behind-is, w.top-is) (record {
             frame = search rules;
             after = search rules;
             inside = search rules;
-            outer = ap outer_of keeps ∙ outer_pushed (kept c.args.nodes.now c.loop-field.store) None ∙ i.outer;
+            outer = ap outer_of keeps ∙ outer_pushed (levels c.args.nodes.now c.loop-field.store) None ∙ i.outer;
             depth = search rules;
             so_far = rw keeps (follow_on i.so_far (absent_goes _ _ _ _ _ _ _ _ _ _ _ next (e.limit ∙ i.frame.limit) e.ok e.made there.made there_is));
           })
@@ -525,12 +520,12 @@ map_elements-loop-order-preserved g t c =
     let wide = followed_wide _ _ _ _ _ h in
     let ends = m.ends in
     let far : c.loop-order.place + max 1 (least_width (type_of c.args.nodes.now c.args.element)) ≤ c.in-Ok.end = omega (arith, wide, ends, c.in-Ok.ensures.ends.0, c.if-end-place.false) in
-    let next = elements_goes (plan (8 * (g.S.Space.view c.args.space.now).len) (type_of c.args.nodes.now c.args.element) c.args.order) (8 * (g.S.Space.view c.args.space.now).len) c.args.start c.args.extent c.loop-order.count (kept c.args.nodes.now c.loop-order.store) c.loop-order.place (max 1 (least_width (type_of c.args.nodes.now c.args.element))) _ i.so_far.1 i.inside due (e.limit ∙ i.frame.limit) e.ok e.made m.value c.in-Ok.end (c.loop-order.count + 1) refl ends c.if-end-place.false far h in
+    let next = elements_goes (plan (8 * (g.S.Space.view c.args.space.now).len) (type_of c.args.nodes.now c.args.element) c.args.order) (8 * (g.S.Space.view c.args.space.now).len) c.args.start c.args.extent c.loop-order.count (levels c.args.nodes.now c.loop-order.store) c.loop-order.place (max 1 (least_width (type_of c.args.nodes.now c.args.element))) _ i.so_far.1 i.inside due (e.limit ∙ i.frame.limit) e.ok e.made m.value c.in-Ok.end (c.loop-order.count + 1) refl ends c.if-end-place.false far h in
     record {
       frame = search rules;
       after = search rules;
       inside = search rules;
-      outer = ap outer_of m.kept ∙ outer_pushed (kept c.args.nodes.now c.loop-order.store) (Some m.value) ∙ i.outer;
+      outer = ap outer_of m.kept ∙ outer_pushed (levels c.args.nodes.now c.loop-order.store) (Some m.value) ∙ i.outer;
       depth = search rules;
       counted = omega (arith, i.counted, far);
       so_far = (next.0, next.1, rw m.kept (follow_on i.so_far.2 next.2));
@@ -592,7 +587,7 @@ map_alternatives-returns-in_err-tick-clause-is g t c =
 pub map_alternatives-map_checked-requires : goal.map_alternatives-map_checked-requires
 map_alternatives-map_checked-requires g t c =
     let bounded = part_bounded c.args.alternatives.now c.loop-index.index c.index-alternatives-index.result (omega arith) c.index-alternatives-index.is in
-    let part = of_one (IsPartOf c.args.nodes.now (length (levels c.args.store.now))) c.args.alternatives.now c.loop-index.index c.index-alternatives-index.result c.requires.alternatives (omega arith) c.index-alternatives-index.is in
+    let part = of_one (IsPartOf c.args.nodes.now (level_count c.args.store.now)) c.args.alternatives.now c.loop-index.index c.index-alternatives-index.result c.requires.alternatives (omega arith) c.index-alternatives-index.is in
     let part = rw (← c.loop-index.invariant.depth) at part in
     search rules
 
@@ -627,7 +622,7 @@ map_alternatives-loop-index-preserved g t c =
     let next = rw (← c.index-alternatives-index.is) at next in
     let h = rw (i.frame.len, i.same, c.ordered-prefixed.ensures, c.from-origin.ensures) at c.in-Err.ensures.is in
     let h = in_world (g.S.Space.view c.args.space.now) (g.S.Space.view c.loop-index.space) c.args.store.now c.loop-index.store i.frame.bytes i.frame.room.room h in
-    let cleared = keeps_cleared c.args.nodes.now c.map_checked.new.store c.clear_level.new.self c.clear_level.ensures.levels in
+    let cleared = c.clear_level.ensures.levels c.args.nodes.now in
     record {
       frame = search rules;
       same = cleared ∙ ap (λ o. [] ∷ o) (c.in-Err.ensures.outer ∙ ap outer_of i.same) ∙ sym c.requires.fresh;

@@ -1,12 +1,11 @@
-use Rattle.std.proofs.Common.{◌≡◌, ℕ, ◌+◌, ◌-◌, ◌*◌, ◌≤◌, ◌<◌, max, length, drop}
+use Rattle.std.proofs.Common.{◌≡◌, ℕ, ◌+◌, ◌-◌, ◌*◌, ◌≤◌, ◌<◌, max, drop}
 use Rattle.pickle_types.specs.Bounds.{least_width}
 use Rattle.pickle_types.specs.Table.{type_of, open_fields, open_parts}
 use Rattle.pickle_map.specs.Calls.{as_fields, as_alternatives, as_elements}
 use Rattle.pickle_map.specs.Follows.{Partly}
 use Rattle.pickle_map.specs.Framed.{Frame, Runs}
 use Rattle.mapping_plans.specs.Mapping.{plan, fields_plan, elements_plan, alternatives_plan}
-use Rattle.value_store.specs.Shown.{kept}
-use Rattle.value_store.specs.Slots.{levels}
+use Rattle.value_store.specs.Slots.{levels, level_count}
 use Rattle.pickle_meaning.specs.Values.{outer_of}
 use Rattle.pickle_map.proofs.Shapes.{fields_bound, parts_bound}
 use Rattle.pickle_map.proofs.mapper.types.+mapping.Given as goal
@@ -56,21 +55,21 @@ invariant-map_fields-loop-field g l = record {
   frame : Frame (g.S.Space.view l.initial.space) (g.S.Space.view l.space) l.initial.meter l.meter l.initial.store l.store 0;
   after : l.start ≤ l.top;
   inside : l.top ≤ 8 * (g.S.Space.view l.initial.space).len;
-  outer : outer_of (kept l.nodes l.store) ≡ outer_of (kept l.nodes l.initial.store);
-  depth : length (levels l.store) ≡ length (levels l.initial.store);
+  outer : outer_of (levels l.nodes l.store) ≡ outer_of (levels l.nodes l.initial.store);
+  depth : level_count l.store ≡ level_count l.initial.store;
   so_far : Runs (g.S.Space.view l.initial.space) l.initial.meter l.meter l.initial.store
-      (as_fields l.pinned l.fields l.order l.start l.nodes (8 * (g.S.Space.view l.initial.space).len) (kept l.nodes l.initial.store))
-      (Partly (fields_plan (8 * (g.S.Space.view l.initial.space).len) l.pinned l.start (open_fields (type_of l.nodes) (drop l.field-index l.fields)) l.order (kept l.nodes l.store) l.behind l.top));
+      (as_fields l.pinned l.fields l.order l.start l.nodes (8 * (g.S.Space.view l.initial.space).len) (levels l.nodes l.initial.store))
+      (Partly (fields_plan (8 * (g.S.Space.view l.initial.space).len) l.pinned l.start (open_fields (type_of l.nodes) (drop l.field-index l.fields)) l.order (levels l.nodes l.store) l.behind l.top));
 }
 
 abbrev pub invariant-map_alternatives-loop-index : goal.invariant-map_alternatives-loop-index
 invariant-map_alternatives-loop-index g l = record {
   frame : Frame (g.S.Space.view l.initial.space) (g.S.Space.view l.space) l.initial.meter l.meter l.initial.store l.store 0;
-  same : kept l.nodes l.store ≡ kept l.nodes l.initial.store;
-  depth : length (levels l.store) ≡ length (levels l.initial.store);
+  same : levels l.nodes l.store ≡ levels l.nodes l.initial.store;
+  depth : level_count l.store ≡ level_count l.initial.store;
   so_far : Runs (g.S.Space.view l.initial.space) l.initial.meter l.meter l.initial.store
-      (as_alternatives l.alternatives l.order l.start l.nodes (8 * (g.S.Space.view l.initial.space).len) (kept l.nodes l.initial.store))
-      (Partly (alternatives_plan (8 * (g.S.Space.view l.initial.space).len) (open_parts (type_of l.nodes) (drop l.index l.alternatives)) l.index l.order (kept l.nodes l.initial.store) l.start));
+      (as_alternatives l.alternatives l.order l.start l.nodes (8 * (g.S.Space.view l.initial.space).len) (levels l.nodes l.initial.store))
+      (Partly (alternatives_plan (8 * (g.S.Space.view l.initial.space).len) (open_parts (type_of l.nodes) (drop l.index l.alternatives)) l.index l.order (levels l.nodes l.initial.store) l.start));
 }
 
 abbrev pub decreases-map_elements-loop-order : goal.decreases-map_elements-loop-order
@@ -81,11 +80,11 @@ invariant-map_elements-loop-order g l = record {
   frame : Frame (g.S.Space.view l.initial.space) (g.S.Space.view l.space) l.initial.meter l.meter l.initial.store l.store 0;
   after : l.start ≤ l.place;
   inside : l.place ≤ 8 * (g.S.Space.view l.initial.space).len;
-  outer : outer_of (kept l.nodes l.store) ≡ outer_of (kept l.nodes l.initial.store);
-  depth : length (levels l.store) ≡ length (levels l.initial.store);
+  outer : outer_of (levels l.nodes l.store) ≡ outer_of (levels l.nodes l.initial.store);
+  depth : level_count l.store ≡ level_count l.initial.store;
   counted : l.count + l.start ≤ l.place;
   so_far : (n : ℕ) × (8 * (g.S.Space.view l.initial.space).len < l.place + n * max 1 (least_width (type_of l.nodes l.element))) ×
       Runs (g.S.Space.view l.initial.space) l.initial.meter l.meter l.initial.store
-      (as_elements l.element l.extent l.order l.start l.nodes (8 * (g.S.Space.view l.initial.space).len) (kept l.nodes l.initial.store))
-      (Partly (elements_plan (plan (8 * (g.S.Space.view l.initial.space).len) (type_of l.nodes l.element) l.order) (8 * (g.S.Space.view l.initial.space).len) l.start l.extent n l.count (kept l.nodes l.store) l.place));
+      (as_elements l.element l.extent l.order l.start l.nodes (8 * (g.S.Space.view l.initial.space).len) (levels l.nodes l.initial.store))
+      (Partly (elements_plan (plan (8 * (g.S.Space.view l.initial.space).len) (type_of l.nodes l.element) l.order) (8 * (g.S.Space.view l.initial.space).len) l.start l.extent n l.count (levels l.nodes l.store) l.place));
 }

@@ -1,9 +1,8 @@
-use Rattle.std.proofs.Common.{refl, rules, ap, subst, sym, arith}
+use Rattle.std.proofs.Common.{rules, ap, subst, sym, arith}
 use Rattle.std.specs.Prelude.{vec_capacity}
 use Rattle.value_store.specs.Slots.{Slots, Held, GoesOn}
 use Rattle.value_store.specs.contracts.store.Store.{the_view}
 use Rattle.value_store.proofs.Writing.{more-frames, more-placed}
-use Rattle.value_store.proofs.Held.{depth-same}
 use Rattle.value_store.proofs.store.Store.append_bytes.Goals as goal
 
 pub invariant_of-self-2 : goal.invariant_of-self-2
@@ -12,7 +11,7 @@ invariant_of-self-2 c =
     let g : GoesOn h c.args.shape c.args.more.now = subst (λ (h : Held). GoesOn h c.args.shape c.args.more.now) (sym c.self.view_is) c.requires in
     let e = more-placed h c.args.shape c.args.more.now c.len-last.result c.len.result c.append.new.to.items g (search rules) (search rules) (search rules) in
     record {
-      levels = rw e (more-frames h c.args.shape g.bytes g.start g.outer g.filling g.some c.args.more.now g.are);
+      levels = rw e (more-frames g.names h c.args.shape g.bytes g.start g.outer g.filling g.some c.args.more.now g.are);
       nodes = search rules;
       families = search rules;
       links = search rules;
@@ -35,9 +34,3 @@ returns-clause-slots c =
     let g : GoesOn h c.args.shape c.args.more.now = subst (λ (h : Held). GoesOn h c.args.shape c.args.more.now) (sym c.self.view_is) c.requires in
     let e = more-placed h c.args.shape c.args.more.now c.len-last.result c.len.result c.append.new.to.items g (search rules) (search rules) (search rules) in
     rw (← c.self.view_is) (ap (λ (x : Slots). record { slots = x; frames = h.frames; room = h.room; capacity = record { nodes = h.capacity.nodes; families = h.capacity.families; links = h.capacity.links; pending = h.capacity.pending; texts = h.capacity.texts; bytes = vec_capacity c.append.new.to } }) e)
-
-pub returns-in_err-reserve-clause-depth : goal.returns-in_err-reserve-clause-depth
-returns-in_err-reserve-clause-depth c = rw (← c.self.view_is) (depth-same _ _ refl)
-
-pub returns-clause-depth : goal.returns-clause-depth
-returns-clause-depth c = rw (← c.self.view_is) (depth-same _ _ refl)

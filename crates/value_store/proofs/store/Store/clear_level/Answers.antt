@@ -1,8 +1,7 @@
-use Rattle.std.proofs.Common.{refl, rules, ◌≡◌, arith}
+use Rattle.std.proofs.Common.{rules, ◌≡◌, arith}
 use Rattle.value_store.specs.Slots.{Slots, innermost, cut_to}
 use Rattle.value_store.specs.contracts.store.Store.{the_view}
 use Rattle.value_store.proofs.Held.{clear-frames, clear-levels}
-use Rattle.value_store.proofs.Held.{depth-same}
 use Rattle.value_store.proofs.store.Store.clear_level.Goals as goal
 
 pub invariant_of-self : goal.invariant_of-self
@@ -35,7 +34,4 @@ returns-clause-levels c =
     let m : c.innermost-marks.result ≡ innermost (the_view c.self.inside).frames = search rules in
     let t : Slots = record { nodes = c.truncate.new.self.items; families = c.truncate-2.new.self.items; links = c.truncate-3.new.self.items; pending = c.truncate-4.new.self.items; texts = c.truncate-5.new.self.items; bytes = c.truncate-6.new.self.items } in
     let e : t ≡ cut_to c.innermost-marks.result s = search rules in
-    rw (← c.self.view_is) (rw (e, m) (clear-levels (the_view c.self.inside) c.self.invariant.levels _))
-
-pub returns-clause-depth : goal.returns-clause-depth
-returns-clause-depth c = rw (← c.self.view_is) (depth-same _ _ refl)
+    λ names. rw (← c.self.view_is) (rw (e, m) (clear-levels (the_view c.self.inside) c.self.invariant.levels names _))

@@ -1,10 +1,10 @@
 use Rattle.std.proofs.Common.{◌≡◌, ◌∙◌}
 use Rattle.value_store.specs.Slots.{levels}
-use Rattle.value_store.specs.Levels.{text_level}
+use Rattle.pickle_meaning.specs.Values.{text_level}
 use Rattle.value_store.proofs.Writing.{lifted-text}
 use Rattle.value_store.proofs.store.Store.close_text.Goals as goal
 
 pub returns-clause-ok : goal.returns-clause-ok
-returns-clause-ok c = λ bytes outer w.
-    let e : levels c.settle_text.new.self ≡ text_level bytes c.args.start outer = c.in_ok-settle_text.ensures.ok bytes outer w in
-    c.lift_level.ensures.levels ∙ lifted-text bytes c.args.start outer (levels c.settle_text.new.self) e
+returns-clause-ok c = λ names bytes outer w.
+    let e : levels names c.settle_text.new.self ≡ text_level bytes c.args.start outer = c.in_ok-settle_text.ensures.ok names bytes outer w in
+    c.lift_level.ensures.levels names ∙ lifted-text bytes c.args.start outer (levels names c.settle_text.new.self) e

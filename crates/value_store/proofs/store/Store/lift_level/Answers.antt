@@ -22,9 +22,9 @@ invariant_of-self c =
 pub returns-clause-levels : goal.returns-clause-levels
 returns-clause-levels c =
     let e : reverse c.pop.new.self.items ≡ around (the_view c.self.inside).frames = ap reverse c.pop.ensures.rest ∙ reverse-pop c.self.inside.frames.items in
-    rw (← c.self.view_is) (rw e (lift-levels (the_view c.self.inside) _ c.self.invariant.levels))
+    λ names. rw (← c.self.view_is) (rw e (lift-levels names (the_view c.self.inside) _ c.self.invariant.levels))
 
 pub returns-clause-depth : goal.returns-clause-depth
 returns-clause-depth c =
     let e : reverse c.pop.new.self.items ≡ around (the_view c.self.inside).frames = ap reverse c.pop.ensures.rest ∙ reverse-pop c.self.inside.frames.items in
-    rw (← c.self.view_is) (depth-lift (the_view c.self.inside) _ e)
+    rw (← c.self.view_is) (depth-lift (the_view c.self.inside).frames _ e)

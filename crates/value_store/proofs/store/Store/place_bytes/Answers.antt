@@ -1,39 +1,34 @@
-use Rattle.std.proofs.Common.{refl, rules, ◌≡◌, subst, sym, arith}
+use Rattle.std.proofs.Common.{rules, ◌≡◌, subst, sym, arith}
 use Rattle.value_store.specs.Slots.{Slots, Held, MayKeep, with_bytes}
 use Rattle.value_store.specs.contracts.store.Store.{the_view}
 use Rattle.value_store.proofs.Held.{texts-few}
-use Rattle.value_store.proofs.Writing.{bytes-frames, bytes-levels, bytes-room}
-use Rattle.value_store.proofs.Held.{depth-same}
+use Rattle.value_store.proofs.Writing.{bytes-frames, bytes-levels, bytes-full}
 use Rattle.value_store.proofs.store.Store.place_bytes.Goals as goal
 
-pub returns-in_err-reserve-clause-succeeds : goal.returns-in_err-reserve-clause-succeeds
-returns-in_err-reserve-clause-succeeds c =
+pub returns-in_err-reserve-clause-full : goal.returns-in_err-reserve-clause-full
+returns-in_err-reserve-clause-full c =
     let may : MayKeep (the_view c.self.inside).room c.args.shape = subst (λ (h : Held). MayKeep h.room c.args.shape) (sym c.self.view_is) c.requires.may in
-    rw (← c.self.view_is) (λ fits.
-    let r = bytes-room (the_view c.self.inside) c.args.shape c.args.bytes.now c.args.start c.self.invariant.levels c.requires.are may fits in
-    absurd (omega (arith, r.nodes, c.in_err-reserve.ensures.full)))
+    rw (← c.self.view_is) (bytes-full (the_view c.self.inside) c.args.shape c.args.bytes.now c.args.start c.self.invariant.levels c.requires.are may _ (λ r.
+    omega (arith, r.nodes, c.in_err-reserve.ensures.full)))
 
-pub returns-in_err-reserve-2-clause-succeeds : goal.returns-in_err-reserve-2-clause-succeeds
-returns-in_err-reserve-2-clause-succeeds c =
+pub returns-in_err-reserve-2-clause-full : goal.returns-in_err-reserve-2-clause-full
+returns-in_err-reserve-2-clause-full c =
     let may : MayKeep (the_view c.self.inside).room c.args.shape = subst (λ (h : Held). MayKeep h.room c.args.shape) (sym c.self.view_is) c.requires.may in
-    rw (← c.self.view_is) (λ fits.
-    let r = bytes-room (the_view c.self.inside) c.args.shape c.args.bytes.now c.args.start c.self.invariant.levels c.requires.are may fits in
-    absurd (omega (arith, r.pending, c.in_err-reserve-2.ensures.full)))
+    rw (← c.self.view_is) (bytes-full (the_view c.self.inside) c.args.shape c.args.bytes.now c.args.start c.self.invariant.levels c.requires.are may _ (λ r.
+    omega (arith, r.pending, c.in_err-reserve-2.ensures.full)))
 
-pub returns-in_err-reserve-3-clause-succeeds : goal.returns-in_err-reserve-3-clause-succeeds
-returns-in_err-reserve-3-clause-succeeds c =
+pub returns-in_err-reserve-3-clause-full : goal.returns-in_err-reserve-3-clause-full
+returns-in_err-reserve-3-clause-full c =
     let may : MayKeep (the_view c.self.inside).room c.args.shape = subst (λ (h : Held). MayKeep h.room c.args.shape) (sym c.self.view_is) c.requires.may in
-    rw (← c.self.view_is) (λ fits.
-    let r = bytes-room (the_view c.self.inside) c.args.shape c.args.bytes.now c.args.start c.self.invariant.levels c.requires.are may fits in
+    rw (← c.self.view_is) (bytes-full (the_view c.self.inside) c.args.shape c.args.bytes.now c.args.start c.self.invariant.levels c.requires.are may _ (λ r.
     let few = texts-few (the_view c.self.inside) c.self.invariant.levels in
-    absurd (omega (arith, r.nodes, few, c.in_err-reserve-3.ensures.full)))
+    omega (arith, r.nodes, few, c.in_err-reserve-3.ensures.full)))
 
-pub returns-in_err-reserve-4-clause-succeeds : goal.returns-in_err-reserve-4-clause-succeeds
-returns-in_err-reserve-4-clause-succeeds c =
+pub returns-in_err-reserve-4-clause-full : goal.returns-in_err-reserve-4-clause-full
+returns-in_err-reserve-4-clause-full c =
     let may : MayKeep (the_view c.self.inside).room c.args.shape = subst (λ (h : Held). MayKeep h.room c.args.shape) (sym c.self.view_is) c.requires.may in
-    rw (← c.self.view_is) (λ fits.
-    let r = bytes-room (the_view c.self.inside) c.args.shape c.args.bytes.now c.args.start c.self.invariant.levels c.requires.are may fits in
-    absurd (omega (arith, r.bytes, c.in_err-reserve-4.ensures.full)))
+    rw (← c.self.view_is) (bytes-full (the_view c.self.inside) c.args.shape c.args.bytes.now c.args.start c.self.invariant.levels c.requires.are may _ (λ r.
+    omega (arith, r.bytes, c.in_err-reserve-4.ensures.full)))
 
 pub invariant_of-self-2 : goal.invariant_of-self-2
 invariant_of-self-2 c =
@@ -65,19 +60,4 @@ returns-clause-levels c =
     let s = (the_view c.self.inside).slots in
     let t : Slots = record { nodes = c.push_reserved-3.new.self.items; families = s.families; links = s.links; pending = c.push_reserved-2.new.self.items; texts = c.push_reserved.new.self.items; bytes = c.append.new.to.items } in
     let e : t ≡ with_bytes c.args.shape c.args.bytes.now c.args.start s = search rules in
-    rw (← c.self.view_is) (rw e (bytes-levels (the_view c.self.inside) c.args.shape c.args.bytes.now c.args.start c.self.invariant.levels c.requires.are may _))
-
-pub returns-in_err-reserve-clause-depth : goal.returns-in_err-reserve-clause-depth
-returns-in_err-reserve-clause-depth c = rw (← c.self.view_is) (depth-same _ _ refl)
-
-pub returns-in_err-reserve-2-clause-depth : goal.returns-in_err-reserve-2-clause-depth
-returns-in_err-reserve-2-clause-depth c = rw (← c.self.view_is) (depth-same _ _ refl)
-
-pub returns-in_err-reserve-3-clause-depth : goal.returns-in_err-reserve-3-clause-depth
-returns-in_err-reserve-3-clause-depth c = rw (← c.self.view_is) (depth-same _ _ refl)
-
-pub returns-in_err-reserve-4-clause-depth : goal.returns-in_err-reserve-4-clause-depth
-returns-in_err-reserve-4-clause-depth c = rw (← c.self.view_is) (depth-same _ _ refl)
-
-pub returns-clause-depth : goal.returns-clause-depth
-returns-clause-depth c = rw (← c.self.view_is) (depth-same _ _ refl)
+    λ names. rw (← c.self.view_is) (rw e (bytes-levels (the_view c.self.inside) c.args.shape c.args.bytes.now c.args.start c.self.invariant.levels c.requires.are may names _))

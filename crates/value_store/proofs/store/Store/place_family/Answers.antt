@@ -1,37 +1,32 @@
-use Rattle.std.proofs.Common.{refl, rules, ◌≡◌, ap, arith}
+use Rattle.std.proofs.Common.{rules, ◌≡◌, ap, arith}
 use Rattle.value_store.specs.declared.store.slots.Marks.{Marks}
 use Rattle.value_store.specs.Slots.{Slots, innermost, with_family}
 use Rattle.value_store.specs.contracts.store.Store.{the_view}
-use Rattle.value_store.proofs.Held.{family-frames, family-levels, family-room, families-few}
-use Rattle.value_store.proofs.Held.{depth-same}
+use Rattle.value_store.proofs.Held.{family-frames, family-levels, family-full, families-few}
 use Rattle.value_store.proofs.store.Store.place_family.Goals as goal
 
-pub returns-in_err-reserve-clause-succeeds : goal.returns-in_err-reserve-clause-succeeds
-returns-in_err-reserve-clause-succeeds c =
-    rw (← c.self.view_is) (λ fits.
-    let r = family-room (the_view c.self.inside) c.args.shape c.args.start c.args.size c.requires.composite c.self.invariant.levels fits in
-    absurd (omega (arith, r.0, c.in_err-reserve.ensures.full)))
+pub returns-in_err-reserve-clause-full : goal.returns-in_err-reserve-clause-full
+returns-in_err-reserve-clause-full c =
+    rw (← c.self.view_is) (family-full (the_view c.self.inside) c.args.shape c.args.start c.args.size c.requires.composite c.self.invariant.levels _ (λ r.
+    omega (arith, r.0, c.in_err-reserve.ensures.full)))
 
-pub returns-in_err-reserve-2-clause-succeeds : goal.returns-in_err-reserve-2-clause-succeeds
-returns-in_err-reserve-2-clause-succeeds c =
-    rw (← c.self.view_is) (λ fits.
-    let r = family-room (the_view c.self.inside) c.args.shape c.args.start c.args.size c.requires.composite c.self.invariant.levels fits in
+pub returns-in_err-reserve-2-clause-full : goal.returns-in_err-reserve-2-clause-full
+returns-in_err-reserve-2-clause-full c =
+    rw (← c.self.view_is) (family-full (the_view c.self.inside) c.args.shape c.args.start c.args.size c.requires.composite c.self.invariant.levels _ (λ r.
     let few = families-few (the_view c.self.inside) c.self.invariant.levels in
-    absurd (omega (arith, r.0, few, c.in_err-reserve-2.ensures.full)))
+    omega (arith, r.0, few, c.in_err-reserve-2.ensures.full)))
 
-pub returns-in_err-reserve_moved-clause-succeeds : goal.returns-in_err-reserve_moved-clause-succeeds
-returns-in_err-reserve_moved-clause-succeeds c =
-    rw (← c.self.view_is) (λ fits.
-    let r = family-room (the_view c.self.inside) c.args.shape c.args.start c.args.size c.requires.composite c.self.invariant.levels fits in
+pub returns-in_err-reserve_moved-clause-full : goal.returns-in_err-reserve_moved-clause-full
+returns-in_err-reserve_moved-clause-full c =
+    rw (← c.self.view_is) (family-full (the_view c.self.inside) c.args.shape c.args.start c.args.size c.requires.composite c.self.invariant.levels _ (λ r.
     let m : c.innermost-mark.result ≡ innermost (the_view c.self.inside).frames = search rules in
-    absurd (omega (arith, r.1.0, ap (λ (k : Marks). k.pending) m, c.in_err-reserve_moved.ensures.full)))
+    omega (arith, r.1.0, ap (λ (k : Marks). k.pending) m, c.in_err-reserve_moved.ensures.full)))
 
-pub returns-in_err-reserve_above-clause-succeeds : goal.returns-in_err-reserve_above-clause-succeeds
-returns-in_err-reserve_above-clause-succeeds c =
-    rw (← c.self.view_is) (λ fits.
-    let r = family-room (the_view c.self.inside) c.args.shape c.args.start c.args.size c.requires.composite c.self.invariant.levels fits in
+pub returns-in_err-reserve_above-clause-full : goal.returns-in_err-reserve_above-clause-full
+returns-in_err-reserve_above-clause-full c =
+    rw (← c.self.view_is) (family-full (the_view c.self.inside) c.args.shape c.args.start c.args.size c.requires.composite c.self.invariant.levels _ (λ r.
     let m : c.innermost-mark.result ≡ innermost (the_view c.self.inside).frames = search rules in
-    absurd (omega (arith, r.1.1, ap (λ (k : Marks). k.pending) m, c.in_err-reserve_above.ensures.full)))
+    omega (arith, r.1.1, ap (λ (k : Marks). k.pending) m, c.in_err-reserve_above.ensures.full)))
 
 pub invariant_of-self-2 : goal.invariant_of-self-2
 invariant_of-self-2 c =
@@ -63,19 +58,4 @@ returns-clause-ok c =
     let m : c.innermost-mark.result ≡ innermost (the_view c.self.inside).frames = search rules in
     let t : Slots = record { nodes = c.push_reserved-3.new.self.items; families = c.push_reserved-2.new.self.items; links = c.move_above.new.to.items; pending = c.push_reserved.new.self.items; texts = s.texts; bytes = s.bytes } in
     let e : t ≡ with_family c.args.shape c.args.start c.args.size c.innermost-mark.result.pending s = search rules in
-    rw (← c.self.view_is) (rw (e, m) (family-levels (the_view c.self.inside) c.args.shape c.args.start c.args.size c.requires.composite c.self.invariant.levels _))
-
-pub returns-in_err-reserve-clause-depth : goal.returns-in_err-reserve-clause-depth
-returns-in_err-reserve-clause-depth c = rw (← c.self.view_is) (depth-same _ _ refl)
-
-pub returns-in_err-reserve-2-clause-depth : goal.returns-in_err-reserve-2-clause-depth
-returns-in_err-reserve-2-clause-depth c = rw (← c.self.view_is) (depth-same _ _ refl)
-
-pub returns-in_err-reserve_moved-clause-depth : goal.returns-in_err-reserve_moved-clause-depth
-returns-in_err-reserve_moved-clause-depth c = rw (← c.self.view_is) (depth-same _ _ refl)
-
-pub returns-in_err-reserve_above-clause-depth : goal.returns-in_err-reserve_above-clause-depth
-returns-in_err-reserve_above-clause-depth c = rw (← c.self.view_is) (depth-same _ _ refl)
-
-pub returns-clause-depth : goal.returns-clause-depth
-returns-clause-depth c = rw (← c.self.view_is) (depth-same _ _ refl)
+    λ names. rw (← c.self.view_is) (rw (e, m) (family-levels (the_view c.self.inside) c.args.shape c.args.start c.args.size c.requires.composite c.self.invariant.levels names _))

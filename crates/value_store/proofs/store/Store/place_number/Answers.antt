@@ -1,21 +1,18 @@
-use Rattle.std.proofs.Common.{refl, rules, ◌≡◌, arith}
+use Rattle.std.proofs.Common.{rules, ◌≡◌, arith}
 use Rattle.value_store.specs.Slots.{Slots, with_leaf}
 use Rattle.value_store.specs.contracts.store.Store.{the_view}
-use Rattle.value_store.proofs.Held.{number-frames, number-levels, number-room}
-use Rattle.value_store.proofs.Held.{depth-same}
+use Rattle.value_store.proofs.Held.{number-frames, number-levels, number-full}
 use Rattle.value_store.proofs.store.Store.place_number.Goals as goal
 
-pub returns-in_err-reserve-clause-succeeds : goal.returns-in_err-reserve-clause-succeeds
-returns-in_err-reserve-clause-succeeds c =
-    rw (← c.self.view_is) (λ fits.
-    let r = number-room (the_view c.self.inside) c.args.shape c.args.start c.args.content c.requires.number c.self.invariant.levels fits in
-    absurd (omega (arith, r.nodes, c.in_err-reserve.ensures.full)))
+pub returns-in_err-reserve-clause-full : goal.returns-in_err-reserve-clause-full
+returns-in_err-reserve-clause-full c =
+    rw (← c.self.view_is) (number-full (the_view c.self.inside) c.args.shape c.args.start c.args.content c.requires.number c.self.invariant.levels _ (λ r.
+    omega (arith, r.nodes, c.in_err-reserve.ensures.full)))
 
-pub returns-in_err-reserve-2-clause-succeeds : goal.returns-in_err-reserve-2-clause-succeeds
-returns-in_err-reserve-2-clause-succeeds c =
-    rw (← c.self.view_is) (λ fits.
-    let r = number-room (the_view c.self.inside) c.args.shape c.args.start c.args.content c.requires.number c.self.invariant.levels fits in
-    absurd (omega (arith, r.pending, c.in_err-reserve-2.ensures.full)))
+pub returns-in_err-reserve-2-clause-full : goal.returns-in_err-reserve-2-clause-full
+returns-in_err-reserve-2-clause-full c =
+    rw (← c.self.view_is) (number-full (the_view c.self.inside) c.args.shape c.args.start c.args.content c.requires.number c.self.invariant.levels _ (λ r.
+    omega (arith, r.pending, c.in_err-reserve-2.ensures.full)))
 
 pub invariant_of-self-2 : goal.invariant_of-self-2
 invariant_of-self-2 c =
@@ -45,13 +42,4 @@ returns-clause-ok c =
     let s = (the_view c.self.inside).slots in
     let t : Slots = record { nodes = c.push_reserved-2.new.self.items; families = s.families; links = s.links; pending = c.push_reserved.new.self.items; texts = s.texts; bytes = s.bytes } in
     let e : t ≡ with_leaf c.args.shape c.args.start c.args.content s = search rules in
-    rw (← c.self.view_is) (rw e (number-levels (the_view c.self.inside) c.args.shape c.args.start c.args.content c.requires.number c.self.invariant.levels _))
-
-pub returns-in_err-reserve-clause-depth : goal.returns-in_err-reserve-clause-depth
-returns-in_err-reserve-clause-depth c = rw (← c.self.view_is) (depth-same _ _ refl)
-
-pub returns-in_err-reserve-2-clause-depth : goal.returns-in_err-reserve-2-clause-depth
-returns-in_err-reserve-2-clause-depth c = rw (← c.self.view_is) (depth-same _ _ refl)
-
-pub returns-clause-depth : goal.returns-clause-depth
-returns-clause-depth c = rw (← c.self.view_is) (depth-same _ _ refl)
+    λ names. rw (← c.self.view_is) (rw e (number-levels (the_view c.self.inside) c.args.shape c.args.start c.args.content c.requires.number c.self.invariant.levels names _))

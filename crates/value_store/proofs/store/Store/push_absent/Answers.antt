@@ -1,14 +1,12 @@
-use Rattle.std.proofs.Common.{refl, rules, ◌≡◌, ◌++◌, ◌∷◌, [], None, arith}
+use Rattle.std.proofs.Common.{rules, ◌≡◌, ◌++◌, ◌∷◌, [], None, arith}
 use Rattle.value_store.specs.contracts.store.Store.{the_view}
-use Rattle.value_store.proofs.Held.{absent-frames, absent-levels, absent-room}
-use Rattle.value_store.proofs.Held.{depth-same}
+use Rattle.value_store.proofs.Held.{absent-frames, absent-levels, absent-full}
 use Rattle.value_store.proofs.store.Store.push_absent.Goals as goal
 
-pub returns-in_err-reserve-clause-succeeds : goal.returns-in_err-reserve-clause-succeeds
-returns-in_err-reserve-clause-succeeds c =
-    rw (← c.self.view_is) (λ fits.
-    let r = absent-room (the_view c.self.inside) c.self.invariant.levels fits in
-    absurd (omega (arith, r.pending, c.in_err-reserve.ensures.full)))
+pub returns-in_err-reserve-clause-full : goal.returns-in_err-reserve-clause-full
+returns-in_err-reserve-clause-full c =
+    rw (← c.self.view_is) (absent-full _ (the_view c.self.inside) c.self.invariant.levels (λ r.
+    omega (arith, r.pending, c.in_err-reserve.ensures.full)))
 
 pub invariant_of-self-2 : goal.invariant_of-self-2
 invariant_of-self-2 c =
@@ -34,10 +32,4 @@ invariant_of-self-2 c =
 pub returns-clause-ok : goal.returns-clause-ok
 returns-clause-ok c =
     let e : c.push_reserved.new.self.items ≡ (the_view c.self.inside).slots.pending ++ None ∷ [] = search rules in
-    rw (← c.self.view_is) (rw e (absent-levels (the_view c.self.inside) _ c.self.invariant.levels))
-
-pub returns-in_err-reserve-clause-depth : goal.returns-in_err-reserve-clause-depth
-returns-in_err-reserve-clause-depth c = rw (← c.self.view_is) (depth-same _ _ refl)
-
-pub returns-clause-depth : goal.returns-clause-depth
-returns-clause-depth c = rw (← c.self.view_is) (depth-same _ _ refl)
+    λ names. rw (← c.self.view_is) (rw e (absent-levels names (the_view c.self.inside) _ c.self.invariant.levels))

@@ -16,7 +16,7 @@ append_bytes-requires c =
     let small : c.args.digits < 2 ^ element_width c.args.shape = subst (λ m. c.args.digits < 2 ^ m) c.requires.width c.requires.below in
     let stale : HasNoNode c.args.self.now → ⊥ = search rules in
     let t = c.requires.takes in
-    subst (λ bs. GoesOn c.args.self.now c.args.shape bs) (sym own) (stale-row c.args.self.now c.args.shape c.args.digits t.numbers c.args.start t.outer t.packing c.requires.packed small t.short stale)
+    subst (λ bs. GoesOn c.args.self.now c.args.shape bs) (sym own) (stale-row t.names c.args.self.now c.args.shape c.args.digits t.numbers c.args.start t.outer t.packing c.requires.packed small t.short stale)
 
 pub returns-then-first-clause-ok : goal.returns-then-first-clause-ok
 returns-then-first-clause-ok c =

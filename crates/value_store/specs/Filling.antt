@@ -1,0 +1,56 @@
+-- What calls do to a text or an array of packed numbers that is under way.
+use Rattle.std.specs.Prelude.{◌≡◌, ℕ, ◌+◌, ◌*◌, ◌<◌, ◌^◌, List, [], ◌∷◌, ◌++◌, Some, length}
+use Rattle.value_store.specs.declared.store.slots.Shape.{Shape}
+use Rattle.pickle_meaning.specs.Values.{Levels, pushed, text_value, text_level}
+use Rattle.value_store.specs.Names.{Names}
+use Rattle.value_store.specs.Exceeding.{Exceeds}
+use Rattle.value_store.specs.Slots.{Held, levels, IsShort, row_value, element_width, IsWriting, IsPacking}
+
+-- the levels around a text that is closed
+abbrev pub closed_text : List ℕ → (start : ℕ) → Levels → Levels
+closed_text bytes start outer = pushed outer (Some (text_value bytes start (start + 8 * (length bytes + 1))))
+
+-- the text goes on with a byte more
+abbrev pub Writes : (before after : Held) → (byte start : ℕ) → Type 0
+Writes before after byte start = (names : Names) (bytes : List ℕ) (outer : Levels) →
+    IsWriting names before bytes start outer → IsShort (length bytes + 1) → IsWriting names after (bytes ++ byte ∷ []) start outer
+
+-- its level has that byte
+abbrev pub ShowsByte : (before after : Held) → (byte start : ℕ) → Type 0
+ShowsByte before after byte start = (names : Names) (bytes : List ℕ) (outer : Levels) →
+    IsWriting names before bytes start outer → IsShort (length bytes + 1) → levels names after ≡ text_level (bytes ++ byte ∷ []) start outer
+
+-- there is no room for it
+abbrev pub ExceedsByByte : Held → (byte start : ℕ) → Type 0
+ExceedsByByte before byte start = (names : Names) (bytes : List ℕ) (outer : Levels) →
+    IsWriting names before bytes start outer → Exceeds before.room (text_level (bytes ++ byte ∷ []) start outer)
+
+-- the text is alone in its level
+abbrev pub Settles : (before after : Held) → (start : ℕ) → Type 0
+Settles before after start = (names : Names) (bytes : List ℕ) (outer : Levels) →
+    IsWriting names before bytes start outer → levels names after ≡ text_level bytes start outer
+
+-- the text is one more member of the value around it
+abbrev pub ClosesText : (before after : Held) → (start : ℕ) → Type 0
+ClosesText before after start = (names : Names) (bytes : List ℕ) (outer : Levels) →
+    IsWriting names before bytes start outer → levels names after ≡ closed_text bytes start outer
+
+-- there is no room for that
+abbrev pub ExceedsClosed : Held → (start : ℕ) → Type 0
+ExceedsClosed before start = (names : Names) (bytes : List ℕ) (outer : Levels) →
+    IsWriting names before bytes start outer → Exceeds before.room (closed_text bytes start outer)
+
+-- the array goes on with a number more
+abbrev pub Packs : (before after : Held) → Shape → (digits start : ℕ) → Type 0
+Packs before after shape digits start = (names : Names) (numbers : List ℕ) (outer : Levels) → IsPacking names before shape numbers start outer →
+    start + element_width shape * (length numbers + 1) < 2 ^ 64 → IsPacking names after shape (numbers ++ digits ∷ []) start outer
+
+-- the array is alone in its level
+abbrev pub SettlesRow : (before after : Held) → Shape → (start : ℕ) → Type 0
+SettlesRow before after shape start = (names : Names) (numbers : List ℕ) (outer : Levels) →
+    IsPacking names before shape numbers start outer → levels names after ≡ (Some (row_value shape numbers start) ∷ []) ∷ outer
+
+-- the array is one more member of the value around it
+abbrev pub ClosesRow : (before after : Held) → Shape → (start : ℕ) → Type 0
+ClosesRow before after shape start = (names : Names) (numbers : List ℕ) (outer : Levels) →
+    IsPacking names before shape numbers start outer → levels names after ≡ pushed outer (Some (row_value shape numbers start))
