@@ -1,26 +1,33 @@
 -- Ways that go on by a step.
-use Rattle.std.proofs.Common.{◌≡◌, ℕ, List, [], ◌∷◌, ◌++◌, Some, sym, ap, ◌∙◌, subst}
-use Rattle.std.proofs.lemmas.List.{append-nil, append_assoc}
+use Rattle.std.proofs.Common.{◌≡◌, ℕ, ◌+◌, ◌<◌, List, [], ◌∷◌, ◌++◌, Some, length, get_or, take, sym, ap, ◌∙◌, subst}
+use Rattle.std.proofs.lemmas.List.{append-nil, append_assoc, map_more}
 use Rattle.pickle_types.specs.declared.table.Node.{Node}
 use Rattle.pickle_types.specs.Types.{PokeType}
 use Rattle.pickle_types.specs.Table.{type_of}
 use Rattle.mapping_reasons.specs.declared.way.Portion.{Portion}
 use Rattle.mapping_reasons.specs.declared.way.Step.{Step}
+use Rattle.mapping_reasons.specs.Found.{places_of}
 use Rattle.mapping_reasons.specs.Ways.{TypePart, LeadsTo, here, further, part_at, step_text}
 use Rattle.mapping_reasons.specs.Portions.{IsPortion, joint_text, typed}
 
+-- the places of one more step
+pub places_more : (steps : List Step) (i : ℕ) (d : Step) → i < length steps → places_of (take (i + 1) steps) ≡ places_of (take i steps) ++ (get_or steps i d).place ∷ []
+places_more steps i d within = map_more (λ step. step.place) steps i d within
+
 -- one more step leads to the part at a place of the part that was reached
-leads_on : {type reached : PokeType} {steps : List ℕ} (part : TypePart) (place : ℕ) → LeadsTo type steps reached → part_at reached place ≡ Some part
-    → LeadsTo type (steps ++ step_text reached part.name place) part.type
+leads_on : {type reached : PokeType} {places steps : List ℕ} (part : TypePart) (place : ℕ) → LeadsTo type places steps reached → part_at reached place ≡ Some part
+    → LeadsTo type (places ++ place ∷ []) (steps ++ step_text reached part.name place) part.type
 leads_on {type} {reached} part place here e =
-    subst (λ steps. LeadsTo type steps part.type) (append-nil (step_text type part.name place)) (further place e here)
-leads_on {type} {reached} part place (further {part = first} {steps = steps} k there rest) e =
-    subst (λ s. LeadsTo type s part.type) (sym (append_assoc (step_text type first.name k) steps (step_text reached part.name place))) (further k there (leads_on part place rest e))
+    subst (λ steps. LeadsTo type (place ∷ []) steps part.type) (append-nil (step_text type part.name place)) (further place e here)
+leads_on {type} {reached} part place (further {part = first} {places = places} {steps = steps} k there rest) e =
+    subst (λ s. LeadsTo type (k ∷ (places ++ place ∷ [])) s part.type) (sym (append_assoc (step_text type first.name k) steps (step_text reached part.name place)))
+    (further k there (leads_on part place rest e))
 
 -- so does a step that is said behind the others
-pub steps_on : (nodes : List Node) (root node : ℕ) (text said : List ℕ) (to : Step) (part : Portion) → LeadsTo (type_of nodes root) text (type_of nodes node) → to.node ≡ node
-    → IsPortion nodes to part → said ≡ text ++ joint_text part.joint to.place → LeadsTo (type_of nodes root) said (type_of nodes part.node)
-steps_on nodes root node text said to part leads same h is =
-    let reached = subst (λ n. LeadsTo (type_of nodes root) text (type_of nodes n)) (sym same) leads in
+pub steps_on : (nodes : List Node) (root node : ℕ) (places text said : List ℕ) (to : Step) (part : Portion) → LeadsTo (type_of nodes root) places text (type_of nodes node)
+    → to.node ≡ node → IsPortion nodes to part → said ≡ text ++ joint_text part.joint to.place
+    → LeadsTo (type_of nodes root) (places ++ to.place ∷ []) said (type_of nodes part.node)
+steps_on nodes root node places text said to part leads same h is =
+    let reached = subst (λ n. LeadsTo (type_of nodes root) places text (type_of nodes n)) (sym same) leads in
     let on = leads_on (typed (type_of nodes) part) to.place reached h.part in
-    subst (λ s. LeadsTo (type_of nodes root) s (type_of nodes part.node)) (ap (λ s. text ++ s) h.step ∙ sym is) on
+    subst (λ s. LeadsTo (type_of nodes root) (places ++ to.place ∷ []) s (type_of nodes part.node)) (ap (λ s. text ++ s) h.step ∙ sym is) on

@@ -1,6 +1,6 @@
 -- How a mapping ended, as what its type has.
-use Rattle.std.proofs.Common.{◌≡◌, ℕ, List, Some, Result, Ok, Err, subst}
-use Rattle.std.specs.Prelude.{IfErr, OnOk}
+use Rattle.std.proofs.Common.{◌≡◌, ℕ, List, Some, Result, Ok, Err, sym, subst}
+use Rattle.std.specs.Prelude.{IfErr, IfSome, OnOk}
 use Rattle.bit_space.specs.Bits.{bits_of}
 use Rattle.bit_space.specs.SpaceView.{SpaceView}
 use Rattle.pickle_types.specs.declared.table.Node.{Node}
@@ -10,7 +10,10 @@ use Rattle.value_store.specs.Slots.{Held}
 use Rattle.pickle_meaning.specs.declared.faults.MapFault.{MapFault}
 use Rattle.pickle_map.specs.Mapped.{Gives, FaultMeans}
 use Rattle.command_words.specs.declared.ask.Ask.{Ask}
+use Rattle.mapping_reasons.specs.declared.again.Again.{Again}
 use Rattle.mapping_reasons.specs.Meant.{HasFault, HasValue}
+use Rattle.mapping_reasons.specs.Found.{HasThere, KeepsPart}
+use Rattle.mapping_reasons.specs.Why.{Run, TellsWhy}
 
 module _ {A : Type 0} (space : SpaceView) (type : PokeType) (ask : Ask) (limit steps made : ℕ) (same : limit ≡ ask.limit) where
   pub fault_meant : (r : Result A MapFault)
@@ -27,3 +30,15 @@ module _ {A : Type 0} (space : SpaceView) (type : PokeType) (ask : Ask) (limit s
       λ bytes known. let g = h bytes known in
       (g.value, record { steps = steps; made = made; means = subst (λ l. Answer (bits_of bytes) type ask.order ask.start l (Ok g.value) steps made) same g.holds })
   value_meant nodes store (Err f) h = tt
+
+-- what is told of a fault, where the mapping ended with it, by a type that is the one that was mapped
+pub told_again : (run : Run) (type found : PokeType) (again : Again) (fault : MapFault) (text : List ℕ) → found ≡ type → again.end ≡ Err fault
+    → IfErr again.end (HasFault run.space type run.ask) → KeepsPart run.space type run.ask again
+    → (HasFault run.space found run.ask fault → IfSome again.kept.fault (HasThere run.space found run.ask fault) → TellsWhy run found text) → TellsWhy run type text
+told_again run type found again fault text same ended has part tells =
+    let had = subst (λ (end : Result (Unit {0}) MapFault). IfErr end (HasFault run.space type run.ask)) ended has in
+    let there = subst (λ (end : Result (Unit {0}) MapFault). IfErr end (λ f. IfSome again.kept.fault (HasThere run.space type run.ask f))) ended part in
+    let back = sym same in
+    let has_found = subst (λ (t : PokeType). HasFault run.space t run.ask fault) back had in
+    let there_found = subst (λ (t : PokeType). IfSome again.kept.fault (HasThere run.space t run.ask fault)) back there in
+    subst (λ (t : PokeType). TellsWhy run t text) same (tells has_found there_found)

@@ -1,19 +1,19 @@
 -- The parts that the nodes of a table have.
-use Rattle.std.proofs.Common.{◌≡◌, ℕ, zero, suc, ◌<◌, List, [], ◌∷◌, Option, Some, None, length, option_map, get_or, refl, sym, ap, ◌∙◌, arith}
+use Rattle.std.proofs.Common.{◌≡◌, ℕ, zero, suc, ◌<◌, List, [], ◌∷◌, Option, Some, None, length, option_map, get_or, sym, ap, ◌∙◌, arith}
 use Rattle.std.specs.Prelude.{slice_get, IfSome}
 use Rattle.std.proofs.lemmas.Option.{slice_get-get_or, slice_get_within, get_or_from_slice_get}
 use Rattle.pickle_types.specs.declared.table.Field.{Field}
 use Rattle.pickle_types.specs.declared.table.Part.{Part}
 use Rattle.pickle_types.specs.declared.table.Node.{Node}
 use Rattle.pickle_types.specs.Types.{PokeType}
-use Rattle.pickle_types.specs.Table.{name_of, open_fields, open_parts, open_shape, type_of, FieldsBelow, PartsBelow, IsTable}
+use Rattle.pickle_types.specs.Table.{name_of, open_fields, open_parts, type_of, FieldsBelow, PartsBelow, IsTable}
 use Rattle.pickle_types.proofs.Tables.{opens}
 use Rattle.value_text.specs.PathText.{field_step}
 use Rattle.mapping_reasons.specs.declared.way.Joint.{Joint}
 use Rattle.mapping_reasons.specs.declared.way.Portion.{Portion}
 use Rattle.mapping_reasons.specs.declared.way.Step.{Step}
 use Rattle.mapping_reasons.specs.Ways.{TypePart, field_at, alternative_at, part_at, step_text}
-use Rattle.mapping_reasons.specs.Portions.{joint_name, joint_text, typed, IsShapePortion, IsFieldPortion, IsPartPortion, IsPortion}
+use Rattle.mapping_reasons.specs.Portions.{joint_name, joint_text, IsShapePortion, IsFieldPortion, IsPartPortion, IsPortion}
 
 module _ (at : ℕ → PokeType) where
   abbrev typed_field : Field → TypePart

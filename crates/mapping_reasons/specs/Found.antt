@@ -1,21 +1,44 @@
 -- What is found along ways from a type to its parts, in the table that has these types.
-use Rattle.std.specs.Prelude.{ℕ, List}
+use Rattle.std.specs.Prelude.{ℕ, List, map, IfErr, IfSome}
+use Rattle.bit_space.specs.SpaceView.{SpaceView}
 use Rattle.pickle_types.specs.declared.table.Node.{Node}
 use Rattle.pickle_types.specs.Types.{PokeType}
 use Rattle.pickle_types.specs.Table.{type_of}
+use Rattle.pickle_meaning.specs.declared.faults.MapFault.{MapFault}
+use Rattle.command_words.specs.declared.ask.Ask.{Ask}
+use Rattle.mapping_reasons.specs.declared.again.Again.{Again}
+use Rattle.mapping_reasons.specs.declared.cause.Fault.{Fault}
 use Rattle.mapping_reasons.specs.declared.scene.Scene.{Scene}
 use Rattle.mapping_reasons.specs.declared.way.Found.{Found}
+use Rattle.mapping_reasons.specs.declared.way.Step.{Step}
 use Rattle.mapping_reasons.specs.declared.way.Walked.{Walked}
+use Rattle.mapping_reasons.specs.declared.way.Way.{Way}
+use Rattle.mapping_reasons.specs.Meant.{IsFaultAt}
 use Rattle.mapping_reasons.specs.Ways.{LeadsTo, IsWayTo}
 
 -- the type that was mapped
 abbrev pub scene_type : Scene → PokeType
 scene_type scene = type_of scene.nodes.now scene.root
 
--- what was found is a part of the type at a place of the table, with the path to it
-abbrev pub IsPartOf : List Node → (root : ℕ) → Found → Type 0
-IsPartOf nodes root part = IsWayTo (type_of nodes root) part.path.items (type_of nodes part.node)
+-- the places of steps, and those of a way's
+abbrev pub places_of : List Step → List ℕ
+places_of steps = map (λ step. step.place) steps
 
--- what was walked to is a part of the type at a place of the table, with the steps to it
-abbrev pub IsReachedFrom : List Node → (root : ℕ) → Walked → Type 0
-IsReachedFrom nodes root part = LeadsTo (type_of nodes root) part.text.bytes.items (type_of nodes part.node)
+abbrev pub way_places : Way → List ℕ
+way_places way = places_of way.steps.items
+
+-- what was found at the end of a way is a part of the type at a place of the table, with the path to it
+abbrev pub IsPartOf : List Node → (root : ℕ) → Way → Found → Type 0
+IsPartOf nodes root way part = IsWayTo (type_of nodes root) (way_places way) part.path.items (type_of nodes part.node)
+
+-- what was walked to by places is a part of the type at a place of the table, with the steps to it
+abbrev pub IsReachedBy : List Node → (root : ℕ) → (places : List ℕ) → Walked → Type 0
+IsReachedBy nodes root places part = LeadsTo (type_of nodes root) places part.text.bytes.items (type_of nodes part.node)
+
+-- a part that is kept is the one that has a fault of the type
+abbrev pub HasThere : SpaceView → PokeType → Ask → MapFault → Fault → Type 0
+HasThere space type ask fault part = IsFaultAt space type ask fault (way_places part.way)
+
+-- what is kept of a mapping that ended with a fault: the part that has it, if any
+abbrev pub KeepsPart : SpaceView → PokeType → Ask → Again → Type 0
+KeepsPart space type ask again = IfErr again.end (λ fault. IfSome again.kept.fault (HasThere space type ask fault))

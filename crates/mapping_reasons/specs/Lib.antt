@@ -1,5 +1,5 @@
 pub mod Ways
 pub mod Portions
-pub mod Found
 pub mod Meant
+pub mod Found
 pub mod Why

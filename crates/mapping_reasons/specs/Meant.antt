@@ -4,8 +4,10 @@ use Rattle.bit_space.specs.Bits.{bits_of}
 use Rattle.bit_space.specs.SpaceView.{SpaceView}
 use Rattle.pickle_types.specs.Types.{PokeType}
 use Rattle.pickle_meaning.specs.declared.faults.MapFault.{MapFault}
-use Rattle.pickle_map.specs.Mapped.{FaultMeans}
-use Rattle.pickle_meaning.specs.Values.{Value}
+use Rattle.pickle_map.specs.Mapped.{FaultMeans, EndsRun}
+use Rattle.pickle_meaning.specs.Values.{Value, no_values}
+use Rattle.fault_parts.specs.Arises.{Arises}
+use Rattle.fault_check.specs.Ways.{OnBits, fault_of}
 use Rattle.command_words.specs.declared.ask.Ask.{Ask}
 use Rattle.poke_batch.specs.Runs.{HasAnswer}
 
@@ -19,6 +21,12 @@ pub record MeansFault (bytes : List ℕ) (type : PokeType) (ask : Ask) (fault : 
 -- the same of a space, where its bytes are known
 abbrev pub HasFault : SpaceView → PokeType → Ask → MapFault → Type 0
 HasFault space type ask fault = (bytes : List ℕ) → space.bytes ≡ Some bytes → MeansFault bytes type ask fault
+
+-- A fault of a type is that of the part to which these places lead: where the bytes of the space are known, it arises there. What ends a run,
+-- as Limit, arises in no part, and is told of the one at which the run was.
+pub data IsFaultAt (space : SpaceView) (type : PokeType) (ask : Ask) (fault : MapFault) (places : List ℕ) : Type 0 where
+  arises_there : OnBits space (λ bits. Arises bits type ask.order no_values ask.start (fault_of fault) places) → IsFaultAt space type ask fault places
+  ended_there : EndsRun fault.kind → IsFaultAt space type ask fault places
 
 -- a value that a type means on the bytes of a space, where these are known
 abbrev pub HasValue : SpaceView → PokeType → Ask → Type 0

@@ -41,14 +41,14 @@ step_text (StructOf _ _ _) name place = field_step name place
 step_text (IntegralOf _ _ _) name place = field_step name place
 step_text (UnionOf _ _) name place = field_step name place
 
--- these steps lead from a type to a part of it
-pub data LeadsTo : PokeType → (steps : List ℕ) → PokeType → Type 0 where
-  here : {type : PokeType} → LeadsTo type [] type
-  further : {type found : PokeType} {part : TypePart} {steps : List ℕ} (place : ℕ) → part_at type place ≡ Some part → LeadsTo part.type steps found
-      → LeadsTo type (step_text type part.name place ++ steps) found
+-- these places, one for each step, lead from a type to a part of it; and the text of the steps
+pub data LeadsTo : PokeType → (places : List ℕ) → (steps : List ℕ) → PokeType → Type 0 where
+  here : {type : PokeType} → LeadsTo type [] [] type
+  further : {type found : PokeType} {part : TypePart} {places steps : List ℕ} (place : ℕ) → part_at type place ≡ Some part → LeadsTo part.type places steps found
+      → LeadsTo type (place ∷ places) (step_text type part.name place ++ steps) found
 
--- a path leads from a type to a part of it
-pub record IsWayTo (type : PokeType) (path : List ℕ) (part : PokeType) : Type 0 where
+-- places lead from a type to a part of it, by this path
+pub record IsWayTo (type : PokeType) (places path : List ℕ) (part : PokeType) : Type 0 where
   pub steps : List ℕ
-  pub leads : LeadsTo type steps part
+  pub leads : LeadsTo type places steps part
   pub is : path ≡ path_text steps

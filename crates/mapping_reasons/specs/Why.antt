@@ -1,5 +1,5 @@
 -- What is told of why a mapping stops.
-use Rattle.std.specs.Prelude.{◌≡◌, ℕ, List, [], ◌++◌, Option, Some, Result, Vec, IfOk, codes}
+use Rattle.std.specs.Prelude.{◌≡◌, ℕ, List, [], ◌++◌, Option, Some, Result, Vec, IfOk, IfSome, codes}
 use Rattle.std.specs.declared.alloc.Global.{Global}
 use Rattle.bit_space.specs.SpaceView.{SpaceView}
 use Rattle.pickle_types.specs.Types.{PokeType}
@@ -7,24 +7,27 @@ use Rattle.pickle_meaning.specs.declared.faults.MapFault.{MapFault}
 use Rattle.command_words.specs.declared.ask.Ask.{Ask}
 use Rattle.command_words.specs.declared.path.Path.{Path}
 use Rattle.command_words.specs.declared.terms.Terms.{Terms}
-use Rattle.run_parts.specs.declared.status.Status.TheVariants.{Fault}
+use Rattle.run_parts.specs.declared.status.Status.TheVariants.{Fault as Faulty}
 use Rattle.run_parts.specs.Lines.{fault_line}
 use Rattle.poke_batch.specs.Runs.{IsAsked}
 use Rattle.poke_batch.specs.RunsUnder.{end_saying}
 use Rattle.run_parts.specs.Told.{Line}
-use Rattle.mapping_reasons.specs.Meant.{HasFault, HasValue}
+use Rattle.pickle_script.specs.declared.text.Text.{Text}
+use Rattle.mapping_reasons.specs.declared.cause.Fault.{Fault}
+use Rattle.mapping_reasons.specs.Found.{HasThere}
+use Rattle.mapping_reasons.specs.Meant.{HasFault, HasValue, IsFaultAt}
 use Rattle.mapping_reasons.specs.Ways.{IsWayTo}
 
--- lines on a part of a type, which begin with its path; or none
-pub data TellsPart (type : PokeType) : List ℕ → Type 0 where
-  no_part : TellsPart type []
-  tells_part : {path text : List ℕ} {part : PokeType} (rest : List ℕ) → IsWayTo type path part
-      → text ≡ codes "  in " ++ (path ++ (codes ", " ++ rest)) → TellsPart type text
+-- lines on the part of a type to which places lead, which begin with its path; or none
+pub data TellsPart (type : PokeType) (places : List ℕ) : List ℕ → Type 0 where
+  no_part : TellsPart type places []
+  tells_part : {path text : List ℕ} {part : PokeType} (rest : List ℕ) → IsWayTo type places path part
+      → text ≡ codes "  in " ++ (path ++ (codes ", " ++ rest)) → TellsPart type places text
 
 -- a line on an array, which begins with its path; or none
 pub data TellsArray (type : PokeType) : List ℕ → Type 0 where
   no_array : TellsArray type []
-  tells_array : {path text : List ℕ} {part : PokeType} (rest : List ℕ) → IsWayTo type path part
+  tells_array : {places path text : List ℕ} {part : PokeType} (rest : List ℕ) → IsWayTo type places path part
       → text ≡ codes "  " ++ (path ++ (codes " ended after " ++ rest)) → TellsArray type text
 
 -- lines on arrays that ended early, and how many more did
@@ -50,19 +53,30 @@ pub record Run : Type 0 where
 abbrev pub run_of : SpaceView → Ask → Terms → (line : List ℕ) → Run
 run_of space ask terms line = record { space = space; ask = ask; terms = terms; line = line }
 
+-- lines on the part that has a fault of the run's type; or none
+pub data TellsFault (run : Run) (type : PokeType) (fault : MapFault) : List ℕ → Type 0 where
+  no_fault_part : TellsFault run type fault []
+  tells_fault : {places text : List ℕ} → IsFaultAt run.space type run.ask fault places → TellsPart type places text → TellsFault run type fault text
+
 -- What is told of a run that ended with a line, or with none: of a fault the part and the arrays, of a value the arrays. The line
 -- is the one that tells the fault which the type has on the file's bits.
 pub data TellsWhy (run : Run) (type : PokeType) : List ℕ → Type 0 where
   nothing : TellsWhy run type []
   of_fault : {fault : MapFault} {part arrays : List ℕ} → HasFault run.space type run.ask fault
-      → end_saying run.terms.most_slots run.ask.start fault.kind fault.at ≡ Line Fault run.line
-      → TellsPart type part → TellsArrays type arrays → TellsWhy run type (part ++ arrays)
+      → end_saying run.terms.most_slots run.ask.start fault.kind fault.at ≡ Line Faulty run.line
+      → TellsFault run type fault part → TellsArrays type arrays → TellsWhy run type (part ++ arrays)
   of_value : {missing arrays : List ℕ} → HasValue run.space type run.ask
       → TellsMissing run.terms.part run.line missing → TellsArrays type arrays → TellsWhy run type (missing ++ arrays)
 
--- what was made is told of the run, where its type has this fault on the file's bytes
-abbrev pub TellsOfFault : {E : Type 0} → Run → PokeType → MapFault → Result (Vec ℕ Global) E → Type 0
-TellsOfFault run type fault made = HasFault run.space type run.ask fault → IfOk made (λ text. TellsWhy run type text.items)
+-- what was made is told of a run's fault, where the part that is kept has it
+abbrev pub TellsOfPart : {E : Type 0} → PokeType → Option Fault → Result Text E → Type 0
+TellsOfPart type kept made =
+    (run : Run) (fault : MapFault) → IfSome kept (HasThere run.space type run.ask fault) → IfOk made (λ text. TellsFault run type fault text.bytes.items)
+
+-- what was made is told of the run, where its type has this fault on the file's bytes, and the part that is kept has it
+abbrev pub TellsOfFault : {E : Type 0} → Run → PokeType → MapFault → Option Fault → Result (Vec ℕ Global) E → Type 0
+TellsOfFault run type fault kept made =
+    HasFault run.space type run.ask fault → IfSome kept (HasThere run.space type run.ask fault) → IfOk made (λ text. TellsWhy run type text.items)
 
 -- the same, where its type has a value there
 abbrev pub TellsOfValue : {E : Type 0} → Run → PokeType → Result (Vec ℕ Global) E → Type 0

@@ -3,9 +3,11 @@
 ghost use Rattle.std.specs.Prelude.{ℕ, List, ◌≡◌, Some, IfOk, IfErr, OnOk};
 ghost use Rattle.bit_space.specs.SpaceView.{Keeps};
 ghost use Rattle.pickle_types.specs.TypeTable.{IsInTable, type_named};
+ghost use Rattle.mapping_reasons.specs.Found.{KeepsPart};
 ghost use Rattle.mapping_reasons.specs.Meant.{HasFault, HasValue};
 
 use crate::cause::{Ended, Fault};
+use crate::part::part_with;
 use crate::watcher::Told;
 use bit_space::{Meter, Space};
 use pickle_map::mapper::map_watched;
@@ -17,7 +19,7 @@ use std::alloc::{AllocError, Global};
 /// What was kept of a mapping that is over.
 #[derive(Drop)]
 pub struct Kept {
-    /// The fault of a part that ended it.
+    /// The part that has the fault which ended it, where it is known.
     pub fault: Option<Fault>,
     /// The last arrays that ended early.
     pub ended: Vec<Ended>,
@@ -43,6 +45,7 @@ pub fn map_again<S: Space>(
 ) -> Result<Again, AllocError>
     requires known { IsInTable table.now id }
     ensures fault { IfOk result (λ again. IfErr again.end (HasFault (S.view space.old) (type_named table.now id) ask.now)) }
+    ensures part { IfOk result (KeepsPart (S.view space.old) (type_named table.now id) ask.now) }
     ensures value { IfOk result (λ again. OnOk again.end (HasValue (S.view space.old) (type_named table.now id) ask.now)) }
     ensures keeps { Keeps (S.view space.old) (S.view space.new) }
 {
@@ -52,8 +55,21 @@ pub fn map_again<S: Space>(
     let end = map_watched(
         table, id, ask.order, ask.start, space, &mut meter, store, &mut told,
     );
+    let Kept {
+        fault,
+        ended,
+        ended_count,
+    } = told.into_kept()?;
+    let fault = match &end {
+        Ok(()) => None,
+        Err(ended) => part_with(alloc, table, id, ask, *ended, fault, space, store)?,
+    };
     Ok(Again {
         end,
-        kept: told.into_kept()?,
+        kept: Kept {
+            fault,
+            ended,
+            ended_count,
+        },
     })
 }

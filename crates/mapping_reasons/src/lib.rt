@@ -10,7 +10,7 @@ ghost use Rattle.poke_batch.specs.RunsUnder.{end_saying};
 ghost use Rattle.run_parts.specs.Told.{Line};
 ghost use Rattle.run_parts.specs.declared.status.Status.TheVariants.{Fault as Faulty};
 ghost use Rattle.mapping_reasons.specs.Found.{scene_type};
-ghost use Rattle.mapping_reasons.specs.Why.{run_of, ExplainsRun, TellsOfFault, TellsOfValue, TellsPart, TellsWhy};
+ghost use Rattle.mapping_reasons.specs.Why.{run_of, ExplainsRun, TellsOfFault, TellsOfPart, TellsOfValue, TellsWhy};
 
 mod again;
 mod blame;
@@ -19,6 +19,7 @@ mod flat;
 mod lines;
 mod missing;
 mod names;
+mod part;
 mod scene;
 mod seen;
 mod trail;
@@ -31,7 +32,6 @@ use crate::lines::{arrays_text, fault_text};
 use crate::missing::missing_text;
 use crate::scene::Scene;
 use bit_space::Space;
-use pickle_map::mapper::told;
 use pickle_map::{MapFault, ValueRef};
 use pickle_script::script::Script;
 use pickle_script::text::Text;
@@ -157,10 +157,10 @@ fn fault_reasons(
 ) -> Result<Vec<u8>, AllocError>
     requires table { IsTable scene.now.nodes.now }
     requires root { scene.now.root < length scene.now.nodes.now }
-    ensures why { (space : SpaceView) → TellsOfFault (run_of space ask.now terms.now line.now) (scene_type scene.now) fault result }
+    ensures why { (space : SpaceView) → TellsOfFault (run_of space ask.now terms.now line.now) (scene_type scene.now) fault kept.now.fault result }
 {
     if is_told(scene.alloc, ask, terms, fault, line) {
-        let part = part_text(scene, ask, fault, kept)?;
+        let part = part_text(scene, &kept.fault)?;
         let text = joined(part, arrays_text(scene, kept)?)?;
         Ok(text)
     } else {
@@ -176,22 +176,17 @@ fn is_of_value(line: &[u8]) -> bool {
         || line.starts_with(b"fault Output ")
 }
 
-/// The lines on the part at which a mapping stopped.
-fn part_text(
-    scene: &Scene<'_, '_>,
-    ask: &Ask<'_>,
-    fault: MapFault,
-    kept: &Kept,
-) -> Result<Text, AllocError>
+/// The lines on the part that has the fault of a mapping; none where it isn't known.
+fn part_text(scene: &Scene<'_, '_>, part: &Option<Fault>) -> Result<Text, AllocError>
     requires table { IsTable scene.now.nodes.now }
     requires root { scene.now.root < length scene.now.nodes.now }
-    ensures part { IfOk result (λ text. TellsPart (scene_type scene.now) text.bytes.items) }
+    ensures part { TellsOfPart (scene_type scene.now) part.now result }
 {
-    match &kept.fault {
-        Some(kept) if told(kept.stop, ask.start) == fault => fault_text(scene, kept),
-        Some(_) => Ok(Text::new(scene.alloc)),
-        None => fault_text(scene, &Fault::of_type(scene.alloc, fault)),
-    }
+    let Some(fault) = part else {
+        return Ok(Text::new(scene.alloc));
+    };
+    let text = fault_text(scene, fault)?;
+    Ok(text)
 }
 
 /// Whether a line is the one that tells a fault, with status 1.

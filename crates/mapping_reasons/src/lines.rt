@@ -2,7 +2,7 @@
 
 ghost use Rattle.std.specs.Prelude.{◌≡◌, ◌<◌, ◌++◌, length, codes, IfOk};
 ghost use Rattle.pickle_types.specs.Table.{IsTable};
-ghost use Rattle.mapping_reasons.specs.Found.{scene_type};
+ghost use Rattle.mapping_reasons.specs.Found.{scene_type, way_places};
 ghost use Rattle.mapping_reasons.specs.Why.{TellsPart, TellsArray, TellsArrays};
 
 use crate::again::Kept;
@@ -23,7 +23,7 @@ use std::alloc::{AllocError, Global};
 pub fn fault_text(scene: &Scene<'_, '_>, fault: &Fault) -> Result<Text, AllocError>
     requires table { IsTable scene.now.nodes.now }
     requires root { scene.now.root < length scene.now.nodes.now }
-    ensures part { IfOk result (λ text. TellsPart (scene_type scene.now) text.bytes.items) }
+    ensures part { IfOk result (λ text. TellsPart (scene_type scene.now) (way_places fault.now.way) text.bytes.items) }
 {
     let Some(found) = scene.find(&fault.way)? else {
         return Ok(Text::new(scene.alloc));

@@ -35,7 +35,7 @@ impl<'p, 't> Scene<'p, 't> {
     pub fn find(&self, way: &Way) -> Result<Option<Found>, AllocError>
         requires table { IsTable self.now.nodes.now }
         requires root { self.now.root < length self.now.nodes.now }
-        ensures way { IfOk result (λ found. IfSome found (IsPartOf self.now.nodes.now self.now.root)) }
+        ensures way { IfOk result (λ found. IfSome found (IsPartOf self.now.nodes.now self.now.root way.now)) }
     {
         way.find(self.alloc, self.nodes, self.root)
     }

@@ -5,7 +5,7 @@ ghost use Rattle.std.specs.Option.{option_map};
 ghost use Rattle.pickle_types.specs.Table.{IsTable, name_of};
 ghost use Rattle.value_text.specs.PathText.{field_step, path_text};
 ghost use Rattle.text_forms.specs.Brackets.{in_brackets};
-ghost use Rattle.mapping_reasons.specs.Found.{IsPartOf, IsReachedFrom};
+ghost use Rattle.mapping_reasons.specs.Found.{IsPartOf, IsReachedBy, places_of, way_places};
 ghost use Rattle.mapping_reasons.specs.Portions.{IsPortion, IsShapePortion, IsFieldPortion, IsPartPortion, joint_text, joint_name};
 
 use pickle_script::site;
@@ -74,6 +74,17 @@ impl Way {
         Ok(())
     }
 
+    /// The places of its steps.
+    pub fn places(&self, alloc: Global) -> Result<Vec<usize>, AllocError>
+        ensures { IfOk result (λ places. places.items ≡ way_places self.now) }
+    {
+        let mut places = Vec::new(alloc);
+        for step in self.steps.as_slice() {
+            places.push(step.place)?;
+        }
+        Ok(places)
+    }
+
     /// The steps by which its site is found in the pickle.
     pub fn to_site(&self, alloc: Global, nodes: &[Node]) -> Result<Vec<site::Step>, AllocError> {
         let mut steps = Vec::new(alloc);
@@ -93,7 +104,7 @@ impl Way {
     ) -> Result<Option<Found>, AllocError>
         requires table { IsTable nodes.now }
         requires root { root < length nodes.now }
-        ensures way { IfOk result (λ found. IfSome found (IsPartOf nodes.now root)) }
+        ensures way { IfOk result (λ found. IfSome found (IsPartOf nodes.now root self.now)) }
     {
         match walk(alloc, nodes, root, self.steps.as_slice())? {
             Some(walked) => Ok(Some(Found {
@@ -139,7 +150,7 @@ fn walk(
 ) -> Result<Option<Walked>, AllocError>
     requires table { IsTable nodes.now }
     requires root { root < length nodes.now }
-    ensures way { IfOk result (λ walked. IfSome walked (IsReachedFrom nodes.now root)) }
+    ensures way { IfOk result (λ walked. IfSome walked (IsReachedBy nodes.now root (places_of steps.now))) }
 {
     let mut text = Text::new(alloc);
     let mut node = root;

@@ -1,9 +1,13 @@
-use Rattle.mapping_reasons.specs.Why.{nothing, of_fault}
+use Rattle.mapping_reasons.specs.Why.{run_of, nothing, of_fault}
 use Rattle.mapping_reasons.proofs.fault_reasons.Goals as goal
 
 pub returns-in_ok-text : goal.returns-in_ok-text
-returns-in_ok-text c =
-    record { why = λ space has. rw c.in_ok-text.ensures (of_fault has (c.is_told.ensures c.if-is_told.true) c.in_ok-part.ensures.part c.in_ok-arrays_text.ensures.arrays) }
+returns-in_ok-text c = record {
+  why = λ space has there.
+      let run = run_of space c.args.ask.now c.args.terms.now c.args.line.now in
+      let part = c.in_ok-part.ensures.part run c.args.fault there in
+      rw c.in_ok-text.ensures (of_fault has (c.is_told.ensures c.if-is_told.true) part c.in_ok-arrays_text.ensures.arrays);
+}
 
 pub returns-else-is_told : goal.returns-else-is_told
-returns-else-is_told c = record { why = λ space has. rw c.new.ensures.items nothing }
+returns-else-is_told c = record { why = λ space has there. rw c.new.ensures.items nothing }

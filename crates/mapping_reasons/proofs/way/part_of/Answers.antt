@@ -1,8 +1,3 @@
-use Rattle.std.proofs.Common.{Some, None, Option}
-use Rattle.std.specs.Prelude.{IfSome}
-use Rattle.pickle_types.specs.Table.{IsTable}
-use Rattle.mapping_reasons.specs.declared.way.Portion.{Portion}
-use Rattle.mapping_reasons.specs.Portions.{IsShapePortion, IsPortion}
 use Rattle.mapping_reasons.proofs.Portions.{if_portion_at}
 use Rattle.mapping_reasons.proofs.way.part_of.Goals as goal
 

@@ -1,0 +1,21 @@
+use Rattle.std.proofs.Common.{◌≡◌, Err, rules, refl}
+use Rattle.pickle_types.specs.TypeTable.{type_named}
+use Rattle.mapping_reasons.specs.Found.{scene_type}
+use Rattle.mapping_reasons.specs.Why.{run_of}
+use Rattle.mapping_reasons.proofs.Meant.{told_again}
+use Rattle.mapping_reasons.proofs.reasons_in.Goals.{in-Ok-end+in_ok-text-in-Ok-end, in-Err+in_ok-text-in-Err}
+use Rattle.mapping_reasons.proofs.reasons_in.Goals as goal
+
+pub returns-clause-why : goal.returns-clause-why
+returns-clause-why g c =
+    let run = run_of (g.S.Space.view c.args.space.now) c.args.ask.now c.args.terms.now c.args.line.now in
+    let type = type_named c.args.table.now c.args.id in
+    let found = scene_type c.in_ok-scene.scene in
+    let same : found ≡ type = rw (c.in_ok-scene.ensures.nodes, c.in_ok-scene.ensures.root) refl in
+    elim c.match-end.branch [
+      | in-Ok-end+in_ok-text-in-Ok-end w ↦ search rules
+      | in-Err+in_ok-text-in-Err w ↦
+          let ended : c.in_ok-end.field-0.end ≡ Err w.in-Err.fault = (cc) in
+          rw w.text-is
+          (told_again run type found c.in_ok-end.field-0 w.in-Err.fault _ same ended c.in_ok-end.ensures.fault c.in_ok-end.ensures.part (w.in_ok-text-in-Err.ensures.why run.space))
+    ]

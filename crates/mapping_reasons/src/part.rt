@@ -1,0 +1,87 @@
+//! The part in which the fault of a type arises.
+
+ghost use Rattle.std.specs.Prelude.{◌≡◌, IfOk, IfSome, IsTrue};
+ghost use Rattle.bit_space.specs.SpaceView.{Keeps};
+ghost use Rattle.pickle_types.specs.TypeTable.{IsInTable, type_named};
+ghost use Rattle.pickle_map.specs.Mapped.{EndsRun};
+ghost use Rattle.value_store.specs.Slots.{emptied};
+ghost use Rattle.mapping_reasons.specs.Found.{HasThere};
+ghost use Rattle.mapping_reasons.specs.Meant.{IsFaultAt};
+
+use crate::cause::Fault;
+use bit_space::{Meter, Space};
+use fault_check::arises::arises;
+use pickle_map::mapper::told;
+use pickle_map::{MapFault, MapFaultKind, Store};
+use pickle_types::type_table::{Table, TypeId};
+use poke_batch::ask::Ask;
+use std::alloc::{AllocError, Global};
+
+/// The part that has the fault which ended a mapping: the one that was kept, or the type itself where the walk didn't go
+/// into it. None where the fault isn't found to arise there.
+pub fn part_with<S: Space>(
+    alloc: Global,
+    table: &Table,
+    id: TypeId,
+    ask: &Ask<'_>,
+    fault: MapFault,
+    kept: Option<Fault>,
+    space: &mut S,
+    store: &mut Store,
+) -> Result<Option<Fault>, AllocError>
+    requires known { IsInTable table.now id }
+    requires empty { store.old ≡ emptied store.old }
+    ensures part { let has = HasThere (S.view space.old) (type_named table.now id) ask.now fault in
+        IfOk result (λ part. IfSome part has) }
+    ensures keeps { Keeps (S.view space.old) (S.view space.new) }
+{
+    let part = match kept {
+        Some(part) => part,
+        None => Fault::of_type(alloc, fault),
+    };
+    if told(part.stop, ask.start) != fault {
+        return Ok(None);
+    }
+    let places = part.way.places(alloc)?;
+    if is_at(table, id, ask, fault, places.as_slice(), space, store) {
+        Ok(Some(part))
+    } else {
+        Ok(None)
+    }
+}
+
+/// Whether a fault is that of the part to which places lead, as far as that is found.
+fn is_at<S: Space>(
+    table: &Table,
+    id: TypeId,
+    ask: &Ask<'_>,
+    fault: MapFault,
+    places: &[usize],
+    space: &mut S,
+    store: &mut Store,
+) -> bool
+    requires known { IsInTable table.now id }
+    requires empty { store.old ≡ emptied store.old }
+    ensures at { let type = type_named table.now id in
+        IsTrue result → IsFaultAt (S.view space.old) type ask.now fault places.now }
+    ensures keeps { Keeps (S.view space.old) (S.view space.new) }
+{
+    if ends_run(fault.kind) {
+        return true;
+    }
+    // What is mapped here was mapped within the run's limit, but some of it more than once.
+    let mut meter = Meter::new(u64::MAX);
+    arises(
+        table, id, ask.order, ask.start, fault, places, space, &mut meter, store,
+    )
+}
+
+/// Whether a fault ends a run, and is none that a type means.
+fn ends_run(kind: MapFaultKind) -> bool
+    ensures { IsTrue result → EndsRun kind }
+{
+    matches!(
+        kind,
+        MapFaultKind::Limit | MapFaultKind::Device | MapFaultKind::Memory
+    )
+}
