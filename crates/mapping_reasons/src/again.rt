@@ -62,7 +62,7 @@ pub fn map_again<S: Space>(
     } = told.into_kept()?;
     let fault = match &end {
         Ok(()) => None,
-        Err(ended) => part_with(alloc, table, id, ask, *ended, fault, space, store)?,
+        Err(stopped) => part_with(alloc, table, id, ask, *stopped, fault, space, store)?,
     };
     Ok(Again {
         end,
