@@ -17,6 +17,10 @@ use pickle_types::type_table::{Table, TypeId};
 use poke_batch::ask::Ask;
 use std::alloc::{AllocError, Global};
 
+/// How many times the run's limit of steps finding a part may take. What is mapped here was mapped within the limit, but
+/// some of it more than once.
+const MOST_TIMES: u64 = 4;
+
 /// The part that has the fault which ended a mapping: the one that was kept, or the type itself where the walk didn't go
 /// into it. None where the fault isn't found to arise there.
 pub fn part_with<S: Space>(
@@ -69,8 +73,7 @@ fn is_at<S: Space>(
     if ends_run(fault.kind) {
         return true;
     }
-    // What is mapped here was mapped within the run's limit, but some of it more than once.
-    let mut meter = Meter::new(u64::MAX);
+    let mut meter = Meter::new(ask.limit.saturating_mul(MOST_TIMES));
     arises(
         table, id, ask.order, ask.start, fault, places, space, &mut meter, store,
     )
