@@ -1,6 +1,6 @@
 //! The files that a job names.
 use bit_space::{FileSpace, Memory, OpenFault, Paged};
-use poke_batch::dump::DumpFault;
+use poke_batch::DumpFault;
 use poke_batch::pickle::{PickleFault, read_pickle};
 use std::fs::File;
 use std::io::Input;

@@ -4,7 +4,7 @@ use crate::files::{FileFault, open_space};
 use crate::mappings::run_mapping;
 use crate::pickles::{bound_text, bound_type, check_pickle, tell_types};
 use crate::why::Why;
-use poke_batch::dump::dump;
+use poke_batch::dump;
 use poke_batch::status::Status;
 use poke_batch::tell::fail;
 use poke_batch::words::{Asked, Job};

@@ -14,7 +14,7 @@ use itoa::Buffer;
 use pickle_types::integer::IntegerType;
 use pickle_types::view::Name;
 use poke_batch::mode::Mode;
-use poke_batch::print::suffix::{Suffix, suffix_of};
+use value_text::print::suffix::{Suffix, suffix_of};
 
 fn digits(number: u128) -> u128
     ensures count { result ≡ length (decimal number) }
