@@ -44,12 +44,12 @@ where_packed false width = None
 
 -- the width of the packed numbers of which a value of such a label and members is kept
 abbrev pub packed_width : (packs : Bool) → Label → Members → Option ℕ
-packed_width packs (IntegerLabel number type) members = None
-packed_width packs (OffsetLabel magnitude type unit) members = None
-packed_width packs (TextLabel bytes) members = None
+packed_width packs (IntegerLabel number type) _ = None
+packed_width packs (OffsetLabel magnitude type unit) _ = None
+packed_width packs (TextLabel bytes) _ = None
 packed_width packs ArrayLabel members = where_packed packs (row_width members)
-packed_width packs (StructLabel name fields) members = None
-packed_width packs (UnionLabel name index alternative) members = None
+packed_width packs (StructLabel name fields) _ = None
+packed_width packs (UnionLabel name index alternative) _ = None
 
 -- how many families and texts a value of a label is
 abbrev pub families_taken : Label → ℕ
@@ -70,12 +70,12 @@ texts_taken (UnionLabel name index alternative) = 0
 
 -- what a value takes whose members are values of their own, these left out: a node, and a link for each member
 abbrev pub own_takes : Vector → Label → Members → ℕ
-own_takes NodesOf label members = 1
-own_takes FamiliesOf label members = families_taken label
+own_takes NodesOf label _ = 1
+own_takes FamiliesOf label _ = families_taken label
 own_takes LinksOf label members = member_count members
-own_takes PendingOf label members = 0
-own_takes TextsOf label members = texts_taken label
-own_takes BytesOf label members = text_length label
+own_takes PendingOf label _ = 0
+own_takes TextsOf label _ = texts_taken label
+own_takes BytesOf label _ = text_length label
 
 -- what an array of packed numbers takes: their bytes, as those of one text
 abbrev pub row_takes : Vector → (width count : ℕ) → ℕ
