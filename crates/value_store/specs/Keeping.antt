@@ -1,5 +1,5 @@
 -- What is kept in a store, and what it has no room for.
-use Rattle.std.specs.Prelude.{◌≡◌, ℕ, ◌<◌, ◌≤◌, Bool, true, false, Option, None}
+use Rattle.std.specs.Prelude.{◌≡◌, ℕ, ◌+◌, ◌<◌, ◌≤◌, Bool, true, false, Option, None, length}
 use Rattle.value_store.specs.declared.store.slots.Shape.{Shape}
 use Rattle.pickle_meaning.specs.Values.{Label, Value, Levels, top_of, gathered, pushed}
 use Rattle.value_store.specs.Closed.{closed, placed}
@@ -21,6 +21,10 @@ HoldsLevels h = (names : Names) → AreWithin (packs h.room) false (levels names
 -- one of its vectors has no room for these slots
 abbrev pub LacksRoom : Held → Slots → Type 0
 LacksRoom h s = (vector : Vector) × ((h.room.least ≤ of_vector vector h.capacity) × (of_vector vector h.capacity < of_vector vector (marks_of s)))
+
+-- nor has that of the bytes for so many more
+abbrev pub LacksBytes : Held → (count : ℕ) → Type 0
+LacksBytes h count = (h.room.least ≤ h.capacity.bytes) × (h.capacity.bytes < length h.slots.bytes + count)
 
 -- a value, or an absent field, is one more part of the innermost open value
 abbrev pub IsPushed : (before after : Held) → Option Value → Type 0

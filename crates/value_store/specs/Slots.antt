@@ -54,9 +54,6 @@ packs_as Free (suc least) = false
 abbrev pub packs : Room → Bool
 packs room = packs_as room.growth room.least
 
-abbrev pub IsCounted : Room → Type 0
-IsCounted room = packs room ≡ false
-
 abbrev pub empty : Room → (capacity : Marks) → Held
 empty room capacity = record { slots = no_slots; frames = []; room = room; capacity = capacity }
 

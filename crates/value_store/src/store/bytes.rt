@@ -1,6 +1,6 @@
 //! What is made of bytes: texts, and arrays of packed numbers.
-ghost use Rattle.std.specs.Prelude.{◌≡◌, Some, IsTrue, ◌↔◌, OnOk, OnErr};
-ghost use Rattle.value_store.specs.Keeping.{HoldsLevels, LacksRoom, IsPushed, CannotPush};
+ghost use Rattle.std.specs.Prelude.{◌≡◌, Some, length, IsTrue, ◌↔◌, OnOk, OnErr};
+ghost use Rattle.value_store.specs.Keeping.{HoldsLevels, LacksBytes, IsPushed, CannotPush};
 ghost use Rattle.value_store.specs.Slots.{level_count, with_bytes, with_more, bytes_value, AreBytes, AreSome, MayKeep, HasNoNode, GoesOn, KeepsRoom, Regrown};
 
 use crate::store::Store;
@@ -55,7 +55,7 @@ impl Store {
         ensures err { OnErr result (Regrown self.old self.new) }
         ensures room { KeepsRoom self.old self.new }
         ensures depth { level_count self.new ≡ level_count self.old }
-        ensures full { OnErr result (LacksRoom self.old (with_more more.now self.old.slots)) }
+        ensures full { OnErr result (LacksBytes self.old (length more.now)) }
     {
         self.room.reserve(&mut self.bytes, more.len())?;
         append(&mut self.bytes, more, self.room);
