@@ -1,11 +1,19 @@
--- What an array of packed numbers lends.
-use Rattle.std.proofs.Common.{◌≡◌, ℕ, zero, suc, ◌+◌, ◌-◌, ◌*◌, ◌/◌, ◌<◌, ◌≤◌, ◌^◌, List, [], ◌∷◌, Some, length, take, drop, pow_mono, refl, sym, ◌∙◌, ap, subst, arith, rules}
+-- What nodes and arrays of packed numbers lend.
+use Rattle.std.proofs.Common.{◌≡◌, ℕ, Bool, zero, suc, ◌+◌, ◌-◌, ◌*◌, ◌/◌, ◌<◌, ◌≤◌, ◌^◌, List, [], ◌∷◌, Option, Some, length, take, drop, pow_mono, refl, sym, ◌∙◌, ap, subst, arith, rules}
 use Rattle.std.specs.Prelude.{◌%◌, slice_range, slice_get, slice_index, slice_index_or}
 use Rattle.std.proofs.lemmas.List.{drop-drop, get_or-drop, drop_more, length-drop}
 use Rattle.std.proofs.lemmas.Nat.{pow-add, div-add-mod', mul-le}
 use Rattle.value_store.specs.declared.store.slots.Shape.{Shape}
 use Rattle.value_store.specs.Packed.{bytes_number, unpacked, numbers_in, bytes_for}
-use Rattle.value_store.specs.Slots.{elements, element_value, element_width}
+use Rattle.value_store.specs.Slots.{Slots, elements, element_value, element_width, row_numbers, label_in, value_at, IsContent, IsRead}
+use Rattle.value_store.specs.declared.store.slots.Node.{Node}
+use Rattle.value_store.specs.declared.store.slots.Shape.TheVariants.{Integer, Offset, Text, Integers, Offsets, Array, Struct, Union}
+use Rattle.value_store.specs.Labels.{number_of, bytes_of}
+use Rattle.pickle_meaning.specs.Arithmetic.{with_sign}
+use Rattle.pickle_meaning.specs.Values.{label_of}
+use Rattle.pickle_types.specs.declared.integer.IntegerType.{IntegerType}
+use Rattle.value_store.specs.Names.{Names}
+use Rattle.value_store.specs.Lent.{element_in, shape_label, HasWidth, IsShapeOf}
 
 pub length-unpacked : (k n : ℕ) (bs : List ℕ) → length (unpacked k n bs) ≡ n
 length-unpacked k zero bs = refl
@@ -104,3 +112,51 @@ byte-at w bs i some most p =
     let below : i < length bs / bytes_for w = omega (arith, p, length-numbers w bs) in
     unpacked-at (bytes_for w) (length bs / bytes_for w) bs i below
     ∙ ap (λ k. bytes_number (take k (drop (k * i) bs))) one ∙ one_byte bs i (byte_within w bs i some most p)
+
+label_shape : (names : Names) (s : Slots) (shape : Shape) (c : ℕ) → label_in names s shape c ≡ shape_label names shape (number_of (label_in [] s shape c)) (bytes_of (label_in [] s shape c))
+label_shape names s (Integer w g) c = refl
+label_shape names s (Offset w g u) c = refl
+label_shape names s Text c = refl
+label_shape names s (Integers w g) c = refl
+label_shape names s (Offsets w g u) c = refl
+label_shape names s Array c = refl
+label_shape names s (Struct of) c = refl
+label_shape names s (Union taken of) c = refl
+
+content_width : (s : Slots) (shape : Shape) (start c : ℕ) → IsContent s shape start c → HasWidth shape
+content_width s (Integer w g) start c h = h
+content_width s (Offset w g u) start c h = h
+content_width s Text start c h = tt
+content_width s (Integers w g) start c h = tt
+content_width s (Offsets w g u) start c h = tt
+content_width s Array start c h = tt
+content_width s (Struct of) start c h = tt
+content_width s (Union taken of) start c h = tt
+
+-- the value of a node has its shape
+pub shape_read : (s : Slots) (at : ℕ) (n : Node) → IsRead s at n → IsShapeOf n.shape (λ names. value_at names s at)
+shape_read s at n r = record {
+  number = number_of (label_in [] s n.shape n.content);
+  bytes = bytes_of (label_in [] s n.shape n.content);
+  label = λ names. r.label names ∙ label_shape names s n.shape n.content;
+  width = content_width s n.shape n.start n.content r.content;
+}
+
+-- an element is an integer or an offset of its row's type
+pub integer_shape : (s : Slots) (o : Option Node) (n : Node) (i w : ℕ) (g : Bool) → o ≡ Some n → n.shape ≡ Integers w g → IsContent s n.shape n.start n.content →
+    IsShapeOf (Integer w g) (λ names. element_in s o i)
+integer_shape s o n i w g got is h =
+    let type : IntegerType = record { width = w; signed = g } in
+    let own : IsContent s (Integers w g) n.start n.content = subst (λ x. IsContent s x n.start n.content) is h in
+    let found : element_in s o i ≡ element_value (Integers w g) (n.start + w * i) (slice_index (row_numbers s w n.content) i) =
+    ap (λ x. element_in s x i) got ∙ ap (λ x. element_value x (n.start + element_width x * i) (slice_index (row_numbers s (element_width x) n.content) i)) is in
+    record { number = with_sign type (slice_index (row_numbers s w n.content) i); bytes = []; label = λ names. ap label_of found; width = (own.1.some, own.1.most) }
+
+pub offset_shape : (s : Slots) (o : Option Node) (n : Node) (i w : ℕ) (g : Bool) (u : ℕ) → o ≡ Some n → n.shape ≡ Offsets w g u → IsContent s n.shape n.start n.content →
+    IsShapeOf (Offset w g u) (λ names. element_in s o i)
+offset_shape s o n i w g u got is h =
+    let type : IntegerType = record { width = w; signed = g } in
+    let own : IsContent s (Offsets w g u) n.start n.content = subst (λ x. IsContent s x n.start n.content) is h in
+    let found : element_in s o i ≡ element_value (Offsets w g u) (n.start + w * i) (slice_index (row_numbers s w n.content) i) =
+    ap (λ x. element_in s x i) got ∙ ap (λ x. element_value x (n.start + element_width x * i) (slice_index (row_numbers s (element_width x) n.content) i)) is in
+    record { number = with_sign type (slice_index (row_numbers s w n.content) i); bytes = []; label = λ names. ap label_of found; width = (own.1.0.some, own.1.0.most, own.1.1) }

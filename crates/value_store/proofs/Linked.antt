@@ -1,20 +1,21 @@
 -- What the parts of a node are.
 use Rattle.std.proofs.Common.{◌≡◌, ℕ, ◌<◌, ◌≤◌, ◌⊎◌, inl, inr, Bool, List, [], Option, Some, None, length, map, refl, sym, ◌∙◌, ap, subst, arith}
-use Rattle.std.specs.Prelude.{slice_get, slice_index_or, unwrap_or, IfSome}
+use Rattle.std.specs.Prelude.{slice_get, unwrap_or, IfSome}
 use Rattle.std.specs.Option.{option_map}
 use Rattle.std.proofs.lemmas.List.{length-map}
-use Rattle.std.proofs.lemmas.Option.{slice_get_past, slice_get_within, slice_get-get_or, slice_get-map}
+use Rattle.std.proofs.lemmas.Option.{slice_get_past, slice_get_within, slice_get-map}
 use Rattle.value_store.specs.declared.store.slots.Node.{Node}
+use Rattle.value_store.specs.declared.store.slots.Place.{Place}
 use Rattle.value_store.specs.declared.store.slots.Place.TheVariants as place
 use Rattle.value_store.specs.declared.store.slots.Shape.{Shape}
 use Rattle.value_store.specs.declared.store.slots.Shape.TheVariants.{Integer, Offset, Text, Integers, Offsets, Array, Struct, Union}
-use Rattle.value_store.specs.Slots.{Slots, opened, IsSound, links_of, parts_in, trees, value_at, row_numbers, elements, element_width, IsPacked, IsContent, IsRead}
+use Rattle.value_store.specs.Slots.{Slots, opened, links_of, parts_in, trees, value_at, row_numbers, elements, element_width, IsPacked, IsContent, IsRead}
 use Rattle.pickle_meaning.specs.Values.{Value, members_of, member_count, member_at, gathered}
 use Rattle.value_store.specs.Names.{Names}
 use Rattle.value_store.specs.Linked.{node_links, links_from}
-use Rattle.value_store.specs.Lent.{place_value, numbers_of, element_in, packed_count, element_count, IsPlace}
+use Rattle.value_store.specs.Lent.{place_value, place_links, place_packed, numbers_of, element_in, packed_count, element_count, IsPlace}
 use Rattle.value_store.proofs.Taken.{member_count-of}
-use Rattle.value_store.proofs.Found.{child-found, read-node, member_at-gathered}
+use Rattle.value_store.proofs.Found.{child-found, member_at-gathered}
 use Rattle.value_store.proofs.Lent.{length-elements, elements-at}
 
 packed-parts : (s : Slots) (ts : List Value) (shape : Shape) (start c : ℕ) → IsPacked shape → parts_in s ts shape start c ≡ elements shape start (row_numbers s (element_width shape) c)
@@ -109,17 +110,17 @@ pub has_element : (s : Slots) (at : ℕ) (n : Node) (w i : ℕ) → slice_get s.
     IsPlace s (place.Element at i)
 has_element s at n w i got is p = subst (λ o. i < element_count s o) (sym got) (omega (arith, p, is.count))
 
--- what the parts of a node are, by its links and how many packed numbers it has
-pub record ArePartsAt (s : Slots) (at : ℕ) (links : List (Option ℕ)) (packed : ℕ) : Type 0 where
-  pub packed_count : (names : Names) → 0 < packed → packed ≡ member_count (members_of (value_at names s at))
-  pub link_count : (names : Names) → packed ≡ 0 → length links ≡ member_count (members_of (value_at names s at))
-  pub packed_part : (names : Names) (i : ℕ) → i < packed → Some (place_value names s (place.Element at i)) ≡ member_at (members_of (value_at names s at)) i
+-- what the parts of a value are that has a node, by its links and how many packed numbers it has
+pub record AreParts (s : Slots) (p : Place) (at : ℕ) (links : List (Option ℕ)) (packed : ℕ) : Type 0 where
+  pub packed_count : (names : Names) → 0 < packed → packed ≡ member_count (members_of (place_value names s p))
+  pub link_count : (names : Names) → packed ≡ 0 → length links ≡ member_count (members_of (place_value names s p))
+  pub packed_part : (names : Names) (i : ℕ) → i < packed → Some (place_value names s (place.Element at i)) ≡ member_at (members_of (place_value names s p)) i
   pub packed_place : (i : ℕ) → i < packed → IsPlace s (place.Element at i)
-  pub link_part : (names : Names) (i : ℕ) → packed ≤ i → option_map (value_at names s) (unwrap_or (slice_get links i) None) ≡ member_at (members_of (value_at names s at)) i
+  pub link_part : (names : Names) (i : ℕ) → packed ≤ i → option_map (value_at names s) (unwrap_or (slice_get links i) None) ≡ member_at (members_of (place_value names s p)) i
   pub below : (i : ℕ) → IfSome (unwrap_or (slice_get links i) None) (λ j. j < at)
 
 parts_by_links : (s : Slots) (at : ℕ) (n : Node) → slice_get s.nodes at ≡ Some n → IsRead s at n → HasLinks n.shape → packed_count s n.shape n.content ≡ 0 →
-    ArePartsAt s at (links_from s at) (element_count s (slice_get s.nodes at))
+    AreParts s (place.Node at) at (links_from s at) (element_count s (slice_get s.nodes at))
 parts_by_links s at n got r has none =
     let links = are_links s at n (links_from s at) got r has refl in
     let zero : element_count s (slice_get s.nodes at) ≡ 0 = ap (element_count s) got ∙ none in
@@ -133,7 +134,7 @@ parts_by_links s at n got r has none =
     }
 
 parts_by_row : (s : Slots) (at : ℕ) (n : Node) (w : ℕ) → slice_get s.nodes at ≡ Some n → IsRead s at n → IsRowShape s n.shape n.content w → links_of s n.shape n.content ≡ [] →
-    ArePartsAt s at (links_from s at) (element_count s (slice_get s.nodes at))
+    AreParts s (place.Node at) at (links_from s at) (element_count s (slice_get s.nodes at))
 parts_by_row s at n w got r is none =
     let row = length (row_numbers s w n.content) in
     let count : element_count s (slice_get s.nodes at) ≡ row = ap (element_count s) got ∙ is.count in
@@ -149,7 +150,7 @@ parts_by_row s at n w got r is none =
     }
 
 parts_by_shape : (s : Slots) (at : ℕ) (n : Node) (shape : Shape) → n.shape ≡ shape → slice_get s.nodes at ≡ Some n → IsRead s at n →
-    ArePartsAt s at (links_from s at) (element_count s (slice_get s.nodes at))
+    AreParts s (place.Node at) at (links_from s at) (element_count s (slice_get s.nodes at))
 parts_by_shape s at n (Integer w g) e got r = parts_by_links s at n got r (subst HasLinks (sym e) (record { not_integers = λ v h q. cc; not_offsets = λ v h u q. cc })) (ap (λ x. packed_count s x n.content) e)
 parts_by_shape s at n (Offset w g u) e got r = parts_by_links s at n got r (subst HasLinks (sym e) (record { not_integers = λ v h q. cc; not_offsets = λ v h u q. cc })) (ap (λ x. packed_count s x n.content) e)
 parts_by_shape s at n Text e got r = parts_by_links s at n got r (subst HasLinks (sym e) (record { not_integers = λ v h q. cc; not_offsets = λ v h u q. cc })) (ap (λ x. packed_count s x n.content) e)
@@ -159,8 +160,8 @@ parts_by_shape s at n Array e got r = parts_by_links s at n got r (subst HasLink
 parts_by_shape s at n (Struct t) e got r = parts_by_links s at n got r (subst HasLinks (sym e) (record { not_integers = λ v h q. cc; not_offsets = λ v h u q. cc })) (ap (λ x. packed_count s x n.content) e)
 parts_by_shape s at n (Union t i) e got r = parts_by_links s at n got r (subst HasLinks (sym e) (record { not_integers = λ v h q. cc; not_offsets = λ v h u q. cc })) (ap (λ x. packed_count s x n.content) e)
 
-pub parts_at : (s : Slots) (at : ℕ) (links : List (Option ℕ)) (packed : ℕ) → IsSound s → at < length s.nodes → links ≡ links_from s at → packed ≡ element_count s (slice_get s.nodes at) → ArePartsAt s at links packed
-parts_at s at links packed h within own count =
-    let n = slice_index_or s.nodes at (record { start = 0; content = 0; shape = Text }) in
-    let got : slice_get s.nodes at ≡ Some n = slice_get-get_or s.nodes at _ within in
-    subst (λ k. ArePartsAt s at links k) (sym count) (subst (λ ls. ArePartsAt s at ls (element_count s (slice_get s.nodes at))) (sym own) (parts_by_shape s at n n.shape refl got (read-node s at n h got)))
+pub parts_of : (s : Slots) (p : Place) (at : ℕ) (n : Node) (links : List (Option ℕ)) (packed : ℕ) → p ≡ place.Node at → slice_get s.nodes at ≡ Some n → IsRead s at n →
+    links ≡ place_links s p → packed ≡ place_packed s p → AreParts s p at links packed
+parts_of s p at n links packed is got r own count =
+    let found : AreParts s (place.Node at) at (place_links s (place.Node at)) (place_packed s (place.Node at)) = parts_by_shape s at n n.shape refl got r in
+    subst (λ k. AreParts s p at links k) (sym count) (subst (λ ls. AreParts s p at ls (place_packed s p)) (sym own) (subst (λ q. AreParts s q at (place_links s q) (place_packed s q)) (sym is) found))

@@ -1,12 +1,12 @@
 -- The values that a store lends: those of its nodes, and the elements of its arrays of packed numbers.
-use Rattle.std.specs.Prelude.{ℕ, suc, ◌+◌, ◌*◌, ◌<◌, length, List, [], Option, Some, None, slice_get, slice_index}
+use Rattle.std.specs.Prelude.{◌≡◌, ℕ, suc, ◌+◌, ◌*◌, ◌<◌, ◌≤◌, ℤ, length, List, [], Option, Some, None, slice_get, slice_index}
 use Rattle.value_store.specs.declared.store.slots.Node.{Node}
 use Rattle.value_store.specs.declared.store.slots.Place.{Place}
 use Rattle.value_store.specs.declared.store.slots.Place.TheVariants as place
 use Rattle.value_store.specs.declared.store.slots.Shape.{Shape}
 use Rattle.value_store.specs.declared.store.slots.Shape.TheVariants as shape
-use Rattle.pickle_meaning.specs.Values.{Value}
-use Rattle.value_store.specs.Names.{Names}
+use Rattle.pickle_meaning.specs.Values.{Value, Label, IntegerLabel, OffsetLabel, TextLabel, ArrayLabel, StructLabel, UnionLabel, label_of}
+use Rattle.value_store.specs.Names.{Names, title_at, names_at, name_at}
 use Rattle.value_store.specs.Slots.{Slots, no_value, value_at, row_numbers, element_width, element_value}
 use Rattle.value_store.specs.Linked.{links_from}
 
@@ -63,3 +63,32 @@ place_links s (place.Element array index) = []
 abbrev pub place_rank : Place → ℕ
 place_rank (place.Node at) = suc at
 place_rank (place.Element array index) = 0
+
+-- the label of such a shape, with this number, or these bytes
+abbrev pub shape_label : Names → Shape → ℤ → List ℕ → Label
+shape_label names (shape.Integer w g) number bytes = IntegerLabel number (record { width = w; signed = g })
+shape_label names (shape.Offset w g u) number bytes = OffsetLabel number (record { width = w; signed = g }) u
+shape_label names shape.Text number bytes = TextLabel bytes
+shape_label names (shape.Integers w g) number bytes = ArrayLabel
+shape_label names (shape.Offsets w g u) number bytes = ArrayLabel
+shape_label names shape.Array number bytes = ArrayLabel
+shape_label names (shape.Struct of) number bytes = StructLabel (title_at names of) (names_at names of)
+shape_label names (shape.Union taken of) number bytes = UnionLabel (title_at names of) taken (name_at names of taken)
+
+-- a number has 1 to 64 bits, and an offset a unit
+abbrev pub HasWidth : Shape → Type 0
+HasWidth (shape.Integer w g) = (1 ≤ w) × (w ≤ 64)
+HasWidth (shape.Offset w g u) = (1 ≤ w) × (w ≤ 64) × (1 ≤ u)
+HasWidth shape.Text = Unit {0}
+HasWidth (shape.Integers w g) = Unit {0}
+HasWidth (shape.Offsets w g u) = Unit {0}
+HasWidth shape.Array = Unit {0}
+HasWidth (shape.Struct t) = Unit {0}
+HasWidth (shape.Union t i) = Unit {0}
+
+-- what a value is has that shape
+pub record IsShapeOf (shape : Shape) (value : Names → Value) : Type 0 where
+  pub number : ℤ
+  pub bytes : List ℕ
+  pub label : (names : Names) → label_of (value names) ≡ shape_label names shape number bytes
+  pub width : HasWidth shape

@@ -1,19 +1,33 @@
 //! References to values without the names of their types.
 
-ghost use Rattle.std.specs.Prelude.{◌≡◌, ℕ, ◌+◌, ◌<◌, IfSome};
+ghost use Rattle.std.specs.Prelude.{◌≡◌, ℕ, ◌+◌, ◌<◌, Some, IfSome};
 ghost use Rattle.std.specs.Option.{option_map};
+ghost use Rattle.pickle_types.specs.Sound.{IsSmall};
 ghost use Rattle.pickle_meaning.specs.Values.{label_of, start_of, end_of, members_of, member_count, member_at};
 ghost use Rattle.value_store.specs.Integers.{AreIntegersOf};
 ghost use Rattle.value_store.specs.Labels.{kind_of, number_of, signed_of, width_of, unit_of, bytes_of, taken_of, name_of, member_name};
 ghost use Rattle.value_store.specs.Names.{Names, title_found, member_found};
-ghost use Rattle.value_store.specs.Lent.{place_value, place_links, place_packed, place_rank, IsPlace};
+ghost use Rattle.value_store.specs.Lent.{place_value, place_links, place_packed, place_rank, IsPlace, IsShapeOf};
 ghost use Rattle.value_store.specs.Scalars.{scalar_label, scalar_in, IsScalar};
+ghost use Rattle.value_store.specs.Slots.{number_in};
 
 use crate::scalar::Scalar;
 use crate::store::Store;
-use crate::store::slots::{Link, Place};
+use crate::store::slots::{Link, Place, Shape};
 use crate::value::Kind;
 use pickle_types::integer::IntegerType;
+
+// The number that 64 bits stand for.
+fn number_from(signed: bool, content: u64) -> i128
+    ensures is { result ≡ number_in signed content }
+    ensures small { IsSmall signed result }
+{
+    if signed {
+        i128::from(content.cast_signed())
+    } else {
+        i128::from(content)
+    }
+}
 
 /// A value that a store holds, without the names of its type. It copies nothing.
 #[derive(Clone, Copy)]
@@ -33,12 +47,27 @@ impl<'a> StoredValue<'a> {
         StoredValue { store, place }
     }
 
+    // What the value is: its node's shape, or of a packed number that of an integer or an offset. No number is read for it.
+    #[inline(always)]
+    fn shape(&self) -> Shape
+        ensures { IsShapeOf result (λ names. value_of names self.now) }
+    {
+        match self.place {
+            Place::Node(at) => self.store.node_at(at).shape,
+            Place::Element { array, index } => self.store.element_shape(array, index),
+        }
+    }
+
     pub fn kind(&self) -> Kind
         ensures { (names : Names) → result ≡ kind_of (label_of (value_of names self.now)) }
     {
-        match self.place {
-            Place::Node(at) => self.store.kind_at(at),
-            Place::Element { array, index } => self.store.element_kind(array, index),
+        match self.shape() {
+            Shape::Integer { .. } => Kind::Integer,
+            Shape::Offset { .. } => Kind::Offset,
+            Shape::Text => Kind::Text,
+            Shape::Integers { .. } | Shape::Offsets { .. } | Shape::Array => Kind::Array,
+            Shape::Struct { .. } => Kind::Struct,
+            Shape::Union { .. } => Kind::Union,
         }
     }
 
@@ -47,8 +76,11 @@ impl<'a> StoredValue<'a> {
         ensures { (names : Names) → result ≡ start_of (value_of names self.now) }
     {
         match self.place {
-            Place::Node(at) => self.store.start_at(at),
-            Place::Element { array, index } => self.store.element_start(array, index),
+            Place::Node(at) => self.store.node_at(at).start,
+            Place::Element { array, index } => {
+                let node = self.store.node_at(array);
+                node.start + u64::from(node.shape.element_width()) * index as u64
+            }
         }
     }
 
@@ -56,11 +88,37 @@ impl<'a> StoredValue<'a> {
     pub fn size(&self) -> u64
         ensures { (names : Names) → start_of (value_of names self.now) + result ≡ end_of (value_of names self.now) }
     {
+        let at = match self.place {
+            Place::Node(at) => at,
+            Place::Element { array, .. } => {
+                return u64::from(self.store.node_at(array).shape.element_width());
+            }
+        };
+        let node = self.store.node_at(at);
+        let row = node.content as usize;
+        match node.shape {
+            Shape::Integer { width, .. } | Shape::Offset { width, .. } => u64::from(width),
+            Shape::Text => 8 * (self.store.text(row).len() as u64 + 1),
+            Shape::Integers { width, .. } | Shape::Offsets { width, .. } => {
+                u64::from(width) * self.store.count_packed(width, row) as u64
+            }
+            Shape::Array | Shape::Struct { .. } | Shape::Union { .. } => self
+                .store
+                .family_size(row),
+        }
+    }
+
+    // The number of an integer or an offset, whose type has a sign or not.
+    #[inline(always)]
+    fn number_as(&self, signed: bool) -> i128
+        requires signed { (names : Names) → signed ≡ signed_of (label_of (value_of names self.now)) }
+        requires number { (names : Names) → let l = label_of (value_of names self.now) in scalar_in l ≡ Some l }
+        ensures is { (names : Names) → result ≡ number_of (label_of (value_of names self.now)) }
+        ensures small { IsSmall signed result }
+    {
         match self.place {
-            Place::Node(at) => self.store.size_at(at),
-            Place::Element { array, index } => u64::from(
-                self.store.element_type(array, index).width,
-            ),
+            Place::Node(at) => number_from(signed, self.store.node_at(at).content),
+            Place::Element { array, index } => self.store.element_number(array, index),
         }
     }
 
@@ -68,9 +126,10 @@ impl<'a> StoredValue<'a> {
     pub fn number(&self) -> i128
         ensures { (names : Names) → result ≡ number_of (label_of (value_of names self.now)) }
     {
-        match self.place {
-            Place::Node(at) => self.store.number_at(at),
-            Place::Element { array, index } => self.store.element_number(array, index),
+        match self.shape() {
+            Shape::Integer { signed, .. } => self.number_as(signed),
+            Shape::Offset { signed, .. } => self.number_as(signed),
+            _ => 0,
         }
     }
 
@@ -78,9 +137,10 @@ impl<'a> StoredValue<'a> {
     pub fn signed(&self) -> bool
         ensures { (names : Names) → result ≡ signed_of (label_of (value_of names self.now)) }
     {
-        match self.place {
-            Place::Node(at) => self.store.signed_at(at),
-            Place::Element { array, index } => self.store.element_type(array, index).signed,
+        match self.shape() {
+            Shape::Integer { signed, .. } => signed,
+            Shape::Offset { signed, .. } => signed,
+            _ => false,
         }
     }
 
@@ -90,9 +150,18 @@ impl<'a> StoredValue<'a> {
         ensures is { (names : Names) → option_map scalar_label result ≡ scalar_in (label_of (value_of names self.now)) }
         ensures scalar { IfSome result IsScalar }
     {
-        match self.place {
-            Place::Node(at) => self.store.scalar_at(at),
-            Place::Element { array, index } => Some(self.store.element_at(array, index)),
+        match self.shape() {
+            Shape::Integer { width, signed } => {
+                Some(Scalar::Integer(self.number_as(signed), IntegerType { width, signed }))
+            }
+            Shape::Offset {
+                width,
+                signed,
+                unit,
+            } => {
+                Some(Scalar::Offset(self.number_as(signed), IntegerType { width, signed }, unit))
+            }
+            _ => None,
         }
     }
 
@@ -100,9 +169,10 @@ impl<'a> StoredValue<'a> {
     pub fn width(&self) -> u8
         ensures { (names : Names) → result ≡ width_of (label_of (value_of names self.now)) }
     {
-        match self.place {
-            Place::Node(at) => self.store.width_at(at),
-            Place::Element { array, index } => self.store.element_type(array, index).width,
+        match self.shape() {
+            Shape::Integer { width, .. } => width,
+            Shape::Offset { width, .. } => width,
+            _ => 0,
         }
     }
 
@@ -110,9 +180,9 @@ impl<'a> StoredValue<'a> {
     pub fn unit(&self) -> u32
         ensures { (names : Names) → result ≡ unit_of (label_of (value_of names self.now)) }
     {
-        match self.place {
-            Place::Node(at) => self.store.unit_at(at),
-            Place::Element { array, index } => self.store.element_unit(array, index),
+        match self.shape() {
+            Shape::Offset { unit, .. } => unit,
+            _ => 0,
         }
     }
 
@@ -120,9 +190,13 @@ impl<'a> StoredValue<'a> {
     pub fn bytes(&self) -> &'a [u8]
         ensures { (names : Names) → result.now ≡ bytes_of (label_of (value_of names self.now)) }
     {
-        match self.place {
-            Place::Node(at) => self.store.bytes_at(at),
-            Place::Element { .. } => &[],
+        let Place::Node(at) = self.place else {
+            return &[];
+        };
+        let node = self.store.node_at(at);
+        match node.shape {
+            Shape::Text => self.store.text(node.content as usize),
+            _ => &[],
         }
     }
 
@@ -130,10 +204,7 @@ impl<'a> StoredValue<'a> {
     pub fn len(&self) -> usize
         ensures { (names : Names) → result ≡ member_count (members_of (value_of names self.now)) }
     {
-        match self.place {
-            Place::Node(at) => self.store.len_at(at),
-            Place::Element { .. } => 0,
-        }
+        self.count_linked(self.links(), self.packed())
     }
 
     /// The element or field at a place, the alternative taken at place 0; nothing for an absent field and past the end.
@@ -148,9 +219,15 @@ impl<'a> StoredValue<'a> {
     pub(crate) fn links(&self) -> &'a [Link]
         ensures { result.now ≡ place_links self.now.store.now.slots self.now.place }
     {
-        match self.place {
-            Place::Node(at) => self.store.links_from(at),
-            Place::Element { .. } => &[],
+        let Place::Node(at) = self.place else {
+            return &[];
+        };
+        let node = self.store.node_at(at);
+        match node.shape {
+            Shape::Array | Shape::Struct { .. } | Shape::Union { .. } => self
+                .store
+                .family(node.content as usize),
+            _ => &[],
         }
     }
 
@@ -158,9 +235,12 @@ impl<'a> StoredValue<'a> {
     pub(crate) fn row_type(&self) -> Option<IntegerType>
         ensures { (names : Names) → IfSome result (λ number. AreIntegersOf number (members_of (value_of names self.now))) }
     {
-        match self.place {
-            Place::Node(at) => self.store.row_type(at),
-            Place::Element { .. } => None,
+        let Place::Node(at) = self.place else {
+            return None;
+        };
+        match self.store.node_at(at).shape {
+            Shape::Integers { width, signed } => Some(IntegerType { width, signed }),
+            _ => None,
         }
     }
 
@@ -168,9 +248,15 @@ impl<'a> StoredValue<'a> {
     pub(crate) fn packed(&self) -> usize
         ensures { result ≡ place_packed self.now.store.now.slots self.now.place }
     {
-        match self.place {
-            Place::Node(at) => self.store.packed_from(at),
-            Place::Element { .. } => 0,
+        let Place::Node(at) = self.place else {
+            return 0;
+        };
+        let node = self.store.node_at(at);
+        match node.shape {
+            Shape::Integers { width, .. } | Shape::Offsets { width, .. } => {
+                self.store.count_packed(width, node.content as usize)
+            }
+            _ => 0,
         }
     }
 
@@ -180,10 +266,12 @@ impl<'a> StoredValue<'a> {
         requires packed { packed ≡ place_packed self.now.store.now.slots self.now.place }
         ensures { (names : Names) → result ≡ member_count (members_of (value_of names self.now)) }
     {
-        match self.place {
-            Place::Node(at) => self.store.count_linked(at, links, packed),
-            Place::Element { .. } => 0,
-        }
+        let Place::Node(at) = self.place else {
+            return 0;
+        };
+        // Nothing of the node is read when this runs: that its parts are these is all that is needed of it.
+        let _node = self.store.node_at(at);
+        if packed > 0 { packed } else { links.len() }
     }
 
     /// The part at a place, as [`StoredValue::child`] tells it, by links and packed numbers that were found before.
@@ -193,15 +281,28 @@ impl<'a> StoredValue<'a> {
         ensures part { (names : Names) → option_map (value_of names) result ≡ member_at (members_of (value_of names self.now)) i }
         ensures below { IfSome result (λ c. place_rank c.place < place_rank self.now.place) }
     {
-        let at = match self.place {
-            Place::Node(at) => at,
-            Place::Element { .. } => return None,
+        let Place::Node(at) = self.place else {
+            return None;
         };
-        match self.store.linked(at, links, packed, i) {
-            Some(place) => Some(StoredValue {
+        let _node = self.store.node_at(at);
+        if i < packed {
+            let place = Place::Element {
+                array: at,
+                index: i,
+            };
+            return Some(StoredValue {
                 store: self.store,
                 place,
-            }),
+            });
+        }
+        match links.get(i) {
+            Some(link) => match link.target() {
+                Some(node) => Some(StoredValue {
+                    store: self.store,
+                    place: Place::Node(node),
+                }),
+                None => None,
+            },
             None => None,
         }
     }
@@ -211,9 +312,10 @@ impl<'a> StoredValue<'a> {
         ensures title { (names : Names) → title_found names result ≡ name_of (label_of (value_of names self.now)) }
         ensures members { (names : Names) (i : ℕ) → let l = label_of (value_of names self.now) in member_found names result (taken_of l) i ≡ member_name l i }
     {
-        match self.place {
-            Place::Node(at) => self.store.type_at(at),
-            Place::Element { .. } => None,
+        match self.shape() {
+            Shape::Struct { of } => Some(of),
+            Shape::Union { of, .. } => Some(of),
+            _ => None,
         }
     }
 
@@ -221,9 +323,9 @@ impl<'a> StoredValue<'a> {
     pub fn taken(&self) -> Option<u16>
         ensures { (names : Names) → result ≡ taken_of (label_of (value_of names self.now)) }
     {
-        match self.place {
-            Place::Node(at) => self.store.taken_at(at),
-            Place::Element { .. } => None,
+        match self.shape() {
+            Shape::Union { taken, .. } => Some(taken),
+            _ => None,
         }
     }
 }
