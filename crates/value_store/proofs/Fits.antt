@@ -10,7 +10,7 @@ use Rattle.value_store.specs.Exceeding.{Exceeds}
 use Rattle.value_store.specs.Keeping.{Overfills, HoldsLevels, LacksRoom}
 use Rattle.value_store.specs.Levels.{extended}
 use Rattle.value_store.specs.Names.{Names}
-use Rattle.value_store.specs.Slots.{Slots, Held, no_slots, packs_as, packs, HoldsInRoom, levels, stack, IsSound, cut_to, marks_of, root_marks, level_of, IsLevel, innermost, AreLevels, levels_at, Adds, IsStore}
+use Rattle.value_store.specs.Slots.{Slots, Held, no_slots, packs_as, packs, HoldsInRoom, levels, stack, IsSound, cut_to, marks_of, root_marks, level_of, IsLevel, innermost, AreLevels, levels_at, Adds}
 use Rattle.value_store.specs.Takes.{Vector, NodesOf, FamiliesOf, LinksOf, PendingOf, TextsOf, BytesOf, of_vector, levels_take}
 use Rattle.value_store.proofs.Counted.{marks-cut, levels-more, levels_at-more, levels-above, levels_at-above}
 use Rattle.value_store.proofs.Empty.{no_slots-levels, no_slots-sound}
@@ -33,15 +33,6 @@ module _ (h : Held) (ls : Levels) (some : 1 ≤ slots PendingSlot ls) where
 
   pub overfills : (vector : Vector) → h.room.least ≤ of_vector vector h.capacity → of_vector vector h.capacity < levels_take (packs h.room) vector ls → Overfills h false ls
   overfills vector least more = record { least = exceeds-by vector (packs h.room) refl (omega (arith, least, more)); capacity = (vector, more) }
-
--- each vector has the room that the store was made with
-pub least-held : (h : Held) (vector : Vector) → IsStore h → h.room.least ≤ of_vector vector h.capacity
-least-held h NodesOf is = is.nodes
-least-held h FamiliesOf is = is.families
-least-held h LinksOf is = is.links
-least-held h PendingOf is = is.pending
-least-held h TextsOf is = is.texts
-least-held h BytesOf is = is.bytes
 
 root-none : (vector : Vector) → of_vector vector root_marks ≡ 0
 root-none NodesOf = refl
