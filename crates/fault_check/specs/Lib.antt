@@ -1,3 +1,4 @@
 pub mod Ways
 pub mod Digits
 pub mod Elements
+pub mod Calls

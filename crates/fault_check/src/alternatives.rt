@@ -1,13 +1,13 @@
 //! Alternatives of a union, on a way into one of them.
 
-ghost use Rattle.std.specs.Prelude.{◌≡◌, ℕ, ◌∷◌, [], length, List, All, IsTrue};
+ghost use Rattle.std.specs.Prelude.{◌≡◌, ℕ, ◌∷◌, [], List, All, IsTrue};
 ghost use Rattle.pickle_types.specs.declared.table.Node.{Node};
-ghost use Rattle.pickle_types.specs.Table.{IsTable, type_of, open_parts};
+ghost use Rattle.pickle_types.specs.Table.{IsTable};
 ghost use Rattle.pickle_meaning.specs.Values.{outer_of};
 ghost use Rattle.pickle_map.specs.Mappable.{IsPartOf};
 ghost use Rattle.value_store.specs.Slots.{levels, level_count};
-ghost use Rattle.fault_parts.specs.Arises.{AlternativesArise};
-ghost use Rattle.fault_check.specs.Ways.{OnBits, Leaves, Misses, Enters, EntersAlternative, GoesOn, fault_of};
+ghost use Rattle.fault_check.specs.Calls.{EntersAlternatives, MissesOne};
+ghost use Rattle.fault_check.specs.Ways.{OnBits, Leaves, EntersAlternative, GoesOn, fault_of};
 
 use crate::mapped::map_checked;
 use crate::part::{Entered, Part};
@@ -35,7 +35,7 @@ pub fn enter_alternatives<'a, S: Space>(
     requires fresh { levels nodes.now store.old ≡ [] ∷ outer_of (levels nodes.now store.old) }
     ensures leaves { Leaves (S.view space.old) (S.view space.new) meter.old meter.new }
     ensures goes_on { GoesOn nodes.now (level_count store.new) result }
-    ensures is { OnBits (S.view space.old) (λ bits. Enters bits nodes.now (levels nodes.now store.new) place (fault_of fault) (AlternativesArise bits order (open_parts (type_of nodes.now) alternatives.now) (levels nodes.now store.old) start (fault_of fault)) result) }
+    ensures is { OnBits (S.view space.old) (EntersAlternatives nodes.now alternatives.now order start place fault store.old store.new result) }
 {
     for (index, alternative) in alternatives.iter().enumerate() {
         if index == place {
@@ -62,7 +62,7 @@ fn misses<S: Space>(
     requires alternative { IsPartOf nodes.now (level_count store.old) alternative.now }
     requires fresh { levels nodes.now store.old ≡ [] ∷ outer_of (levels nodes.now store.old) }
     ensures leaves { Leaves (S.view space.old) (S.view space.new) meter.old meter.new }
-    ensures is { IsTrue result → OnBits (S.view space.old) (λ bits. Misses bits nodes.now alternative.now order (levels nodes.now store.old) start) }
+    ensures is { IsTrue result → OnBits (S.view space.old) (MissesOne nodes.now alternative.now order store.old start) }
     ensures same { IsTrue result → levels nodes.now store.new ≡ levels nodes.now store.old }
     ensures depth { IsTrue result → level_count store.new ≡ level_count store.old }
 {

@@ -1,15 +1,12 @@
 //! The check of a whole way.
 
-ghost use Rattle.std.specs.Prelude.{◌≡◌, ℕ, ◌+◌, ◌≤◌, ◌<◌, [], length, Err, IsTrue};
-ghost use Rattle.pickle_types.specs.Types.{depth};
-ghost use Rattle.pickle_types.specs.Table.{IsTable, type_of};
-ghost use Rattle.pickle_types.specs.TypeTable.{nodes_of, type_named, IsInTable};
+ghost use Rattle.std.specs.Prelude.{◌≡◌, ◌<◌, [], length, IsTrue};
+ghost use Rattle.pickle_types.specs.Table.{IsTable};
+ghost use Rattle.pickle_types.specs.TypeTable.{type_named, IsInTable};
 ghost use Rattle.pickle_types.specs.Sound.{IsSoundClause};
-ghost use Rattle.pickle_meaning.specs.Values.{no_values};
-ghost use Rattle.pickle_meaning.specs.Clauses.{constraint};
-ghost use Rattle.value_store.specs.Slots.{levels, emptied, level_count};
-ghost use Rattle.fault_parts.specs.Arises.{Arises};
-ghost use Rattle.fault_check.specs.Ways.{OnBits, Leaves, IsPart, InPart, InType, Enters, GoesOn, HasFault, constraint_of, fault_of};
+ghost use Rattle.value_store.specs.Slots.{emptied, level_count};
+ghost use Rattle.fault_check.specs.Calls.{ArisesFrom, PartHas, TypeHas, MeansFault, Refuses, EntersPart};
+ghost use Rattle.fault_check.specs.Ways.{OnBits, Leaves, IsPart, GoesOn, constraint_of};
 
 use crate::alternatives::enter_alternatives;
 use crate::digits::is_in_digits;
@@ -43,7 +40,7 @@ pub fn arises<S: Space>(
     requires known { IsInTable table.now id }
     requires empty { store.old ≡ emptied store.old }
     ensures leaves { Leaves (S.view space.old) (S.view space.new) meter.old meter.new }
-    ensures is { IsTrue result → OnBits (S.view space.old) (λ bits. Arises bits (type_named table.now id) order no_values start (fault_of fault) path.now) }
+    ensures is { IsTrue result → OnBits (S.view space.old) (ArisesFrom (type_named table.now id) order start fault path.now) }
     ensures emptied { store.new ≡ emptied store.new }
 {
     let whole = Part {
@@ -70,7 +67,7 @@ fn follow<S: Space>(
     requires table { IsTable nodes.now }
     requires part { IsPart nodes.now (level_count store.old) whole }
     ensures leaves { Leaves (S.view space.old) (S.view space.new) meter.old meter.new }
-    ensures is { IsTrue result → OnBits (S.view space.old) (λ bits. InPart bits nodes.now (levels nodes.now store.old) whole.entry (fault_of fault) path.now) }
+    ensures is { IsTrue result → OnBits (S.view space.old) (PartHas nodes.now whole.entry fault store.old path.now) }
 {
     let mut part = whole;
     for (step, place) in path.iter().enumerate() {
@@ -110,27 +107,20 @@ fn enter<'a, S: Space>(
     requires part { IsPart nodes.now (level_count store.old) part }
     ensures leaves { Leaves (S.view space.old) (S.view space.new) meter.old meter.new }
     ensures goes_on { GoesOn nodes.now (level_count store.new) result }
-    ensures is { OnBits (S.view space.old) (λ bits. Enters bits nodes.now (levels nodes.now store.new) place (fault_of fault) (InType bits nodes.now (levels nodes.now store.old) part.entry (fault_of fault)) result) }
+    ensures is { OnBits (S.view space.old) (EntersPart nodes.now part.entry place fault store.old store.new result) }
 {
     if u128::from(8 * space.len()) < part.start {
         return Entered::Nowhere;
     }
     let start = part.start as u64;
     match &nodes[part.node].shape {
-        Shape::Struct {
-            name: _,
-            pinned,
-            fields,
-        } => {
+        Shape::Struct { pinned, fields, .. } => {
             store.open_level();
             enter_fields(
                 nodes, *pinned, fields, part.order, start, place, fault, space, meter, store,
             )
         }
-        Shape::Union {
-            name: _,
-            alternatives,
-        } => {
+        Shape::Union { alternatives, .. } => {
             store.open_level();
             enter_alternatives(
                 nodes,
@@ -149,10 +139,9 @@ fn enter<'a, S: Space>(
                 nodes, *element, bound, part.order, part.start, place, fault, space, meter, store,
             )
         }
-        Shape::Integer(_) => Entered::Nowhere,
-        Shape::Offset(..) => Entered::Nowhere,
-        Shape::Integral { .. } => Entered::Nowhere,
-        Shape::String => Entered::Nowhere,
+        Shape::Integer(_) | Shape::Offset(..) | Shape::Integral { .. } | Shape::String => {
+            Entered::Nowhere
+        }
     }
 }
 
@@ -175,7 +164,7 @@ fn is_own<S: Space>(
     requires table { IsTable nodes.now }
     requires part { IsPart nodes.now (level_count store.old) part }
     ensures leaves { Leaves (S.view space.old) (S.view space.new) meter.old meter.new }
-    ensures is { IsTrue result → OnBits (S.view space.old) (λ bits. InPart bits nodes.now (levels nodes.now store.old) part.entry (fault_of fault) []) }
+    ensures is { IsTrue result → OnBits (S.view space.old) (PartHas nodes.now part.entry fault store.old []) }
 {
     match map_part(
         nodes, part.node, part.order, part.start, space, meter, store,
@@ -197,7 +186,7 @@ fn is_refused(
 ) -> bool
     requires sound { IsSoundClause (constraint_of part) }
     ensures limit { meter.new.limit ≡ meter.old.limit }
-    ensures is { IsTrue result → constraint (constraint_of part.entry) (levels nodes.now store.now) part.entry.start ≡ Err (fault_of fault) }
+    ensures is { IsTrue result → Refuses nodes.now part.entry fault store.now }
 {
     match part.constraint {
         Some(clause) => match check_constraint(clause, part.start, meter, store) {
@@ -219,9 +208,9 @@ fn is_own_fault<S: Space>(
 ) -> bool
     requires table { IsTable nodes.now }
     requires part { IsPart nodes.now (level_count store.old) part }
-    requires has { OnBits (S.view space.old) (λ bits. HasFault bits nodes.now (levels nodes.now store.old) part (fault_of fault)) }
+    requires has { OnBits (S.view space.old) (MeansFault nodes.now part fault store.old) }
     ensures leaves { Leaves (S.view space.old) (S.view space.new) meter.old meter.new }
-    ensures is { IsTrue result → OnBits (S.view space.old) (λ bits. InType bits nodes.now (levels nodes.now store.old) part.entry (fault_of fault) []) }
+    ensures is { IsTrue result → OnBits (S.view space.old) (TypeHas nodes.now part.entry fault store.old []) }
 {
     let bits = u128::from(8 * space.len());
     if bits < part.start {

@@ -8,7 +8,8 @@ ghost use Rattle.pickle_map.specs.Mappable.{IsPartOf};
 ghost use Rattle.value_store.specs.Slots.{levels, level_count};
 ghost use Rattle.fault_parts.specs.Arises.{NumberArises};
 ghost use Rattle.fault_check.specs.Ways.{OnBits, Leaves, fault_of};
-ghost use Rattle.fault_check.specs.Digits.{KeepsNumber, PassesNumber, RefusesNumber, ReachesNumber, ArisesAt};
+ghost use Rattle.fault_check.specs.Calls.{Reaches};
+ghost use Rattle.fault_check.specs.Digits.{KeepsNumber, PassesNumber, RefusesNumber, ArisesAt};
 
 use crate::mapped::{check_constraint, is_fault};
 use bit_space::{Meter, Order, Space};
@@ -128,7 +129,7 @@ fn reach_field(
     requires start { start < 2 ^ 63 }
     ensures limit { meter.new.limit ≡ meter.old.limit }
     ensures depth { level_count store.new ≡ level_count store.old }
-    ensures is { IfSome result (ReachesNumber nodes.now digits start fields.now width (levels nodes.now store.old) place (levels nodes.now store.new)) }
+    ensures is { IfSome result (Reaches nodes.now digits start fields.now width place store.old store.new) }
 {
     let mut left = width;
     for (index, field) in fields.iter().enumerate() {

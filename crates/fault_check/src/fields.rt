@@ -1,11 +1,11 @@
 //! Fields of a struct, on a way into one of them.
 
-ghost use Rattle.std.specs.Prelude.{◌≡◌, length, All, IfOk};
-ghost use Rattle.pickle_types.specs.Table.{IsTable, type_of, open_fields};
+ghost use Rattle.std.specs.Prelude.{◌≡◌, All, IfOk};
+ghost use Rattle.pickle_types.specs.Table.{IsTable};
 ghost use Rattle.pickle_map.specs.Mappable.{IsFieldOf};
 ghost use Rattle.value_store.specs.Slots.{levels, level_count};
-ghost use Rattle.fault_parts.specs.Arises.{FieldsArise};
-ghost use Rattle.fault_check.specs.Ways.{OnBits, Leaves, PassesField, EntersField, Enters, GoesOn, fault_of};
+ghost use Rattle.fault_check.specs.Calls.{EntersFields, Passes};
+ghost use Rattle.fault_check.specs.Ways.{OnBits, Leaves, EntersField, GoesOn, fault_of};
 
 use crate::mapped::{find_start, is_there, map_checked, there_if};
 use crate::part::{Entered, Part};
@@ -33,7 +33,7 @@ pub fn enter_fields<'a, S: Space>(
     requires fields { All (IsFieldOf nodes.now (level_count store.old)) fields.now }
     ensures leaves { Leaves (S.view space.old) (S.view space.new) meter.old meter.new }
     ensures goes_on { GoesOn nodes.now (level_count store.new) result }
-    ensures is { OnBits (S.view space.old) (λ bits. Enters bits nodes.now (levels nodes.now store.new) place (fault_of fault) (FieldsArise bits pinned start order (open_fields (type_of nodes.now) fields.now) (levels nodes.now store.old) (fault_of fault)) result) }
+    ensures is { OnBits (S.view space.old) (EntersFields nodes.now pinned fields.now order start place fault store.old store.new result) }
 {
     let mut behind = start;
     for (index, field) in fields.iter().enumerate() {
@@ -67,7 +67,7 @@ fn pass_field<S: Space>(
     requires table { IsTable nodes.now }
     requires field { IsFieldOf nodes.now (level_count store.old) field.now }
     ensures leaves { Leaves (S.view space.old) (S.view space.new) meter.old meter.new }
-    ensures is { IfOk result (λ end. OnBits (S.view space.old) (λ bits. PassesField bits nodes.now pinned start order field.now (levels nodes.now store.old) (levels nodes.now store.new) behind end)) }
+    ensures is { IfOk result (λ end. OnBits (S.view space.old) (Passes nodes.now pinned start order field.now store.old store.new behind end)) }
     ensures depth { level_count store.new ≡ level_count store.old }
 {
     if !is_there(&field.condition, start, meter, store)? {

@@ -5,12 +5,12 @@ ghost use Rattle.pickle_types.specs.declared.table.Node.{Node as TableNode};
 ghost use Rattle.pickle_types.specs.Types.{depth};
 ghost use Rattle.pickle_types.specs.Table.{IsTable, type_of, optional_term};
 ghost use Rattle.pickle_types.specs.Sound.{IsSoundClause};
-ghost use Rattle.pickle_meaning.specs.Clauses.{constraint, condition, field_start};
-ghost use Rattle.pickle_meaning.specs.Means.{Means, PartMeans};
+ghost use Rattle.pickle_meaning.specs.Clauses.{constraint, condition};
 ghost use Rattle.pickle_meaning.specs.Values.{outer_of};
 ghost use Rattle.pickle_map.specs.Framed.{Frame, IsEnd};
 ghost use Rattle.value_store.specs.Slots.{levels, level_count};
-ghost use Rattle.fault_check.specs.Ways.{OnBits, Comes, Settled, IsThere, IsFault, Leaves};
+ghost use Rattle.fault_check.specs.Calls.{FindsStart, MapsChecked, MapsType};
+ghost use Rattle.fault_check.specs.Ways.{OnBits, Settled, IsThere, IsFault, Leaves};
 
 use crate::part::Entered;
 use bit_space::{Meter, Order, Space};
@@ -37,7 +37,7 @@ pub fn map_part<S: Space>(
     requires open { level_count store.old + depth (type_of nodes.now node) ≤ 65 }
     ensures frame { Frame (S.view space.old) (S.view space.new) meter.old meter.new store.old store.new 0 }
     ensures ends { IfOk result (IsEnd start (S.view space.old)) }
-    ensures is { OnBits (S.view space.old) (λ bits. Comes (Means bits (type_of nodes.now node) order (levels nodes.now store.old) start) (levels nodes.now store.old) (levels nodes.now store.new) result) }
+    ensures is { OnBits (S.view space.old) (MapsType nodes.now node order start store.old store.new result) }
     ensures same { OnErr result (levels nodes.now store.new ≡ levels nodes.now store.old) }
     ensures outer { outer_of (levels nodes.now store.new) ≡ outer_of (levels nodes.now store.old) }
     ensures depth { level_count store.new ≡ level_count store.old }
@@ -93,7 +93,7 @@ pub fn find_start(
 ) -> Result<u128, Stop>
     requires sound { IsSoundClause (optional_term label.now) }
     ensures limit { meter.new.limit ≡ meter.old.limit }
-    ensures is { (nodes : List TableNode) → Settled result (field_start pinned (optional_term label.now) (levels nodes store.now) start behind) }
+    ensures is { FindsStart pinned label.now store.now start behind result }
 {
     clauses::find_start(
         pinned,
@@ -122,7 +122,7 @@ pub fn map_checked<S: Space>(
     requires sound { IsSoundClause (optional_term clause.now) }
     ensures leaves { Leaves (S.view space.old) (S.view space.new) meter.old meter.new }
     ensures ends { IfOk result (IsEnd start (S.view space.old)) }
-    ensures is { OnBits (S.view space.old) (λ bits. Comes (PartMeans bits (type_of nodes.now node) (optional_term clause.now) order (levels nodes.now store.old) start) (levels nodes.now store.old) (levels nodes.now store.new) result) }
+    ensures is { OnBits (S.view space.old) (MapsChecked nodes.now node clause.now order start store.old store.new result) }
     ensures outer { outer_of (levels nodes.now store.new) ≡ outer_of (levels nodes.now store.old) }
     ensures depth { level_count store.new ≡ level_count store.old }
 {

@@ -3,3 +3,4 @@ pub mod Contents
 pub mod Comes
 pub mod Ranges
 pub mod Known
+pub mod Evaluating

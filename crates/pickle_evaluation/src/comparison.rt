@@ -1,16 +1,13 @@
 //! Comparisons of integers that are named or written down. Most constraints and conditions are such, so they are met at
 //! a glance, and not as two operands of an operator.
 
-ghost use Rattle.std.specs.Prelude.{◌≡◌, IfSome, if◌then◌else◌, pos, List, true};
+ghost use Rattle.std.specs.Prelude.{◌≡◌, IfSome, true};
 ghost use Rattle.pickle_types.specs.Table.{term_of, IsWidth};
-ghost use Rattle.pickle_types.specs.declared.table.Node.{Node as TableNode};
 ghost use Rattle.pickle_types.specs.Sound.{IsSmall, IsSoundTerm};
 ghost use Rattle.pickle_types.specs.Types.{Name};
-ghost use Rattle.pickle_meaning.specs.Arithmetic.{on_common, on_integers, signed_type, truth};
-ghost use Rattle.pickle_evaluation.specs.Comes.{ComesTo, is_comparison};
-ghost use Rattle.pickle_meaning.specs.Evaluation.{evaluation};
-ghost use Rattle.pickle_meaning.specs.Values.{IntegerLabel};
-ghost use Rattle.value_store.specs.Slots.{levels};
+ghost use Rattle.pickle_meaning.specs.Arithmetic.{on_common, on_integers, truth};
+ghost use Rattle.pickle_evaluation.specs.Comes.{is_comparison};
+ghost use Rattle.pickle_evaluation.specs.Evaluating.{FindsInteger, FindsTruth};
 
 use crate::integers::common;
 use pickle_tree::tree::Infix;
@@ -33,7 +30,7 @@ pub struct Typed {
 #[inline(never)]
 pub fn comparison(e: &Resolved, store: &Store) -> Option<bool>
     requires { IsSoundTerm (term_of e.now) }
-    ensures { (nodes : List TableNode) → IfSome result (λ holds. ComesTo (evaluation (term_of e.now) (levels nodes store.now)) (IntegerLabel (if holds then pos 1 else pos 0) (signed_type 32)) 3) }
+    ensures { FindsTruth store.now (term_of e.now) result }
 {
     let Resolved::Infix(op, a, b) = e else {
         return None;
@@ -66,7 +63,7 @@ fn is_comparison(op: Infix) -> bool
 #[inline(always)]
 pub fn leaf(e: &Resolved, store: &Store) -> Option<Typed>
     requires { IsSoundTerm (term_of e.now) }
-    ensures is { (nodes : List TableNode) → IfSome result (λ n. ComesTo (evaluation (term_of e.now) (levels nodes store.now)) (IntegerLabel n.number n.of) 1) }
+    ensures is { FindsInteger store.now (term_of e.now) result }
     ensures width { IfSome result (λ n. IsWidth n.of × IsSmall n.of.signed n.number) }
 {
     match e {
@@ -82,7 +79,7 @@ pub fn leaf(e: &Resolved, store: &Store) -> Option<Typed>
 /// The integer that a name stands for.
 #[inline(always)]
 fn named(level: usize, place: usize, store: &Store) -> Option<Typed>
-    ensures is { (nodes : List TableNode) → IfSome result (λ n. ComesTo (evaluation (Name level place) (levels nodes store.now)) (IntegerLabel n.number n.of) 1) }
+    ensures is { FindsInteger store.now (Name level place) result }
     ensures width { IfSome result (λ n. IsWidth n.of × IsSmall n.of.signed n.number) }
 {
     let value = match store.part(level, place) {

@@ -2,18 +2,18 @@
 //!
 //! What is rare stands in functions of its own, which aren't inlined: each call pays for the locals of all that is.
 
-ghost use Rattle.std.specs.Prelude.{◌≡◌, ℕ, ◌+◌, ◌<◌, ◌≤◌, ◌^◌, Some, None, Ok, Err, IfOk, OnOk, OnErr, IfErr, List, Result, Bool};
+ghost use Rattle.std.specs.Prelude.{◌≡◌, ◌+◌, ◌<◌, ◌≤◌, ◌^◌, IfOk, OnOk, OnErr, List};
 ghost use Rattle.pickle_types.specs.Table.{term_of};
 ghost use Rattle.pickle_types.specs.declared.table.Node.{Node as TableNode};
 ghost use Rattle.pickle_types.specs.Sound.{IsOptionalWidth, IsSoundTerm};
 ghost use Rattle.pickle_meaning.specs.Values.{Label};
 ghost use Rattle.pickle_evaluation.specs.Operands.{operand_of};
-ghost use Rattle.pickle_meaning.specs.Evaluation.{evaluation, operand_label, leads_to, present, selected, settled, attribute_of, as_common, literal_length, between, element, Evaluation, and_operand, gives};
-ghost use Rattle.pickle_evaluation.specs.Operands.{Evaluated, IsOperand};
-ghost use Rattle.pickle_evaluation.specs.Comes.{Comes, Seen, computed_operand, IsApplied, infix_part, choice_part, index_part};
+ghost use Rattle.pickle_meaning.specs.Evaluation.{evaluation, leads_to, present, selected, settled, attribute_of, as_common, literal_length};
+ghost use Rattle.pickle_evaluation.specs.Operands.{IsOperand};
+ghost use Rattle.pickle_evaluation.specs.Comes.{Comes, computed_operand, IsApplied, infix_part, choice_part, index_part};
 ghost use Rattle.pickle_evaluation.specs.Contents.{IsSoundContent, IsHeld};
+ghost use Rattle.pickle_evaluation.specs.Evaluating.{Chooses, Combines, Evaluates, EvaluatesOn, Indexes, Looks};
 ghost use Rattle.value_store.specs.Scalars.{computed_of, IsScalar};
-ghost use Rattle.value_store.specs.Slots.{levels};
 
 use crate::comparison::leaf;
 use crate::content::{Content, combined, in_unit, prefixed, seen, to_integer, to_offset, truth_of};
@@ -41,7 +41,7 @@ pub fn evaluate<'a>(
     ensures limit { meter.new.limit ≡ meter.old.limit }
     ensures made { meter.new.made ≡ meter.old.made }
     ensures steps { meter.old.steps ≤ meter.new.steps }
-    ensures is { (nodes : List TableNode) → Evaluated nodes meter.old.limit meter.old.steps meter.new.steps result (evaluation (term_of e.now) (levels nodes store.now)) }
+    ensures is { Evaluates meter.old meter.new store.now result (evaluation (term_of e.now)) }
     ensures operand { IfOk result IsOperand }
 {
     meter.tick()?;
@@ -76,7 +76,7 @@ fn applied<'a>(
     ensures limit { meter.new.limit ≡ meter.old.limit }
     ensures made { meter.new.made ≡ meter.old.made }
     ensures steps { meter.old.steps ≤ meter.new.steps }
-    ensures is { (nodes : List TableNode) (before : ℕ) → meter.old.steps ≡ before + 1 → Evaluated nodes meter.old.limit before meter.new.steps result (evaluation (term_of e.now) (levels nodes store.now)) }
+    ensures is { EvaluatesOn meter.old meter.new store.now result (evaluation (term_of e.now)) }
     ensures operand { IfOk result IsOperand }
 {
     match e {
@@ -121,7 +121,7 @@ pub fn look<'a>(
     ensures limit { meter.new.limit ≡ meter.old.limit }
     ensures made { meter.new.made ≡ meter.old.made }
     ensures steps { meter.old.steps ≤ meter.new.steps }
-    ensures is { (nodes : List TableNode) → Seen meter.old.limit meter.old.steps meter.new.steps result (evaluation (term_of e.now) (levels nodes store.now)) }
+    ensures is { Looks meter.old meter.new store.now result (evaluation (term_of e.now)) }
     ensures sound { IfOk result IsSoundContent }
 {
     if let Some(n) = leaf(e, store) {
@@ -152,7 +152,7 @@ fn infix(
     ensures limit { meter.new.limit ≡ meter.old.limit }
     ensures made { meter.new.made ≡ meter.old.made }
     ensures steps { meter.old.steps ≤ meter.new.steps }
-    ensures is { (nodes : List TableNode) → Evaluated nodes meter.old.limit meter.old.steps meter.new.steps (computed_operand result) (infix_part op (term_of a.now) (term_of b.now) (levels nodes store.now)) }
+    ensures is { Evaluates meter.old meter.new store.now (computed_operand result) (infix_part op (term_of a.now) (term_of b.now)) }
     ensures scalar { IfOk result IsScalar }
 {
     let left = look(a, store, meter)?;
@@ -182,7 +182,7 @@ fn choice<'a>(
     ensures limit { meter.new.limit ≡ meter.old.limit }
     ensures made { meter.new.made ≡ meter.old.made }
     ensures steps { meter.old.steps ≤ meter.new.steps }
-    ensures is { (nodes : List TableNode) → Evaluated nodes meter.old.limit meter.old.steps meter.new.steps result (choice_part common.now (term_of c.now) (term_of x.now) (term_of y.now) (levels nodes store.now)) }
+    ensures is { Evaluates meter.old meter.new store.now result (choice_part common.now (term_of c.now) (term_of x.now) (term_of y.now)) }
     ensures operand { IfOk result IsOperand }
 {
     let t = look(c, store, meter)?;
@@ -200,7 +200,7 @@ fn chosen<'a>(
 ) -> Result<Operand<'a>, Unvalued>
     requires common { IsOptionalWidth common.now }
     requires side { IfOk side IsOperand }
-    ensures is { (nodes : List TableNode) (limit before after : ℕ) (a : Evaluation) → Evaluated nodes limit before after side.entry a → Evaluated nodes limit before after result (and_operand a (λ z. gives (as_common common.now (operand_label z)))) }
+    ensures is { Chooses common.now side.entry result }
     ensures operand { IfOk result IsOperand }
 {
     Ok(Operand::Scalar(as_common(common, seen(side?))?))
@@ -220,7 +220,7 @@ fn index<'a>(
     ensures limit { meter.new.limit ≡ meter.old.limit }
     ensures made { meter.new.made ≡ meter.old.made }
     ensures steps { meter.old.steps ≤ meter.new.steps }
-    ensures is { (nodes : List TableNode) → Evaluated nodes meter.old.limit meter.old.steps meter.new.steps result (index_part (term_of e.now) (term_of i.now) (levels nodes store.now)) }
+    ensures is { Evaluates meter.old meter.new store.now result (index_part (term_of e.now) (term_of i.now)) }
     ensures operand { IfOk result IsOperand }
 {
     let p = evaluate(e, store, meter)?;
@@ -241,7 +241,7 @@ fn between(
     ensures limit { meter.new.limit ≡ meter.old.limit }
     ensures made { meter.new.made ≡ meter.old.made }
     ensures steps { meter.old.steps ≤ meter.new.steps }
-    ensures is { (nodes : List TableNode) (a b : Label) → IsHeld x.entry a → IsHeld y.entry b → Evaluated nodes meter.old.limit meter.old.steps meter.new.steps (computed_operand result) (between op literal a b) }
+    ensures is { Combines meter.old meter.new op literal x.entry y.entry result }
     ensures scalar { IfOk result IsScalar }
 {
     if let (Content::Text(_), Content::Text(_)) = (x, y) {
@@ -302,7 +302,7 @@ fn selected(x: Operand<'_>, place: usize) -> Result<Operand<'_>, MapFaultKind>
 
 /// The element at an index.
 fn element<'a>(p: Operand<'a>, n: Content<'_>) -> Result<Operand<'a>, MapFaultKind>
-    ensures is { (nodes : List TableNode) (x : Label) → IsHeld n.entry x → Comes nodes result (leads_to (element (operand_of nodes p.entry) x)).outcome }
+    ensures is { Indexes p.entry n.entry result }
     ensures operand { IfOk result IsOperand }
 {
     match (p, n) {

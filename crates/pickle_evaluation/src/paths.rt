@@ -3,11 +3,9 @@
 ghost use Rattle.std.specs.Prelude.{◌≡◌, List};
 ghost use Rattle.std.specs.Option.{option_map};
 ghost use Rattle.value_store.specs.Refs.{value_of};
-ghost use Rattle.pickle_types.specs.declared.integer.IntegerType.{IntegerType};
 ghost use Rattle.pickle_types.specs.declared.table.Node.{Node};
-ghost use Rattle.pickle_meaning.specs.Evaluation.{AtPath, selected, element};
-ghost use Rattle.pickle_meaning.specs.Values.{IntegerLabel};
-ghost use Rattle.pickle_evaluation.specs.Operands.{found_value};
+ghost use Rattle.pickle_meaning.specs.Evaluation.{AtPath, selected};
+ghost use Rattle.pickle_evaluation.specs.Evaluating.{FindsElement};
 
 use pickle_meaning::faults::MapFaultKind;
 use value_store::scalar::Scalar;
@@ -30,7 +28,7 @@ pub fn selected(value: StoredValue<'_>, place: usize) -> Option<StoredValue<'_>>
 
 /// The element of an array, by an index that is not negative and below the count.
 pub fn element(value: StoredValue<'_>, index: i128) -> Result<StoredValue<'_>, MapFaultKind>
-    ensures { (nodes : List Node) (type : IntegerType) → found_value nodes result ≡ element (AtPath (value_of nodes value.entry)) (IntegerLabel index type) }
+    ensures { FindsElement value.entry index result }
 {
     if !matches!(value.kind(), Kind::Array) {
         return Err(MapFaultKind::Absent);

@@ -5,6 +5,7 @@ pub mod Row
 pub mod Stops
 pub mod Calls
 pub mod Settles
+pub mod Settled
 pub mod Mappable
 pub mod Mapped
 pub use Rattle.pickle_meaning.specs.FaultNames

@@ -3,9 +3,7 @@
 ghost use Rattle.std.specs.Prelude.{◌≡◌, ◌<◌, ◌≤◌, ◌^◌};
 ghost use Rattle.pickle_types.specs.Table.{optional_term, bound_of};
 ghost use Rattle.pickle_types.specs.Sound.{IsSoundClause, IsSoundBound};
-ghost use Rattle.pickle_meaning.specs.Clauses.{constraint, condition, field_start, extent_of, clause_steps, label_steps, bound_steps};
-ghost use Rattle.pickle_map.specs.Settles.{Settles};
-ghost use Rattle.value_store.specs.Slots.{levels};
+ghost use Rattle.pickle_map.specs.Settled.{Checks, FindsExtent, FindsStart, TellsThere};
 
 use crate::mapper::clauses;
 use crate::mapper::stop::Stop;
@@ -29,7 +27,7 @@ pub fn check<W: Watch>(
     ensures limit { meter.new.limit ≡ meter.old.limit }
     ensures made { meter.new.made ≡ meter.old.made }
     ensures steps { meter.old.steps ≤ meter.new.steps }
-    ensures is { Settles meter.old.limit meter.old.steps meter.new.steps result (constraint (optional_term clause.now) (levels table.now store.now) place) (clause_steps (optional_term clause.now) (levels table.now store.now)) }
+    ensures is { Checks table.now meter.old meter.new store.now clause.now place result }
 {
     let checked = clauses::check(clause, store, place, meter);
     if let Err(stop) = checked {
@@ -52,7 +50,7 @@ pub fn is_there<W: Watch>(
     ensures limit { meter.new.limit ≡ meter.old.limit }
     ensures made { meter.new.made ≡ meter.old.made }
     ensures steps { meter.old.steps ≤ meter.new.steps }
-    ensures is { Settles meter.old.limit meter.old.steps meter.new.steps result (condition (optional_term clause.now) (levels table.now store.now) start) (clause_steps (optional_term clause.now) (levels table.now store.now)) }
+    ensures is { TellsThere table.now meter.old meter.new store.now clause.now start result }
 {
     let there = clauses::is_there(clause, store, start, meter);
     if let Err(stop) = there {
@@ -78,7 +76,7 @@ pub fn find_start<W: Watch>(
     ensures limit { meter.new.limit ≡ meter.old.limit }
     ensures made { meter.new.made ≡ meter.old.made }
     ensures steps { meter.old.steps ≤ meter.new.steps }
-    ensures is { Settles meter.old.limit meter.old.steps meter.new.steps result (field_start pinned (optional_term label.now) (levels table.now store.now) start behind) (label_steps pinned (optional_term label.now) (levels table.now store.now)) }
+    ensures is { FindsStart table.now meter.old meter.new store.now pinned label.now start behind result }
 {
     let found = clauses::find_start(pinned, label, store, start, behind, meter);
     if let Err(stop) = found {
@@ -101,7 +99,7 @@ pub fn find_extent<W: Watch>(
     ensures limit { meter.new.limit ≡ meter.old.limit }
     ensures made { meter.new.made ≡ meter.old.made }
     ensures steps { meter.old.steps ≤ meter.new.steps }
-    ensures is { Settles meter.old.limit meter.old.steps meter.new.steps result (extent_of (bound_of bound.now) (levels table.now store.now) start) (bound_steps (bound_of bound.now) (levels table.now store.now)) }
+    ensures is { FindsExtent table.now meter.old meter.new store.now bound.now start result }
 {
     let extent = clauses::find_extent(bound, store, start, meter);
     if let Err(stop) = extent {

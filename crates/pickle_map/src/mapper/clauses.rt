@@ -1,15 +1,15 @@
 //! What stands beside the types in a pickle: constraints, conditions, labels and bounds.
 
-ghost use Rattle.std.specs.Prelude.{◌≡◌, ℕ, List, ◌+◌, ◌<◌, ◌≤◌, ◌^◌, Ok, IfOk};
+ghost use Rattle.std.specs.Prelude.{◌≡◌, List, ◌<◌, ◌≤◌, ◌^◌, Ok, IfOk};
 ghost use Rattle.pickle_types.specs.declared.table.Node.{Node as TableNode};
 ghost use Rattle.pickle_types.specs.Table.{term_of, optional_term, bound_of};
 ghost use Rattle.pickle_types.specs.Sound.{IsSoundTerm, IsSoundClause, IsSoundBound};
 ghost use Rattle.pickle_meaning.specs.Values.{Label};
-ghost use Rattle.pickle_meaning.specs.Evaluation.{evaluation, truth_of};
-ghost use Rattle.pickle_meaning.specs.Clauses.{constraint, condition, field_start, extent_of, clause_steps, label_steps, bound_steps, satisfied, kind_at, told_at, behind_start, count_of, size_of};
+ghost use Rattle.pickle_meaning.specs.Evaluation.{truth_of};
+ghost use Rattle.pickle_meaning.specs.Clauses.{satisfied, kind_at, behind_start, count_of, size_of};
 ghost use Rattle.pickle_evaluation.specs.Contents.{IsHeld, IsSoundContent};
-ghost use Rattle.pickle_map.specs.Settles.{Ends, Settles, Sees, natural};
-ghost use Rattle.value_store.specs.Slots.{levels};
+ghost use Rattle.pickle_map.specs.Settles.{Ends, natural};
+ghost use Rattle.pickle_map.specs.Settled.{Checks, FindsExtent, FindsStart, ShowsValue, TellsOf, TellsThere, TellsTruth};
 
 use crate::mapper::stop::Stop;
 use bit_space::Meter;
@@ -36,7 +36,7 @@ pub fn check(
     ensures limit { meter.new.limit ≡ meter.old.limit }
     ensures made { meter.new.made ≡ meter.old.made }
     ensures steps { meter.old.steps ≤ meter.new.steps }
-    ensures is { (nodes : List TableNode) → Settles meter.old.limit meter.old.steps meter.new.steps result (constraint (optional_term clause.now) (levels nodes store.now) place) (clause_steps (optional_term clause.now) (levels nodes store.now)) }
+    ensures is { (nodes : List TableNode) → Checks nodes meter.old meter.new store.now clause.now place result }
 {
     match clause {
         None => Ok(()),
@@ -55,7 +55,7 @@ pub fn is_there(
     ensures limit { meter.new.limit ≡ meter.old.limit }
     ensures made { meter.new.made ≡ meter.old.made }
     ensures steps { meter.old.steps ≤ meter.new.steps }
-    ensures is { (nodes : List TableNode) → Settles meter.old.limit meter.old.steps meter.new.steps result (condition (optional_term clause.now) (levels nodes store.now) start) (clause_steps (optional_term clause.now) (levels nodes store.now)) }
+    ensures is { (nodes : List TableNode) → TellsThere nodes meter.old meter.new store.now clause.now start result }
 {
     match clause {
         None => Ok(true),
@@ -80,7 +80,7 @@ pub fn find_start(
     ensures limit { meter.new.limit ≡ meter.old.limit }
     ensures made { meter.new.made ≡ meter.old.made }
     ensures steps { meter.old.steps ≤ meter.new.steps }
-    ensures is { (nodes : List TableNode) → Settles meter.old.limit meter.old.steps meter.new.steps result (field_start pinned (optional_term label.now) (levels nodes store.now) start behind) (label_steps pinned (optional_term label.now) (levels nodes store.now)) }
+    ensures is { (nodes : List TableNode) → FindsStart nodes meter.old meter.new store.now pinned label.now start behind result }
 {
     if pinned {
         return Ok(start);
@@ -103,7 +103,7 @@ pub fn find_extent(
     ensures limit { meter.new.limit ≡ meter.old.limit }
     ensures made { meter.new.made ≡ meter.old.made }
     ensures steps { meter.old.steps ≤ meter.new.steps }
-    ensures is { (nodes : List TableNode) → Settles meter.old.limit meter.old.steps meter.new.steps result (extent_of (bound_of bound.now) (levels nodes store.now) start) (bound_steps (bound_of bound.now) (levels nodes store.now)) }
+    ensures is { (nodes : List TableNode) → FindsExtent nodes meter.old meter.new store.now bound.now start result }
 {
     match bound {
         Bound::Unbounded => Ok(Extent::Open),
@@ -120,7 +120,7 @@ fn labelled_start(e: &Resolved, store: &Store, start: u128, meter: &mut Meter) -
     ensures limit { meter.new.limit ≡ meter.old.limit }
     ensures made { meter.new.made ≡ meter.old.made }
     ensures steps { meter.old.steps ≤ meter.new.steps }
-    ensures is { (nodes : List TableNode) → Settles meter.old.limit meter.old.steps meter.new.steps result (told_at start (behind_start start) (evaluation (term_of e.now) (levels nodes store.now)).outcome) (evaluation (term_of e.now) (levels nodes store.now)).steps }
+    ensures is { (nodes : List TableNode) → TellsOf nodes meter.old meter.new store.now e.now start (behind_start start) result }
 {
     behind_start(told(e, store, start, meter)?, start)
 }
@@ -137,7 +137,7 @@ fn evaluated_count(
     ensures limit { meter.new.limit ≡ meter.old.limit }
     ensures made { meter.new.made ≡ meter.old.made }
     ensures steps { meter.old.steps ≤ meter.new.steps }
-    ensures is { (nodes : List TableNode) → Settles meter.old.limit meter.old.steps meter.new.steps result (told_at start (count_of start) (evaluation (term_of e.now) (levels nodes store.now)).outcome) (evaluation (term_of e.now) (levels nodes store.now)).steps }
+    ensures is { (nodes : List TableNode) → TellsOf nodes meter.old meter.new store.now e.now start (count_of start) result }
 {
     count_of(told(e, store, start, meter)?, start)
 }
@@ -154,7 +154,7 @@ fn evaluated_size(
     ensures limit { meter.new.limit ≡ meter.old.limit }
     ensures made { meter.new.made ≡ meter.old.made }
     ensures steps { meter.old.steps ≤ meter.new.steps }
-    ensures is { (nodes : List TableNode) → Settles meter.old.limit meter.old.steps meter.new.steps result (told_at start (size_of start) (evaluation (term_of e.now) (levels nodes store.now)).outcome) (evaluation (term_of e.now) (levels nodes store.now)).steps }
+    ensures is { (nodes : List TableNode) → TellsOf nodes meter.old meter.new store.now e.now start (size_of start) result }
 {
     size_of(told(e, store, start, meter)?, start)
 }
@@ -170,7 +170,7 @@ fn told<'a>(
     ensures limit { meter.new.limit ≡ meter.old.limit }
     ensures made { meter.new.made ≡ meter.old.made }
     ensures steps { meter.old.steps ≤ meter.new.steps }
-    ensures is { (nodes : List TableNode) → Sees meter.old.limit meter.old.steps meter.new.steps place result (evaluation (term_of e.now) (levels nodes store.now)) }
+    ensures is { (nodes : List TableNode) → ShowsValue nodes meter.old meter.new store.now e.now place result }
     ensures sound { IfOk result IsSoundContent }
 {
     match look(e, store, meter) {
@@ -187,7 +187,7 @@ fn truth_told(e: &Resolved, store: &Store, place: u128, meter: &mut Meter) -> Re
     ensures limit { meter.new.limit ≡ meter.old.limit }
     ensures made { meter.new.made ≡ meter.old.made }
     ensures steps { meter.old.steps ≤ meter.new.steps }
-    ensures is { (nodes : List TableNode) → Settles meter.old.limit meter.old.steps meter.new.steps result (told_at place (λ x. kind_at place (truth_of x)) (evaluation (term_of e.now) (levels nodes store.now)).outcome) (evaluation (term_of e.now) (levels nodes store.now)).steps }
+    ensures is { (nodes : List TableNode) → TellsTruth nodes meter.old meter.new store.now e.now place result }
 {
     match comparison(e, store) {
         Some(holds) => {
@@ -212,7 +212,7 @@ fn evaluated_truth(
     ensures limit { meter.new.limit ≡ meter.old.limit }
     ensures made { meter.new.made ≡ meter.old.made }
     ensures steps { meter.old.steps ≤ meter.new.steps }
-    ensures is { (nodes : List TableNode) → Settles meter.old.limit meter.old.steps meter.new.steps result (told_at place (λ x. kind_at place (truth_of x)) (evaluation (term_of e.now) (levels nodes store.now)).outcome) (evaluation (term_of e.now) (levels nodes store.now)).steps }
+    ensures is { (nodes : List TableNode) → TellsTruth nodes meter.old meter.new store.now e.now place result }
 {
     told_truth(told(e, store, place, meter)?, place)
 }
