@@ -22,7 +22,7 @@ module _ (bits : List ℕ) where
   result_then : {A B : Type 0} (p : Plan A) (f : A → Plan B) → result_of bits (and_then p f) ≡ result_of bits (f (result_of bits p))
   result_then (Ended a) f = refl
   result_then (Tick p) f = result_then p f
-  result_then (Made count levels p) f = result_then p f
+  result_then (Made count row levels p) f = result_then p f
   result_then (Read place width order rest) f = result_then (rest _) f
 
   result_after : {A : Type 0} (n : ℕ) (a : A) → result_of bits (after n a) ≡ a

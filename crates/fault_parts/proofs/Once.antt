@@ -27,7 +27,7 @@ use Rattle.fault_parts.proofs.Paths.{by_outcome, next, checked_path, number_path
 result_then : {A B : Type 0} (bits : List ℕ) (p : Plan A) (f : A → Plan B) → result_of bits (and_then p f) ≡ result_of bits (f (result_of bits p))
 result_then bits (Ended a) f = refl
 result_then bits (Tick p) f = result_then bits p f
-result_then bits (Made count levels p) f = result_then bits p f
+result_then bits (Made count row levels p) f = result_then bits p f
 result_then bits (Read place width order rest) f = result_then bits (rest _) f
 
 result_after : {A : Type 0} (bits : List ℕ) (n : ℕ) (a : A) → result_of bits (after n a) ≡ a

@@ -17,10 +17,10 @@ OfValue P (Err e) = Unit {0}
 pub of_tick : {A : Type 0} {M : Levels → Type 0} {Q : A → Type 0} {p : Plan A} → Always M Q (Tick p) → Always M Q p
 of_tick (after_tick h) = h
 
-pub of_made : {A : Type 0} {M : Levels → Type 0} {Q : A → Type 0} {count : ℕ} {levels : Levels} {p : Plan A} → Always M Q (Made count levels p) → Always M Q p
+pub of_made : {A : Type 0} {M : Levels → Type 0} {Q : A → Type 0} {count : ℕ} {row : Bool} {levels : Levels} {p : Plan A} → Always M Q (Made count row levels p) → Always M Q p
 of_made (after_made l h) = h
 
-pub of_kept : {A : Type 0} {M : Levels → Type 0} {Q : A → Type 0} {count : ℕ} {levels : Levels} {p : Plan A} → Always M Q (Made count levels p) → M levels
+pub of_kept : {A : Type 0} {M : Levels → Type 0} {Q : A → Type 0} {count : ℕ} {row : Bool} {levels : Levels} {p : Plan A} → Always M Q (Made count row levels p) → M levels
 of_kept (after_made l h) = l
 
 pub of_read : {A : Type 0} {M : Levels → Type 0} {Q : A → Type 0} {place width : ℕ} {order : Order} {ps : ℕ → Plan A} → Always M Q (Read place width order ps) → (n : ℕ) → n < 2 ^ width → Always M Q (ps n)

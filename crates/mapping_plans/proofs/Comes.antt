@@ -1,5 +1,5 @@
 -- What plans come to on a file's bits.
-use Rattle.std.proofs.Common.{◌≡◌, ℕ, zero, suc, ◌+◌, ◌<◌, ◌≤◌, List, Result, Ok, Err, refl, sym, ap, ◌∙◌, subst, arith}
+use Rattle.std.proofs.Common.{◌≡◌, ℕ, zero, suc, ◌+◌, ◌<◌, ◌≤◌, Bool, List, Result, Ok, Err, refl, sym, ap, ◌∙◌, subst, arith}
 use Rattle.std.proofs.lemmas.Bool.{le-leb, lt-leb}
 use Rattle.bit_space.specs.declared.order.Order.{Order}
 use Rattle.pickle_meaning.specs.declared.faults.MapFaultKind.TheVariants as fault
@@ -22,7 +22,7 @@ comes_ended = record { result = refl; steps = refl; made = refl }
 pub comes_tick : {A : Type 0} {bits : List ℕ} {p : Plan A} {a : A} {k j : ℕ} → Comes bits p a k j → Comes bits (Tick p) a (1 + k) j
 comes_tick h = record { result = h.result; steps = ap (λ n. 1 + n) h.steps; made = h.made }
 
-pub comes_made : {A : Type 0} {bits : List ℕ} {count : ℕ} {levels : Levels} {p : Plan A} {a : A} {k j : ℕ} → Comes bits p a k j → Comes bits (Made count levels p) a k (count + j)
+pub comes_made : {A : Type 0} {bits : List ℕ} {count : ℕ} {row : Bool} {levels : Levels} {p : Plan A} {a : A} {k j : ℕ} → Comes bits p a k j → Comes bits (Made count row levels p) a k (count + j)
 comes_made {count} h = record { result = h.result; steps = h.steps; made = ap (λ n. count + n) h.made }
 
 pub comes_read : {A : Type 0} {bits : List ℕ} {place width : ℕ} {order : Order} {rest : ℕ → Plan A} {a : A} {k j : ℕ} → Comes bits (rest (number_at bits order place width)) a k j → Comes bits (Read place width order rest) a k j

@@ -14,7 +14,8 @@ use Rattle.pickle_meaning.specs.Evaluation.{Operand, operand_label, Evaluation, 
 use Rattle.pickle_meaning.specs.Clauses.{FaultAt, clause_steps, label_steps, bound_steps, is_due, is_met, ends_before, misses}
 use Rattle.pickle_meaning.specs.Means.{Opened, Taken, number_type, width_in, first_digits, ordered}
 use Rattle.mapping_plans.specs.Plan.{Plan, Tick, and_then, after, on_value, then_ok, AtMost, ended, ticked, noted, given}
-use Rattle.mapping_plans.specs.Mapping.{from_inside, constrained, number_plan, digits_plan, read_plan, after_byte, text_plan, after_element, elements_plan, after_attempt, plan, fields_plan, alternatives_plan}
+use Rattle.mapping_plans.specs.Mapping.{from_inside, constrained, number_plan, digits_plan, read_plan, after_byte, text_plan, after_element, element_plan, makes_row, elements_plan, after_attempt, plan, fields_plan, alternatives_plan}
+use Rattle.mapping_plans.proofs.InRow.{row_at_most}
 
 -- ---- evaluations
 
@@ -235,7 +236,7 @@ mutual
       inside_at_most m s (ticked (bound_weight bound + count_of m (least_width element) * (1 + cost element m)) (omega arith)
       (both _ (bound_weight bound) (count_of m (least_width element) * (1 + cost element m)) (omega arith) (at_most_after _ _ (bound_weight bound) (bound_within bound levels)) (λ extent.
       both _ (count_of m (least_width element) * (1 + cost element m)) 0 (omega arith)
-      (elements_at_most (plan m element order) (cost element m) m s extent (plan_at_most m element order) (count_of m (least_width element)) 0 (opened levels) s) (λ r. noted ended))))
+      (elements_at_most (element_plan element (plan m element order)) (cost element m) m s extent (λ l p. row_at_most (makes_row element) (plan_at_most m element order l p)) (count_of m (least_width element)) 0 (opened levels) s) (λ r. noted ended))))
   plan_at_most m (StructOf name pinned fields) order levels s =
       inside_at_most m s (ticked (fields_cost fields m) (omega arith) (both _ (fields_cost fields m) 0 (omega arith) (fields_at_most m pinned s fields order (opened levels) s s) (λ r. noted ended)))
   plan_at_most m (IntegralOf name type fields) order levels s = inside_at_most m s (read_at_most m (IntegralOf name type fields) type order levels s)

@@ -11,9 +11,10 @@ use Rattle.pickle_meaning.specs.Clauses.{FaultAt, is_due, is_met, ends_before, m
 use Rattle.pickle_meaning.specs.Means.{Opened, Taken, number_type, width_in, first_digits, ordered, value_of, field_names, part_names, union_value}
 use Rattle.pickle_meaning.specs.Room.{NodeSlot, ByteSlot, text_length, value_slots, members_slots}
 use Rattle.mapping_plans.specs.Plan.{Plan, and_then, after, on_value, then_ok, Counts, counted, count_tick, count_made, count_read}
-use Rattle.mapping_plans.specs.Mapping.{from_inside, makes, closes, constrained, number_plan, digits_plan, read_plan, after_byte, text_plan, after_element, elements_plan, after_attempt, plan, fields_plan, alternatives_plan}
+use Rattle.mapping_plans.specs.Mapping.{from_inside, makes, closes, constrained, number_plan, digits_plan, read_plan, after_byte, text_plan, after_element, element_plan, makes_row, elements_plan, after_attempt, plan, fields_plan, alternatives_plan}
 use Rattle.pickle_meaning.specs.Laws.{value_size}
 use Rattle.mapping_plans.proofs.Fitting.{longer}
+use Rattle.mapping_plans.proofs.InRow.{row_counts}
 
 -- of a value, with what was made before it
 abbrev SizeOn : {A F : Type 0} → (A → ℕ) → ℕ → Result A F → ℕ
@@ -166,7 +167,7 @@ mutual
   plan_counts m StringOf order levels s c = inside_counts of_value m s c c (omega arith) (count_tick (text_counts m _ [] levels s s c c (omega arith)))
   plan_counts m (ArrayOf element bound) order levels s c =
       inside_counts of_value m s c c (omega arith) (count_tick (counts_after of_value c _ _ _ c (omega arith) (λ extent.
-      counts_ok of_opened of_value c c _ (omega arith) (elements_counts (plan m element order) m s extent c (plan_counts m element order) (count_of m (least_width element)) 0 (opened levels) s c (omega arith))
+      counts_ok of_opened of_value c c _ (omega arith) (elements_counts (element_plan element (plan m element order)) m s extent c (λ l p d. row_counts (makes_row element) (plan_counts m element order l p d)) (count_of m (least_width element)) 0 (opened levels) s c (omega arith))
       (λ r d le. closes_counts ArrayLabel s r.1 r.0 c d refl le))))
   plan_counts m (StructOf name pinned fields) order levels s c =
       inside_counts of_value m s c c (omega arith) (count_tick (counts_ok of_opened of_value c c _ (omega arith) (fields_counts m pinned s fields order (opened levels) s s c c (omega arith))

@@ -18,12 +18,13 @@ use Rattle.pickle_meaning.specs.Values.{Naming, Value, end_of, text_value, Level
 use Rattle.pickle_meaning.specs.Clauses.{FaultAt, constraint, condition, field_start, extent_of, is_due, is_met, ends_before, misses}
 use Rattle.pickle_meaning.specs.Means.{Opened, Taken, number_type, width_in, first_digits, ordered}
 use Rattle.mapping_plans.specs.Plan.{Plan, Ended, Tick, Read, and_then, Always, result, after_tick, after_made, after_read}
-use Rattle.mapping_plans.specs.Mapping.{constrained, number_plan, digits_plan, read_plan, after_byte, text_plan, after_element, elements_plan, after_attempt, plan, fields_plan, alternatives_plan}
+use Rattle.mapping_plans.specs.Mapping.{constrained, number_plan, digits_plan, read_plan, after_byte, text_plan, after_element, element_plan, makes_row, elements_plan, after_attempt, plan, fields_plan, alternatives_plan}
 use Rattle.pickle_meaning.specs.Fits.{IsText, IsWhole, ElementsFit, no_more_fit, one_more_fits, FitsNumber, DigitsFit, Fits, FieldsFit, AlternativeFits}
 use Rattle.pickle_meaning.specs.Laws.{ValueFits}
 use Rattle.mapping_plans.proofs.Basics.{clash}
 use Rattle.mapping_plans.proofs.Widths.{EndsFrom, starts_from, next_start, later_unlabelled, present_least, absent_width, least_first}
 use Rattle.mapping_plans.proofs.Always.{OfValue, weaker, then_always, ok_always, told_always, inside_always}
+use Rattle.mapping_plans.proofs.InRow.{row_always}
 
 -- ---- a value that fits ends in the file, and is as wide as its type is at least
 
@@ -299,7 +300,7 @@ mutual
       inside_always m s (λ le. after_tick (told_always {Q = Fits m (ArrayOf element bound) levels s} _ (extent_of bound levels s) _
       (λ extent is. ok_always {P = Goes (Fits m element) m extent s 0 (opened levels) s} {Q = Fits m (ArrayOf element bound) levels s} _
       (λ r h. after_made tt (result (extent, is, r.0, r.1, h.0, h.1, h.2, h.3, refl)))
-      (elements_fit m s extent (Fits m element) (plan m element order) (plan_fits m element order) (λ l a v fit. (let w = fits_wide m element l a v fit in omega arith, fits_inside m element l a v fit)) (count_of m (least_width element)) 0 (opened levels) s le (none_counted extent)))))
+      (elements_fit m s extent (Fits m element) (element_plan element (plan m element order)) (λ l p. row_always (makes_row element) (plan_fits m element order l p)) (λ l a v fit. (let w = fits_wide m element l a v fit in omega arith, fits_inside m element l a v fit)) (count_of m (least_width element)) 0 (opened levels) s le (none_counted extent)))))
   plan_fits m (StructOf name pinned fields) order levels s =
       inside_always m s (λ le. after_tick (ok_always {P = Fitting m pinned s fields (opened levels) s s} {Q = Fits m (StructOf name pinned fields) levels s} _
       (λ r h. after_made tt (result (r.0, r.1, h.0, h.1, refl))) (fields_fit m pinned s fields order (opened levels) s s (omega arith) le)))

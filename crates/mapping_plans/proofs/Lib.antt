@@ -1,6 +1,8 @@
 pub mod Basics
 pub mod Equations
 pub mod Comes
+pub mod InRow
+pub mod Kept
 pub mod Widths
 pub mod Planned
 pub mod Exists

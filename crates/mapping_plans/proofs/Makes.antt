@@ -10,7 +10,8 @@ use Rattle.pickle_meaning.specs.Values.{Naming, Value, end_of, Levels, pushed, o
 use Rattle.pickle_meaning.specs.Clauses.{FaultAt, is_due, is_met, ends_before, misses}
 use Rattle.pickle_meaning.specs.Means.{Opened, Taken, number_type, width_in, first_digits, ordered}
 use Rattle.mapping_plans.specs.Plan.{Plan, Ended, Made, and_then, after, on_value, then_ok, MadeWithin, made_ended, made_tick, made_more, made_read}
-use Rattle.mapping_plans.specs.Mapping.{from_inside, constrained, number_plan, digits_plan, read_plan, after_byte, text_plan, after_element, elements_plan, after_attempt, plan, fields_plan, alternatives_plan}
+use Rattle.mapping_plans.specs.Mapping.{from_inside, constrained, number_plan, digits_plan, read_plan, after_byte, text_plan, after_element, element_plan, makes_row, elements_plan, after_attempt, plan, fields_plan, alternatives_plan}
+use Rattle.mapping_plans.proofs.InRow.{row_within}
 
 -- with more steps taken before, and fewer wanted at the end
 pub within_more : {A : Type 0} {p : Plan A} {a b : ℕ} (c d : ℕ) → a ≤ c → d ≤ b → MadeWithin p a b → MadeWithin p c d
@@ -38,7 +39,7 @@ within_after zero x a = made_ended (omega arith)
 within_after (suc n) x a = made_tick (within_more (a + 1) a (omega arith) (omega arith) (within_after n x a))
 
 -- one value, for a step that was taken
-one_made : {A : Type 0} {levels : Levels} {x : A} (a : ℕ) → MadeWithin (Made 1 levels (Ended x)) (a + 1) a
+one_made : {A : Type 0} {row : Bool} {levels : Levels} {x : A} (a : ℕ) → MadeWithin (Made 1 row levels (Ended x)) (a + 1) a
 one_made a = made_more a (omega arith) (made_ended (omega arith))
 
 one_of : {A : Type 0} (b : Bool) {p q : Plan A} {a c : ℕ} → MadeWithin p a c → MadeWithin q a c → MadeWithin (if b then p else q) a c
@@ -114,7 +115,7 @@ mutual
   plan_within m (ArrayOf element bound) order levels s a =
       inside_within m s a (made_tick
       (within_ok _ (a + 1) (omega arith) (within_after _ _ (a + 1)) (λ extent.
-      within_ok _ (a + 1) (omega arith) (elements_within (plan m element order) m s extent (a + 1) (λ l p. plan_within m element order l p (a + 1)) (count_of m (least_width element)) 0 (opened levels) s) (λ r. one_made a))))
+      within_ok _ (a + 1) (omega arith) (elements_within (element_plan element (plan m element order)) m s extent (a + 1) (λ l p. row_within (makes_row element) (plan_within m element order l p (a + 1))) (count_of m (least_width element)) 0 (opened levels) s) (λ r. one_made a))))
   plan_within m (StructOf name pinned fields) order levels s a =
       inside_within m s a (made_tick (within_ok _ (a + 1) (omega arith) (fields_within m pinned s fields order (opened levels) s s (a + 1)) (λ r. one_made a)))
   plan_within m (IntegralOf name type fields) order levels s a = inside_within m s a (read_within m (IntegralOf name type fields) type order levels s a)

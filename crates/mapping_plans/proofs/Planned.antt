@@ -14,10 +14,11 @@ use Rattle.pickle_meaning.specs.Values.{Naming, Value, end_of, text_value, Level
 use Rattle.pickle_meaning.specs.Clauses.{FaultAt, constraint, clause_steps, label_steps, bound_steps, is_due, is_met, ends_before, misses}
 use Rattle.pickle_meaning.specs.Means.{Means, past_end, number_read, number_end, string, string_end, array, bound_fault, struct, struct_fault, union, union_fault, NumberMeans, integer, offset, integral, integral_fault, no_number, DigitsMean, no_digits, next_digits, digits_refused, digits_fault, number_type, Run, no_bytes, next_byte, Elements, no_more, next_element, Closing, none_due, beyond_size, no_bits, ends_without, element_fault, PartMeans, part, part_refused, part_fault, FieldsMean, all_fields, absent, field, condition_fault, label_fault, field_fault, AlternativesMean, none_left, fits, misses_it, other_fault, Opened, Taken}
 use Rattle.mapping_plans.specs.Plan.{Plan, Ended, Tick, on_value, then_ok}
-use Rattle.mapping_plans.specs.Mapping.{from_inside, constrained, number_plan, digits_plan, read_plan, after_byte, text_plan, after_element, elements_plan, array_closes, after_attempt, plan, fields_plan, alternatives_plan}
+use Rattle.mapping_plans.specs.Mapping.{from_inside, constrained, number_plan, digits_plan, read_plan, after_byte, text_plan, after_element, element_plan, makes_row, elements_plan, array_closes, after_attempt, plan, fields_plan, alternatives_plan}
 use Rattle.mapping_plans.proofs.Basics.{clash, same_type, fewer, enough}
 use Rattle.mapping_plans.proofs.Comes.{Comes, comes_ended, comes_tick, comes_made, comes_read, comes_as, comes_after, comes_then, comes_ok, comes_err, comes_inside, comes_past}
 use Rattle.mapping_plans.proofs.Widths.{means_inside, elements_inside, means_wide}
+use Rattle.mapping_plans.proofs.InRow.{row_comes}
 
 any_past : (bits : List ℕ) (ty : PokeType) (order : Order) (levels : Levels) (s : ℕ) → length bits < s → Comes bits (plan (length bits) ty order levels s) (Err (fault.End, s)) 0 0
 unfolding plan
@@ -86,25 +87,25 @@ read_past {bits} ty type order levels s lt = rw (lt-leb (s + type.width) (length
 
 -- what a plan of elements comes to, with enough left to try, whatever is left beyond that
 record EndsWith (bits : List ℕ) (ty : PokeType) (order : Order) (s : ℕ) (extent : Extent) (i : ℕ) (inside : Levels) (p : ℕ) (r : Result Opened FaultAt) (k j : ℕ) : Type 0 where
-  with_left : (n : ℕ) → length bits < p + n * max 1 (least_width ty) → Comes bits (elements_plan (plan (length bits) ty order) (length bits) s extent n i inside p) r k j
+  with_left : (n : ℕ) → length bits < p + n * max 1 (least_width ty) → Comes bits (elements_plan (element_plan ty (plan (length bits) ty order)) (length bits) s extent n i inside p) r k j
 
 ends_as : {bits : List ℕ} {ty : PokeType} {order : Order} {s : ℕ} {extent : Extent} {i : ℕ} {inside : Levels} {p : ℕ} {r : Result Opened FaultAt} {k j k' j' : ℕ} → k ≡ k' → j ≡ j' → EndsWith bits ty order s extent i inside p r k j → EndsWith bits ty order s extent i inside p r k' j'
 ends_as ek ej h = record { with_left = λ n le. comes_as ek ej (h.with_left n le) }
 
 -- an element that is due, and what follows
-due_comes : {bits : List ℕ} {ty : PokeType} {order : Order} {s : ℕ} {extent : Extent} {i : ℕ} {levels : Levels} {p : ℕ} {a : Result Value FaultAt} {r : Result Opened FaultAt} {k j k' j' : ℕ} → is_due extent (length bits) s i p ≡ true → p ≤ length bits → Comes bits (plan (length bits) ty order levels p) a k j → ((d : ℕ) → length bits < p + suc d * max 1 (least_width ty) → Comes bits (after_element extent (elements_plan (plan (length bits) ty order) (length bits) s extent d (i + 1)) levels p a) r k' j') → EndsWith bits ty order s extent i levels p r (1 + k + k') (j + j')
+due_comes : {bits : List ℕ} {ty : PokeType} {order : Order} {s : ℕ} {extent : Extent} {i : ℕ} {levels : Levels} {p : ℕ} {a : Result Value FaultAt} {r : Result Opened FaultAt} {k j k' j' : ℕ} → is_due extent (length bits) s i p ≡ true → p ≤ length bits → Comes bits (plan (length bits) ty order levels p) a k j → ((d : ℕ) → length bits < p + suc d * max 1 (least_width ty) → Comes bits (after_element extent (elements_plan (element_plan ty (plan (length bits) ty order)) (length bits) s extent d (i + 1)) levels p a) r k' j') → EndsWith bits ty order s extent i levels p r (1 + k + k') (j + j')
 unfolding elements_plan
 due_comes {bits} {ty} {order} {s} {extent} {i} {levels} {p} {a} {r} {k} {j} {k'} {j'} due inside h g = record { with_left = tries }
   where
-    tries : (n : ℕ) → length bits < p + n * max 1 (least_width ty) → Comes bits (elements_plan (plan (length bits) ty order) (length bits) s extent n i levels p) r (1 + k + k') (j + j')
+    tries : (n : ℕ) → length bits < p + n * max 1 (least_width ty) → Comes bits (elements_plan (element_plan ty (plan (length bits) ty order)) (length bits) s extent n i levels p) r (1 + k + k') (j + j')
     tries zero le = absurd (omega arith)
-    tries (suc d) le = rw due (comes_as (omega arith) refl (comes_tick (comes_then _ _ h (g d le))))
+    tries (suc d) le = rw due (comes_as (omega arith) refl (comes_tick (comes_then _ _ (row_comes (makes_row ty) h) (g d le))))
 
 done_comes : {bits : List ℕ} {ty : PokeType} {order : Order} {s : ℕ} {extent : Extent} {i : ℕ} {levels : Levels} {p : ℕ} → is_due extent (length bits) s i p ≡ false → is_met extent s p ≡ true → p ≤ length bits → EndsWith bits ty order s extent i levels p (Ok (levels, p)) 0 0
 unfolding elements_plan
 done_comes {bits} {ty} {order} {s} {extent} {i} {levels} {p} over met inside = record { with_left = tries }
   where
-    tries : (n : ℕ) → length bits < p + n * max 1 (least_width ty) → Comes bits (elements_plan (plan (length bits) ty order) (length bits) s extent n i levels p) (Ok (levels, p)) 0 0
+    tries : (n : ℕ) → length bits < p + n * max 1 (least_width ty) → Comes bits (elements_plan (element_plan ty (plan (length bits) ty order)) (length bits) s extent n i levels p) (Ok (levels, p)) 0 0
     tries zero e = absurd (omega arith)
     tries (suc d) e = rw (over, met) comes_ended
 
@@ -112,7 +113,7 @@ beyond_comes : {bits : List ℕ} {ty : PokeType} {order : Order} {s : ℕ} {exte
 unfolding elements_plan
 beyond_comes {bits} {ty} {order} {s} {extent} {i} {levels} {p} over met inside = record { with_left = tries }
   where
-    tries : (n : ℕ) → length bits < p + n * max 1 (least_width ty) → Comes bits (elements_plan (plan (length bits) ty order) (length bits) s extent n i levels p) (Err (fault.Bounds, s)) 0 0
+    tries : (n : ℕ) → length bits < p + n * max 1 (least_width ty) → Comes bits (elements_plan (element_plan ty (plan (length bits) ty order)) (length bits) s extent n i levels p) (Err (fault.Bounds, s)) 0 0
     tries zero e = absurd (omega arith)
     tries (suc d) e = rw (over, met) comes_ended
 
@@ -215,7 +216,7 @@ mutual
       let e = closing_comes up c in
       let all = elements_come le es e.ends in
       let sum = e.sum in
-      let rest = comes_on (elements_plan (plan (length bits) ty order) (length bits) s extent (count_of (length bits) (least_width ty)) 0 (opened levels) s) (array_closes s) (all.with_left (count_of (length bits) (least_width ty)) (enough (length bits) s (max 1 (least_width ty)) (omega arith))) e.closing in
+      let rest = comes_on (elements_plan (element_plan ty (plan (length bits) ty order)) (length bits) s extent (count_of (length bits) (least_width ty)) 0 (opened levels) s) (array_closes s) (all.with_left (count_of (length bits) (least_width ty)) (enough (length bits) s (max 1 (least_width ty)) (omega arith))) e.closing in
       comes_inside _ _ _ le (comes_as (omega arith) (omega arith) (comes_tick (comes_ok _ _ (comes_after (bound_steps bound levels) b) rest)))
   means_comes (bound_fault {bound} {levels} le b) = comes_inside _ _ _ le (comes_tick (comes_err _ _ (comes_after (bound_steps bound levels) b)))
   means_comes (struct le fs) = comes_inside _ _ _ le (comes_as (omega arith) refl (comes_tick (comes_ok _ _ (fields_come fs) (comes_made {j = 0} comes_ended))))
@@ -228,7 +229,7 @@ mutual
   elements_come {bits} le (next_element {ty} {order} {extent} {levels} {s} {i} {p} {v} due m gt es) h =
       let rest = elements_come (means_inside m) es h in
       let wide : p + least_width ty ≤ end_of v = means_wide m in
-      ends_as (omega arith) (omega arith) (due_comes due le (means_comes m) (λ d left. after_value extent (elements_plan (plan (length bits) ty order) (length bits) s extent d (i + 1)) levels p v gt (rest.with_left d (fewer (length bits) p (end_of v) d (max 1 (least_width ty)) left (omega arith)))))
+      ends_as (omega arith) (omega arith) (due_comes due le (means_comes m) (λ d left. after_value extent (elements_plan (element_plan ty (plan (length bits) ty order)) (length bits) s extent d (i + 1)) levels p v gt (rest.with_left d (fewer (length bits) p (end_of v) d (max 1 (least_width ty)) left (omega arith)))))
 
   closing_comes : {bits : List ℕ} {ty : PokeType} {order : Order} {s : ℕ} {extent : Extent} {n : ℕ} {inside : Levels} {pn k j : ℕ} {r : Result Value FaultAt} → pn ≤ length bits → Closing bits ty order s extent n inside pn r k j → Closes bits ty order s extent n inside pn r k j
   closing_comes le (none_due over met) = record { ended = _; made_in = _; made_on = _; ends = done_comes over met le; closing = comes_made {j = 0} comes_ended; sum = refl }

@@ -1,18 +1,18 @@
 -- What the definitions refuse: another value, more or fewer steps or values made, a fault at another place, and values that don't fit.
-use Rattle.std.proofs.Common.{◌≡◌, ℕ, ◌+◌, ◌<◌, List, [], ◌∷◌, length, Some, None, Result, Ok, Err, refl, sym, ap, subst, arith}
-use Rattle.std.specs.Prelude.{ℤ, pos, negsuc}
-use Rattle.bit_space.specs.declared.order.Order.TheVariants.{Big, Little}
+use Rattle.std.proofs.Common.{◌≡◌, ℕ, ◌+◌, ◌<◌, List, [], ◌∷◌, Result, Ok, Err, sym, ap, subst, arith}
+use Rattle.std.specs.Prelude.{pos}
+use Rattle.bit_space.specs.declared.order.Order.TheVariants.{Big}
 use Rattle.bit_space.specs.Bits.{bits_of, binary, number, digits, numeral_onto, groups_from}
 use Rattle.pickle_types.specs.Types.{IntegerOf, StringOf}
 use Rattle.pickle_meaning.specs.declared.faults.MapFaultKind.TheVariants as fault
-use Rattle.pickle_meaning.specs.Values.{IntegerLabel, OffsetLabel, TextLabel, ArrayLabel, StructLabel, UnionLabel, Value, Mapped, NoMembers, start_of, end_of, no_values}
+use Rattle.pickle_meaning.specs.Values.{IntegerLabel, TextLabel, Value, Mapped, NoMembers, start_of, no_values}
 use Rattle.pickle_meaning.specs.Arithmetic.{unsigned_type, modulo, with_sign}
 use Rattle.pickle_meaning.specs.Clauses.{FaultAt}
 use Rattle.pickle_meaning.specs.Means.{Means}
 use Rattle.mapping_plans.specs.Plan.{then_ok}
-use Rattle.pickle_meaning.specs.Answer.{Answer, in_time, too_long}
+use Rattle.pickle_meaning.specs.Answer.{Answer, in_time}
 use Rattle.pickle_meaning.specs.Fits.{Fits, FitsNumber, IsText}
-use Rattle.mapping_plans.specs.Mapping.{from_inside, constrained, number_plan, read_plan, after_byte, text_plan, plan}
+use Rattle.mapping_plans.specs.Mapping.{from_inside, constrained, number_plan, read_plan, plan}
 use Rattle.mapping_plans.proofs.Planned.{means_one}
 use Rattle.mapping_plans.proofs.Exists.{plan_means}
 

@@ -1,3 +1,4 @@
 pub mod Plan
 pub mod Mapping
 pub mod PlanLaws
+pub mod Kept

@@ -1,5 +1,5 @@
 -- The plan of a mapping: what is done at a place for a type, step by step.
-use Rattle.std.specs.Prelude.{ℕ, zero, suc, ◌+◌, ◌-◌, ◌/◌, max, List, [], ◌∷◌, ◌++◌, Option, Some, None, Result, Ok, Err, Bool, nat_eq, nat_le, if◌then◌else◌}
+use Rattle.std.specs.Prelude.{ℕ, zero, suc, ◌+◌, ◌-◌, ◌/◌, max, List, [], ◌∷◌, ◌++◌, Option, Some, None, Result, Ok, Err, Bool, true, false, nat_eq, nat_le, if◌then◌else◌}
 use Rattle.bit_space.specs.declared.order.Order.{Order}
 use Rattle.bit_space.specs.declared.order.Order.TheVariants.{Big}
 use Rattle.pickle_types.specs.declared.integer.IntegerType.{IntegerType}
@@ -10,7 +10,7 @@ use Rattle.pickle_meaning.specs.declared.faults.MapFaultKind.TheVariants as faul
 use Rattle.pickle_meaning.specs.Values.{Naming, Value, end_of, text_value, text_level, Levels, pushed, opened, outer_of}
 use Rattle.pickle_meaning.specs.Clauses.{FaultAt, constraint, clause_steps, condition, field_start, label_steps, extent_of, bound_steps, is_due, is_met, ends_before, misses}
 use Rattle.pickle_meaning.specs.Means.{ordered, number_type, width_in, first_digits, field_names, part_names, integer_value, offset_value, array_value, struct_value, Taken, union_value, Opened}
-use Rattle.mapping_plans.specs.Plan.{Plan, Ended, Tick, Made, Read, and_then, after, then_ok}
+use Rattle.mapping_plans.specs.Plan.{Plan, Ended, Tick, Made, Read, and_then, after, then_ok, in_row}
 
 -- a mapping that starts past the last bit is an End fault, in no steps
 unfoldable pub from_inside : {A : Type 0} → (m s : ℕ) → Plan (Result A FaultAt) → Plan (Result A FaultAt)
@@ -18,7 +18,7 @@ from_inside m s p = if nat_le s m then p else Ended (Err (fault.End, s))
 
 -- a value is made, and goes into these levels
 abbrev pub makes : Levels → Value → Plan (Result Value FaultAt)
-makes levels v = Made 1 (pushed levels (Some v)) (Ended (Ok v))
+makes levels v = Made 1 false (pushed levels (Some v)) (Ended (Ok v))
 
 -- the innermost level is closed, and a value is made of it
 abbrev pub closes : (Levels → Value) → Levels → Plan (Result Value FaultAt)
@@ -55,7 +55,7 @@ read_plan m ty type order levels s =
 -- what comes after a byte of a string that began at s: its end, or the bytes from there on
 unfoldable pub after_byte : (List ℕ → Plan (Result Value FaultAt)) → List ℕ → Levels → (s end : ℕ) → (byte : ℕ) → Plan (Result Value FaultAt)
 after_byte next bytes levels s end zero = makes levels (text_value bytes s end)
-after_byte next bytes levels s end (suc b) = Made 1 (text_level (bytes ++ suc b ∷ []) s levels) (next (bytes ++ suc b ∷ []))
+after_byte next bytes levels s end (suc b) = Made 1 false (text_level (bytes ++ suc b ∷ []) s levels) (next (bytes ++ suc b ∷ []))
 
 -- The bytes of a string that began at s, from `place` on; at most n are tried. That is enough for all, so that the first
 -- line is never reached where n is m / 8 + 1.
@@ -63,6 +63,20 @@ unfoldable pub text_plan : (m n : ℕ) → List ℕ → Levels → (s place : �
 text_plan m zero bytes levels s place = Ended (Err (fault.End, s))
 text_plan m (suc n) bytes levels s place =
     Tick (if nat_le (place + 8) m then Read place 8 Big (after_byte (λ more. text_plan m n more levels s (place + 8)) bytes levels s (place + 8)) else Ended (Err (fault.End, s)))
+
+-- elements of these types are numbers, which a store may keep as one row
+abbrev pub makes_row : PokeType → Bool
+makes_row (IntegerOf type) = true
+makes_row (OffsetOf type unit) = true
+makes_row StringOf = false
+makes_row (ArrayOf element bound) = false
+makes_row (StructOf name pinned _) = false
+makes_row (IntegralOf name type _) = false
+makes_row (UnionOf name alternatives) = false
+
+-- the plan of a type, as that of an array's element
+abbrev pub element_plan : PokeType → (Levels → ℕ → Plan (Result Value FaultAt)) → Levels → ℕ → Plan (Result Value FaultAt)
+element_plan ty p levels place = in_row (makes_row ty) (p levels place)
 
 -- what comes after an element: the array goes on behind it, or ends before it
 unfoldable pub after_element : Extent → (Levels → ℕ → Plan (Result Opened FaultAt)) → Levels → (place : ℕ) → Result Value FaultAt → Plan (Result Opened FaultAt)
@@ -97,7 +111,7 @@ unfoldable mutual
   plan m (OffsetOf type unit) order levels s = from_inside m s (read_plan m (OffsetOf type unit) type order levels s)
   plan m StringOf order levels s = from_inside m s (Tick (text_plan m (m / 8 + 1) [] levels s s))
   plan m (ArrayOf element bound) order levels s =
-      from_inside m s (Tick (then_ok (after (bound_steps bound levels) (extent_of bound levels s)) (λ extent. then_ok (elements_plan (plan m element order) m s extent (count_of m (least_width element)) 0 (opened levels) s) (array_closes s))))
+      from_inside m s (Tick (then_ok (after (bound_steps bound levels) (extent_of bound levels s)) (λ extent. then_ok (elements_plan (element_plan element (plan m element order)) m s extent (count_of m (least_width element)) 0 (opened levels) s) (array_closes s))))
   plan m (StructOf name pinned fields) order levels s =
       from_inside m s (Tick (then_ok (fields_plan m pinned s fields order (opened levels) s s) (struct_closes name (field_names fields) s)))
   plan m (IntegralOf name type fields) order levels s = from_inside m s (read_plan m (IntegralOf name type fields) type order levels s)
@@ -109,7 +123,7 @@ unfoldable mutual
   fields_plan m pinned s (FieldThen name set ty c label when rest) order levels behind top =
       Tick (then_ok (after (clause_steps when levels) (condition when levels s)) (λ there.
       if there then then_ok (after (label_steps pinned label levels) (field_start pinned label levels s behind)) (λ p. then_ok (then_ok (plan m ty (ordered set order) levels p) (constrained c levels p)) (λ v. fields_plan m pinned s rest order (pushed levels (Some v)) (end_of v) (max top (end_of v))))
-      else Made 0 (pushed levels None) (fields_plan m pinned s rest order (pushed levels None) behind top)))
+      else Made 0 false (pushed levels None) (fields_plan m pinned s rest order (pushed levels None) behind top)))
 
   pub alternatives_plan : (m : ℕ) → Parts → (index : ℕ) → Order → Levels → (s : ℕ) → Plan (Result Taken FaultAt)
   alternatives_plan m NoParts index order levels s = Ended (Err (fault.Constraint, s))
