@@ -1,44 +1,15 @@
--- What lists of values take, and their open values' levels.
-use Rattle.std.proofs.Common.{◌≡◌, ◌+◌, ◌≤◌, List, [], ◌∷◌, ◌++◌, Option, Some, None, length, take, drop, refl, sym, ◌∙◌, ap, subst, arith, zero-add}
+-- What a store's levels take, as values are added to them and open values closed.
+use Rattle.std.proofs.Common.{◌≡◌, ◌+◌, ◌≤◌, List, [], ◌∷◌, ◌++◌, Option, length, take, drop, refl, sym, ◌∙◌, ap, subst, arith}
 use Rattle.std.proofs.lemmas.List.{append-nil, length-take, drop-append-le, drop_at, take_all, take-take, take-append-drop}
 use Rattle.value_store.specs.declared.store.room.Room.{Room}
 use Rattle.value_store.specs.declared.store.slots.Marks.{Marks}
-use Rattle.pickle_meaning.specs.Room.{Slot, NodeSlot, LinkSlot, PendingSlot, ByteSlot, value_slots, members_slots, place_slots, level_slots}
-use Rattle.pickle_meaning.specs.Values.{Value, Mapped, Members, NoMembers, MemberThen, AbsentThen, gathered, member_count}
+use Rattle.pickle_meaning.specs.Values.{Value}
 use Rattle.value_store.specs.Levels.{extended}
 use Rattle.value_store.specs.Names.{Names}
-use Rattle.value_store.specs.Slots.{Slots, stack, IsSound, cut_to, marks_of, root_marks, IsWithin, level_of, IsLevel, AreLevels, levels_at, Adds}
+use Rattle.value_store.specs.Takes.{Vector, of_vector, level_takes}
+use Rattle.value_store.specs.Slots.{Slots, packs, stack, IsSound, cut_to, marks_of, root_marks, IsWithin, level_of, IsLevel, AreLevels, levels_at, Adds}
 use Rattle.value_store.proofs.Grown.{length-stack, stack-cut}
-
-pub level_slots-append : (kind : Slot) (xs ys : List (Option Value)) → level_slots kind (xs ++ ys) ≡ level_slots kind xs + level_slots kind ys
-level_slots-append kind [] ys = sym (zero-add (level_slots kind ys))
-level_slots-append kind (v ∷ xs) ys = omega (arith, level_slots-append kind xs ys)
-
--- what the members of a value take, where their places take none
-pub members_slots-of : (kind : Slot) (os : List (Option Value)) → place_slots kind ≡ 0 → members_slots kind (gathered os) ≡ level_slots kind os
-members_slots-of kind [] e = refl
-members_slots-of kind (None ∷ os) e = omega (arith, e, members_slots-of kind os e)
-members_slots-of kind (Some v ∷ os) e = omega (arith, e, members_slots-of kind os e)
-
-pub member_count-of : (os : List (Option Value)) → member_count (gathered os) ≡ length os
-member_count-of [] = refl
-member_count-of (None ∷ os) = omega (arith, member_count-of os)
-member_count-of (Some v ∷ os) = omega (arith, member_count-of os)
-
--- a value has no pending children
-mutual
-  value_pending : (v : Value) → value_slots PendingSlot v ≡ 0
-  value_pending (Mapped label start end members) = omega (arith, members_pending members)
-
-  members_pending : (members : Members) → members_slots PendingSlot members ≡ 0
-  members_pending NoMembers = refl
-  members_pending (MemberThen v rest) = omega (arith, value_pending v, members_pending rest)
-  members_pending (AbsentThen rest) = members_pending rest
-
-pub level_pending : (os : List (Option Value)) → level_slots PendingSlot os ≡ length os
-level_pending [] = refl
-level_pending (None ∷ os) = omega (arith, level_pending os)
-level_pending (Some v ∷ os) = omega (arith, value_pending v, level_pending os)
+use Rattle.value_store.proofs.Taken.{level_takes-append}
 
 -- cutting below what is kept
 pub cut-cut : (j k : Marks) (s : Slots) → IsWithin j (cut_to k s) → cut_to j (cut_to k s) ≡ cut_to j s
@@ -89,16 +60,15 @@ within-more k s u h g = record {
 level-more : (names : Names) (room : Room) (k : Marks) (s u : Slots) (vs : Names → List (Option Value)) → IsWithin k s → Adds room s u vs → level_of names k u ≡ level_of names k s ++ vs names
 level-more names room k s u vs w h = ap (drop k.pending) (h.stack names) ∙ drop-append-le k.pending (stack names s) (vs names) (omega (arith, w.pending, length-stack names s))
 
-more-slots : (names : Names) (kind : Slot) (room : Room) (k : Marks) (s u : Slots) (vs : Names → List (Option Value)) → IsWithin k s → Adds room s u vs →
-    level_slots kind (level_of names k u) ≡ level_slots kind (level_of names k s) + level_slots kind (vs names)
-more-slots names kind room k s u vs w h = ap (level_slots kind) (level-more names room k s u vs w h) ∙ level_slots-append kind (level_of names k s) (vs names)
+more-takes : (names : Names) (vector : Vector) (room : Room) (k : Marks) (s u : Slots) (vs : Names → List (Option Value)) → IsWithin k s → Adds room s u vs →
+    level_takes (packs room) vector (level_of names k u) ≡ level_takes (packs room) vector (level_of names k s) + level_takes (packs room) vector (vs names)
+more-takes names vector room k s u vs w h =
+    ap (level_takes (packs room) vector) (level-more names room k s u vs w h) ∙ level_takes-append (packs room) vector (level_of names k s) (vs names)
 
 IsLevel-more : (room : Room) (k : Marks) (s u : Slots) (vs : Names → List (Option Value)) → IsLevel room k s → Adds room s u vs → IsLevel room k u
 IsLevel-more room k s u vs h g = record {
   within = within-more k s u h.within (Adds-within room s u vs g);
-  nodes = λ counted names. omega (arith, h.nodes counted names, g.nodes counted names, more-slots names NodeSlot room k s u vs h.within g);
-  links = λ counted names. omega (arith, h.links counted names, g.links counted names, more-slots names LinkSlot room k s u vs h.within g);
-  bytes = λ counted names. omega (arith, h.bytes counted names, g.bytes counted names, more-slots names ByteSlot room k s u vs h.within g);
+  takes = λ names vector. omega (arith, h.takes names vector, g.takes names vector, more-takes names vector room k s u vs h.within g);
 }
 
 cut-more : (room : Room) (k : Marks) (s u : Slots) (vs : Names → List (Option Value)) → IsWithin k s → Adds room s u vs → cut_to k u ≡ cut_to k s
@@ -128,9 +98,7 @@ levels-above room ks s u vs h g = (
   (
     record {
       within = Adds-within room s u vs g;
-      nodes = λ counted names. omega (arith, g.nodes counted names, ap (level_slots NodeSlot) (level-above names room s u vs g));
-      links = λ counted names. omega (arith, g.links counted names, ap (level_slots LinkSlot) (level-above names room s u vs g));
-      bytes = λ counted names. omega (arith, g.bytes counted names, ap (level_slots ByteSlot) (level-above names room s u vs g));
+      takes = λ names vector. omega (arith, g.takes names vector, ap (level_takes (packs room) vector) (level-above names room s u vs g));
     },
     subst (λ x. AreLevels room ks x) (sym g.rest) h,
   ),
@@ -150,9 +118,7 @@ Adds-none room s h = record {
   sound = h;
   rest = cut-all s;
   stack = λ names. sym (append-nil (stack names s));
-  nodes = λ counted names. omega arith;
-  links = λ counted names. omega arith;
-  bytes = λ counted names. omega arith;
+  takes = λ names vector. omega arith;
 }
 
 pub marks-cut : (k : Marks) (s : Slots) → IsWithin k s → marks_of (cut_to k s) ≡ k
@@ -175,7 +141,5 @@ Adds-level room k ks s h =
       sound = h.0;
       rest = ap (λ (j : Marks). cut_to j s) m;
       stack = λ names. sym (ap (λ vs. vs ++ level_of names k s) (stack-cut names k s (levels-sound room ks (cut_to k s) h.1.1)) ∙ take-append-drop k.pending (stack names s));
-      nodes = λ counted names. omega (arith, h.1.0.nodes counted names, ap (λ (j : Marks). j.nodes) m);
-      links = λ counted names. omega (arith, h.1.0.links counted names, ap (λ (j : Marks). j.links) m);
-      bytes = λ counted names. omega (arith, h.1.0.bytes counted names, ap (λ (j : Marks). j.bytes) m);
+      takes = λ names vector. omega (arith, h.1.0.takes names vector, ap (of_vector vector) m);
     }

@@ -1,137 +1,79 @@
--- What the open values take, and when there is room for more.
-use Rattle.std.proofs.Common.{◌≡◌, ℕ, zero, suc, ◌+◌, ◌-◌, ◌≤◌, Bool, true, false, List, [], ◌∷◌, ◌++◌, Option, Some, Result, Ok, Err, OnErr, length, inl, inr, refl, sym, ◌∙◌, ap, subst, arith}
-use Rattle.std.proofs.lemmas.Bool.{cases_lt}
-use Rattle.std.proofs.lemmas.List.{length-append, length-drop}
+-- What the open values take, and when there is no room for more.
+use Rattle.std.proofs.Common.{◌≡◌, ℕ, zero, suc, ◌<◌, ◌≤◌, Bool, true, false, List, [], ◌∷◌, Option, refl, sym, ◌∙◌, ap, subst, arith}
 use Rattle.value_store.specs.declared.store.room.Growth.{Growth}
 use Rattle.value_store.specs.declared.store.room.Growth.TheVariants.{Free, Never}
 use Rattle.value_store.specs.declared.store.room.Room.{Room}
 use Rattle.value_store.specs.declared.store.slots.Marks.{Marks}
-use Rattle.value_store.specs.declared.store.slots.Shape.{Shape}
-use Rattle.pickle_meaning.specs.Room.{Slot, NodeSlot, LinkSlot, PendingSlot, ByteSlot, level_slots, slots}
-use Rattle.pickle_meaning.specs.Values.{Value, Mapped, Levels, top_of, outer_of, gathered, pushed, text_level}
-use Rattle.value_store.specs.Closed.{closed}
+use Rattle.pickle_meaning.specs.Room.{PendingSlot, slots}
+use Rattle.pickle_meaning.specs.Values.{Value, Levels, top_of, outer_of}
 use Rattle.value_store.specs.Exceeding.{Exceeds}
-use Rattle.value_store.specs.Levels.{extended, FitsIn}
+use Rattle.value_store.specs.Keeping.{Overfills, HoldsLevels, LacksRoom}
+use Rattle.value_store.specs.Levels.{extended}
 use Rattle.value_store.specs.Names.{Names}
-use Rattle.value_store.specs.Slots.{Slots, no_slots, packs_as, packs, IsCounted, stack, IsSound, cut_to, root_marks, level_of, IsLevel, innermost, AreLevels, levels_at, Adds, composite_label, HasRoom}
-use Rattle.value_store.proofs.Grown.{length-stack}
-use Rattle.value_store.proofs.Counted.{level_slots-append, members_slots-of, member_count-of, level_pending, marks-cut, levels-more, levels_at-more, levels-above, levels_at-above}
+use Rattle.value_store.specs.Slots.{Slots, Held, no_slots, packs_as, packs, HoldsInRoom, levels, stack, IsSound, cut_to, marks_of, root_marks, level_of, IsLevel, innermost, AreLevels, levels_at, Adds, IsStore}
+use Rattle.value_store.specs.Takes.{Vector, NodesOf, FamiliesOf, LinksOf, PendingOf, TextsOf, BytesOf, of_vector, levels_take}
+use Rattle.value_store.proofs.Counted.{marks-cut, levels-more, levels_at-more, levels-above, levels_at-above}
 use Rattle.value_store.proofs.Empty.{no_slots-levels, no_slots-sound}
+use Rattle.value_store.proofs.Taken.{taken-slots}
 
-pub slots-extended : (kind : Slot) (ls : Levels) (vs : List (Option Value)) → slots kind (extended ls vs) ≡ slots kind ls + level_slots kind vs
-slots-extended kind [] vs = omega arith
-slots-extended kind (top ∷ outer) vs = omega (arith, level_slots-append kind top vs)
+-- of a vector levels take more than there is room for, which is no less than what the store was made with
+module _ (h : Held) (ls : Levels) (some : 1 ≤ slots PendingSlot ls) where
+  least-packed : (growth : Growth) (least : ℕ) → packs_as growth least ≡ true → least ≡ 0
+  least-packed Never least e = cc
+  least-packed Free zero e = refl
+  least-packed Free (suc least) e = cc
 
--- one member more
-pub pushed-extended : (ls : Levels) (v : Option Value) → extended ls (v ∷ []) ≡ pushed ls v
-pushed-extended [] v = refl
-pushed-extended (top ∷ outer) v = refl
+  -- where slots aren't counted no room is asked for, so nothing fits in it
+  pub packs_no_more : packs h.room ≡ true → Exceeds h.room ls
+  packs_no_more e = (PendingSlot, omega (arith, some, least-packed h.room.growth h.room.least e))
 
-pub slots-pushed : (kind : Slot) (ls : Levels) (v : Option Value) → slots kind (pushed ls v) ≡ slots kind ls + level_slots kind (v ∷ [])
-slots-pushed kind ls v = ap (slots kind) (sym (pushed-extended ls v)) ∙ slots-extended kind ls (v ∷ [])
+  exceeds-by : (vector : Vector) (packed : Bool) → packs h.room ≡ packed → h.room.least < levels_take packed vector ls → Exceeds h.room ls
+  exceeds-by vector true e more = packs_no_more e
+  exceeds-by vector false e more = let r = taken-slots vector ls in (r.0, omega (arith, more, r.1))
 
-all-fit : (room : Room) (ls : Levels) → slots NodeSlot ls ≤ room.least → slots LinkSlot ls ≤ room.least → slots PendingSlot ls ≤ room.least → slots ByteSlot ls ≤ room.least → FitsIn room ls
-all-fit room ls n l p b NodeSlot = n
-all-fit room ls n l p b LinkSlot = l
-all-fit room ls n l p b PendingSlot = p
-all-fit room ls n l p b ByteSlot = b
+  pub overfills : (vector : Vector) → h.room.least ≤ of_vector vector h.capacity → of_vector vector h.capacity < levels_take (packs h.room) vector ls → Overfills h false ls
+  overfills vector least more = record { least = exceeds-by vector (packs h.room) refl (omega (arith, least, more)); capacity = (vector, more) }
 
--- levels that don't fit exceed the room for one of the kinds
-pub exceeds : (room : Room) (ls : Levels) → (FitsIn room ls → ⊥) → Exceeds room ls
-exceeds room ls h =
-    elim (cases_lt room.least (slots NodeSlot ls)) [
-      | inl lt ↦ (NodeSlot, lt)
-      | inr n ↦
-          elim (cases_lt room.least (slots LinkSlot ls)) [
-            | inl lt ↦ (LinkSlot, lt)
-            | inr l ↦
-                elim (cases_lt room.least (slots PendingSlot ls)) [
-                  | inl lt ↦ (PendingSlot, lt)
-                  | inr p ↦
-                      elim (cases_lt room.least (slots ByteSlot ls)) [
-                        | inl lt ↦ (ByteSlot, lt)
-                        | inr b ↦ absurd (h (all-fit room ls n l p b))
-                      ]
-                ]
-          ]
-    ]
+-- each vector has the room that the store was made with
+pub least-held : (h : Held) (vector : Vector) → IsStore h → h.room.least ≤ of_vector vector h.capacity
+least-held h NodesOf is = is.nodes
+least-held h FamiliesOf is = is.families
+least-held h LinksOf is = is.links
+least-held h PendingOf is = is.pending
+least-held h TextsOf is = is.texts
+least-held h BytesOf is = is.bytes
 
--- a call is refused where its levels don't fit
-pub refused : {T E : Type 0} (r : Result T E) (room : Room) (ls : Names → Levels) → ((names : Names) → FitsIn room (ls names) → ⊥) → OnErr r ((names : Names) → Exceeds room (ls names))
-refused (Ok x) room ls h = tt
-refused (Err x) room ls h = λ names. exceeds room (ls names) (h names)
+root-none : (vector : Vector) → of_vector vector root_marks ≡ 0
+root-none NodesOf = refl
+root-none FamiliesOf = refl
+root-none LinksOf = refl
+root-none PendingOf = refl
+root-none TextsOf = refl
+root-none BytesOf = refl
 
-least-packed : (growth : Growth) (least : ℕ) → packs_as growth least ≡ true → least ≡ 0
-least-packed Never least e = cc
-least-packed Free zero e = refl
-least-packed Free (suc least) e = cc
+totals_at : (names : Names) (room : Room) (ks : List Marks) (s : Slots) (vector : Vector) → AreLevels room ks s → of_vector vector (marks_of s) ≡ levels_take (packs room) vector (levels_at names ks s)
+totals_at names room [] s vector h = omega (arith, h.1.takes names vector, root-none vector)
+totals_at names room (k ∷ ks) s vector h =
+    omega (arith, h.1.0.takes names vector, totals_at names room ks (cut_to k s) vector h.1.1, ap (of_vector vector) (marks-cut k s h.1.0.within))
 
--- where slots aren't counted no room is asked for, so nothing fits in it
-pub no-fit : (room : Room) (ls : Levels) → packs room ≡ true → 1 ≤ slots PendingSlot ls → FitsIn room ls → ⊥
-no-fit room ls e some f = omega (arith, some, f PendingSlot, least-packed room.growth room.least e)
+-- a store holds just what its levels take
+pub totals : (names : Names) (h : Held) (vector : Vector) → AreLevels h.room h.frames h.slots → of_vector vector (marks_of h.slots) ≡ levels_take (packs h.room) vector (levels names h)
+unfolding levels
+totals names h vector all = totals_at names h.room h.frames h.slots vector all
 
-not-true : (b : Bool) → (b ≡ true → ⊥) → b ≡ false
-not-true true h = absurd (h refl)
-not-true false h = refl
+-- so they fit where that has room
+pub held-levels : (h : Held) → AreLevels h.room h.frames h.slots → HoldsInRoom h → HoldsLevels h
+held-levels h all in_room names NodesOf = omega (arith, totals names h NodesOf all, in_room.nodes)
+held-levels h all in_room names FamiliesOf = omega (arith, totals names h FamiliesOf all, in_room.families)
+held-levels h all in_room names LinksOf = omega (arith, totals names h LinksOf all, in_room.links)
+held-levels h all in_room names PendingOf = omega (arith, totals names h PendingOf all, in_room.pending)
+held-levels h all in_room names TextsOf = omega (arith, totals names h TextsOf all, in_room.texts)
+held-levels h all in_room names BytesOf = omega (arith, totals names h BytesOf all, in_room.bytes)
 
--- so slots are counted where a value more fits
-pub counted-pushed : (room : Room) (ls : Levels) (v : Option Value) → FitsIn room (pushed ls v) → IsCounted room
-counted-pushed room ls v f = not-true (packs room) (λ e. no-fit room (pushed ls v) e (omega (arith, slots-pushed PendingSlot ls v, level_pending (v ∷ []))) f)
-
-pub counted-never : (room : Room) → room.growth ≡ Never → IsCounted room
-counted-never room e = ap (λ g. packs_as g room.least) e
-
--- the slots of the open values are all there are, where they are counted
-pub record Totals (room : Room) (ls : Levels) (s : Slots) : Type 0 where
-  pub nodes : IsCounted room → length s.nodes ≡ slots NodeSlot ls
-  pub links : IsCounted room → length s.links ≡ slots LinkSlot ls
-  pub pending : length s.pending ≡ slots PendingSlot ls
-  pub bytes : IsCounted room → length s.bytes ≡ slots ByteSlot ls
-
-pub totals : (names : Names) (room : Room) (ks : List Marks) (s : Slots) → AreLevels room ks s → Totals room (levels_at names ks s) s
-totals names room [] s h = record {
-  nodes = λ counted. omega (arith, h.1.nodes counted names);
-  links = λ counted. omega (arith, h.1.links counted names);
-  pending = omega (arith, length-stack names s, level_pending (stack names s));
-  bytes = λ counted. omega (arith, h.1.bytes counted names);
-}
-totals names room (k ∷ ks) s h =
-    let r = totals names room ks (cut_to k s) h.1.1 in
-    let m = marks-cut k s h.1.0.within in
-    let w = h.1.0.within in
-    record {
-      nodes = λ counted. omega (arith, h.1.0.nodes counted names, r.nodes counted, ap (λ (j : Marks). j.nodes) m);
-      links = λ counted. omega (arith, h.1.0.links counted names, r.links counted, ap (λ (j : Marks). j.links) m);
-      pending = omega (arith, r.pending, ap (λ (j : Marks). j.pending) m, level_pending (level_of names k s), length-drop k.pending (stack names s), length-stack names s, w.pending);
-      bytes = λ counted. omega (arith, h.1.0.bytes counted names, r.bytes counted, ap (λ (j : Marks). j.bytes) m);
-    }
-
--- room for one more part of the innermost open value
-pub room-more : (names : Names) (ks : List Marks) (s : Slots) (room : Room) (v : Option Value) → AreLevels room ks s → FitsIn room (pushed (levels_at names ks s) v) →
-    HasRoom room s (level_slots NodeSlot (v ∷ [])) (level_slots LinkSlot (v ∷ [])) 1 (level_slots ByteSlot (v ∷ []))
-room-more names ks s room v h f =
-    let t = totals names room ks s h in
-    let ls = levels_at names ks s in
-    let counted = counted-pushed room ls v f in
-    record {
-      nodes = omega (arith, f NodeSlot, t.nodes counted, slots-pushed NodeSlot ls v);
-      links = omega (arith, f LinkSlot, t.links counted, slots-pushed LinkSlot ls v);
-      pending = omega (arith, f PendingSlot, t.pending, slots-pushed PendingSlot ls v, level_pending (v ∷ []));
-      bytes = omega (arith, f ByteSlot, t.bytes counted, slots-pushed ByteSlot ls v);
-    }
-
--- what fits in the room of the slots that hold it
-pub room-holds : (names : Names) (ks : List Marks) (s : Slots) (room : Room) → IsCounted room → AreLevels room ks s → HasRoom room s 0 0 0 0 → FitsIn room (levels_at names ks s)
-room-holds names ks s room counted h r =
-    let t = totals names room ks s h in
-    all-fit room (levels_at names ks s) (omega (arith, r.nodes, t.nodes counted)) (omega (arith, r.links, t.links counted)) (omega (arith, r.pending, t.pending)) (omega (arith, r.bytes, t.bytes counted))
-
--- room for one more byte of the text under way
-pub room-byte : (names : Names) (ks : List Marks) (s : Slots) (room : Room) (start byte : ℕ) (bytes : List ℕ) (outer : Levels) → AreLevels room ks s →
-    levels_at names ks s ≡ text_level bytes start outer → FitsIn room (text_level (bytes ++ byte ∷ []) start outer) → length s.bytes + 1 ≤ room.least
-room-byte names ks s room start byte bytes outer h e f =
-    let counted = not-true (packs room) (λ p. no-fit room (text_level (bytes ++ byte ∷ []) start outer) p (omega arith) f) in
-    omega (arith, f ByteSlot, (totals names room ks s h).bytes counted, ap (slots ByteSlot) e, length-append bytes (byte ∷ []))
+-- and don't where slots with these levels have too little
+pub overfilled : (names : Names) (h : Held) (s : Slots) (ls : Levels) → AreLevels h.room h.frames s → levels names (record h { slots = s }) ≡ ls → 1 ≤ slots PendingSlot ls → LacksRoom h s → Overfills h false ls
+overfilled names h s ls all e some (vector, (least, more)) =
+    overfills h ls some vector least (omega (arith, more, totals names (record h { slots = s }) vector all, ap (levels_take (packs h.room) vector) e))
 
 -- the parts of the innermost open value are replaced by others
 pub levels-replaced : (room : Room) (ks : List Marks) (s u : Slots) (vs : Names → List (Option Value)) → AreLevels room ks s → Adds room (cut_to (innermost ks) s) u vs → AreLevels room ks u
@@ -157,27 +99,3 @@ pub innermost-level : (room : Room) (ks : List Marks) (s : Slots) → AreLevels 
 innermost-level room [] s h = record { is = h.1; cut = no_slots-sound; sound = h.0; top = λ names. refl }
 innermost-level room (k ∷ []) s h = record { is = h.1.0; cut = h.1.1.0; sound = h.0; top = λ names. refl }
 innermost-level room (k ∷ j ∷ ks) s h = record { is = h.1.0; cut = h.1.1.0; sound = h.0; top = λ names. refl }
-
--- room for a value of the parts of the innermost open value, in their place
-pub room-whole : (names : Names) (ks : List Marks) (s : Slots) (shape : Shape) (room : Room) (start size : ℕ) → AreLevels room ks s →
-    FitsIn room (closed (composite_label names shape) start (start + size) (levels_at names ks s)) →
-    (length s.nodes + 1 ≤ room.least) × ((length s.links + (length s.pending - (innermost ks).pending) ≤ room.least) × ((innermost ks).pending + 1 ≤ room.least))
-room-whole names [] s shape room start size h f =
-    let level = level_of names root_marks s in
-    let v = Some (Mapped (composite_label names shape) start (start + size) (gathered level)) in
-    let counted = counted-pushed room [] v f in (
-      omega (arith, f NodeSlot, h.1.nodes counted names, members_slots-of NodeSlot level refl),
-      (omega (arith, f LinkSlot, h.1.links counted names, members_slots-of LinkSlot level refl, member_count-of level, length-stack names s), omega (arith, f PendingSlot)),
-    )
-room-whole names (k ∷ ks) s shape room start size h f =
-    let level = level_of names k s in
-    let v = Some (Mapped (composite_label names shape) start (start + size) (gathered level)) in
-    let counted = counted-pushed room (levels_at names ks (cut_to k s)) v f in
-    let r = room-more names ks (cut_to k s) room v h.1.1 f in
-    let m = marks-cut k s h.1.0.within in (
-      omega (arith, r.nodes, h.1.0.nodes counted names, ap (λ (j : Marks). j.nodes) m, members_slots-of NodeSlot level refl),
-      (
-        omega (arith, r.links, h.1.0.links counted names, ap (λ (j : Marks). j.links) m, members_slots-of LinkSlot level refl, member_count-of level, length-drop k.pending (stack names s), length-stack names s),
-        omega (arith, r.pending, ap (λ (j : Marks). j.pending) m),
-      ),
-    )

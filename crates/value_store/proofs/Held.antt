@@ -1,5 +1,5 @@
 -- What the calls of a store do to its open values.
-use Rattle.std.proofs.Common.{◌≡◌, ℕ, ◌+◌, ◌-◌, ◌<◌, ◌≤◌, List, [], ◌∷◌, Some, None, Result, OnErr, length, max, refl, sym, ◌∙◌, ap, arith}
+use Rattle.std.proofs.Common.{◌≡◌, ℕ, ◌+◌, ◌-◌, ◌<◌, ◌≤◌, false, List, [], ◌∷◌, Some, None, Result, Ok, Err, OnErr, length, max, refl, sym, ◌∙◌, ap, subst, arith}
 use Rattle.std.proofs.lemmas.List.{append-nil}
 use Rattle.value_store.specs.declared.store.room.Growth.TheVariants.{Never}
 use Rattle.value_store.specs.declared.store.room.Room.{Room}
@@ -7,13 +7,20 @@ use Rattle.value_store.specs.declared.store.slots.Marks.{Marks}
 use Rattle.value_store.specs.declared.store.slots.Shape.{Shape}
 use Rattle.pickle_meaning.specs.Values.{Mapped, Levels, no_values, opened, top_of, outer_of, gathered, pushed}
 use Rattle.value_store.specs.Closed.{closed, placed}
-use Rattle.value_store.specs.Exceeding.{Exceeds}
+use Rattle.value_store.specs.Keeping.{LacksRoom, CannotPush, CannotClose, KeepsMembers}
 use Rattle.value_store.specs.Levels.{extended, FitsIn}
 use Rattle.value_store.specs.Names.{Names}
-use Rattle.value_store.specs.Slots.{Slots, Held, empty, levels, level_count, stack, cut_to, marks_of, level_of, innermost, AreLevels, levels_at, Adds, IsNumber, number_value, IsComposite, composite_label, with_leaf, with_family, with_absent, HasRoom, around, Regrown}
+use Rattle.value_store.specs.Slots.{Slots, Held, empty, packs_as, packs, HoldsInRoom, levels, level_count, stack, cut_to, marks_of, level_of, innermost, AreLevels, levels_at, Adds, AreAll, IsNumber, number_value, IsComposite, composite_label, with_leaf, with_family, with_absent, around, Regrown}
+use Rattle.value_store.specs.Takes.{Vector, NodesOf, FamiliesOf, LinksOf, PendingOf, TextsOf, BytesOf, of_vector, packed_width, levels_take}
 use Rattle.value_store.proofs.Counted.{levels-more, levels_at-more, levels-above, levels_at-above, levels-sound, Adds-none, Adds-level}
-use Rattle.value_store.proofs.Placed.{number-adds, number-nodes, family-adds, absent-adds}
-use Rattle.value_store.proofs.Fits.{counted-never, room-holds, room-more, room-whole, levels-replaced, levels_at-replaced, innermost-level, pushed-extended, refused}
+use Rattle.value_store.proofs.Placed.{number-adds, family-adds, absent-adds}
+use Rattle.value_store.proofs.Taken.{pushed-extended, levels_take-pushed, vector_of, slots-taken, pushed-some}
+use Rattle.value_store.proofs.Fits.{levels-replaced, levels_at-replaced, innermost-level, overfills, overfilled, totals, held-levels}
+
+-- the clause of a call that is refused
+pub refused : {T E A : Type 0} (r : Result T E) → A → OnErr r A
+refused (Ok x) a = tt
+refused (Err x) a = a
 
 -- numbers
 module _ (h : Held) (shape : Shape) (start c : ℕ) (number : IsNumber shape) (all : AreLevels h.room h.frames h.slots) where
@@ -26,27 +33,21 @@ module _ (h : Held) (shape : Shape) (start c : ℕ) (number : IsNumber shape) (a
       levels_at-more names h.room h.frames h.slots (with_leaf shape start c h.slots) (λ names. Some (number_value shape start c) ∷ []) all (number-adds h.room shape start c h.slots number (levels-sound h.room h.frames h.slots all))
       ∙ pushed-extended (levels_at names h.frames h.slots) (Some (number_value shape start c))
 
-  number-room : (names : Names) → FitsIn h.room (pushed (levels names h) (Some (number_value shape start c))) → HasRoom h.room h.slots 1 0 1 0
-  unfolding levels
-  number-room names fits =
-      let r = room-more names h.frames h.slots h.room (Some (number_value shape start c)) all fits in
-      let n = number-nodes shape start c number in
-      record {
-        nodes = omega (arith, r.nodes, n.0);
-        links = omega (arith, r.links, n.1.0);
-        pending = r.pending;
-        bytes = omega (arith, r.bytes, n.1.1);
-      }
-
-  pub number-full : {T E : Type 0} (r : Result T E) → (HasRoom h.room h.slots 1 0 1 0 → ⊥) → OnErr r ((names : Names) → Exceeds h.room (pushed (levels names h) (Some (number_value shape start c))))
-  number-full r none = refused r h.room (λ names. pushed (levels names h) (Some (number_value shape start c))) (λ names fits. none (number-room names fits))
+  pub number-full : {T E : Type 0} (r : Result T E) → LacksRoom h (with_leaf shape start c h.slots) → OnErr r (CannotPush h (Some (number_value shape start c)))
+  number-full r lacks = refused r (λ names.
+      overfilled names h (with_leaf shape start c h.slots) _ number-frames (number-levels names h.capacity) (pushed-some (levels names h) (Some (number_value shape start c))) lacks)
 
 -- arrays, structs and unions
-module _ (h : Held) (shape : Shape) (start size : ℕ) (composite : IsComposite shape) (all : AreLevels h.room h.frames h.slots) where
+module _ (h : Held) (shape : Shape) (start size : ℕ) (composite : IsComposite shape) (members : KeepsMembers h shape) (all : AreLevels h.room h.frames h.slots) where
+  unpacked : (names : Names) → packed_width (packs h.room) (composite_label names shape) (gathered (level_of names (innermost h.frames) h.slots)) ≡ None
+  unfolding levels
+  unpacked names =
+      subst (λ os. packed_width (packs h.room) (composite_label names shape) (gathered os) ≡ None) ((innermost-level h.room h.frames h.slots all).top names) (members names)
+
   family-adds-here : Adds h.room (cut_to (innermost h.frames) h.slots) (with_family shape start size (innermost h.frames).pending h.slots) (λ names. Some (Mapped (composite_label names shape) start (start + size) (gathered (level_of names (innermost h.frames) h.slots))) ∷ [])
   family-adds-here =
       let i = innermost-level h.room h.frames h.slots all in
-      family-adds h.room shape start size (innermost h.frames) h.slots composite i.sound i.is i.cut
+      family-adds h.room shape start size (innermost h.frames) h.slots composite i.sound i.is i.cut unpacked
 
   pub family-frames : AreLevels h.room h.frames (with_family shape start size (innermost h.frames).pending h.slots)
   family-frames = levels-replaced h.room h.frames h.slots (with_family shape start size (innermost h.frames).pending h.slots) _ all family-adds-here
@@ -58,27 +59,20 @@ module _ (h : Held) (shape : Shape) (start size : ℕ) (composite : IsComposite 
       levels_at-replaced names h.room h.frames h.slots (with_family shape start size (innermost h.frames).pending h.slots) _ all family-adds-here
       ∙ ap (λ os. (Some (Mapped (composite_label names shape) start (start + size) (gathered os)) ∷ []) ∷ outer_of (levels_at names h.frames h.slots)) (sym (i.top names))
 
-  -- room for it, and what the links of its parts need
-  abbrev pub HasFamilyRoom : Type 0
-  HasFamilyRoom = (length h.slots.nodes + 1 ≤ h.room.least) × ((length h.slots.links + (length h.slots.pending - (innermost h.frames).pending) ≤ h.room.least) × ((innermost h.frames).pending + 1 ≤ h.room.least))
+  closed-placed : (names : Names) (vector : Vector) → levels_take (packs h.room) vector (placed (composite_label names shape) start (start + size) (levels names h)) ≡ levels_take (packs h.room) vector (closed (composite_label names shape) start (start + size) (levels names h))
+  closed-placed names vector =
+      omega (arith, levels_take-pushed (packs h.room) vector (outer_of (levels names h)) (Some (Mapped (composite_label names shape) start (start + size) (gathered (top_of (levels names h))))))
 
-  family-room : (names : Names) → FitsIn h.room (closed (composite_label names shape) start (start + size) (levels names h)) → HasFamilyRoom
-  unfolding levels
-  family-room names fits = room-whole names h.frames h.slots shape h.room start size all fits
-
-  pub family-full : {T E : Type 0} (r : Result T E) → (HasFamilyRoom → ⊥) → OnErr r ((names : Names) → Exceeds h.room (closed (composite_label names shape) start (start + size) (levels names h)))
-  family-full r none = refused r h.room (λ names. closed (composite_label names shape) start (start + size) (levels names h)) (λ names fits. none (family-room names fits))
+  pub family-full : {T E : Type 0} (r : Result T E) → LacksRoom h (with_family shape start size (innermost h.frames).pending h.slots) → OnErr r (CannotClose h (λ names. composite_label names shape) start (start + size))
+  family-full r (vector, (least, more)) = refused r (λ names.
+      let u = with_family shape start size (innermost h.frames).pending h.slots in
+      let v = Some (Mapped (composite_label names shape) start (start + size) (gathered (top_of (levels names h)))) in
+      overfills h _ (pushed-some (outer_of (levels names h)) v) vector least
+      (omega (arith, more, totals names (record h { slots = u }) vector family-frames, ap (levels_take (packs h.room) vector) (family-levels names h.capacity), closed-placed names vector)))
 
 -- the marks of the innermost open value are within the store
 pub innermost-within : (h : Held) → AreLevels h.room h.frames h.slots → (innermost h.frames).pending ≤ length h.slots.pending
 innermost-within h all = (innermost-level h.room h.frames h.slots all).is.within.pending
-
--- there are no more families and texts than nodes
-pub families-few : (h : Held) → AreLevels h.room h.frames h.slots → length h.slots.families ≤ length h.slots.nodes
-families-few h all = (levels-sound h.room h.frames h.slots all).families
-
-pub texts-few : (h : Held) → AreLevels h.room h.frames h.slots → length h.slots.texts ≤ length h.slots.nodes
-texts-few h all = (levels-sound h.room h.frames h.slots all).texts
 
 -- values are opened and closed
 module _ (h : Held) (all : AreLevels h.room h.frames h.slots) where
@@ -130,17 +124,25 @@ absent-levels names h capacity all =
     levels_at-more names h.room h.frames h.slots (with_absent h.slots) (λ names. None ∷ []) all (absent-adds h.room h.slots (levels-sound h.room h.frames h.slots all))
     ∙ pushed-extended (levels_at names h.frames h.slots) None
 
-absent-room : (names : Names) (h : Held) → AreLevels h.room h.frames h.slots → FitsIn h.room (pushed (levels names h) None) → HasRoom h.room h.slots 0 0 1 0
-unfolding levels
-absent-room names h all fits = room-more names h.frames h.slots h.room None all fits
-
-pub absent-full : {T E : Type 0} (r : Result T E) (h : Held) → AreLevels h.room h.frames h.slots → (HasRoom h.room h.slots 0 0 1 0 → ⊥) → OnErr r ((names : Names) → Exceeds h.room (pushed (levels names h) None))
-absent-full r h all none = refused r h.room (λ names. pushed (levels names h) None) (λ names fits. none (absent-room names h all fits))
+pub absent-full : {T E : Type 0} (r : Result T E) (h : Held) → AreLevels h.room h.frames h.slots → LacksRoom h (with_absent h.slots) → OnErr r (CannotPush h None)
+absent-full r h all lacks = refused r (λ names.
+    overfilled names h (with_absent h.slots) _ (absent-frames h all) (absent-levels names h h.capacity all) (pushed-some (levels names h) None) lacks)
 
 -- what a store that never grows holds
-pub held-fits : (names : Names) (h : Held) → h.room.growth ≡ Never → AreLevels h.room h.frames h.slots → HasRoom h.room h.slots 0 0 0 0 → FitsIn h.room (levels names h)
-unfolding levels
-held-fits names h never all room = room-holds names h.frames h.slots h.room (counted-never h.room never) all room
+all-capacity : (vector : Vector) (n : ℕ) (capacity : Marks) → AreAll n capacity → of_vector vector capacity ≡ n
+all-capacity NodesOf n capacity h = h.nodes
+all-capacity FamiliesOf n capacity h = h.families
+all-capacity LinksOf n capacity h = h.links
+all-capacity PendingOf n capacity h = h.pending
+all-capacity TextsOf n capacity h = h.texts
+all-capacity BytesOf n capacity h = h.bytes
+
+pub held-fits : (names : Names) (h : Held) → h.room.growth ≡ Never → AreLevels h.room h.frames h.slots → AreAll h.room.least h.capacity → HoldsInRoom h → FitsIn h.room (levels names h)
+held-fits names h never all fixed in_room kind =
+    let counted : packs h.room ≡ false = ap (λ g. packs_as g h.room.least) never in
+    let within = held-levels h all in_room names (vector_of kind) in
+    let room = all-capacity (vector_of kind) h.room.least h.capacity fixed in
+    omega (arith, within, room, slots-taken kind (levels names h), ap (λ b. levels_take b (vector_of kind) (levels names h)) counted)
 
 -- how many values are open
 length-around : (ks : List Marks) → 1 + length (around ks) ≡ max 1 ((1 + length ks) - 1)

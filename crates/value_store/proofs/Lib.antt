@@ -1,6 +1,8 @@
 pub mod Moduli
 pub mod FamilyRows
 pub mod Grown
+pub mod Taken
+mod TakesRows
 pub mod Counted
 pub mod Placed
 pub mod PlacedBytes

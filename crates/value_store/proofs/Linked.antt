@@ -13,7 +13,7 @@ use Rattle.pickle_meaning.specs.Values.{Value, members_of, member_count, member_
 use Rattle.value_store.specs.Names.{Names}
 use Rattle.value_store.specs.Linked.{node_links, links_from}
 use Rattle.value_store.specs.Lent.{place_value, numbers_of, element_in, packed_count, element_count, IsPlace}
-use Rattle.value_store.proofs.Counted.{member_count-of}
+use Rattle.value_store.proofs.Taken.{member_count-of}
 use Rattle.value_store.proofs.Found.{child-found, read-node, member_at-gathered}
 use Rattle.value_store.proofs.Lent.{length-elements, elements-at}
 

@@ -1,31 +1,40 @@
 -- Arrays of packed numbers under way.
-use Rattle.std.proofs.Common.{◌≡◌, ℕ, ◌+◌, ◌*◌, ◌^◌, ◌<◌, ◌≤◌, true, List, [], ◌∷◌, ◌++◌, Some, Result, Ok, Err, OnOk, length, take, sym, ◌∙◌, ap, subst, arith}
+use Rattle.std.proofs.Common.{◌≡◌, ℕ, ◌+◌, ◌*◌, ◌^◌, ◌<◌, ◌≤◌, Bool, true, false, List, [], ◌∷◌, ◌++◌, Option, Some, None, Result, Ok, Err, OnOk, OnErr, length, take, refl, sym, ◌∙◌, ap, subst, arith, add-one}
 use Rattle.std.specs.Prelude.{All}
 use Rattle.std.specs.Int.{to_le_bytes, w64}
-use Rattle.std.proofs.Math.Nat.{mul-zero, mul-le-mul_left}
-use Rattle.std.proofs.lemmas.List.{append-nil, length_push}
+use Rattle.std.proofs.Math.Nat.{mul-zero, mul-suc, mul-le-mul_left}
+use Rattle.std.proofs.lemmas.List.{append-nil, length-append, length_push}
 use Rattle.std.proofs.lemmas.List.Elements.{All-push}
 use Rattle.value_store.specs.declared.store.room.Room.{Room}
 use Rattle.value_store.specs.declared.store.slots.Shape.{Shape}
 use Rattle.value_store.specs.declared.store.slots.Shape.TheVariants.{Integer, Offset, Text, Integers, Offsets, Array, Struct, Union}
-use Rattle.value_store.specs.Packed.{bytes_for, number_bytes, packed, numbers_in}
-use Rattle.pickle_meaning.specs.Values.{Levels, top_of, outer_of, pushed}
-use Rattle.value_store.specs.Filling.{Packs, SettlesRow}
+use Rattle.value_store.specs.Packed.{bytes_for, number_bytes, packed}
+use Rattle.pickle_meaning.specs.Room.{PendingSlot, slots}
+use Rattle.pickle_meaning.specs.Values.{Mapped, ArrayLabel, NoMembers, Levels, top_of, outer_of, gathered, pushed}
+use Rattle.value_store.specs.Closed.{closed, placed}
+use Rattle.value_store.specs.Filling.{Packs, PacksWithin, CannotPack, SettlesRow, CannotCloseRow}
+use Rattle.value_store.specs.Keeping.{Overfills, HoldsLevels, LacksBytes, CannotPush, IsPlaced, CannotClose, KeepsMembers, StartsWithNoNumber}
 use Rattle.value_store.specs.Levels.{extended}
 use Rattle.value_store.specs.Names.{Names}
-use Rattle.value_store.specs.Slots.{Held, packs, levels, AreLevels, IsPacked, element_width, row_value, AreNumbers, with_bytes, with_more, AreBytes, bytes_value, MayKeep, HasNoNode, IsFilling, IsPacking, GoesOn, Regrown}
-use Rattle.value_store.proofs.Fits.{pushed-extended}
-use Rattle.value_store.proofs.Packed.{length-number_bytes, le_bytes-take, packed-push, numbers_in-packed, packed-none, bytes_for-some, bytes_for-most}
-use Rattle.value_store.proofs.Writing.{filling-levels, filling-empty, filling-outer, fresh-empty, empty-fresh, stale-some, fresh-filling, stale-filling, stale-goes_on, opened-filling}
+use Rattle.value_store.specs.Takes.{Vector, NodesOf, BytesOf, of_vector, row_width, where_packed, value_takes, levels_take}
+use Rattle.value_store.specs.Slots.{Held, packs, levels, level_of, innermost, AreLevels, IsPacked, element_width, elements, row_value, AreNumbers, AreNumberBytes, with_bytes, with_more, AreBytes, bytes_value, AreSome, MayKeep, HasNoNode, IsFilling, IsPacking, GoesOn, Regrown}
+use Rattle.value_store.proofs.Taken.{pushed-extended, slots-taken, level_pending, none-first, row-taken, row-kept}
+use Rattle.value_store.proofs.Lent.{length-elements}
+use Rattle.value_store.proofs.Fits.{packs_no_more, totals, innermost-level}
+use Rattle.value_store.proofs.Packed.{length-packed, length-number_bytes, le_bytes-take, packed-push, numbers_in-packed, packed-none, bytes_for-some, bytes_for-most}
+use Rattle.value_store.proofs.Writing.{some-bytes, filling-levels, filling-all, filling-empty, filling-outer, fresh-empty, empty-fresh, stale-some, fresh-filling, stale-filling, stale-goes_on, opened-filling}
 
 -- the bytes of an array of packed numbers
 abbrev pub row_bytes : Shape → List ℕ → List ℕ
 row_bytes shape numbers = packed (bytes_for (element_width shape)) numbers
 
 are-numbers : (width : ℕ) (numbers : List ℕ) (start : ℕ) → 1 ≤ width → width ≤ 64 → All (λ n. n < 2 ^ width) numbers → start + width * length numbers < 2 ^ 64 →
-    AreNumbers width (numbers_in width (packed (bytes_for width) numbers)) start
+    AreNumberBytes width (packed (bytes_for width) numbers) start
 are-numbers width numbers start some most below short =
-    subst (λ ns. AreNumbers width ns start) (sym (numbers_in-packed width numbers some below)) (record { some = some; most = most; short = short; below = below })
+    let e = numbers_in-packed width numbers some below in (
+      subst (λ ns. AreNumbers width ns start) (sym e) (record { some = some; most = most; short = short; below = below }),
+      ap (λ (ns : List ℕ). bytes_for width * length ns) e ∙ sym (length-packed (bytes_for width) numbers),
+    )
 
 pub row-are : (shape : Shape) (numbers : List ℕ) (start : ℕ) → IsPacked shape → All (λ n. n < 2 ^ element_width shape) numbers →
     start + element_width shape * length numbers < 2 ^ 64 → AreBytes shape (row_bytes shape numbers) start
@@ -120,6 +129,11 @@ one-are shape digits count start p small short =
     let one : start + element_width shape * 1 < 2 ^ 64 = omega (arith, mul-le-mul_left (element_width shape) (let o : 1 ≤ count + 1 = omega arith in o)) in
     subst (λ bs. AreBytes shape bs start) (append-nil own) (row-are shape (digits ∷ []) start p below one)
 
+pub one-some : (shape : Shape) (digits : ℕ) → IsPacked shape → AreSome shape (number_bytes (bytes_for (element_width shape)) digits)
+one-some shape digits p =
+    let k = bytes_for (element_width shape) in
+    some-bytes shape (number_bytes k digits) (omega (arith, length-number_bytes k digits, bytes_for-some (element_width shape) (row-width shape p).0))
+
 -- the lowest bytes of the digits
 pub own-bytes : (shape : Shape) (width digits count : ℕ) (bytes : List ℕ) → IsPacked shape → width ≡ element_width shape → count ≡ bytes_for width → bytes ≡ to_le_bytes w64 digits →
     take count bytes ≡ number_bytes (bytes_for (element_width shape)) digits
@@ -161,22 +175,135 @@ module _ (h n : Held) (shape : Shape) (width digits start : ℕ) (own : List ℕ
   pub stale-packs : {T E : Type 0} (r : Result T E) → (HasNoNode h → ⊥) → OnOk r (Regrown (record h { slots = with_more own h.slots }) n) → OnOk r (Packs h n shape digits start)
   stale-packs r stale e = on_ok r (stale-takes stale) e
 
--- the array is closed
-pub settled-row : {T E : Type 0} (r : Result T E) (h n : Held) (shape : Shape) (start : ℕ) → IsPacked shape → HasNoNode h →
-    OnOk r ((names : Names) → levels names n ≡ pushed (levels names h) (Some (bytes_value shape [] start))) → OnOk r (SettlesRow h n shape start)
-settled-row r h n shape start p fresh = on_ok r (λ e names numbers outer w.
+-- what is packed, and what there is no room for
+row-packs : (room : Room) (shape : Shape) → IsPacked shape → MayKeep room shape → packs room ≡ true
+row-packs room (Integer w g) p may = absurd p
+row-packs room (Offset w g u) p may = absurd p
+row-packs room Text p may = absurd p
+row-packs room (Integers w g) p may = may
+row-packs room (Offsets w g u) p may = may
+row-packs room Array p may = absurd p
+row-packs room (Struct t) p may = absurd p
+row-packs room (Union i t) p may = absurd p
+
+row-levels : (names : Names) (h : Held) (shape : Shape) (numbers : List ℕ) (start : ℕ) (outer : Levels) → IsPacking names h shape numbers start outer → IsPacked shape → 0 < length (row_bytes shape numbers) →
+    levels names h ≡ (Some (row_value shape numbers start) ∷ []) ∷ outer
+row-levels names h shape numbers start outer w p some =
+    filling-levels names h shape (row_bytes shape numbers) start outer w.filling some ∙ ap (λ v. (Some v ∷ []) ∷ outer) (row-is shape numbers start p w.below)
+
+bytes-pushed : (shape : Shape) (numbers : List ℕ) (n : ℕ) → IsPacked shape → 0 < length (row_bytes shape (numbers ++ n ∷ []))
+bytes-pushed shape numbers n p =
+    let k = bytes_for (element_width shape) in
+    omega (arith, ap length (packed-push k n numbers), length-append (packed k numbers) (number_bytes k n), length-number_bytes k n, bytes_for-some (element_width shape) (row-width shape p).0)
+
+numbers-some : (shape : Shape) (numbers : List ℕ) → 0 < length (row_bytes shape numbers) → 0 < length numbers
+numbers-some shape [] some = absurd (omega (arith, some))
+numbers-some shape (n ∷ ns) some = omega arith
+
+pub packs-within : {T E : Type 0} (r : Result T E) (h n : Held) (shape : Shape) (digits start : ℕ) → IsPacked shape → OnOk r (Packs h n shape digits start) → OnOk r (HoldsLevels n) → OnOk r (PacksWithin h n shape digits start)
+packs-within (Ok x) h n shape digits start p packing held = λ names numbers outer w short vector.
+    let w' = packing names numbers outer w short in
+    let is = row-levels names n shape (numbers ++ digits ∷ []) start outer w' p (bytes-pushed shape numbers digits p) in
+    let kept = row-kept (packs n.room) vector shape numbers digits start outer (row-packs n.room shape p w'.filling.may) in
+    omega (arith, held names vector, ap (levels_take (packs n.room) vector) is, kept)
+packs-within (Err x) h n shape digits start p packing held = tt
+
+-- an array with a number more passes a vector
+module _ (h : Held) (shape : Shape) (digits start : ℕ) (p : IsPacked shape) (numbers : List ℕ) (outer : Levels) (packing : packs h.room ≡ true) where
+  row-overfills : (vector : Vector) → of_vector vector h.capacity < levels_take (packs h.room) vector ((Some (row_value shape (numbers ++ digits ∷ []) start) ∷ []) ∷ outer) →
+      Overfills h true (elements shape start (numbers ++ digits ∷ []) ∷ outer)
+  row-overfills vector more =
+      let ls = elements shape start (numbers ++ digits ∷ []) ∷ outer in
+      let some : 1 ≤ slots PendingSlot ls =
+      omega (arith, slots-taken PendingSlot ls, level_pending false (elements shape start (numbers ++ digits ∷ [])), length-elements shape start (numbers ++ digits ∷ []), length_push numbers digits) in
+      record {
+        least = packs_no_more h ls some packing;
+        capacity = (vector, omega (arith, more, row-kept (packs h.room) vector shape numbers digits start outer packing));
+      }
+
+  row-bytes : (ns : List ℕ) → 0 < length ns → value_takes (packs h.room) BytesOf (row_value shape ns start) ≡ bytes_for (element_width shape) * length ns
+  row-bytes ns some = ap (λ b. value_takes b BytesOf (row_value shape ns start)) packing ∙ row-taken BytesOf start shape ns p some
+
+  -- its bytes are all that it takes more
+  stale-overfills : (names : Names) → IsPacking names h shape numbers start outer → (HasNoNode h → ⊥) → LacksBytes h (bytes_for (element_width shape)) →
+      Overfills h true (elements shape start (numbers ++ digits ∷ []) ∷ outer)
+  stale-overfills names w stale lacks =
+      let some = stale-some names h shape (row_bytes shape numbers) start outer w.filling stale in
+      let k = bytes_for (element_width shape) in
+      let is = row-levels names h shape numbers start outer w p some in
+      let held = totals names h BytesOf (filling-all names h shape (row_bytes shape numbers) start outer w.filling) ∙ ap (levels_take (packs h.room) BytesOf) is in
+      let longer : k * length (numbers ++ digits ∷ []) ≡ k * length numbers + k = ap (λ m. k * m) (length_push numbers digits ∙ add-one (length numbers)) ∙ mul-suc k (length numbers) in
+      row-overfills BytesOf (omega (arith, lacks.1, held, longer, row-bytes numbers (numbers-some shape numbers some), row-bytes (numbers ++ digits ∷ []) (omega (arith, length_push numbers digits))))
+
+pub fresh-cannot : {T E : Type 0} (r : Result T E) (h : Held) (shape : Shape) (digits start : ℕ) (own : List ℕ) → IsPacked shape → digits < 2 ^ element_width shape →
+    own ≡ number_bytes (bytes_for (element_width shape)) digits → HasNoNode h → OnErr r (CannotPush h (Some (bytes_value shape own start))) → OnErr r (CannotPack h shape digits start)
+fresh-cannot (Ok x) h shape digits start own p small is fresh e = tt
+fresh-cannot (Err x) h shape digits start own p small is fresh e = λ names numbers outer w.
     let none = packing-fresh names h shape numbers start outer w fresh p in
     let w' : IsPacking names h shape [] start outer = subst (λ ns. IsPacking names h shape ns start outer) none w in
-    e names
-    ∙ ap (λ ls. pushed ls (Some (bytes_value shape [] start))) (packing-empty names h shape start outer w')
-    ∙ ap (λ v. (Some v ∷ []) ∷ outer) (row-is shape [] start p w'.below)
-    ∙ ap (λ ns. (Some (row_value shape ns start) ∷ []) ∷ outer) (sym none))
+    let below : All (λ n. n < 2 ^ element_width shape) (digits ∷ []) = All-push (λ n. n < 2 ^ element_width shape) [] digits (λ k d h. absurd (omega arith)) small in
+    let one : bytes_value shape own start ≡ row_value shape (digits ∷ []) start =
+    ap (λ bs. bytes_value shape bs start) (is ∙ sym (append-nil (number_bytes (bytes_for (element_width shape)) digits))) ∙ row-is shape (digits ∷ []) start p below in
+    let ls : pushed (levels names h) (Some (bytes_value shape own start)) ≡ (Some (row_value shape (numbers ++ digits ∷ []) start) ∷ []) ∷ outer =
+    ap (λ l. pushed l (Some (bytes_value shape own start))) (packing-empty names h shape start outer w')
+    ∙ ap (λ v. (Some v ∷ []) ∷ outer) (one ∙ ap (λ ns. row_value shape (ns ++ digits ∷ []) start) (sym none)) in
+    let o = (e names).capacity in
+    row-overfills h shape digits start p numbers outer (row-packs h.room shape p w.filling.may) o.0 (omega (arith, o.1, ap (levels_take (packs h.room) o.0) ls))
+
+pub stale-cannot : {T E : Type 0} (r : Result T E) (h : Held) (shape : Shape) (digits start : ℕ) (own : List ℕ) → IsPacked shape →
+    own ≡ number_bytes (bytes_for (element_width shape)) digits → (HasNoNode h → ⊥) → OnErr r (LacksBytes h (length own)) → OnErr r (CannotPack h shape digits start)
+stale-cannot (Ok x) h shape digits start own p is stale e = tt
+stale-cannot (Err x) h shape digits start own p is stale e = λ names numbers outer w.
+    let k = bytes_for (element_width shape) in
+    let count : length own ≡ k = ap length is ∙ length-number_bytes k digits in
+    stale-overfills h shape digits start p numbers outer (row-packs h.room shape p w.filling.may) names w stale (subst (λ m. LacksBytes h m) count e)
+
+-- the array is closed
+
+-- an array that starts with no number isn't packed
+where_no_number : (packs : Bool) (width : Option ℕ) → (packs ≡ true → width ≡ None) → where_packed packs width ≡ None
+where_no_number true width h = h refl
+where_no_number false width h = refl
+
+pub array-members : (h : Held) → StartsWithNoNumber h → KeepsMembers h Array
+array-members h none names = where_no_number (packs h.room) (row_width (gathered (top_of (levels names h)))) (λ e. none e names)
+
+-- without a node it has no members
+pub fresh-members : (h : Held) → AreLevels h.room h.frames h.slots → HasNoNode h → KeepsMembers h Array
+unfolding levels
+fresh-members h all fresh names =
+    let i = innermost-level h.room h.frames h.slots all in
+    let level = level_of names (innermost h.frames) h.slots in
+    let none = none-first (packs h.room) level (omega (arith, fresh, i.is.takes names NodesOf)) in
+    ap (λ os. where_packed (packs h.room) (row_width (gathered os))) (i.top names) ∙ ap (where_packed (packs h.room)) none ∙ where_no_number (packs h.room) None (λ e. refl)
+
+-- an array of no numbers is one without members
+no-numbers : (names : Names) (h : Held) (shape : Shape) (numbers : List ℕ) (start : ℕ) (outer : Levels) → IsPacking names h shape numbers start outer → IsPacked shape → HasNoNode h →
+    (levels names h ≡ [] ∷ outer) × (Mapped ArrayLabel start (start + 0) NoMembers ≡ row_value shape numbers start)
+no-numbers names h shape numbers start outer w p fresh =
+    let none = packing-fresh names h shape numbers start outer w fresh p in
+    let w' : IsPacking names h shape [] start outer = subst (λ ns. IsPacking names h shape ns start outer) none w in (
+      packing-empty names h shape start outer w',
+      ap (λ m. Mapped ArrayLabel start (start + m) NoMembers) (sym (mul-zero (element_width shape))) ∙ ap (λ ns. row_value shape ns start) (sym none),
+    )
+
+pub settled-row : {T E : Type 0} (r : Result T E) (h n : Held) (shape : Shape) (start : ℕ) → IsPacked shape → HasNoNode h →
+    OnOk r (IsPlaced h n (λ names. ArrayLabel) start (start + 0)) → OnOk r (SettlesRow h n shape start)
+settled-row r h n shape start p fresh = on_ok r (λ e names numbers outer w.
+    let is = no-numbers names h shape numbers start outer w p fresh in
+    e names ∙ ap (placed ArrayLabel start (start + 0)) is.0 ∙ ap (λ v. (Some v ∷ []) ∷ outer) is.1)
+
+pub settled-cannot : {T E : Type 0} (r : Result T E) (h : Held) (shape : Shape) (start : ℕ) → IsPacked shape → HasNoNode h →
+    OnErr r (CannotClose h (λ names. ArrayLabel) start (start + 0)) → OnErr r (CannotCloseRow h shape start)
+settled-cannot (Ok x) h shape start p fresh e = tt
+settled-cannot (Err x) h shape start p fresh e = λ names numbers outer w.
+    let is = no-numbers names h shape numbers start outer w p fresh in
+    subst (Overfills h false) (ap (closed ArrayLabel start (start + 0)) is.0 ∙ ap (λ v. pushed outer (Some v)) is.1) (e names)
 
 pub stale-row_levels : (names : Names) (h : Held) (shape : Shape) (numbers : List ℕ) (start : ℕ) (outer : Levels) → IsPacking names h shape numbers start outer → IsPacked shape → (HasNoNode h → ⊥) →
     levels names h ≡ (Some (row_value shape numbers start) ∷ []) ∷ outer
 stale-row_levels names h shape numbers start outer w p stale =
-    filling-levels names h shape (row_bytes shape numbers) start outer w.filling (stale-some names h shape (row_bytes shape numbers) start outer w.filling stale)
-    ∙ ap (λ v. (Some v ∷ []) ∷ outer) (row-is shape numbers start p w.below)
+    row-levels names h shape numbers start outer w p (stale-some names h shape (row_bytes shape numbers) start outer w.filling stale)
 
 -- the levels of an array that is lifted
 pub lifted-row : (shape : Shape) (numbers : List ℕ) (start : ℕ) (outer ls : Levels) → ls ≡ (Some (row_value shape numbers start) ∷ []) ∷ outer →

@@ -1,5 +1,5 @@
 -- What a placed value adds to a store.
-use Rattle.std.proofs.Common.{◌≡◌, ℕ, ◌+◌, ◌-◌, ◌≤◌, List, [], ◌∷◌, ◌++◌, Some, None, length, take, drop, map, refl, sym, ◌∙◌, ap, arith, add-one}
+use Rattle.std.proofs.Common.{◌≡◌, ℕ, ◌+◌, ◌-◌, ◌≤◌, Bool, List, [], ◌∷◌, ◌++◌, Option, Some, None, length, take, drop, map, refl, sym, ◌∙◌, ap, arith, add-one}
 use Rattle.std.proofs.lemmas.List.{append-nil, length-append, length-take, length-drop, length_push, take-append-le, take_at, take_all, map-append, drop-map}
 use Rattle.std.proofs.Math.Seq.{get_or-append_seam}
 use Rattle.value_store.specs.declared.store.room.Room.{Room}
@@ -8,13 +8,15 @@ use Rattle.value_store.specs.declared.store.slots.Family.{Family}
 use Rattle.value_store.specs.declared.store.slots.Marks.{Marks}
 use Rattle.value_store.specs.declared.store.slots.Shape.{Shape}
 use Rattle.value_store.specs.declared.store.slots.Shape.TheVariants.{Integer, Offset, Text, Integers, Offsets, Array, Struct, Union}
-use Rattle.pickle_meaning.specs.Room.{NodeSlot, LinkSlot, ByteSlot, text_length, level_slots}
-use Rattle.pickle_meaning.specs.Values.{Value, Mapped, gathered}
+use Rattle.pickle_meaning.specs.Room.{text_length}
+use Rattle.pickle_meaning.specs.Values.{Label, IntegerLabel, OffsetLabel, Value, Mapped, NoMembers, gathered}
 use Rattle.value_store.specs.Names.{Names}
-use Rattle.value_store.specs.Slots.{Slots, opened, family_at, first_link, family_links, links_of, tree_of, trees, trees_from, stack, LinksBelow, IsFamily, IsContent, IsSound, cut_to, marks_of, level_of, IsLevel, Adds, with_leaf, with_family, with_absent, IsComposite, composite_label, IsNumber, number_value}
+use Rattle.value_store.specs.Takes.{Vector, NodesOf, FamiliesOf, LinksOf, PendingOf, TextsOf, BytesOf, of_vector, packed_width, families_taken, texts_taken, own_takes, value_takes, members_take, place_takes, level_takes}
+use Rattle.value_store.specs.Slots.{Slots, packs, number_in, opened, family_at, first_link, family_links, links_of, tree_of, trees, trees_from, stack, LinksBelow, IsFamily, IsContent, IsSound, cut_to, marks_of, level_of, IsLevel, Adds, with_leaf, with_family, with_absent, IsComposite, composite_label, IsNumber, number_value}
 use Rattle.value_store.proofs.FamilyRows.{Grows, part-all, first_link-grow}
 use Rattle.value_store.proofs.Grown.{NewNode, AreNodes-grow, trees_from-grow, nodes-new, pending-new, stack-new, stack-cut, length-stack, LinksBelow-append, LinksBelow-drop}
-use Rattle.value_store.proofs.Counted.{members_slots-of, member_count-of, marks-cut}
+use Rattle.value_store.proofs.Counted.{marks-cut}
+use Rattle.value_store.proofs.Taken.{members_take-of, member_count-of, members_pending, kept-members}
 
 -- numbers
 
@@ -48,15 +50,40 @@ number-tree names s ts Array start c h = absurd h
 number-tree names s ts (Struct t) start c h = absurd h
 number-tree names s ts (Union i t) start c h = absurd h
 
-pub number-nodes : (shape : Shape) (start c : ℕ) → IsNumber shape → (level_slots NodeSlot (Some (number_value shape start c) ∷ []) ≡ 1) × ((level_slots LinkSlot (Some (number_value shape start c) ∷ []) ≡ 0) × (level_slots ByteSlot (Some (number_value shape start c) ∷ []) ≡ 0))
-number-nodes (Integer w g) start c h = (refl, (refl, refl))
-number-nodes (Offset w g u) start c h = (refl, (refl, refl))
-number-nodes Text start c h = absurd h
-number-nodes (Integers w g) start c h = absurd h
-number-nodes (Offsets w g u) start c h = absurd h
-number-nodes Array start c h = absurd h
-number-nodes (Struct t) start c h = absurd h
-number-nodes (Union i t) start c h = absurd h
+-- a number takes a node
+abbrev leaf_takes : Vector → ℕ
+leaf_takes NodesOf = 1
+leaf_takes FamiliesOf = 0
+leaf_takes LinksOf = 0
+leaf_takes PendingOf = 0
+leaf_takes TextsOf = 0
+leaf_takes BytesOf = 0
+
+leaf-own : (vector : Vector) (label : Label) → families_taken label ≡ 0 → texts_taken label ≡ 0 → text_length label ≡ 0 → own_takes vector label NoMembers + 0 ≡ leaf_takes vector
+leaf-own NodesOf label families texts bytes = refl
+leaf-own FamiliesOf label families texts bytes = omega (arith, families)
+leaf-own LinksOf label families texts bytes = refl
+leaf-own PendingOf label families texts bytes = refl
+leaf-own TextsOf label families texts bytes = omega (arith, texts)
+leaf-own BytesOf label families texts bytes = omega (arith, bytes)
+
+number-takes : (packs : Bool) (vector : Vector) (shape : Shape) (start c : ℕ) → IsNumber shape → value_takes packs vector (number_value shape start c) ≡ leaf_takes vector
+number-takes packs vector (Integer w g) start c h = leaf-own vector (IntegerLabel (number_in g c) (record { width = w; signed = g })) refl refl refl
+number-takes packs vector (Offset w g u) start c h = leaf-own vector (OffsetLabel (number_in g c) (record { width = w; signed = g }) u) refl refl refl
+number-takes packs vector Text start c h = absurd h
+number-takes packs vector (Integers w g) start c h = absurd h
+number-takes packs vector (Offsets w g u) start c h = absurd h
+number-takes packs vector Array start c h = absurd h
+number-takes packs vector (Struct t) start c h = absurd h
+number-takes packs vector (Union i t) start c h = absurd h
+
+leaf-marks : (vector : Vector) (shape : Shape) (start c : ℕ) (s : Slots) → of_vector vector (marks_of (with_leaf shape start c s)) ≡ of_vector vector (marks_of s) + (place_takes vector + leaf_takes vector)
+leaf-marks NodesOf shape start c s = let n : Node = record { start = start; content = c; shape = shape } in length_push s.nodes n
+leaf-marks FamiliesOf shape start c s = omega arith
+leaf-marks LinksOf shape start c s = omega arith
+leaf-marks PendingOf shape start c s = length_push s.pending (Some (length s.nodes))
+leaf-marks TextsOf shape start c s = omega arith
+leaf-marks BytesOf shape start c s = omega arith
 
 -- a node behind all pending ones
 pub pending-last : (s : Slots) → s.pending ++ Some (length s.nodes) ∷ [] ≡ take (length s.pending) s.pending ++ Some (length s.nodes) ∷ []
@@ -101,22 +128,16 @@ number-adds room shape start c s number sound =
     let u = with_leaf shape start c s in
     let n : Node = record { start = start; content = c; shape = shape } in
     let new = leaf-new shape start c s number in
-    let count = length_push s.nodes n in
-    let takes = number-nodes shape start c number in
     record {
       sound = record {
         nodes = nodes-new s u n sound new;
         pending = pending-new s u n (length s.pending) sound new (pending-last s);
         links = sound.links;
         bytes = sound.bytes;
-        families = omega (arith, sound.families, count);
-        texts = omega (arith, sound.texts, count);
       };
       rest = leaf-rest shape start c s;
       stack = λ names. stack-last names s u n sound new refl ∙ ap (λ t. stack names s ++ Some t ∷ []) (number-tree names u (trees names s) shape start c number);
-      nodes = λ counted names. omega (arith, count, takes.0);
-      links = λ counted names. omega (arith, takes.1.0);
-      bytes = λ counted names. omega (arith, takes.1.1);
+      takes = λ names vector. omega (arith, leaf-marks vector shape start c s, number-takes (packs room) vector shape start c number);
     }
 
 -- arrays, structs and unions
@@ -151,15 +172,34 @@ family-tree names s ts Array start c h = refl
 family-tree names s ts (Struct t) start c h = refl
 family-tree names s ts (Union i t) start c h = refl
 
-no-bytes : (names : Names) (shape : Shape) → IsComposite shape → text_length (composite_label names shape) ≡ 0
-no-bytes names (Integer w g) h = absurd h
-no-bytes names (Offset w g u) h = absurd h
-no-bytes names Text h = absurd h
-no-bytes names (Integers w g) h = absurd h
-no-bytes names (Offsets w g u) h = absurd h
-no-bytes names Array h = refl
-no-bytes names (Struct t) h = refl
-no-bytes names (Union i t) h = refl
+-- the label of an array, a struct or a union is one of a family
+family-label : (names : Names) (shape : Shape) → (families_taken (composite_label names shape) ≡ 1) × ((texts_taken (composite_label names shape) ≡ 0) × (text_length (composite_label names shape) ≡ 0))
+family-label names (Integer w g) = (refl, (refl, refl))
+family-label names (Offset w g u) = (refl, (refl, refl))
+family-label names Text = (refl, (refl, refl))
+family-label names (Integers w g) = (refl, (refl, refl))
+family-label names (Offsets w g u) = (refl, (refl, refl))
+family-label names Array = (refl, (refl, refl))
+family-label names (Struct t) = (refl, (refl, refl))
+family-label names (Union i t) = (refl, (refl, refl))
+
+-- a family takes what its members did, and a node, the family and a link for each of them
+family-marks : (packs : Bool) (vector : Vector) (names : Names) (shape : Shape) (start size : ℕ) (k : Marks) (s : Slots) (os : List (Option Value)) → k.pending ≤ length s.pending →
+    length os ≡ length s.pending - k.pending → of_vector vector (marks_of s) ≡ of_vector vector k + level_takes packs vector os →
+    of_vector vector (marks_of (with_family shape start size k.pending s)) ≡
+    of_vector vector k + (place_takes vector + (own_takes vector (composite_label names shape) (gathered os) + members_take packs vector (gathered os)))
+family-marks packs NodesOf names shape start size k s os within count e =
+    let n : Node = record { start = start; content = length s.families; shape = shape } in
+    omega (arith, e, length_push s.nodes n, members_take-of packs NodesOf os refl)
+family-marks packs FamiliesOf names shape start size k s os within count e =
+    let f : Family = record { end = length s.links + (length s.pending - k.pending); size = size } in
+    omega (arith, e, length_push s.families f, members_take-of packs FamiliesOf os refl, (family-label names shape).0)
+family-marks packs LinksOf names shape start size k s os within count e =
+    omega (arith, e, count, length-append s.links (drop k.pending s.pending), length-drop k.pending s.pending, members_take-of packs LinksOf os refl, member_count-of os)
+family-marks packs PendingOf names shape start size k s os within count e =
+    omega (arith, within, length_push (take k.pending s.pending) (Some (length s.nodes)), length-take k.pending s.pending, members_pending packs (gathered os))
+family-marks packs TextsOf names shape start size k s os within count e = omega (arith, e, members_take-of packs TextsOf os refl, (family-label names shape).1.0)
+family-marks packs BytesOf names shape start size k s os within count e = omega (arith, e, members_take-of packs BytesOf os refl, (family-label names shape).1.1)
 
 module _ (shape : Shape) (start size mark : ℕ) (s : Slots) (composite : IsComposite shape) (sound : IsSound s) (within : mark ≤ length s.pending) where
   new_family : Family
@@ -208,14 +248,11 @@ module _ (shape : Shape) (start size mark : ℕ) (s : Slots) (composite : IsComp
       let u = with_family shape start size mark s in
       let n : Node = record { start = start; content = length s.families; shape = shape } in
       let f : Family = record { end = length s.links + (length s.pending - mark); size = size } in
-      let count = length_push s.nodes n in
       record {
         nodes = nodes-new s u n sound family-new;
         pending = pending-new s u n mark sound family-new refl;
         links = ap (first_link u.families) (length_push s.families f ∙ add-one (length s.families)) ∙ ap (λ (g : Family). g.end) family-end ∙ omega (arith, length-append s.links (drop mark s.pending), length-drop mark s.pending);
         bytes = sound.bytes;
-        families = omega (arith, sound.families, count, length_push s.families f);
-        texts = omega (arith, sound.texts, count);
       }
 
   family-stack : (names : Names) → stack names (with_family shape start size mark s) ≡ take mark (stack names s) ++ Some (Mapped (composite_label names shape) start (start + size) (gathered (drop mark (stack names s)))) ∷ []
@@ -233,14 +270,14 @@ module _ (shape : Shape) (start size mark : ℕ) (s : Slots) (composite : IsComp
 
 -- the parts of an open value become one value in their place
 pub family-adds : (room : Room) (shape : Shape) (start size : ℕ) (k : Marks) (s : Slots) → IsComposite shape → IsSound s → IsLevel room k s → IsSound (cut_to k s) →
+    ((names : Names) → packed_width (packs room) (composite_label names shape) (gathered (level_of names k s)) ≡ None) →
     Adds room (cut_to k s) (with_family shape start size k.pending s) (λ names. Some (Mapped (composite_label names shape) start (start + size) (gathered (level_of names k s))) ∷ [])
-family-adds room shape start size k s composite sound is below =
+family-adds room shape start size k s composite sound is below unpacked =
     let u = with_family shape start size k.pending s in
     let n : Node = record { start = start; content = length s.families; shape = shape } in
     let f : Family = record { end = length s.links + (length s.pending - k.pending); size = size } in
     let w = is.within in
     let m = marks-cut k s w in
-    let count = length_push s.nodes n in
     let nodes = take-append-le k.nodes s.nodes (n ∷ []) w.nodes in
     let families = take-append-le k.families s.families (f ∷ []) w.families in
     let links = take-append-le k.links s.links (drop k.pending s.pending) w.links in
@@ -250,9 +287,12 @@ family-adds room shape start size k s composite sound is below =
       sound = family-sound shape start size k.pending s composite sound w.pending;
       rest = ap (λ (j : Marks). cut_to j u) m ∙ left;
       stack = λ names. family-stack shape start size k.pending s composite sound w.pending names ∙ ap (λ os. os ++ Some (Mapped (composite_label names shape) start (start + size) (gathered (level_of names k s))) ∷ []) (sym (stack-cut names k s below));
-      nodes = λ counted names. omega (arith, count, is.nodes counted names, ap (λ (j : Marks). j.nodes) m, members_slots-of NodeSlot (level_of names k s) refl);
-      links = λ counted names. omega (arith, is.links counted names, ap (λ (j : Marks). j.links) m, members_slots-of LinkSlot (level_of names k s) refl, member_count-of (level_of names k s), length-drop k.pending (stack names s), length-stack names s, length-append s.links (drop k.pending s.pending), length-drop k.pending s.pending);
-      bytes = λ counted names. omega (arith, is.bytes counted names, ap (λ (j : Marks). j.bytes) m, members_slots-of ByteSlot (level_of names k s) refl, no-bytes names shape composite);
+      takes = λ names vector.
+          let os = level_of names k s in
+          let label = composite_label names shape in
+          let count : length os ≡ length s.pending - k.pending = omega (arith, length-drop k.pending (stack names s), length-stack names s) in
+          let kept = kept-members (packed_width (packs room) label (gathered os)) vector label (gathered os) (members_take (packs room) vector (gathered os)) (unpacked names) in
+          omega (arith, family-marks (packs room) vector names shape start size k s os w.pending count (is.takes names vector), ap (of_vector vector) m, kept);
     }
 
 -- a field that is not there
@@ -285,6 +325,14 @@ absent-stack names s sound =
     let e : trees_from names (with_absent s) [] s.nodes ≡ trees_from names s [] s.nodes = trees_from-grow names s (with_absent s) [] 0 s.nodes (absent-same s) sound.nodes in
     ap (λ ts. map (opened ts) (s.pending ++ None ∷ [])) e ∙ map-append (opened (trees names s)) s.pending (None ∷ [])
 
+absent-marks : (vector : Vector) (s : Slots) → of_vector vector (marks_of (with_absent s)) ≡ of_vector vector (marks_of s) + place_takes vector
+absent-marks NodesOf s = omega arith
+absent-marks FamiliesOf s = omega arith
+absent-marks LinksOf s = omega arith
+absent-marks PendingOf s = length_push s.pending None
+absent-marks TextsOf s = omega arith
+absent-marks BytesOf s = omega arith
+
 pub absent-adds : (room : Room) (s : Slots) → IsSound s → Adds room s (with_absent s) (λ names. None ∷ [])
 absent-adds room s sound = record {
   sound = record {
@@ -292,12 +340,8 @@ absent-adds room s sound = record {
     pending = LinksBelow-append (length s.nodes) s.pending (None ∷ []) sound.pending tt;
     links = sound.links;
     bytes = sound.bytes;
-    families = sound.families;
-    texts = sound.texts;
   };
   rest = absent-rest s;
   stack = λ names. absent-stack names s sound;
-  nodes = λ counted names. omega arith;
-  links = λ counted names. omega arith;
-  bytes = λ counted names. omega arith;
+  takes = λ names vector. omega (arith, absent-marks vector s);
 }

@@ -1,21 +1,22 @@
 -- What a placed text or array of packed numbers adds to a store.
-use Rattle.std.proofs.Common.{◌≡◌, ℕ, ◌+◌, ◌-◌, ◌*◌, List, [], ◌∷◌, ◌++◌, Some, length, refl, sym, ◌∙◌, ap, subst, arith, add-one}
+use Rattle.std.proofs.Common.{◌≡◌, ℕ, zero, suc, ◌+◌, ◌-◌, ◌*◌, ◌<◌, Bool, true, List, [], ◌∷◌, ◌++◌, Some, length, refl, sym, ◌∙◌, ap, subst, arith, add-one}
 use Rattle.std.specs.Prelude.{slice_index}
-use Rattle.std.proofs.lemmas.Bool.{false≢true}
+use Rattle.std.proofs.Math.Nat.{mul-zero}
 use Rattle.std.proofs.lemmas.List.{append-nil, length-append, length_push, take_at, take_all}
 use Rattle.std.proofs.Math.Seq.{get_or-append_seam}
 use Rattle.value_store.specs.declared.store.room.Room.{Room}
 use Rattle.value_store.specs.declared.store.slots.Node.{Node}
 use Rattle.value_store.specs.declared.store.slots.Shape.{Shape}
 use Rattle.value_store.specs.declared.store.slots.Shape.TheVariants.{Integer, Offset, Text, Integers, Offsets, Array, Struct, Union}
-use Rattle.value_store.specs.Packed.{numbers_in}
-use Rattle.pickle_meaning.specs.Room.{NodeSlot, LinkSlot, ByteSlot, level_slots}
+use Rattle.value_store.specs.Packed.{bytes_for, numbers_in}
 use Rattle.pickle_meaning.specs.Values.{Value, Mapped, NoMembers, TextLabel, ArrayLabel, gathered}
 use Rattle.value_store.specs.Names.{Names}
-use Rattle.value_store.specs.Slots.{Slots, IsCounted, first_byte, text_bytes, elements, links_of, tree_of, trees, stack, LinksBelow, IsShort, IsByteRow, AreNumbers, IsContent, IsSound, cut_to, marks_of, Adds, with_bytes, AreBytes, bytes_value, MayKeep}
+use Rattle.value_store.specs.Takes.{Vector, NodesOf, FamiliesOf, LinksOf, PendingOf, TextsOf, BytesOf, of_vector, own_takes, row_takes, value_takes, place_takes}
+use Rattle.value_store.specs.Slots.{Slots, packs, first_byte, text_bytes, IsPacked, element_width, elements, row_value, links_of, tree_of, trees, stack, LinksBelow, IsShort, IsByteRow, AreNumbers, IsContent, IsSound, cut_to, marks_of, Adds, with_bytes, AreNumberBytes, AreBytes, bytes_value, AreSome, MayKeep}
 use Rattle.value_store.proofs.FamilyRows.{part-all, first_byte-grow}
 use Rattle.value_store.proofs.Grown.{NewNode, nodes-new, pending-new}
 use Rattle.value_store.proofs.Placed.{pending-last, stack-last}
+use Rattle.value_store.proofs.Taken.{row-taken}
 
 module _ (shape : Shape) (bytes : List ℕ) (start : ℕ) (s : Slots) (sound : IsSound s) where
   bytes-first : first_byte (with_bytes shape bytes start s).texts (length s.texts) ≡ length s.bytes
@@ -63,9 +64,9 @@ bytes-content (Integer w g) bytes start s sound h = absurd h
 bytes-content (Offset w g u) bytes start s sound h = absurd h
 bytes-content Text bytes start s sound h = (bytes-row Text bytes start s sound, subst (λ n. IsShort n) (sym (bytes-count Text bytes start s sound)) h)
 bytes-content (Integers w g) bytes start s sound h =
-    (bytes-row (Integers w g) bytes start s sound, subst (λ bs. AreNumbers w (numbers_in w bs) start) (sym (bytes-here (Integers w g) bytes start s sound)) h)
+    (bytes-row (Integers w g) bytes start s sound, subst (λ bs. AreNumbers w (numbers_in w bs) start) (sym (bytes-here (Integers w g) bytes start s sound)) h.0)
 bytes-content (Offsets w g u) bytes start s sound h =
-    (bytes-row (Offsets w g u) bytes start s sound, (subst (λ bs. AreNumbers w (numbers_in w bs) start) (sym (bytes-here (Offsets w g u) bytes start s sound)) h.0, h.1))
+    (bytes-row (Offsets w g u) bytes start s sound, (subst (λ bs. AreNumbers w (numbers_in w bs) start) (sym (bytes-here (Offsets w g u) bytes start s sound)) h.0.0, h.1))
 bytes-content Array bytes start s sound h = absurd h
 bytes-content (Struct t) bytes start s sound h = absurd h
 bytes-content (Union i t) bytes start s sound h = absurd h
@@ -95,21 +96,61 @@ bytes-tree names Array bytes start s ts sound h = absurd h
 bytes-tree names (Struct t) bytes start s ts sound h = absurd h
 bytes-tree names (Union i t) bytes start s ts sound h = absurd h
 
--- the slots of a text, and of nothing else where slots are counted
-pub record TakesBytes (shape : Shape) (own : List ℕ) (start : ℕ) : Type 0 where
-  pub nodes : level_slots NodeSlot (Some (bytes_value shape own start) ∷ []) ≡ 1
-  pub links : level_slots LinkSlot (Some (bytes_value shape own start) ∷ []) ≡ 0
-  pub bytes : level_slots ByteSlot (Some (bytes_value shape own start) ∷ []) ≡ length own
+-- a text takes a node, a text and its bytes, and so do packed numbers
+abbrev pub text_takes : Vector → (count : ℕ) → ℕ
+text_takes NodesOf count = 1
+text_takes FamiliesOf count = 0
+text_takes LinksOf count = 0
+text_takes PendingOf count = 0
+text_takes TextsOf count = 1
+text_takes BytesOf count = count
 
-pub bytes-takes : (room : Room) (shape : Shape) (bytes : List ℕ) (start : ℕ) → AreBytes shape bytes start → MayKeep room shape → IsCounted room → TakesBytes shape bytes start
-bytes-takes room (Integer w g) bytes start h may counted = absurd h
-bytes-takes room (Offset w g u) bytes start h may counted = absurd h
-bytes-takes room Text bytes start h may counted = record { nodes = omega arith; links = omega arith; bytes = omega arith }
-bytes-takes room (Integers w g) bytes start h may counted = absurd (false≢true (sym counted ∙ may))
-bytes-takes room (Offsets w g u) bytes start h may counted = absurd (false≢true (sym counted ∙ may))
-bytes-takes room Array bytes start h may counted = absurd h
-bytes-takes room (Struct t) bytes start h may counted = absurd h
-bytes-takes room (Union i t) bytes start h may counted = absurd h
+text-own : (vector : Vector) (bytes : List ℕ) → own_takes vector (TextLabel bytes) NoMembers + 0 ≡ text_takes vector (length bytes)
+text-own NodesOf bytes = refl
+text-own FamiliesOf bytes = refl
+text-own LinksOf bytes = refl
+text-own PendingOf bytes = refl
+text-own TextsOf bytes = refl
+text-own BytesOf bytes = omega arith
+
+row-own : (vector : Vector) (width count bytes : ℕ) → bytes_for width * count ≡ bytes → row_takes vector width count ≡ text_takes vector bytes
+row-own NodesOf width count bytes e = refl
+row-own FamiliesOf width count bytes e = refl
+row-own LinksOf width count bytes e = refl
+row-own PendingOf width count bytes e = refl
+row-own TextsOf width count bytes e = refl
+row-own BytesOf width count bytes e = e
+
+pos-factor : (size count : ℕ) → 0 < size * count → 0 < count
+pos-factor size zero h = absurd (omega (arith, h, mul-zero size))
+pos-factor size (suc count) h = omega arith
+
+numbers-take : (packs : Bool) (vector : Vector) (shape : Shape) (bytes : List ℕ) (start : ℕ) → packs ≡ true → IsPacked shape → AreNumberBytes (element_width shape) bytes start → 0 < length bytes →
+    value_takes packs vector (row_value shape (numbers_in (element_width shape) bytes) start) ≡ text_takes vector (length bytes)
+numbers-take packs vector shape bytes start e p are some =
+    let w = element_width shape in
+    let ns = numbers_in w bytes in
+    let counted : 0 < length ns = pos-factor (bytes_for w) (length ns) (omega (arith, some, are.1)) in
+    ap (λ b. value_takes b vector (row_value shape ns start)) e ∙ row-taken vector start shape ns p counted ∙ row-own vector w (length ns) (length bytes) are.1
+
+pub bytes-take : (room : Room) (vector : Vector) (shape : Shape) (bytes : List ℕ) (start : ℕ) → AreBytes shape bytes start → MayKeep room shape → AreSome shape bytes →
+    value_takes (packs room) vector (bytes_value shape bytes start) ≡ text_takes vector (length bytes)
+bytes-take room vector (Integer w g) bytes start h may some = absurd h
+bytes-take room vector (Offset w g u) bytes start h may some = absurd h
+bytes-take room vector Text bytes start h may some = text-own vector bytes
+bytes-take room vector (Integers w g) bytes start h may some = numbers-take (packs room) vector (Integers w g) bytes start may (h.0.some, h.0.most) h some
+bytes-take room vector (Offsets w g u) bytes start h may some = numbers-take (packs room) vector (Offsets w g u) bytes start may (h.0.0.some, h.0.0.most, h.1) h.0 some
+bytes-take room vector Array bytes start h may some = absurd h
+bytes-take room vector (Struct t) bytes start h may some = absurd h
+bytes-take room vector (Union i t) bytes start h may some = absurd h
+
+bytes-marks : (vector : Vector) (shape : Shape) (bytes : List ℕ) (start : ℕ) (s : Slots) → of_vector vector (marks_of (with_bytes shape bytes start s)) ≡ of_vector vector (marks_of s) + (place_takes vector + text_takes vector (length bytes))
+bytes-marks NodesOf shape bytes start s = let n : Node = record { start = start; content = length s.texts; shape = shape } in length_push s.nodes n
+bytes-marks FamiliesOf shape bytes start s = omega arith
+bytes-marks LinksOf shape bytes start s = omega arith
+bytes-marks PendingOf shape bytes start s = length_push s.pending (Some (length s.nodes))
+bytes-marks TextsOf shape bytes start s = length_push s.texts (length s.bytes + length bytes)
+bytes-marks BytesOf shape bytes start s = omega (arith, length-append s.bytes bytes)
 
 bytes-new : (shape : Shape) (bytes : List ℕ) (start : ℕ) (s : Slots) → IsSound s → AreBytes shape bytes start →
     NewNode s (with_bytes shape bytes start s) (record { start = start; content = length s.texts; shape = shape })
@@ -131,25 +172,20 @@ bytes-new shape bytes start s sound h = record {
   };
 }
 
-pub bytes-adds : (room : Room) (shape : Shape) (bytes : List ℕ) (start : ℕ) (s : Slots) → IsSound s → AreBytes shape bytes start → MayKeep room shape →
+pub bytes-adds : (room : Room) (shape : Shape) (bytes : List ℕ) (start : ℕ) (s : Slots) → IsSound s → AreBytes shape bytes start → MayKeep room shape → AreSome shape bytes →
     Adds room s (with_bytes shape bytes start s) (λ names. Some (bytes_value shape bytes start) ∷ [])
-bytes-adds room shape bytes start s sound are may =
+bytes-adds room shape bytes start s sound are may some =
     let u = with_bytes shape bytes start s in
     let n : Node = record { start = start; content = length s.texts; shape = shape } in
     let new = bytes-new shape bytes start s sound are in
-    let count = length_push s.nodes n in
     record {
       sound = record {
         nodes = nodes-new s u n sound new;
         pending = pending-new s u n (length s.pending) sound new (pending-last s);
         links = sound.links;
         bytes = bytes-tiles shape bytes start s sound;
-        families = omega (arith, sound.families, count);
-        texts = omega (arith, sound.texts, count, length_push s.texts (length s.bytes + length bytes));
       };
       rest = bytes-rest shape bytes start s;
       stack = λ names. stack-last names s u n sound new refl ∙ ap (λ t. stack names s ++ Some t ∷ []) (bytes-tree names shape bytes start s (trees names s) sound are);
-      nodes = λ counted names. omega (arith, count, (bytes-takes room shape bytes start are may counted).nodes);
-      links = λ counted names. omega (arith, (bytes-takes room shape bytes start are may counted).links);
-      bytes = λ counted names. omega (arith, length-append s.bytes bytes, (bytes-takes room shape bytes start are may counted).bytes);
+      takes = λ names vector. omega (arith, bytes-marks vector shape bytes start s, bytes-take room vector shape bytes start are may some);
     }

@@ -1,28 +1,30 @@
 -- Values that are made of bytes, under way: texts and arrays of packed numbers.
-use Rattle.std.proofs.Common.{◌≡◌, ℕ, ◌+◌, ◌-◌, ◌*◌, ◌<◌, ◌≤◌, List, [], ◌∷◌, ◌++◌, Some, Result, Ok, Err, OnOk, OnErr, length, take, refl, sym, ◌∙◌, ap, subst, arith, lit<}
+use Rattle.std.proofs.Common.{◌≡◌, ℕ, ◌+◌, ◌-◌, ◌*◌, ◌<◌, Bool, false, List, [], ◌∷◌, ◌++◌, Some, Result, Ok, Err, OnOk, OnErr, length, take, refl, sym, ◌∙◌, ap, subst, arith, lit<}
 use Rattle.std.specs.Prelude.{slice_set}
 use Rattle.std.proofs.Math.Seq.{take-length}
 use Rattle.std.proofs.lemmas.List.{append_assoc, length-append, length_push, length-set, take_at, take_more_set}
-use Rattle.value_store.specs.declared.store.room.Room.{Room}
 use Rattle.value_store.specs.declared.store.slots.Marks.{Marks}
 use Rattle.value_store.specs.declared.store.slots.Node.{Node}
 use Rattle.value_store.specs.declared.store.slots.Shape.{Shape}
-use Rattle.value_store.specs.declared.store.slots.Shape.TheVariants.{Text}
+use Rattle.value_store.specs.declared.store.slots.Shape.TheVariants.{Integer, Offset, Text, Integers, Offsets, Array, Struct, Union}
 use Rattle.pickle_meaning.specs.Room.{Slot, slots}
 use Rattle.pickle_meaning.specs.Values.{Levels, opened, top_of, outer_of, pushed, text_value, text_level}
-use Rattle.value_store.specs.Exceeding.{Exceeds}
-use Rattle.value_store.specs.Filling.{closed_text, Writes, ShowsByte, ExceedsByByte, Settles, ExceedsClosed}
-use Rattle.value_store.specs.Levels.{extended, FitsIn}
+use Rattle.value_store.specs.Filling.{closed_text, Writes, ShowsByte, CannotWrite, Settles, CannotCloseText}
+use Rattle.value_store.specs.Keeping.{Overfills, LacksRoom, LacksBytes, IsPushed, CannotPush}
+use Rattle.value_store.specs.Levels.{extended}
 use Rattle.value_store.specs.Names.{Names}
-use Rattle.value_store.specs.Slots.{Slots, Held, levels, AreLevels, levels_at, Adds, IsShort, with_bytes, with_more, AreBytes, bytes_value, MayKeep, written, HasRoom, HasNoNode, IsFilling, IsWriting, GoesOn, Regrown}
+use Rattle.value_store.specs.Takes.{Vector, BytesOf, levels_take}
+use Rattle.value_store.specs.Slots.{Slots, Held, packs, levels, AreLevels, levels_at, Adds, IsShort, with_bytes, with_more, AreBytes, bytes_value, AreSome, MayKeep, written, HasNoNode, IsFilling, IsWriting, GoesOn, Regrown}
 use Rattle.value_store.proofs.Counted.{levels-more, levels_at-more, levels-sound}
-use Rattle.value_store.proofs.PlacedBytes.{bytes-adds, bytes-takes}
-use Rattle.value_store.proofs.Fits.{room-more, room-byte, counted-pushed, pushed-extended, slots-pushed, exceeds, refused}
+use Rattle.value_store.proofs.PlacedBytes.{bytes-adds}
+use Rattle.value_store.proofs.Taken.{pushed-extended, slots-pushed, levels_take-pushed, pushed-some}
+use Rattle.value_store.proofs.Fits.{overfills, overfilled, totals}
+use Rattle.value_store.proofs.Held.{refused}
 
 -- a value of bytes that is placed
-module _ (h : Held) (shape : Shape) (bytes : List ℕ) (start : ℕ) (all : AreLevels h.room h.frames h.slots) (are : AreBytes shape bytes start) (may : MayKeep h.room shape) where
+module _ (h : Held) (shape : Shape) (bytes : List ℕ) (start : ℕ) (all : AreLevels h.room h.frames h.slots) (are : AreBytes shape bytes start) (may : MayKeep h.room shape) (some : AreSome shape bytes) where
   adds-here : Adds h.room h.slots (with_bytes shape bytes start h.slots) (λ names. Some (bytes_value shape bytes start) ∷ [])
-  adds-here = bytes-adds h.room shape bytes start h.slots (levels-sound h.room h.frames h.slots all) are may
+  adds-here = bytes-adds h.room shape bytes start h.slots (levels-sound h.room h.frames h.slots all) are may some
 
   pub bytes-frames : AreLevels h.room h.frames (with_bytes shape bytes start h.slots)
   bytes-frames = levels-more h.room h.frames h.slots (with_bytes shape bytes start h.slots) (λ names. Some (bytes_value shape bytes start) ∷ []) all adds-here
@@ -33,20 +35,9 @@ module _ (h : Held) (shape : Shape) (bytes : List ℕ) (start : ℕ) (all : AreL
       levels_at-more names h.room h.frames h.slots (with_bytes shape bytes start h.slots) (λ names. Some (bytes_value shape bytes start) ∷ []) all adds-here
       ∙ pushed-extended (levels_at names h.frames h.slots) (Some (bytes_value shape bytes start))
 
-  bytes-room : (names : Names) → FitsIn h.room (pushed (levels names h) (Some (bytes_value shape bytes start))) → HasRoom h.room h.slots 1 0 1 (length bytes)
-  unfolding levels
-  bytes-room names fits =
-      let r = room-more names h.frames h.slots h.room (Some (bytes_value shape bytes start)) all fits in
-      let t = bytes-takes h.room shape bytes start are may (counted-pushed h.room (levels names h) (Some (bytes_value shape bytes start)) fits) in
-      record {
-        nodes = omega (arith, r.nodes, t.nodes);
-        links = omega (arith, r.links, t.links);
-        pending = r.pending;
-        bytes = omega (arith, r.bytes, t.bytes);
-      }
-
-  pub bytes-full : {T E : Type 0} (r : Result T E) → (HasRoom h.room h.slots 1 0 1 (length bytes) → ⊥) → OnErr r ((names : Names) → Exceeds h.room (pushed (levels names h) (Some (bytes_value shape bytes start))))
-  bytes-full r none = refused r h.room (λ names. pushed (levels names h) (Some (bytes_value shape bytes start))) (λ names fits. none (bytes-room names fits))
+  pub bytes-full : {T E : Type 0} (r : Result T E) → LacksRoom h (with_bytes shape bytes start h.slots) → OnErr r (CannotPush h (Some (bytes_value shape bytes start)))
+  bytes-full r lacks = refused r (λ names.
+      overfilled names h (with_bytes shape bytes start h.slots) _ bytes-frames (bytes-levels names h.capacity) (pushed-some (levels names h) (Some (bytes_value shape bytes start))) lacks)
 
 -- the end of the last bytes, written anew
 last-set : (ends : List ℕ) (end : ℕ) → 0 < length ends → slice_set ends (length ends - 1) end ≡ take (length ends - 1) ends ++ end ∷ []
@@ -70,13 +61,23 @@ written-some : (shape : Shape) (bytes : List ℕ) (start : ℕ) (s : Slots) → 
 written-some shape [] start s some = absurd (omega arith)
 written-some shape (b ∷ bytes) start s some = refl
 
+pub some-bytes : (shape : Shape) (bytes : List ℕ) → 0 < length bytes → AreSome shape bytes
+some-bytes (Integer w g) bytes some = tt
+some-bytes (Offset w g u) bytes some = tt
+some-bytes Text bytes some = tt
+some-bytes (Integers w g) bytes some = some
+some-bytes (Offsets w g u) bytes some = some
+some-bytes Array bytes some = tt
+some-bytes (Struct t) bytes some = tt
+some-bytes (Union t i) bytes some = tt
+
 -- what the slots of a value under way hold
 module _ (names : Names) (h : Held) (shape : Shape) (bytes : List ℕ) (start : ℕ) (outer : Levels) (w : IsFilling names h shape bytes start outer) (some : 0 < length bytes) where
   filling-slots : h.slots ≡ with_bytes shape bytes start w.before
   filling-slots = w.is ∙ written-some shape bytes start w.before some
 
   filling-adds : Adds h.room w.before (with_bytes shape bytes start w.before) (λ names. Some (bytes_value shape bytes start) ∷ [])
-  filling-adds = bytes-adds h.room shape bytes start w.before (levels-sound h.room h.frames w.before w.own) w.are w.may
+  filling-adds = bytes-adds h.room shape bytes start w.before (levels-sound h.room h.frames w.before w.own) w.are w.may (some-bytes shape bytes some)
 
   filling-frames : AreLevels h.room h.frames h.slots
   filling-frames =
@@ -101,7 +102,8 @@ module _ (names : Names) (h : Held) (shape : Shape) (bytes : List ℕ) (start : 
       let longer = bytes ++ more in
       subst (λ x. AreLevels h.room h.frames x) (sym (more-slots more))
       (levels-more h.room h.frames w.before (with_bytes shape longer start w.before) (λ names. Some (bytes_value shape longer start) ∷ []) w.own
-      (bytes-adds h.room shape longer start w.before (levels-sound h.room h.frames w.before w.own) are w.may))
+      (bytes-adds h.room shape longer start w.before (levels-sound h.room h.frames w.before w.own) are w.may
+      (some-bytes shape longer (omega (arith, some, length-append bytes more)))))
 
 -- more bytes of a value that has some, whose end is written anew
 pub more-placed : (h : Held) (shape : Shape) (more : List ℕ) (count end : ℕ) (bytes : List ℕ) → GoesOn h shape more →
@@ -204,9 +206,12 @@ module _ (names : Names) (h : Held) (byte : ℕ) (bytes : List ℕ) (start : ℕ
       let w' : IsWriting names h [] start outer = subst (λ bs. IsFilling names h Text bs start outer) none w in
       ap (λ ls. pushed ls (Some (text_value (byte ∷ []) start (start + 8 * (length (byte ∷ []) + 1))))) (filling-empty names h Text start outer w') ∙ ap (λ bs. text_level (bs ++ byte ∷ []) start outer) (sym none)
 
-  pub stale-room : (HasNoNode h → ⊥) → FitsIn h.room (text_level (bytes ++ byte ∷ []) start outer) → length h.slots.bytes + 1 ≤ h.room.least
-  unfolding levels
-  stale-room n fits = room-byte names h.frames h.slots h.room start byte bytes outer (filling-all names h Text bytes start outer w) (writing-levels names h bytes start outer w (stale-some names h Text bytes start outer w n)) fits
+  -- more bytes are all that it takes more
+  pub stale-overfills : (HasNoNode h → ⊥) → LacksBytes h 1 → Overfills h false (text_level (bytes ++ byte ∷ []) start outer)
+  stale-overfills n lacks =
+      let is = writing-levels names h bytes start outer w (stale-some names h Text bytes start outer w n) in
+      let held = totals names h BytesOf (filling-all names h Text bytes start outer w) ∙ ap (levels_take (packs h.room) BytesOf) is in
+      overfills h (text_level (bytes ++ byte ∷ []) start outer) (omega arith) BytesOf lacks.0 (omega (arith, lacks.1, held, length_push bytes byte))
 
 -- the text is closed
 pub close-stale : (names : Names) (h : Held) (bytes : List ℕ) (start : ℕ) (outer : Levels) → IsWriting names h bytes start outer → (HasNoNode h → ⊥) → levels names h ≡ text_level bytes start outer
@@ -222,8 +227,14 @@ close-fresh names h bytes start outer w e =
 closed-slots : (kind : Slot) (bytes : List ℕ) (start : ℕ) (outer : Levels) → slots kind (closed_text bytes start outer) ≡ slots kind (text_level bytes start outer)
 closed-slots kind bytes start outer = let v = Some (text_value bytes start (start + 8 * (length bytes + 1))) in omega (arith, slots-pushed kind outer v)
 
-pub exceeds-closed : (room : Room) (bytes : List ℕ) (start : ℕ) (outer : Levels) → Exceeds room (text_level bytes start outer) → Exceeds room (closed_text bytes start outer)
-exceeds-closed room bytes start outer (kind, more) = (kind, omega (arith, more, closed-slots kind bytes start outer))
+closed-takes : (packs : Bool) (vector : Vector) (bytes : List ℕ) (start : ℕ) (outer : Levels) → levels_take packs vector (closed_text bytes start outer) ≡ levels_take packs vector (text_level bytes start outer)
+closed-takes packs vector bytes start outer = let v = Some (text_value bytes start (start + 8 * (length bytes + 1))) in omega (arith, levels_take-pushed packs vector outer v)
+
+pub overfills-closed : (h : Held) (bytes : List ℕ) (start : ℕ) (outer : Levels) → Overfills h false (text_level bytes start outer) → Overfills h false (closed_text bytes start outer)
+overfills-closed h bytes start outer o = record {
+  least = (o.least.0, omega (arith, o.least.1, closed-slots o.least.0 bytes start outer));
+  capacity = (o.capacity.0, omega (arith, o.capacity.1, closed-takes (packs h.room) o.capacity.0 bytes start outer));
+}
 
 -- the clauses of the calls
 on_ok : {T E A B : Type 0} (r : Result T E) → (A → B) → OnOk r A → OnOk r B
@@ -236,17 +247,17 @@ on_err (Err x) f a = f a
 
 -- a text placed by its bytes
 abbrev Placed : (h n : Held) → (bytes : List ℕ) (start : ℕ) → Type 0
-Placed h n bytes start = (names : Names) → levels names n ≡ pushed (levels names h) (Some (bytes_value Text bytes start))
+Placed h n bytes start = IsPushed h n (Some (bytes_value Text bytes start))
 
 abbrev Refused : Held → (bytes : List ℕ) (start : ℕ) → Type 0
-Refused h bytes start = (names : Names) → Exceeds h.room (pushed (levels names h) (Some (bytes_value Text bytes start)))
+Refused h bytes start = CannotPush h (Some (bytes_value Text bytes start))
 
 module _ {T E : Type 0} (r : Result T E) (h n : Held) (byte start : ℕ) where
   pub fresh-clause : HasNoNode h → OnOk r (Placed h n (byte ∷ []) start) → OnOk r (ShowsByte h n byte start)
   fresh-clause fresh = on_ok r (λ e names bytes outer w short. e names ∙ fresh-levels names h byte bytes start outer w fresh)
 
-  pub fresh-full : HasNoNode h → OnErr r (Refused h (byte ∷ []) start) → OnErr r (ExceedsByByte h byte start)
-  fresh-full fresh = on_err r (λ e names bytes outer w. subst (Exceeds h.room) (fresh-levels names h byte bytes start outer w fresh) (e names))
+  pub fresh-full : HasNoNode h → OnErr r (Refused h (byte ∷ []) start) → OnErr r (CannotWrite h byte start)
+  fresh-full fresh = on_err r (λ e names bytes outer w. subst (Overfills h false) (fresh-levels names h byte bytes start outer w fresh) (e names))
 
   pub fresh-writes : HasNoNode h → OnOk r (Regrown (record h { slots = with_bytes Text (byte ∷ []) start h.slots }) n) → OnOk r (Writes h n byte start)
   fresh-writes fresh = on_ok r (λ e names bytes outer w short.
@@ -260,16 +271,15 @@ module _ {T E : Type 0} (r : Result T E) (h n : Held) (byte start : ℕ) where
   stale-clause stale = on_ok r (λ e names bytes outer w short.
       ap (levels names) e ∙ writing-levels names _ _ _ _ (stale-filling names h Text (byte ∷ []) bytes start outer w _ stale (short-push bytes byte short)) (omega (arith, length_push bytes byte)))
 
-  pub stale-full : (HasNoNode h → ⊥) → OnErr r (h.room.least < length h.slots.bytes + 1) → OnErr r (ExceedsByByte h byte start)
-  stale-full stale = on_err r (λ more names bytes outer w.
-      exceeds h.room (text_level (bytes ++ byte ∷ []) start outer) (λ fits. let held = stale-room names h byte bytes start outer w stale fits in absurd (omega (arith, more, held))))
+  pub stale-full : (HasNoNode h → ⊥) → OnErr r (LacksBytes h 1) → OnErr r (CannotWrite h byte start)
+  stale-full stale = on_err r (λ lacks names bytes outer w. stale-overfills names h byte bytes start outer w stale lacks)
 
   pub settled-clause : HasNoNode h → OnOk r (Placed h n [] start) → OnOk r (Settles h n start)
   settled-clause fresh = on_ok r (λ e names bytes outer w. e names ∙ close-fresh names h bytes start outer w fresh)
 
-  pub settled-full : HasNoNode h → OnErr r (Refused h [] start) → OnErr r (ExceedsClosed h start)
+  pub settled-full : HasNoNode h → OnErr r (Refused h [] start) → OnErr r (CannotCloseText h start)
   settled-full fresh = on_err r (λ e names bytes outer w.
-      exceeds-closed h.room bytes start outer (subst (Exceeds h.room) (close-fresh names h bytes start outer w fresh) (e names)))
+      overfills-closed h bytes start outer (subst (Overfills h false) (close-fresh names h bytes start outer w fresh) (e names)))
 
 -- the levels of a text that is lifted
 pub lifted-text : (bytes : List ℕ) (start : ℕ) (outer ls : Levels) → ls ≡ text_level bytes start outer → extended (outer_of ls) (top_of ls) ≡ closed_text bytes start outer

@@ -1,10 +1,11 @@
 -- What calls do to a text or an array of packed numbers that is under way.
-use Rattle.std.specs.Prelude.{◌≡◌, ℕ, ◌+◌, ◌*◌, ◌<◌, ◌^◌, List, [], ◌∷◌, ◌++◌, Some, length}
+use Rattle.std.specs.Prelude.{◌≡◌, ℕ, ◌+◌, ◌*◌, ◌<◌, ◌^◌, true, false, List, [], ◌∷◌, ◌++◌, Some, length}
 use Rattle.value_store.specs.declared.store.slots.Shape.{Shape}
 use Rattle.pickle_meaning.specs.Values.{Levels, pushed, text_value, text_level}
 use Rattle.value_store.specs.Names.{Names}
-use Rattle.value_store.specs.Exceeding.{Exceeds}
-use Rattle.value_store.specs.Slots.{Held, levels, IsShort, row_value, element_width, IsWriting, IsPacking}
+use Rattle.value_store.specs.Takes.{AreWithin}
+use Rattle.value_store.specs.Keeping.{Overfills}
+use Rattle.value_store.specs.Slots.{Held, levels, IsShort, packs, elements, row_value, element_width, IsWriting, IsPacking}
 
 -- the levels around a text that is closed
 abbrev pub closed_text : List ℕ → (start : ℕ) → Levels → Levels
@@ -21,9 +22,9 @@ ShowsByte before after byte start = (names : Names) (bytes : List ℕ) (outer : 
     IsWriting names before bytes start outer → IsShort (length bytes + 1) → levels names after ≡ text_level (bytes ++ byte ∷ []) start outer
 
 -- there is no room for it
-abbrev pub ExceedsByByte : Held → (byte start : ℕ) → Type 0
-ExceedsByByte before byte start = (names : Names) (bytes : List ℕ) (outer : Levels) →
-    IsWriting names before bytes start outer → Exceeds before.room (text_level (bytes ++ byte ∷ []) start outer)
+abbrev pub CannotWrite : Held → (byte start : ℕ) → Type 0
+CannotWrite before byte start = (names : Names) (bytes : List ℕ) (outer : Levels) →
+    IsWriting names before bytes start outer → Overfills before false (text_level (bytes ++ byte ∷ []) start outer)
 
 -- the text is alone in its level
 abbrev pub Settles : (before after : Held) → (start : ℕ) → Type 0
@@ -36,14 +37,25 @@ ClosesText before after start = (names : Names) (bytes : List ℕ) (outer : Leve
     IsWriting names before bytes start outer → levels names after ≡ closed_text bytes start outer
 
 -- there is no room for that
-abbrev pub ExceedsClosed : Held → (start : ℕ) → Type 0
-ExceedsClosed before start = (names : Names) (bytes : List ℕ) (outer : Levels) →
-    IsWriting names before bytes start outer → Exceeds before.room (closed_text bytes start outer)
+abbrev pub CannotCloseText : Held → (start : ℕ) → Type 0
+CannotCloseText before start = (names : Names) (bytes : List ℕ) (outer : Levels) →
+    IsWriting names before bytes start outer → Overfills before false (closed_text bytes start outer)
 
 -- the array goes on with a number more
 abbrev pub Packs : (before after : Held) → Shape → (digits start : ℕ) → Type 0
 Packs before after shape digits start = (names : Names) (numbers : List ℕ) (outer : Levels) → IsPacking names before shape numbers start outer →
     start + element_width shape * (length numbers + 1) < 2 ^ 64 → IsPacking names after shape (numbers ++ digits ∷ []) start outer
+
+-- its numbers, that one with them, take no more than the vectors have room for
+abbrev pub PacksWithin : (before after : Held) → Shape → (digits start : ℕ) → Type 0
+PacksWithin before after shape digits start = (names : Names) (numbers : List ℕ) (outer : Levels) → IsPacking names before shape numbers start outer →
+    start + element_width shape * (length numbers + 1) < 2 ^ 64 →
+    AreWithin (packs after.room) true (elements shape start (numbers ++ digits ∷ []) ∷ outer) after.capacity
+
+-- there is no room for that number
+abbrev pub CannotPack : Held → Shape → (digits start : ℕ) → Type 0
+CannotPack before shape digits start = (names : Names) (numbers : List ℕ) (outer : Levels) →
+    IsPacking names before shape numbers start outer → Overfills before true (elements shape start (numbers ++ digits ∷ []) ∷ outer)
 
 -- the array is alone in its level
 abbrev pub SettlesRow : (before after : Held) → Shape → (start : ℕ) → Type 0
@@ -54,3 +66,8 @@ SettlesRow before after shape start = (names : Names) (numbers : List ℕ) (oute
 abbrev pub ClosesRow : (before after : Held) → Shape → (start : ℕ) → Type 0
 ClosesRow before after shape start = (names : Names) (numbers : List ℕ) (outer : Levels) →
     IsPacking names before shape numbers start outer → levels names after ≡ pushed outer (Some (row_value shape numbers start))
+
+-- there is no room for that
+abbrev pub CannotCloseRow : Held → Shape → (start : ℕ) → Type 0
+CannotCloseRow before shape start = (names : Names) (numbers : List ℕ) (outer : Levels) →
+    IsPacking names before shape numbers start outer → Overfills before false (pushed outer (Some (row_value shape numbers start)))

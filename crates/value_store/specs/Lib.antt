@@ -1,6 +1,7 @@
 pub mod Labels
 pub mod Scalars
 pub mod Levels
+pub mod Takes
 pub mod Links
 pub mod Packed
 pub mod Slots
@@ -10,6 +11,7 @@ pub mod Linked
 pub mod Lent
 pub mod Owners
 pub mod Exceeding
+pub mod Keeping
 pub mod Filling
 pub mod Closed
 pub mod Integers

@@ -14,7 +14,7 @@ use Rattle.pickle_meaning.specs.Arithmetic.{with_sign}
 use Rattle.value_store.specs.Packed.{bytes_for, packed, numbers_in}
 use Rattle.value_store.specs.Names.{Names, title_at, names_at, name_at}
 use Rattle.pickle_meaning.specs.Values.{Label, IntegerLabel, OffsetLabel, TextLabel, ArrayLabel, StructLabel, UnionLabel, Value, Mapped, NoMembers, Levels, label_of, start_of, end_of, members_of, gathered, text_value}
-use Rattle.pickle_meaning.specs.Room.{NodeSlot, LinkSlot, ByteSlot, level_slots}
+use Rattle.value_store.specs.Takes.{Vector, of_vector, level_takes}
 
 -- the slots of a store, each a list of its own
 pub record Slots : Type 0 where
@@ -53,9 +53,6 @@ packs_as Free (suc least) = false
 
 abbrev pub packs : Room → Bool
 packs room = packs_as room.growth room.least
-
-abbrev pub IsCounted : Room → Type 0
-IsCounted room = packs room ≡ false
 
 abbrev pub empty : Room → (capacity : Marks) → Held
 empty room capacity = record { slots = no_slots; frames = []; room = room; capacity = capacity }
@@ -324,14 +321,12 @@ abbrev pub AreNodesFrom : Slots → ℕ → List Node → Type 0
 AreNodesFrom s i [] = Unit {0}
 AreNodesFrom s i (n ∷ ns) = IsNodeAt s i n × AreNodesFrom s (i + 1) ns
 
--- nodes refer to rows that are there, links to earlier nodes; rows cover all links and bytes, and are no more than the nodes
+-- nodes refer to rows that are there, links to earlier nodes; rows cover all links and bytes
 pub record IsSound (s : Slots) : Type 0 where
   pub nodes : AreNodesFrom s 0 s.nodes
   pub pending : LinksBelow (length s.nodes) s.pending
   pub links : first_link s.families (length s.families) ≡ length s.links
   pub bytes : first_byte s.texts (length s.texts) ≡ length s.bytes
-  pub families : length s.families ≤ length s.nodes
-  pub texts : length s.texts ≤ length s.nodes
 
 -- what is left below some marks
 abbrev pub cut_to : Marks → Slots → Slots
@@ -369,12 +364,10 @@ pub record IsWithin (k : Marks) (s : Slots) : Type 0 where
 abbrev pub level_of : Names → Marks → Slots → List (Option Value)
 level_of names k s = drop k.pending (stack names s)
 
--- above some marks there is just what the parts of the open value take, where slots are counted
+-- above some marks there is, in each vector, just what the parts of the open value take
 pub record IsLevel (room : Room) (k : Marks) (s : Slots) : Type 0 where
   pub within : IsWithin k s
-  pub nodes : IsCounted room → (names : Names) → length s.nodes ≡ k.nodes + level_slots NodeSlot (level_of names k s)
-  pub links : IsCounted room → (names : Names) → length s.links ≡ k.links + level_slots LinkSlot (level_of names k s)
-  pub bytes : IsCounted room → (names : Names) → length s.bytes ≡ k.bytes + level_slots ByteSlot (level_of names k s)
+  pub takes : (names : Names) (vector : Vector) → of_vector vector (marks_of s) ≡ of_vector vector k + level_takes (packs room) vector (level_of names k s)
 
 abbrev pub innermost : List Marks → Marks
 innermost [] = root_marks
@@ -396,14 +389,12 @@ levels names h = levels_at names h.frames h.slots
 abbrev pub level_count : Held → ℕ
 level_count h = 1 + length h.frames
 
--- u is s with these values on its stack, and just the slots more that they take, where these are counted
+-- u is s with these values on its stack, and in each vector just what they take more
 pub record Adds (room : Room) (s u : Slots) (vs : Names → List (Option Value)) : Type 0 where
   pub sound : IsSound u
   pub rest : cut_to (marks_of s) u ≡ s
   pub stack : (names : Names) → stack names u ≡ stack names s ++ vs names
-  pub nodes : IsCounted room → (names : Names) → length u.nodes ≡ length s.nodes + level_slots NodeSlot (vs names)
-  pub links : IsCounted room → (names : Names) → length u.links ≡ length s.links + level_slots LinkSlot (vs names)
-  pub bytes : IsCounted room → (names : Names) → length u.bytes ≡ length s.bytes + level_slots ByteSlot (vs names)
+  pub takes : (names : Names) (vector : Vector) → of_vector vector (marks_of u) ≡ of_vector vector (marks_of s) + level_takes (packs room) vector (vs names)
 
 -- a new node without children
 abbrev pub with_leaf : Shape → ℕ → ℕ → Slots → Slots
@@ -453,13 +444,17 @@ with_more more s = record {
   bytes = s.bytes ++ more;
 }
 
+-- the bytes of whole packed numbers
+abbrev pub AreNumberBytes : (width : ℕ) → List ℕ → (start : ℕ) → Type 0
+AreNumberBytes width bytes start = AreNumbers width (numbers_in width bytes) start × (bytes_for width * length (numbers_in width bytes) ≡ length bytes)
+
 -- the bytes that a text is, or an array of packed numbers
 abbrev pub AreBytes : Shape → List ℕ → (start : ℕ) → Type 0
 AreBytes (Integer w g) bytes start = ⊥
 AreBytes (Offset w g u) bytes start = ⊥
 AreBytes Text bytes start = IsShort (length bytes)
-AreBytes (Integers w g) bytes start = AreNumbers w (numbers_in w bytes) start
-AreBytes (Offsets w g u) bytes start = AreNumbers w (numbers_in w bytes) start × (1 ≤ u)
+AreBytes (Integers w g) bytes start = AreNumberBytes w bytes start
+AreBytes (Offsets w g u) bytes start = AreNumberBytes w bytes start × (1 ≤ u)
 AreBytes Array bytes start = ⊥
 AreBytes (Struct t) bytes start = ⊥
 AreBytes (Union t i) bytes start = ⊥
@@ -474,6 +469,17 @@ bytes_value (Offsets w g u) bytes start = row_value (Offsets w g u) (numbers_in 
 bytes_value Array bytes start = no_value
 bytes_value (Struct t) bytes start = no_value
 bytes_value (Union t i) bytes start = no_value
+
+-- an array of packed numbers has some: without any it is an array like others
+abbrev pub AreSome : Shape → List ℕ → Type 0
+AreSome (Integer w g) bytes = Unit {0}
+AreSome (Offset w g u) bytes = Unit {0}
+AreSome Text bytes = Unit {0}
+AreSome (Integers w g) bytes = 0 < length bytes
+AreSome (Offsets w g u) bytes = 0 < length bytes
+AreSome Array bytes = Unit {0}
+AreSome (Struct t) bytes = Unit {0}
+AreSome (Union t i) bytes = Unit {0}
 
 -- numbers are packed only where slots aren't counted
 abbrev pub MayKeep : Room → Shape → Type 0
@@ -548,13 +554,6 @@ pub record TakesNumber (h : Held) (shape : Shape) (start : ℕ) : Type 0 where
   pub outer : Levels
   pub packing : IsPacking names h shape numbers start outer
   pub short : start + element_width shape * (length numbers + 1) < 2 ^ 64
-
--- room of that many of each kind is enough for so many more
-pub record HasRoom (room : Room) (s : Slots) (node_count link_count pending_count byte_count : ℕ) : Type 0 where
-  pub nodes : length s.nodes + node_count ≤ room.least
-  pub links : length s.links + link_count ≤ room.least
-  pub pending : length s.pending + pending_count ≤ room.least
-  pub bytes : length s.bytes + byte_count ≤ room.least
 
 -- a number that 64 bits can stand for
 abbrev pub IsContentNumber : Bool → ℤ → Type 0

@@ -1,9 +1,7 @@
 //! What is made of bytes: texts, and arrays of packed numbers.
-ghost use Rattle.std.specs.Prelude.{◌≡◌, ℕ, ◌+◌, ◌<◌, Some, length, IsTrue, ◌↔◌, OnOk, OnErr};
-ghost use Rattle.pickle_meaning.specs.Values.{pushed};
-ghost use Rattle.value_store.specs.Exceeding.{Exceeds};
-ghost use Rattle.value_store.specs.Names.{Names};
-ghost use Rattle.value_store.specs.Slots.{levels, level_count, with_bytes, with_more, bytes_value, AreBytes, MayKeep, HasNoNode, GoesOn, KeepsRoom, Regrown};
+ghost use Rattle.std.specs.Prelude.{◌≡◌, Some, length, IsTrue, ◌↔◌, OnOk, OnErr};
+ghost use Rattle.value_store.specs.Keeping.{HoldsLevels, LacksBytes, IsPushed, CannotPush};
+ghost use Rattle.value_store.specs.Slots.{level_count, with_bytes, with_more, bytes_value, AreBytes, AreSome, MayKeep, HasNoNode, GoesOn, KeepsRoom, Regrown};
 
 use crate::store::Store;
 use crate::store::append::append;
@@ -21,12 +19,14 @@ impl Store {
     ) -> Result<(), Memory>
         requires are { AreBytes shape bytes.now start }
         requires may { MayKeep self.old.room shape }
+        requires some { AreSome shape bytes.now }
         ensures slots { OnOk result (Regrown (record self.old { slots = with_bytes shape bytes.now start self.old.slots }) self.new) }
-        ensures levels { OnOk result ((names : Names) → levels names self.new ≡ pushed (levels names self.old) (Some (bytes_value shape bytes.now start))) }
+        ensures levels { OnOk result (IsPushed self.old self.new (Some (bytes_value shape bytes.now start))) }
+        ensures within { OnOk result (HoldsLevels self.new) }
         ensures err { OnErr result (Regrown self.old self.new) }
         ensures room { KeepsRoom self.old self.new }
         ensures depth { level_count self.new ≡ level_count self.old }
-        ensures full { OnErr result ((names : Names) → Exceeds self.old.room (pushed (levels names self.old) (Some (bytes_value shape bytes.now start)))) }
+        ensures full { OnErr result (CannotPush self.old (Some (bytes_value shape bytes.now start))) }
     {
         let index = self.nodes.len();
         let content = self.texts.len() as u64;
@@ -51,10 +51,11 @@ impl Store {
     pub(super) fn append_bytes(&mut self, shape: Shape, more: &[u8]) -> Result<(), Memory>
         requires { GoesOn self.old shape more.now }
         ensures slots { OnOk result (Regrown (record self.old { slots = with_more more.now self.old.slots }) self.new) }
+        ensures within { OnOk result (HoldsLevels self.new) }
         ensures err { OnErr result (Regrown self.old self.new) }
         ensures room { KeepsRoom self.old self.new }
         ensures depth { level_count self.new ≡ level_count self.old }
-        ensures full { OnErr result (self.old.room.least < length self.old.slots.bytes + length more.now) }
+        ensures full { OnErr result (LacksBytes self.old (length more.now)) }
     {
         self.room.reserve(&mut self.bytes, more.len())?;
         append(&mut self.bytes, more, self.room);

@@ -2,6 +2,7 @@
 
 ghost use Rattle.std.specs.Prelude.{◌≡◌, ◌+◌, ◌-◌, ◌<◌, ◌≤◌, ◌∷◌, [], length, max, take};
 ghost use Rattle.pickle_meaning.specs.Values.{opened, outer_of, top_of};
+ghost use Rattle.value_store.specs.Keeping.{HoldsLevels};
 ghost use Rattle.value_store.specs.Levels.{extended};
 ghost use Rattle.value_store.specs.Names.{Names};
 ghost use Rattle.value_store.specs.Slots.{Held, levels, level_count, cut_to, innermost, marks_of, HasNoNode, AreLevels, KeepsRoom};
@@ -27,6 +28,7 @@ impl Store {
     /// Closes the innermost open value, and leaves its parts to the one around it.
     pub(crate) fn lift_level(&mut self)
         ensures levels { (names : Names) → levels names self.new ≡ extended (outer_of (levels names self.old)) (top_of (levels names self.old)) }
+        ensures within { HoldsLevels self.new }
         ensures room { KeepsRoom self.old self.new }
         ensures depth { level_count self.new ≡ max 1 (level_count self.old - 1) }
     {

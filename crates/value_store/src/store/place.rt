@@ -4,11 +4,10 @@ ghost use Rattle.std.specs.Prelude.{◌≡◌, ◌+◌, ◌-◌, ◌^◌, ◌<�
 ghost use Rattle.value_store.specs.declared.store.room.Growth.TheVariants.{Never};
 ghost use Rattle.pickle_types.specs.Table.{IsWidth};
 ghost use Rattle.pickle_meaning.specs.Means.{integer_value, offset_value};
-ghost use Rattle.pickle_meaning.specs.Values.{ArrayLabel, pushed};
-ghost use Rattle.value_store.specs.Closed.{closed, placed, struct_label, union_label};
-ghost use Rattle.value_store.specs.Exceeding.{Exceeds};
-ghost use Rattle.value_store.specs.Names.{Names};
-ghost use Rattle.value_store.specs.Slots.{levels, level_count, IsNumber, number_value, number_in, IsContentNumber, IsComposite, composite_label, KeepsRoom, Regrown};
+ghost use Rattle.pickle_meaning.specs.Values.{ArrayLabel};
+ghost use Rattle.value_store.specs.Closed.{struct_label, union_label};
+ghost use Rattle.value_store.specs.Keeping.{HoldsLevels, IsPushed, CannotPush, IsPlaced, IsClosed, CannotClose, KeepsMembers, StartsWithNoNumber};
+ghost use Rattle.value_store.specs.Slots.{level_count, IsNumber, number_value, number_in, IsContentNumber, IsComposite, composite_label, KeepsRoom, Regrown};
 
 use crate::ranges::with_sign;
 use crate::store::Store;
@@ -96,11 +95,12 @@ impl Store {
     #[inline(always)]
     fn place_number(&mut self, shape: Shape, start: u64, content: u64) -> Result<(), Memory>
         requires number { IsNumber shape }
-        ensures ok { OnOk result ((names : Names) → levels names self.new ≡ pushed (levels names self.old) (Some (number_value shape start content))) }
+        ensures ok { OnOk result (IsPushed self.old self.new (Some (number_value shape start content))) }
+        ensures within { OnOk result (HoldsLevels self.new) }
         ensures err { OnErr result (Regrown self.old self.new) }
         ensures room { KeepsRoom self.old self.new }
         ensures depth { level_count self.new ≡ level_count self.old }
-        ensures full { OnErr result ((names : Names) → Exceeds self.old.room (pushed (levels names self.old) (Some (number_value shape start content)))) }
+        ensures full { OnErr result (CannotPush self.old (Some (number_value shape start content))) }
     {
         let index = self.nodes.len();
         self.room.reserve(&mut self.nodes, 1)?;
@@ -116,13 +116,14 @@ impl Store {
 
     // Places a value of the parts of the innermost open value, which it then holds in their place.
     #[inline(always)]
-    fn place_family(&mut self, shape: Shape, start: u64, size: u64) -> Result<(), Memory>
+    pub(super) fn place_family(&mut self, shape: Shape, start: u64, size: u64) -> Result<(), Memory>
         requires composite { IsComposite shape }
-        ensures ok { OnOk result ((names : Names) → levels names self.new ≡ placed (composite_label names shape) start (start + size) (levels names self.old)) }
+        requires members { KeepsMembers self.old shape }
+        ensures ok { OnOk result (IsPlaced self.old self.new (λ names. composite_label names shape) start (start + size)) }
         ensures err { OnErr result (Regrown self.old self.new) }
         ensures room { KeepsRoom self.old self.new }
         ensures depth { level_count self.new ≡ level_count self.old }
-        ensures full { OnErr result ((names : Names) → Exceeds self.old.room (closed (composite_label names shape) start (start + size) (levels names self.old))) }
+        ensures full { OnErr result (CannotClose self.old (λ names. composite_label names shape) start (start + size)) }
     {
         let mark = self.innermost().pending;
         let index = self.nodes.len();
@@ -154,11 +155,12 @@ impl Store {
     ) -> Result<(), Memory>
         requires width { IsWidth number }
         requires below { digits < 2 ^ number.width }
-        ensures ok { OnOk result ((names : Names) → levels names self.new ≡ pushed (levels names self.old) (Some (integer_value number digits start))) }
+        ensures ok { OnOk result (IsPushed self.old self.new (Some (integer_value number digits start))) }
+        ensures within { OnOk result (HoldsLevels self.new) }
         ensures err { OnErr result (Regrown self.old self.new) }
         ensures room { KeepsRoom self.old self.new }
         ensures depth { level_count self.new ≡ level_count self.old }
-        ensures full { OnErr result ((names : Names) → Exceeds self.old.room (pushed (levels names self.old) (Some (integer_value number digits start)))) }
+        ensures full { OnErr result (CannotPush self.old (Some (integer_value number digits start))) }
     {
         self.place_number(
             Shape::Integer {
@@ -181,11 +183,12 @@ impl Store {
         requires width { IsWidth number }
         requires unit { 1 ≤ unit }
         requires below { digits < 2 ^ number.width }
-        ensures ok { OnOk result ((names : Names) → levels names self.new ≡ pushed (levels names self.old) (Some (offset_value number unit digits start))) }
+        ensures ok { OnOk result (IsPushed self.old self.new (Some (offset_value number unit digits start))) }
+        ensures within { OnOk result (HoldsLevels self.new) }
         ensures err { OnErr result (Regrown self.old self.new) }
         ensures room { KeepsRoom self.old self.new }
         ensures depth { level_count self.new ≡ level_count self.old }
-        ensures full { OnErr result ((names : Names) → Exceeds self.old.room (pushed (levels names self.old) (Some (offset_value number unit digits start)))) }
+        ensures full { OnErr result (CannotPush self.old (Some (offset_value number unit digits start))) }
     {
         self.place_number(
             Shape::Offset {
@@ -200,11 +203,12 @@ impl Store {
 
     /// Places a field that is not there.
     pub fn push_absent(&mut self) -> Result<(), Memory>
-        ensures ok { OnOk result ((names : Names) → levels names self.new ≡ pushed (levels names self.old) None) }
+        ensures ok { OnOk result (IsPushed self.old self.new None) }
+        ensures within { OnOk result (HoldsLevels self.new) }
         ensures err { OnErr result (Regrown self.old self.new) }
         ensures room { KeepsRoom self.old self.new }
         ensures depth { level_count self.new ≡ level_count self.old }
-        ensures full { OnErr result ((names : Names) → Exceeds self.old.room (pushed (levels names self.old) None)) }
+        ensures full { OnErr result (CannotPush self.old None) }
     {
         self.room.reserve(&mut self.pending, 1)?;
         self.pending.push_reserved(Link::absent());
@@ -215,25 +219,30 @@ impl Store {
     #[inline(always)]
     fn close(&mut self, shape: Shape, start: u64, size: u64) -> Result<(), Memory>
         requires composite { IsComposite shape }
-        ensures ok { OnOk result ((names : Names) → levels names self.new ≡ closed (composite_label names shape) start (start + size) (levels names self.old)) }
+        requires members { KeepsMembers self.old shape }
+        ensures ok { OnOk result (IsClosed self.old self.new (λ names. composite_label names shape) start (start + size)) }
+        ensures within { OnOk result (HoldsLevels self.new) }
         ensures err { OnErr result (Regrown self.old self.new) }
         ensures room { KeepsRoom self.old self.new }
         ensures depth { OnOk result (level_count self.new ≡ max 1 (level_count self.old - 1)) }
-        ensures full { OnErr result ((names : Names) → Exceeds self.old.room (closed (composite_label names shape) start (start + size) (levels names self.old))) }
+        ensures full { OnErr result (CannotClose self.old (λ names. composite_label names shape) start (start + size)) }
     {
         self.place_family(shape, start, size)?;
         self.lift_level();
         Ok(())
     }
 
-    /// Closes the innermost open value as an array from the bit `start` to `end`, whose elements are its parts.
+    /// Closes the innermost open value as an array from the bit `start` to `end`, whose elements are its parts. Where arrays of numbers are
+    /// packed these are no integers or offsets.
     pub fn close_array(&mut self, start: u64, end: u64) -> Result<(), Memory>
         requires order { start ≤ end }
-        ensures ok { OnOk result ((names : Names) → levels names self.new ≡ closed ArrayLabel start end (levels names self.old)) }
+        requires members { StartsWithNoNumber self.old }
+        ensures ok { OnOk result (IsClosed self.old self.new (λ names. ArrayLabel) start end) }
+        ensures within { OnOk result (HoldsLevels self.new) }
         ensures err { OnErr result (Regrown self.old self.new) }
         ensures room { KeepsRoom self.old self.new }
         ensures depth { OnOk result (level_count self.new ≡ max 1 (level_count self.old - 1)) }
-        ensures full { OnErr result ((names : Names) → Exceeds self.old.room (closed ArrayLabel start end (levels names self.old))) }
+        ensures full { OnErr result (CannotClose self.old (λ names. ArrayLabel) start end) }
     {
         self.close(Shape::Array, start, end - start)
     }
@@ -242,11 +251,12 @@ impl Store {
     /// fields, absent ones too.
     pub fn close_struct(&mut self, of: u32, start: u64, end: u64) -> Result<(), Memory>
         requires order { start ≤ end }
-        ensures ok { OnOk result ((names : Names) → levels names self.new ≡ closed (struct_label names of) start end (levels names self.old)) }
+        ensures ok { OnOk result (IsClosed self.old self.new (λ names. struct_label names of) start end) }
+        ensures within { OnOk result (HoldsLevels self.new) }
         ensures err { OnErr result (Regrown self.old self.new) }
         ensures room { KeepsRoom self.old self.new }
         ensures depth { OnOk result (level_count self.new ≡ max 1 (level_count self.old - 1)) }
-        ensures full { OnErr result ((names : Names) → Exceeds self.old.room (closed (struct_label names of) start end (levels names self.old))) }
+        ensures full { OnErr result (CannotClose self.old (λ names. struct_label names of) start end) }
     {
         self.close(Shape::Struct { of }, start, end - start)
     }
@@ -255,11 +265,12 @@ impl Store {
     /// alternative taken, which is the one at the index `taken`.
     pub fn close_union(&mut self, of: u32, taken: u16, start: u64, end: u64) -> Result<(), Memory>
         requires order { start ≤ end }
-        ensures ok { OnOk result ((names : Names) → levels names self.new ≡ closed (union_label names of taken) start end (levels names self.old)) }
+        ensures ok { OnOk result (IsClosed self.old self.new (λ names. union_label names of taken) start end) }
+        ensures within { OnOk result (HoldsLevels self.new) }
         ensures err { OnErr result (Regrown self.old self.new) }
         ensures room { KeepsRoom self.old self.new }
         ensures depth { OnOk result (level_count self.new ≡ max 1 (level_count self.old - 1)) }
-        ensures full { OnErr result ((names : Names) → Exceeds self.old.room (closed (union_label names of taken) start end (levels names self.old))) }
+        ensures full { OnErr result (CannotClose self.old (λ names. union_label names of taken) start end) }
     {
         self.close(Shape::Union { taken, of }, start, end - start)
     }

@@ -1,6 +1,7 @@
 //! Arrays of packed numbers.
 ghost use Rattle.std.specs.Prelude.{◌≡◌, ◌<◌, ◌-◌, ◌^◌, max, take, IsTrue, ◌↔◌, OnOk, OnErr};
-ghost use Rattle.value_store.specs.Filling.{Packs, SettlesRow, ClosesRow};
+ghost use Rattle.value_store.specs.Filling.{Packs, PacksWithin, CannotPack, SettlesRow, ClosesRow, CannotCloseRow};
+ghost use Rattle.value_store.specs.Keeping.{HoldsLevels};
 ghost use Rattle.value_store.specs.Packed.{bytes_for, number_bytes};
 ghost use Rattle.value_store.specs.Slots.{level_count, packs, element_width, HasNoNode, IsPacked, IsRowOf, TakesNumber, KeepsRoom, Regrown};
 
@@ -40,9 +41,11 @@ impl Store {
         requires below { digits < 2 ^ width }
         requires first { IsTrue first ↔ HasNoNode self.old }
         ensures ok { OnOk result (Packs self.old self.new shape digits start) }
+        ensures within { OnOk result (PacksWithin self.old self.new shape digits start) }
         ensures err { OnErr result (Regrown self.old self.new) }
         ensures room { KeepsRoom self.old self.new }
         ensures depth { level_count self.new ≡ level_count self.old }
+        ensures full { OnErr result (CannotPack self.old shape digits start) }
     {
         let bytes = digits.to_le_bytes();
         let own = &bytes[..bytes_for(width)];
@@ -53,7 +56,7 @@ impl Store {
         }
     }
 
-    // Gives the array of packed numbers under way a node, where it has no numbers.
+    // Gives the array of packed numbers under way a node, where it has no numbers: that of an array without members.
     fn settle_row(&mut self, shape: Shape, start: u64) -> Result<(), Memory>
         requires row { IsRowOf self.old shape start }
         requires packed { IsPacked shape }
@@ -61,9 +64,10 @@ impl Store {
         ensures err { OnErr result (Regrown self.old self.new) }
         ensures room { KeepsRoom self.old self.new }
         ensures depth { level_count self.new ≡ level_count self.old }
+        ensures full { OnErr result (CannotCloseRow self.old shape start) }
     {
         if self.has_no_node() {
-            self.place_bytes(shape, start, &[])
+            self.place_family(Shape::Array, start, 0)
         } else {
             Ok(())
         }
@@ -74,9 +78,11 @@ impl Store {
         requires row { IsRowOf self.old shape start }
         requires packed { IsPacked shape }
         ensures ok { OnOk result (ClosesRow self.old self.new shape start) }
+        ensures within { OnOk result (HoldsLevels self.new) }
         ensures err { OnErr result (Regrown self.old self.new) }
         ensures room { KeepsRoom self.old self.new }
         ensures depth { OnOk result (level_count self.new ≡ max 1 (level_count self.old - 1)) }
+        ensures full { OnErr result (CannotCloseRow self.old shape start) }
     {
         self.settle_row(shape, start)?;
         self.lift_level();

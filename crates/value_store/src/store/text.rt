@@ -3,7 +3,8 @@
 ghost use Rattle.std.specs.Prelude.{◌≡◌, ℕ, ◌+◌, ◌-◌, ◌≤◌, [], max, IsTrue, ◌↔◌, OnOk, OnErr};
 ghost use Rattle.pickle_meaning.specs.Values.{opened};
 ghost use Rattle.value_store.specs.Names.{Names};
-ghost use Rattle.value_store.specs.Filling.{Writes, ShowsByte, ExceedsByByte, Settles, ClosesText, ExceedsClosed};
+ghost use Rattle.value_store.specs.Filling.{Writes, ShowsByte, CannotWrite, Settles, ClosesText, CannotCloseText};
+ghost use Rattle.value_store.specs.Keeping.{HoldsLevels};
 ghost use Rattle.value_store.specs.Slots.{levels, level_count, with_more, HasNoNode, IsWriting, IsText, TakesByte, KeepsRoom, Regrown};
 ghost use Rattle.value_store.specs.declared.store.slots.Shape.TheVariants as shape;
 
@@ -30,10 +31,11 @@ impl Store {
         requires first { IsTrue first ↔ HasNoNode self.old }
         ensures writes { OnOk result (Writes self.old self.new byte start) }
         ensures levels { OnOk result (ShowsByte self.old self.new byte start) }
+        ensures within { OnOk result (HoldsLevels self.new) }
         ensures err { OnErr result (Regrown self.old self.new) }
         ensures room { KeepsRoom self.old self.new }
         ensures depth { level_count self.new ≡ level_count self.old }
-        ensures full { OnErr result (ExceedsByByte self.old byte start) }
+        ensures full { OnErr result (CannotWrite self.old byte start) }
     {
         if first {
             self.place_bytes(Shape::Text, start, &[byte])
@@ -49,7 +51,7 @@ impl Store {
         ensures err { OnErr result (Regrown self.old self.new) }
         ensures room { KeepsRoom self.old self.new }
         ensures depth { level_count self.new ≡ level_count self.old }
-        ensures full { OnErr result (ExceedsClosed self.old start) }
+        ensures full { OnErr result (CannotCloseText self.old start) }
     {
         if self.has_no_node() {
             self.place_bytes(Shape::Text, start, &[])
@@ -62,10 +64,11 @@ impl Store {
     pub fn close_text(&mut self, start: u64) -> Result<(), Memory>
         requires { IsText self.old start }
         ensures ok { OnOk result (ClosesText self.old self.new start) }
+        ensures within { OnOk result (HoldsLevels self.new) }
         ensures err { OnErr result (Regrown self.old self.new) }
         ensures room { KeepsRoom self.old self.new }
         ensures depth { OnOk result (level_count self.new ≡ max 1 (level_count self.old - 1)) }
-        ensures full { OnErr result (ExceedsClosed self.old start) }
+        ensures full { OnErr result (CannotCloseText self.old start) }
     {
         self.settle_text(start)?;
         self.lift_level();

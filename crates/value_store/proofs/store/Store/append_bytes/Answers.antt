@@ -1,7 +1,11 @@
-use Rattle.std.proofs.Common.{rules, ap, subst, sym, arith}
+use Rattle.std.proofs.Common.{rules, ◌-◌, length, ap, subst, sym, arith}
+use Rattle.std.proofs.lemmas.List.{length-set}
 use Rattle.std.specs.Prelude.{vec_capacity}
+use Rattle.value_store.specs.Keeping.{LacksBytes}
 use Rattle.value_store.specs.Slots.{Slots, Held, GoesOn}
 use Rattle.value_store.specs.contracts.store.Store.{the_view}
+use Rattle.value_store.proofs.Fits.{held-levels}
+use Rattle.value_store.proofs.Held.{refused}
 use Rattle.value_store.proofs.Writing.{more-frames, more-placed}
 use Rattle.value_store.proofs.store.Store.append_bytes.Goals as goal
 
@@ -34,3 +38,22 @@ returns-clause-slots c =
     let g : GoesOn h c.args.shape c.args.more.now = subst (λ (h : Held). GoesOn h c.args.shape c.args.more.now) (sym c.self.view_is) c.requires in
     let e = more-placed h c.args.shape c.args.more.now c.len-last.result c.len.result c.append.new.to.items g (search rules) (search rules) (search rules) in
     rw (← c.self.view_is) (ap (λ (x : Slots). record { slots = x; frames = h.frames; room = h.room; capacity = record { nodes = h.capacity.nodes; families = h.capacity.families; links = h.capacity.links; pending = h.capacity.pending; texts = h.capacity.texts; bytes = vec_capacity c.append.new.to } }) e)
+
+pub returns-in_err-reserve-clause-full : goal.returns-in_err-reserve-clause-full
+returns-in_err-reserve-clause-full c =
+    let lacks : LacksBytes (the_view c.self.inside) (length c.args.more.now) = (c.self.invariant.bytes, omega (arith, c.in_err-reserve.ensures.full)) in
+    rw (← c.self.view_is) (refused c.from_residual.result lacks)
+
+pub returns-clause-within : goal.returns-clause-within
+returns-clause-within c =
+    let h = the_view c.self.inside in
+    let g : GoesOn h c.args.shape c.args.more.now = subst (λ (h : Held). GoesOn h c.args.shape c.args.more.now) (sym c.self.view_is) c.requires in
+    let e = more-placed h c.args.shape c.args.more.now c.len-last.result c.len.result c.append.new.to.items g (search rules) (search rules) (search rules) in
+    held-levels _ (rw e (more-frames g.names h c.args.shape g.bytes g.start g.outer g.filling g.some c.args.more.now g.are)) (record {
+      nodes = omega (arith, c.self.inside.nodes.ok.0, c.self.inside.nodes.ok.1);
+      families = omega (arith, c.self.inside.families.ok.0, c.self.inside.families.ok.1);
+      links = omega (arith, c.self.inside.links.ok.0, c.self.inside.links.ok.1);
+      pending = omega (arith, c.self.inside.pending.ok.0, c.self.inside.pending.ok.1);
+      texts = omega (arith, c.self.inside.texts.ok.0, c.self.inside.texts.ok.1, length-set c.self.inside.texts.items (c.len-last.result - 1) c.len.result);
+      bytes = omega (arith, c.append.new.to.ok.0, c.append.new.to.ok.1);
+    })

@@ -1,13 +1,14 @@
 use Rattle.std.proofs.Common.{◌≡◌, ◌+◌, ◌-◌, subst, arith}
 use Rattle.std.specs.Prelude.{OnErr}
 use Rattle.pickle_meaning.specs.Values.{ArrayLabel}
-use Rattle.value_store.specs.Closed.{closed}
-use Rattle.value_store.specs.Exceeding.{Exceeds}
-use Rattle.value_store.specs.Names.{Names}
-use Rattle.value_store.specs.Slots.{levels}
+use Rattle.value_store.specs.Keeping.{CannotClose}
+use Rattle.value_store.proofs.PackedRows.{array-members}
 use Rattle.value_store.proofs.store.Store.close_array.Goals as goal
+
+pub close-requires-clause-members : goal.close-requires-clause-members
+close-requires-clause-members c = array-members c.args.self.now c.requires.members
 
 pub returns-clause-full : goal.returns-clause-full
 returns-clause-full c =
-    let end : c.args.start + (c.args.end - c.args.start) ≡ c.args.end = omega (arith, c.requires) in
-    subst (λ n. OnErr c.close.result ((names : Names) → Exceeds c.args.self.now.room (closed ArrayLabel c.args.start n (levels names c.args.self.now)))) end c.close.ensures.full
+    let end : c.args.start + (c.args.end - c.args.start) ≡ c.args.end = omega (arith, c.requires.order) in
+    subst (λ n. OnErr c.close.result (CannotClose c.args.self.now (λ names. ArrayLabel) c.args.start n)) end c.close.ensures.full

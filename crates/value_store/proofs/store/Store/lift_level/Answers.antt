@@ -1,7 +1,8 @@
-use Rattle.std.proofs.Common.{rules, ◌≡◌, ◌∙◌, ap, reverse}
+use Rattle.std.proofs.Common.{rules, ◌≡◌, ◌∙◌, ap, reverse, arith}
 use Rattle.value_store.specs.Slots.{around}
 use Rattle.value_store.specs.contracts.store.Store.{the_view}
 use Rattle.value_store.proofs.Held.{lift-frames, lift-levels, depth-lift}
+use Rattle.value_store.proofs.Fits.{held-levels}
 use Rattle.value_store.proofs.Frames.{reverse-pop}
 use Rattle.value_store.proofs.store.Store.lift_level.Goals as goal
 
@@ -28,3 +29,15 @@ pub returns-clause-depth : goal.returns-clause-depth
 returns-clause-depth c =
     let e : reverse c.pop.new.self.items ≡ around (the_view c.self.inside).frames = ap reverse c.pop.ensures.rest ∙ reverse-pop c.self.inside.frames.items in
     rw (← c.self.view_is) (depth-lift (the_view c.self.inside).frames _ e)
+
+pub returns-clause-within : goal.returns-clause-within
+returns-clause-within c =
+    let e : reverse c.pop.new.self.items ≡ around (the_view c.self.inside).frames = ap reverse c.pop.ensures.rest ∙ reverse-pop c.self.inside.frames.items in
+    held-levels _ (rw e (lift-frames (the_view c.self.inside) c.self.invariant.levels)) (record {
+      nodes = omega (arith, c.self.inside.nodes.ok.0, c.self.inside.nodes.ok.1);
+      families = omega (arith, c.self.inside.families.ok.0, c.self.inside.families.ok.1);
+      links = omega (arith, c.self.inside.links.ok.0, c.self.inside.links.ok.1);
+      pending = omega (arith, c.self.inside.pending.ok.0, c.self.inside.pending.ok.1);
+      texts = omega (arith, c.self.inside.texts.ok.0, c.self.inside.texts.ok.1);
+      bytes = omega (arith, c.self.inside.bytes.ok.0, c.self.inside.bytes.ok.1);
+    })

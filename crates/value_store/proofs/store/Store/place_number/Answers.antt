@@ -1,18 +1,25 @@
-use Rattle.std.proofs.Common.{rules, ◌≡◌, arith}
+use Rattle.std.proofs.Common.{rules, ◌≡◌, Some, length, arith}
+use Rattle.std.proofs.lemmas.List.{length_push}
+use Rattle.value_store.specs.declared.store.slots.Node.{Node}
 use Rattle.value_store.specs.Slots.{Slots, with_leaf}
+use Rattle.value_store.specs.Takes.{NodesOf, PendingOf}
 use Rattle.value_store.specs.contracts.store.Store.{the_view}
+use Rattle.value_store.proofs.Fits.{held-levels}
 use Rattle.value_store.proofs.Held.{number-frames, number-levels, number-full}
 use Rattle.value_store.proofs.store.Store.place_number.Goals as goal
 
 pub returns-in_err-reserve-clause-full : goal.returns-in_err-reserve-clause-full
 returns-in_err-reserve-clause-full c =
-    rw (← c.self.view_is) (number-full (the_view c.self.inside) c.args.shape c.args.start c.args.content c.requires.number c.self.invariant.levels _ (λ r.
-    omega (arith, r.nodes, c.in_err-reserve.ensures.full)))
+    let h = the_view c.self.inside in
+    let n : Node = record { start = c.args.start; content = c.args.content; shape = c.args.shape } in
+    rw (← c.self.view_is) (number-full h c.args.shape c.args.start c.args.content c.requires.number c.self.invariant.levels _
+    (NodesOf, (c.self.invariant.nodes, omega (arith, c.in_err-reserve.ensures.full, length_push h.slots.nodes n))))
 
 pub returns-in_err-reserve-2-clause-full : goal.returns-in_err-reserve-2-clause-full
 returns-in_err-reserve-2-clause-full c =
-    rw (← c.self.view_is) (number-full (the_view c.self.inside) c.args.shape c.args.start c.args.content c.requires.number c.self.invariant.levels _ (λ r.
-    omega (arith, r.pending, c.in_err-reserve-2.ensures.full)))
+    let h = the_view c.self.inside in
+    rw (← c.self.view_is) (number-full h c.args.shape c.args.start c.args.content c.requires.number c.self.invariant.levels _
+    (PendingOf, (c.self.invariant.pending, omega (arith, c.in_err-reserve-2.ensures.full, length_push h.slots.pending (Some (length h.slots.nodes))))))
 
 pub invariant_of-self-2 : goal.invariant_of-self-2
 invariant_of-self-2 c =
@@ -43,3 +50,17 @@ returns-clause-ok c =
     let t : Slots = record { nodes = c.push_reserved-2.new.self.items; families = s.families; links = s.links; pending = c.push_reserved.new.self.items; texts = s.texts; bytes = s.bytes } in
     let e : t ≡ with_leaf c.args.shape c.args.start c.args.content s = search rules in
     λ names. rw (← c.self.view_is) (rw e (number-levels (the_view c.self.inside) c.args.shape c.args.start c.args.content c.requires.number c.self.invariant.levels names _))
+
+pub returns-clause-within : goal.returns-clause-within
+returns-clause-within c =
+    let s = (the_view c.self.inside).slots in
+    let t : Slots = record { nodes = c.push_reserved-2.new.self.items; families = s.families; links = s.links; pending = c.push_reserved.new.self.items; texts = s.texts; bytes = s.bytes } in
+    let e : t ≡ with_leaf c.args.shape c.args.start c.args.content s = search rules in
+    held-levels _ (rw e (number-frames (the_view c.self.inside) c.args.shape c.args.start c.args.content c.requires.number c.self.invariant.levels)) (record {
+      nodes = omega (arith, c.push_reserved-2.new.self.ok.0, c.push_reserved-2.new.self.ok.1);
+      families = omega (arith, c.self.inside.families.ok.0, c.self.inside.families.ok.1);
+      links = omega (arith, c.self.inside.links.ok.0, c.self.inside.links.ok.1);
+      pending = omega (arith, c.push_reserved.new.self.ok.0, c.push_reserved.new.self.ok.1);
+      texts = omega (arith, c.self.inside.texts.ok.0, c.self.inside.texts.ok.1);
+      bytes = omega (arith, c.self.inside.bytes.ok.0, c.self.inside.bytes.ok.1);
+    })

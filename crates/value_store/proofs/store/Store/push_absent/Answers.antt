@@ -1,12 +1,16 @@
 use Rattle.std.proofs.Common.{rules, ◌≡◌, ◌++◌, ◌∷◌, [], None, arith}
+use Rattle.std.proofs.lemmas.List.{length_push}
+use Rattle.value_store.specs.Takes.{PendingOf}
 use Rattle.value_store.specs.contracts.store.Store.{the_view}
+use Rattle.value_store.proofs.Fits.{held-levels}
 use Rattle.value_store.proofs.Held.{absent-frames, absent-levels, absent-full}
 use Rattle.value_store.proofs.store.Store.push_absent.Goals as goal
 
 pub returns-in_err-reserve-clause-full : goal.returns-in_err-reserve-clause-full
 returns-in_err-reserve-clause-full c =
-    rw (← c.self.view_is) (absent-full _ (the_view c.self.inside) c.self.invariant.levels (λ r.
-    omega (arith, r.pending, c.in_err-reserve.ensures.full)))
+    let h = the_view c.self.inside in
+    rw (← c.self.view_is) (absent-full _ h c.self.invariant.levels
+    (PendingOf, (c.self.invariant.pending, omega (arith, c.in_err-reserve.ensures.full, length_push h.slots.pending None))))
 
 pub invariant_of-self-2 : goal.invariant_of-self-2
 invariant_of-self-2 c =
@@ -33,3 +37,15 @@ pub returns-clause-ok : goal.returns-clause-ok
 returns-clause-ok c =
     let e : c.push_reserved.new.self.items ≡ (the_view c.self.inside).slots.pending ++ None ∷ [] = search rules in
     λ names. rw (← c.self.view_is) (rw e (absent-levels names (the_view c.self.inside) _ c.self.invariant.levels))
+
+pub returns-clause-within : goal.returns-clause-within
+returns-clause-within c =
+    let e : c.push_reserved.new.self.items ≡ (the_view c.self.inside).slots.pending ++ None ∷ [] = search rules in
+    held-levels _ (rw e (absent-frames (the_view c.self.inside) c.self.invariant.levels)) (record {
+      nodes = omega (arith, c.self.inside.nodes.ok.0, c.self.inside.nodes.ok.1);
+      families = omega (arith, c.self.inside.families.ok.0, c.self.inside.families.ok.1);
+      links = omega (arith, c.self.inside.links.ok.0, c.self.inside.links.ok.1);
+      pending = omega (arith, c.push_reserved.new.self.ok.0, c.push_reserved.new.self.ok.1);
+      texts = omega (arith, c.self.inside.texts.ok.0, c.self.inside.texts.ok.1);
+      bytes = omega (arith, c.self.inside.bytes.ok.0, c.self.inside.bytes.ok.1);
+    })

@@ -1,6 +1,6 @@
 use Rattle.std.proofs.Common.{rules, ◌<◌, ◌^◌, length, sym, subst}
-use Rattle.value_store.specs.Slots.{HasNoNode, AreBytes, GoesOn, element_width}
-use Rattle.value_store.proofs.PackedRows.{own-bytes, one-are, stale-row, fresh-packs, stale-packs}
+use Rattle.value_store.specs.Slots.{HasNoNode, AreBytes, AreSome, GoesOn, element_width}
+use Rattle.value_store.proofs.PackedRows.{own-bytes, one-are, one-some, stale-row, fresh-packs, stale-packs, packs-within, fresh-cannot, stale-cannot}
 use Rattle.value_store.proofs.store.Store.push_packed.Goals as goal
 
 pub place_bytes-requires-clause-are : goal.place_bytes-requires-clause-are
@@ -29,3 +29,35 @@ returns-else-first-clause-ok c =
     let own = own-bytes c.args.shape c.args.width c.args.digits c.bytes_for.result c.to_le_bytes-bytes.result c.requires.packed c.requires.width c.bytes_for.ensures c.to_le_bytes-bytes.ensures in
     let stale : HasNoNode c.args.self.now → ⊥ = search rules in
     stale-packs c.args.self.now c.append_bytes.new.self c.args.shape c.args.width c.args.digits c.args.start _ c.requires.packed c.requires.width c.requires.below own c.append_bytes.result stale c.append_bytes.ensures.slots
+
+pub place_bytes-requires-clause-some : goal.place_bytes-requires-clause-some
+place_bytes-requires-clause-some c =
+    let own = own-bytes c.args.shape c.args.width c.args.digits c.bytes_for.result c.to_le_bytes-bytes.result c.requires.packed c.requires.width c.bytes_for.ensures c.to_le_bytes-bytes.ensures in
+    subst (λ bs. AreSome c.args.shape bs) (sym own) (one-some c.args.shape c.args.digits c.requires.packed)
+
+pub returns-then-first-clause-within : goal.returns-then-first-clause-within
+returns-then-first-clause-within c =
+    let own = own-bytes c.args.shape c.args.width c.args.digits c.bytes_for.result c.to_le_bytes-bytes.result c.requires.packed c.requires.width c.bytes_for.ensures c.to_le_bytes-bytes.ensures in
+    let fresh : HasNoNode c.args.self.now = search rules in
+    let packing = fresh-packs c.args.self.now c.place_bytes.new.self c.args.shape c.args.width c.args.digits c.args.start _ c.requires.packed c.requires.width c.requires.below own c.place_bytes.result fresh c.place_bytes.ensures.slots in
+    packs-within c.place_bytes.result c.args.self.now c.place_bytes.new.self c.args.shape c.args.digits c.args.start c.requires.packed packing c.place_bytes.ensures.within
+
+pub returns-else-first-clause-within : goal.returns-else-first-clause-within
+returns-else-first-clause-within c =
+    let own = own-bytes c.args.shape c.args.width c.args.digits c.bytes_for.result c.to_le_bytes-bytes.result c.requires.packed c.requires.width c.bytes_for.ensures c.to_le_bytes-bytes.ensures in
+    let stale : HasNoNode c.args.self.now → ⊥ = search rules in
+    let packing = stale-packs c.args.self.now c.append_bytes.new.self c.args.shape c.args.width c.args.digits c.args.start _ c.requires.packed c.requires.width c.requires.below own c.append_bytes.result stale c.append_bytes.ensures.slots in
+    packs-within c.append_bytes.result c.args.self.now c.append_bytes.new.self c.args.shape c.args.digits c.args.start c.requires.packed packing c.append_bytes.ensures.within
+
+pub returns-then-first-clause-full : goal.returns-then-first-clause-full
+returns-then-first-clause-full c =
+    let own = own-bytes c.args.shape c.args.width c.args.digits c.bytes_for.result c.to_le_bytes-bytes.result c.requires.packed c.requires.width c.bytes_for.ensures c.to_le_bytes-bytes.ensures in
+    let small : c.args.digits < 2 ^ element_width c.args.shape = subst (λ m. c.args.digits < 2 ^ m) c.requires.width c.requires.below in
+    let fresh : HasNoNode c.args.self.now = search rules in
+    fresh-cannot c.place_bytes.result c.args.self.now c.args.shape c.args.digits c.args.start _ c.requires.packed small own fresh c.place_bytes.ensures.full
+
+pub returns-else-first-clause-full : goal.returns-else-first-clause-full
+returns-else-first-clause-full c =
+    let own = own-bytes c.args.shape c.args.width c.args.digits c.bytes_for.result c.to_le_bytes-bytes.result c.requires.packed c.requires.width c.bytes_for.ensures c.to_le_bytes-bytes.ensures in
+    let stale : HasNoNode c.args.self.now → ⊥ = search rules in
+    stale-cannot c.append_bytes.result c.args.self.now c.args.shape c.args.digits c.args.start _ c.requires.packed own stale c.append_bytes.ensures.full

@@ -1,12 +1,24 @@
 use Rattle.std.proofs.Common.{rules}
 use Rattle.value_store.specs.Slots.{HasNoNode}
-use Rattle.value_store.proofs.PackedRows.{settled-row, stale-row_levels}
+use Rattle.value_store.proofs.Writing.{filling-all}
+use Rattle.value_store.proofs.PackedRows.{row_bytes, fresh-members, settled-row, settled-cannot, stale-row_levels}
 use Rattle.value_store.proofs.store.Store.settle_row.Goals as goal
+
+pub place_family-requires-clause-members : goal.place_family-requires-clause-members
+place_family-requires-clause-members c =
+    let fresh : HasNoNode c.args.self.now = search rules in
+    let r = c.requires.row in
+    fresh-members c.args.self.now (filling-all r.names c.args.self.now c.args.shape (row_bytes c.args.shape r.numbers) c.args.start r.outer r.packing.filling) fresh
 
 pub returns-then-has_no_node-clause-ok : goal.returns-then-has_no_node-clause-ok
 returns-then-has_no_node-clause-ok c =
     let fresh : HasNoNode c.args.self.now = search rules in
-    settled-row c.place_bytes.result c.args.self.now c.place_bytes.new.self c.args.shape c.args.start c.requires.packed fresh c.place_bytes.ensures.levels
+    settled-row c.place_family.result c.args.self.now c.place_family.new.self c.args.shape c.args.start c.requires.packed fresh c.place_family.ensures.ok
+
+pub returns-then-has_no_node-clause-full : goal.returns-then-has_no_node-clause-full
+returns-then-has_no_node-clause-full c =
+    let fresh : HasNoNode c.args.self.now = search rules in
+    settled-cannot c.place_family.result c.args.self.now c.args.shape c.args.start c.requires.packed fresh c.place_family.ensures.full
 
 pub returns-else-has_no_node-clause-ok : goal.returns-else-has_no_node-clause-ok
 returns-else-has_no_node-clause-ok c = λ names numbers outer w.
