@@ -22,7 +22,8 @@ use Rattle.pickle_meaning.specs.Evaluation.{Operand, AtPath, operand_label, Eval
 use Rattle.pickle_meaning.specs.Clauses.{FaultAt, told_at, kind_at, satisfied, constraint, condition, not_negative, behind_start, field_start, count_of, size_of, extent_of, is_due, is_met, ends_before, misses}
 use Rattle.pickle_map.specs.FaultKinds.{IsMeant, OfFault}
 use Rattle.pickle_map.specs.Follows.{World, Done, Follows}
-use Rattle.mapping_plans.specs.Mapping.{from_inside, constrained, number_plan, digits_plan, read_plan, after_byte, text_plan, after_element, elements_plan, after_attempt, plan, fields_plan, alternatives_plan}
+use Rattle.mapping_plans.proofs.InRow.{row_always}
+use Rattle.mapping_plans.specs.Mapping.{from_inside, constrained, number_plan, digits_plan, read_plan, after_byte, text_plan, after_element, makes_row, element_plan, elements_plan, after_attempt, plan, fields_plan, alternatives_plan}
 use Rattle.pickle_meaning.specs.Means.{Opened, Taken, number_type, width_in, first_digits, ordered}
 use Rattle.mapping_plans.specs.Plan.{Plan, after, on_value, then_ok, Always, result, after_tick, after_made, after_read}
 use Rattle.mapping_plans.proofs.Always.{of_result, after_always, then_always}
@@ -364,7 +365,7 @@ mutual
   plan_faults m (ArrayOf element bound) order levels s =
       inside_fault m s _ (after_tick (after_fault _ (extent_of bound levels s) _ (extent_fault bound levels s)
       (λ extent. then_fault _ _
-      (elements_fault (plan m element order) m s extent (plan_faults m element order) (bounds.count_of m (least_width element)) 0 (opened levels) s)
+      (elements_fault (element_plan element (plan m element order)) m s extent (λ inside at. row_always (makes_row element) (plan_faults m element order inside at)) (bounds.count_of m (least_width element)) 0 (opened levels) s)
       (λ r. after_made tt (result tt)))))
   plan_faults m (StructOf name pinned fields) order levels s =
       inside_fault m s _ (after_tick (then_fault _ _ (fields_faults m pinned s fields order (opened levels) s s) (λ r. after_made tt (result tt))))

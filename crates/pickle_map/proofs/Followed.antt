@@ -1,5 +1,5 @@
 -- What a call that followed a type's plan has done.
-use Rattle.std.proofs.Common.{◌≡◌, ℕ, ◌+◌, ◌-◌, ◌<◌, ◌≤◌, length, List, Some, Result, Ok, Err, refl, subst, arith}
+use Rattle.std.proofs.Common.{◌≡◌, ℕ, ◌+◌, ◌-◌, ◌<◌, ◌≤◌, length, Bool, List, Some, Result, Ok, Err, refl, subst, arith}
 use Rattle.bit_space.specs.declared.order.Order.{Order}
 use Rattle.pickle_types.specs.Types.{PokeType}
 use Rattle.pickle_types.specs.Bounds.{cost, room, least_width}
@@ -32,7 +32,7 @@ pub record Leaves {A : Type 0} (bits : List ℕ) (p q : Plan A) (k j k' j' : ℕ
 pub walk_leaves : {world : World} (bits : List ℕ) {A : Type 0} {q : Plan A} {k' j' : ℕ} {p : Plan A} {k j : ℕ} → world.known ≡ Some bits → Walk world q k' j' p k j → Leaves bits p q k j k' j'
 walk_leaves bits e arrived = record { result = refl; steps = refl; made = refl }
 walk_leaves bits e (stepped w) = let l = walk_leaves bits e w in record { result = l.result; steps = omega (arith, l.steps); made = l.made }
-walk_leaves bits e (kept w) = let l = walk_leaves bits e w in record { result = l.result; steps = l.steps; made = omega (arith, l.made) }
+walk_leaves bits e (kept has w) = let l = walk_leaves bits e w in record { result = l.result; steps = l.steps; made = omega (arith, l.made) }
 walk_leaves bits {q} {k'} {j'} e (read {ps} {k} {j} n m w) =
     let l = subst (λ x. Leaves bits (ps x) q k j k' j') (m.exact bits e) (walk_leaves bits e w) in
     record { result = l.result; steps = l.steps; made = l.made }
@@ -41,20 +41,20 @@ walk_leaves bits {q} {k'} {j'} e (read {ps} {k} {j} n m w) =
 pub walk_rises : {world : World} {A : Type 0} {q : Plan A} {k' j' : ℕ} {p : Plan A} {k j : ℕ} → Walk world q k' j' p k j → (k ≤ k') × (j ≤ j')
 walk_rises arrived = (omega arith, omega arith)
 walk_rises (stepped w) = let r = walk_rises w in (omega (arith, r.0), r.1)
-walk_rises (kept w) = let r = walk_rises w in (r.0, omega (arith, r.1))
+walk_rises (kept has w) = let r = walk_rises w in (r.0, omega (arith, r.1))
 walk_rises (read n m w) = walk_rises w
 
 -- a walk keeps what always holds
 pub walk_keeps : {world : World} {A : Type 0} {M : Levels → Type 0} {Q : A → Type 0} {q : Plan A} {k' j' : ℕ} {p : Plan A} {k j : ℕ} → Walk world q k' j' p k j → Always M Q p → Always M Q q
 walk_keeps arrived h = h
 walk_keeps (stepped w) h = walk_keeps w (of_tick h)
-walk_keeps (kept w) h = walk_keeps w (of_made h)
+walk_keeps (kept has w) h = walk_keeps w (of_made h)
 walk_keeps (read n m w) h = walk_keeps w (of_read h n m.fits)
 
 inside_tick : {A : Type 0} {p : Plan A} {c : ℕ} → AtMost (Tick p) c → (1 ≤ c) × AtMost p (c - 1)
 inside_tick (ticked c' le h) = (omega arith, at_most_more _ (omega arith) h)
 
-inside_made : {A : Type 0} {count : ℕ} {levels : Levels} {p : Plan A} {c : ℕ} → AtMost (Made count levels p) c → AtMost p c
+inside_made : {A : Type 0} {count : ℕ} {row : Bool} {levels : Levels} {p : Plan A} {c : ℕ} → AtMost (Made count row levels p) c → AtMost p c
 inside_made (noted h) = h
 
 inside_read : {A : Type 0} {place width : ℕ} {order : Order} {ps : ℕ → Plan A} {c : ℕ} → AtMost (Read place width order ps) c → (n : ℕ) → AtMost (ps n) c
@@ -64,7 +64,7 @@ inside_read (given h) = h
 pub walk_uses : {world : World} {A : Type 0} {q : Plan A} {k' j' : ℕ} {p : Plan A} {k j : ℕ} (c : ℕ) → Walk world q k' j' p k j → AtMost p c → (d : ℕ) × (k + c ≡ k' + d) × AtMost q d
 walk_uses c arrived h = (c, refl, h)
 walk_uses c (stepped w) h = let i = inside_tick h in let r = walk_uses (c - 1) w i.1 in (r.0, omega (arith, r.1, i.0), r.2)
-walk_uses c (kept w) h = walk_uses c w (inside_made h)
+walk_uses c (kept has w) h = walk_uses c w (inside_made h)
 walk_uses c (read n m w) h = walk_uses c w (inside_read h n)
 
 within_tick : {A : Type 0} {p : Plan A} {a b : ℕ} → MadeWithin (Tick p) a b → MadeWithin p (a + 1) b
@@ -76,7 +76,7 @@ record Noted {A : Type 0} (p : Plan A) (count a b : ℕ) : Type 0 where
   few : count + rest ≤ a
   within : MadeWithin p rest b
 
-within_made : {A : Type 0} {count : ℕ} {levels : Levels} {p : Plan A} {a b : ℕ} → MadeWithin (Made count levels p) a b → Noted p count a b
+within_made : {A : Type 0} {count : ℕ} {row : Bool} {levels : Levels} {p : Plan A} {a b : ℕ} → MadeWithin (Made count row levels p) a b → Noted p count a b
 within_made (made_more rest up h) = record { rest = rest; few = up; within = h }
 
 within_read : {A : Type 0} {place width : ℕ} {order : Order} {ps : ℕ → Plan A} {a b : ℕ} → MadeWithin (Read place width order ps) a b → (n : ℕ) → MadeWithin (ps n) a b
@@ -86,7 +86,7 @@ within_read (made_read h) = h
 pub walk_makes : {world : World} {A : Type 0} {q : Plan A} {k' j' : ℕ} {p : Plan A} {k j : ℕ} (a b : ℕ) → Walk world q k' j' p k j → MadeWithin p a b → j' + k ≤ j + k' + a
 walk_makes a b arrived h = omega arith
 walk_makes a b (stepped w) h = let r = walk_makes (a + 1) b w (within_tick h) in omega arith
-walk_makes a b (kept w) h =
+walk_makes a b (kept has w) h =
     let n = within_made h in
     let few = n.few in
     let r = walk_makes n.rest b w n.within in
@@ -96,7 +96,7 @@ walk_makes a b (read n m w) h = walk_makes a b w (within_read h n)
 of_count_tick : {A : Type 0} {size : A → ℕ} {p : Plan A} {c : ℕ} → Counts size (Tick p) c → Counts size p c
 of_count_tick (count_tick h) = h
 
-of_count_made : {A : Type 0} {size : A → ℕ} {count : ℕ} {levels : Levels} {p : Plan A} {c : ℕ} → Counts size (Made count levels p) c → Counts size p (c + count)
+of_count_made : {A : Type 0} {size : A → ℕ} {count : ℕ} {row : Bool} {levels : Levels} {p : Plan A} {c : ℕ} → Counts size (Made count row levels p) c → Counts size p (c + count)
 of_count_made (count_made h) = h
 
 of_count_read : {A : Type 0} {size : A → ℕ} {place width : ℕ} {order : Order} {ps : ℕ → Plan A} {c : ℕ} → Counts size (Read place width order ps) c → (n : ℕ) → Counts size (ps n) c
@@ -109,19 +109,19 @@ of_counted (counted h) = h
 pub walk_counts : {world : World} {A : Type 0} {size : A → ℕ} {q : Plan A} {k' j' : ℕ} {p : Plan A} {k j : ℕ} (c : ℕ) → Walk world q k' j' p k j → Counts size p c → (d : ℕ) × (j' + c ≡ j + d) × Counts size q d
 walk_counts c arrived h = (c, refl, h)
 walk_counts c (stepped w) h = walk_counts c w (of_count_tick h)
-walk_counts c (kept {count} w) h = let r = walk_counts (c + count) w (of_count_made h) in (r.0, omega (arith, r.1), r.2)
+walk_counts c (kept {count} has w) h = let r = walk_counts (c + count) w (of_count_made h) in (r.0, omega (arith, r.1), r.2)
 walk_counts c (read n m w) h = walk_counts c w (of_count_read h n)
 
 takes_step : {A : Type 0} (bits : List ℕ) (q : Plan A) → NeedsStep q → 1 ≤ steps_of bits q
 takes_step bits (Ended a) h = absurd h
 takes_step bits (Tick p) h = omega arith
-takes_step bits (Made count levels p) h = absurd h
+takes_step bits (Made count row levels p) h = absurd h
 takes_step bits (Read place width order rest) h = absurd h
 
 needs_one : {A : Type 0} (q : Plan A) (d : ℕ) → NeedsStep q → AtMost q d → 1 ≤ d
 needs_one (Ended a) d h b = absurd h
 needs_one (Tick p) d h (ticked c le b) = omega arith
-needs_one (Made count levels p) d h b = absurd h
+needs_one (Made count row levels p) d h b = absurd h
 needs_one (Read place width order rest) d h b = absurd h
 
 -- ---- what follows of a call that followed a type's plan
@@ -163,12 +163,12 @@ module _ {world : World} {limit : ℕ} (m : ℕ) (ty : PokeType) (order : Order)
   pub followed_room : Follows world limit (plan m ty order levels s) k j k' j' NoRoom → (kind : Slot) × (world.room.least < slots kind levels + room ty m)
   followed_room h = wanted h.rest h.ends (λ kind. walk_keeps h.walk (room_enough m ty order levels s kind))
     where
-      wanted : (q : Plan (Result Value FaultAt)) → NeedsRoom world.room q → ((kind : Slot) → Always (λ kept. slots kind kept ≤ slots kind levels + room ty m) (λ r. Unit {0}) q) → (kind : Slot) × (world.room.least < slots kind levels + room ty m)
+      wanted : (q : Plan (Result Value FaultAt)) → NeedsRoom world q → ((kind : Slot) → Always (λ kept. slots kind kept ≤ slots kind levels + room ty m) (λ r. Unit {0}) q) → (kind : Slot) × (world.room.least < slots kind levels + room ty m)
       wanted (Ended a) h l = absurd h
       wanted (Tick p) h l = absurd h
-      wanted (Made count levels' p) h l = (h.0, less h.0 (l h.0) h.1)
+      wanted (Made count row levels' p) h l = (h.least.0, less h.least.0 (l h.least.0) h.least.1)
         where
-          less : (kind : Slot) → Always (λ kept. slots kind kept ≤ slots kind levels + room ty m) (λ r. Unit {0}) (Made count levels' p) → world.room.least < slots kind levels' → world.room.least < slots kind levels + room ty m
+          less : (kind : Slot) → Always (λ kept. slots kind kept ≤ slots kind levels + room ty m) (λ r. Unit {0}) (Made count row levels' p) → world.room.least < slots kind levels' → world.room.least < slots kind levels + room ty m
           less kind (after_made le more) lt = omega arith
       wanted (Read place width order' rest) h l = absurd h
 

@@ -1,4 +1,5 @@
 pub mod Walks
+pub mod Worlds
 pub mod Keeping
 pub mod Settling
 pub mod Shapes
@@ -6,7 +7,10 @@ pub mod Clauses
 pub mod Placing
 pub mod Texts
 pub mod Mapping
+pub mod Elements
+pub mod Widths
 pub mod Row
 pub mod Stopped
 pub mod Followed
+pub mod Repeated
 pub mod FaultKinds

@@ -1,13 +1,8 @@
 -- Calls that follow the plans of structs, arrays and unions.
-use Rattle.std.proofs.Common.{◌≡◌, ℕ, zero, suc, ◌+◌, ◌*◌, ◌/◌, ◌<◌, ◌≤◌, max, Bool, true, false, List, [], ◌∷◌, Option, Some, None, Result, Ok, Err, option_map, refl, sym, subst, ◌∙◌, arith}
+use Rattle.std.proofs.Common.{◌≡◌, ℕ, zero, suc, ◌+◌, ◌*◌, ◌/◌, ◌<◌, ◌≤◌, max, Bool, true, false, List, [], ◌∷◌, Option, Some, None, Result, Ok, Err, refl, sym, ◌∙◌, arith}
 use Rattle.std.proofs.Math.Nat.{suc-mul, add-mul, lt-div-mul-add}
 use Rattle.std.proofs.lemmas.Bool.{le-leb, eq-eqb, ne_eqb, false≢true}
 use Rattle.bit_space.specs.declared.order.Order.{Order}
-use Rattle.bit_space.specs.Bits.{bits_of}
-use Rattle.bit_space.specs.SpaceView.{SpaceView}
-use Rattle.value_store.specs.declared.store.room.Room.{Room}
-use Rattle.value_store.specs.Slots.{Held}
-use Rattle.pickle_map.specs.Framed.{world_of}
 use Rattle.pickle_types.specs.declared.table.Field.{Field}
 use Rattle.pickle_types.specs.declared.table.Part.{Part}
 use Rattle.pickle_types.specs.Types.{Term, PokeType, IntegerOf, OffsetOf, StringOf, ArrayOf, StructOf, IntegralOf, UnionOf, Bound, Fields, Parts}
@@ -23,19 +18,11 @@ use Rattle.pickle_meaning.specs.Clauses.{FaultAt, condition, field_start, clause
 use Rattle.pickle_map.specs.Settles.{Settles}
 use Rattle.pickle_meaning.specs.Means.{ordered, number_type, field_names, array_value, struct_value, Taken, union_value, Opened}
 use Rattle.mapping_plans.specs.Plan.{Plan, Tick, and_then, after, then_ok}
-use Rattle.pickle_map.specs.Follows.{World, Finish, Done, NoSteps, Broken, NoRoom, Partly, Follows}
-use Rattle.mapping_plans.specs.Mapping.{from_inside, read_plan, text_plan, plan, fields_plan, elements_plan, alternatives_plan, after_element, after_attempt, constrained, array_closes, struct_closes, union_closes}
-use Rattle.value_store.specs.Exceeding.{Exceeds}
+use Rattle.pickle_map.specs.Follows.{World, HasRoom, LacksRoom, Finish, Done, NoSteps, Broken, NoRoom, Partly, Follows}
+use Rattle.mapping_plans.specs.Mapping.{from_inside, read_plan, text_plan, plan, fields_plan, element_plan, elements_plan, alternatives_plan, after_element, after_attempt, constrained, array_closes, struct_closes, union_closes}
 use Rattle.pickle_map.specs.Stops.{stop_finish, stop_misses, stop_ends}
 use Rattle.pickle_map.proofs.Clauses.{settles_ok, settles_stop}
 use Rattle.pickle_map.proofs.Walks.{follow_done, follow_here, follow_at, follow_tick, follow_no_tick, follow_made, follow_no_room, follow_then, follow_then_ok, follow_stop, follow_and_no_steps, follow_and_broken, follow_and_no_room, follow_inside, follow_past, ends_no_room, ends_made}
-
--- in a world of the same bytes and room
-pub in_world : {A : Type 0} (space space' : SpaceView) (store store' : Held) {limit : ℕ} {p : Plan A} {k j k' j' : ℕ} {finish : Finish A} → space'.bytes ≡ space.bytes → store'.room ≡ store.room →
-    Follows (world_of space' store') limit p k j k' j' finish → Follows (world_of space store) limit p k j k' j' finish
-in_world space space' store store' {limit} {p} {k} {j} {k'} {j'} {finish} eb er h =
-    subst (λ b. Follows (record { known = option_map bits_of b; room = store.room }) limit p k j k' j' finish) eb
-    (subst (λ r. Follows (record { known = option_map bits_of space'.bytes; room = r }) limit p k j k' j' finish) er h)
 
 -- ---- a type whose start is inside
 
@@ -78,7 +65,7 @@ unfolding plan
 struct_is m name pinned fs order levels s = refl
 
 pub array_is : (m : ℕ) (element : PokeType) (bound : Bound) (order : Order) (levels : Levels) (s : ℕ) →
-    plan m (ArrayOf element bound) order levels s ≡ from_inside m s (Tick (then_ok (after (bound_steps bound levels) (extent_of bound levels s)) (λ extent. then_ok (elements_plan (plan m element order) m s extent (count_of m (least_width element)) 0 (opened levels) s) (array_closes s))))
+    plan m (ArrayOf element bound) order levels s ≡ from_inside m s (Tick (then_ok (after (bound_steps bound levels) (extent_of bound levels s)) (λ extent. then_ok (elements_plan (element_plan element (plan m element order)) m s extent (count_of m (least_width element)) 0 (opened levels) s) (array_closes s))))
 unfolding plan
 array_is m element bound order levels s = refl
 
@@ -91,24 +78,24 @@ union_is m name alternatives order levels s = refl
 
 module _ {world : World} {limit : ℕ} (p : Plan (Result Opened FaultAt)) (s end : ℕ) (inside : Levels) {k j k1 j1 : ℕ} (h : Follows world limit p k j k1 j1 (Done (Ok (inside, end)))) where
   module _ (name : Naming) (names : List Naming) where
-    pub struct_no_room : {room : Room} → room ≡ world.room → Exceeds room (pushed (outer_of inside) (Some (struct_value name names s end inside))) → Follows world limit (then_ok p (struct_closes name names s)) k j k1 j1 NoRoom
-    struct_no_room e full = ends_no_room p (struct_closes name names s) (inside, end) (outer_of inside) (struct_value name names s end inside) refl h (subst (λ r. Exceeds r (pushed (outer_of inside) (Some (struct_value name names s end inside)))) e full)
+    pub struct_no_room : LacksRoom world false (pushed (outer_of inside) (Some (struct_value name names s end inside))) → Follows world limit (then_ok p (struct_closes name names s)) k j k1 j1 NoRoom
+    struct_no_room lacks = ends_no_room p (struct_closes name names s) (inside, end) (outer_of inside) (struct_value name names s end inside) refl h lacks
 
-    pub struct_made : {k2 j2 : ℕ} → k2 ≡ k1 → j2 ≡ j1 + 1 → Follows world limit (then_ok p (struct_closes name names s)) k j k2 j2 (Done (Ok (struct_value name names s end inside)))
-    struct_made ek ej = ends_made p (struct_closes name names s) (inside, end) (outer_of inside) (struct_value name names s end inside) refl h {limit1 = limit} refl ek ej
+    pub struct_made : {k2 j2 : ℕ} → HasRoom world false (pushed (outer_of inside) (Some (struct_value name names s end inside))) → k2 ≡ k1 → j2 ≡ j1 + 1 → Follows world limit (then_ok p (struct_closes name names s)) k j k2 j2 (Done (Ok (struct_value name names s end inside)))
+    struct_made has ek ej = ends_made p (struct_closes name names s) (inside, end) (outer_of inside) (struct_value name names s end inside) refl h {limit1 = limit} has refl ek ej
 
-  pub array_no_room : {room : Room} → room ≡ world.room → Exceeds room (pushed (outer_of inside) (Some (array_value s end inside))) → Follows world limit (then_ok p (array_closes s)) k j k1 j1 NoRoom
-  array_no_room e full = ends_no_room p (array_closes s) (inside, end) (outer_of inside) (array_value s end inside) refl h (subst (λ r. Exceeds r (pushed (outer_of inside) (Some (array_value s end inside)))) e full)
+  pub array_no_room : LacksRoom world false (pushed (outer_of inside) (Some (array_value s end inside))) → Follows world limit (then_ok p (array_closes s)) k j k1 j1 NoRoom
+  array_no_room lacks = ends_no_room p (array_closes s) (inside, end) (outer_of inside) (array_value s end inside) refl h lacks
 
-  pub array_made : {k2 j2 : ℕ} → k2 ≡ k1 → j2 ≡ j1 + 1 → Follows world limit (then_ok p (array_closes s)) k j k2 j2 (Done (Ok (array_value s end inside)))
-  array_made ek ej = ends_made p (array_closes s) (inside, end) (outer_of inside) (array_value s end inside) refl h {limit1 = limit} refl ek ej
+  pub array_made : {k2 j2 : ℕ} → HasRoom world false (pushed (outer_of inside) (Some (array_value s end inside))) → k2 ≡ k1 → j2 ≡ j1 + 1 → Follows world limit (then_ok p (array_closes s)) k j k2 j2 (Done (Ok (array_value s end inside)))
+  array_made has ek ej = ends_made p (array_closes s) (inside, end) (outer_of inside) (array_value s end inside) refl h {limit1 = limit} has refl ek ej
 
 module _ {world : World} {limit : ℕ} (p : Plan (Result Taken FaultAt)) (name : Naming) (levels : Levels) (s : ℕ) (t : Taken) {k j k1 j1 : ℕ} (h : Follows world limit p k j k1 j1 (Done (Ok t))) where
-  pub union_no_room : {room : Room} → room ≡ world.room → Exceeds room (pushed levels (Some (union_value name s t))) → Follows world limit (then_ok p (union_closes name levels s)) k j k1 j1 NoRoom
-  union_no_room e full = ends_no_room p (union_closes name levels s) t levels (union_value name s t) refl h (subst (λ r. Exceeds r (pushed levels (Some (union_value name s t)))) e full)
+  pub union_no_room : LacksRoom world false (pushed levels (Some (union_value name s t))) → Follows world limit (then_ok p (union_closes name levels s)) k j k1 j1 NoRoom
+  union_no_room lacks = ends_no_room p (union_closes name levels s) t levels (union_value name s t) refl h lacks
 
-  pub union_made : {k2 j2 : ℕ} → k2 ≡ k1 → j2 ≡ j1 + 1 → Follows world limit (then_ok p (union_closes name levels s)) k j k2 j2 (Done (Ok (union_value name s t)))
-  union_made ek ej = ends_made p (union_closes name levels s) t levels (union_value name s t) refl h {limit1 = limit} refl ek ej
+  pub union_made : {k2 j2 : ℕ} → HasRoom world false (pushed levels (Some (union_value name s t))) → k2 ≡ k1 → j2 ≡ j1 + 1 → Follows world limit (then_ok p (union_closes name levels s)) k j k2 j2 (Done (Ok (union_value name s t)))
+  union_made has ek ej = ends_made p (union_closes name levels s) t levels (union_value name s t) refl h {limit1 = limit} has refl ek ej
 
 -- ---- fields
 
@@ -133,13 +120,13 @@ module _ {world : World} {limit : ℕ} (types : ℕ → PokeType) (m : ℕ) (pin
       condition_stops stop le h = rw is (follow_tick el ek ej (follow_stop _ _ stop (settles_stop _ _ stop refl le h ej2)))
 
       module _ (there : Settles limit1 k1 k2 (Ok false) (condition (optional_term f.condition) levels s) (clause_steps (optional_term f.condition) levels)) where
-        pub absent_no_room : {room : Room} → room ≡ world.room → Exceeds room (pushed levels None) → Follows world limit (fields_plan m pinned s (open_fields types fs) order levels behind top) k j k2 j2 NoRoom
+        pub absent_no_room : LacksRoom world false (pushed levels None) → Follows world limit (fields_plan m pinned s (open_fields types fs) order levels behind top) k j k2 j2 NoRoom
         unfolding fields_plan
-        absent_no_room e full = rw is (follow_tick el ek ej (follow_then_ok _ _ (settles_ok _ _ false refl there ej2) (follow_no_room (subst (λ r. Exceeds r (pushed levels None)) e full))))
+        absent_no_room lacks = rw is (follow_tick el ek ej (follow_then_ok _ _ (settles_ok _ _ false refl there ej2) (follow_no_room lacks)))
 
-        pub absent_goes : Follows world limit (fields_plan m pinned s (open_fields types fs) order levels behind top) k j k2 j2 (Partly (fields_plan m pinned s (open_fields types rest) order (pushed levels None) behind top))
+        pub absent_goes : HasRoom world false (pushed levels None) → Follows world limit (fields_plan m pinned s (open_fields types fs) order levels behind top) k j k2 j2 (Partly (fields_plan m pinned s (open_fields types rest) order (pushed levels None) behind top))
         unfolding fields_plan
-        absent_goes = rw is (follow_tick el ek ej (follow_then_ok _ _ (settles_ok _ _ false refl there ej2) (follow_made {limit' = limit1} {k1 = k2} {j1 = j2} refl refl (omega arith) follow_here)))
+        absent_goes has = rw is (follow_tick el ek ej (follow_then_ok _ _ (settles_ok _ _ false refl there ej2) (follow_made {limit' = limit1} {k1 = k2} {j1 = j2} has refl refl (omega arith) follow_here)))
 
       module _ (there : Settles limit1 k1 k2 (Ok true) (condition (optional_term f.condition) levels s) (clause_steps (optional_term f.condition) levels)) {limit2 k3 j3 : ℕ} (el2 : limit2 ≡ limit1) (ej3 : j3 ≡ j2) where
         pub start_stops : (stop : Stop) → k2 ≤ limit1 → Settles limit2 k2 k3 (Err stop) (field_start pinned (optional_term f.label) levels s behind) (label_steps pinned (optional_term f.label) levels) →

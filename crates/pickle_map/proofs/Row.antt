@@ -1,6 +1,6 @@
 -- Calls that follow the plan of an array whose elements are packed.
-use Rattle.std.proofs.Common.{◌≡◌, ℕ, zero, suc, ◌+◌, ◌*◌, ◌<◌, ◌≤◌, true, List, [], ◌∷◌, ◌++◌, length, Some, Ok, refl, sym, ap, ◌∙◌, arith}
-use Rattle.std.specs.Prelude.{IsTrue, nat_eq, ◌↔◌}
+use Rattle.std.proofs.Common.{◌≡◌, ℕ, zero, suc, ◌+◌, ◌*◌, ◌<◌, ◌≤◌, Bool, true, false, List, [], ◌∷◌, ◌++◌, length, Some, Result, Ok, Err, refl, sym, ap, ◌∙◌, arith}
+use Rattle.std.specs.Prelude.{IsTrue, nat_eq, nat_le, if◌then◌else◌, ◌↔◌}
 use Rattle.std.proofs.lemmas.Bool.{false≢true, ne_eqb}
 use Rattle.bit_space.specs.declared.order.Order.{Order}
 use Rattle.bit_space.specs.Reading.{MayRead}
@@ -8,21 +8,19 @@ use Rattle.bit_space.specs.SpaceView.{SpaceView}
 use Rattle.pickle_types.specs.declared.table.Node.{Node}
 use Rattle.pickle_types.specs.Types.{PokeType}
 use Rattle.pickle_types.specs.Bounds.{least_width}
-use Rattle.value_store.specs.declared.store.room.Growth.{Growth}
-use Rattle.value_store.specs.declared.store.room.Growth.TheVariants.{Free, Never}
-use Rattle.value_store.specs.declared.store.room.Room.{Room}
 use Rattle.value_store.specs.declared.store.slots.Shape.{Shape}
 use Rattle.value_store.specs.declared.store.slots.Shape.TheVariants.{Integer, Offset, Text, Integers, Offsets, Array, Struct, Union}
 use Rattle.pickle_map.specs.declared.mapper.stop.Stop.{Stop}
-use Rattle.pickle_map.specs.Follows.{World, Done, NoRoom, Follows}
+use Rattle.pickle_meaning.specs.declared.faults.MapFaultKind.TheVariants.{End}
+use Rattle.pickle_meaning.specs.Clauses.{FaultAt}
+use Rattle.mapping_plans.specs.Plan.{Plan, Ended, Tick, Made, Read, as_row}
+use Rattle.pickle_map.specs.Follows.{World, HasRoom, LacksRoom, Done, NoRoom, Follows}
 use Rattle.pickle_map.specs.Framed.{ReadStops}
 use Rattle.pickle_map.specs.Stops.{stop_finish}
 use Rattle.pickle_meaning.specs.Means.{array_value}
-use Rattle.mapping_plans.specs.Mapping.{plan, read_plan, number_plan, makes}
-use Rattle.value_store.specs.Exceeding.{Exceeds}
-use Rattle.pickle_meaning.specs.Room.{PendingSlot, slots, level_slots}
+use Rattle.mapping_plans.specs.Mapping.{plan, read_plan, number_plan, element_plan}
 use Rattle.pickle_map.specs.Row.{IsArrayOf, row_levels}
-use Rattle.value_store.specs.Slots.{Held, HasNoNode, packs_as, packs, IsPacked, IsPacking, element_width, element_value, elements, row_value}
+use Rattle.value_store.specs.Slots.{Held, HasNoNode, IsPacked, IsPacking, element_width, element_value, elements, row_value}
 use Rattle.pickle_meaning.specs.Values.{Value, Mapped, ArrayLabel, Levels, end_of, pushed, gathered}
 use Rattle.pickle_map.proofs.Mapping.{number_is}
 use Rattle.value_store.proofs.PackedRows.{packing-fresh, packing-stale}
@@ -52,15 +50,26 @@ least_is Array ty h = absurd h
 least_is (Struct t) ty h = absurd h
 least_is (Union t i) ty h = absurd h
 
--- the plan of an element: a read, and the number's value
+-- a read, as that of an element of an array of numbers
+read_in_row : {A : Type 0} (inside : Bool) (place width : ℕ) (order : Order) (rest : ℕ → Plan (Result A FaultAt)) (s : ℕ) →
+    as_row (if inside then Read place width order rest else Ended (Err (End, s))) ≡ (if inside then Read place width order (λ n. as_row (rest n)) else Ended (Err (End, s)))
+read_in_row true place width order rest s = refl
+read_in_row false place width order rest s = refl
+
+-- the plan of an element: a read, and the number's value in the row
+abbrev pub goes_in_row : Levels → Value → Plan (Result Value FaultAt)
+goes_in_row levels v = Made 1 true (pushed levels (Some v)) (Ended (Ok v))
+
 pub element_is : (shape : Shape) (m : ℕ) (ty : PokeType) (order : Order) (levels : Levels) (s : ℕ) → IsArrayOf shape ty → s ≤ m →
-    plan m ty order levels s ≡ reading m s s (element_width shape) order (λ n. makes levels (element_value shape s n))
+    element_plan ty (plan m ty order) levels s ≡ reading m s s (element_width shape) order (λ n. goes_in_row levels (element_value shape s n))
 unfolding read_plan number_plan
 element_is (Integer w g) m ty order levels s h inside = absurd h
 element_is (Offset w g u) m ty order levels s h inside = absurd h
 element_is Text m ty order levels s h inside = absurd h
-element_is (Integers w g) m ty order levels s h inside = ap (λ t. plan m t order levels s) h ∙ number_is m _ _ order levels s refl inside
-element_is (Offsets w g u) m ty order levels s h inside = ap (λ t. plan m t order levels s) h ∙ number_is m _ _ order levels s refl inside
+element_is (Integers w g) m ty order levels s h inside =
+    ap (λ t. element_plan t (plan m t order) levels s) h ∙ ap as_row (number_is m _ _ order levels s refl inside) ∙ ap Tick (read_in_row (nat_le (s + w) m) s w order _ s)
+element_is (Offsets w g u) m ty order levels s h inside =
+    ap (λ t. element_plan t (plan m t order) levels s) h ∙ ap as_row (number_is m _ _ order levels s refl inside) ∙ ap Tick (read_in_row (nat_le (s + w) m) s w order _ s)
 element_is Array m ty order levels s h inside = absurd h
 element_is (Struct t) m ty order levels s h inside = absurd h
 element_is (Union t i) m ty order levels s h inside = absurd h
@@ -92,43 +101,24 @@ pub row_closed : (shape : Shape) (ns : List ℕ) (start end : ℕ) (outer : Leve
     row_value shape ns start ≡ array_value start end (row_levels shape ns start outer)
 row_closed shape ns start end outer e = ap (λ x. Mapped ArrayLabel start x (gathered (elements shape start ns))) (sym e)
 
--- a store that packs is asked for no room
-least_none : (growth : Growth) (least : ℕ) → packs_as growth least ≡ true → least ≡ 0
-least_none Never least h = absurd (false≢true h)
-least_none Free zero h = refl
-least_none Free (suc least) h = absurd (false≢true h)
-
-some_pending : (levels : Levels) (v : Value) → 0 < slots PendingSlot (pushed levels (Some v))
-some_pending [] v = omega arith
-some_pending (top ∷ outer) v = let more = at_end top in omega (arith, more)
-  where
-    at_end : (top : List _) → 0 < level_slots PendingSlot (top ++ Some v ∷ [])
-    at_end [] = omega arith
-    at_end (x ∷ top) = let more = at_end top in omega (arith, more)
-
-pub packs_no_more : (room : Room) (levels : Levels) (v : Value) → packs room ≡ true → Exceeds room (pushed levels (Some v))
-packs_no_more room levels v h =
-    let none = least_none room.growth room.least h in
-    let some = some_pending levels v in
-    (PendingSlot, omega (arith, none, some))
-
 -- an element that is read and kept, or not
 module _ {world : World} {limit : ℕ} (shape : Shape) (m : ℕ) (ty : PokeType) (order : Order) (levels : Levels) (s : ℕ) (are : IsArrayOf shape ty) (inside : s ≤ m) {k j k1 j1 : ℕ} where
   pub element_stops : (before after : SpaceView) {limit' : ℕ} (stop : Stop) → limit' ≡ limit → m ≡ 8 * before.len → ReadStops stop s (s + element_width shape) before after limit' k k1 → j1 ≡ j →
-      Follows world limit (plan m ty order levels s) k j k1 j1 (stop_finish stop)
+      Follows world limit (element_plan ty (plan m ty order) levels s) k j k1 j1 (stop_finish stop)
   element_stops before after stop el em h ej =
       rw (element_is shape m ty order levels s are inside) (read_stops m s s (element_width shape) order _ before after stop el em h ej)
 
   module _ {limit1 : ℕ} (n : ℕ) (el : limit1 ≡ limit) (ek : k1 ≡ k + 1) (ej : j1 ≡ j) (fits : s + element_width shape ≤ m) (may : MayRead world.known order s (element_width shape) n) where
-    pub element_no_room : packs world.room ≡ true → Follows world limit (plan m ty order levels s) k j k1 j1 NoRoom
-    element_no_room packing =
+    pub element_no_room : LacksRoom world true (pushed levels (Some (element_value shape s n))) → Follows world limit (element_plan ty (plan m ty order) levels s) k j k1 j1 NoRoom
+    element_no_room lacks =
         rw (element_is shape m ty order levels s are inside)
-        (read_goes m s s (element_width shape) order _ n el ek ej fits may (follow_no_room (packs_no_more world.room levels (element_value shape s n) packing)))
+        (read_goes m s s (element_width shape) order _ n el ek ej fits may (follow_no_room lacks))
 
-    pub element_goes : {k2 j2 : ℕ} → k2 ≡ k1 → j2 ≡ j1 + 1 → Follows world limit (plan m ty order levels s) k j k2 j2 (Done (Ok (element_value shape s n)))
-    element_goes ek2 ej2 =
+    pub element_goes : {k2 j2 : ℕ} → HasRoom world true (pushed levels (Some (element_value shape s n))) → k2 ≡ k1 → j2 ≡ j1 + 1 →
+        Follows world limit (element_plan ty (plan m ty order) levels s) k j k2 j2 (Done (Ok (element_value shape s n)))
+    element_goes has ek2 ej2 =
         rw (element_is shape m ty order levels s are inside)
-        (read_goes m s s (element_width shape) order _ n el ek ej fits may (follow_made {limit' = limit1} refl ek2 ej2 follow_done))
+        (read_goes m s s (element_width shape) order _ n el ek ej fits may (follow_made {limit' = limit1} has refl ek2 ej2 follow_done))
 
 -- the first number is placed where there is no node
 pub first_is : (nodes : List Node) (h : Held) (shape : Shape) (numbers : List ℕ) (start : ℕ) (outer : Levels) (count : ℕ) → IsPacking nodes h shape numbers start outer → IsPacked shape → count ≡ length numbers → IsTrue (nat_eq count 0) ↔ HasNoNode h

@@ -6,7 +6,8 @@ use Rattle.bit_space.specs.Bits.{bits_of}
 use Rattle.bit_space.specs.SpaceView.{SpaceView, IsWhole}
 use Rattle.bit_space.proofs.Digits.{length-bits_of}
 use Rattle.pickle_types.specs.declared.table.Node.{Node}
-use Rattle.value_store.specs.Slots.{Held, levels, emptied}
+use Rattle.value_store.specs.Slots.{Held, packs, levels, emptied}
+use Rattle.value_store.specs.Takes.{AreWithin}
 use Rattle.value_store.proofs.Held.{none-open}
 use Rattle.pickle_types.specs.Types.{PokeType}
 use Rattle.pickle_types.specs.Bounds.{cost, room}
@@ -16,15 +17,17 @@ use Rattle.pickle_map.specs.declared.mapper.stop.Stop.{Stop}
 use Rattle.pickle_map.specs.declared.mapper.stop.Stop.TheVariants.{Fault, Limit, Device, Memory}
 use Rattle.pickle_meaning.specs.Answer.{Answer}
 use Rattle.pickle_map.specs.FaultKinds.{IsMeant}
-use Rattle.pickle_map.specs.Follows.{World, Follows}
+use Rattle.pickle_map.specs.Follows.{World, HasRoom, Follows}
 use Rattle.pickle_map.specs.Framed.{Runs}
-use Rattle.pickle_map.specs.Mapped.{told, FaultMeans, CountsToThere, EndsRun}
+use Rattle.pickle_map.specs.Mapped.{told, FaultMeans, CountsToThere, UnlessBreaks, EndsRun}
 use Rattle.mapping_plans.specs.Mapping.{plan}
 use Rattle.pickle_map.specs.Stops.{stop_finish}
 use Rattle.pickle_meaning.specs.Clauses.{FaultAt}
 use Rattle.mapping_plans.specs.Plan.{Plan}
+use Rattle.mapping_plans.specs.Kept.{KeepsBy}
 use Rattle.pickle_meaning.specs.Values.{Value, no_values}
 use Rattle.pickle_map.proofs.FaultKinds.{followed_kind}
+use Rattle.pickle_map.proofs.Repeated.{room_when_done, room_when_limited, no_room_before}
 use Rattle.pickle_map.proofs.Followed.{followed_limit, followed_room, followed_result, followed_too_long, followed_part}
 
 answered : (bits : List ℕ) (ty : PokeType) (order : Order) (s limit : ℕ) (kind : MapFaultKind) (at k j : ℕ) → IsMeant kind → Answer bits ty order s limit (Err (kind, at)) k j → FaultMeans bits ty order s limit kind at k j
@@ -53,18 +56,18 @@ no_run fault.Limit m r = m
 no_run fault.Device m r = m
 no_run fault.Memory m r = m
 
-meant_counts : (space : SpaceView) (meter meter' : Meter) (store : Held) (p : Plan (Result Value FaultAt)) (kind : MapFaultKind) → IsMeant kind → CountsToThere kind space meter meter' store p
-meant_counts space meter meter' store p fault.End m = tt
-meant_counts space meter meter' store p fault.Constraint m = tt
-meant_counts space meter meter' store p fault.Bounds m = tt
-meant_counts space meter meter' store p fault.NoBits m = tt
-meant_counts space meter meter' store p fault.Zero m = tt
-meant_counts space meter meter' store p fault.Overflow m = tt
-meant_counts space meter meter' store p fault.Absent m = tt
-meant_counts space meter meter' store p fault.Index m = tt
-meant_counts space meter meter' store p fault.Limit m = tt
-meant_counts space meter meter' store p fault.Device m = absurd m
-meant_counts space meter meter' store p fault.Memory m = absurd m
+meant_counts : (space : SpaceView) (meter meter' : Meter) (store store' : Held) (p : Plan (Result Value FaultAt)) (kind : MapFaultKind) → IsMeant kind → CountsToThere kind space meter meter' store store' p
+meant_counts space meter meter' store store' p fault.End m = tt
+meant_counts space meter meter' store store' p fault.Constraint m = tt
+meant_counts space meter meter' store store' p fault.Bounds m = tt
+meant_counts space meter meter' store store' p fault.NoBits m = tt
+meant_counts space meter meter' store store' p fault.Zero m = tt
+meant_counts space meter meter' store store' p fault.Overflow m = tt
+meant_counts space meter meter' store store' p fault.Absent m = tt
+meant_counts space meter meter' store store' p fault.Index m = tt
+meant_counts space meter meter' store store' p fault.Limit m = tt
+meant_counts space meter meter' store store' p fault.Device m = absurd m
+meant_counts space meter meter' store store' p fault.Memory m = absurd m
 
 module _ {world : World} {limit : ℕ} (m : ℕ) (ty : PokeType) (order : Order) (s : ℕ) {k j k' j' : ℕ} where
   -- what ends a run is told where the mapping began
@@ -95,9 +98,9 @@ module _ {world : World} {limit : ℕ} (m : ℕ) (ty : PokeType) (order : Order)
   told_device Memory h e = cc
 
 -- what was counted when the mapping was broken off
-module _ (m : ℕ) (ty : PokeType) (order : Order) (s : ℕ) (space : SpaceView) (meter meter' : Meter) (store : Held) where
-  pub told_counts : (stop : Stop) → Runs space meter meter' store (plan m ty order no_values s) (stop_finish stop) → CountsToThere (told stop s).kind space meter meter' store (plan m ty order no_values s)
-  told_counts (Fault kind place) h = meant_counts space meter meter' store _ kind (followed_kind m ty order no_values s h)
+module _ (m : ℕ) (ty : PokeType) (order : Order) (s : ℕ) (space : SpaceView) (meter meter' : Meter) (store store' : Held) where
+  pub told_counts : (stop : Stop) → Runs space meter meter' store store' (plan m ty order no_values s) (stop_finish stop) → CountsToThere (told stop s).kind space meter meter' store store' (plan m ty order no_values s)
+  told_counts (Fault kind place) h = meant_counts space meter meter' store store' _ kind (followed_kind m ty order no_values s h)
   told_counts Limit h = tt
   told_counts Device h = h
   told_counts Memory h = h
@@ -108,6 +111,35 @@ module _ {world : World} {limit : ℕ} (bits : List ℕ) (ty : PokeType) (order 
   told_means Limit h = followed_too_long bits ty order s known within h
   told_means Device h = followed_part bits ty order s known within h
   told_means Memory h = followed_part bits ty order s known within h
+
+-- a fact of a fault, whatever its kind
+unless : (kind : MapFaultKind) {P : Type 0} → P → UnlessBreaks kind P
+unless fault.End h = h
+unless fault.Constraint h = h
+unless fault.Bounds h = h
+unless fault.NoBits h = h
+unless fault.Zero h = h
+unless fault.Overflow h = h
+unless fault.Absent h = h
+unless fault.Index h = h
+unless fault.Limit h = h
+unless fault.Device h = tt
+unless fault.Memory h = tt
+
+-- what was kept, and that there was no room for more
+module _ {world : World} {limit : ℕ} (bits : List ℕ) (m : ℕ) (ty : PokeType) (order : Order) (s : ℕ) {k j k' j' : ℕ} (known : world.known ≡ Some bits) where
+  pub told_kept : (stop : Stop) → Follows world limit (plan m ty order no_values s) k j k' j' (stop_finish stop) → UnlessBreaks (told stop s).kind (KeepsBy (HasRoom world) bits (plan m ty order no_values s) (limit - k))
+  told_kept (Fault kind place) h = unless kind (room_when_done bits limit known h)
+  told_kept Limit h = room_when_limited bits limit known h
+  told_kept Device h = tt
+  told_kept Memory h = tt
+
+  pub told_wanted : k' ≤ limit → (stop : Stop) → Follows world limit (plan m ty order no_values s) k j k' j' (stop_finish stop) → (told stop s).kind ≡ fault.Memory →
+      KeepsBy (λ row levels. AreWithin (packs world.room) row levels world.before) bits (plan m ty order no_values s) (limit - k) → ⊥
+  told_wanted within (Fault kind place) h e = absurd (no_run kind (followed_kind m ty order no_values s h) (rw e tt))
+  told_wanted within Limit h e = cc
+  told_wanted within Device h e = cc
+  told_wanted within Memory h e = no_room_before bits limit known within h
 
 -- an empty store keeps no values
 pub none_kept : (nodes : List Node) (store : Held) → store ≡ emptied store → levels nodes store ≡ no_values

@@ -20,9 +20,9 @@ use Rattle.pickle_meaning.specs.Values.{Naming, Value, end_of, Levels, pushed, o
 use Rattle.pickle_meaning.specs.Clauses.{FaultAt}
 use Rattle.pickle_meaning.specs.Means.{Opened, Taken, struct_value, field_names, part_names, number_type, width_in}
 use Rattle.mapping_plans.specs.Plan.{Plan, Tick, then_ok}
-use Rattle.mapping_plans.specs.Mapping.{plan, read_plan, number_plan, digits_plan, text_plan, fields_plan, elements_plan, alternatives_plan, constrained, closes, array_closes, struct_closes, union_closes}
+use Rattle.mapping_plans.specs.Mapping.{plan, read_plan, number_plan, digits_plan, text_plan, fields_plan, element_plan, elements_plan, alternatives_plan, constrained, closes, array_closes, struct_closes, union_closes}
 use Rattle.pickle_map.specs.Follows.{Done}
-use Rattle.pickle_map.specs.Framed.{world_of, KeepsOne, Runs, Works}
+use Rattle.pickle_map.specs.Framed.{world_between, world_of, KeepsOne, Runs, Works}
 use Rattle.pickle_map.specs.Row.{Packs}
 use Rattle.value_store.specs.Slots.{Held, levels}
 use Rattle.value_store.specs.Names.{title_at, part_name}
@@ -63,7 +63,7 @@ as_array element bound order start = λ nodes m levels. plan m (ArrayOf (type_of
 
 abbrev pub as_elements : (element : ℕ) → Extent → Order → (start : ℕ) → Planned Opened
 as_elements element extent order start = λ nodes m levels.
-    elements_plan (plan m (type_of nodes element) order) m start extent (count_of m (least_width (type_of nodes element))) 0 levels start
+    elements_plan (element_plan (type_of nodes element) (plan m (type_of nodes element) order)) m start extent (count_of m (least_width (type_of nodes element))) 0 levels start
 
 abbrev pub as_array_level : (element : ℕ) → Extent → Order → (start : ℕ) → Planned Value
 as_array_level element extent order start = λ nodes m levels. then_ok (as_elements element extent order start nodes m levels) (array_closes start)
@@ -97,8 +97,8 @@ as_union_level at alternatives order start = λ nodes m levels.
 module _ (nodes : List Node) (space : SpaceView) (meter meter' : Meter) (store store' : Held) where
   -- it kept one more value in these levels, or stopped
   abbrev pub MapsIn : Levels → Plan (Result Value FaultAt) → Result ℕ Stop → Type 0
-  MapsIn before p (Ok end) = KeepsOne (world_of space store) meter.limit p meter.steps meter.made meter'.steps meter'.made before (levels nodes store') end
-  MapsIn before p (Err stop) = Runs space meter meter' store p (stop_finish stop)
+  MapsIn before p (Ok end) = KeepsOne (world_of space store store') meter.limit p meter.steps meter.made meter'.steps meter'.made before (levels nodes store') end
+  MapsIn before p (Err stop) = Runs space meter meter' store store' p (stop_finish stop)
 
   -- it kept one more value in the innermost level
   abbrev pub Maps : Planned Value → Result ℕ Stop → Type 0
@@ -110,8 +110,8 @@ module _ (nodes : List Node) (space : SpaceView) (meter meter' : Meter) (store s
 
   -- it kept parts of the innermost level, which end at a bit
   abbrev pub FillsBy : Plan (Result Opened FaultAt) → Result ℕ Stop → Type 0
-  FillsBy p (Ok end) = Runs space meter meter' store p (Done (Ok (levels nodes store', end)))
-  FillsBy p (Err stop) = Runs space meter meter' store p (stop_finish stop)
+  FillsBy p (Ok end) = Runs space meter meter' store store' p (Done (Ok (levels nodes store', end)))
+  FillsBy p (Err stop) = Runs space meter meter' store store' p (stop_finish stop)
 
   abbrev pub Fills : Planned Opened → Result ℕ Stop → Type 0
   Fills planned result = FillsBy (planned nodes (8 * space.len) (levels nodes store)) result
@@ -121,11 +121,11 @@ module _ (nodes : List Node) (space : SpaceView) (meter meter' : Meter) (store s
     pub value : Value
     pub keeps : levels nodes store' ≡ pushed (levels nodes store) (Some value)
     pub ends : end_of value ≡ end
-    pub follows : Runs space meter meter' store p (Done (Ok (record { index = index; name = unwrap_or (slice_get names index) None; value = value })))
+    pub follows : Runs space meter meter' store store' p (Done (Ok (record { index = index; name = unwrap_or (slice_get names index) None; value = value })))
 
   abbrev pub TakesBy : List Naming → Plan (Result Taken FaultAt) → Result (ℕ × ℕ) Stop → Type 0
   TakesBy names p (Ok r) = TakesOne names p r.0 r.1
-  TakesBy names p (Err stop) = Runs space meter meter' store p (stop_finish stop)
+  TakesBy names p (Err stop) = Runs space meter meter' store store' p (stop_finish stop)
 
   -- it kept one of these alternatives
   abbrev pub Takes : List Part → Order → (start : ℕ) → Result (ℕ × ℕ) Stop → Type 0
@@ -135,7 +135,7 @@ module _ (nodes : List Node) (space : SpaceView) (meter meter' : Meter) (store s
   -- it packed the elements of an array in the innermost level, which end at a bit
   abbrev pub PacksBy : Shape → (start : ℕ) → Plan (Result Opened FaultAt) → Result ℕ Stop → Type 0
   PacksBy shape start p (Ok end) = Packs nodes space meter meter' store store' shape start (outer_of (levels nodes store)) p end
-  PacksBy shape start p (Err stop) = Runs space meter meter' store p (stop_finish stop)
+  PacksBy shape start p (Err stop) = Runs space meter meter' store store' p (stop_finish stop)
 
   abbrev pub PacksRow : Shape → (element : ℕ) → Extent → Order → (start : ℕ) → Result ℕ Stop → Type 0
   PacksRow shape element extent order start result =
@@ -151,8 +151,8 @@ module _ (nodes : List Node) (meter meter' : Meter) (store store' : Held) where
   -- it kept one more value in these levels, which ends at `end`, or stopped
   abbrev pub PlacesIn : Levels → Plan (Result Value FaultAt) → (end : ℕ) → Result (Unit {0}) Stop → Type 0
   PlacesIn before p end (Ok u) =
-      (known : Option (List ℕ)) → KeepsOne (record { known = known; room = store.room }) meter.limit p meter.steps meter.made meter'.steps meter'.made before (levels nodes store') end
-  PlacesIn before p end (Err stop) = Works meter meter' store p (stop_finish stop)
+      (known : Option (List ℕ)) → KeepsOne (world_between known store store') meter.limit p meter.steps meter.made meter'.steps meter'.made before (levels nodes store') end
+  PlacesIn before p end (Err stop) = Works meter meter' store store' p (stop_finish stop)
 
   -- it kept the number as a value of a type, after its own first step
   abbrev pub Places : PokeType → (digits start : ℕ) → Result (Unit {0}) Stop → Type 0
@@ -176,8 +176,8 @@ module _ (nodes : List Node) (meter meter' : Meter) (store store' : Held) where
 
   -- it kept the fields that a number of that width is cut into
   abbrev pub PlacesBy : Plan (Result Levels FaultAt) → Result (Unit {0}) Stop → Type 0
-  PlacesBy p (Ok u) = Works meter meter' store p (Done (Ok (levels nodes store')))
-  PlacesBy p (Err stop) = Works meter meter' store p (stop_finish stop)
+  PlacesBy p (Ok u) = Works meter meter' store store' p (Done (Ok (levels nodes store')))
+  PlacesBy p (Err stop) = Works meter meter' store store' p (stop_finish stop)
 
   abbrev pub PlacesFields : List Part → (digits width start : ℕ) → Result (Unit {0}) Stop → Type 0
   PlacesFields fields digits width start result =

@@ -49,9 +49,13 @@ abbrev pub LeavesLevel : {A : Type 0} → List Node → (store store' : Held) �
 LeavesLevel nodes store store' (Ok x) = level_count store' + 1 ≡ level_count store
 LeavesLevel nodes store store' (Err stop) = LevelStays nodes store store'
 
--- the bits of a space, and the room of a store
-abbrev pub world_of : SpaceView → Held → World
-world_of space store = record { known = known_bits space; room = store.room }
+-- the world of a call over a file's bits, where they are known, between two states of a store
+abbrev pub world_between : Option (List ℕ) → (store store' : Held) → World
+world_between known store store' = record { known = known; room = store.room; before = store.capacity; filled = store'.capacity }
+
+-- the same over a space
+abbrev pub world_of : SpaceView → (store store' : Held) → World
+world_of space store store' = world_between (known_bits space) store store'
 
 -- a call that kept one more value in these levels, which ends at `end`, and followed the plan to it
 pub record KeepsOne (world : World) (limit : ℕ) (p : Plan (Result Value FaultAt)) (k j k' j' : ℕ) (levels levels' : Levels) (end : ℕ) : Type 0 where
@@ -60,13 +64,13 @@ pub record KeepsOne (world : World) (limit : ℕ) (p : Plan (Result Value FaultA
   pub ends : end_of value ≡ end
   pub follows : Follows world limit p k j k' j' (Done (Ok value))
 
--- what a call did between two states of the meter, by a plan
-abbrev pub Runs : {A : Type 0} → SpaceView → (meter meter' : Meter) → Held → Plan A → Finish A → Type 0
-Runs space meter meter' store p finish = Follows (world_of space store) meter.limit p meter.steps meter.made meter'.steps meter'.made finish
+-- what a call did between two states of the meter and of a store, by a plan
+abbrev pub Runs : {A : Type 0} → SpaceView → (meter meter' : Meter) → (store store' : Held) → Plan A → Finish A → Type 0
+Runs space meter meter' store store' p finish = Follows (world_of space store store') meter.limit p meter.steps meter.made meter'.steps meter'.made finish
 
 -- what a call did that read nothing
-abbrev pub Works : {A : Type 0} → (meter meter' : Meter) → Held → Plan A → Finish A → Type 0
-Works meter meter' store p finish = (known : Option (List ℕ)) → Follows (record { known = known; room = store.room }) meter.limit p meter.steps meter.made meter'.steps meter'.made finish
+abbrev pub Works : {A : Type 0} → (meter meter' : Meter) → (store store' : Held) → Plan A → Finish A → Type 0
+Works meter meter' store store' p finish = (known : Option (List ℕ)) → Follows (world_between known store store') meter.limit p meter.steps meter.made meter'.steps meter'.made finish
 
 -- why a refused read stops, with its fault at `place`
 abbrev pub refusal_at : BitFault → (place : ℕ) → Stop

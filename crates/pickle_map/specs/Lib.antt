@@ -8,6 +8,7 @@ pub mod Settles
 pub mod Settled
 pub mod Mappable
 pub mod Mapped
+pub mod Repeated
 pub use Rattle.pickle_meaning.specs.FaultNames
 pub use Rattle.pickle_meaning.specs.Numbers
 pub use Rattle.pickle_meaning.specs.Values
@@ -20,6 +21,7 @@ pub use Rattle.pickle_meaning.specs.Fits
 pub use Rattle.pickle_meaning.specs.Room
 pub use Rattle.pickle_meaning.specs.Laws
 pub use Rattle.mapping_plans.specs.Plan
+pub use Rattle.mapping_plans.specs.Kept
 pub use Rattle.mapping_plans.specs.Mapping
 pub use Rattle.mapping_plans.specs.PlanLaws
 pub use Rattle.value_store.specs.Labels
@@ -34,6 +36,8 @@ pub use Rattle.value_store.specs.Linked
 pub use Rattle.value_store.specs.Lent
 pub use Rattle.value_store.specs.Owners
 pub use Rattle.value_store.specs.Exceeding
+pub use Rattle.value_store.specs.Takes
+pub use Rattle.value_store.specs.Keeping
 pub use Rattle.value_store.specs.Filling
 pub use Rattle.value_store.specs.Closed
 pub use Rattle.pickle_evaluation.specs.Operands

@@ -20,8 +20,12 @@ use Rattle.pickle_map.specs.Follows.{Broken, NoRoom}
 use Rattle.pickle_map.specs.Framed.{Runs}
 use Rattle.mapping_plans.specs.Mapping.{plan}
 use Rattle.mapping_plans.specs.Plan.{Plan}
+use Rattle.mapping_plans.specs.Kept.{KeepsBy}
 use Rattle.value_store.specs.declared.store.room.Growth.TheVariants.{Never}
-use Rattle.value_store.specs.Slots.{Held, emptied, HoldsInRoom, KeepsRoom, levels}
+use Rattle.value_store.specs.declared.store.room.Room.{Room}
+use Rattle.value_store.specs.declared.store.slots.Marks.{Marks}
+use Rattle.value_store.specs.Slots.{Held, packs, emptied, HoldsInRoom, KeepsRoom, levels}
+use Rattle.value_store.specs.Takes.{AreWithin}
 use Rattle.pickle_meaning.specs.Values.{Value, no_values, pushed}
 
 -- a store that holds one value, with the names of a table, and a fact of that value
@@ -46,10 +50,35 @@ FaultMeans bits ty order s limit kind at k j = Answer bits ty order s limit (Err
 
 -- Where a device or want of memory broke a mapping off, its calls counted the steps and the values of its plan up to the read that
 -- failed, or up to what was to be kept and had no room.
-abbrev pub CountsToThere : MapFaultKind → SpaceView → (meter meter' : Meter) → Held → Plan (Result Value FaultAt) → Type 0
-CountsToThere faults.Device space meter meter' store p = Runs space meter meter' store p Broken
-CountsToThere faults.Memory space meter meter' store p = Runs space meter meter' store p NoRoom
-CountsToThere kind space meter meter' store p = Unit {0}
+abbrev pub CountsToThere : MapFaultKind → SpaceView → (meter meter' : Meter) → (store store' : Held) → Plan (Result Value FaultAt) → Type 0
+CountsToThere faults.Device space meter meter' store store' p = Runs space meter meter' store store' p Broken
+CountsToThere faults.Memory space meter meter' store store' p = Runs space meter meter' store store' p NoRoom
+CountsToThere kind space meter meter' store store' p = Unit {0}
+
+-- on these bytes, within the steps that are left: all that the mapping of a type keeps has room in vectors of such a capacity
+abbrev pub HasRoomFor : Room → (capacity : Marks) → PokeType → Order → (start : ℕ) → SpaceView → Meter → (bytes : List ℕ) → Type 0
+HasRoomFor room capacity type order start space meter bytes =
+    KeepsBy (λ row levels. AreWithin (packs room) row levels capacity) (bits_of bytes) (plan (8 * space.len) type order no_values start) (meter.limit - meter.steps)
+
+-- a fact of a mapping that neither a device nor want of memory broke off
+abbrev pub UnlessBreaks : MapFaultKind → Type 0 → Type 0
+UnlessBreaks faults.Device P = Unit {0}
+UnlessBreaks faults.Memory P = Unit {0}
+UnlessBreaks kind P = P
+
+abbrev pub UnlessBroken : Result (Unit {0}) MapFault → Type 0 → Type 0
+UnlessBroken (Ok u) P = P
+UnlessBroken (Err f) P = UnlessBreaks f.kind P
+
+-- Where the bytes are known, and the mapping wasn't broken off: in the end the store has room for all that it keeps.
+abbrev pub KeptInRoom : PokeType → Order → (start : ℕ) → SpaceView → Meter → (store store' : Held) → Result (Unit {0}) MapFault → Type 0
+KeptInRoom type order start space meter store store' result =
+    (bytes : List ℕ) → space.bytes ≡ Some bytes → UnlessBroken result (HasRoomFor store.room store'.capacity type order start space meter bytes)
+
+-- Where they are known, and memory was wanted: before, the store had no room for all that the mapping keeps.
+abbrev pub WantedMore : PokeType → Order → (start : ℕ) → SpaceView → Meter → (store : Held) → Result (Unit {0}) MapFault → Type 0
+WantedMore type order start space meter store result =
+    (bytes : List ℕ) → space.bytes ≡ Some bytes → IfErr result (λ f. f.kind ≡ faults.Memory → HasRoomFor store.room store.capacity type order start space meter bytes → ⊥)
 
 -- faults that a run ends with, which no type means
 abbrev pub EndsRun : MapFaultKind → Type 0
@@ -74,7 +103,10 @@ pub record IsMapped (nodes : List Node) (type : PokeType) (order : Order) (start
   pub memory : IfErr result (λ f. f.kind ≡ faults.Memory → store.room.least < room_of type (8 * space.len))
   pub device : IfErr result (λ f. f.kind ≡ faults.Device → HasRisen space.failures space'.failures)
   -- A mapping that was broken off counted its steps and values up to the read that failed, or to what had no room.
-  pub counts : IfErr result (λ f. CountsToThere f.kind space meter meter' store (plan (8 * space.len) type order no_values start))
+  pub counts : IfErr result (λ f. CountsToThere f.kind space meter meter' store store' (plan (8 * space.len) type order no_values start))
+  -- There is room in the end for all that was to be kept; memory was wanted only where there was none before.
+  pub kept : KeptInRoom type order start space meter store store' result
+  pub asked : WantedMore type order start space meter store result
   -- What ends a run is told at the mapping's start.
   pub place : IfErr result (λ f. EndsRun f.kind → f.at ≡ start)
   pub emptied : OnErr result (store' ≡ emptied store')

@@ -1,5 +1,5 @@
 -- Arrays of numbers that a store packs, while they are mapped.
-use Rattle.std.specs.Prelude.{◌≡◌, ℕ, ◌+◌, ◌*◌, length, List, ◌∷◌, Result, Ok, true}
+use Rattle.std.specs.Prelude.{◌≡◌, ℕ, ◌+◌, ◌*◌, length, List, ◌∷◌, Option, Some, None, Result, Ok, true, false}
 use Rattle.pickle_types.specs.Types.{PokeType, IntegerOf, OffsetOf}
 use Rattle.pickle_types.specs.declared.table.Node.{Node}
 use Rattle.bit_space.specs.declared.meter.Meter.{Meter}
@@ -12,8 +12,10 @@ use Rattle.pickle_map.specs.Framed.{Runs}
 use Rattle.pickle_map.specs.Follows.{Done}
 use Rattle.pickle_meaning.specs.Means.{Opened}
 use Rattle.mapping_plans.specs.Plan.{Plan}
-use Rattle.value_store.specs.Slots.{Held, IsPacked, IsPacking, elements, element_width, packs}
-use Rattle.pickle_meaning.specs.Values.{Levels}
+use Rattle.mapping_plans.specs.Mapping.{makes_row}
+use Rattle.value_store.specs.Slots.{Held, levels, IsPacked, IsPacking, elements, element_width, packs}
+use Rattle.value_store.specs.Takes.{row_width}
+use Rattle.pickle_meaning.specs.Values.{Levels, top_of, gathered}
 
 -- what an array of elements of a type is packed as
 abbrev pub IsArrayOf : Shape → PokeType → Type 0
@@ -32,6 +34,19 @@ pub record PacksAs (shape : Shape) (ty : PokeType) (room : Room) : Type 0 where
   pub is : IsArrayOf shape ty
   pub packs : packs room ≡ true
 
+-- elements of that type don't stand in a row that is packed: the store packs none, or they are no numbers
+abbrev pub StandApart : PokeType → Room → Type 0
+StandApart ty room = packs room ≡ true → makes_row ty ≡ false
+
+-- what a store packs the elements of an array of that type as, if it does
+abbrev pub PacksOrNot : Option Shape → PokeType → Room → Type 0
+PacksOrNot (Some shape) ty room = PacksAs shape ty room
+PacksOrNot None ty room = StandApart ty room
+
+-- where arrays of numbers are packed, the innermost level begins with none
+abbrev pub BeginsApart : List Node → Held → Type 0
+BeginsApart nodes store = packs store.room ≡ true → row_width (gathered (top_of (levels nodes store))) ≡ None
+
 -- the levels in which these elements stand, from the bit `start` on, inside others
 abbrev pub row_levels : Shape → List ℕ → (start : ℕ) → Levels → Levels
 row_levels shape numbers start outer = elements shape start numbers ∷ outer
@@ -41,4 +56,4 @@ pub record Packs (nodes : List Node) (space : SpaceView) (meter meter' : Meter) 
   pub numbers : List ℕ
   pub packing : IsPacking nodes store' shape numbers start outer
   pub ends : end ≡ start + element_width shape * length numbers
-  pub runs : Runs space meter meter' store p (Done (Ok (row_levels shape numbers start outer, end)))
+  pub runs : Runs space meter meter' store store' p (Done (Ok (row_levels shape numbers start outer, end)))

@@ -1,6 +1,7 @@
 //! Maps the types of a pickle over the bits of a space.
 #![tactic(auto)]
 
+pub mod again;
 pub mod mapper;
 
 pub use mapper::map;

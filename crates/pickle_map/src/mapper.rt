@@ -8,7 +8,7 @@ ghost use Rattle.pickle_types.specs.TypeTable.{nodes_of, type_named, IsInTable};
 ghost use Rattle.pickle_meaning.specs.Answer.{Answer};
 ghost use Rattle.pickle_meaning.specs.Fits.{Fits};
 ghost use Rattle.mapping_plans.specs.Mapping.{plan};
-ghost use Rattle.pickle_map.specs.Mapped.{Gives, FaultMeans, CountsToThere, EndsRun, IsMapped, told};
+ghost use Rattle.pickle_map.specs.Mapped.{Gives, FaultMeans, CountsToThere, KeptInRoom, WantedMore, EndsRun, IsMapped, told};
 ghost use Rattle.pickle_meaning.specs.Room.{Slot, NodeSlot, ByteSlot, value_slots, slots};
 ghost use Rattle.value_store.specs.declared.store.room.Growth.TheVariants.{Never};
 ghost use Rattle.value_store.specs.Slots.{emptied, HoldsInRoom, KeepsRoom, levels};
@@ -62,7 +62,10 @@ pub fn map<S: Space>(
     ensures memory { IfErr result (λ f. f.kind ≡ MapFaultKind.Memory → store.old.room.least < room (type_named table.now id) (8 * (S.view space.old).len)) }
     ensures device { IfErr result (λ f. f.kind ≡ MapFaultKind.Device → HasRisen (S.view space.old).failures (S.view space.new).failures) }
     // A mapping that was broken off counted its steps and values up to the read that failed, or to what had no room.
-    ensures counts { IfErr result (λ f. CountsToThere f.kind (S.view space.old) meter.old meter.new store.old (plan (8 * (S.view space.old).len) (type_named table.now id) order no_values start)) }
+    ensures counts { IfErr result (λ f. CountsToThere f.kind (S.view space.old) meter.old meter.new store.old store.new (plan (8 * (S.view space.old).len) (type_named table.now id) order no_values start)) }
+    // There is room in the end for all that was to be kept; memory was wanted only where there was none before.
+    ensures kept { KeptInRoom (type_named table.now id) order start (S.view space.old) meter.old store.old store.new result }
+    ensures asked { WantedMore (type_named table.now id) order start (S.view space.old) meter.old store.old result }
     // What ends a run is told at the mapping's start.
     ensures place { IfErr result (λ f. EndsRun f.kind → f.at ≡ start) }
     ensures emptied { OnErr result (store.new ≡ emptied store.new) }

@@ -1,10 +1,10 @@
 //! Arrays of numbers that the store packs.
 
-ghost use Rattle.std.specs.Prelude.{◌≡◌, ◌*◌, ◌<◌, ◌≤◌, [], length, IfOk, IfErr, IfSome};
+ghost use Rattle.std.specs.Prelude.{◌≡◌, ◌*◌, ◌<◌, ◌≤◌, [], length, IfOk, IfErr};
 ghost use Rattle.pickle_types.specs.Table.{IsTable, type_of};
 ghost use Rattle.pickle_map.specs.Calls.{as_array_level, Closes, PacksRow};
 ghost use Rattle.pickle_map.specs.Framed.{Frame, IsEnd, DeviceFailed, LeavesLevel};
-ghost use Rattle.pickle_map.specs.Row.{PacksAs};
+ghost use Rattle.pickle_map.specs.Row.{PacksAs, PacksOrNot};
 ghost use Rattle.value_store.specs.Slots.{levels, IsPacking, level_count};
 ghost use Rattle.pickle_meaning.specs.Values.{outer_of};
 
@@ -22,7 +22,7 @@ use value_store::store::slots::Shape;
 pub(crate) fn packed_as(nodes: &[Node], element: usize, store: &Store) -> Option<Shape>
     requires table { IsTable nodes.now }
     requires element { element < length nodes.now }
-    ensures { IfSome result (λ shape. PacksAs shape (type_of nodes.now element) store.now.room) }
+    ensures { PacksOrNot result (type_of nodes.now element) store.now.room }
 {
     if !store.packs() {
         return None;

@@ -1,12 +1,13 @@
 //! The types of a table, over the bits of a space.
 
-ghost use Rattle.std.specs.Prelude.{◌≡◌, ◌+◌, ◌*◌, ◌^◌, ◌<◌, ◌≤◌, ◌∷◌, [], map, length, All, IfOk, IfErr, OnErr};
+ghost use Rattle.std.specs.Prelude.{◌≡◌, ◌+◌, ◌*◌, ◌^◌, ◌<◌, ◌≤◌, ◌∷◌, [], map, length, All, IfOk, IfErr, OnOk, OnErr};
 ghost use Rattle.pickle_types.specs.Types.{depth};
 ghost use Rattle.pickle_types.specs.Table.{IsTable, type_of, optional_term, bound_of};
 ghost use Rattle.pickle_map.specs.Calls.{as_type, as_checked, as_array, as_array_level, as_elements, as_struct, as_struct_level, as_fields, as_union, as_union_level, Maps, Closes, Fills, Takes};
 ghost use Rattle.pickle_map.specs.Framed.{Frame, IsEnd, DeviceFailed, LeavesLevel};
 ghost use Rattle.pickle_meaning.specs.Values.{outer_of};
 ghost use Rattle.pickle_map.specs.Mappable.{IsFieldOf, IsPartOf};
+ghost use Rattle.pickle_map.specs.Row.{StandApart, BeginsApart};
 ghost use Rattle.pickle_meaning.specs.Means.{ordered};
 ghost use Rattle.pickle_types.specs.Sound.{IsSoundClause, IsSoundBound};
 ghost use Rattle.value_store.specs.Names.{names_at, field_name, part_name};
@@ -249,6 +250,8 @@ fn array_body<S: Space, W: Watch>(
     requires table { IsTable nodes.now }
     requires element { element < length nodes.now }
     requires open { (1 < level_count store.old) × (level_count store.old + depth (type_of nodes.now element) ≤ 65) }
+    requires fresh { levels nodes.now store.old ≡ [] ∷ outer_of (levels nodes.now store.old) }
+    requires apart { StandApart (type_of nodes.now element) store.old.room }
     requires inside { start ≤ 8 * (S.view space.old).len }
     requires free { meter.old.made < meter.old.steps }
     ensures frame { Frame (S.view space.old) (S.view space.new) meter.old meter.new store.old store.new 1 }
@@ -281,10 +284,13 @@ fn map_elements<S: Space, W: Watch>(
     requires table { IsTable nodes.now }
     requires element { element < length nodes.now }
     requires open { level_count store.old + depth (type_of nodes.now element) ≤ 65 }
+    requires apart { StandApart (type_of nodes.now element) store.old.room }
+    requires begins { BeginsApart nodes.now store.old }
     requires inside { start ≤ 8 * (S.view space.old).len }
     ensures frame { Frame (S.view space.old) (S.view space.new) meter.old meter.new store.old store.new 0 }
     ensures ends { IfOk result (IsEnd start (S.view space.old)) }
     ensures is { Fills nodes.now (S.view space.old) meter.old meter.new store.old store.new (as_elements element extent order start) result }
+    ensures begins { OnOk result (BeginsApart nodes.now store.new) }
     ensures outer { outer_of (levels nodes.now store.new) ≡ outer_of (levels nodes.now store.old) }
     ensures depth { level_count store.new ≡ level_count store.old }
     ensures device { IfErr result (DeviceFailed (S.view space.old) (S.view space.new)) }

@@ -2,11 +2,12 @@ use Rattle.std.proofs.Common.{◌*◌, option_map, refl, sym, ap, ◌∙◌, ari
 use Rattle.bit_space.specs.Bits.{bits_of}
 use Rattle.bit_space.proofs.Digits.{length-bits_of}
 use Rattle.pickle_types.specs.Table.{type_of}
-use Rattle.value_store.specs.Slots.{level_count}
+use Rattle.value_store.specs.Slots.{level_count, emptied}
 use Rattle.pickle_meaning.specs.Values.{no_values}
 use Rattle.pickle_map.proofs.Followed.{walk_rises, followed_steps, followed_made, followed_fits, followed_size, followed_result}
 use Rattle.pickle_map.proofs.Keeping.{kept_within}
-use Rattle.pickle_map.proofs.Stopped.{told_there, told_limit, told_memory, told_device, told_counts, told_means, none_kept}
+use Rattle.pickle_map.proofs.Stopped.{told_there, told_limit, told_memory, told_device, told_counts, told_means, told_kept, told_wanted, none_kept}
+use Rattle.pickle_map.proofs.Repeated.{room_when_done}
 use Rattle.pickle_map.proofs.mapper.map_watched.Goals as goal
 
 pub map_type-requires-clause-open : goal.map_type-requires-clause-open
@@ -40,6 +41,8 @@ returns-in-Ok g c =
       memory = tt;
       device = tt;
       counts = tt;
+      kept = λ bytes known. room_when_done (bits_of bytes) c.args.meter.now.limit (ap (option_map bits_of) known) h;
+      asked = λ bytes known. tt;
       place = tt;
       emptied = tt;
       holds = c.never_grows-fixed.ensures.holds;
@@ -76,7 +79,9 @@ returns-in-Err g c =
       limit = rw c.told.ensures (told_limit bits ty order start c.in-Err.stop h);
       memory = rw c.told.ensures (told_memory bits ty order start c.in-Err.stop h);
       device = rw c.told.ensures (λ e. c.in-Err.ensures.device (told_device bits ty order start c.in-Err.stop h e));
-      counts = rw c.told.ensures (told_counts bits ty order start (g.S.Space.view c.args.space.now) c.args.meter.now c.map_type.new.meter c.args.store.now c.in-Err.stop h);
+      counts = rw (c.told.ensures, c.clear.ensures.empty) (told_counts bits ty order start (g.S.Space.view c.args.space.now) c.args.meter.now c.map_type.new.meter c.args.store.now (emptied c.map_type.new.store) c.in-Err.stop h);
+      kept = λ bytes known. rw (c.told.ensures, c.clear.ensures.empty) (told_kept (bits_of bytes) bits ty order start (ap (option_map bits_of) known) c.in-Err.stop h);
+      asked = λ bytes known. rw c.told.ensures (told_wanted (bits_of bytes) bits ty order start (ap (option_map bits_of) known) (omega (arith, within, limit)) c.in-Err.stop h);
       place = rw c.told.ensures (told_there bits ty order start c.in-Err.stop h);
       emptied = rw c.clear.ensures.empty refl;
       holds = rw c.clear.ensures.empty (record { nodes = omega arith; families = omega arith; links = omega arith; pending = omega arith; texts = omega arith; bytes = omega arith });

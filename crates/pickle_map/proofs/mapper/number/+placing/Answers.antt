@@ -12,7 +12,8 @@ use Rattle.pickle_map.specs.Mappable.{IsPartOf}
 use Rattle.pickle_map.proofs.Keeping.{regrown_stays}
 use Rattle.pickle_map.proofs.Clauses.{checks_ok, checks_stop}
 use Rattle.pickle_map.proofs.Placing.{digits_end, digits_no_tick, digits_stop, digits_goes}
-use Rattle.pickle_map.proofs.Walks.{follow_done, follow_here, follow_on, follow_tick, follow_stop, closes_no_room, closes_made, first_no_tick, in_room, outer_pushed}
+use Rattle.pickle_map.proofs.Walks.{follow_done, follow_here, follow_on, follow_tick, follow_stop, closes_no_room, closes_made, first_no_tick, outer_pushed}
+use Rattle.pickle_map.proofs.Worlds.{room_then, in_store, in_call, in_later, holds_these, lacks_these}
 use Rattle.pickle_map.proofs.mapper.number.+placing.Goals as goal
 
 pub integral_body-returns-in_err-place_fields-clause-is : goal.integral_body-returns-in_err-place_fields-clause-is
@@ -25,7 +26,8 @@ integral_body-returns-in_err-close_struct-clause-is g t c =
     let p = err_from_is_err_and c.from_residual-in_err-close_struct.result c.from_residual-in_err-close_struct.ensures.1 in
     let named = c.requires.names ∙ sym (parts_named (type_of c.args.nodes.now) c.args.fields.now) in
     let full = rw (named, c.from.ensures) at (c.in_err-close_struct.ensures.full c.args.nodes.now) in
-    rw (p.1, p.2) (λ known. closes_no_room _ _ _ (c.in_ok-place_fields.ensures.is known) c.in_ok-place_fields.ensures.frame.room.room full)
+    let keeps = c.in_ok-place_fields.ensures.frame.room in
+    rw (p.1, p.2) (λ known. closes_no_room _ _ _ (in_later keeps c.in_err-close_struct.ensures.room (c.in_ok-place_fields.ensures.is known)) (lacks_these keeps full))
 
 pub integral_body-returns-in_err-close_struct-clause-level : goal.integral_body-returns-in_err-close_struct-clause-level
 integral_body-returns-in_err-close_struct-clause-level g t c =
@@ -36,8 +38,11 @@ pub integral_body-returns-clause-is : goal.integral_body-returns-clause-is
 integral_body-returns-clause-is g t c =
     let n = c.note_made.ensures in
     let named = c.requires.names ∙ sym (parts_named (type_of c.args.nodes.now) c.args.fields.now) in
-    let h = rw (named, c.from.ensures, c.in_ok-place_fields.ensures.outer) at (c.in_ok-close_struct.ensures.ok c.args.nodes.now) in
-    λ known. record { value = _; kept = h; ends = refl; follows = closes_made _ _ _ (c.in_ok-place_fields.ensures.is known) n.steps n.made }
+    let closed = rw (named, c.from.ensures) at (c.in_ok-close_struct.ensures.ok c.args.nodes.now) in
+    let h = rw c.in_ok-place_fields.ensures.outer at closed in
+    let room = c.in_ok-close_struct.ensures.room in
+    let has = holds_these c.args.nodes.now (room_then c.in_ok-place_fields.ensures.frame.room room) c.in_ok-close_struct.ensures.within closed in
+    λ known. record { value = _; kept = h; ends = refl; follows = closes_made _ _ _ (in_later c.in_ok-place_fields.ensures.frame.room room (c.in_ok-place_fields.ensures.is known)) has n.steps n.made }
 
 pub place_fields-loop-part-init : goal.place_fields-loop-part-init
 place_fields-loop-part-init g t c = record {
@@ -73,7 +78,8 @@ place_fields-returns-in_err-place_part-clause-is g t c =
     let next = drop_more c.args.fields.now c.loop-part.part-index c.part-item.result (omega arith) in
     let next = rw (← c.part-item.is) at next in
     let cut = rw c.width_at-width.ensures.is at c.first_digits-digits.ensures.is in
-    rw (p.1, p.2) (λ known. follow_on (i.so_far known) (digits_stop _ _ _ _ _ _ _ _ next _ cut (e.limit ∙ i.frame.limit) e.ok e.made _ (in_room i.frame.room.room (c.in_err-place_part.ensures.is known))))
+    let room = c.in_err-place_part.ensures.frame.room in
+    rw (p.1, p.2) (λ known. follow_on (in_later i.frame.room room (i.so_far known)) (digits_stop _ _ _ _ _ _ _ _ next _ cut (e.limit ∙ i.frame.limit) e.ok e.made _ (in_call i.frame.room room (c.in_err-place_part.ensures.is known))))
 
 pub place_fields-loop-part-preserved : goal.place_fields-loop-part-preserved
 place_fields-loop-part-preserved g t c =
@@ -90,7 +96,7 @@ place_fields-loop-part-preserved g t c =
       depth = search rules;
       so_far = λ known.
           let h = c.in_ok-place_part.ensures.is known in
-          rw h.kept (follow_on (i.so_far known) (digits_goes _ _ _ _ _ _ _ _ next _ cut (e.limit ∙ i.frame.limit) e.ok e.made h.value _ less (in_room i.frame.room.room h.follows)));
+          rw h.kept (follow_on (in_later i.frame.room c.in_ok-place_part.ensures.frame.room (i.so_far known)) (digits_goes _ _ _ _ _ _ _ _ next _ cut (e.limit ∙ i.frame.limit) e.ok e.made h.value _ less (in_call i.frame.room c.in_ok-place_part.ensures.frame.room h.follows)));
     }
 
 pub place_fields-returns-clause-is : goal.place_fields-returns-clause-is
@@ -111,13 +117,15 @@ pub place_integral-returns-in-Ok-clause-is : goal.place_integral-returns-in-Ok-c
 unfolding number_plan
 place_integral-returns-in-Ok-clause-is g t c =
     let opened = c.open_level.ensures.levels c.args.nodes.now in
-    λ known. rw (opened, c.open_level.ensures.room.room) at (c.in-Ok.ensures.is known)
+    λ known.
+    let h = rw opened at (c.in-Ok.ensures.is known) in
+    record { value = h.value; kept = h.kept; ends = h.ends; follows = in_call c.open_level.ensures.room c.in-Ok.ensures.frame.room h.follows }
 
 pub place_integral-returns-in-Err-clause-is : goal.place_integral-returns-in-Err-clause-is
 unfolding number_plan
 place_integral-returns-in-Err-clause-is g t c =
     let opened = c.open_level.ensures.levels c.args.nodes.now in
-    λ known. rw (opened, c.open_level.ensures.room.room) at (c.in-Err.ensures.is known)
+    λ known. in_store c.open_level.ensures.room c.in-Err.ensures.frame.room c.drop_level.ensures.room (rw opened at (c.in-Err.ensures.is known))
 
 pub place_number-place_integer-requires-clause-digits : goal.place_number-place_integer-requires-clause-digits
 place_number-place_integer-requires-clause-digits g t c = subst (λ x. c.args.digits < 2 ^ width_in (number_type x)) (opened_as c.args.nodes.now c.requires.table c.args.at c.requires.at c.index-nodes-at.result _ c.in-Integer.is) c.requires.digits

@@ -29,7 +29,7 @@ invariant-place_fields-loop-part g l = record {
   left : l.left ≤ 64;
   outer : outer_of (levels l.nodes l.store) ≡ outer_of (levels l.nodes l.initial.store);
   depth : level_count l.store ≡ level_count l.initial.store;
-  so_far : Works l.initial.meter l.meter l.initial.store
+  so_far : Works l.initial.meter l.meter l.initial.store l.store
       (digits_plan (open_parts (type_of l.nodes) l.fields) l.digits l.width (levels l.nodes l.initial.store) l.start)
       (Partly (digits_plan (open_parts (type_of l.nodes) (drop l.part-index l.fields)) l.digits l.left (levels l.nodes l.store) l.start));
 }

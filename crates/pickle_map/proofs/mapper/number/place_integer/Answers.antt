@@ -4,13 +4,14 @@ use Rattle.pickle_meaning.specs.Means.{integer_value}
 use Rattle.mapping_plans.specs.Mapping.{number_plan}
 use Rattle.value_store.proofs.Held.{regrown-levels}
 use Rattle.pickle_map.proofs.Walks.{follow_made, follow_done, follow_no_room}
+use Rattle.pickle_map.proofs.Worlds.{same_room, holds_these, lacks_these}
 use Rattle.pickle_map.proofs.mapper.number.place_integer.Goals as goal
 
 pub returns-in_err-push_integer-clause-is : goal.returns-in_err-push_integer-clause-is
 unfolding number_plan
 returns-in_err-push_integer-clause-is c nodes =
     let p = err_from_is_err_and c.from_residual.result c.from_residual.ensures.1 in
-    rw (p.1, p.2) (λ known. follow_no_room (c.in_err-push_integer.ensures.full nodes))
+    rw (p.1, p.2) (λ known. follow_no_room (lacks_these (same_room c.args.store.now) (c.in_err-push_integer.ensures.full nodes)))
 
 pub returns-in_err-push_integer-clause-same : goal.returns-in_err-push_integer-clause-same
 returns-in_err-push_integer-clause-same c nodes =
@@ -25,5 +26,5 @@ returns-clause-is c nodes =
       value = integer_value c.args.number c.args.digits c.args.start;
       kept = c.in_ok-push_integer.ensures.ok nodes;
       ends = refl;
-      follows = follow_made n.limit n.steps n.made follow_done;
+      follows = follow_made (holds_these nodes c.in_ok-push_integer.ensures.room c.in_ok-push_integer.ensures.within (c.in_ok-push_integer.ensures.ok nodes)) n.limit n.steps n.made follow_done;
     }

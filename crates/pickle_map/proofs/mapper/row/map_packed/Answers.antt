@@ -4,13 +4,15 @@ use Rattle.std.proofs.lemmas.Result.{err_from_is_err_and}
 use Rattle.pickle_types.specs.Bounds.{least_width, count_of}
 use Rattle.pickle_types.specs.Table.{type_of}
 use Rattle.pickle_map.specs.declared.mapper.stop.Stop.TheVariants.{Memory}
-use Rattle.mapping_plans.specs.Mapping.{plan}
+use Rattle.pickle_map.specs.Framed.{world_of}
+use Rattle.mapping_plans.specs.Mapping.{plan, element_plan}
 use Rattle.pickle_map.specs.Row.{row_levels}
 use Rattle.value_store.specs.Slots.{levels, element_width, element_value}
 use Rattle.pickle_meaning.specs.Values.{outer_of}
 use Rattle.value_store.proofs.Held.{regrown-levels}
 use Rattle.value_store.proofs.PackedRows.{packing-outer, packing-empty}
-use Rattle.pickle_map.proofs.Mapping.{in_world, few_enough, elements_end, elements_beyond, elements_no_tick, elements_goes, elements_over, elements_stop}
+use Rattle.pickle_map.proofs.Worlds.{same_room, in_world, in_later, lacks_these}
+use Rattle.pickle_map.proofs.Mapping.{few_enough, elements_end, elements_beyond, elements_no_tick, elements_goes, elements_over, elements_stop}
 use Rattle.pickle_map.proofs.Row.{some_bits, least_is, element_end, element_stops, element_no_room, element_goes, row_more, first_is}
 use Rattle.pickle_map.proofs.Walks.{follow_here, follow_on}
 use Rattle.pickle_map.proofs.mapper.row.map_packed.Goals as goal
@@ -65,10 +67,13 @@ returns-in_err-push_packed-in-Ok-clause-is g c =
     let due = rw c.len-bits.ensures at due in
     let fits = rw (i.frame.len, c.element_width-width.ensures) at r.inside in
     let may = rw c.element_width-width.ensures at r.ok in
-    let packs = rw (← i.frame.room.room) at c.requires.shape.packs in
-    let h = element_no_room c.args.shape (8 * (g.S.Space.view c.args.space.now).len) (type_of c.args.nodes.now c.args.element) c.args.order (row_levels c.args.shape i.so_far.0 c.args.start (outer_of (levels c.args.nodes.now c.args.store.now))) c.loop-shape.place c.requires.shape.is i.inside c.in-Ok.digits r.limit r.steps r.made fits may packs in
-    let h = in_world (g.S.Space.view c.args.space.now) (g.S.Space.view c.loop-shape.space) c.args.store.now c.loop-shape.store i.frame.bytes i.frame.room.room h in
-    rw (p.1, p.2) (follow_on i.so_far.6 (elements_stop _ _ _ _ _ _ _ (max 1 (least_width (type_of c.args.nodes.now c.args.element))) _ i.so_far.2 i.inside due (e.limit ∙ i.frame.limit) e.ok e.made Memory refl h))
+    let outer = outer_of (levels c.args.nodes.now c.args.store.now) in
+    let more = row_more c.args.shape i.so_far.0 c.in-Ok.digits c.args.start c.loop-shape.place outer i.so_far.3 in
+    let full = rw more at (c.in_err-push_packed-in-Ok.ensures.full c.args.nodes.now i.so_far.0 outer i.so_far.5) in
+    let lacks = lacks_these (same_room c.loop-shape.store) full in
+    let h = element_no_room {world = world_of (g.S.Space.view c.loop-shape.space) c.loop-shape.store c.push_packed.new.self} c.args.shape (8 * (g.S.Space.view c.args.space.now).len) (type_of c.args.nodes.now c.args.element) c.args.order (row_levels c.args.shape i.so_far.0 c.args.start (outer_of (levels c.args.nodes.now c.args.store.now))) c.loop-shape.place c.requires.shape.is i.inside c.in-Ok.digits r.limit r.steps r.made fits may lacks in
+    let h = in_world (g.S.Space.view c.args.space.now) (g.S.Space.view c.loop-shape.space) i.frame.bytes i.frame.room c.in_err-push_packed-in-Ok.ensures.room h in
+    rw (p.1, p.2) (follow_on (in_later i.frame.room c.in_err-push_packed-in-Ok.ensures.room i.so_far.6) (elements_stop _ _ _ _ _ _ _ (max 1 (least_width (type_of c.args.nodes.now c.args.element))) _ i.so_far.2 i.inside due (e.limit ∙ i.frame.limit) e.ok e.made Memory refl h))
 
 pub loop-shape-preserved : goal.loop-shape-preserved
 loop-shape-preserved g c =
@@ -83,17 +88,18 @@ loop-shape-preserved g c =
     let width = c.element_width-width.ensures in
     let fits = rw (i.frame.len, width) at r.inside in
     let may = rw width at r.ok in
-    let h = element_goes c.args.shape (8 * (g.S.Space.view c.args.space.now).len) (type_of c.args.nodes.now c.args.element) c.args.order (row_levels c.args.shape i.so_far.0 c.args.start outer) c.loop-shape.place c.requires.shape.is i.inside c.in-Ok.digits r.limit r.steps r.made fits may n.steps n.made in
-    let h = in_world (g.S.Space.view c.args.space.now) (g.S.Space.view c.loop-shape.space) c.args.store.now c.loop-shape.store i.frame.bytes i.frame.room.room h in
+    let short = g.met.S.Space.short c.args.space.now in
+    let place : c.loop-shape.place + element_width c.args.shape ≡ c.args.start + element_width c.args.shape * (length i.so_far.0 + 1) = omega (arith, i.so_far.3) in
+    let levels = row_more c.args.shape i.so_far.0 c.in-Ok.digits c.args.start c.loop-shape.place outer i.so_far.3 in
+    let has = rw (levels, k.room.room) at (k.within c.args.nodes.now i.so_far.0 outer i.so_far.5 (omega (arith, place, fits, short))) in
+    let h = element_goes {world = world_of (g.S.Space.view c.loop-shape.space) c.loop-shape.store c.push_packed.new.self} c.args.shape (8 * (g.S.Space.view c.args.space.now).len) (type_of c.args.nodes.now c.args.element) c.args.order (row_levels c.args.shape i.so_far.0 c.args.start outer) c.loop-shape.place c.requires.shape.is i.inside c.in-Ok.digits r.limit r.steps r.made fits may has n.steps n.made in
+    let h = in_world (g.S.Space.view c.args.space.now) (g.S.Space.view c.loop-shape.space) i.frame.bytes i.frame.room k.room h in
     let some = some_bits c.args.shape c.requires.shape.packed in
     let least = least_is c.args.shape (type_of c.args.nodes.now c.args.element) c.requires.shape.is in
     let far : c.loop-shape.place + max 1 (least_width (type_of c.args.nodes.now c.args.element)) ≤ c.loop-shape.place + element_width c.args.shape = omega (arith, some.0, least) in
-    let next = elements_goes (plan (8 * (g.S.Space.view c.args.space.now).len) (type_of c.args.nodes.now c.args.element) c.args.order) (8 * (g.S.Space.view c.args.space.now).len) c.args.start c.args.extent c.loop-shape.count (row_levels c.args.shape i.so_far.0 c.args.start outer) c.loop-shape.place (max 1 (least_width (type_of c.args.nodes.now c.args.element))) _ i.so_far.2 i.inside due (e.limit ∙ i.frame.limit) e.ok e.made (element_value c.args.shape c.loop-shape.place c.in-Ok.digits) (c.loop-shape.place + element_width c.args.shape) (c.loop-shape.count + 1) refl (element_end c.args.shape c.loop-shape.place c.in-Ok.digits c.requires.shape.packed) (λ same. omega (arith, same, some.0)) far h in
-    let short = g.met.S.Space.short c.args.space.now in
+    let next = elements_goes (element_plan (type_of c.args.nodes.now c.args.element) (plan (8 * (g.S.Space.view c.args.space.now).len) (type_of c.args.nodes.now c.args.element) c.args.order)) (8 * (g.S.Space.view c.args.space.now).len) c.args.start c.args.extent c.loop-shape.count (row_levels c.args.shape i.so_far.0 c.args.start outer) c.loop-shape.place (max 1 (least_width (type_of c.args.nodes.now c.args.element))) _ i.so_far.2 i.inside due (e.limit ∙ i.frame.limit) e.ok e.made (element_value c.args.shape c.loop-shape.place c.in-Ok.digits) (c.loop-shape.place + element_width c.args.shape) (c.loop-shape.count + 1) refl (element_end c.args.shape c.loop-shape.place c.in-Ok.digits c.requires.shape.packed) (λ same. omega (arith, same, some.0)) far h in
     let more = length_push i.so_far.0 c.in-Ok.digits in
-    let place : c.loop-shape.place + element_width c.args.shape ≡ c.args.start + element_width c.args.shape * (length i.so_far.0 + 1) = omega (arith, i.so_far.3) in
     let packed = k.ok c.args.nodes.now i.so_far.0 outer i.so_far.5 ((omega (arith, place, fits, short))) in
-    let levels = row_more c.args.shape i.so_far.0 c.in-Ok.digits c.args.start c.loop-shape.place outer i.so_far.3 in
     record {
       frame = search rules;
       after = search rules;
@@ -101,7 +107,7 @@ loop-shape-preserved g c =
       depth = search rules;
       counted = omega (arith, i.counted, some.0, width, c.from-place.ensures);
       so_far = rw (c.from-place.ensures, width)
-          (i.so_far.0 ++ c.in-Ok.digits ∷ [], next.0, next.1, rw more place, rw more (ap (λ x. x + 1) i.so_far.4), packed, rw levels (follow_on i.so_far.6 next.2));
+          (i.so_far.0 ++ c.in-Ok.digits ∷ [], next.0, next.1, rw more place, rw more (ap (λ x. x + 1) i.so_far.4), packed, rw levels (follow_on (in_later i.frame.room k.room i.so_far.6) next.2));
     }
 
 pub returns-then-ends-clause-is : goal.returns-then-ends-clause-is

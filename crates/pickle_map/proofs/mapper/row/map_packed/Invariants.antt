@@ -5,7 +5,7 @@ use Rattle.pickle_map.specs.Calls.{as_elements}
 use Rattle.pickle_map.specs.Framed.{Frame, Runs}
 use Rattle.pickle_map.specs.Follows.{Partly}
 use Rattle.pickle_meaning.specs.Values.{outer_of}
-use Rattle.mapping_plans.specs.Mapping.{plan, elements_plan}
+use Rattle.mapping_plans.specs.Mapping.{plan, element_plan, elements_plan}
 use Rattle.pickle_map.specs.Row.{row_levels}
 use Rattle.value_store.specs.Slots.{levels, element_width, IsPacking, level_count}
 use Rattle.pickle_map.proofs.mapper.row.map_packed.Given as goal
@@ -22,7 +22,7 @@ invariant-loop-shape g l = record {
   counted : l.count + l.start ≤ l.place;
   so_far : (numbers : List ℕ) × (n : ℕ) × (8 * (g.S.Space.view l.initial.space).len < l.place + n * max 1 (least_width (type_of l.nodes l.element))) ×
       (l.place ≡ l.start + element_width l.shape * length numbers) × (l.count ≡ length numbers) × IsPacking l.nodes l.store l.shape numbers l.start (outer_of (levels l.nodes l.initial.store)) ×
-      Runs (g.S.Space.view l.initial.space) l.initial.meter l.meter l.initial.store
+      Runs (g.S.Space.view l.initial.space) l.initial.meter l.meter l.initial.store l.store
       (as_elements l.element l.extent l.order l.start l.nodes (8 * (g.S.Space.view l.initial.space).len) (levels l.nodes l.initial.store))
-      (Partly (elements_plan (plan (8 * (g.S.Space.view l.initial.space).len) (type_of l.nodes l.element) l.order) (8 * (g.S.Space.view l.initial.space).len) l.start l.extent n l.count (row_levels l.shape numbers l.start (outer_of (levels l.nodes l.initial.store))) l.place));
+      (Partly (elements_plan (element_plan (type_of l.nodes l.element) (plan (8 * (g.S.Space.view l.initial.space).len) (type_of l.nodes l.element) l.order)) (8 * (g.S.Space.view l.initial.space).len) l.start l.extent n l.count (row_levels l.shape numbers l.start (outer_of (levels l.nodes l.initial.store))) l.place));
 }

@@ -1,4 +1,8 @@
-use Rattle.std.proofs.Common.{sym, ◌∙◌}
+use Rattle.std.proofs.Common.{refl, sym, ap, ◌∙◌}
+use Rattle.std.proofs.lemmas.Bool.{false≢true}
+use Rattle.pickle_types.specs.Table.{type_of}
+use Rattle.mapping_plans.specs.Mapping.{makes_row}
+use Rattle.pickle_map.proofs.Elements.{apart_shape}
 use Rattle.pickle_map.proofs.Shapes.{opened_as, below_as}
 use Rattle.pickle_map.proofs.mapper.row.packed_as.Goals as goal
 
@@ -19,3 +23,11 @@ returns-in-Offset c =
       is = opened_as c.args.nodes.now c.requires.table c.args.element c.requires.element c.index-nodes-element.result _ c.in-Offset.is;
       packs = sym c.packs.ensures ∙ c.if-not-packs.false;
     }
+
+pub returns-then-not-packs : goal.returns-then-not-packs
+returns-then-not-packs c = λ packing. absurd (false≢true (sym c.if-not-packs.true ∙ c.packs.ensures ∙ packing))
+
+pub returns-in_default : goal.returns-in_default
+returns-in_default c = λ packing.
+    let opened = opened_as c.args.nodes.now c.requires.table c.args.element c.requires.element c.index-nodes-element.result _ refl in
+    ap makes_row opened ∙ apart_shape (type_of c.args.nodes.now) _ c.in_default.not-Integer c.in_default.not-Offset

@@ -5,7 +5,8 @@ use Rattle.pickle_meaning.specs.Values.{outer_of, pushed}
 use Rattle.value_store.specs.Slots.{levels}
 use Rattle.pickle_map.proofs.Keeping.{regrown_stays}
 use Rattle.pickle_map.proofs.Mapping.{array_no_room, array_made}
-use Rattle.pickle_map.proofs.Row.{row_closed, packs_no_more}
+use Rattle.pickle_map.proofs.Row.{row_closed}
+use Rattle.pickle_map.proofs.Worlds.{room_then, in_later, holds_these, lacks_these}
 use Rattle.pickle_map.proofs.Walks.{follow_stop}
 use Rattle.pickle_map.proofs.mapper.row.row_body.Goals as goal
 
@@ -18,7 +19,10 @@ pub returns-in_err-close_row-clause-is : goal.returns-in_err-close_row-clause-is
 returns-in_err-close_row-clause-is g c =
     let p = err_from_is_err_and c.from_residual-in_err-close_row.result c.from_residual-in_err-close_row.ensures.1 in
     let m = c.in_ok-end.ensures.is in
-    rw (p.1, p.2) (array_no_room _ _ _ _ m.runs {room = c.args.store.now.room} refl (packs_no_more c.args.store.now.room _ _ c.requires.shape.packs))
+    let outer = outer_of (levels c.args.nodes.now c.args.store.now) in
+    let closed = row_closed c.args.shape m.numbers c.args.start c.in_ok-end.end outer m.ends in
+    let full = rw closed at (c.in_err-close_row.ensures.full c.args.nodes.now m.numbers outer m.packing) in
+    rw (p.1, p.2) (array_no_room _ _ _ _ (in_later c.in_ok-end.ensures.frame.room c.in_err-close_row.ensures.room m.runs) (lacks_these c.in_ok-end.ensures.frame.room full))
 
 pub returns-in_err-close_row-clause-level : goal.returns-in_err-close_row-clause-level
 returns-in_err-close_row-clause-level g c =
@@ -31,4 +35,6 @@ returns-clause-is g c =
     let m = c.in_ok-end.ensures.is in
     let outer = outer_of (levels c.args.nodes.now c.args.store.now) in
     let kept = c.in_ok-close_row.ensures.ok c.args.nodes.now m.numbers outer m.packing ∙ ap (λ v. pushed outer (Some v)) (row_closed c.args.shape m.numbers c.args.start c.in_ok-end.end outer m.ends) in
-    record { value = _; kept = kept; ends = refl; follows = array_made _ _ _ _ m.runs n.steps n.made }
+    let room = c.in_ok-close_row.ensures.room in
+    let has = holds_these c.args.nodes.now (room_then c.in_ok-end.ensures.frame.room room) c.in_ok-close_row.ensures.within kept in
+    record { value = _; kept = kept; ends = refl; follows = array_made _ _ _ _ (in_later c.in_ok-end.ensures.frame.room room m.runs) has n.steps n.made }

@@ -2,6 +2,7 @@ use Rattle.std.proofs.Common.{refl, ap, ◌∙◌, arith}
 use Rattle.std.proofs.lemmas.Result.{err_from_is_err_and}
 use Rattle.pickle_meaning.specs.Values.{outer_of}
 use Rattle.pickle_map.proofs.Walks.{follow_tick, follow_no_tick}
+use Rattle.pickle_map.proofs.Worlds.{in_store, in_call}
 use Rattle.pickle_map.proofs.mapper.text.map_text.Goals as goal
 
 pub returns-in_err-tick-clause-is : goal.returns-in_err-tick-clause-is
@@ -23,15 +24,15 @@ pub returns-in-Ok-clause-is : goal.returns-in-Ok-clause-is
 returns-in-Ok-clause-is g c =
     let e = c.in_ok-tick.ensures in
     let opened = c.open_text.ensures.levels c.args.nodes.now in
-    let h = rw (opened, c.open_text.ensures.room.room) at c.in-Ok.ensures.is in
-    record { value = h.value; kept = h.kept; ends = h.ends; follows = follow_tick e.limit e.ok e.made h.follows }
+    let h = rw opened at c.in-Ok.ensures.is in
+    record { value = h.value; kept = h.kept; ends = h.ends; follows = follow_tick e.limit e.ok e.made (in_call c.open_text.ensures.room c.in-Ok.ensures.frame.room h.follows) }
 
 pub returns-in-Err-clause-is : goal.returns-in-Err-clause-is
 returns-in-Err-clause-is g c =
     let e = c.in_ok-tick.ensures in
     let opened = c.open_text.ensures.levels c.args.nodes.now in
-    let h = rw (opened, c.open_text.ensures.room.room) at c.in-Err.ensures.is in
-    follow_tick e.limit e.ok e.made h
+    let h = rw opened at c.in-Err.ensures.is in
+    follow_tick e.limit e.ok e.made (in_store c.open_text.ensures.room c.in-Err.ensures.frame.room c.drop_level.ensures.room h)
 
 pub returns-in-Err-clause-same : goal.returns-in-Err-clause-same
 returns-in-Err-clause-same g c =

@@ -14,7 +14,7 @@ invariant-loop-byte g l = record {
   inside : l.place ≤ 8 * (g.S.Space.view l.initial.space).len;
   depth : level_count l.store ≡ level_count l.initial.store;
   so_far : (bytes : List ℕ) × (n : ℕ) × (8 * (g.S.Space.view l.initial.space).len < l.place + 8 * n) × (l.place ≡ l.start + 8 * length bytes) × IsWriting l.nodes l.store bytes l.start (outer_of (levels l.nodes l.initial.store)) ×
-      Runs (g.S.Space.view l.initial.space) l.initial.meter l.meter l.initial.store
+      Runs (g.S.Space.view l.initial.space) l.initial.meter l.meter l.initial.store l.store
       (as_text_level l.start l.nodes (8 * (g.S.Space.view l.initial.space).len) (levels l.nodes l.initial.store))
       (Partly (text_plan (8 * (g.S.Space.view l.initial.space).len) n bytes (outer_of (levels l.nodes l.initial.store)) l.start l.place));
 }

@@ -6,15 +6,20 @@ use Rattle.pickle_types.specs.Types.{depth}
 use Rattle.pickle_types.specs.Bounds.{least_width}
 use Rattle.pickle_types.specs.Table.{type_of}
 use Rattle.pickle_map.specs.Mappable.{IsFieldOf, IsPartOf}
+use Rattle.pickle_map.specs.Row.{BeginsApart}
 use Rattle.mapping_plans.specs.Mapping.{plan}
 use Rattle.pickle_meaning.specs.Means.{number_type}
 use Rattle.value_store.specs.Slots.{levels, level_count}
 use Rattle.pickle_meaning.specs.Values.{pushed, outer_of}
 use Rattle.pickle_map.proofs.Clauses.{checks_ok, checks_stop, settles_ok, settles_stop}
-use Rattle.pickle_map.proofs.Followed.{followed_wide}
+use Rattle.pickle_map.proofs.Followed.{followed_fits, followed_wide}
 use Rattle.value_store.proofs.Held.{regrown-levels}
 use Rattle.pickle_map.proofs.Keeping.{regrown_stays}
-use Rattle.pickle_map.proofs.Mapping.{in_world, few_enough, inside_no_tick, inside_ticks, plan_past, number_is, text_is, struct_is, array_is, union_is, struct_no_room, struct_made, array_no_room, array_made, union_no_room, union_made, fields_end, fields_no_tick, condition_stops, absent_no_room, absent_goes, start_stops, field_stops, field_goes, elements_end, elements_beyond, elements_no_tick, elements_no_bits, elements_goes, elements_over, elements_stop, alternatives_end, alternatives_no_tick, alternatives_fit, alternatives_miss, alternatives_stop}
+use Rattle.mapping_plans.specs.Mapping.{element_plan, makes_row}
+use Rattle.pickle_map.proofs.Widths.{any_names}
+use Rattle.pickle_map.proofs.Elements.{element_done, element_stopped, pushed_apart}
+use Rattle.pickle_map.proofs.Worlds.{room_then, in_store, in_call, in_world, in_later, holds_these, lacks_these}
+use Rattle.pickle_map.proofs.Mapping.{few_enough, inside_no_tick, inside_ticks, plan_past, number_is, text_is, struct_is, array_is, union_is, struct_no_room, struct_made, array_no_room, array_made, union_no_room, union_made, fields_end, fields_no_tick, condition_stops, absent_no_room, absent_goes, start_stops, field_stops, field_goes, elements_end, elements_beyond, elements_no_tick, elements_no_bits, elements_goes, elements_over, elements_stop, alternatives_end, alternatives_no_tick, alternatives_fit, alternatives_miss, alternatives_stop}
 use Rattle.value_store.proofs.PackedRows.{row-opened}
 use Rattle.pickle_map.proofs.Shapes.{opened_as, below_as, sound_as, names_as, fields_within, parts_within, fields_bounded, parts_bounded, field_bounded, part_bounded, of_one, name_of_one, struct_opened, union_opened, fields_named}
 use Rattle.pickle_map.proofs.Walks.{follow_here, follow_on, follow_at, follow_stop, follow_then_ok, outer_pushed}
@@ -153,14 +158,15 @@ pub map_struct-returns-in-Ok-clause-is : goal.map_struct-returns-in-Ok-clause-is
 map_struct-returns-in-Ok-clause-is g t c =
     let e = c.in_ok-tick.ensures in
     let opened = c.open_level.ensures.levels c.args.nodes.now in
-    let h = rw (opened, c.open_level.ensures.room.room) at c.in-Ok.ensures.is in
-    record { value = h.value; kept = h.kept; ends = h.ends; follows = rw struct_is (inside_ticks _ _ _ c.requires.inside e.limit e.ok e.made h.follows) }
+    let h = rw opened at c.in-Ok.ensures.is in
+    let follows = in_call c.open_level.ensures.room c.in-Ok.ensures.frame.room h.follows in
+    record { value = h.value; kept = h.kept; ends = h.ends; follows = rw struct_is (inside_ticks _ _ _ c.requires.inside e.limit e.ok e.made follows) }
 
 pub map_struct-returns-in-Err-clause-is : goal.map_struct-returns-in-Err-clause-is
 map_struct-returns-in-Err-clause-is g t c =
     let e = c.in_ok-tick.ensures in
     let opened = c.open_level.ensures.levels c.args.nodes.now in
-    let h = rw (opened, c.open_level.ensures.room.room) at c.in-Err.ensures.is in
+    let h = in_store c.open_level.ensures.room c.in-Err.ensures.frame.room c.drop_level.ensures.room (rw opened at c.in-Err.ensures.is) in
     rw struct_is (inside_ticks _ _ _ c.requires.inside e.limit e.ok e.made h)
 
 pub map_union-returns-in_err-tick-clause-is : goal.map_union-returns-in_err-tick-clause-is
@@ -181,14 +187,15 @@ pub map_union-returns-in-Ok-clause-is : goal.map_union-returns-in-Ok-clause-is
 map_union-returns-in-Ok-clause-is g t c =
     let e = c.in_ok-tick.ensures in
     let opened = c.open_level.ensures.levels c.args.nodes.now in
-    let h = rw (opened, c.open_level.ensures.room.room) at c.in-Ok.ensures.is in
-    record { value = h.value; kept = h.kept; ends = h.ends; follows = rw union_is (inside_ticks _ _ _ c.requires.inside e.limit e.ok e.made h.follows) }
+    let h = rw opened at c.in-Ok.ensures.is in
+    let follows = in_call c.open_level.ensures.room c.in-Ok.ensures.frame.room h.follows in
+    record { value = h.value; kept = h.kept; ends = h.ends; follows = rw union_is (inside_ticks _ _ _ c.requires.inside e.limit e.ok e.made follows) }
 
 pub map_union-returns-in-Err-clause-is : goal.map_union-returns-in-Err-clause-is
 map_union-returns-in-Err-clause-is g t c =
     let e = c.in_ok-tick.ensures in
     let opened = c.open_level.ensures.levels c.args.nodes.now in
-    let h = rw (opened, c.open_level.ensures.room.room) at c.in-Err.ensures.is in
+    let h = in_store c.open_level.ensures.room c.in-Err.ensures.frame.room c.drop_level.ensures.room (rw opened at c.in-Err.ensures.is) in
     rw union_is (inside_ticks _ _ _ c.requires.inside e.limit e.ok e.made h)
 
 pub map_array-returns-in_err-tick-clause-is : goal.map_array-returns-in_err-tick-clause-is
@@ -224,13 +231,15 @@ map_array-returns-in-Ok-clause-is g t c =
     let opened = c.open_level.ensures.levels c.args.nodes.now in
     elim c.match-packed_as.branch [
       | map_array-in-Some w ↦
-          let h = rw (sym w.mapped-is ∙ c.in-Ok.is, opened, c.open_level.ensures.room.room) at w.row_body-mapped.ensures.is in
+          let h = rw (sym w.mapped-is ∙ c.in-Ok.is, opened) at w.row_body-mapped.ensures.is in
+          let follows = in_call c.open_level.ensures.room w.row_body-mapped.ensures.frame.room h.follows in
           rw (w.store-is, w.meter-is)
-          (record { value = h.value; kept = h.kept; ends = h.ends; follows = rw array_is (inside_ticks _ _ _ c.requires.inside e.limit e.ok e.made (follow_then_ok _ _ (settles_ok _ _ _ refl (rw c.from.ensures at c.in_ok-extent.ensures.is) c.in_ok-extent.ensures.made) (follow_at c.in_ok-extent.ensures.limit refl refl h.follows))) })
+          (record { value = h.value; kept = h.kept; ends = h.ends; follows = rw array_is (inside_ticks _ _ _ c.requires.inside e.limit e.ok e.made (follow_then_ok _ _ (settles_ok _ _ _ refl (rw c.from.ensures at c.in_ok-extent.ensures.is) c.in_ok-extent.ensures.made) (follow_at c.in_ok-extent.ensures.limit refl refl follows))) })
       | map_array-in-None w ↦
-          let h = rw (sym w.mapped-is ∙ c.in-Ok.is, opened, c.open_level.ensures.room.room) at w.array_body-mapped.ensures.is in
+          let h = rw (sym w.mapped-is ∙ c.in-Ok.is, opened) at w.array_body-mapped.ensures.is in
+          let follows = in_call c.open_level.ensures.room w.array_body-mapped.ensures.frame.room h.follows in
           rw (w.store-is, w.meter-is)
-          (record { value = h.value; kept = h.kept; ends = h.ends; follows = rw array_is (inside_ticks _ _ _ c.requires.inside e.limit e.ok e.made (follow_then_ok _ _ (settles_ok _ _ _ refl (rw c.from.ensures at c.in_ok-extent.ensures.is) c.in_ok-extent.ensures.made) (follow_at c.in_ok-extent.ensures.limit refl refl h.follows))) })
+          (record { value = h.value; kept = h.kept; ends = h.ends; follows = rw array_is (inside_ticks _ _ _ c.requires.inside e.limit e.ok e.made (follow_then_ok _ _ (settles_ok _ _ _ refl (rw c.from.ensures at c.in_ok-extent.ensures.is) c.in_ok-extent.ensures.made) (follow_at c.in_ok-extent.ensures.limit refl refl follows))) })
     ]
 
 pub map_array-returns-in-Err-clause-is : goal.map_array-returns-in-Err-clause-is
@@ -239,10 +248,14 @@ map_array-returns-in-Err-clause-is g t c =
     let opened = c.open_level.ensures.levels c.args.nodes.now in
     elim c.match-packed_as.branch [
       | map_array-in-Some w ↦
-          let h = rw (sym w.mapped-is ∙ c.in-Err.is, opened, c.open_level.ensures.room.room) at w.row_body-mapped.ensures.is in
+          let h = rw (sym w.mapped-is ∙ c.in-Err.is, opened) at w.row_body-mapped.ensures.is in
+          let dropped = rw w.store-is at c.drop_level.ensures.room in
+          let h = in_store c.open_level.ensures.room w.row_body-mapped.ensures.frame.room dropped h in
           rw (w.meter-is, array_is) (inside_ticks _ _ _ c.requires.inside e.limit e.ok e.made (follow_then_ok _ _ (settles_ok _ _ _ refl (rw c.from.ensures at c.in_ok-extent.ensures.is) c.in_ok-extent.ensures.made) (follow_at c.in_ok-extent.ensures.limit refl refl h)))
       | map_array-in-None w ↦
-          let h = rw (sym w.mapped-is ∙ c.in-Err.is, opened, c.open_level.ensures.room.room) at w.array_body-mapped.ensures.is in
+          let h = rw (sym w.mapped-is ∙ c.in-Err.is, opened) at w.array_body-mapped.ensures.is in
+          let dropped = rw w.store-is at c.drop_level.ensures.room in
+          let h = in_store c.open_level.ensures.room w.array_body-mapped.ensures.frame.room dropped h in
           rw (w.meter-is, array_is) (inside_ticks _ _ _ c.requires.inside e.limit e.ok e.made (follow_then_ok _ _ (settles_ok _ _ _ refl (rw c.from.ensures at c.in_ok-extent.ensures.is) c.in_ok-extent.ensures.made) (follow_at c.in_ok-extent.ensures.limit refl refl h)))
     ]
 
@@ -266,6 +279,9 @@ map_array-row_body-mapped-requires-clause-open g t c = omega (arith, c.open_leve
 pub map_array-array_body-mapped-requires : goal.map_array-array_body-mapped-requires
 map_array-array_body-mapped-requires g t c =
     let depth = c.open_level.ensures.depth in
+    let opened = c.open_level.ensures.levels c.args.nodes.now in
+    let fresh = opened ∙ ap (λ o. [] ∷ o) (sym (ap outer_of opened)) in
+    let apart = c.in-None.ensures in
     search rules
 
 pub map_struct-struct_body-requires : goal.map_struct-struct_body-requires
@@ -292,7 +308,7 @@ struct_body-returns-in_err-close_struct-clause-is g t c =
     let p = err_from_is_err_and c.from_residual-in_err-close_struct.result c.from_residual-in_err-close_struct.ensures.1 in
     let named = c.requires.names ∙ sym (fields_named (type_of c.args.nodes.now) c.args.fields.now) in
     let full = rw named at (c.in_err-close_struct.ensures.full c.args.nodes.now) in
-    rw (p.1, p.2) (struct_no_room _ _ _ _ c.in_ok-end.ensures.is _ _ c.in_ok-end.ensures.frame.room.room full)
+    rw (p.1, p.2) (struct_no_room _ _ _ _ (in_later c.in_ok-end.ensures.frame.room c.in_err-close_struct.ensures.room c.in_ok-end.ensures.is) _ _ (lacks_these c.in_ok-end.ensures.frame.room full))
 
 pub struct_body-returns-in_err-close_struct-clause-level : goal.struct_body-returns-in_err-close_struct-clause-level
 struct_body-returns-in_err-close_struct-clause-level g t c =
@@ -303,8 +319,19 @@ pub struct_body-returns-clause-is : goal.struct_body-returns-clause-is
 struct_body-returns-clause-is g t c =
     let n = c.note_made.ensures in
     let named = c.requires.names ∙ sym (fields_named (type_of c.args.nodes.now) c.args.fields.now) in
-    let h = rw (named, c.in_ok-end.ensures.outer) at (c.in_ok-close_struct.ensures.ok c.args.nodes.now) in
-    record { value = _; kept = h; ends = refl; follows = struct_made _ _ _ _ c.in_ok-end.ensures.is _ _ n.steps n.made }
+    let closed = rw named at (c.in_ok-close_struct.ensures.ok c.args.nodes.now) in
+    let h = rw c.in_ok-end.ensures.outer at closed in
+    let room = c.in_ok-close_struct.ensures.room in
+    let has = holds_these c.args.nodes.now (room_then c.in_ok-end.ensures.frame.room room) c.in_ok-close_struct.ensures.within closed in
+    record { value = _; kept = h; ends = refl; follows = struct_made _ _ _ _ (in_later c.in_ok-end.ensures.frame.room room c.in_ok-end.ensures.is) _ _ has n.steps n.made }
+
+pub array_body-map_elements-requires : goal.array_body-map_elements-requires
+array_body-map_elements-requires g t c =
+    let begins : BeginsApart c.args.nodes.now c.args.store.now = λ packing. rw c.requires.fresh refl in
+    search rules
+
+pub array_body-close_array-requires-clause-members : goal.array_body-close_array-requires-clause-members
+array_body-close_array-requires-clause-members g t c = λ packing names. any_names names c.args.nodes.now c.map_elements.new.store ∙ c.in_ok-end.ensures.begins packing
 
 pub array_body-returns-in_err-end-clause-is : goal.array_body-returns-in_err-end-clause-is
 array_body-returns-in_err-end-clause-is g t c =
@@ -314,7 +341,7 @@ array_body-returns-in_err-end-clause-is g t c =
 pub array_body-returns-in_err-close_array-clause-is : goal.array_body-returns-in_err-close_array-clause-is
 array_body-returns-in_err-close_array-clause-is g t c =
     let p = err_from_is_err_and c.from_residual-in_err-close_array.result c.from_residual-in_err-close_array.ensures.1 in
-    rw (p.1, p.2) (array_no_room _ _ _ _ c.in_ok-end.ensures.is c.in_ok-end.ensures.frame.room.room (c.in_err-close_array.ensures.full c.args.nodes.now))
+    rw (p.1, p.2) (array_no_room _ _ _ _ (in_later c.in_ok-end.ensures.frame.room c.in_err-close_array.ensures.room c.in_ok-end.ensures.is) (lacks_these c.in_ok-end.ensures.frame.room (c.in_err-close_array.ensures.full c.args.nodes.now)))
 
 pub array_body-returns-in_err-close_array-clause-level : goal.array_body-returns-in_err-close_array-clause-level
 array_body-returns-in_err-close_array-clause-level g t c =
@@ -324,8 +351,11 @@ array_body-returns-in_err-close_array-clause-level g t c =
 pub array_body-returns-clause-is : goal.array_body-returns-clause-is
 array_body-returns-clause-is g t c =
     let n = c.note_made.ensures in
-    let h = rw c.in_ok-end.ensures.outer at (c.in_ok-close_array.ensures.ok c.args.nodes.now) in
-    record { value = _; kept = h; ends = refl; follows = array_made _ _ _ _ c.in_ok-end.ensures.is n.steps n.made }
+    let closed = c.in_ok-close_array.ensures.ok c.args.nodes.now in
+    let h = rw c.in_ok-end.ensures.outer at closed in
+    let room = c.in_ok-close_array.ensures.room in
+    let has = holds_these c.args.nodes.now (room_then c.in_ok-end.ensures.frame.room room) c.in_ok-close_array.ensures.within closed in
+    record { value = _; kept = h; ends = refl; follows = array_made _ _ _ _ (in_later c.in_ok-end.ensures.frame.room room c.in_ok-end.ensures.is) has n.steps n.made }
 
 pub union_body-returns-in_err-index-clause-is : goal.union_body-returns-in_err-index-clause-is
 union_body-returns-in_err-index-clause-is g t c =
@@ -339,7 +369,7 @@ union_body-returns-in_err-close_union-clause-is g t c =
     let fresh = c.requires.fresh in
     let inside = h.keeps ∙ ap (λ ls. pushed ls (Some h.value)) fresh in
     let full = rw (inside, c.requires.names, ← h.ends) at (c.in_err-close_union.ensures.full c.args.nodes.now) in
-    rw (p.1, p.2) (union_no_room _ _ _ _ _ h.follows c.in_ok-index.ensures.frame.room.room full)
+    rw (p.1, p.2) (union_no_room _ _ _ _ _ (in_later c.in_ok-index.ensures.frame.room c.in_err-close_union.ensures.room h.follows) (lacks_these c.in_ok-index.ensures.frame.room full))
 
 pub union_body-returns-in_err-close_union-clause-level : goal.union_body-returns-in_err-close_union-clause-level
 union_body-returns-in_err-close_union-clause-level g t c =
@@ -353,7 +383,9 @@ union_body-returns-clause-is g t c =
     let inside = h.keeps ∙ ap (λ ls. pushed ls (Some h.value)) fresh in
     let n = c.note_made.ensures in
     let closed = rw (inside, c.requires.names, ← h.ends) at (c.in_ok-close_union.ensures.ok c.args.nodes.now) in
-    record { value = _; kept = closed; ends = h.ends; follows = union_made _ _ _ _ _ h.follows n.steps n.made }
+    let room = c.in_ok-close_union.ensures.room in
+    let has = holds_these c.args.nodes.now (room_then c.in_ok-index.ensures.frame.room room) c.in_ok-close_union.ensures.within closed in
+    record { value = _; kept = closed; ends = h.ends; follows = union_made _ _ _ _ _ (in_later c.in_ok-index.ensures.frame.room room h.follows) has n.steps n.made }
 
 pub map_fields-loop-field-init : goal.map_fields-loop-field-init
 map_fields-loop-field-init g t c = record {
@@ -416,8 +448,8 @@ map_fields-returns-in_err-behind-clause-is g t c =
     let start = c.in_ok-place.ensures in
     let start_is = rw (c.from-origin.ensures, c.from.ensures) at start.is in
     let h = rw (i.frame.len, c.ordered.ensures) at c.in_err-behind.ensures.is in
-    let h = in_world (g.S.Space.view c.args.space.now) (g.S.Space.view c.loop-field.space) c.args.store.now c.loop-field.store i.frame.bytes i.frame.room.room h in
-    rw (p.1, p.2) (follow_on i.so_far (field_stops _ _ _ _ _ _ _ _ _ _ _ next (e.limit ∙ i.frame.limit) e.ok e.made there.made there_is there.limit start.made _ start_is start.limit _ h))
+    let h = in_world (g.S.Space.view c.args.space.now) (g.S.Space.view c.loop-field.space) i.frame.bytes i.frame.room c.in_err-behind.ensures.frame.room h in
+    rw (p.1, p.2) (follow_on (in_later i.frame.room c.in_err-behind.ensures.frame.room i.so_far) (field_stops _ _ _ _ _ _ _ _ _ _ _ next (e.limit ∙ i.frame.limit) e.ok e.made there.made there_is there.limit start.made _ start_is start.limit _ h))
 
 pub map_fields-returns-in_err-push_absent-clause-is : goal.map_fields-returns-in_err-push_absent-clause-is
 map_fields-returns-in_err-push_absent-clause-is g t c =
@@ -428,7 +460,7 @@ map_fields-returns-in_err-push_absent-clause-is g t c =
     let next = rw (← c.field-item.is) at next in
     let there = c.in_ok-is_there.ensures in
     let there_is = rw (c.if-branch.false, c.from-origin.ensures) at there.is in
-    rw (p.1, p.2) (follow_on i.so_far (absent_no_room _ _ _ _ _ _ _ _ _ _ _ next (e.limit ∙ i.frame.limit) e.ok e.made there.made there_is i.frame.room.room (c.in_err-push_absent.ensures.full c.args.nodes.now)))
+    rw (p.1, p.2) (follow_on (in_later i.frame.room c.in_err-push_absent.ensures.room i.so_far) (absent_no_room _ _ _ _ _ _ _ _ _ _ _ next (e.limit ∙ i.frame.limit) e.ok e.made there.made there_is (lacks_these i.frame.room (c.in_err-push_absent.ensures.full c.args.nodes.now))))
 
 pub map_fields-returns-in_err-push_absent-clause-outer : goal.map_fields-returns-in_err-push_absent-clause-outer
 map_fields-returns-in_err-push_absent-clause-outer g t c =
@@ -448,7 +480,7 @@ map_fields-loop-field-preserved g t c =
           let start_is = rw (c.from-origin.ensures, w.from.ensures) at start.is in
           let m = w.in_ok-behind.ensures.is in
           let h = rw (i.frame.len, w.ordered.ensures) at m.follows in
-          let h = in_world (g.S.Space.view c.args.space.now) (g.S.Space.view c.loop-field.space) c.args.store.now c.loop-field.store i.frame.bytes i.frame.room.room h in
+          let h = in_world (g.S.Space.view c.args.space.now) (g.S.Space.view c.loop-field.space) i.frame.bytes i.frame.room w.in_ok-behind.ensures.frame.room h in
           let outer = ap outer_of m.kept ∙ outer_pushed (levels c.args.nodes.now c.loop-field.store) (Some m.value) ∙ i.outer in
           rw (w.space-is, w.meter-is, w.store-is, w.behind-is, w.top-is) (record {
             frame = search rules;
@@ -456,18 +488,20 @@ map_fields-loop-field-preserved g t c =
             inside = search rules;
             outer = outer;
             depth = search rules;
-            so_far = rw m.kept (follow_on i.so_far (field_goes _ _ _ _ _ _ _ _ _ _ _ next (e.limit ∙ i.frame.limit) e.ok e.made there.made there_is there.limit start.made _ start_is start.limit m.value _ _ m.ends w.max-top.ensures h));
+            so_far = rw m.kept (follow_on (in_later i.frame.room w.in_ok-behind.ensures.frame.room i.so_far) (field_goes _ _ _ _ _ _ _ _ _ _ _ next (e.limit ∙ i.frame.limit) e.ok e.made there.made there_is there.limit start.made _ start_is start.limit m.value _ _ m.ends w.max-top.ensures h));
           })
       | map_fields-else-branch+in_ok-push_absent w ↦
           let there_is = rw (w.if-branch.false, c.from-origin.ensures) at there.is in
           let keeps = (w.in_ok-push_absent.ensures.ok c.args.nodes.now) in
+          let room = w.in_ok-push_absent.ensures.room in
+          let has = holds_these c.args.nodes.now (room_then i.frame.room room) w.in_ok-push_absent.ensures.within keeps in
           rw (w.space-is, w.meter-is, w.store-is, w.behind-is, w.top-is) (record {
             frame = search rules;
             after = search rules;
             inside = search rules;
             outer = ap outer_of keeps ∙ outer_pushed (levels c.args.nodes.now c.loop-field.store) None ∙ i.outer;
             depth = search rules;
-            so_far = rw keeps (follow_on i.so_far (absent_goes _ _ _ _ _ _ _ _ _ _ _ next (e.limit ∙ i.frame.limit) e.ok e.made there.made there_is));
+            so_far = rw keeps (follow_on (in_later i.frame.room room i.so_far) (absent_goes _ _ _ _ _ _ _ _ _ _ _ next (e.limit ∙ i.frame.limit) e.ok e.made there.made there_is has));
           })
     ]
 
@@ -486,6 +520,7 @@ map_elements-loop-order-init g t c =
       outer = search rules;
       depth = search rules;
       counted = search rules;
+      begins = c.requires.begins;
       so_far = (_, omega (arith, few), follow_here);
     }
 
@@ -505,8 +540,9 @@ map_elements-returns-then-end-place-clause-is g t c =
     let due = sym c.is_due.ensures ∙ c.loop-order-test.true in
     let due = rw c.len-bits.ensures at due in
     let h = rw i.frame.len at c.in-Ok.ensures.is.follows in
-    let h = in_world (g.S.Space.view c.args.space.now) (g.S.Space.view c.loop-order.space) c.args.store.now c.loop-order.store i.frame.bytes i.frame.room.room h in
-    rw c.from.ensures (follow_on i.so_far.2 (elements_no_bits _ _ _ _ _ _ _ (max 1 (least_width (type_of c.args.nodes.now c.args.element))) _ i.so_far.1 i.inside due (e.limit ∙ i.frame.limit) e.ok e.made _ (c.in-Ok.ensures.is.ends ∙ c.if-end-place.true) h))
+    let h = in_world (g.S.Space.view c.args.space.now) (g.S.Space.view c.loop-order.space) i.frame.bytes i.frame.room c.in-Ok.ensures.frame.room h in
+    let h = element_done (makes_row (type_of c.args.nodes.now c.args.element)) c.requires.apart h in
+    rw c.from.ensures (follow_on (in_later i.frame.room c.in-Ok.ensures.frame.room i.so_far.2) (elements_no_bits _ _ _ _ _ _ _ (max 1 (least_width (type_of c.args.nodes.now c.args.element))) _ i.so_far.1 i.inside due (e.limit ∙ i.frame.limit) e.ok e.made _ (c.in-Ok.ensures.is.ends ∙ c.if-end-place.true) h))
 
 pub map_elements-loop-order-preserved : goal.map_elements-loop-order-preserved
 map_elements-loop-order-preserved g t c =
@@ -515,12 +551,14 @@ map_elements-loop-order-preserved g t c =
     let due = sym c.is_due.ensures ∙ c.loop-order-test.true in
     let due = rw c.len-bits.ensures at due in
     let h = rw i.frame.len at c.in-Ok.ensures.is.follows in
-    let h = in_world (g.S.Space.view c.args.space.now) (g.S.Space.view c.loop-order.space) c.args.store.now c.loop-order.store i.frame.bytes i.frame.room.room h in
+    let h = in_world (g.S.Space.view c.args.space.now) (g.S.Space.view c.loop-order.space) i.frame.bytes i.frame.room c.in-Ok.ensures.frame.room h in
     let m = c.in-Ok.ensures.is in
     let wide = followed_wide _ _ _ _ _ h in
     let ends = m.ends in
     let far : c.loop-order.place + max 1 (least_width (type_of c.args.nodes.now c.args.element)) ≤ c.in-Ok.end = omega (arith, wide, ends, c.in-Ok.ensures.ends.0, c.if-end-place.false) in
-    let next = elements_goes (plan (8 * (g.S.Space.view c.args.space.now).len) (type_of c.args.nodes.now c.args.element) c.args.order) (8 * (g.S.Space.view c.args.space.now).len) c.args.start c.args.extent c.loop-order.count (levels c.args.nodes.now c.loop-order.store) c.loop-order.place (max 1 (least_width (type_of c.args.nodes.now c.args.element))) _ i.so_far.1 i.inside due (e.limit ∙ i.frame.limit) e.ok e.made m.value c.in-Ok.end (c.loop-order.count + 1) refl ends c.if-end-place.false far h in
+    let fit = followed_fits _ _ _ _ _ h in
+    let h = element_done (makes_row (type_of c.args.nodes.now c.args.element)) c.requires.apart h in
+    let next = elements_goes (element_plan (type_of c.args.nodes.now c.args.element) (plan (8 * (g.S.Space.view c.args.space.now).len) (type_of c.args.nodes.now c.args.element) c.args.order)) (8 * (g.S.Space.view c.args.space.now).len) c.args.start c.args.extent c.loop-order.count (levels c.args.nodes.now c.loop-order.store) c.loop-order.place (max 1 (least_width (type_of c.args.nodes.now c.args.element))) _ i.so_far.1 i.inside due (e.limit ∙ i.frame.limit) e.ok e.made m.value c.in-Ok.end (c.loop-order.count + 1) refl ends c.if-end-place.false far h in
     record {
       frame = search rules;
       after = search rules;
@@ -528,7 +566,11 @@ map_elements-loop-order-preserved g t c =
       outer = ap outer_of m.kept ∙ outer_pushed (levels c.args.nodes.now c.loop-order.store) (Some m.value) ∙ i.outer;
       depth = search rules;
       counted = omega (arith, i.counted, far);
-      so_far = (next.0, next.1, rw m.kept (follow_on i.so_far.2 next.2));
+      begins = λ packing.
+          let there = rw c.in-Ok.ensures.frame.room.room at packing in
+          let here = rw i.frame.room.room at there in
+          rw m.kept (pushed_apart _ _ _ (levels c.args.nodes.now c.loop-order.store) _ m.value (c.requires.apart here) fit (i.begins there));
+      so_far = (next.0, next.1, rw m.kept (follow_on (in_later i.frame.room c.in-Ok.ensures.frame.room i.so_far.2) next.2));
     }
 
 pub map_elements-returns-then-ends-clause-is : goal.map_elements-returns-then-ends-clause-is
@@ -538,9 +580,15 @@ map_elements-returns-then-ends-clause-is g t c =
     let due = sym c.is_due.ensures ∙ c.loop-order-test.true in
     let due = rw c.len-bits.ensures at due in
     let h = rw i.frame.len at c.in-Err.ensures.is in
-    let h = in_world (g.S.Space.view c.args.space.now) (g.S.Space.view c.loop-order.space) c.args.store.now c.loop-order.store i.frame.bytes i.frame.room.room h in
+    let h = in_world (g.S.Space.view c.args.space.now) (g.S.Space.view c.loop-order.space) i.frame.bytes i.frame.room c.in-Err.ensures.frame.room h in
     let ends = sym c.ends.ensures ∙ c.if-ends.true in
-    rw c.in-Err.ensures.same (follow_on i.so_far.2 (elements_over _ _ _ _ _ _ _ (max 1 (least_width (type_of c.args.nodes.now c.args.element))) _ i.so_far.1 i.inside due (e.limit ∙ i.frame.limit) e.ok e.made _ ends h))
+    let h = element_stopped (makes_row (type_of c.args.nodes.now c.args.element)) c.requires.apart _ h in
+    rw c.in-Err.ensures.same (follow_on (in_later i.frame.room c.in-Err.ensures.frame.room i.so_far.2) (elements_over _ _ _ _ _ _ _ (max 1 (least_width (type_of c.args.nodes.now c.args.element))) _ i.so_far.1 i.inside due (e.limit ∙ i.frame.limit) e.ok e.made _ ends h))
+
+pub map_elements-returns-then-ends-clause-begins : goal.map_elements-returns-then-ends-clause-begins
+map_elements-returns-then-ends-clause-begins g t c = λ packing.
+    let there = rw c.in-Err.ensures.frame.room.room at packing in
+    rw c.in-Err.ensures.same (c.loop-order.invariant.begins there)
 
 pub map_elements-returns-in-Err-clause-is : goal.map_elements-returns-in-Err-clause-is
 map_elements-returns-in-Err-clause-is g t c =
@@ -549,9 +597,10 @@ map_elements-returns-in-Err-clause-is g t c =
     let due = sym c.is_due.ensures ∙ c.loop-order-test.true in
     let due = rw c.len-bits.ensures at due in
     let h = rw i.frame.len at c.in-Err.ensures.is in
-    let h = in_world (g.S.Space.view c.args.space.now) (g.S.Space.view c.loop-order.space) c.args.store.now c.loop-order.store i.frame.bytes i.frame.room.room h in
+    let h = in_world (g.S.Space.view c.args.space.now) (g.S.Space.view c.loop-order.space) i.frame.bytes i.frame.room c.in-Err.ensures.frame.room h in
     let ends = sym c.ends.ensures ∙ c.if-ends.false in
-    follow_on i.so_far.2 (elements_stop _ _ _ _ _ _ _ (max 1 (least_width (type_of c.args.nodes.now c.args.element))) _ i.so_far.1 i.inside due (e.limit ∙ i.frame.limit) e.ok e.made _ ends h)
+    let h = element_stopped (makes_row (type_of c.args.nodes.now c.args.element)) c.requires.apart _ h in
+    follow_on (in_later i.frame.room c.in-Err.ensures.frame.room i.so_far.2) (elements_stop _ _ _ _ _ _ _ (max 1 (least_width (type_of c.args.nodes.now c.args.element))) _ i.so_far.1 i.inside due (e.limit ∙ i.frame.limit) e.ok e.made _ ends h)
 
 pub map_elements-returns-then-is_met-clause-is : goal.map_elements-returns-then-is_met-clause-is
 map_elements-returns-then-is_met-clause-is g t c =
@@ -599,10 +648,10 @@ map_alternatives-returns-in-Ok-clause-is g t c =
     let next = rw (← c.index-alternatives-index.is) at next in
     let m = c.in-Ok.ensures.is in
     let h = rw (i.frame.len, i.same, c.ordered-prefixed.ensures, c.from-origin.ensures) at m.follows in
-    let h = in_world (g.S.Space.view c.args.space.now) (g.S.Space.view c.loop-index.space) c.args.store.now c.loop-index.store i.frame.bytes i.frame.room.room h in
+    let h = in_world (g.S.Space.view c.args.space.now) (g.S.Space.view c.loop-index.space) i.frame.bytes i.frame.room c.in-Ok.ensures.frame.room h in
     let keeps = m.kept ∙ ap (λ ls. pushed ls (Some m.value)) i.same in
     let named = name_of_one c.args.alternatives.now c.loop-index.index c.index-alternatives-index.result (omega arith) c.index-alternatives-index.is in
-    record { value = m.value; keeps = keeps; ends = m.ends; follows = rw named (follow_on i.so_far (alternatives_fit _ _ _ _ _ _ _ _ _ next (e.limit ∙ i.frame.limit) e.ok e.made m.value h)) }
+    record { value = m.value; keeps = keeps; ends = m.ends; follows = rw named (follow_on (in_later i.frame.room c.in-Ok.ensures.frame.room i.so_far) (alternatives_fit _ _ _ _ _ _ _ _ _ next (e.limit ∙ i.frame.limit) e.ok e.made m.value h)) }
 
 pub map_alternatives-returns-then-not-misses-clause-is : goal.map_alternatives-returns-then-not-misses-clause-is
 map_alternatives-returns-then-not-misses-clause-is g t c =
@@ -611,8 +660,8 @@ map_alternatives-returns-then-not-misses-clause-is g t c =
     let next = drop_more c.args.alternatives.now c.loop-index.index c.index-alternatives-index.result (omega arith) in
     let next = rw (← c.index-alternatives-index.is) at next in
     let h = rw (i.frame.len, i.same, c.ordered-prefixed.ensures, c.from-origin.ensures) at c.in-Err.ensures.is in
-    let h = in_world (g.S.Space.view c.args.space.now) (g.S.Space.view c.loop-index.space) c.args.store.now c.loop-index.store i.frame.bytes i.frame.room.room h in
-    follow_on i.so_far (alternatives_stop _ _ _ _ _ _ _ _ _ next (e.limit ∙ i.frame.limit) e.ok e.made _ (sym c.misses.ensures ∙ c.if-not-misses.true) h)
+    let h = in_world (g.S.Space.view c.args.space.now) (g.S.Space.view c.loop-index.space) i.frame.bytes i.frame.room c.in-Err.ensures.frame.room h in
+    follow_on (in_later i.frame.room c.in-Err.ensures.frame.room i.so_far) (alternatives_stop _ _ _ _ _ _ _ _ _ next (e.limit ∙ i.frame.limit) e.ok e.made _ (sym c.misses.ensures ∙ c.if-not-misses.true) h)
 
 pub map_alternatives-loop-index-preserved : goal.map_alternatives-loop-index-preserved
 map_alternatives-loop-index-preserved g t c =
@@ -621,13 +670,14 @@ map_alternatives-loop-index-preserved g t c =
     let next = drop_more c.args.alternatives.now c.loop-index.index c.index-alternatives-index.result (omega arith) in
     let next = rw (← c.index-alternatives-index.is) at next in
     let h = rw (i.frame.len, i.same, c.ordered-prefixed.ensures, c.from-origin.ensures) at c.in-Err.ensures.is in
-    let h = in_world (g.S.Space.view c.args.space.now) (g.S.Space.view c.loop-index.space) c.args.store.now c.loop-index.store i.frame.bytes i.frame.room.room h in
+    let h = in_world (g.S.Space.view c.args.space.now) (g.S.Space.view c.loop-index.space) i.frame.bytes i.frame.room c.in-Err.ensures.frame.room h in
+    let h = in_later (room_then i.frame.room c.in-Err.ensures.frame.room) c.clear_level.ensures.room h in
     let cleared = c.clear_level.ensures.levels c.args.nodes.now in
     record {
       frame = search rules;
       same = cleared ∙ ap (λ o. [] ∷ o) (c.in-Err.ensures.outer ∙ ap outer_of i.same) ∙ sym c.requires.fresh;
       depth = search rules;
-      so_far = follow_on i.so_far (alternatives_miss _ _ _ _ _ _ _ _ _ next (e.limit ∙ i.frame.limit) e.ok e.made _ (sym c.misses.ensures ∙ c.if-not-misses.false) h);
+      so_far = follow_on (in_later i.frame.room (room_then c.in-Err.ensures.frame.room c.clear_level.ensures.room) i.so_far) (alternatives_miss _ _ _ _ _ _ _ _ _ next (e.limit ∙ i.frame.limit) e.ok e.made _ (sym c.misses.ensures ∙ c.if-not-misses.false) h);
     }
 
 pub map_alternatives-returns-clause-is : goal.map_alternatives-returns-clause-is

@@ -4,7 +4,8 @@ use Rattle.pickle_types.specs.Table.{type_of, open_fields, open_parts}
 use Rattle.pickle_map.specs.Calls.{as_fields, as_alternatives, as_elements}
 use Rattle.pickle_map.specs.Follows.{Partly}
 use Rattle.pickle_map.specs.Framed.{Frame, Runs}
-use Rattle.mapping_plans.specs.Mapping.{plan, fields_plan, elements_plan, alternatives_plan}
+use Rattle.pickle_map.specs.Row.{BeginsApart}
+use Rattle.mapping_plans.specs.Mapping.{plan, fields_plan, element_plan, elements_plan, alternatives_plan}
 use Rattle.value_store.specs.Slots.{levels, level_count}
 use Rattle.pickle_meaning.specs.Values.{outer_of}
 use Rattle.pickle_map.proofs.Shapes.{fields_bound, parts_bound}
@@ -57,7 +58,7 @@ invariant-map_fields-loop-field g l = record {
   inside : l.top ≤ 8 * (g.S.Space.view l.initial.space).len;
   outer : outer_of (levels l.nodes l.store) ≡ outer_of (levels l.nodes l.initial.store);
   depth : level_count l.store ≡ level_count l.initial.store;
-  so_far : Runs (g.S.Space.view l.initial.space) l.initial.meter l.meter l.initial.store
+  so_far : Runs (g.S.Space.view l.initial.space) l.initial.meter l.meter l.initial.store l.store
       (as_fields l.pinned l.fields l.order l.start l.nodes (8 * (g.S.Space.view l.initial.space).len) (levels l.nodes l.initial.store))
       (Partly (fields_plan (8 * (g.S.Space.view l.initial.space).len) l.pinned l.start (open_fields (type_of l.nodes) (drop l.field-index l.fields)) l.order (levels l.nodes l.store) l.behind l.top));
 }
@@ -67,7 +68,7 @@ invariant-map_alternatives-loop-index g l = record {
   frame : Frame (g.S.Space.view l.initial.space) (g.S.Space.view l.space) l.initial.meter l.meter l.initial.store l.store 0;
   same : levels l.nodes l.store ≡ levels l.nodes l.initial.store;
   depth : level_count l.store ≡ level_count l.initial.store;
-  so_far : Runs (g.S.Space.view l.initial.space) l.initial.meter l.meter l.initial.store
+  so_far : Runs (g.S.Space.view l.initial.space) l.initial.meter l.meter l.initial.store l.store
       (as_alternatives l.alternatives l.order l.start l.nodes (8 * (g.S.Space.view l.initial.space).len) (levels l.nodes l.initial.store))
       (Partly (alternatives_plan (8 * (g.S.Space.view l.initial.space).len) (open_parts (type_of l.nodes) (drop l.index l.alternatives)) l.index l.order (levels l.nodes l.initial.store) l.start));
 }
@@ -83,8 +84,9 @@ invariant-map_elements-loop-order g l = record {
   outer : outer_of (levels l.nodes l.store) ≡ outer_of (levels l.nodes l.initial.store);
   depth : level_count l.store ≡ level_count l.initial.store;
   counted : l.count + l.start ≤ l.place;
+  begins : BeginsApart l.nodes l.store;
   so_far : (n : ℕ) × (8 * (g.S.Space.view l.initial.space).len < l.place + n * max 1 (least_width (type_of l.nodes l.element))) ×
-      Runs (g.S.Space.view l.initial.space) l.initial.meter l.meter l.initial.store
+      Runs (g.S.Space.view l.initial.space) l.initial.meter l.meter l.initial.store l.store
       (as_elements l.element l.extent l.order l.start l.nodes (8 * (g.S.Space.view l.initial.space).len) (levels l.nodes l.initial.store))
-      (Partly (elements_plan (plan (8 * (g.S.Space.view l.initial.space).len) (type_of l.nodes l.element) l.order) (8 * (g.S.Space.view l.initial.space).len) l.start l.extent n l.count (levels l.nodes l.store) l.place));
+      (Partly (elements_plan (element_plan (type_of l.nodes l.element) (plan (8 * (g.S.Space.view l.initial.space).len) (type_of l.nodes l.element) l.order)) (8 * (g.S.Space.view l.initial.space).len) l.start l.extent n l.count (levels l.nodes l.store) l.place));
 }
