@@ -5,8 +5,11 @@ use Rattle.bit_space.specs.declared.order.Order.{Order}
 use Rattle.bit_space.specs.Bits.{bits_of}
 use Rattle.bit_space.specs.SpaceView.{SpaceView, HasRisen}
 use Rattle.pickle_types.specs.declared.table.Node.{Node}
+use Rattle.pickle_types.specs.declared.type_table.Table.{Table}
+use Rattle.pickle_types.specs.declared.type_table.TypeId.{TypeId}
 use Rattle.pickle_types.specs.Bounds.{cost, room as room_of}
 use Rattle.pickle_types.specs.Types.{PokeType}
+use Rattle.pickle_types.specs.TypeTable.{nodes_of, type_named}
 use Rattle.pickle_meaning.specs.declared.faults.MapFault.{MapFault}
 use Rattle.pickle_meaning.specs.declared.faults.MapFaultKind.{MapFaultKind}
 use Rattle.pickle_meaning.specs.declared.faults.MapFaultKind.TheVariants as faults
@@ -87,23 +90,62 @@ EndsRun faults.Device = Unit {0}
 EndsRun faults.Memory = Unit {0}
 EndsRun kind = ⊥
 
+module _ (type : PokeType) (order : Order) (start : ℕ) (space : SpaceView) (meter meter' : Meter) where
+  -- where the bytes are known: the value that the type means there, in its steps and with its values made
+  abbrev pub MeansValue : List Node → (store' : Held) → Result (Unit {0}) MapFault → Type 0
+  MeansValue nodes store' result =
+      (bytes : List ℕ) → space.bytes ≡ Some bytes →
+      OnOk result (Gives nodes store' (λ v. Answer (bits_of bytes) type order start (meter.limit - meter.steps) (Ok v) (meter'.steps - meter.steps) (meter'.made - meter.made)))
+
+  -- where they are known: the fault that the type means there, or Limit where that takes more steps than are left
+  abbrev pub MeansFault : Result (Unit {0}) MapFault → Type 0
+  MeansFault result =
+      (bytes : List ℕ) → space.bytes ≡ Some bytes →
+      IfErr result (λ f. FaultMeans (bits_of bytes) type order start (meter.limit - meter.steps) f.kind f.at (meter'.steps - meter.steps) (meter'.made - meter.made))
+
+  -- a mapping that was broken off counted its steps and values up to the read that failed, or to what had no room
+  abbrev pub CountsThere : (store store' : Held) → Result (Unit {0}) MapFault → Type 0
+  CountsThere store store' result = IfErr result (λ f. CountsToThere f.kind space meter meter' store store' (plan (8 * space.len) type order no_values start))
+
+module _ (nodes : List Node) (store' : Held) where
+  -- a value fits its type by the parts that are kept
+  abbrev pub FitsType : PokeType → (start : ℕ) → SpaceView → Result (Unit {0}) MapFault → Type 0
+  FitsType type start space result = OnOk result (Gives nodes store' (λ v. Fits (8 * space.len) type no_values start v))
+
+  -- each of them was counted
+  abbrev pub CountsParts : (meter meter' : Meter) → Result (Unit {0}) MapFault → Type 0
+  CountsParts meter meter' result = OnOk result (Gives nodes store' (λ v. meter.made + (value_slots NodeSlot v + value_slots ByteSlot v) ≤ meter'.made))
+
+  -- what a store that never grows holds at most
+  abbrev pub HoldsAtMost : (store : Held) → Result (Unit {0}) MapFault → Type 0
+  HoldsAtMost store result = OnOk result (store.room.growth ≡ Never → (kind : Slot) → slots kind (levels nodes store') ≤ store.room.least)
+
+-- Limit, only where all steps were taken, which are fewer than the type's bound
+abbrev pub ReachesLimit : PokeType → SpaceView → (meter meter' : Meter) → Result (Unit {0}) MapFault → Type 0
+ReachesLimit type space meter meter' result =
+    IfErr result (λ f. f.kind ≡ faults.Limit → (meter'.steps ≡ meter.limit) × (meter.limit < meter.steps + cost type (8 * space.len)))
+
+-- want of memory, only where the store was made with less room than the type's bound
+abbrev pub LacksBound : PokeType → SpaceView → (store : Held) → Result (Unit {0}) MapFault → Type 0
+LacksBound type space store result = IfErr result (λ f. f.kind ≡ faults.Memory → store.room.least < room_of type (8 * space.len))
+
 -- what a mapping of a type from the bit `start` on does, into an empty store
 pub record IsMapped (nodes : List Node) (type : PokeType) (order : Order) (start : ℕ) (space space' : SpaceView) (meter meter' : Meter) (store store' : Held) (result : Result (Unit {0}) MapFault) : Type 0 where
   -- Where the bytes are known: the value that the type means there, in its steps and with its values made.
-  pub value : (bytes : List ℕ) → space.bytes ≡ Some bytes → OnOk result (Gives nodes store' (λ v. Answer (bits_of bytes) type order start (meter.limit - meter.steps) (Ok v) (meter'.steps - meter.steps) (meter'.made - meter.made)))
+  pub value : MeansValue type order start space meter meter' nodes store' result
   -- Where they are known: the fault that the type means there, or Limit where that takes more steps than are left.
-  pub fault : (bytes : List ℕ) → space.bytes ≡ Some bytes → IfErr result (λ f. FaultMeans (bits_of bytes) type order start (meter.limit - meter.steps) f.kind f.at (meter'.steps - meter.steps) (meter'.made - meter.made))
+  pub fault : MeansFault type order start space meter meter' result
   -- Whatever the space gives: a value fits its type by the parts that are kept, and each of them was counted.
-  pub fits : OnOk result (Gives nodes store' (λ v. Fits (8 * space.len) type no_values start v))
-  pub size : OnOk result (Gives nodes store' (λ v. meter.made + (value_slots NodeSlot v + value_slots ByteSlot v) ≤ meter'.made))
+  pub fits : FitsType nodes store' type start space result
+  pub size : CountsParts nodes store' meter meter' result
   pub rise : meter.steps ≤ meter'.steps
   pub steps : meter'.steps ≤ meter.steps + cost type (8 * space.len)
   pub made : (meter.made ≤ meter'.made) × (meter'.made + meter.steps ≤ meter.made + meter'.steps)
-  pub limit : IfErr result (λ f. f.kind ≡ faults.Limit → (meter'.steps ≡ meter.limit) × (meter.limit < meter.steps + cost type (8 * space.len)))
-  pub memory : IfErr result (λ f. f.kind ≡ faults.Memory → store.room.least < room_of type (8 * space.len))
+  pub limit : ReachesLimit type space meter meter' result
+  pub memory : LacksBound type space store result
   pub device : IfErr result (λ f. f.kind ≡ faults.Device → HasRisen space.failures space'.failures)
   -- A mapping that was broken off counted its steps and values up to the read that failed, or to what had no room.
-  pub counts : IfErr result (λ f. CountsToThere f.kind space meter meter' store store' (plan (8 * space.len) type order no_values start))
+  pub counts : CountsThere type order start space meter meter' store store' result
   -- There is room in the end for all that was to be kept; memory was wanted only where there was none before.
   pub kept : KeptInRoom type order start space meter store store' result
   pub asked : WantedMore type order start space meter store result
@@ -114,8 +156,13 @@ pub record IsMapped (nodes : List Node) (type : PokeType) (order : Order) (start
   pub holds : HoldsInRoom store'
   pub room : KeepsRoom store store'
   -- What a store that never grows holds at most.
-  pub held : OnOk result (store.room.growth ≡ Never → (kind : Slot) → slots kind (levels nodes store') ≤ store.room.least)
+  pub held : HoldsAtMost nodes store' store result
   pub most : meter'.limit ≡ meter.limit
   pub len : space'.len ≡ space.len
   pub bytes : space'.bytes ≡ space.bytes
   pub failures : space.failures ≤ space'.failures
+
+-- the same of a type of a table
+abbrev pub MapsNamed : Table → TypeId → Order → (start : ℕ) → (space space' : SpaceView) → (meter meter' : Meter) → (store store' : Held) → Result (Unit {0}) MapFault → Type 0
+MapsNamed table id order start space space' meter meter' store store' result =
+    IsMapped (nodes_of table) (type_named table id) order start space space' meter meter' store store' result

@@ -1,18 +1,11 @@
 //! Mapping of types over the bits of a space.
 
-ghost use Rattle.std.specs.Prelude.{◌≡◌, ℕ, ◌+◌, ◌-◌, ◌*◌, ◌<◌, ◌≤◌, List, Some, Ok, IfErr, OnOk, OnErr};
-ghost use Rattle.bit_space.specs.Bits.{bits_of};
+ghost use Rattle.std.specs.Prelude.{◌≡◌, ◌+◌, ◌*◌, ◌≤◌, IfErr, OnErr};
 ghost use Rattle.bit_space.specs.SpaceView.{HasRisen};
 ghost use Rattle.pickle_types.specs.Bounds.{cost, room};
 ghost use Rattle.pickle_types.specs.TypeTable.{nodes_of, type_named, IsInTable};
-ghost use Rattle.pickle_meaning.specs.Answer.{Answer};
-ghost use Rattle.pickle_meaning.specs.Fits.{Fits};
-ghost use Rattle.mapping_plans.specs.Mapping.{plan};
-ghost use Rattle.pickle_map.specs.Mapped.{Gives, FaultMeans, CountsToThere, KeptInRoom, WantedMore, EndsRun, IsMapped, told};
-ghost use Rattle.pickle_meaning.specs.Room.{Slot, NodeSlot, ByteSlot, value_slots, slots};
-ghost use Rattle.value_store.specs.declared.store.room.Growth.TheVariants.{Never};
-ghost use Rattle.value_store.specs.Slots.{emptied, HoldsInRoom, KeepsRoom, levels};
-ghost use Rattle.pickle_meaning.specs.Values.{no_values};
+ghost use Rattle.pickle_map.specs.Mapped.{MeansValue, MeansFault, FitsType, CountsParts, ReachesLimit, LacksBound, CountsThere, KeptInRoom, WantedMore, EndsRun, HoldsAtMost, MapsNamed, told};
+ghost use Rattle.value_store.specs.Slots.{emptied, HoldsInRoom, KeepsRoom};
 
 pub(crate) mod blame;
 pub mod clauses;
@@ -49,20 +42,20 @@ pub fn map<S: Space>(
     requires known { IsInTable table.now id }
     requires empty { store.old ≡ emptied store.old }
     // Where the bytes are known: the value that the type means there, in its steps and with its values made.
-    ensures value { (bytes : List ℕ) → (S.view space.old).bytes ≡ Some bytes → OnOk result (Gives (nodes_of table.now) store.new (λ v. Answer (bits_of bytes) (type_named table.now id) order start (meter.old.limit - meter.old.steps) (Ok v) (meter.new.steps - meter.old.steps) (meter.new.made - meter.old.made))) }
+    ensures value { MeansValue (type_named table.now id) order start (S.view space.old) meter.old meter.new (nodes_of table.now) store.new result }
     // Where they are known: the fault that the type means there, or Limit where that takes more steps than are left.
-    ensures fault { (bytes : List ℕ) → (S.view space.old).bytes ≡ Some bytes → IfErr result (λ f. FaultMeans (bits_of bytes) (type_named table.now id) order start (meter.old.limit - meter.old.steps) f.kind f.at (meter.new.steps - meter.old.steps) (meter.new.made - meter.old.made)) }
+    ensures fault { MeansFault (type_named table.now id) order start (S.view space.old) meter.old meter.new result }
     // Whatever the space gives: a value fits its type by the parts that are kept, and each of them was counted.
-    ensures fits { OnOk result (Gives (nodes_of table.now) store.new (λ v. Fits (8 * (S.view space.old).len) (type_named table.now id) no_values start v)) }
-    ensures size { OnOk result (Gives (nodes_of table.now) store.new (λ v. meter.old.made + (value_slots NodeSlot v + value_slots ByteSlot v) ≤ meter.new.made)) }
+    ensures fits { FitsType (nodes_of table.now) store.new (type_named table.now id) start (S.view space.old) result }
+    ensures size { CountsParts (nodes_of table.now) store.new meter.old meter.new result }
     ensures rise { meter.old.steps ≤ meter.new.steps }
     ensures steps { meter.new.steps ≤ meter.old.steps + cost (type_named table.now id) (8 * (S.view space.old).len) }
     ensures made { (meter.old.made ≤ meter.new.made) × (meter.new.made + meter.old.steps ≤ meter.old.made + meter.new.steps) }
-    ensures limit { IfErr result (λ f. f.kind ≡ MapFaultKind.Limit → (meter.new.steps ≡ meter.old.limit) × (meter.old.limit < meter.old.steps + cost (type_named table.now id) (8 * (S.view space.old).len))) }
-    ensures memory { IfErr result (λ f. f.kind ≡ MapFaultKind.Memory → store.old.room.least < room (type_named table.now id) (8 * (S.view space.old).len)) }
+    ensures limit { ReachesLimit (type_named table.now id) (S.view space.old) meter.old meter.new result }
+    ensures memory { LacksBound (type_named table.now id) (S.view space.old) store.old result }
     ensures device { IfErr result (λ f. f.kind ≡ MapFaultKind.Device → HasRisen (S.view space.old).failures (S.view space.new).failures) }
     // A mapping that was broken off counted its steps and values up to the read that failed, or to what had no room.
-    ensures counts { IfErr result (λ f. CountsToThere f.kind (S.view space.old) meter.old meter.new store.old store.new (plan (8 * (S.view space.old).len) (type_named table.now id) order no_values start)) }
+    ensures counts { CountsThere (type_named table.now id) order start (S.view space.old) meter.old meter.new store.old store.new result }
     // There is room in the end for all that was to be kept; memory was wanted only where there was none before.
     ensures kept { KeptInRoom (type_named table.now id) order start (S.view space.old) meter.old store.old store.new result }
     ensures asked { WantedMore (type_named table.now id) order start (S.view space.old) meter.old store.old result }
@@ -73,7 +66,7 @@ pub fn map<S: Space>(
     ensures holds { HoldsInRoom store.new }
     ensures room { KeepsRoom store.old store.new }
     // What a store that never grows holds at most.
-    ensures held { OnOk result (store.old.room.growth ≡ Never → (kind : Slot) → slots kind (levels (nodes_of table.now) store.new) ≤ store.old.room.least) }
+    ensures held { HoldsAtMost (nodes_of table.now) store.new store.old result }
     ensures most { meter.new.limit ≡ meter.old.limit }
     ensures len { (S.view space.new).len ≡ (S.view space.old).len }
     ensures bytes { (S.view space.new).bytes ≡ (S.view space.old).bytes }
@@ -96,7 +89,7 @@ pub fn map_watched<S: Space, W: Watch>(
 ) -> Result<(), MapFault>
     requires known { IsInTable table.now id }
     requires empty { store.old ≡ emptied store.old }
-    ensures { IsMapped (nodes_of table.now) (type_named table.now id) order start (S.view space.old) (S.view space.new) meter.old meter.new store.old store.new result }
+    ensures { MapsNamed table.now id order start (S.view space.old) (S.view space.new) meter.old meter.new store.old store.new result }
 {
     match map_type(
         table.nodes(),

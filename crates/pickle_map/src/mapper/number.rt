@@ -4,7 +4,7 @@ ghost use Rattle.std.specs.Prelude.{◌≡◌, List, ◌≢◌, ◌+◌, ◌*◌
 ghost use Rattle.pickle_types.specs.declared.table.Node.{Node as TableNode};
 ghost use Rattle.pickle_types.specs.Types.{IntegerOf, OffsetOf, depth};
 ghost use Rattle.pickle_types.specs.Table.{IsTable, type_of, IsWidth};
-ghost use Rattle.pickle_map.specs.Calls.{as_number, as_integer, Maps, integral_at, Places, PlacesLevel, PlacesPart, PlacesFields};
+ghost use Rattle.pickle_map.specs.Calls.{as_number, Maps, MapsInteger, integral_at, Places, PlacesLevel, PlacesPart, PlacesFields};
 ghost use Rattle.pickle_map.specs.Framed.{Frame, WorkFrame, IsEnd, DeviceFailed, LeavesLevel};
 ghost use Rattle.pickle_meaning.specs.Values.{outer_of};
 ghost use Rattle.pickle_map.specs.Mappable.{IsPartOf};
@@ -67,7 +67,7 @@ pub(crate) fn map_integer<S: Space>(
     requires inside { start ≤ 8 * (S.view space.old).len }
     ensures frame { Frame (S.view space.old) (S.view space.new) meter.old meter.new store.old store.new 0 }
     ensures ends { IfOk result (IsEnd start (S.view space.old)) }
-    ensures is { (nodes : List TableNode) → Maps nodes (S.view space.old) meter.old meter.new store.old store.new (as_integer number order start) result }
+    ensures is { MapsInteger (S.view space.old) meter.old meter.new store.old store.new number order start result }
     ensures same { (nodes : List TableNode) → OnErr result (levels nodes store.new ≡ levels nodes store.old) }
     ensures depth { level_count store.new ≡ level_count store.old }
     ensures device { IfErr result (DeviceFailed (S.view space.old) (S.view space.new)) }

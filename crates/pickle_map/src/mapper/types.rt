@@ -3,7 +3,7 @@
 ghost use Rattle.std.specs.Prelude.{◌≡◌, ◌+◌, ◌*◌, ◌^◌, ◌<◌, ◌≤◌, ◌∷◌, [], map, length, All, IfOk, IfErr, OnOk, OnErr};
 ghost use Rattle.pickle_types.specs.Types.{depth};
 ghost use Rattle.pickle_types.specs.Table.{IsTable, type_of, optional_term, bound_of};
-ghost use Rattle.pickle_map.specs.Calls.{as_type, as_checked, as_array, as_array_level, as_elements, as_struct, as_struct_level, as_fields, as_union, as_union_level, Maps, Closes, Fills, Takes};
+ghost use Rattle.pickle_map.specs.Calls.{as_type, as_checked, as_array, as_array_level, as_elements, as_struct, ClosesStruct, as_fields, as_union, as_union_level, Maps, Closes, Fills, Takes};
 ghost use Rattle.pickle_map.specs.Framed.{Frame, IsEnd, DeviceFailed, LeavesLevel};
 ghost use Rattle.pickle_meaning.specs.Values.{outer_of};
 ghost use Rattle.pickle_map.specs.Mappable.{IsFieldOf, IsPartOf};
@@ -395,7 +395,7 @@ fn struct_body<S: Space, W: Watch>(
     requires free { meter.old.made < meter.old.steps }
     ensures frame { Frame (S.view space.old) (S.view space.new) meter.old meter.new store.old store.new 1 }
     ensures ends { IfOk result (IsEnd start (S.view space.old)) }
-    ensures is { Closes nodes.now (S.view space.old) meter.old meter.new store.old store.new (as_struct_level at pinned fields.now order start) result }
+    ensures is { ClosesStruct nodes.now (S.view space.old) meter.old meter.new store.old store.new at pinned fields.now order start result }
     ensures level { LeavesLevel nodes.now store.old store.new result }
     ensures device { IfErr result (DeviceFailed (S.view space.old) (S.view space.new)) }
 {
