@@ -10,38 +10,29 @@ use Rattle.value_store.specs.Exceeding.{Exceeds}
 use Rattle.value_store.specs.Keeping.{Overfills, HoldsLevels, LacksRoom}
 use Rattle.value_store.specs.Levels.{extended}
 use Rattle.value_store.specs.Names.{Names}
-use Rattle.value_store.specs.Slots.{Slots, Held, no_slots, packs_as, packs, HoldsInRoom, levels, stack, IsSound, cut_to, marks_of, root_marks, level_of, IsLevel, innermost, AreLevels, levels_at, Adds, IsStore}
+use Rattle.value_store.specs.Slots.{Slots, Held, no_slots, packs_as, packs, HoldsInRoom, levels, stack, IsSound, cut_to, marks_of, root_marks, level_of, IsLevel, innermost, AreLevels, levels_at, Adds}
 use Rattle.value_store.specs.Takes.{Vector, NodesOf, FamiliesOf, LinksOf, PendingOf, TextsOf, BytesOf, of_vector, levels_take}
 use Rattle.value_store.proofs.Counted.{marks-cut, levels-more, levels_at-more, levels-above, levels_at-above}
 use Rattle.value_store.proofs.Empty.{no_slots-levels, no_slots-sound}
 use Rattle.value_store.proofs.Taken.{taken-slots}
 
+least-packed : (growth : Growth) (least : ℕ) → packs_as growth least ≡ true → least ≡ 0
+least-packed Never least e = cc
+least-packed Free zero e = refl
+least-packed Free (suc least) e = cc
+
+-- where arrays are packed no room is asked for beforehand, so nothing fits in it
+pub packs_no_more : (room : Room) (ls : Levels) → 1 ≤ slots PendingSlot ls → packs room ≡ true → Exceeds room ls
+packs_no_more room ls some e = (PendingSlot, omega (arith, some, least-packed room.growth room.least e))
+
 -- of a vector levels take more than there is room for, which is no less than what the store was made with
 module _ (h : Held) (ls : Levels) (some : 1 ≤ slots PendingSlot ls) where
-  least-packed : (growth : Growth) (least : ℕ) → packs_as growth least ≡ true → least ≡ 0
-  least-packed Never least e = cc
-  least-packed Free zero e = refl
-  least-packed Free (suc least) e = cc
-
-  -- where slots aren't counted no room is asked for, so nothing fits in it
-  pub packs_no_more : packs h.room ≡ true → Exceeds h.room ls
-  packs_no_more e = (PendingSlot, omega (arith, some, least-packed h.room.growth h.room.least e))
-
   exceeds-by : (vector : Vector) (packed : Bool) → packs h.room ≡ packed → h.room.least < levels_take packed vector ls → Exceeds h.room ls
-  exceeds-by vector true e more = packs_no_more e
+  exceeds-by vector true e more = packs_no_more h.room ls some e
   exceeds-by vector false e more = let r = taken-slots vector ls in (r.0, omega (arith, more, r.1))
 
   pub overfills : (vector : Vector) → h.room.least ≤ of_vector vector h.capacity → of_vector vector h.capacity < levels_take (packs h.room) vector ls → Overfills h false ls
   overfills vector least more = record { least = exceeds-by vector (packs h.room) refl (omega (arith, least, more)); capacity = (vector, more) }
-
--- each vector has the room that the store was made with
-pub least-held : (h : Held) (vector : Vector) → IsStore h → h.room.least ≤ of_vector vector h.capacity
-least-held h NodesOf is = is.nodes
-least-held h FamiliesOf is = is.families
-least-held h LinksOf is = is.links
-least-held h PendingOf is = is.pending
-least-held h TextsOf is = is.texts
-least-held h BytesOf is = is.bytes
 
 root-none : (vector : Vector) → of_vector vector root_marks ≡ 0
 root-none NodesOf = refl

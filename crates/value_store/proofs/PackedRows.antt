@@ -217,7 +217,7 @@ module _ (h : Held) (shape : Shape) (digits start : ℕ) (p : IsPacked shape) (n
       let some : 1 ≤ slots PendingSlot ls =
       omega (arith, slots-taken PendingSlot ls, level_pending false (elements shape start (numbers ++ digits ∷ [])), length-elements shape start (numbers ++ digits ∷ []), length_push numbers digits) in
       record {
-        least = packs_no_more h ls some packing;
+        least = packs_no_more h.room ls some packing;
         capacity = (vector, omega (arith, more, row-kept (packs h.room) vector shape numbers digits start outer packing));
       }
 

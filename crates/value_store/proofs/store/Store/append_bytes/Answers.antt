@@ -1,5 +1,4 @@
-use Rattle.std.proofs.Common.{rules, ◌-◌, length, ap, subst, sym, arith}
-use Rattle.std.proofs.lemmas.List.{length-set}
+use Rattle.std.proofs.Common.{rules, length, ap, subst, sym, arith}
 use Rattle.std.specs.Prelude.{vec_capacity}
 use Rattle.value_store.specs.Keeping.{LacksBytes}
 use Rattle.value_store.specs.Slots.{Slots, Held, GoesOn}
@@ -49,11 +48,4 @@ returns-clause-within c =
     let h = the_view c.self.inside in
     let g : GoesOn h c.args.shape c.args.more.now = subst (λ (h : Held). GoesOn h c.args.shape c.args.more.now) (sym c.self.view_is) c.requires in
     let e = more-placed h c.args.shape c.args.more.now c.len-last.result c.len.result c.append.new.to.items g (search rules) (search rules) (search rules) in
-    held-levels _ (rw e (more-frames g.names h c.args.shape g.bytes g.start g.outer g.filling g.some c.args.more.now g.are)) (record {
-      nodes = omega (arith, c.self.inside.nodes.ok.0, c.self.inside.nodes.ok.1);
-      families = omega (arith, c.self.inside.families.ok.0, c.self.inside.families.ok.1);
-      links = omega (arith, c.self.inside.links.ok.0, c.self.inside.links.ok.1);
-      pending = omega (arith, c.self.inside.pending.ok.0, c.self.inside.pending.ok.1);
-      texts = omega (arith, c.self.inside.texts.ok.0, c.self.inside.texts.ok.1, length-set c.self.inside.texts.items (c.len-last.result - 1) c.len.result);
-      bytes = omega (arith, c.append.new.to.ok.0, c.append.new.to.ok.1);
-    })
+    held-levels _ (rw e (more-frames g.names h c.args.shape g.bytes g.start g.outer g.filling g.some c.args.more.now g.are)) (search rules)

@@ -1,4 +1,4 @@
-use Rattle.std.proofs.Common.{rules, ◌≡◌, ◌∙◌, ap, reverse, arith}
+use Rattle.std.proofs.Common.{rules, ◌≡◌, ◌∙◌, ap, reverse}
 use Rattle.value_store.specs.Slots.{around}
 use Rattle.value_store.specs.contracts.store.Store.{the_view}
 use Rattle.value_store.proofs.Held.{lift-frames, lift-levels, depth-lift}
@@ -33,11 +33,4 @@ returns-clause-depth c =
 pub returns-clause-within : goal.returns-clause-within
 returns-clause-within c =
     let e : reverse c.pop.new.self.items ≡ around (the_view c.self.inside).frames = ap reverse c.pop.ensures.rest ∙ reverse-pop c.self.inside.frames.items in
-    held-levels _ (rw e (lift-frames (the_view c.self.inside) c.self.invariant.levels)) (record {
-      nodes = omega (arith, c.self.inside.nodes.ok.0, c.self.inside.nodes.ok.1);
-      families = omega (arith, c.self.inside.families.ok.0, c.self.inside.families.ok.1);
-      links = omega (arith, c.self.inside.links.ok.0, c.self.inside.links.ok.1);
-      pending = omega (arith, c.self.inside.pending.ok.0, c.self.inside.pending.ok.1);
-      texts = omega (arith, c.self.inside.texts.ok.0, c.self.inside.texts.ok.1);
-      bytes = omega (arith, c.self.inside.bytes.ok.0, c.self.inside.bytes.ok.1);
-    })
+    held-levels _ (rw e (lift-frames (the_view c.self.inside) c.self.invariant.levels)) (search rules)

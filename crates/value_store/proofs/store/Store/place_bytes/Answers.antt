@@ -78,11 +78,4 @@ returns-clause-within c =
     let s = h.slots in
     let t : Slots = record { nodes = c.push_reserved-3.new.self.items; families = s.families; links = s.links; pending = c.push_reserved-2.new.self.items; texts = c.push_reserved.new.self.items; bytes = c.append.new.to.items } in
     let e : t ≡ with_bytes c.args.shape c.args.bytes.now c.args.start s = search rules in
-    held-levels _ (rw e (bytes-frames h c.args.shape c.args.bytes.now c.args.start c.self.invariant.levels c.requires.are may c.requires.some)) (record {
-      nodes = omega (arith, c.push_reserved-3.new.self.ok.0, c.push_reserved-3.new.self.ok.1);
-      families = omega (arith, c.self.inside.families.ok.0, c.self.inside.families.ok.1);
-      links = omega (arith, c.self.inside.links.ok.0, c.self.inside.links.ok.1);
-      pending = omega (arith, c.push_reserved-2.new.self.ok.0, c.push_reserved-2.new.self.ok.1);
-      texts = omega (arith, c.push_reserved.new.self.ok.0, c.push_reserved.new.self.ok.1);
-      bytes = omega (arith, c.append.new.to.ok.0, c.append.new.to.ok.1);
-    })
+    held-levels _ (rw e (bytes-frames h c.args.shape c.args.bytes.now c.args.start c.self.invariant.levels c.requires.are may c.requires.some)) (search rules)

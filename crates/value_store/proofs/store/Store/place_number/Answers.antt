@@ -56,11 +56,4 @@ returns-clause-within c =
     let s = (the_view c.self.inside).slots in
     let t : Slots = record { nodes = c.push_reserved-2.new.self.items; families = s.families; links = s.links; pending = c.push_reserved.new.self.items; texts = s.texts; bytes = s.bytes } in
     let e : t ≡ with_leaf c.args.shape c.args.start c.args.content s = search rules in
-    held-levels _ (rw e (number-frames (the_view c.self.inside) c.args.shape c.args.start c.args.content c.requires.number c.self.invariant.levels)) (record {
-      nodes = omega (arith, c.push_reserved-2.new.self.ok.0, c.push_reserved-2.new.self.ok.1);
-      families = omega (arith, c.self.inside.families.ok.0, c.self.inside.families.ok.1);
-      links = omega (arith, c.self.inside.links.ok.0, c.self.inside.links.ok.1);
-      pending = omega (arith, c.push_reserved.new.self.ok.0, c.push_reserved.new.self.ok.1);
-      texts = omega (arith, c.self.inside.texts.ok.0, c.self.inside.texts.ok.1);
-      bytes = omega (arith, c.self.inside.bytes.ok.0, c.self.inside.bytes.ok.1);
-    })
+    held-levels _ (rw e (number-frames (the_view c.self.inside) c.args.shape c.args.start c.args.content c.requires.number c.self.invariant.levels)) (search rules)

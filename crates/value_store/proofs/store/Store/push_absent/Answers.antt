@@ -41,11 +41,4 @@ returns-clause-ok c =
 pub returns-clause-within : goal.returns-clause-within
 returns-clause-within c =
     let e : c.push_reserved.new.self.items ≡ (the_view c.self.inside).slots.pending ++ None ∷ [] = search rules in
-    held-levels _ (rw e (absent-frames (the_view c.self.inside) c.self.invariant.levels)) (record {
-      nodes = omega (arith, c.self.inside.nodes.ok.0, c.self.inside.nodes.ok.1);
-      families = omega (arith, c.self.inside.families.ok.0, c.self.inside.families.ok.1);
-      links = omega (arith, c.self.inside.links.ok.0, c.self.inside.links.ok.1);
-      pending = omega (arith, c.push_reserved.new.self.ok.0, c.push_reserved.new.self.ok.1);
-      texts = omega (arith, c.self.inside.texts.ok.0, c.self.inside.texts.ok.1);
-      bytes = omega (arith, c.self.inside.bytes.ok.0, c.self.inside.bytes.ok.1);
-    })
+    held-levels _ (rw e (absent-frames (the_view c.self.inside) c.self.invariant.levels)) (search rules)
