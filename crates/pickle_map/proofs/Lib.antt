@@ -13,4 +13,5 @@ pub mod Row
 pub mod Stopped
 pub mod Followed
 pub mod Repeated
+mod KeptRows
 pub mod FaultKinds

@@ -24,7 +24,7 @@ pub record OneMapping (type : PokeType) (order : Order) (start : ℕ) : Type 0 w
   pub mapped : IsMapped nodes type order start space space' meter meter' store store' result
 
 -- it was not broken off
-pub record IsWhole (result : Result (Unit {0}) MapFault) : Type 0 where
+pub record IsUnbroken (result : Result (Unit {0}) MapFault) : Type 0 where
   pub device : IfErr result (λ f. f.kind ≡ faults.Device → ⊥)
   pub memory : IfErr result (λ f. f.kind ≡ faults.Memory → ⊥)
 
@@ -41,4 +41,4 @@ pub record IsAgain {type : PokeType} {order : Order} {start : ℕ} (first second
 
 -- after a mapping that was not broken off, the same again wants no memory
 abbrev pub WantsNoMore : Type 0
-WantsNoMore = (type : PokeType) (order : Order) (start : ℕ) (first second : OneMapping type order start) → IsWhole first.result → IsAgain first second → IfErr second.result (λ f. f.kind ≡ faults.Memory → ⊥)
+WantsNoMore = (type : PokeType) (order : Order) (start : ℕ) (first second : OneMapping type order start) → IsUnbroken first.result → IsAgain first second → IfErr second.result (λ f. f.kind ≡ faults.Memory → ⊥)
