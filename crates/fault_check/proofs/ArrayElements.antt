@@ -4,7 +4,7 @@ use Rattle.bit_space.specs.declared.order.Order.{Order}
 use Rattle.bit_space.specs.Bits.{bits_of}
 use Rattle.bit_space.specs.SpaceView.{SpaceView, IsWhole}
 use Rattle.bit_space.proofs.Digits.{length-bits_of}
-use Rattle.pickle_types.specs.declared.table.Node.{Node}
+use Rattle.pickle_types.specs.declared.node.Node.{Node}
 use Rattle.pickle_types.specs.Types.{Term, Bound, PokeType, ArrayOf}
 use Rattle.pickle_types.specs.Table.{type_of}
 use Rattle.pickle_meaning.specs.declared.extent.Extent.{Extent}

@@ -2,8 +2,8 @@
 use Rattle.std.proofs.Common.{◌≡◌, ℕ, ◌+◌, ◌-◌, ◌≤◌, true, List, [], ◌∷◌, length, get_or, take, drop, refl, sym, ap, ◌∙◌, arith}
 use Rattle.std.specs.Prelude.{◌==◌}
 use Rattle.std.proofs.lemmas.List.{take_all}
-use Rattle.pickle_types.specs.declared.table.Node.{Node}
-use Rattle.pickle_types.specs.declared.table.Part.{Part}
+use Rattle.pickle_types.specs.declared.node.Node.{Node}
+use Rattle.pickle_types.specs.declared.node.Part.{Part}
 use Rattle.pickle_types.specs.Types.{Parts}
 use Rattle.pickle_types.specs.Table.{type_of, open_parts}
 use Rattle.pickle_meaning.specs.Values.{Levels}

@@ -4,11 +4,11 @@ use Rattle.std.specs.Prelude.{All, Vec}
 use Rattle.std.specs.declared.alloc.Global.{Global}
 use Rattle.pickle_types.specs.declared.integer.IntegerType.{IntegerType}
 use Rattle.pickle_types.specs.declared.name.Name.{Name}
-use Rattle.pickle_types.specs.declared.table.Extent.{Extent as Bound}
-use Rattle.pickle_types.specs.declared.table.Field.{Field}
-use Rattle.pickle_types.specs.declared.table.Node.{Node}
-use Rattle.pickle_types.specs.declared.table.Part.{Part}
-use Rattle.pickle_types.specs.declared.table.Shape.TheVariants as shape
+use Rattle.pickle_types.specs.declared.node.Extent.{Extent as Bound}
+use Rattle.pickle_types.specs.declared.node.Field.{Field}
+use Rattle.pickle_types.specs.declared.node.Node.{Node}
+use Rattle.pickle_types.specs.declared.node.Part.{Part}
+use Rattle.pickle_types.specs.declared.node.Shape.TheVariants as shape
 use Rattle.pickle_types.specs.Types.{ArrayOf, StructOf, IntegralOf, UnionOf, depth, fields_depth, parts_depth}
 use Rattle.pickle_types.specs.Sound.{IsSoundBound}
 use Rattle.pickle_types.specs.Table.{IsTable, IsWidth, type_of, bound_of, open_fields, open_parts}

@@ -10,7 +10,7 @@ use Rattle.mapping_plans.specs.Plan.{Plan, Ended, Tick, Made, Read, and_then, th
 use Rattle.mapping_plans.specs.Mapping.{number_plan, digits_plan, constrained, closes}
 use Rattle.std.specs.Prelude.{IfOk}
 use Rattle.bit_space.specs.declared.meter.Meter.{Meter}
-use Rattle.pickle_types.specs.declared.table.Node.{Node}
+use Rattle.pickle_types.specs.declared.node.Node.{Node}
 use Rattle.pickle_map.specs.declared.mapper.stop.Stop.{Stop}
 use Rattle.pickle_map.specs.Calls.{Places}
 use Rattle.pickle_map.proofs.Followed.{walk_leaves}

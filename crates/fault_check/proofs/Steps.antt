@@ -5,9 +5,9 @@ use Rattle.std.proofs.lemmas.List.{take_all, drop_more, drop_all}
 use Rattle.bit_space.specs.declared.order.Order.{Order}
 use Rattle.bit_space.specs.Bits.{bits_of}
 use Rattle.bit_space.specs.SpaceView.{SpaceView}
-use Rattle.pickle_types.specs.declared.table.Field.{Field}
-use Rattle.pickle_types.specs.declared.table.Part.{Part as Alternative}
-use Rattle.pickle_types.specs.declared.table.Node.{Node}
+use Rattle.pickle_types.specs.declared.node.Field.{Field}
+use Rattle.pickle_types.specs.declared.node.Part.{Part as Alternative}
+use Rattle.pickle_types.specs.declared.node.Node.{Node}
 use Rattle.pickle_types.specs.Types.{Term, PokeType, StructOf, UnionOf, Fields, Parts}
 use Rattle.pickle_types.specs.Table.{type_of, optional_term}
 use Rattle.pickle_meaning.specs.declared.faults.MapFault.{MapFault}

@@ -2,10 +2,10 @@
 use Rattle.std.specs.Prelude.{◌≡◌, ℕ, Bool, List, Option, Box, Result, Err}
 use Rattle.std.specs.declared.alloc.Global.{Global}
 use Rattle.bit_space.specs.declared.order.Order.{Order}
-use Rattle.pickle_types.specs.declared.table.Field.{Field}
-use Rattle.pickle_types.specs.declared.table.Node.{Node}
-use Rattle.pickle_types.specs.declared.table.Part.{Part as Alternative}
-use Rattle.pickle_types.specs.declared.table.Resolved.{Resolved}
+use Rattle.pickle_types.specs.declared.node.Field.{Field}
+use Rattle.pickle_types.specs.declared.node.Node.{Node}
+use Rattle.pickle_types.specs.declared.node.Part.{Part as Alternative}
+use Rattle.pickle_types.specs.declared.node.Resolved.{Resolved}
 use Rattle.pickle_types.specs.Types.{PokeType}
 use Rattle.pickle_types.specs.Table.{type_of, open_fields, open_parts, optional_term}
 use Rattle.pickle_meaning.specs.declared.faults.MapFault.{MapFault}

@@ -1,8 +1,8 @@
 -- What is found on a way through the fields of integral structs.
 use Rattle.bit_space.specs.declared.order.Order.{Order}
 use Rattle.std.specs.Prelude.{◌≡◌, ℕ, ◌<◌, ◌≤◌, length, drop, List, Some, Ok, Err}
-use Rattle.pickle_types.specs.declared.table.Node.{Node}
-use Rattle.pickle_types.specs.declared.table.Part.{Part}
+use Rattle.pickle_types.specs.declared.node.Node.{Node}
+use Rattle.pickle_types.specs.declared.node.Part.{Part}
 use Rattle.pickle_types.specs.Types.{PokeType}
 use Rattle.pickle_types.specs.Table.{type_of, open_parts, optional_term}
 use Rattle.pickle_meaning.specs.Values.{Value, Levels, pushed}

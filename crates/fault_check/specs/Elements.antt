@@ -1,8 +1,8 @@
 -- What is found on a way through the elements of an array.
 use Rattle.std.specs.Prelude.{◌≡◌, ℕ, false, List, Option, None, Ok, length, IfSome}
 use Rattle.bit_space.specs.declared.order.Order.{Order}
-use Rattle.pickle_types.specs.declared.table.Extent.{Extent as Bound}
-use Rattle.pickle_types.specs.declared.table.Node.{Node}
+use Rattle.pickle_types.specs.declared.node.Extent.{Extent as Bound}
+use Rattle.pickle_types.specs.declared.node.Node.{Node}
 use Rattle.pickle_types.specs.Types.{PokeType, ArrayOf}
 use Rattle.pickle_types.specs.Table.{type_of, bound_of}
 use Rattle.pickle_meaning.specs.declared.extent.Extent.{Extent}

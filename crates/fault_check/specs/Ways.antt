@@ -5,10 +5,10 @@ use Rattle.bit_space.specs.Bits.{bits_of}
 use Rattle.bit_space.specs.SpaceView.{SpaceView}
 use Rattle.bit_space.specs.declared.meter.Meter.{Meter}
 use Rattle.bit_space.specs.declared.order.Order.{Order}
-use Rattle.pickle_types.specs.declared.table.Field.{Field}
-use Rattle.pickle_types.specs.declared.table.Part.{Part as Alternative}
-use Rattle.pickle_types.specs.declared.table.Node.{Node}
-use Rattle.pickle_types.specs.declared.table.Resolved.{Resolved}
+use Rattle.pickle_types.specs.declared.node.Field.{Field}
+use Rattle.pickle_types.specs.declared.node.Part.{Part as Alternative}
+use Rattle.pickle_types.specs.declared.node.Node.{Node}
+use Rattle.pickle_types.specs.declared.node.Resolved.{Resolved}
 use Rattle.pickle_types.specs.Types.{Term, Fields, FieldThen, Parts, PartThen, depth}
 use Rattle.pickle_types.specs.Sound.{IsSoundClause}
 use Rattle.pickle_types.specs.Table.{type_of, optional_term, name_of}

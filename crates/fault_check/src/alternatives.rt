@@ -1,7 +1,7 @@
 //! Alternatives of a union, on a way into one of them.
 
 ghost use Rattle.std.specs.Prelude.{◌≡◌, ℕ, ◌∷◌, [], List, All, IsTrue};
-ghost use Rattle.pickle_types.specs.declared.table.Node.{Node};
+ghost use Rattle.pickle_types.specs.declared.node.Node.{Node};
 ghost use Rattle.pickle_types.specs.Table.{IsTable};
 ghost use Rattle.pickle_meaning.specs.Values.{outer_of};
 ghost use Rattle.pickle_map.specs.Mappable.{IsPartOf};

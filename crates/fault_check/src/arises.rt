@@ -17,7 +17,7 @@ use crate::part::{Entered, Part};
 use bit_space::{Meter, Order, Space};
 use pickle_map::mapper::stop::Stop;
 use pickle_meaning::faults::MapFault;
-use pickle_types::type_table::{Table, TypeId};
+use pickle_types::table::{Table, TypeId};
 use pickle_types::view::{Node, Shape};
 use value_store::store::Store;
 

@@ -1,7 +1,7 @@
 //! Parts that are mapped on a way, with what they mean.
 
 ghost use Rattle.std.specs.Prelude.{◌≡◌, ◌+◌, ◌≤◌, ◌<◌, length, IfOk, OnErr, IsTrue, List};
-ghost use Rattle.pickle_types.specs.declared.table.Node.{Node as TableNode};
+ghost use Rattle.pickle_types.specs.declared.node.Node.{Node as TableNode};
 ghost use Rattle.pickle_types.specs.Types.{depth};
 ghost use Rattle.pickle_types.specs.Table.{IsTable, type_of, optional_term};
 ghost use Rattle.pickle_types.specs.Sound.{IsSoundClause};

@@ -1,7 +1,7 @@
 -- What is found along ways from a type to its parts, in the table that has these types.
 use Rattle.std.specs.Prelude.{ℕ, List, map, IfErr, IfSome}
 use Rattle.bit_space.specs.SpaceView.{SpaceView}
-use Rattle.pickle_types.specs.declared.table.Node.{Node}
+use Rattle.pickle_types.specs.declared.node.Node.{Node}
 use Rattle.pickle_types.specs.Types.{PokeType}
 use Rattle.pickle_types.specs.Table.{type_of}
 use Rattle.pickle_meaning.specs.declared.faults.MapFault.{MapFault}

@@ -1,9 +1,9 @@
 -- The parts that the nodes of a table have.
 use Rattle.std.specs.Prelude.{◌≡◌, ℕ, ◌<◌, List, ◌++◌, Option, Some, None, length, codes, decimal}
-use Rattle.pickle_types.specs.declared.table.Field.{Field}
-use Rattle.pickle_types.specs.declared.table.Part.{Part}
-use Rattle.pickle_types.specs.declared.table.Shape.{Shape}
-use Rattle.pickle_types.specs.declared.table.Node.{Node}
+use Rattle.pickle_types.specs.declared.node.Field.{Field}
+use Rattle.pickle_types.specs.declared.node.Part.{Part}
+use Rattle.pickle_types.specs.declared.node.Shape.{Shape}
+use Rattle.pickle_types.specs.declared.node.Node.{Node}
 use Rattle.pickle_types.specs.Types.{PokeType}
 use Rattle.pickle_types.specs.Table.{open_shape, open_fields, open_parts, type_of, NamesBelow, FieldsBelow, PartsBelow}
 use Rattle.value_text.specs.PathText.{field_step}

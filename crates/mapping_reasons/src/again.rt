@@ -12,7 +12,7 @@ use crate::watcher::Told;
 use bit_space::{Meter, Space};
 use pickle_map::mapper::map_watched;
 use pickle_map::{MapFault, Store};
-use pickle_types::type_table::{Table, TypeId};
+use pickle_types::table::{Table, TypeId};
 use poke_batch::ask::Ask;
 use std::alloc::{AllocError, Global};
 

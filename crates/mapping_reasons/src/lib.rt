@@ -35,7 +35,7 @@ use bit_space::Space;
 use pickle_map::{MapFault, ValueRef};
 use pickle_script::script::Script;
 use pickle_script::text::Text;
-use pickle_types::type_table::{Table, TypeId};
+use pickle_types::table::{Table, TypeId};
 use poke_batch::ask::Ask;
 use poke_batch::run::{store_of, tell_end};
 use poke_batch::terms::Terms;

@@ -13,7 +13,7 @@ use bit_space::{Meter, Space};
 use fault_check::arises::arises;
 use pickle_map::mapper::told;
 use pickle_map::{MapFault, MapFaultKind, Store};
-use pickle_types::type_table::{Table, TypeId};
+use pickle_types::table::{Table, TypeId};
 use poke_batch::ask::Ask;
 use std::alloc::{AllocError, Global};
 

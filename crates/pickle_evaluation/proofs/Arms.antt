@@ -1,6 +1,6 @@
 -- Evaluations of an expression's kinds, as their operands come to an end.
 use Rattle.std.proofs.Common.{◌≡◌, ℕ, ◌+◌, List, Option, Some, None, Result, Ok, Err, Bool, true, false, refl, subst, arith}
-use Rattle.pickle_types.specs.declared.table.Node.{Node}
+use Rattle.pickle_types.specs.declared.node.Node.{Node}
 use Rattle.value_store.specs.declared.scalar.Scalar.{Scalar}
 use Rattle.pickle_evaluation.specs.declared.operand.Operand.{Operand as Computing}
 use Rattle.pickle_evaluation.specs.declared.operand.Operand.TheVariants as computing

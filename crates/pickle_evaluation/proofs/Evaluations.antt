@@ -1,6 +1,6 @@
 -- Evaluations made of evaluations, as their parts come to an end.
 use Rattle.std.proofs.Common.{◌≡◌, ℕ, ◌+◌, ◌≤◌, List, Result, Ok, Err, refl, arith}
-use Rattle.pickle_types.specs.declared.table.Node.{Node}
+use Rattle.pickle_types.specs.declared.node.Node.{Node}
 use Rattle.value_store.specs.declared.scalar.Scalar.{Scalar}
 use Rattle.pickle_evaluation.specs.declared.operand.Operand.{Operand as Computing}
 use Rattle.pickle_evaluation.specs.declared.operand.Operand.TheVariants as computing

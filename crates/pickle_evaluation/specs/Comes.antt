@@ -1,6 +1,6 @@
 -- What an evaluation comes to, or a part of one in no steps.
 use Rattle.std.specs.Prelude.{◌≡◌, ℕ, ◌+◌, ◌<◌, Bool, true, false, List, Option, Result, Ok, Err}
-use Rattle.pickle_types.specs.declared.table.Node.{Node}
+use Rattle.pickle_types.specs.declared.node.Node.{Node}
 use Rattle.pickle_evaluation.specs.declared.operand.Operand.{Operand as Computing}
 use Rattle.value_store.specs.declared.scalar.Scalar.{Scalar}
 use Rattle.pickle_evaluation.specs.declared.operand.Operand.TheVariants as computing

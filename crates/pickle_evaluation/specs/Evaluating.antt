@@ -2,7 +2,7 @@
 use Rattle.std.specs.Prelude.{◌≡◌, ℕ, ◌+◌, ℤ, pos, Bool, List, Option, Result, IfSome, if◌then◌else◌}
 use Rattle.bit_space.specs.declared.meter.Meter.{Meter}
 use Rattle.pickle_types.specs.declared.integer.IntegerType.{IntegerType}
-use Rattle.pickle_types.specs.declared.table.Node.{Node}
+use Rattle.pickle_types.specs.declared.node.Node.{Node}
 use Rattle.pickle_types.specs.Types.{Term}
 use Rattle.pickle_tree.specs.declared.tree.Infix.{Infix}
 use Rattle.pickle_meaning.specs.declared.faults.MapFaultKind.{MapFaultKind}

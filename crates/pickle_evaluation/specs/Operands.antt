@@ -1,6 +1,6 @@
 -- What an expression's operands are, while they are computed.
 use Rattle.std.specs.Prelude.{◌≡◌, ℕ, ◌+◌, ◌<◌, List, Result, Ok, Err}
-use Rattle.pickle_types.specs.declared.table.Node.{Node}
+use Rattle.pickle_types.specs.declared.node.Node.{Node}
 use Rattle.pickle_evaluation.specs.declared.operand.Operand.{Operand as Computing}
 use Rattle.pickle_evaluation.specs.declared.operand.Operand.TheVariants as computing
 use Rattle.pickle_evaluation.specs.declared.operand.Unvalued.{Unvalued}

@@ -1,7 +1,7 @@
 //! What operators see of an operand.
 
 ghost use Rattle.std.specs.Prelude.{◌≡◌, ℕ, ◌<◌, List, Ok, Err, IfOk, IfSome};
-ghost use Rattle.pickle_types.specs.declared.table.Node.{Node};
+ghost use Rattle.pickle_types.specs.declared.node.Node.{Node};
 ghost use Rattle.pickle_types.specs.Table.{IsWidth};
 ghost use Rattle.pickle_types.specs.Sound.{IsOptionalWidth};
 ghost use Rattle.pickle_meaning.specs.Arithmetic.{prefixed, combined, to_integer, to_offset, in_unit, on_texts};

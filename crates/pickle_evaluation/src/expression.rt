@@ -4,7 +4,7 @@
 
 ghost use Rattle.std.specs.Prelude.{◌≡◌, ◌+◌, ◌<◌, ◌≤◌, ◌^◌, IfOk, OnOk, OnErr, List};
 ghost use Rattle.pickle_types.specs.Table.{term_of};
-ghost use Rattle.pickle_types.specs.declared.table.Node.{Node as TableNode};
+ghost use Rattle.pickle_types.specs.declared.node.Node.{Node as TableNode};
 ghost use Rattle.pickle_types.specs.Sound.{IsOptionalWidth, IsSoundTerm};
 ghost use Rattle.pickle_meaning.specs.Values.{Label};
 ghost use Rattle.pickle_evaluation.specs.Operands.{operand_of};

@@ -3,7 +3,7 @@
 ghost use Rattle.std.specs.Prelude.{◌≡◌, List};
 ghost use Rattle.std.specs.Option.{option_map};
 ghost use Rattle.value_store.specs.Refs.{value_of};
-ghost use Rattle.pickle_types.specs.declared.table.Node.{Node};
+ghost use Rattle.pickle_types.specs.declared.node.Node.{Node};
 ghost use Rattle.pickle_meaning.specs.Evaluation.{AtPath, selected};
 ghost use Rattle.pickle_evaluation.specs.Evaluating.{FindsElement};
 

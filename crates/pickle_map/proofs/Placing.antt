@@ -7,7 +7,7 @@ use Rattle.bit_space.specs.SpaceView.{SpaceView}
 use Rattle.bit_space.specs.declared.number.BitFault.{BitFault}
 use Rattle.bit_space.specs.declared.number.BitFault.TheVariants as refused
 use Rattle.bit_space.specs.Reading.{MayRead, IsRefused}
-use Rattle.pickle_types.specs.declared.table.Part.{Part}
+use Rattle.pickle_types.specs.declared.node.Part.{Part}
 use Rattle.pickle_types.specs.Types.{PokeType}
 use Rattle.pickle_types.specs.Table.{optional_term, open_parts}
 use Rattle.pickle_meaning.specs.declared.faults.MapFaultKind.TheVariants.{End}

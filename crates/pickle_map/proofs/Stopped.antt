@@ -5,7 +5,7 @@ use Rattle.bit_space.specs.declared.order.Order.{Order}
 use Rattle.bit_space.specs.Bits.{bits_of}
 use Rattle.bit_space.specs.SpaceView.{SpaceView, IsWhole}
 use Rattle.bit_space.proofs.Digits.{length-bits_of}
-use Rattle.pickle_types.specs.declared.table.Node.{Node}
+use Rattle.pickle_types.specs.declared.node.Node.{Node}
 use Rattle.value_store.specs.Slots.{Held, packs, levels, emptied}
 use Rattle.value_store.specs.Takes.{AreWithin}
 use Rattle.value_store.proofs.Held.{none-open}

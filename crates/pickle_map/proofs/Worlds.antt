@@ -2,7 +2,7 @@
 use Rattle.std.proofs.Common.{◌≡◌, ℕ, ◌≤◌, Bool, false, Option, List, option_map, refl, subst, ◌∙◌, arith}
 use Rattle.bit_space.specs.Bits.{bits_of}
 use Rattle.bit_space.specs.SpaceView.{SpaceView}
-use Rattle.pickle_types.specs.declared.table.Node.{Node}
+use Rattle.pickle_types.specs.declared.node.Node.{Node}
 use Rattle.value_store.specs.declared.store.room.Room.{Room}
 use Rattle.value_store.specs.declared.store.slots.Marks.{Marks}
 use Rattle.pickle_meaning.specs.Values.{Levels}

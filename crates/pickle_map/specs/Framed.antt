@@ -5,7 +5,7 @@ use Rattle.bit_space.specs.declared.number.BitFault.{BitFault}
 use Rattle.bit_space.specs.declared.number.BitFault.TheVariants as refused
 use Rattle.bit_space.specs.Reading.{IsRefused}
 use Rattle.bit_space.specs.SpaceView.{SpaceView, known_bits, HasRisen}
-use Rattle.pickle_types.specs.declared.table.Node.{Node}
+use Rattle.pickle_types.specs.declared.node.Node.{Node}
 use Rattle.pickle_meaning.specs.declared.faults.MapFaultKind.TheVariants.{End}
 use Rattle.pickle_map.specs.declared.mapper.stop.Stop.{Stop}
 use Rattle.pickle_map.specs.declared.mapper.stop.Stop.TheVariants.{Fault, Limit, Device, Memory}

@@ -4,9 +4,9 @@ use Rattle.bit_space.specs.declared.meter.Meter.{Meter}
 use Rattle.bit_space.specs.declared.order.Order.{Order}
 use Rattle.bit_space.specs.Bits.{bits_of}
 use Rattle.bit_space.specs.SpaceView.{SpaceView, HasRisen}
-use Rattle.pickle_types.specs.declared.table.Node.{Node}
-use Rattle.pickle_types.specs.declared.type_table.Table.{Table}
-use Rattle.pickle_types.specs.declared.type_table.TypeId.{TypeId}
+use Rattle.pickle_types.specs.declared.node.Node.{Node}
+use Rattle.pickle_types.specs.declared.table.Table.{Table}
+use Rattle.pickle_types.specs.declared.table.TypeId.{TypeId}
 use Rattle.pickle_types.specs.Bounds.{cost, room as room_of}
 use Rattle.pickle_types.specs.Types.{PokeType}
 use Rattle.pickle_types.specs.TypeTable.{nodes_of, type_named}

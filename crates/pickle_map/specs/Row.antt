@@ -1,7 +1,7 @@
 -- Arrays of numbers that a store packs, while they are mapped.
 use Rattle.std.specs.Prelude.{◌≡◌, ℕ, ◌+◌, ◌*◌, length, List, ◌∷◌, Option, Some, None, Result, Ok, true, false}
 use Rattle.pickle_types.specs.Types.{PokeType, IntegerOf, OffsetOf}
-use Rattle.pickle_types.specs.declared.table.Node.{Node}
+use Rattle.pickle_types.specs.declared.node.Node.{Node}
 use Rattle.bit_space.specs.declared.meter.Meter.{Meter}
 use Rattle.bit_space.specs.SpaceView.{SpaceView}
 use Rattle.value_store.specs.declared.store.room.Room.{Room}

@@ -2,9 +2,9 @@
 use Rattle.std.specs.Prelude.{ℕ, Bool, List, Option, Box, Result}
 use Rattle.std.specs.declared.alloc.Global.{Global}
 use Rattle.bit_space.specs.declared.meter.Meter.{Meter}
-use Rattle.pickle_types.specs.declared.table.Extent.{Extent as Bound}
-use Rattle.pickle_types.specs.declared.table.Node.{Node}
-use Rattle.pickle_types.specs.declared.table.Resolved.{Resolved}
+use Rattle.pickle_types.specs.declared.node.Extent.{Extent as Bound}
+use Rattle.pickle_types.specs.declared.node.Node.{Node}
+use Rattle.pickle_types.specs.declared.node.Resolved.{Resolved}
 use Rattle.pickle_types.specs.Table.{term_of, optional_term, bound_of}
 use Rattle.pickle_evaluation.specs.declared.content.Content.{Content}
 use Rattle.pickle_meaning.specs.declared.extent.Extent.{Extent}

@@ -19,7 +19,7 @@ pub mod watch;
 
 use bit_space::{Meter, Order, Space};
 use pickle_meaning::faults::{MapFault, MapFaultKind};
-use pickle_types::type_table::{Table, TypeId};
+use pickle_types::table::{Table, TypeId};
 use stop::Stop;
 use types::map_type;
 use value_store::store::Store;

@@ -8,10 +8,10 @@ use Rattle.std.proofs.Math.Seq.{get_or-append_seam}
 use Rattle.pickle_types.specs.declared.bounds.Bounds.{Bounds}
 use Rattle.pickle_types.specs.declared.bounds.FieldBounds.{FieldBounds}
 use Rattle.pickle_types.specs.declared.bounds.PartBounds.{PartBounds}
-use Rattle.pickle_types.specs.declared.table.Field.{Field}
-use Rattle.pickle_types.specs.declared.table.Part.{Part}
-use Rattle.pickle_types.specs.declared.table.Shape.{Shape}
-use Rattle.pickle_types.specs.declared.table.Node.{Node}
+use Rattle.pickle_types.specs.declared.node.Field.{Field}
+use Rattle.pickle_types.specs.declared.node.Part.{Part}
+use Rattle.pickle_types.specs.declared.node.Shape.{Shape}
+use Rattle.pickle_types.specs.declared.node.Node.{Node}
 use Rattle.pickle_types.specs.Types.{PokeType, FieldThen, NoFields, PartThen, NoParts}
 use Rattle.pickle_types.specs.Table.{type_of, open_shape, open_fields, open_parts, name_of, optional_term, IsTable}
 use Rattle.pickle_types.specs.Holds.{AreBounds, AreFieldBounds, ArePartBounds, AreKnown}

@@ -11,12 +11,12 @@ use Rattle.pickle_tree.specs.Limits.{standard, field_count}
 use Rattle.pickle_types.specs.declared.integer.IntegerType.{IntegerType}
 use Rattle.pickle_types.specs.declared.fault.FaultKind.{FaultKind}
 use Rattle.pickle_types.specs.declared.fault.FaultKind.TheVariants.{Memory, IntegralWidths, NotHere}
-use Rattle.pickle_types.specs.declared.table.Node.{Node}
-use Rattle.pickle_types.specs.declared.table.Field.{Field}
+use Rattle.pickle_types.specs.declared.node.Node.{Node}
+use Rattle.pickle_types.specs.declared.node.Field.{Field}
 use Rattle.pickle_types.specs.declared.check.places.Place.{Place}
 use Rattle.pickle_types.specs.declared.check.places.Place.TheVariants as place
-use Rattle.pickle_types.specs.declared.check.types.Builder.{Builder}
-use Rattle.pickle_types.specs.declared.check.types.Found.{Found}
+use Rattle.pickle_types.specs.declared.check.builder.Builder.{Builder}
+use Rattle.pickle_types.specs.declared.check.builder.Found.{Found}
 use Rattle.pickle_types.specs.declared.scopes.Seen.{Seen}
 use Rattle.pickle_types.specs.Types.{Term, Bound, PokeType, StringOf, ArrayOf, StructOf, IntegralOf, UnionOf, Fields, NoFields, depth, fields_depth}
 use Rattle.pickle_types.specs.Table.{name_of, optional_term, type_of, open_shape, open_fields, open_parts, fields_onto, FieldsBelow, PartsBelow, NamesBelow, IsSoundField, IsSoundPart, IsSoundShape, IsTable, Grows}

@@ -9,9 +9,9 @@ use Rattle.pickle_types.specs.Table.{type_of, open_shape, IsTable}
 use Rattle.pickle_types.specs.Built.{IsNamed, AreNamed}
 use Rattle.pickle_types.specs.declared.declared_types.TypeKind.{TypeKind}
 use Rattle.pickle_types.specs.declared.names.Named.{Named}
-use Rattle.pickle_types.specs.declared.table.Node.{Node}
-use Rattle.pickle_types.specs.declared.table.Shape.{Shape}
-use Rattle.pickle_types.specs.declared.table.Shape.TheVariants as shape
+use Rattle.pickle_types.specs.declared.node.Node.{Node}
+use Rattle.pickle_types.specs.declared.node.Shape.{Shape}
+use Rattle.pickle_types.specs.declared.node.Shape.TheVariants as shape
 use Rattle.pickle_types.specs.DeclaredTypes.{kind_of, shape_kind, Told}
 use Rattle.pickle_types.proofs.Tables.{opens}
 

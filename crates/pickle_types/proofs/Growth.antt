@@ -3,7 +3,7 @@ use Rattle.std.proofs.Common.{◌≡◌, ℕ, zero, suc, ◌<◌, ◌≤◌, ◌
 use Rattle.std.specs.Prelude.{slice_get}
 use Rattle.std.proofs.lemmas.Bool.{cases_lt}
 use Rattle.std.proofs.lemmas.List.{length-append}
-use Rattle.pickle_types.specs.declared.table.Node.{Node}
+use Rattle.pickle_types.specs.declared.node.Node.{Node}
 use Rattle.pickle_types.specs.Types.{PokeType, depth}
 use Rattle.pickle_types.specs.Table.{open_shape, open_found, type_at, type_of, NamesBelow, IsSoundShape, IsTable, Grows}
 use Rattle.pickle_types.proofs.Items.{get_front, get_last, is_last}

@@ -6,7 +6,7 @@ use Rattle.std.specs.Map.{lookup}
 use Rattle.std.specs.BTreeMap.{is_at}
 use Rattle.std.proofs.lemmas.Bool.{cases_lt, eq-eqb, ne_eqb}
 use Rattle.std.proofs.lemmas.List.{length-append}
-use Rattle.pickle_types.specs.declared.table.Node.{Node}
+use Rattle.pickle_types.specs.declared.node.Node.{Node}
 use Rattle.pickle_types.specs.declared.places_by_name.PlacesByName.{PlacesByName}
 use Rattle.pickle_types.specs.FieldNames.{shape_names, ArePlaced, AreIndexed}
 use Rattle.pickle_types.proofs.Items.{get_front, is_last}

@@ -9,7 +9,7 @@ use Rattle.std.proofs.lemmas.Option.{slice_get_within}
 use Rattle.std.proofs.lemmas.List.{length-map, map_push, take-append-le, take_all, get_or-map, map-append, length-append, get_or_append_left, get_or-append-add, append-nil}
 use Rattle.std.proofs.Math.Seq.{take-append-add, take-suc}
 use Rattle.pickle_types.proofs.Items.{get_front, get_last, is_last}
-use Rattle.pickle_types.specs.declared.table.Node.{Node}
+use Rattle.pickle_types.specs.declared.node.Node.{Node}
 use Rattle.pickle_types.specs.declared.scopes.Seen.{Seen}
 use Rattle.pickle_types.specs.declared.many_fields.Entry.{Entry}
 use Rattle.pickle_types.specs.Scopes.{Visible, is_named, or_this, resolve}

@@ -2,8 +2,8 @@
 use Rattle.std.proofs.Common.{◌≡◌, ℕ, suc, ◌+◌, ◌<◌, ◌≤◌, List, [], ◌∷◌, map, get_or, length, Option, Some, None, Bool, true, false, refl, ap, ◌∙◌, arith}
 use Rattle.std.specs.Prelude.{if◌then◌else◌, option_map, slice_get}
 use Rattle.std.proofs.lemmas.Option.{slice_get_past, slice_get_read}
-use Rattle.pickle_types.specs.declared.table.Field.{Field}
-use Rattle.pickle_types.specs.declared.table.Part.{Part}
+use Rattle.pickle_types.specs.declared.node.Field.{Field}
+use Rattle.pickle_types.specs.declared.node.Part.{Part}
 use Rattle.pickle_types.specs.Types.{PokeType}
 use Rattle.pickle_types.specs.Table.{name_of, open_fields, open_parts}
 use Rattle.pickle_types.specs.Scopes.{is_named}

@@ -2,11 +2,11 @@
 use Rattle.std.proofs.Common.{◌≡◌, ℕ, zero, suc, ◌<◌, List, [], ◌∷◌, Option, Some, None, length, get_or, refl, sym, ap, ◌∙◌, arith}
 use Rattle.std.specs.Prelude.{slice_get}
 use Rattle.std.proofs.lemmas.Option.{slice_get-get_or}
-use Rattle.pickle_types.specs.declared.table.Field.{Field}
-use Rattle.pickle_types.specs.declared.table.Part.{Part}
-use Rattle.pickle_types.specs.declared.table.Shape.{Shape}
-use Rattle.pickle_types.specs.declared.table.Shape.TheVariants as shape
-use Rattle.pickle_types.specs.declared.table.Node.{Node}
+use Rattle.pickle_types.specs.declared.node.Field.{Field}
+use Rattle.pickle_types.specs.declared.node.Part.{Part}
+use Rattle.pickle_types.specs.declared.node.Shape.{Shape}
+use Rattle.pickle_types.specs.declared.node.Shape.TheVariants as shape
+use Rattle.pickle_types.specs.declared.node.Node.{Node}
 use Rattle.pickle_types.specs.Types.{PokeType, ArrayOf, StructOf, IntegralOf, UnionOf, Fields, NoFields, Parts, NoParts}
 use Rattle.pickle_types.specs.Table.{bound_of, name_of, fields_onto, parts_onto, open_shape, open_found, type_at, type_of, FieldsBelow, PartsBelow, NamesBelow, IsTable}
 

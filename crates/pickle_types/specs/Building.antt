@@ -4,12 +4,12 @@ use denote.Bor.{Bor}
 use Rattle.pickle_tree.specs.Tree.{FieldParts}
 use Rattle.pickle_types.specs.declared.integer.IntegerType.{IntegerType}
 use Rattle.pickle_types.specs.declared.fault.FaultKind.{FaultKind}
-use Rattle.pickle_types.specs.declared.table.Field.{Field}
+use Rattle.pickle_types.specs.declared.node.Field.{Field}
 use Rattle.pickle_types.specs.declared.scopes.Seen.{Seen}
 use Rattle.pickle_types.specs.declared.check.places.Place.{Place}
 use Rattle.pickle_types.specs.declared.check.places.Place.TheVariants as place
-use Rattle.pickle_types.specs.declared.check.types.Builder.{Builder}
-use Rattle.pickle_types.specs.declared.check.types.Found.{Found}
+use Rattle.pickle_types.specs.declared.check.builder.Builder.{Builder}
+use Rattle.pickle_types.specs.declared.check.builder.Found.{Found}
 use Rattle.pickle_types.specs.Types.{PokeType, IntegerOf, Fields, depth, fields_depth}
 use Rattle.pickle_types.specs.Table.{name_of, type_of, fields_onto, open_fields, FieldsBelow, IsTable, Grows}
 use Rattle.pickle_types.specs.Scopes.{Visible}

@@ -3,8 +3,8 @@ use Rattle.std.specs.Prelude.{ℕ, ◌^◌, nat_le, if◌then◌else◌, List, O
 use Rattle.pickle_types.specs.declared.declared_types.TypeKind.{TypeKind}
 use Rattle.pickle_types.specs.declared.declared_types.TypeKind.TheVariants as kind
 use Rattle.pickle_types.specs.declared.declared_types.DeclaredType.{DeclaredType}
-use Rattle.pickle_types.specs.declared.table.Shape.{Shape}
-use Rattle.pickle_types.specs.declared.table.Shape.TheVariants as shape
+use Rattle.pickle_types.specs.declared.node.Shape.{Shape}
+use Rattle.pickle_types.specs.declared.node.Shape.TheVariants as shape
 use Rattle.pickle_types.specs.Types.{PokeType, IntegerOf, OffsetOf, StringOf, ArrayOf, StructOf, IntegralOf, UnionOf}
 use Rattle.pickle_types.specs.Bounds.{least_width}
 use Rattle.pickle_types.specs.Names.{Names}

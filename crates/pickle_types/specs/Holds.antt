@@ -3,7 +3,7 @@ use Rattle.std.specs.Prelude.{◌≡◌, ℕ, ◌≤◌, ◌^◌, Bool, true, fa
 use Rattle.pickle_types.specs.declared.bounds.Bounds.{Bounds}
 use Rattle.pickle_types.specs.declared.bounds.FieldBounds.{FieldBounds}
 use Rattle.pickle_types.specs.declared.bounds.PartBounds.{PartBounds}
-use Rattle.pickle_types.specs.declared.table.Node.{Node}
+use Rattle.pickle_types.specs.declared.node.Node.{Node}
 use Rattle.pickle_types.specs.Types.{PokeType, Fields, Parts, NoParts, PartThen}
 use Rattle.pickle_types.specs.Table.{type_of}
 use Rattle.pickle_types.specs.Bounds.{least_width, sum_of_widths, greatest_width, has_label, least_of_widths, cost, fields_cost, parts_cost, room, fields_room, parts_room, greatest_room, IsBound}

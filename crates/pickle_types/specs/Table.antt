@@ -3,15 +3,15 @@ use Rattle.std.specs.Prelude.{◌≡◌, ℕ, zero, suc, ◌<◌, ◌≤◌, ◌
 use Rattle.std.specs.declared.alloc.Global.{Global}
 use Rattle.pickle_types.specs.declared.name.Name.{Name as RustName}
 use Rattle.pickle_types.specs.declared.name.Name.TheVariants as letters
-use Rattle.pickle_types.specs.declared.table.Resolved.{Resolved}
-use Rattle.pickle_types.specs.declared.table.Resolved.TheVariants as resolved
-use Rattle.pickle_types.specs.declared.table.Extent.{Extent}
-use Rattle.pickle_types.specs.declared.table.Extent.TheVariants as extent
-use Rattle.pickle_types.specs.declared.table.Field.{Field}
-use Rattle.pickle_types.specs.declared.table.Part.{Part}
-use Rattle.pickle_types.specs.declared.table.Shape.{Shape}
-use Rattle.pickle_types.specs.declared.table.Shape.TheVariants as shape
-use Rattle.pickle_types.specs.declared.table.Node.{Node}
+use Rattle.pickle_types.specs.declared.node.Resolved.{Resolved}
+use Rattle.pickle_types.specs.declared.node.Resolved.TheVariants as resolved
+use Rattle.pickle_types.specs.declared.node.Extent.{Extent}
+use Rattle.pickle_types.specs.declared.node.Extent.TheVariants as extent
+use Rattle.pickle_types.specs.declared.node.Field.{Field}
+use Rattle.pickle_types.specs.declared.node.Part.{Part}
+use Rattle.pickle_types.specs.declared.node.Shape.{Shape}
+use Rattle.pickle_types.specs.declared.node.Shape.TheVariants as shape
+use Rattle.pickle_types.specs.declared.node.Node.{Node}
 use Rattle.pickle_types.specs.Types.{Term, Number, Text, Name, Bracket, Before, Between, Choice, Index, Select, AttributeOf, ToInteger, ToOffset, InUnit, Bound, Unbounded, ByCount, BySize, PokeType, IntegerOf, OffsetOf, StringOf, ArrayOf, StructOf, IntegralOf, UnionOf, Fields, NoFields, FieldThen, Parts, NoParts, PartThen, depth}
 pub use Rattle.pickle_types.specs.Sound.{IsWidth}
 use Rattle.pickle_types.specs.Sound.{IsSoundClause, IsSoundBound}

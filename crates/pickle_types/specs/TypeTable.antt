@@ -1,9 +1,9 @@
 -- What a table of types holds.
 use Rattle.std.specs.Prelude.{◌≡◌, ℕ, ◌<◌, length, List, Option, Some, None}
 use Rattle.pickle_tree.specs.Tree.{DeclarationTree}
-use Rattle.pickle_types.specs.declared.table.Node.{Node}
-use Rattle.pickle_types.specs.declared.type_table.Table.{Table}
-use Rattle.pickle_types.specs.declared.type_table.TypeId.{TypeId}
+use Rattle.pickle_types.specs.declared.node.Node.{Node}
+use Rattle.pickle_types.specs.declared.table.Table.{Table}
+use Rattle.pickle_types.specs.declared.table.TypeId.{TypeId}
 use Rattle.pickle_types.specs.Types.{PokeType}
 use Rattle.pickle_types.specs.Table.{type_of}
 use Rattle.pickle_types.specs.Names.{Names, predeclared}

@@ -7,7 +7,7 @@ ghost use Rattle.pickle_types.specs.Table.{type_of, term_of, optional_term, boun
 ghost use Rattle.pickle_types.specs.Bounds.{count_of, where_present, IsBound};
 ghost use Rattle.pickle_types.specs.Holds.{HoldsWidth, AreBounds, AreFieldBounds, ArePartBounds, AreKnown};
 
-use crate::table::{Extent, Field, Node, Part, Resolved, Shape};
+use crate::node::{Extent, Field, Node, Part, Resolved, Shape};
 use arrayvec::ArrayVec;
 
 /// What is known of a type: its least width in bits, None from 2^64 on, and bounds on the steps and slots of a mapping,

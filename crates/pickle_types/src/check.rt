@@ -1,5 +1,6 @@
 //! The type rules.
 
+pub mod builder;
 pub mod expressions;
 pub mod field_list;
 pub mod field_names;
@@ -9,4 +10,3 @@ pub mod operators;
 pub mod places;
 pub mod references;
 pub mod sorts;
-pub mod types;

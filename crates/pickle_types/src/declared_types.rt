@@ -10,9 +10,9 @@ ghost use Rattle.pickle_types.specs.DeclaredTypes.{shape_kind, declared_in, held
 use crate::bounds::{Bounds, node_bounds};
 use crate::known_bounds::known_bounds;
 use crate::names::Named;
+use crate::node::{Node, Shape};
 use crate::predeclared::PREDECLARED;
-use crate::table::{Node, Shape};
-use crate::type_table::Table;
+use crate::table::Table;
 use std::alloc::{AllocError, Global};
 
 /// What a type is. A type that is declared as another's name is what that one is.

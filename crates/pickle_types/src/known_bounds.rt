@@ -6,8 +6,8 @@ ghost use Rattle.pickle_types.specs.TypeTable.{type_named, IsInTable};
 ghost use Rattle.pickle_types.specs.Holds.{AreBounds, AreKnown};
 
 use crate::bounds::{Bounds, shape_bounds};
-use crate::table::Node;
-use crate::type_table::{Table, TypeId};
+use crate::node::Node;
+use crate::table::{Table, TypeId};
 use std::alloc::{AllocError, Global};
 
 /// The bounds on so many bits of the declared types before a node. `roots` are their nodes, in rising order.

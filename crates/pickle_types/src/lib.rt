@@ -11,12 +11,12 @@ pub mod laws;
 pub(crate) mod many_fields;
 pub(crate) mod name;
 pub mod names;
+pub(crate) mod node;
 pub(crate) mod places_by_name;
 pub mod predeclared;
 pub mod scopes;
-pub(crate) mod table;
-pub mod type_table;
+pub mod table;
 pub mod view;
 
 pub use fault::{FaultKind, TypeFault};
-pub use type_table::{Table, TypeId};
+pub use table::{Table, TypeId};

@@ -4,7 +4,7 @@ ghost use Rattle.std.specs.Prelude.{◌≡◌, ◌-◌, ◌<◌, ◌^◌, ◌++�
 ghost use Rattle.pickle_types.specs.Scopes.{resolve};
 ghost use Rattle.pickle_types.specs.Innermost.{fields_of, IsIndexed};
 ghost use Rattle.pickle_types.specs.Built.{views_of, IsResolved, AreBelow, IsInLevel};
-ghost use Rattle.pickle_types.specs.declared.table.Node.{Node};
+ghost use Rattle.pickle_types.specs.declared.node.Node.{Node};
 ghost use Rattle.pickle_types.specs.declared.scopes.Seen.{Seen};
 
 use crate::fault::FaultKind;

@@ -5,7 +5,7 @@ ghost use Rattle.std.specs.Str.{bytes_eq};
 ghost use Rattle.pickle_types.specs.Names.{find_type};
 ghost use Rattle.pickle_types.specs.FieldNames.{ArePlaced};
 ghost use Rattle.pickle_types.specs.Built.{names_of, words_of, declared_as, AreNamed, IsFound, IsNamed, AddsName};
-ghost use Rattle.pickle_types.specs.declared.table.Node.{Node};
+ghost use Rattle.pickle_types.specs.declared.node.Node.{Node};
 ghost use Rattle.pickle_types.specs.declared.names.Named.{Named};
 
 use crate::fault::FaultKind;

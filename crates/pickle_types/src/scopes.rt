@@ -3,7 +3,7 @@
 ghost use Rattle.std.specs.Prelude.{◌≡◌, ◌<◌, ◌≤◌, ◌++◌, ◌∷◌, [], ℕ, List, length, take, IfSome, IfErr, OnOk, OnErr};
 ghost use Rattle.pickle_types.specs.Scopes.{resolve, is_named};
 ghost use Rattle.pickle_types.specs.Built.{views_of, IsResolved, AreBelow, IsInLevel, bytes_now};
-ghost use Rattle.pickle_types.specs.declared.table.Node.{Node};
+ghost use Rattle.pickle_types.specs.declared.node.Node.{Node};
 ghost use Rattle.pickle_types.specs.declared.scopes.Seen.{Seen};
 
 use crate::fault::FaultKind;

@@ -1,89 +1,113 @@
-//! Types as a table of nodes, each of which names only nodes before it.
+//! The types of a pickle, found by their names.
 
-use crate::integer::IntegerType;
-use crate::name::Name;
-use pickle_tree::tree::{Attribute, ByteOrder, Infix, Prefix};
+ghost use Rattle.std.specs.Prelude.{◌≡◌, ◌≢◌, ◌<◌, ◌≤◌, ℕ, List, length, map, None, Some, Ok, IfOk, IfErr, IfSome, IsTrue, ◌↔◌};
+ghost use Rattle.pickle_tree.specs.Pickle.{pickle_tree};
+ghost use Rattle.pickle_types.specs.Table.{IsTable};
+ghost use Rattle.pickle_types.specs.Bounds.{IsBound, cost, room};
+ghost use Rattle.pickle_types.specs.Names.{predeclared, find_type};
+ghost use Rattle.pickle_types.specs.Meaning.{declared};
+ghost use Rattle.pickle_types.specs.WellTyped.{Declares};
+ghost use Rattle.pickle_types.specs.Built.{Fails, AreNamed};
+ghost use Rattle.pickle_types.specs.Props.{IsTable-prop, AreNamed-prop};
+ghost use Rattle.pickle_types.specs.Wrong.{first_wrong, TellsPlace};
 
-/// An expression with its names resolved.
-#[derive(Drop)]
-pub enum Resolved {
-    /// A number or character, with its type.
-    Number(IntegerType, u64),
-    Text(Vec<u8>),
-    /// An open level, counted from the innermost, and the place of a field in it.
-    Name(usize, usize),
-    Bracket(Box<Resolved>),
-    Prefix(Prefix, Box<Resolved>),
-    Infix(Infix, Box<Resolved>, Box<Resolved>),
-    /// The type that the choice is converted to, where it is one between integers.
-    Choice(Option<IntegerType>, Box<Resolved>, Box<Resolved>, Box<Resolved>),
-    Index(Box<Resolved>, Box<Resolved>),
-    /// The place of the field in the struct or union before it.
-    Select(Box<Resolved>, usize),
-    Attribute(Attribute, Box<Resolved>),
-    ToInteger(IntegerType, Box<Resolved>),
-    /// The type of the magnitude, and the unit in bits.
-    ToOffset(IntegerType, u32, Box<Resolved>),
-    InUnit(u32, Box<Resolved>),
-}
+use crate::bounds::type_bounds;
+use crate::check::builder::Builder;
+use crate::fault::{FaultKind, TypeFault};
+use crate::names::{Named, find_listed};
+use crate::node::Node;
+use crate::predeclared::PREDECLARED;
+use pickle_tree::tree::Pickle;
+use std::alloc::Global;
 
-/// How many elements an array has: as many as fit, a count, or those of a size.
-#[derive(Drop)]
-pub enum Extent {
-    Unbounded,
-    Count(Box<Resolved>),
-    Size(Box<Resolved>),
-}
-
-/// A field of a struct.
-#[derive(Drop)]
-pub struct Field {
-    pub name: Option<Name>,
-    pub order: Option<ByteOrder>,
+/// A type of a table.
+#[derive(Clone, Copy, PartialEq, Eq, Debug)]
+pub struct TypeId {
     pub node: usize,
-    pub constraint: Option<Box<Resolved>>,
-    pub label: Option<Box<Resolved>>,
-    pub condition: Option<Box<Resolved>>,
 }
 
-/// An alternative of a union, or a field of an integral struct.
+/// The types of a pickle and the predeclared types, found by their names.
 #[derive(Drop)]
-pub struct Part {
-    pub name: Option<Name>,
-    pub order: Option<ByteOrder>,
-    pub node: usize,
-    pub constraint: Option<Box<Resolved>>,
+pub struct Table {
+    pub(crate) nodes: Vec<Node>,
+    /// The nodes of the declared types that are no other names of earlier ones, in rising order.
+    pub(crate) roots: Vec<usize>,
+    pub(crate) names: Vec<Named>,
+    declared: usize,
+    // The nodes are a table's, and each name has a node.
+    pub ghost sound: { IsTable nodes.items } by { IsTable-prop nodes.items },
+    pub ghost named: { AreNamed nodes.items names.items } by { AreNamed-prop nodes.items names.items },
 }
 
-/// A type, with the nodes of the types that it is made of. A name is the one that a value is printed with.
-#[derive(Drop)]
-pub enum Shape {
-    Integer(IntegerType),
-    /// The type of the magnitude, and the unit in bits, from 1 to 4,294,967,295.
-    Offset(IntegerType, u32),
-    String,
-    Array(usize, Extent),
-    Struct {
-        name: Option<Name>,
-        pinned: bool,
-        fields: Vec<Field>,
-    },
-    /// A struct that is read as one integer.
-    Integral {
-        name: Option<Name>,
-        number: IntegerType,
-        fields: Vec<Part>,
-    },
-    Union {
-        name: Option<Name>,
-        alternatives: Vec<Part>,
-    },
-}
+impl Table {
+    ghost use Rattle.pickle_types.specs.TypeTable.{type_named, types_of, count_of, IsInTable, IsTypeFound, IsWellTyped};
 
-/// A node of the table.
-#[derive(Drop)]
-pub struct Node {
-    pub shape: Shape,
-    /// Its place among the declared types, where it is the type of a declaration.
-    pub slot: Option<u16>,
+    /// The types that a pickle declares, where it is well typed and no type is deeper than 64.
+    pub fn build(alloc: Global, pickle: &Pickle<'_>) -> Result<Table, TypeFault>
+        ensures ok { IfOk result (λ table. Declares predeclared (pickle_tree pickle.now) (types_of table)) }
+        ensures len { IfOk result (λ table. count_of table ≡ length (pickle_tree pickle.now)) }
+        // Memory is answered only where a growth was refused; any other kind only where the pickle isn't well typed.
+        ensures wrong { IfErr result (λ e. e.kind ≢ FaultKind.Memory → ¬ IsWellTyped (pickle_tree pickle.now)) }
+        ensures kind { IfErr result (λ e. Fails e.kind (declared predeclared (pickle_tree pickle.now))) }
+        // The first declaration that is wrong is told, counted from 1, and 0 with `Memory`.
+        ensures place { IfErr result (λ e. TellsPlace e.kind e.decl (first_wrong 1 predeclared (pickle_tree pickle.now))) }
+    {
+        let mut builder = Builder::new(alloc);
+        builder.predeclare(&PREDECLARED)?;
+        let roots = builder.declare_all(&pickle.declarations)?;
+        let Builder {
+            alloc: _,
+            names,
+            nodes,
+            seen: _,
+        } = builder;
+        Ok(Table {
+            nodes: nodes.into_nodes(),
+            roots,
+            names: names.into_list(),
+            declared: pickle.declarations.len(),
+        })
+    }
+
+    /// The type of a declared or predeclared name, after a look at each name before it.
+    pub fn find(&self, name: &[u8]) -> Option<TypeId>
+        ensures found { IsTypeFound self.now result (find_type name.now (types_of self.now)) }
+        ensures inside { IfSome result (IsInTable self.now) }
+    {
+        match find_listed(&self.names, name) {
+            Some(declared) => Some(TypeId {
+                node: declared.node,
+            }),
+            None => None,
+        }
+    }
+
+    /// The most steps of a mapping of a type over so many bits, discarded attempts included; None from 2^128 on.
+    pub fn step_bound(&self, id: TypeId, bits: u64) -> Option<u128>
+        requires known { IsInTable self.now id }
+        ensures { IsBound result (cost (type_named self.now id) bits) }
+    {
+        type_bounds(&self.nodes, &self.roots, bits, id.node).steps
+    }
+
+    /// The most slots of each kind that a mapping of a type over so many bits takes; None from 2^128 on.
+    pub fn slot_bound(&self, id: TypeId, bits: u64) -> Option<u128>
+        requires known { IsInTable self.now id }
+        ensures { IsBound result (room (type_named self.now id) bits) }
+    {
+        type_bounds(&self.nodes, &self.roots, bits, id.node).slots
+    }
+
+    /// How many types are declared.
+    pub fn len(&self) -> usize
+        ensures { result ≡ count_of self.now }
+    {
+        self.declared
+    }
+
+    pub fn is_empty(&self) -> bool
+        ensures { IsTrue result ↔ (count_of self.now ≡ 0) }
+    {
+        self.len() == 0
+    }
 }

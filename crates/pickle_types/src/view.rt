@@ -5,8 +5,8 @@ ghost use Rattle.std.specs.Prelude.{◌≡◌};
 ghost use Rattle.pickle_types.specs.TypeTable.{nodes_of, roots_of};
 
 pub use crate::name::Name;
-pub use crate::table::{Extent, Field, Node, Part, Resolved, Shape};
-use crate::type_table::Table;
+pub use crate::node::{Extent, Field, Node, Part, Resolved, Shape};
+use crate::table::Table;
 
 impl Table {
     /// The nodes of the table. Each names only nodes before it, and a `TypeId` tells one by its place.

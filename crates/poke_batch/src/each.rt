@@ -16,7 +16,7 @@ use bit_space::{Memory, Space};
 use command_words::ask::Ask;
 use command_words::terms::Terms;
 use pickle_map::Store;
-use pickle_types::type_table::{Table, TypeId};
+use pickle_types::table::{Table, TypeId};
 use run_parts::status::Status;
 use std::alloc::Global;
 use std::io::Write;

@@ -16,7 +16,7 @@ use bit_space::{Memory, Meter, Space};
 use command_words::ask::Ask;
 use command_words::terms::Terms;
 use pickle_map::{MapFault, MapFaultKind, Store, map};
-use pickle_types::type_table::{Table, TypeId};
+use pickle_types::table::{Table, TypeId};
 use run_parts::accept::{accept, tell_refusal};
 use run_parts::bound::{put_bounds, put_line};
 use run_parts::fault::tell_fault;

@@ -7,7 +7,7 @@ use crate::mappings::is_mapped;
 use arrayvec::ArrayVec;
 use bit_space::{Memory, OpenFault, Space};
 use mapping_reasons::reasons_in;
-use pickle_types::type_table::{Table, TypeId};
+use pickle_types::table::{Table, TypeId};
 use poke_batch::accept::{accept, tell_refusal};
 use poke_batch::ask::Ask;
 use poke_batch::each::{Kept, run_file};

@@ -22,7 +22,7 @@ use pickle_syntax::parser::fault::ParseFault;
 use pickle_syntax::parser::parse;
 use pickle_syntax::tree::Pickle;
 use pickle_types::fault::{FaultKind, TypeFault};
-use pickle_types::type_table::Table;
+use pickle_types::table::Table;
 use std::alloc::Global;
 use std::io::Write;
 use thiserror::Error;

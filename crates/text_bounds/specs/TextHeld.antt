@@ -1,6 +1,6 @@
 -- What the sizes of texts hold, as they are computed.
 use Rattle.std.specs.Prelude.{◌≡◌, ℕ, List, Some, slice_get}
-use Rattle.pickle_types.specs.declared.table.Node.{Node}
+use Rattle.pickle_types.specs.declared.node.Node.{Node}
 use Rattle.pickle_types.specs.Types.{PokeType, Fields, Parts}
 use Rattle.pickle_types.specs.Table.{type_of}
 use Rattle.pickle_types.specs.Bounds.{IsBound, least_width, sum_of_widths, greatest_width, has_label, least_of_widths}

@@ -7,7 +7,7 @@ ghost use Rattle.text_bounds.specs.TextRoom.{most_text, most_text_in_any, most_t
 use crate::nodes::type_size;
 use crate::room::end_room;
 use pickle_types::bounds::{greater_of, sum_of};
-use pickle_types::type_table::{Table, TypeId};
+use pickle_types::table::{Table, TypeId};
 use poke_batch::mode::Mode;
 use std::alloc::{AllocError, Global};
 

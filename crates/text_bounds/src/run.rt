@@ -8,7 +8,7 @@ ghost use Rattle.text_bounds.specs.TextRuns.{TextBoundsAs};
 ghost use Rattle.run_parts.specs.Told.{Says};
 
 use crate::bound::most_text_for;
-use pickle_types::type_table::{Table, TypeId};
+use pickle_types::table::{Table, TypeId};
 use poke_batch::mode::Mode;
 use run_parts::accept::{accept, tell_refusal};
 use run_parts::bound::put_bounds_and_text;

@@ -2,8 +2,8 @@
 use Rattle.std.proofs.Common.{ℕ, List, [], Result, Ok, Err}
 use Rattle.bit_space.specs.declared.order.Order.{Order}
 use Rattle.pickle_tree.specs.Tree.{Called, FormTree, Plain, DeclarationTree}
-use Rattle.pickle_types.specs.declared.type_table.Table.{Table}
-use Rattle.pickle_types.specs.declared.type_table.TypeId.{TypeId}
+use Rattle.pickle_types.specs.declared.table.Table.{Table}
+use Rattle.pickle_types.specs.declared.table.TypeId.{TypeId}
 use Rattle.pickle_types.specs.Types.{PokeType}
 use Rattle.pickle_types.specs.TypeTable.{types_of, type_named}
 use Rattle.pickle_meaning.specs.declared.faults.MapFaultKind.{MapFaultKind}

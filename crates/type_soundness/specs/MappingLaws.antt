@@ -3,8 +3,8 @@ use Rattle.std.specs.Prelude.{◌≡◌, ℕ, ◌-◌, List, [], Option, Some, O
 use Rattle.bit_space.specs.declared.order.Order.{Order}
 use Rattle.pickle_tree.specs.Tree.{Tree, Called, FormTree, Plain, DeclarationTree}
 use Rattle.pickle_types.specs.declared.integer.IntegerType.{IntegerType}
-use Rattle.pickle_types.specs.declared.type_table.Table.{Table}
-use Rattle.pickle_types.specs.declared.type_table.TypeId.{TypeId}
+use Rattle.pickle_types.specs.declared.table.Table.{Table}
+use Rattle.pickle_types.specs.declared.table.TypeId.{TypeId}
 use Rattle.pickle_types.specs.Types.{PokeType, IntegerOf, OffsetOf}
 use Rattle.pickle_types.specs.Scopes.{Visible, resolve}
 use Rattle.pickle_types.specs.Names.{Names, predeclared, find_type}

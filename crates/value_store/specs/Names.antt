@@ -1,10 +1,10 @@
 -- The names that the types of a table give to their values.
 use Rattle.std.specs.Prelude.{ℕ, zero, suc, map, List, [], Option, Some, None, slice_get, unwrap_or}
-use Rattle.pickle_types.specs.declared.table.Field.{Field}
-use Rattle.pickle_types.specs.declared.table.Part.{Part}
-use Rattle.pickle_types.specs.declared.table.Shape.{Shape}
-use Rattle.pickle_types.specs.declared.table.Shape.TheVariants as shape
-use Rattle.pickle_types.specs.declared.table.Node.{Node}
+use Rattle.pickle_types.specs.declared.node.Field.{Field}
+use Rattle.pickle_types.specs.declared.node.Part.{Part}
+use Rattle.pickle_types.specs.declared.node.Shape.{Shape}
+use Rattle.pickle_types.specs.declared.node.Shape.TheVariants as shape
+use Rattle.pickle_types.specs.declared.node.Node.{Node}
 use Rattle.pickle_types.specs.Table.{name_of}
 use Rattle.pickle_meaning.specs.Values.{Naming}
 

@@ -1,7 +1,7 @@
 //! What stands beside the types in a pickle: constraints, conditions, labels and bounds.
 
 ghost use Rattle.std.specs.Prelude.{◌≡◌, List, ◌<◌, ◌≤◌, ◌^◌, Ok, IfOk};
-ghost use Rattle.pickle_types.specs.declared.table.Node.{Node as TableNode};
+ghost use Rattle.pickle_types.specs.declared.node.Node.{Node as TableNode};
 ghost use Rattle.pickle_types.specs.Table.{term_of, optional_term, bound_of};
 ghost use Rattle.pickle_types.specs.Sound.{IsSoundTerm, IsSoundClause, IsSoundBound};
 ghost use Rattle.pickle_meaning.specs.Values.{Label};

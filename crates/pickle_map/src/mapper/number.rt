@@ -1,7 +1,7 @@
 //! Types that are read as one number: integers, offsets and integral structs.
 
 ghost use Rattle.std.specs.Prelude.{◌≡◌, List, ◌≢◌, ◌+◌, ◌*◌, ◌<◌, ◌≤◌, ◌^◌, Some, map, length, All, IfOk, IfErr, OnErr};
-ghost use Rattle.pickle_types.specs.declared.table.Node.{Node as TableNode};
+ghost use Rattle.pickle_types.specs.declared.node.Node.{Node as TableNode};
 ghost use Rattle.pickle_types.specs.Types.{IntegerOf, OffsetOf, depth};
 ghost use Rattle.pickle_types.specs.Table.{IsTable, type_of, IsWidth};
 ghost use Rattle.pickle_map.specs.Calls.{as_number, Maps, MapsInteger, integral_at, Places, PlacesLevel, PlacesPart, PlacesFields};

@@ -6,7 +6,7 @@ ghost use Rattle.pickle_types.specs.Sound.{IsWidth};
 ghost use Rattle.pickle_types.specs.Table.{term_of, type_of, IsTable};
 ghost use Rattle.pickle_types.specs.Expressions.{is_held, number_meant, character_meant, text_meant, resolved, bracketed, prefixed, infixed, selected, indexed, suffixed, selection, length_of, size_of, in_unit, conversion, is_path, integer_or_wrong, typed};
 ghost use Rattle.pickle_types.specs.Built.{Gives, names_of, views_of, sort_of, meant_of, IsInside, IsSoundMeant, AreNamed, AreBelow};
-ghost use Rattle.pickle_types.specs.declared.table.Node.{Node};
+ghost use Rattle.pickle_types.specs.declared.node.Node.{Node};
 
 use crate::check::nodes::Nodes;
 use crate::check::operators::{Scalar, before, between, choice};
@@ -15,8 +15,8 @@ use crate::check::sorts::{Meant, Sort, element_of, field_of, operand_of};
 use crate::fault::FaultKind;
 use crate::integer::IntegerType;
 use crate::names::Names;
+use crate::node::Resolved;
 use crate::scopes::Scopes;
-use crate::table::Resolved;
 use pickle_tree::tree::{Attribute, Expression, Infix, Number, Prefix, Suffix, Target, Unit};
 use std::alloc::Global;
 

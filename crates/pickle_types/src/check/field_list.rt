@@ -6,13 +6,13 @@ ghost use Rattle.pickle_types.specs.Table.{name_of};
 ghost use Rattle.pickle_types.specs.Meaning.{has_name, fresh};
 ghost use Rattle.pickle_types.specs.Built.{bytes_now, names_in};
 ghost use Rattle.pickle_types.specs.FieldNames.{ArePlaced};
-ghost use Rattle.pickle_types.specs.declared.table.Field.{Field};
-ghost use Rattle.pickle_types.specs.contracts.table.Resolved as resolved;
+ghost use Rattle.pickle_types.specs.declared.node.Field.{Field};
+ghost use Rattle.pickle_types.specs.contracts.node.Resolved as resolved;
 
 use crate::check::field_names::field_place;
 use crate::fault::FaultKind;
+use crate::node::Field;
 use crate::places_by_name::PlacesByName;
-use crate::table::Field;
 use std::alloc::Global;
 use std::marker::Model;
 

@@ -7,7 +7,7 @@ ghost use Rattle.pickle_types.specs.Built.{names_in};
 ghost use Rattle.pickle_types.specs.FieldNames.{place_named, part_names, shape_names};
 
 use crate::name::Name;
-use crate::table::{Field, Part, Shape};
+use crate::node::{Field, Part, Shape};
 
 fn is_called(name: &Option<Name>, word: &[u8]) -> bool
     ensures { result ≡ is_named (name_of name.now) word.now }

@@ -13,7 +13,7 @@ use crate::check::places::Place;
 use crate::check::sorts::width_of;
 use crate::fault::FaultKind;
 use crate::name::Name;
-use crate::table::{Field, Part};
+use crate::node::{Field, Part};
 use pickle_tree::tree;
 use pickle_tree::tree::{ByteOrder, Clauses, Expression, Form};
 use std::alloc::Global;

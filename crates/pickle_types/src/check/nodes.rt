@@ -3,13 +3,13 @@
 ghost use Rattle.std.specs.Prelude.{◌≡◌, ◌<◌, ◌++◌, ◌∷◌, [], List, length, Some, slice_get, IfErr, IfSome, OnOk, OnErr};
 ghost use Rattle.std.specs.Coded.{codes};
 ghost use Rattle.pickle_types.specs.FieldNames.{place_named, shape_names, ArePlaced, AreIndexed};
-ghost use Rattle.pickle_types.specs.declared.table.Node.{Node};
-ghost use Rattle.pickle_types.specs.contracts.table.Resolved as resolved;
+ghost use Rattle.pickle_types.specs.declared.node.Node.{Node};
+ghost use Rattle.pickle_types.specs.contracts.node.Resolved as resolved;
 
 use crate::check::field_names::shape_place;
 use crate::fault::FaultKind;
+use crate::node::Node;
 use crate::places_by_name::PlacesByName;
-use crate::table::Node;
 use std::alloc::Global;
 use std::collections::BTreeMap;
 use std::marker::Model;

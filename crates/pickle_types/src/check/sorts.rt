@@ -7,15 +7,15 @@ ghost use Rattle.pickle_types.specs.Expressions.{or_wrong, type_operand, operand
 ghost use Rattle.pickle_types.specs.Meaning.{bit_width, has_some};
 ghost use Rattle.pickle_types.specs.Sound.{IsSoundOperand};
 ghost use Rattle.pickle_types.specs.Built.{Gives, names_in, sort_of, IsInside, IsFoundField};
-ghost use Rattle.pickle_types.specs.declared.table.Node.{Node};
+ghost use Rattle.pickle_types.specs.declared.node.Node.{Node};
 ghost use Rattle.pickle_types.specs.FieldNames.{place_named, part_names, shape_names};
 
 use crate::check::nodes::Nodes;
 use crate::check::operators::{Operand, Scalar};
 use crate::fault::FaultKind;
 use crate::integer::IntegerType;
+use crate::node::{Field, Part, Resolved, Shape};
 use crate::predeclared::PREDECLARED;
-use crate::table::{Field, Part, Resolved, Shape};
 
 /// What an expression is.
 #[derive(Clone, Copy)]

@@ -10,7 +10,7 @@ use crate::store::Store;
 use crate::store::slots::{Link, Marks, Place};
 use crate::stored::StoredValue;
 use crate::value::ValueRef;
-use pickle_types::type_table::Table;
+use pickle_types::table::Table;
 
 impl Store {
     ghost use Rattle.value_store.specs.Refs.{value_of, value_shown};

@@ -4,9 +4,9 @@ use Rattle.std.proofs.lemmas.Int.{to_z-of_z}
 use mir.Syntax.{w128}
 use mir.Val.{SFits}
 use Rattle.pickle_types.specs.Table.{term_of}
-use Rattle.pickle_types.specs.declared.table.Node.{Node}
-use Rattle.pickle_types.specs.declared.table.Resolved.{Resolved}
-use Rattle.pickle_types.specs.declared.table.Resolved.TheVariants as resolved
+use Rattle.pickle_types.specs.declared.node.Node.{Node}
+use Rattle.pickle_types.specs.declared.node.Resolved.{Resolved}
+use Rattle.pickle_types.specs.declared.node.Resolved.TheVariants as resolved
 use Rattle.pickle_evaluation.specs.declared.operand.Operand.TheVariants as computing
 use Rattle.pickle_evaluation.specs.declared.operand.Unvalued.TheVariants.{Fault, Limit}
 use Rattle.pickle_meaning.specs.declared.faults.MapFaultKind.TheVariants as fault

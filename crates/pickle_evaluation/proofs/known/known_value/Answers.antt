@@ -1,5 +1,5 @@
 use Rattle.std.proofs.Common.{◌≡◌, ℕ, ◌-◌, ◌^◌, List, Err, arith}
-use Rattle.pickle_types.specs.declared.table.Node.{Node}
+use Rattle.pickle_types.specs.declared.node.Node.{Node}
 use Rattle.pickle_evaluation.specs.declared.operand.Unvalued.{Unvalued}
 use Rattle.pickle_evaluation.specs.declared.operand.Unvalued.TheVariants.{Fault, Limit}
 use Rattle.pickle_meaning.specs.Evaluation.{Evaluation}

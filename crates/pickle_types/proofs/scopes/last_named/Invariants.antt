@@ -1,5 +1,5 @@
 use Rattle.std.proofs.Common.{◌≡◌, ◌≤◌, take, List, length}
-use Rattle.pickle_types.specs.declared.table.Node.{Node}
+use Rattle.pickle_types.specs.declared.node.Node.{Node}
 use Rattle.pickle_types.specs.Scopes.{resolve}
 use Rattle.pickle_types.specs.Built.{views_of}
 use Rattle.pickle_types.proofs.scopes.last_named.Given as goal

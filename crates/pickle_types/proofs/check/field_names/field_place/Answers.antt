@@ -1,6 +1,6 @@
 use Rattle.std.proofs.Common.{List, refl, sym, ap, ◌∙◌, arith}
 use Rattle.std.proofs.lemmas.List.{drop_all}
-use Rattle.pickle_types.specs.declared.table.Field.{Field}
+use Rattle.pickle_types.specs.declared.node.Field.{Field}
 use Rattle.pickle_types.specs.Table.{name_of}
 use Rattle.pickle_types.specs.Built.{names_in}
 use Rattle.pickle_types.specs.FieldNames.{place_named}

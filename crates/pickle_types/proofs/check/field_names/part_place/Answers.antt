@@ -1,6 +1,6 @@
 use Rattle.std.proofs.Common.{List, refl, sym, ap, ◌∙◌, arith}
 use Rattle.std.proofs.lemmas.List.{drop_all}
-use Rattle.pickle_types.specs.declared.table.Part.{Part}
+use Rattle.pickle_types.specs.declared.node.Part.{Part}
 use Rattle.pickle_types.specs.Table.{name_of}
 use Rattle.pickle_types.specs.FieldNames.{place_named, part_names}
 use Rattle.pickle_types.proofs.Placed.{behind, behind_none, found_behind, passed_behind}

@@ -1,7 +1,0 @@
-use Rattle.std.proofs.Common.{refl}
-use Rattle.pickle_types.specs.Types.{depth}
-use Rattle.pickle_types.proofs.check.types.Builder.predeclare_one.Goals as goal
-
-pub push-requires-clause-depth : goal.push-requires-clause-depth
-unfolding depth
-push-requires-clause-depth c = refl

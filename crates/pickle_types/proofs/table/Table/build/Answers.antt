@@ -1,0 +1,35 @@
+use Rattle.std.proofs.Common.{◌≡◌}
+use Rattle.std.proofs.lemmas.Result.{err_from_is_err_and}
+use Rattle.pickle_tree.specs.Pickle.{pickle_tree}
+use Rattle.pickle_types.specs.Names.{predeclared}
+use Rattle.pickle_types.specs.Building.{known_types}
+use Rattle.pickle_types.proofs.Meanings.{rules_sound}
+use Rattle.pickle_types.proofs.IllTyped.{ill_typed}
+use Rattle.pickle_types.proofs.table.Table.build.Goals as goal
+
+pub returns-in_err-roots-clause-wrong : goal.returns-in_err-roots-clause-wrong
+returns-in_err-roots-clause-wrong c =
+    let p = err_from_is_err_and c.from_residual-in_err-roots.result c.from_residual-in_err-roots.ensures.1 in
+    let k : known_types c.predeclare.new.self ≡ predeclared = rw c.new-builder.ensures.none at c.in_ok-predeclare.ensures.known in
+    let h = rw (k, c.deref.ensures.value) at c.in_err-roots.ensures.err in
+    rw (p.1, p.2) (ill_typed _ _ h)
+
+pub returns-in_err-roots-clause-kind : goal.returns-in_err-roots-clause-kind
+returns-in_err-roots-clause-kind c =
+    let p = err_from_is_err_and c.from_residual-in_err-roots.result c.from_residual-in_err-roots.ensures.1 in
+    let k : known_types c.predeclare.new.self ≡ predeclared = rw c.new-builder.ensures.none at c.in_ok-predeclare.ensures.known in
+    let h = rw (k, c.deref.ensures.value) at c.in_err-roots.ensures.err in
+    rw (p.1, p.2) h
+
+pub returns-in_err-roots-clause-place : goal.returns-in_err-roots-clause-place
+returns-in_err-roots-clause-place c =
+    let p = err_from_is_err_and c.from_residual-in_err-roots.result c.from_residual-in_err-roots.ensures.1 in
+    let k : known_types c.predeclare.new.self ≡ predeclared = rw c.new-builder.ensures.none at c.in_ok-predeclare.ensures.known in
+    let h = rw (k, c.deref.ensures.value) at c.in_err-roots.ensures.place in
+    rw (p.1, p.2) h
+
+pub returns-clause-ok : goal.returns-clause-ok
+returns-clause-ok c =
+    let k : known_types c.predeclare.new.self ≡ predeclared = rw c.new-builder.ensures.none at c.in_ok-predeclare.ensures.known in
+    let h = rw (k, c.deref.ensures.value) at c.in_ok-roots.ensures.ok in
+    rw (c.into_list.ensures, c.into_nodes.ensures) (rules_sound (pickle_tree c.args.pickle.now) predeclared _ h)

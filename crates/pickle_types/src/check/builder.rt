@@ -1,0 +1,682 @@
+//! What builds a table: it adds the types of declarations, as nodes, under their names.
+
+ghost use Rattle.std.specs.Prelude.{◌≡◌, ◌+◌, ◌^◌, ◌<◌, ◌≤◌, ℕ, List, [], ◌∷◌, ◌++◌, length, map, true, false, Ok, None, Some, IfOk, IfErr, IfSome, IsTrue, OnOk, All};
+ghost use Rattle.pickle_tree.specs.Limits.{standard, form_count, fields_form_count, pickle_form_count, IsFormWithin, AreFieldsWithin, AreDeclarationsWithin};
+ghost use Rattle.pickle_tree.specs.Tree.{declaration_tree, reference_tree, boxed_tree, borrowed_tree, form_tree, field_tree, fields_tree, ArrayForm, StructForm, IntegralForm, UnionForm, OffsetForm};
+ghost use Rattle.pickle_types.specs.Types;
+ghost use Rattle.pickle_types.specs.Types.{IntegerOf};
+ghost use Rattle.pickle_types.specs.Names.{find_type};
+ghost use Rattle.pickle_types.specs.Wrong.{first_wrong, TellsPlace};
+ghost use Rattle.pickle_types.specs.Sound.{IsSoundClause, IsSoundBound};
+ghost use Rattle.pickle_types.specs.Table.{optional_term, bound_of, type_of, open_shape, IsTable, NamesBelow, IsSoundField, IsSoundShape, IsWidth};
+ghost use Rattle.pickle_types.specs.Meaning.{declared_type, declared, fresh, integer_expression, offset_expression, bound_expression, integer_type, called, plain, offset_type, field_meaning, struct_place, meaning, fields_meaning};
+ghost use Rattle.pickle_types.specs.Built.{Fails, Gives, bytes_now, views_of, AreNamed, AreBelow, names_in};
+ghost use Rattle.pickle_types.specs.FieldNames.{shape_names, ArePlaced};
+ghost use Rattle.pickle_types.specs.Building.{known_types, visible_in, after_itself, IsReady, AddsType, named_types, may_add, Builds, FieldGives, FieldBuilds, FieldsBuild, HasRoom, AddsAtMost};
+
+use crate::check::expressions::{integer, typed};
+use crate::check::field_list::FieldList;
+use crate::check::fields::{
+    condition_in, constraint_in, copied, form_in, fresh, label_in, name_in, order_in, parts_from,
+    place_in, stand, struct_place, total_width,
+};
+use crate::check::nodes::Nodes;
+use crate::check::operators::Scalar;
+use crate::check::places::Place;
+use crate::check::references::{in_range, integer_referred, offset_parts};
+use crate::check::sorts::{has_width, operand_of, predeclared_node};
+use crate::fault::{FaultKind, TypeFault};
+use crate::integer::IntegerType;
+use crate::names::{Declared, Names, find_name};
+use crate::node::{Extent, Field, Node, Resolved, Shape};
+use crate::places_by_name::PlacesByName;
+use crate::scopes::{Scopes, Seen};
+use pickle_tree::tree;
+use pickle_tree::tree::{Declaration, Expression, Form, Reference, Unit};
+use std::alloc::Global;
+
+/// A node, and how deep its type is.
+#[derive(Clone, Copy)]
+pub struct Found {
+    pub node: usize,
+    pub depth: u8,
+}
+
+/// The name that a type is printed with, and its place among the declared types.
+#[derive(Clone, Copy)]
+pub struct Title<'n> {
+    pub name: Option<&'n [u8]>,
+    pub slot: Option<u16>,
+}
+
+/// The types as far as they are built, and the fields that are seen.
+#[derive(Drop)]
+pub struct Builder<'n> {
+    pub alloc: Global,
+    pub names: Names<'n>,
+    pub nodes: Nodes<'n>,
+    pub seen: Scopes<'n>,
+}
+
+impl<'n> Builder<'n> {
+    /// No types yet.
+    pub fn new(alloc: Global) -> Builder<'n>
+        ensures ready { IsReady result }
+        ensures none { known_types result ≡ [] }
+        ensures empty { result.nodes ≡ [] }
+    {
+        Builder {
+            alloc,
+            names: Names::new(alloc),
+            nodes: Nodes::new(alloc),
+            seen: Scopes::new(alloc),
+        }
+    }
+
+    /// Gives a type a name that no type has.
+    fn add(&mut self, word: &'n [u8], found: Found) -> Result<(), FaultKind>
+        requires ready { IsReady self.old }
+        requires new { find_type word.now (known_types self.old) ≡ None }
+        requires inside { found.node < length self.old.nodes }
+        requires deep { found.depth ≡ Types.depth (type_of self.old.nodes found.node) }
+        ensures ready { OnOk result (IsReady self.new) }
+        ensures known { OnOk result (known_types self.new ≡ known_types self.old ++ (word.now, type_of self.old.nodes found.node) ∷ []) }
+        ensures nodes { self.new.nodes ≡ self.old.nodes }
+        ensures err { IfErr result (λ e. e ≡ FaultKind.Memory) }
+    {
+        let declared = Declared {
+            node: found.node,
+            depth: found.depth,
+        };
+        self.names.insert(self.alloc, word, declared)?;
+        Ok(())
+    }
+
+    /// Adds integer types under names that are new.
+    pub fn predeclare(&mut self, types: &[(&'n [u8], IntegerType)]) -> Result<(), FaultKind>
+        requires ready { IsReady self.old }
+        requires new { IsTrue (may_add (known_types self.old) types.now) }
+        requires space { HasRoom self.old (length types.now) }
+        ensures ready { OnOk result (IsReady self.new) }
+        ensures known { OnOk result (known_types self.new ≡ known_types self.old ++ named_types types.now) }
+        ensures few { OnOk result (AddsAtMost self.old self.new (length types.now)) }
+        ensures err { IfErr result (λ e. e ≡ FaultKind.Memory) }
+    {
+        for entry in types {
+            self.predeclare_one(entry.0, entry.1)?;
+        }
+        Ok(())
+    }
+
+    fn predeclare_one(&mut self, word: &'n [u8], ty: IntegerType) -> Result<(), FaultKind>
+        requires ready { IsReady self.old }
+        requires new { find_type word.now (known_types self.old) ≡ None }
+        requires wide { IsWidth ty }
+        requires space { HasRoom self.old 1 }
+        ensures ready { OnOk result (IsReady self.new) }
+        ensures known { OnOk result (known_types self.new ≡ known_types self.old ++ (word.now, IntegerOf ty) ∷ []) }
+        ensures few { OnOk result (AddsAtMost self.old self.new 1) }
+        ensures err { IfErr result (λ e. e ≡ FaultKind.Memory) }
+    {
+        let found = self.push(None, Shape::Integer(ty), None, 1)?;
+        self.add(word, found)
+    }
+
+    /// Adds the type of a declaration, and gives its node.
+    fn declare(
+        &mut self,
+        slot: Option<u16>,
+        declaration: &Declaration<'n>,
+    ) -> Result<usize, FaultKind>
+        requires ready { IsReady self.old }
+        requires within { IsFormWithin standard (declaration_tree declaration.now).form }
+        requires space { HasRoom self.old (form_count (declaration_tree declaration.now).form) }
+        ensures few { OnOk result (AddsAtMost self.old self.new (form_count (declaration_tree declaration.now).form)) }
+        ensures adds { AddsType self.old self.new (declaration_tree declaration.now).name result (declared_type (known_types self.old) (declaration_tree declaration.now)) }
+    {
+        if find_name(&self.names, declaration.name).is_some() {
+            return Err(FaultKind::DuplicateType);
+        }
+        let title = Title {
+            name: Some(declaration.name),
+            slot,
+        };
+        let found = self.type_at(0, title, 64, &declaration.form)?;
+        self.add(declaration.name, found)?;
+        Ok(found.node)
+    }
+
+    /// Adds the types of declarations, and gives the nodes of those that are no other names of earlier ones.
+    pub fn declare_all(&mut self, declarations: &[Declaration<'n>]) -> Result<Vec<usize>, TypeFault>
+        requires ready { IsReady self.old }
+        requires within { AreDeclarationsWithin standard (map declaration_tree declarations.now) }
+        requires space { HasRoom self.old (pickle_form_count (map declaration_tree declarations.now)) }
+        ensures ready { OnOk result (IsReady self.new) }
+        ensures ok { OnOk result (declared (known_types self.old) (map declaration_tree declarations.now) ≡ Ok (known_types self.new)) }
+        ensures err { IfErr result (λ e. Fails e.kind (declared (known_types self.old) (map declaration_tree declarations.now))) }
+        ensures place { IfErr result (λ e. TellsPlace e.kind e.decl (first_wrong 1 (known_types self.old) (map declaration_tree declarations.now))) }
+    {
+        let mut roots = Vec::new(self.alloc);
+        for (i, declaration) in declarations.iter().enumerate() {
+            let slot = u16::try_from(roots.len()).ok();
+            let built = self.nodes.len();
+            match self.declare(slot, declaration) {
+                Ok(node) => {
+                    if node >= built {
+                        roots.push(node)?;
+                    }
+                }
+                Err(kind) => return Err(fault_in(kind, i)),
+            }
+        }
+        Ok(roots)
+    }
+
+    /// A constraint or a condition, which is an integer.
+    #[tactic(auto, unfolding(crate::specs::Meaning::integer_expression))]
+    fn integer_expression(
+        &self,
+        levels: u8,
+        e: Option<&Expression<'_>>,
+    ) -> Result<Option<Box<Resolved>>, FaultKind>
+        requires table { IsTable self.now.nodes }
+        requires names { AreNamed self.now.nodes self.now.names }
+        requires seen { AreBelow (length self.now.nodes) levels self.now.seen }
+        ensures gives { Gives optional_term result (integer_expression (known_types self.now) (visible_in self.now) levels (borrowed_tree e.entry)) }
+        ensures sound { IfOk result (λ c. IsSoundClause (optional_term c)) }
+    {
+        let Some(e) = e else {
+            return Ok(None);
+        };
+        let x = typed(self.alloc, &self.names, &self.nodes, &self.seen, levels, e)?;
+        integer(&self.nodes, x.sort)?;
+        Ok(Some(Box::new(self.alloc, x.term)?))
+    }
+
+    /// A label, which is an offset.
+    #[tactic(auto, unfolding(crate::specs::Meaning::offset_expression))]
+    fn offset_expression(
+        &self,
+        levels: u8,
+        e: Option<&Expression<'_>>,
+    ) -> Result<Option<Box<Resolved>>, FaultKind>
+        requires table { IsTable self.now.nodes }
+        requires names { AreNamed self.now.nodes self.now.names }
+        requires seen { AreBelow (length self.now.nodes) levels self.now.seen }
+        ensures gives { Gives optional_term result (offset_expression (known_types self.now) (visible_in self.now) levels (borrowed_tree e.entry)) }
+        ensures sound { IfOk result (λ c. IsSoundClause (optional_term c)) }
+    {
+        let Some(e) = e else {
+            return Ok(None);
+        };
+        let x = typed(self.alloc, &self.names, &self.nodes, &self.seen, levels, e)?;
+        match operand_of(&self.nodes, x.sort).number() {
+            Some(Scalar::Offset(_, _)) => Ok(Some(Box::new(self.alloc, x.term)?)),
+            _ => Err(FaultKind::Mismatch),
+        }
+    }
+
+    /// The bound of an array, which is an integer or an offset.
+    #[tactic(auto, unfolding(crate::specs::Meaning::bound_expression))]
+    fn bound_expression(
+        &self,
+        levels: u8,
+        e: &Option<Box<Expression<'_>>>,
+    ) -> Result<Extent, FaultKind>
+        requires table { IsTable self.now.nodes }
+        requires names { AreNamed self.now.nodes self.now.names }
+        requires seen { AreBelow (length self.now.nodes) levels self.now.seen }
+        ensures gives { Gives bound_of result (bound_expression (known_types self.now) (visible_in self.now) levels (boxed_tree e.now)) }
+        ensures sound { IfOk result (λ b. IsSoundBound (bound_of b)) }
+    {
+        let Some(e) = e else {
+            return Ok(Extent::Unbounded);
+        };
+        let x = typed(self.alloc, &self.names, &self.nodes, &self.seen, levels, e)?;
+        match operand_of(&self.nodes, x.sort).number() {
+            Some(Scalar::Integer(_)) => Ok(Extent::Count(Box::new(self.alloc, x.term)?)),
+            Some(Scalar::Offset(_, _)) => Ok(Extent::Size(Box::new(self.alloc, x.term)?)),
+            None => Err(FaultKind::Mismatch),
+        }
+    }
+
+    /// The constraint of a field, which sees the field itself; so does what comes after it, but not in a union.
+    fn constraint(
+        &mut self,
+        place: Place,
+        itself: Seen<'n>,
+        e: Option<&Expression<'_>>,
+    ) -> Result<Option<Box<Resolved>>, FaultKind>
+        requires table { IsTable self.old.nodes }
+        requires names { AreNamed self.old.nodes self.old.names }
+        requires level { itself.level < 64 }
+        requires inside { itself.node < length self.old.nodes }
+        requires seen { AreBelow (length self.old.nodes) (itself.level + 1) self.old.seen }
+        ensures gives { Gives optional_term result (integer_expression (known_types self.old) (views_of self.old.nodes (self.old.seen ++ itself.entry ∷ [])) (itself.entry.level + 1) (borrowed_tree e.entry)) }
+        ensures sound { IfOk result (λ c. IsSoundClause (optional_term c)) }
+        ensures names { self.new.names ≡ self.old.names }
+        ensures nodes { self.new.nodes ≡ self.old.nodes }
+        ensures seen { OnOk result (self.new.seen ≡ after_itself place self.old.seen itself.entry) }
+    {
+        let mark = self.seen.len();
+        self.seen.push(itself)?;
+        let constraint = self.integer_expression(itself.level + 1, e)?;
+        if let Place::Union = place {
+            self.seen.truncate(mark);
+        }
+        Ok(constraint)
+    }
+
+    /// A field of a type, after others; what comes after it sees it, but not in a union.
+    fn field_of(
+        &mut self,
+        place: Place,
+        levels: u8,
+        found: Found,
+        before: &FieldList,
+        written: &tree::Field<'n>,
+    ) -> Result<Field, FaultKind>
+        requires table { IsTable self.old.nodes }
+        requires names { AreNamed self.old.nodes self.old.names }
+        requires seen { AreBelow (length self.old.nodes) (levels + 1) self.old.seen }
+        requires few { levels < 64 }
+        requires inside { found.node < length self.old.nodes }
+        ensures gives { FieldGives self.old self.new place levels (length before.now) (field_tree written.now).parts result (field_meaning (known_types self.old) place (visible_in self.old) levels (names_in before.now) (field_tree written.now).parts (Ok (type_of self.old.nodes found.node))) }
+        ensures sound { IfOk result IsSoundField }
+        ensures fresh { IfOk result (λ _. fresh (field_tree written.now).parts.name (names_in before.now) ≡ Ok tt) }
+        ensures node { IfOk result (λ field. field.node ≡ found.node) }
+        ensures nodes { self.new.nodes ≡ self.old.nodes }
+    {
+        let bits = has_width(&self.nodes, found.node);
+        stand(place, bits, written)?;
+        let word = name_in(written);
+        fresh(word, before)?;
+        let label = self.offset_expression(levels + 1, label_in(written))?;
+        let condition = self.integer_expression(levels + 1, condition_in(written))?;
+        let itself = Seen {
+            name: word,
+            level: levels,
+            place: place_in(place, before.len()),
+            node: found.node,
+        };
+        let constraint = self.constraint(place, itself, constraint_in(written))?;
+        let name = copied(self.alloc, word)?;
+        Ok(Field {
+            name,
+            order: order_in(written),
+            node: found.node,
+            constraint,
+            label,
+            condition,
+        })
+    }
+
+    /// A new node, with the names of its fields where they are many, and the depth of its type.
+    pub fn push(
+        &mut self,
+        slot: Option<u16>,
+        shape: Shape,
+        names: Option<PlacesByName<'n>>,
+        depth: u8,
+    ) -> Result<Found, FaultKind>
+        requires named { IfSome names (ArePlaced (shape_names shape)) }
+        requires table { IsTable self.old.nodes }
+        requires names { AreNamed self.old.nodes self.old.names }
+        requires below { NamesBelow (length self.old.nodes) shape }
+        requires sound { IsSoundShape shape }
+        requires depth { depth ≡ Types.depth (open_shape (type_of self.old.nodes) shape) }
+        requires low { depth ≤ 64 }
+        requires space { HasRoom self.old 1 }
+        ensures builds { Builds self.old self.new result (Ok (open_shape (type_of self.old.nodes) shape)) }
+        ensures few { OnOk result (AddsAtMost self.old self.new 1) }
+        ensures depth { IfOk result (λ found. found.depth ≡ depth) }
+        ensures memory { IfErr result (λ e. e ≡ FaultKind.Memory) }
+    {
+        let node = self.nodes.len();
+        self.nodes.push(Node { shape, slot }, names)?;
+        Ok(Found { node, depth })
+    }
+
+    /// The type of a name, no deeper than there is room for.
+    fn called_at(&self, room: u8, word: &[u8]) -> Result<Found, FaultKind>
+        requires table { IsTable self.now.nodes }
+        requires names { AreNamed self.now.nodes self.now.names }
+        ensures builds { Builds self.now self.now result (called room word.now (known_types self.now)) }
+        ensures low { IfOk result (λ found. found.depth ≤ room) }
+    {
+        match find_name(&self.names, word) {
+            None => Err(FaultKind::UnknownType),
+            Some(d) => {
+                if d.depth > room {
+                    return Err(FaultKind::TooDeep);
+                }
+                Ok(Found {
+                    node: d.node,
+                    depth: d.depth,
+                })
+            }
+        }
+    }
+
+    fn integer_at(
+        &mut self,
+        slot: Option<u16>,
+        signed: bool,
+        width: u64,
+    ) -> Result<Found, FaultKind>
+        requires table { IsTable self.old.nodes }
+        requires names { AreNamed self.old.nodes self.old.names }
+        requires space { HasRoom self.old 1 }
+        ensures builds { Builds self.old self.new result (integer_type signed width) }
+        ensures few { OnOk result (AddsAtMost self.old self.new 1) }
+        ensures low { IfOk result (λ found. found.depth ≤ 1) }
+    {
+        let t = in_range(signed, width)?;
+        if let Some(node) = predeclared_node(&self.nodes, t) {
+            return Ok(Found { node, depth: 1 });
+        }
+        self.push(slot, Shape::Integer(t), None, 1)
+    }
+
+    fn plain_at(
+        &mut self,
+        slot: Option<u16>,
+        room: u8,
+        reference: &Reference<'_>,
+    ) -> Result<Found, FaultKind>
+        requires table { IsTable self.old.nodes }
+        requires names { AreNamed self.old.nodes self.old.names }
+        requires some { 0 < room }
+        requires space { HasRoom self.old 1 }
+        ensures builds { Builds self.old self.new result (plain room (known_types self.old) (reference_tree reference.now)) }
+        ensures few { OnOk result (AddsAtMost self.old self.new 1) }
+        ensures low { IfOk result (λ found. found.depth ≤ room) }
+    {
+        match reference {
+            Reference::Int(n) => self.integer_at(slot, true, n.value),
+            Reference::Uint(n) => self.integer_at(slot, false, n.value),
+            Reference::Named(word) => self.called_at(room, word),
+        }
+    }
+
+    fn offset_at(
+        &mut self,
+        slot: Option<u16>,
+        reference: &Reference<'_>,
+        unit: Unit,
+    ) -> Result<Found, FaultKind>
+        requires table { IsTable self.old.nodes }
+        requires names { AreNamed self.old.nodes self.old.names }
+        requires space { HasRoom self.old 1 }
+        ensures builds { Builds self.old self.new result (offset_type (known_types self.old) (reference_tree reference.now) unit) }
+        ensures few { OnOk result (AddsAtMost self.old self.new 1) }
+        ensures low { IfOk result (λ found. found.depth ≤ 1) }
+    {
+        let (t, bits) = offset_parts(&self.names, &self.nodes, reference, unit)?;
+        self.push(slot, Shape::Offset(t, bits), None, 1)
+    }
+
+    /// The node of the type that a form means, no deeper than there is room for.
+    #[cycle(types)]
+    pub fn type_at(
+        &mut self,
+        levels: u8,
+        title: Title<'n>,
+        room: u8,
+        form: &Form<'n>,
+    ) -> Result<Found, FaultKind>
+        requires table { IsTable self.old.nodes }
+        requires names { AreNamed self.old.nodes self.old.names }
+        requires seen { AreBelow (length self.old.nodes) levels self.old.seen }
+        requires few { levels + room ≤ 64 }
+        requires within { IsFormWithin standard (form_tree form.now) }
+        requires space { HasRoom self.old (form_count (form_tree form.now)) }
+        ensures builds { Builds self.old self.new result (meaning (known_types self.old) (visible_in self.old) levels (bytes_now title.entry.name) room (form_tree form.now)) }
+        ensures few { OnOk result (AddsAtMost self.old self.new (form_count (form_tree form.now))) }
+        ensures low { IfOk result (λ found. found.depth ≤ room) }
+    {
+        if room == 0 {
+            return Err(FaultKind::TooDeep);
+        }
+        match form {
+            Form::Reference(reference) => self.plain_at(title.slot, room, reference),
+            Form::String => self.push(title.slot, Shape::String, None, 1),
+            Form::Offset(reference, unit) => self.offset_at(title.slot, reference, *unit),
+            Form::Array(element, bound) => self.array_at(levels, title, room, element, bound),
+            Form::Struct(pinned, fields) => self.struct_at(levels, title, room, *pinned, fields),
+            Form::Integral(reference, fields) => self.integral_at(
+                levels, title, room, reference, fields,
+            ),
+            Form::Union(alternatives) => self.union_at(levels, title, room, alternatives),
+        }
+    }
+
+    #[cycle(types)]
+    fn array_at(
+        &mut self,
+        levels: u8,
+        title: Title<'n>,
+        room: u8,
+        element: &Form<'n>,
+        bound: &Option<Box<Expression<'_>>>,
+    ) -> Result<Found, FaultKind>
+        requires table { IsTable self.old.nodes }
+        requires names { AreNamed self.old.nodes self.old.names }
+        requires seen { AreBelow (length self.old.nodes) levels self.old.seen }
+        requires some { 0 < room }
+        requires few { levels + room ≤ 64 }
+        requires within { IsFormWithin standard (ArrayForm (form_tree element.now) (boxed_tree bound.now)) }
+        requires space { HasRoom self.old (form_count (ArrayForm (form_tree element.now) (boxed_tree bound.now))) }
+        ensures builds { Builds self.old self.new result (meaning (known_types self.old) (visible_in self.old) levels (bytes_now title.entry.name) room (ArrayForm (form_tree element.now) (boxed_tree bound.now))) }
+        ensures few { OnOk result (AddsAtMost self.old self.new (form_count (ArrayForm (form_tree element.now) (boxed_tree bound.now)))) }
+        ensures low { IfOk result (λ found. found.depth ≤ room) }
+    {
+        let found = self.type_at(
+            levels + 1,
+            Title {
+                name: None,
+                slot: None,
+            },
+            room - 1,
+            element,
+        )?;
+        let bound = self.bound_expression(levels, bound)?;
+        self.push(
+            title.slot,
+            Shape::Array(found.node, bound),
+            None,
+            found.depth + 1,
+        )
+    }
+
+    #[cycle(types)]
+    fn struct_at(
+        &mut self,
+        levels: u8,
+        title: Title<'n>,
+        room: u8,
+        pinned: bool,
+        written: &[tree::Field<'n>],
+    ) -> Result<Found, FaultKind>
+        requires table { IsTable self.old.nodes }
+        requires names { AreNamed self.old.nodes self.old.names }
+        requires seen { AreBelow (length self.old.nodes) levels self.old.seen }
+        requires some { 0 < room }
+        requires few { levels + room ≤ 64 }
+        requires within { IsFormWithin standard (StructForm pinned (fields_tree written.now)) }
+        requires space { HasRoom self.old (form_count (StructForm pinned (fields_tree written.now))) }
+        ensures builds { Builds self.old self.new result (meaning (known_types self.old) (visible_in self.old) levels (bytes_now title.entry.name) room (StructForm pinned (fields_tree written.now))) }
+        ensures few { OnOk result (AddsAtMost self.old self.new (form_count (StructForm pinned (fields_tree written.now)))) }
+        ensures low { IfOk result (λ found. found.depth ≤ room) }
+    {
+        let (fields, depth) = self.fields_at(struct_place(pinned), levels, room - 1, written)?;
+        let (fields, names) = fields.into_parts();
+        let name = copied(self.alloc, title.name)?;
+        self.push(
+            title.slot,
+            Shape::Struct {
+                name,
+                pinned,
+                fields,
+            },
+            names,
+            depth + 1,
+        )
+    }
+
+    #[cycle(types)]
+    fn integral_at(
+        &mut self,
+        levels: u8,
+        title: Title<'n>,
+        room: u8,
+        reference: &Reference<'_>,
+        written: &[tree::Field<'n>],
+    ) -> Result<Found, FaultKind>
+        requires table { IsTable self.old.nodes }
+        requires names { AreNamed self.old.nodes self.old.names }
+        requires seen { AreBelow (length self.old.nodes) levels self.old.seen }
+        requires some { 0 < room }
+        requires few { levels + room ≤ 64 }
+        requires within { IsFormWithin standard (IntegralForm (reference_tree reference.now) (fields_tree written.now)) }
+        requires space { HasRoom self.old (form_count (IntegralForm (reference_tree reference.now) (fields_tree written.now))) }
+        ensures builds { Builds self.old self.new result (meaning (known_types self.old) (visible_in self.old) levels (bytes_now title.entry.name) room (IntegralForm (reference_tree reference.now) (fields_tree written.now))) }
+        ensures few { OnOk result (AddsAtMost self.old self.new (form_count (IntegralForm (reference_tree reference.now) (fields_tree written.now)))) }
+        ensures low { IfOk result (λ found. found.depth ≤ room) }
+    {
+        let number = integer_referred(&self.names, &self.nodes, reference)?;
+        let (fields, depth) = self.fields_at(Place::Integral, levels, room - 1, written)?;
+        let (fields, names) = fields.into_parts();
+        if total_width(&self.nodes, &fields) != u128::from(number.width) {
+            return Err(FaultKind::IntegralWidths);
+        }
+        let fields = parts_from(self.alloc, fields)?;
+        let name = copied(self.alloc, title.name)?;
+        self.push(
+            title.slot,
+            Shape::Integral {
+                name,
+                number,
+                fields,
+            },
+            names,
+            depth + 1,
+        )
+    }
+
+    #[cycle(types)]
+    fn union_at(
+        &mut self,
+        levels: u8,
+        title: Title<'n>,
+        room: u8,
+        written: &[tree::Field<'n>],
+    ) -> Result<Found, FaultKind>
+        requires table { IsTable self.old.nodes }
+        requires names { AreNamed self.old.nodes self.old.names }
+        requires seen { AreBelow (length self.old.nodes) levels self.old.seen }
+        requires some { 0 < room }
+        requires few { levels + room ≤ 64 }
+        requires within { IsFormWithin standard (UnionForm (fields_tree written.now)) }
+        requires space { HasRoom self.old (form_count (UnionForm (fields_tree written.now))) }
+        ensures builds { Builds self.old self.new result (meaning (known_types self.old) (visible_in self.old) levels (bytes_now title.entry.name) room (UnionForm (fields_tree written.now))) }
+        ensures few { OnOk result (AddsAtMost self.old self.new (form_count (UnionForm (fields_tree written.now)))) }
+        ensures low { IfOk result (λ found. found.depth ≤ room) }
+    {
+        if written.is_empty() {
+            return Err(FaultKind::NotHere);
+        }
+        let (fields, depth) = self.fields_at(Place::Union, levels, room - 1, written)?;
+        let (fields, names) = fields.into_parts();
+        let alternatives = parts_from(self.alloc, fields)?;
+        let name = copied(self.alloc, title.name)?;
+        self.push(
+            title.slot,
+            Shape::Union { name, alternatives },
+            names,
+            depth + 1,
+        )
+    }
+
+    /// One field, after others; what comes after it sees it, but not in a union.
+    #[cycle(types)]
+    fn field_at(
+        &mut self,
+        place: Place,
+        levels: u8,
+        room: u8,
+        before: &FieldList,
+        written: &tree::Field<'n>,
+    ) -> Result<(Field, u8), FaultKind>
+        requires table { IsTable self.old.nodes }
+        requires names { AreNamed self.old.nodes self.old.names }
+        requires seen { AreBelow (length self.old.nodes) (levels + 1) self.old.seen }
+        requires few { levels + 1 + room ≤ 64 }
+        requires within { IsFormWithin standard (field_tree written.now).form }
+        requires space { HasRoom self.old (form_count (field_tree written.now).form) }
+        ensures builds { FieldBuilds self.old self.new place levels (length before.now) (field_tree written.now).parts result (field_meaning (known_types self.old) place (visible_in self.old) levels (names_in before.now) (field_tree written.now).parts (meaning (known_types self.old) (visible_in self.old) (levels + 1) None room (field_tree written.now).form)) }
+        ensures few { OnOk result (AddsAtMost self.old self.new (form_count (field_tree written.now).form)) }
+        ensures sound { IfOk result (λ x. IsSoundField x.0) }
+        ensures fresh { IfOk result (λ _. fresh (field_tree written.now).parts.name (names_in before.now) ≡ Ok tt) }
+        ensures low { IfOk result (λ x. x.1 ≤ room) }
+    {
+        let found = self.type_at(
+            levels + 1,
+            Title {
+                name: None,
+                slot: None,
+            },
+            room,
+            form_in(written),
+        )?;
+        let field = self.field_of(place, levels, found, before, written)?;
+        Ok((field, found.depth))
+    }
+
+    /// The fields of a struct or the alternatives of a union, and how deep the deepest is.
+    #[cycle(types)]
+    #[tactic(auto, unfolding(crate::specs::Meaning::fields_meaning))]
+    fn fields_at(
+        &mut self,
+        place: Place,
+        levels: u8,
+        room: u8,
+        written: &[tree::Field<'n>],
+    ) -> Result<(FieldList<'n>, u8), FaultKind>
+        requires table { IsTable self.old.nodes }
+        requires names { AreNamed self.old.nodes self.old.names }
+        requires seen { AreBelow (length self.old.nodes) levels self.old.seen }
+        requires few { levels + 1 + room ≤ 64 }
+        requires within { AreFieldsWithin standard (fields_tree written.now) }
+        requires space { HasRoom self.old (fields_form_count (fields_tree written.now)) }
+        ensures builds { FieldsBuild self.old self.new result (fields_meaning (known_types self.old) place (visible_in self.old) levels room [] (fields_tree written.now)) }
+        ensures few { OnOk result (AddsAtMost self.old self.new (fields_form_count (fields_tree written.now))) }
+        ensures count { IfOk result (λ x. length x.0 ≡ length written.now) }
+        ensures sound { IfOk result (λ x. All IsSoundField x.0) }
+        ensures low { IfOk result (λ x. x.1 ≤ room) }
+    {
+        let mark = self.seen.len();
+        let mut fields = FieldList::with_capacity(self.alloc, written.len())?;
+        let mut deepest: u8 = 0;
+        for f in written {
+            let (field, depth) = self.field_at(place, levels, room, &fields, f)?;
+            fields.push(name_in(f), field)?;
+            deepest = deepest.max(depth);
+        }
+        self.seen.truncate(mark);
+        Ok((fields, deepest))
+    }
+}
+
+/// A fault in the declaration at a place, counted from 0.
+fn fault_in(kind: FaultKind, place: usize) -> TypeFault
+    requires counted { place + 1 < 2 ^ 64 }
+    ensures kind { result.kind ≡ kind }
+    ensures place { TellsPlace kind result.decl (Some (place + 1)) }
+{
+    let decl = match kind {
+        FaultKind::Memory => 0,
+        _ => place + 1,
+    };
+    TypeFault { kind, decl }
+}
