@@ -33,6 +33,7 @@ pub struct Called {
 }
 
 impl<'a> Seen<'a> {
+    /// What a clause of the part that a trail leads to sees, in the store as it is.
     pub fn new(
         alloc: Global,
         table: &'a [Node],

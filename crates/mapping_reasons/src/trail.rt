@@ -21,6 +21,7 @@ pub struct Trail {
 }
 
 impl Trail {
+    /// The trail of a walk that has not begun.
     pub fn new(alloc: Global) -> Trail {
         Trail {
             levels: Vec::new(alloc),

@@ -44,6 +44,7 @@ pub struct Told {
 }
 
 impl Told {
+    /// A watcher that was told nothing yet.
     pub fn new(alloc: Global) -> Told {
         Told {
             alloc,

@@ -95,6 +95,7 @@ fn earlier_declaration(script: &Script<'_>, name: Part) -> Option<usize> {
     (0..name.first).find(|token| is_declared_as(script, *token, script.slice(name)))
 }
 
+/// Whether a token is a word, right behind a `type`.
 pub fn is_declared_as(script: &Script<'_>, token: usize, word: &[u8]) -> bool {
     script.text_before(token) == b"type".as_slice() && script.text(token) == word
 }

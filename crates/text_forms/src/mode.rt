@@ -1,3 +1,5 @@
+//! How a value may be written.
+
 /// How a value is written.
 #[derive(Clone, Copy, Debug, Drop, PartialEq, Eq)]
 pub enum Mode {

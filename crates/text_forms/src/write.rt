@@ -1,3 +1,5 @@
+//! The one loop over a writer, and its fault.
+
 ghost use Rattle.std.specs.Prelude.{◌≡◌, codes, OnOk, OnErr};
 ghost use Rattle.std.specs.Io.KnownBytes.{Appends};
 ghost use Rattle.text_forms.specs.Written.{AppendsPart};
