@@ -10,7 +10,7 @@ use Rattle.lru.proofs.CallerLemmas.{Contains-lookup, Contains-promoted, Contains
 use Rattle.lru.proofs.Splits.{Contains-head}
 use Rattle.std.proofs.lemmas.Slice.{take-put_mid}
 use Rattle.std.proofs.lemmas.List.{drop-drop}
-use Rattle.std.proofs.Math.Seq.{take-add, take-length}
+use Rattle.std.proofs.Math.Seq.{take-add}
 use borrow.Rule.Slice.PartMut.{put_mid}
 use Rattle.bit_space.specs.SpaceView.{SpaceView, Keeps}
 use Rattle.bit_space.specs.Pages.{IsPage, ArePages}
