@@ -3,7 +3,7 @@
 ghost use Rattle.std.specs.Prelude.{◌≡◌, ℕ, ◌+◌, ◌-◌, ◌*◌, ◌^◌, ◌<◌, ◌≤◌, length, slice_range, IfOk, IfErr, OnOk, OnErr, ◌/◌, ◌%◌};
 ghost use Rattle.bit_space.specs.Bits.{binary, bits_of, number, numeral};
 ghost use Rattle.bit_space.specs.SpaceView.{known_bits, Keeps, HasRisen};
-ghost use Rattle.bit_space.specs.Reading.{MayRead, IsRefused, UnlessDevice};
+ghost use Rattle.bit_space.specs.Reading.{MayRead, RefusesReading, UnlessDevice};
 ghost use Rattle.bit_space.specs.declared.order.Order.{Order};
 ghost use Rattle.bit_space.specs.declared.number.BitFault.TheVariants.{Device, Limit};
 
@@ -67,7 +67,7 @@ pub fn read_number<S: Space>(
     ensures steps { OnOk result ((meter.old.steps < meter.old.limit) × (meter.new.steps ≡ meter.old.steps + 1)) }
     ensures inside { OnOk result (pos + width ≤ 8 * (S.view space.old).len) }
     ensures ok { IfOk result (λ n. MayRead (known_bits (S.view space.old)) order pos width n) }
-    ensures err { IfErr result (λ fault. IsRefused fault (pos + width) (S.view space.old) (S.view space.new) meter.old.limit meter.old.steps meter.new.steps) }
+    ensures err { IfErr result (RefusesReading (pos + width) (S.view space.old) (S.view space.new) meter.old meter.new) }
     ensures untouched { IfErr result (λ fault. UnlessDevice fault (space.new ≡ space.old)) }
 {
     meter.tick()?;

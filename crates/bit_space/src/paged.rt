@@ -1,7 +1,7 @@
 //! A cache of the pages of a space.
 
-ghost use Rattle.std.specs.Prelude.{◌≡◌, ℕ, ◌+◌, ◌*◌, ◌%◌, ◌/◌, ◌≤◌, List, Some, length, slice_range, IfOk, IfSome, OnOk, OnErr};
-ghost use Rattle.bit_space.specs.SpaceView.{HasRisen, Keeps};
+ghost use Rattle.std.specs.Prelude.{◌≡◌, ◌+◌, ◌*◌, ◌%◌, ◌≤◌, length, slice_range, IfOk, IfSome, OnOk, OnErr};
+ghost use Rattle.bit_space.specs.SpaceView.{GivesRange, HasRisen, Keeps};
 ghost use Rattle.bit_space.specs.Pages.{IsPage, ArePages};
 
 use crate::memory::Memory;
@@ -62,7 +62,7 @@ impl<S: Space> Paged<S> {
         requires inside { at + length into.old ≤ (S.view self.old).len }
         requires one_page { at % 4096 + length into.old ≤ 4096 }
         ensures keeps { Keeps (S.view self.old) (S.view self.new) }
-        ensures bytes { OnOk result ((bytes : List ℕ) → (S.view self.old).bytes ≡ Some bytes → into.new ≡ slice_range bytes at (at + length into.old)) }
+        ensures bytes { OnOk result (GivesRange (S.view self.old) at (length into.old) into.new) }
         ensures failed { OnErr result (HasRisen (S.view self.old).failures (S.view self.new).failures) }
     {
         let page = at / PAGE;
@@ -82,7 +82,7 @@ impl<S: Space> Paged<S> {
         requires inside { at + length into.old ≤ (S.view self.old).len }
         requires one_page { at % 4096 + length into.old ≤ 4096 }
         ensures keeps { Keeps (S.view self.old) (S.view self.new) }
-        ensures bytes { OnOk result ((bytes : List ℕ) → (S.view self.old).bytes ≡ Some bytes → into.new ≡ slice_range bytes at (at + length into.old)) }
+        ensures bytes { OnOk result (GivesRange (S.view self.old) at (length into.old) into.new) }
         ensures failed { OnErr result (HasRisen (S.view self.old).failures (S.view self.new).failures) }
     {
         let page = at / PAGE;
@@ -107,7 +107,7 @@ impl<S: Space> Paged<S> {
     fn read_across(&mut self, at: u64, into: &mut [u8]) -> Result<(), DeviceFault>
         requires { at + length into.old ≤ (S.view self.old).len }
         ensures keeps { Keeps (S.view self.old) (S.view self.new) }
-        ensures bytes { OnOk result ((bytes : List ℕ) → (S.view self.old).bytes ≡ Some bytes → into.new ≡ slice_range bytes at (at + length into.old)) }
+        ensures bytes { OnOk result (GivesRange (S.view self.old) at (length into.old) into.new) }
         ensures failed { OnErr result (HasRisen (S.view self.old).failures (S.view self.new).failures) }
     {
         let page = PAGE as usize;
