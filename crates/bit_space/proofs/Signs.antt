@@ -1,5 +1,5 @@
 -- The digits of a number in either order, and its sign.
-use Rattle.std.proofs.Common.{◌≡◌, ◌↔◌, ℕ, zero, suc, ◌+◌, ◌-◌, ◌*◌, ◌^◌, ◌<◌, ◌<ℤ◌, Bool, true, false, List, [], ◌∷◌, length, take, drop, reverse, Some, refl, sym, ap, ◌∙◌, arith}
+use Rattle.std.proofs.Common.{◌≡◌, ◌↔◌, ℕ, zero, suc, ◌+◌, ◌-◌, ◌*◌, ◌^◌, ◌<◌, ◌<ℤ◌, Bool, true, false, List, [], ◌∷◌, length, take, drop, reverse, refl, sym, ap, ◌∙◌, arith}
 use Rattle.std.specs.Prelude.{nat_le, if◌then◌else◌, pos, ◌-ℤ◌}
 use Rattle.std.specs.List.{concat}
 use Rattle.std.proofs.lemmas.Bool.{lt-leb, le-leb}
@@ -9,10 +9,8 @@ use Rattle.std.proofs.Math.Nat.{pow-succ'}
 use Rattle.bit_space.specs.declared.order.Order.{Order}
 use Rattle.bit_space.specs.declared.order.Order.TheVariants.{Big, Little}
 use Rattle.bit_space.specs.Bits.{AreDigits, numeral_onto, numeral, groups_from, digits, number, signed_numeral, twos_complement}
-use Rattle.bit_space.specs.SpaceView.{SpaceView, known_bits, IsWhole}
-use Rattle.bit_space.proofs.Digits.{digits_both, digits_front, digits_back, numeral_below, onto_numeral, bits_of_digits, length-bits_of}
+use Rattle.bit_space.proofs.Digits.{digits_both, digits_front, digits_back, numeral_below, onto_numeral}
 use Rattle.bit_space.proofs.Turned.{last_in_front}
-use Rattle.bit_space.proofs.Windows.{known_bytes}
 
 length_if : (small : Bool) (bits : List ℕ) (rest : List (List ℕ)) → length (concat (reverse rest)) ≡ length (drop 8 bits) → length (concat (reverse (if small then bits ∷ [] else take 8 bits ∷ rest))) ≡ length bits
 length_if true bits rest e = ap length (append-nil bits)

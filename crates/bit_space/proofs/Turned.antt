@@ -120,6 +120,12 @@ number_below Little width n h g =
     let t : turned count (n / 2 ^ last) (n % 2 ^ last) < 2 ^ (last + 8 * count) = turned_below count (n / 2 ^ last) (n % 2 ^ last) last (mod_below n (2 ^ last) (pow_pos last)) in
     rw (little_number count last width n e (omega arith) (omega arith) g) (rw f at t)
 
+-- a number of at most 8 bits is the same in both orders
+pub short_number : (order : Order) (width n : ℕ) → 0 < width → width ≤ 8 → n < 2 ^ width → number order (binary width n) ≡ n
+unfolding number digits turned
+short_number Big width n h g f = numeral_binary width n ∙ mod-eq_of_lt f
+short_number Little width n h g f = little_number 0 width width n (omega arith) h g f ∙ mod-eq_of_lt f
+
 -- one more group
 pub turn_value : (v rest last counter : ℕ) → v < 2 ^ (last + 8 * counter) → v * 256 + rest % 256 < 2 ^ (last + 8 * (counter + 1))
 turn_value v rest last counter h =

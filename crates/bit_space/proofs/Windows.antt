@@ -1,5 +1,5 @@
 -- A window of a space's bytes, and the numbers of its bits.
-use Rattle.std.proofs.Common.{◌≡◌, ℕ, ◌+◌, ◌-◌, ◌*◌, ◌/◌, ◌%◌, ◌^◌, ◌<◌, ◌≤◌, List, [], length, take, drop, get_or, Option, Some, None, refl, subst, arith}
+use Rattle.std.proofs.Common.{◌≡◌, ℕ, ◌+◌, ◌-◌, ◌*◌, ◌/◌, ◌%◌, ◌^◌, ◌<◌, ◌≤◌, List, [], length, take, drop, get_or, Option, Some, None, refl, sym, subst, arith}
 use Rattle.std.specs.Prelude.{slice_range, option_map, bit_and}
 use Rattle.std.proofs.lemmas.Nat.{one_shl, and_mask}
 use Rattle.std.proofs.lemmas.List.{length-take-le, length-drop, take_all, take_more}
@@ -8,7 +8,7 @@ use Rattle.bit_space.specs.declared.order.Order.{Order}
 use Rattle.bit_space.specs.Bits.{binary, bits_of, AreDigits, numeral, numeral_onto, number}
 use Rattle.bit_space.specs.Reading.{MayRead}
 use Rattle.bit_space.proofs.Digits.{digits_front, digits_back, bits_of_digits, length-bits_of, bits_of-range, range_of_range, numeral_below, numeral_byte, numeral_range, binary_numeral_at}
-use Rattle.bit_space.proofs.Turned.{number_below}
+use Rattle.bit_space.proofs.Turned.{number_below, short_number}
 
 pub length-range : (xs : List ℕ) (i n : ℕ) → i + n ≤ length xs → length (slice_range xs i (i + n)) ≡ n
 length-range xs i n h =
@@ -70,6 +70,19 @@ joined_last xs n d h g = subst (λ ys. numeral (bits_of ys) ≡ numeral (bits_of
 pub joined_none : 0 ≡ numeral (bits_of [])
 unfolding bits_of numeral_onto
 joined_none = refl
+
+-- the byte of a window of one byte is the numeral of its bits
+byte_cut : (window : List ℕ) (d : ℕ) → length window ≡ 1 → get_or window 0 d < 256 → get_or window 0 d ≡ numeral (slice_range (bits_of window) 0 (0 + 8))
+byte_cut window d h g =
+    let l : length (bits_of window) ≤ 8 = omega (arith, h, length-bits_of window) in
+    let e : numeral (bits_of window) ≡ numeral (bits_of []) * 256 + get_or window 0 d = joined_last window 0 d h g in
+    rw (take_all 8 (bits_of window) l) (omega (arith, e, joined_none))
+
+-- and it may be read in either order
+pub byte_read : (known : Option (List ℕ)) (order : Order) (window : List ℕ) (first position d : ℕ) → length window ≡ 1 → get_or window 0 d < 256 → position ≡ 8 * first
+    → ((bytes : List ℕ) → known ≡ Some bytes → window ≡ slice_range bytes first (first + 1)) → MayRead (option_map bits_of known) order position 8 (get_or window 0 d)
+byte_read known order window first position d l h p g =
+    window_read known order window first 1 0 8 position (get_or window 0 d) (get_or window 0 d) (omega arith) l (omega arith) (omega (arith, p)) (byte_cut window d l h) (sym (short_number order 8 (get_or window 0 d) (omega arith) (omega arith) h)) g
 
 -- a mask of the low bits
 pub low_bits : (n k w : ℕ) → k < w → bit_and n (1 * 2 ^ k % 2 ^ w - 1) ≡ n % 2 ^ k

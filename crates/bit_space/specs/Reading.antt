@@ -1,5 +1,6 @@
 -- What a read of a number comes to.
 use Rattle.std.specs.Prelude.{◌≡◌, ℕ, ◌+◌, ◌*◌, ◌^◌, ◌<◌, ◌≤◌, List, Option, Some, slice_range}
+use Rattle.bit_space.specs.declared.meter.Meter.{Meter}
 use Rattle.bit_space.specs.declared.order.Order.{Order}
 use Rattle.bit_space.specs.declared.number.BitFault.{BitFault}
 use Rattle.bit_space.specs.declared.number.BitFault.TheVariants.{End, Device, Limit}
@@ -17,6 +18,10 @@ abbrev pub IsRefused : BitFault → (end : ℕ) (before after : SpaceView) (limi
 IsRefused Limit end before after limit steps steps' = (steps ≡ limit) × (steps' ≡ steps)
 IsRefused End end before after limit steps steps' = (steps' ≡ steps + 1) × (steps < limit) × (8 * before.len < end)
 IsRefused Device end before after limit steps steps' = (steps' ≡ steps + 1) × (steps < limit) × (end ≤ 8 * before.len) × HasRisen before.failures after.failures
+
+-- the same between two states of the meter
+abbrev pub RefusesReading : (end : ℕ) → (before after : SpaceView) → (meter meter' : Meter) → BitFault → Type 0
+RefusesReading end before after meter meter' fault = IsRefused fault end before after meter.limit meter.steps meter'.steps
 
 -- what holds of each refusal but that of a device
 abbrev pub UnlessDevice : BitFault → Type 0 → Type 0

@@ -1,5 +1,5 @@
 -- What a caller can know of a space.
-use Rattle.std.specs.Prelude.{◌≡◌, ℕ, ◌-◌, ◌^◌, ◌<◌, ◌≤◌, List, Option, Some, None, [], length, option_map, unwrap_or, MatchOption}
+use Rattle.std.specs.Prelude.{◌≡◌, ℕ, ◌+◌, ◌-◌, ◌^◌, ◌<◌, ◌≤◌, List, Option, Some, None, [], length, slice_range, option_map, unwrap_or, MatchOption}
 use Rattle.std.proofs.Common.{ap, sym, subst}
 use Rattle.bit_space.specs.Bits.{bits_of}
 
@@ -24,6 +24,10 @@ IsWhole view = (bytes : List ℕ) → view.bytes ≡ Some bytes → length bytes
 
 pub honest_whole : (bytes : List ℕ) → IsWhole (honest bytes)
 honest_whole bytes found e = ap (λ (o : Option (List ℕ)). length (unwrap_or o [])) (sym e)
+
+-- where the bytes of a space are known, a part is its `count` bytes from byte `at` on
+abbrev pub GivesRange : SpaceView → (at count : ℕ) → (part : List ℕ) → Type 0
+GivesRange view at count part = (bytes : List ℕ) → view.bytes ≡ Some bytes → part ≡ slice_range bytes at (at + count)
 
 -- a count of failures rose; one that stood at its last value is read as having risen
 abbrev pub HasRisen : ℕ → ℕ → Type 0

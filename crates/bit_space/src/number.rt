@@ -3,7 +3,8 @@
 ghost use Rattle.std.specs.Prelude.{◌≡◌, ℕ, ◌+◌, ◌-◌, ◌*◌, ◌^◌, ◌<◌, ◌≤◌, length, slice_range, IfOk, IfErr, OnOk, OnErr, ◌/◌, ◌%◌};
 ghost use Rattle.bit_space.specs.Bits.{binary, bits_of, number, numeral};
 ghost use Rattle.bit_space.specs.SpaceView.{known_bits, Keeps, HasRisen};
-ghost use Rattle.bit_space.specs.Reading.{MayRead, IsRefused, UnlessDevice};
+ghost use Rattle.bit_space.specs.Reading.{MayRead, RefusesReading, UnlessDevice};
+ghost use Rattle.bit_space.specs.declared.order.Order.{Order};
 ghost use Rattle.bit_space.specs.declared.number.BitFault.TheVariants.{Device, Limit};
 
 use crate::meter::{LimitPassed, Meter};
@@ -66,7 +67,7 @@ pub fn read_number<S: Space>(
     ensures steps { OnOk result ((meter.old.steps < meter.old.limit) × (meter.new.steps ≡ meter.old.steps + 1)) }
     ensures inside { OnOk result (pos + width ≤ 8 * (S.view space.old).len) }
     ensures ok { IfOk result (λ n. MayRead (known_bits (S.view space.old)) order pos width n) }
-    ensures err { IfErr result (λ fault. IsRefused fault (pos + width) (S.view space.old) (S.view space.new) meter.old.limit meter.old.steps meter.new.steps) }
+    ensures err { IfErr result (RefusesReading (pos + width) (S.view space.old) (S.view space.new) meter.old meter.new) }
     ensures untouched { IfErr result (λ fault. UnlessDevice fault (space.new ≡ space.old)) }
 {
     meter.tick()?;
@@ -75,9 +76,23 @@ pub fn read_number<S: Space>(
         return Err(BitFault::End);
     }
     if pos % 8 == 0 && width == 8 {
-        return Ok(read_window(space, pos, width, order, &mut [0u8; 1])?);
+        return Ok(read_byte(space, pos)?);
     }
     Ok(read_bits(space, pos, width, order)?)
+}
+
+// Reads the number of the 8 bits of one byte, which is that byte in either order.
+#[inline(always)]
+fn read_byte<S: Space>(space: &mut S, pos: u64) -> Result<u64, DeviceFault>
+    requires whole { pos % 8 ≡ 0 }
+    requires inside { pos / 8 < (S.view space.old).len }
+    ensures keeps { Keeps (S.view space.old) (S.view space.new) }
+    ensures ok { IfOk result (λ n. (order : Order) → MayRead (known_bits (S.view space.old)) order pos 8 n) }
+    ensures failed { OnErr result (HasRisen (S.view space.old).failures (S.view space.new).failures) }
+{
+    let mut byte = [0u8; 1];
+    space.read_at(pos / 8, &mut byte)?;
+    Ok(u64::from(byte[0]))
 }
 
 // Reads the number of bits that are inside the space. Whole bytes have windows of a size that is known beforehand.

@@ -1,21 +1,26 @@
 //! A cache of the pages of a space.
 
-ghost use Rattle.std.specs.Prelude.{◌≡◌, ℕ, ◌+◌, ◌*◌, ◌%◌, ◌/◌, ◌≤◌, List, Some, length, slice_range, IfOk, IfSome, OnOk, OnErr};
-ghost use Rattle.bit_space.specs.SpaceView.{HasRisen, Keeps};
-ghost use Rattle.bit_space.specs.Pages.{IsPage, ArePages};
+ghost use Rattle.std.specs.Prelude.{◌≡◌, ◌+◌, ◌*◌, ◌%◌, ◌≤◌, length, slice_range, IfOk, IfSome, OnOk, OnErr};
+ghost use Rattle.bit_space.specs.SpaceView.{GivesRange, HasRisen, Keeps};
+ghost use Rattle.bit_space.specs.Pages.{AreKept, IsPage};
+ghost use Rattle.bit_space.specs.declared.paged.TheConstants.{NO_PAGE};
 
 use crate::memory::Memory;
 use crate::space::{DeviceFault, Space};
 use lru::LruCache;
 use std::alloc::Global;
 use std::marker::Model;
+use std::mem;
 use std::num::NonZeroUsize;
 
 /// The bytes of a page.
 const PAGE: u64 = 4096;
 
-/// How many pages are kept.
-const PAGES: usize = 16;
+/// How many pages are kept beside the newest.
+const OLDER: usize = 15;
+
+/// The number of no page: those of pages are below 2^52.
+const NO_PAGE: u64 = u64::MAX;
 
 /// A space whose pages are kept as they are read: up to 16 pages of 4,096 bytes, of which the
 /// least recently used is given up first. A page for which there is no memory is read each time.
@@ -25,7 +30,10 @@ const PAGES: usize = 16;
 pub struct Paged<S: Space> {
     alloc: Global,
     inner: S,
-    pages: LruCache<u64, Vec<u8>>,
+    // The number and the bytes of the page that was read last, beside those that were read before it.
+    newest: u64,
+    bytes: Vec<u8>,
+    older: LruCache<u64, Vec<u8>>,
 }
 
 impl<S: Space> Model for Paged<S> {
@@ -33,7 +41,7 @@ impl<S: Space> Model for Paged<S> {
 
     ghost view = { λ p. p.inner };
 
-    ghost invariant = { λ p. ArePages (S.view p.inner) p.pages.entries };
+    ghost invariant = { λ p. AreKept (S.view p.inner) NO_PAGE p.newest p.bytes.items p.older.entries };
 }
 
 impl<S: Space + Drop> Paged<S> {
@@ -41,14 +49,16 @@ impl<S: Space + Drop> Paged<S> {
     pub fn new(alloc: Global, inner: S) -> Result<Paged<S>, Memory>
         ensures { IfOk result (λ paged. paged ≡ inner) }
     {
-        let Some(cap) = NonZeroUsize::new(PAGES) else {
+        let Some(cap) = NonZeroUsize::new(OLDER) else {
             return Err(Memory);
         };
         match LruCache::new(alloc, cap) {
-            Ok(pages) => Ok(Paged {
+            Ok(older) => Ok(Paged {
                 alloc,
                 inner,
-                pages,
+                newest: NO_PAGE,
+                bytes: Vec::new(alloc),
+                older,
             }),
             Err(_) => Err(Memory),
         }
@@ -62,16 +72,14 @@ impl<S: Space> Paged<S> {
         requires inside { at + length into.old ≤ (S.view self.old).len }
         requires one_page { at % 4096 + length into.old ≤ 4096 }
         ensures keeps { Keeps (S.view self.old) (S.view self.new) }
-        ensures bytes { OnOk result ((bytes : List ℕ) → (S.view self.old).bytes ≡ Some bytes → into.new ≡ slice_range bytes at (at + length into.old)) }
+        ensures bytes { OnOk result (GivesRange (S.view self.old) at (length into.old) into.new) }
         ensures failed { OnErr result (HasRisen (S.view self.old).failures (S.view self.new).failures) }
     {
         let page = at / PAGE;
         let offset = (at % PAGE) as usize;
-        if let Some((newest, bytes)) = self.pages.peek_mru() {
-            if *newest == page {
-                copy_part(bytes.as_slice(), offset, into);
-                return Ok(());
-            }
+        if page == self.newest {
+            copy_part(self.bytes.as_slice(), offset, into);
+            return Ok(());
         }
         self.read_older(at, into)
     }
@@ -82,23 +90,35 @@ impl<S: Space> Paged<S> {
         requires inside { at + length into.old ≤ (S.view self.old).len }
         requires one_page { at % 4096 + length into.old ≤ 4096 }
         ensures keeps { Keeps (S.view self.old) (S.view self.new) }
-        ensures bytes { OnOk result ((bytes : List ℕ) → (S.view self.old).bytes ≡ Some bytes → into.new ≡ slice_range bytes at (at + length into.old)) }
+        ensures bytes { OnOk result (GivesRange (S.view self.old) at (length into.old) into.new) }
         ensures failed { OnErr result (HasRisen (S.view self.old).failures (S.view self.new).failures) }
     {
         let page = at / PAGE;
         let offset = (at % PAGE) as usize;
-        if let Some(bytes) = self.pages.peek(&page) {
+        if let Some(bytes) = self.older.pop(&page) {
             copy_part(bytes.as_slice(), offset, into);
-            let _ = self.pages.promote(&page);
+            self.make_newest(page, bytes);
             return Ok(());
         }
         match load(self.alloc, &mut self.inner, page)? {
             Some(bytes) => {
                 copy_part(bytes.as_slice(), offset, into);
-                let _ = self.pages.put(page, bytes);
+                self.make_newest(page, bytes);
                 Ok(())
             }
             None => self.inner.read_at(at, into),
+        }
+    }
+
+    // Makes a page the newest. The one before it joins the older ones, or is given up where there is no memory for that.
+    fn make_newest(&mut self, page: u64, bytes: Vec<u8>)
+        requires { IsPage (S.view self.old) page bytes.items }
+        ensures { self.new ≡ self.old }
+    {
+        let last = mem::replace(&mut self.newest, page);
+        let content = mem::replace(&mut self.bytes, bytes);
+        if last != NO_PAGE {
+            drop(self.older.put(last, content));
         }
     }
 
@@ -107,7 +127,7 @@ impl<S: Space> Paged<S> {
     fn read_across(&mut self, at: u64, into: &mut [u8]) -> Result<(), DeviceFault>
         requires { at + length into.old ≤ (S.view self.old).len }
         ensures keeps { Keeps (S.view self.old) (S.view self.new) }
-        ensures bytes { OnOk result ((bytes : List ℕ) → (S.view self.old).bytes ≡ Some bytes → into.new ≡ slice_range bytes at (at + length into.old)) }
+        ensures bytes { OnOk result (GivesRange (S.view self.old) at (length into.old) into.new) }
         ensures failed { OnErr result (HasRisen (S.view self.old).failures (S.view self.new).failures) }
     {
         let page = PAGE as usize;

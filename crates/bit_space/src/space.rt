@@ -1,7 +1,7 @@
 //! Where bytes come from.
 
-ghost use Rattle.std.specs.Prelude.{◌≡◌, ℕ, ◌+◌, ◌^◌, ◌<◌, ◌≤◌, List, Some, length, slice_range, OnOk, OnErr};
-ghost use Rattle.bit_space.specs.SpaceView.{SpaceView, IsWhole, HasRisen, Keeps};
+ghost use Rattle.std.specs.Prelude.{◌≡◌, ◌+◌, ◌^◌, ◌<◌, ◌≤◌, length, OnOk, OnErr};
+ghost use Rattle.bit_space.specs.SpaceView.{SpaceView, GivesRange, HasRisen, IsWhole, Keeps};
 
 use thiserror::Error;
 
@@ -27,7 +27,7 @@ pub trait Space {
     fn read_at(&mut self, at: u64, into: &mut [u8]) -> Result<(), DeviceFault>
         requires { at + length into.old ≤ (view self.old).len }
         ensures keeps { Keeps (view self.old) (view self.new) }
-        ensures bytes { OnOk result ((bytes : List ℕ) → (view self.old).bytes ≡ Some bytes → into.new ≡ slice_range bytes at (at + length into.old)) }
+        ensures bytes { OnOk result (GivesRange (view self.old) at (length into.old) into.new) }
         ensures failed { OnErr result (HasRisen (view self.old).failures (view self.new).failures) };
 
     /// A space is shorter than 2^60 bytes.

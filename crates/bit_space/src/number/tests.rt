@@ -5,7 +5,7 @@ use crate::{BitFault, Meter, Order, Space};
 use std::test::Fail;
 
 /// Bit position, width, and the number in big and in little order, worked out from the groups.
-const NUMBERS: [(u64, u8, u64, u64); 43] = [
+const NUMBERS: [(u64, u8, u64, u64); 44] = [
     (0, 1, 0x0, 0x0),
     (3, 1, 0x1, 0x1),
     (5, 1, 0x0, 0x0),
@@ -20,6 +20,7 @@ const NUMBERS: [(u64, u8, u64, u64); 43] = [
     (1, 8, 0x24, 0x24),
     (4, 8, 0x23, 0x23),
     (7, 8, 0x1a, 0x1a),
+    (8, 8, 0x34, 0x34),
     (0, 9, 0x24, 0x12),
     (4, 9, 0x46, 0x23),
     (5, 9, 0x8d, 0x146),
@@ -58,7 +59,7 @@ fn numbers_at_any_bit(rt: HostRuntime) -> Result<(), Fail> {
         0x87,
     ];
     let mut space = memory(rt.alloc(), &bytes).ok_or("memory")?;
-    let mut meter = Meter::new(86);
+    let mut meter = Meter::new(88);
     for (pos, width, big, little) in NUMBERS {
         reads(
             &rt,
@@ -75,7 +76,7 @@ fn numbers_at_any_bit(rt: HostRuntime) -> Result<(), Fail> {
             Ok(little),
         );
     }
-    assert_eq!(rt; meter.steps(), 86);
+    assert_eq!(rt; meter.steps(), 88);
     Ok(())
 }
 
