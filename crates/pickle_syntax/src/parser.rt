@@ -6,9 +6,9 @@ ghost use Rattle.pickle_tree.specs.Pickle.{pickle_tree};
 ghost use Rattle.pickle_syntax.specs.Show.{show, show_pickle};
 ghost use Rattle.pickle_syntax.specs.Levels.{IsWellBracketed, IsPickleWellBracketed};
 ghost use Rattle.pickle_syntax.specs.Laws.{AreShownOnce};
-ghost use Rattle.pickle_syntax.specs.Told.{Tells};
+ghost use Rattle.pickle_syntax.specs.Told.{Tells, TellsToken};
 ghost use Rattle.pickle_syntax.specs.Pickles.{IsPickle, IsPickleOf, semicolons, fault_of, IsPlaceWithin};
-ghost use Rattle.pickle_syntax.specs.declared.parser.fault.ParseFault.TheVariants.{Syntax, Memory, TooDeep, TooMany};
+ghost use Rattle.pickle_syntax.specs.declared.parser.fault.ParseFault.TheVariants.{Memory, TooDeep, TooMany};
 
 mod expressions;
 pub mod fault;
@@ -72,8 +72,6 @@ pub fn one_tree()
 /// Where `Syntax` names a token, with anything else behind it that token is named too: so no pickle begins with the tokens up to it
 /// and with it.
 pub fn no_pickle_goes_on()
-    ensures same { (front rest more : List Token) (token : Token) → Tells (front ++ token ∷ rest) (Syntax (length front))
-        → Tells (front ++ token ∷ more) (Syntax (length front)) }
-    ensures none { (front rest more : List Token) (token : Token) → Tells (front ++ token ∷ rest) (Syntax (length front))
-        → IsPickle (front ++ token ∷ more) → ⊥ }
+    ensures same { (front rest more : List Token) (token : Token) → TellsToken front token rest → TellsToken front token more }
+    ensures none { (front rest more : List Token) (token : Token) → TellsToken front token rest → IsPickle (front ++ token ∷ more) → ⊥ }
 {}
