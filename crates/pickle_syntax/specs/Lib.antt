@@ -16,3 +16,4 @@ pub mod Texts
 pub mod Numbers
 pub mod Lexing
 pub mod Pieces
+pub mod Laws

@@ -1,18 +1,22 @@
 -- Reading an expression, as a function on lists.
-use Rattle.std.specs.Prelude.{ℕ, zero, suc, ◌+◌, nat_lt, if◌then◌else◌, List, [], ◌∷◌, length, drop, Ok, Err}
+use Rattle.std.specs.Prelude.{ℕ, zero, suc, ◌+◌, nat_lt, if◌then◌else◌, List, [], ◌∷◌, length, drop, Result, Ok, Err}
+use denote.Bor.{Bor}
+use Rattle.pickle_syntax.specs.declared.token.Kind.{Kind}
 use Rattle.pickle_syntax.specs.declared.token.Sign.TheVariants as sign
 use Rattle.pickle_syntax.specs.declared.parser.operators.Start.{Start}
 use Rattle.pickle_syntax.specs.declared.parser.operators.Start.TheVariants as start
 use Rattle.pickle_syntax.specs.declared.parser.operators.Next.{Next}
 use Rattle.pickle_syntax.specs.declared.parser.operators.Next.TheVariants as next
+use Rattle.pickle_syntax.specs.declared.parser.found.FoundExpression.{FoundExpression}
+use Rattle.pickle_syntax.specs.declared.parser.fault.Stop.{Stop}
 use Rattle.pickle_syntax.specs.Tokens.{Token, Reserved, Named, Opens, Numeral, Mark}
 use Rattle.pickle_syntax.specs.Tokens as token
-use Rattle.pickle_tree.specs.Tree.{Select, InUnit, Convert, Tree, Literal, Name, Bracket, Before, Between, Choice, Index, After}
+use Rattle.pickle_tree.specs.Tree.{Select, InUnit, Convert, Tree, Literal, Name, Bracket, Before, Between, Choice, Index, After, expression_tree}
 use Rattle.pickle_tree.specs.Tree as tree
 use Rattle.pickle_syntax.specs.Levels.{level}
 use Rattle.pickle_tree.specs.Limits.{depth}
 use Rattle.pickle_syntax.specs.Operators.{start_of, next_of, goes_on}
-use Rattle.pickle_syntax.specs.Reading.{Wrong, Deep, ◌>>=◌, Read, expect, name_at, unit_at, target_at}
+use Rattle.pickle_syntax.specs.Reading.{Wrong, Deep, ◌>>=◌, Read, Reads, expect, name_at, unit_at, target_at}
 
 -- reads expressions of a level or higher
 abbrev pub Reader : Type 0
@@ -75,3 +79,7 @@ unfoldable pub expression_at : ℕ → Reader
 expression_at zero least [] = Err (Wrong 0)
 expression_at zero least (t ∷ rest) = Err Deep
 expression_at (suc room) least tokens = operand_at (expression_at room) tokens >>= λ x. chain (expression_at room) room room least x.0 x.1
+
+-- the expression that a function found, and the tokens that it left, are what the reading gives
+abbrev pub ReadsExpression : Result (FoundExpression × Bor (List Kind)) Stop → Read Tree → Type 0
+ReadsExpression result read = Reads (λ found. expression_tree found.expression) result read

@@ -1,15 +1,21 @@
 -- Reading types, fields and pickles, as functions on lists.
 use Rattle.std.specs.Prelude.{ℕ, zero, suc, ◌+◌, Bool, true, false, nat_lt, if◌then◌else◌, Option, Some, None, List, [], ◌∷◌, length, Result, Ok, Err}
+use denote.Bor.{Bor}
+use Rattle.pickle_syntax.specs.declared.token.Kind.{Kind}
 use Rattle.pickle_syntax.specs.declared.token.Word.{Word}
 use Rattle.pickle_syntax.specs.declared.token.Word.TheVariants as word
 use Rattle.pickle_syntax.specs.declared.token.Sign.{Sign}
 use Rattle.pickle_syntax.specs.declared.token.Sign.TheVariants as sign
+use Rattle.pickle_syntax.specs.declared.parser.fault.Stop.{Stop}
+use Rattle.pickle_syntax.specs.declared.parser.found.FoundField.{FoundField}
+use Rattle.pickle_syntax.specs.declared.parser.found.FoundFields.{FoundFields}
+use Rattle.pickle_syntax.specs.declared.parser.found.FoundForm.{FoundForm}
 use Rattle.pickle_tree.specs.declared.tree.ByteOrder.{ByteOrder}
 use Rattle.pickle_tree.specs.declared.tree.ByteOrder.TheVariants as order
 use Rattle.pickle_syntax.specs.Tokens.{Token, Reserved, Named}
-use Rattle.pickle_tree.specs.Tree.{TreeTarget, ToReference, ToOffset, Tree, FormTree, Plain, StringForm, OffsetForm, ArrayForm, StructForm, IntegralForm, UnionForm, FieldTrees, NoFields, FieldThen, FieldTree, DeclarationTree}
+use Rattle.pickle_tree.specs.Tree.{TreeTarget, ToReference, ToOffset, Tree, FormTree, Plain, StringForm, OffsetForm, ArrayForm, StructForm, IntegralForm, UnionForm, FieldTrees, NoFields, FieldThen, FieldTree, DeclarationTree, form_tree, field_tree, fields_tree}
 use Rattle.pickle_tree.specs.Limits.{Limits, form_depth}
-use Rattle.pickle_syntax.specs.Reading.{Fault, Wrong, Deep, Many, ◌>>=◌, Read, after_sign, after_word, needed, expect, name_at, reference_at, target_at}
+use Rattle.pickle_syntax.specs.Reading.{Fault, Wrong, Deep, Many, ◌>>=◌, Read, Reads, after_sign, after_word, needed, expect, name_at, reference_at, target_at}
 use Rattle.pickle_syntax.specs.ReadExpressions.{expression_at}
 
 -- ---- expressions that may be absent
@@ -138,6 +144,18 @@ unfoldable pub form_at : Limits → ℕ → FormReader
 form_at limits zero [] = Err (Wrong 0)
 form_at limits zero (t ∷ rest) = Err Deep
 form_at limits (suc room) tokens = base_at limits (form_at limits room) tokens >>= λ f. suffix_at limits room f.0 f.1
+
+-- ---- what a function read
+
+-- the field that a function found, and the tokens that it left, are what the reading gives
+abbrev pub ReadsField : Result (FoundField × Bor (List Kind)) Stop → Read FieldTree → Type 0
+ReadsField result read = Reads (λ found. field_tree found.field) result read
+
+abbrev pub ReadsFields : Result (FoundFields × Bor (List Kind)) Stop → Read FieldTrees → Type 0
+ReadsFields result read = Reads (λ found. fields_tree found.fields.items) result read
+
+abbrev pub ReadsForm : Result (FoundForm × Bor (List Kind)) Stop → Read FormTree → Type 0
+ReadsForm result read = Reads (λ found. form_tree found.form) result read
 
 -- ---- pickles
 

@@ -45,6 +45,10 @@ abbrev pub Gives : {X Y : Type 0} → (X → Y) → Result X Stop → Result Y F
 Gives view (Ok x) read = read ≡ Ok (view x)
 Gives view (Err e) read = Fails e read
 
+-- what a function read, seen by view, and the tokens that it left, are what the reading gives, unless memory ran out
+abbrev pub Reads : {X Y : Type 0} → (X → Y) → Result (X × Bor (List Kind)) Stop → Read Y → Type 0
+Reads view result read = Gives (λ x. (view x.0, tokens_of x.1.now)) result read
+
 -- the tokens that a function lends are these
 abbrev pub IsRest : Option (Bor (List Kind)) → Option (List Token) → Type 0
 IsRest None rest = rest ≡ None

@@ -1,5 +1,5 @@
 -- What a refusal of tokens tells.
-use Rattle.std.specs.Prelude.{◌-◌, ◌≡◌, ⊤, List, length, Err}
+use Rattle.std.specs.Prelude.{◌-◌, ◌≡◌, ⊤, List, ◌∷◌, ◌++◌, length, Err}
 use Rattle.pickle_syntax.specs.declared.parser.fault.ParseFault.{ParseFault}
 use Rattle.pickle_syntax.specs.declared.parser.fault.ParseFault.TheVariants as fault
 use Rattle.pickle_syntax.specs.Tokens.{Token}
@@ -13,3 +13,7 @@ Tells tokens fault.Memory = ⊤
 Tells tokens (fault.Syntax token) = pickle_at standard tokens ≡ Err (Wrong (length tokens - token))
 Tells tokens fault.TooDeep = pickle_at standard tokens ≡ Err Deep
 Tells tokens fault.TooMany = pickle_at standard tokens ≡ Err Many
+
+-- the token behind these is named as the one at which the reading stops
+abbrev pub TellsToken : (front : List Token) → (token : Token) → (rest : List Token) → Type 0
+TellsToken front token rest = Tells (front ++ token ∷ rest) (fault.Syntax (length front))

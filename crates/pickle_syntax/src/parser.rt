@@ -3,16 +3,17 @@
 ghost use Rattle.std.specs.Prelude.{◌≡◌, ◌≢◌, ◌<◌, ◌≤◌, ◌++◌, ◌∷◌, List, length, IfOk, IfErr};
 ghost use Rattle.pickle_syntax.specs.Tokens.{Token, tokens_of};
 ghost use Rattle.pickle_tree.specs.Pickle.{pickle_tree};
-ghost use Rattle.pickle_tree.specs.Tree.{Tree, DeclarationTree};
 ghost use Rattle.pickle_syntax.specs.Show.{show, show_pickle};
 ghost use Rattle.pickle_syntax.specs.Levels.{IsWellBracketed, IsPickleWellBracketed};
-ghost use Rattle.pickle_syntax.specs.Told.{Tells};
+ghost use Rattle.pickle_syntax.specs.Laws.{AreShownOnce};
+ghost use Rattle.pickle_syntax.specs.Told.{Tells, TellsToken};
 ghost use Rattle.pickle_syntax.specs.Pickles.{IsPickle, IsPickleOf, semicolons, fault_of, IsPlaceWithin};
-ghost use Rattle.pickle_syntax.specs.declared.parser.fault.ParseFault.TheVariants.{Syntax, Memory, TooDeep, TooMany};
+ghost use Rattle.pickle_syntax.specs.declared.parser.fault.ParseFault.TheVariants.{Memory, TooDeep, TooMany};
 
 mod expressions;
 pub mod fault;
 mod fields;
+mod found;
 mod operators;
 mod pickle;
 mod reading;
@@ -60,19 +61,17 @@ pub fn parse<'t>(alloc: Global, tokens: &Tokens<'t>) -> Result<Pickle<'t>, Parse
 
 /// Two well bracketed expressions that show the same tokens are equal.
 pub fn one_expression()
-    ensures { (t u : Tree) → IsWellBracketed t → IsWellBracketed u → show t ≡ show u → t ≡ u }
+    ensures { AreShownOnce IsWellBracketed show }
 {}
 
 /// Two well bracketed pickles that show the same tokens are equal.
 pub fn one_tree()
-    ensures { (ds es : List DeclarationTree) → IsPickleWellBracketed ds → IsPickleWellBracketed es → show_pickle ds ≡ show_pickle es → ds ≡ es }
+    ensures { AreShownOnce IsPickleWellBracketed show_pickle }
 {}
 
 /// Where `Syntax` names a token, with anything else behind it that token is named too: so no pickle begins with the tokens up to it
 /// and with it.
 pub fn no_pickle_goes_on()
-    ensures same { (front rest more : List Token) (token : Token) → Tells (front ++ token ∷ rest) (Syntax (length front))
-        → Tells (front ++ token ∷ more) (Syntax (length front)) }
-    ensures none { (front rest more : List Token) (token : Token) → Tells (front ++ token ∷ rest) (Syntax (length front))
-        → IsPickle (front ++ token ∷ more) → ⊥ }
+    ensures same { (front rest more : List Token) (token : Token) → TellsToken front token rest → TellsToken front token more }
+    ensures none { (front rest more : List Token) (token : Token) → TellsToken front token rest → IsPickle (front ++ token ∷ more) → ⊥ }
 {}

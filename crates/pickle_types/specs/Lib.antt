@@ -16,6 +16,7 @@ pub mod WellTyped
 pub mod Built
 pub mod Props
 pub mod Building
+pub mod Calls
 pub mod Holds
 pub mod TypeTable
 pub mod DeclaredTypes

@@ -1,10 +1,11 @@
 -- Places that are found by names, and the trees that names are scattered to.
-use Rattle.std.specs.Prelude.{ℕ, ◌+◌, ◌*◌, ◌%◌, length, List, [], ◌∷◌, Option, Some, None, slice_get}
+use Rattle.std.specs.Prelude.{◌≡◌, ℕ, ◌+◌, ◌*◌, ◌%◌, length, List, [], ◌∷◌, Option, Some, None, slice_get, if◌then◌else◌}
 use Rattle.std.specs.Ordering.{nat_cmp}
 use Rattle.std.specs.Cmp.Lexicographic.{slice_cmp}
 use Rattle.std.specs.BTreeMap.{BTreeMap, get_by, IsEmpty}
 use denote.Bor.{Bor}
 use Rattle.pickle_types.specs.declared.places_by_name.PlacesByName.{PlacesByName}
+use Rattle.pickle_types.specs.Scopes.{is_named}
 
 -- a number that the bytes of a name lead to, from n on
 abbrev pub scattered : ℕ → List ℕ → ℕ
@@ -33,3 +34,7 @@ place_among trees word = place_in word (slice_get trees (bucket_of (length trees
 -- the place of a name
 abbrev pub place_at : PlacesByName → List ℕ → Option ℕ
 place_at names word = place_among names.trees.items word
+
+-- the name, where there is one, has this place, or none, and each other name has the one that it had
+abbrev pub Replaces : (old new : PlacesByName) → (name : Option (List ℕ)) → (place : Option ℕ) → Type 0
+Replaces old new name place = (word : List ℕ) → place_at new word ≡ (if is_named name word then place else place_at old word)

@@ -1,11 +1,11 @@
 //! The least width of a type's values, and bounds on the steps and slots of a mapping.
 
 ghost use Rattle.std.specs.Prelude.{◌≡◌, ℕ, ◌+◌, ◌*◌, ◌<◌, ◌≤◌, length, min, max, IsTrue, false, Option, List};
-ghost use Rattle.pickle_types.specs.Types.{IntegerOf, OffsetOf, StringOf, ArrayOf, StructOf, IntegralOf, UnionOf, PokeType, weight, optional_weight, bound_weight, Fields, FieldThen, NoFields, Parts, PartThen, NoParts};
+ghost use Rattle.pickle_types.specs.Types.{IntegerOf, OffsetOf, StringOf, ArrayOf, StructOf, IntegralOf, UnionOf, PokeType, weight, optional_weight, bound_weight, Fields, NoFields, NoParts};
 ghost use Rattle.pickle_types.specs.declared.integer.IntegerType.{IntegerType};
-ghost use Rattle.pickle_types.specs.Table.{type_of, term_of, optional_term, bound_of, IsTable, open_fields, open_parts, fields_onto, parts_onto, name_of, FieldsBelow, PartsBelow};
+ghost use Rattle.pickle_types.specs.Table.{type_of, term_of, optional_term, bound_of, IsTable, open_fields, open_parts, FieldsBelow, PartsBelow};
 ghost use Rattle.pickle_types.specs.Bounds.{count_of, where_present, IsBound};
-ghost use Rattle.pickle_types.specs.Holds.{HoldsWidth, AreBounds, AreFieldBounds, ArePartBounds, AreKnown};
+ghost use Rattle.pickle_types.specs.Holds.{HoldsWidth, AreBounds, AreFieldBounds, ArePartBounds, BoundsFieldThen, BoundsPartThen, BoundsMade, AreKnown};
 
 use crate::node::{Extent, Field, Node, Part, Resolved, Shape};
 use arrayvec::ArrayVec;
@@ -171,7 +171,7 @@ pub fn least_present(least: Option<u64>, condition: &Option<Box<Resolved>>) -> O
 /// The bounds of a field and of those behind it.
 #[tactic(auto, unfolding(crate::specs::Bounds::least_width, crate::specs::Bounds::cost, crate::specs::Bounds::room))]
 fn field_before(field: &Field, own: Bounds, rest: FieldBounds) -> FieldBounds
-    ensures { (type : PokeType) (fields : Fields) (m : ℕ) → AreBounds own type m → AreFieldBounds rest fields m → AreFieldBounds result (FieldThen (name_of field.now.name) field.now.order type (optional_term field.now.constraint) (optional_term field.now.label) (optional_term field.now.condition) fields) m }
+    ensures { BoundsFieldThen field.now own rest result }
 {
     let least = least_present(own.least, &field.condition);
     let weights = sum_of(
@@ -210,7 +210,7 @@ pub fn least_before(own: Option<u64>, rest: Option<u64>, is_last: bool) -> Optio
 /// The bounds of a part and of those behind it.
 #[tactic(auto, unfolding(crate::specs::Bounds::least_width, crate::specs::Bounds::cost, crate::specs::Bounds::room))]
 fn part_before(part: &Part, own: Bounds, rest: PartBounds) -> PartBounds
-    ensures { (type : PokeType) (parts : Parts) (m : ℕ) → AreBounds own type m → ArePartBounds rest parts m → ArePartBounds result (PartThen (name_of part.now.name) part.now.order type (optional_term part.now.constraint) parts) m }
+    ensures { BoundsPartThen part.now own rest result }
 {
     let weights = optional_weight(&part.constraint);
     let each = sum_of(Some(1), own.slots);
@@ -290,14 +290,14 @@ fn struct_bounds(pinned: bool, fields: FieldBounds) -> Bounds
 
 #[tactic(auto, unfolding(crate::specs::Bounds::least_width, crate::specs::Bounds::cost, crate::specs::Bounds::room))]
 fn integral_bounds(width: u8, fields: PartBounds) -> Bounds
-    ensures { (name : Option (List ℕ)) (type : IntegerType) (all : Parts) (m : ℕ) → type.width ≡ width → ArePartBounds fields all m → AreBounds result (IntegralOf name type all) m }
+    ensures { (name : Option (List ℕ)) (type : IntegerType) → type.width ≡ width → BoundsMade fields (IntegralOf name type) result }
 {
     with_own(Some(u64::from(width)), fields.steps, fields.slots)
 }
 
 #[tactic(auto, unfolding(crate::specs::Bounds::least_width, crate::specs::Bounds::cost, crate::specs::Bounds::room))]
 fn union_bounds(alternatives: PartBounds) -> Bounds
-    ensures { (name : Option (List ℕ)) (all : Parts) (m : ℕ) → ArePartBounds alternatives all m → AreBounds result (UnionOf name all) m }
+    ensures { (name : Option (List ℕ)) → BoundsMade alternatives (UnionOf name) result }
 {
     with_own(
         alternatives.least,

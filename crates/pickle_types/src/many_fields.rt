@@ -40,6 +40,7 @@ impl<'n> Model for ManyFields<'n> {
 }
 
 impl<'n> ManyFields<'n> {
+    /// No fields yet.
     pub fn new(alloc: Global) -> ManyFields<'n>
         ensures { result ≡ [] }
     {
@@ -49,6 +50,7 @@ impl<'n> ManyFields<'n> {
         }
     }
 
+    /// How many fields there are, fewer than 2^63.
     pub fn len(&self) -> usize
         ensures len { result ≡ length self.now }
         ensures small { result < 2 ^ 63 }

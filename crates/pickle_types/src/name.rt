@@ -26,6 +26,7 @@ impl Name {
         }
     }
 
+    /// The letters.
     pub fn as_slice(&self) -> &[u8]
         ensures { result.now ≡ letters_of self.now }
     {

@@ -43,6 +43,7 @@ impl<'n> Model for Names<'n> {
 }
 
 impl<'n> Names<'n> {
+    /// No names yet.
     pub fn new(alloc: Global) -> Names<'n>
         ensures { result ≡ [] }
     {

@@ -1,10 +1,8 @@
 //! Places that are found by names, in a time that no choice of names makes long.
 
-ghost use Rattle.std.specs.Prelude.{◌≡◌, ◌+◌, ◌<◌, ℕ, List, length, if◌then◌else◌, None, Some, All, IsSome, IfSome, IfOk, IfErr, OnOk, OnErr};
-ghost use Rattle.std.specs.Str.{bytes_eq};
-ghost use Rattle.pickle_types.specs.Scopes.{is_named};
+ghost use Rattle.std.specs.Prelude.{◌≡◌, ◌+◌, ◌<◌, ℕ, List, length, None, Some, All, IsSome, IfSome, IfOk, IfErr, OnOk, OnErr};
 ghost use Rattle.pickle_types.specs.Built.{bytes_now};
-ghost use Rattle.pickle_types.specs.PlacesByName.{bucket_of, place_at, IsBare};
+ghost use Rattle.pickle_types.specs.PlacesByName.{bucket_of, place_at, Replaces, IsBare};
 
 use crate::fault::FaultKind;
 use std::alloc::Global;
@@ -99,7 +97,7 @@ impl<'n> PlacesByName<'n> {
 
     /// Gives a name a place, and tells the one that it had. A name that has one needs no memory.
     pub fn put(&mut self, name: &'n [u8], place: usize) -> Result<Option<usize>, FaultKind>
-        ensures put { OnOk result ((word : List ℕ) → place_at self.new word ≡ (if bytes_eq name.now word then Some place else place_at self.old word)) }
+        ensures put { OnOk result (Replaces self.old self.new (Some name.now) (Some place)) }
         ensures had { IfOk result (λ had. had ≡ place_at self.old name.now) }
         ensures err { OnErr result ((word : List ℕ) → place_at self.new word ≡ place_at self.old word) }
         ensures absent { OnErr result (place_at self.old name.now ≡ None) }
@@ -112,7 +110,7 @@ impl<'n> PlacesByName<'n> {
 
     /// Gives a name a place, where there is a name, and tells the one that it had.
     pub fn add(&mut self, name: Option<&'n [u8]>, place: usize) -> Result<Option<usize>, FaultKind>
-        ensures put { OnOk result ((word : List ℕ) → place_at self.new word ≡ (if is_named (bytes_now name.entry) word then Some place else place_at self.old word)) }
+        ensures put { OnOk result (Replaces self.old self.new (bytes_now name.entry) (Some place)) }
         ensures had { IfOk result (λ had. IfSome name.entry (λ n. had ≡ place_at self.old n.now)) }
         ensures err { OnErr result ((word : List ℕ) → place_at self.new word ≡ place_at self.old word) }
         ensures kind { IfErr result (λ e. e ≡ FaultKind.Memory) }
@@ -126,7 +124,7 @@ impl<'n> PlacesByName<'n> {
     /// Gives a name the place back that it had before, if any. The name has a place, so no memory is needed.
     pub fn restore(&mut self, name: Option<&'n [u8]>, had: Option<usize>)
         requires there { IfSome name (λ n. IsSome (place_at self.old n.now)) }
-        ensures { (word : List ℕ) → place_at self.new word ≡ (if is_named (bytes_now name.entry) word then had else place_at self.old word) }
+        ensures { Replaces self.old self.new (bytes_now name.entry) had }
     {
         let Some(name) = name else {
             return;
@@ -141,7 +139,7 @@ impl<'n> PlacesByName<'n> {
 
     /// Takes away the place of a name.
     pub fn remove(&mut self, name: &[u8])
-        ensures { (word : List ℕ) → place_at self.new word ≡ (if bytes_eq name.now word then None else place_at self.old word) }
+        ensures { Replaces self.old self.new (Some name.now) None }
     {
         let count = self.trees.len();
         if count > 0 {

@@ -64,6 +64,7 @@ fn is_called(field: &Seen<'_>, word: &[u8]) -> bool
 }
 
 impl<'n> Scopes<'n> {
+    /// No fields yet.
     pub fn new(alloc: Global) -> Scopes<'n>
         ensures { result ≡ [] }
     {
@@ -73,6 +74,7 @@ impl<'n> Scopes<'n> {
         }
     }
 
+    /// How many fields are seen.
     pub fn len(&self) -> usize
         ensures { result ≡ length self.now }
     {

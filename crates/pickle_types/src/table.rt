@@ -105,6 +105,7 @@ impl Table {
         self.declared
     }
 
+    /// Whether no types are declared.
     pub fn is_empty(&self) -> bool
         ensures { IsTrue result ↔ (count_of self.now ≡ 0) }
     {

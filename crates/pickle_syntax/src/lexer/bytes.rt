@@ -45,6 +45,7 @@ pub fn digit_of(b: u8) -> u8
     }
 }
 
+/// Whether a byte is of the class.
 pub fn is_in(class: Class, b: u8) -> bool
     ensures { result ≡ is_in class b }
 {
@@ -57,6 +58,7 @@ pub fn is_in(class: Class, b: u8) -> bool
     }
 }
 
+/// What a byte begins, as the first of a piece.
 pub fn starts(b: u8) -> Start
     ensures { result ≡ starts b }
 {
@@ -102,12 +104,14 @@ pub fn skip(bytes: &[u8], n: usize) -> &[u8]
     &bytes[n..]
 }
 
+/// Whether the bytes are the same.
 pub fn same(a: &[u8], b: &[u8]) -> bool
     ensures { result ≡ bytes_eq a.now b.now }
 {
     a == b
 }
 
+/// Whether the first bytes are those of the word.
 pub fn begins_with(bytes: &[u8], word: &[u8]) -> bool
     ensures value { result ≡ starts_with ◌==◌ bytes.now word.now }
     ensures within { result ≡ true → length word.now ≤ length bytes.now }

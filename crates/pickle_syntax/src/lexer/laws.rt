@@ -1,16 +1,17 @@
 //! Laws of the tokens: each is the contract of a function that does nothing.
 
-ghost use Rattle.std.specs.Prelude.{◌≡◌, ◌≤◌, ◌↔◌, ℕ, List, ◌++◌, length, Option, Ok, Err};
+ghost use Rattle.std.specs.Prelude.{◌≡◌, ◌↔◌, ℕ, List, Ok, Err};
 ghost use Rattle.pickle_syntax.specs.Tokens.{Token};
 ghost use Rattle.pickle_syntax.specs.Bytes.{Fault};
-ghost use Rattle.pickle_syntax.specs.Lexing.{Span, piece_at, lexed};
-ghost use Rattle.pickle_syntax.specs.Pieces.{IsLongest, HasNoPiece, IsFaultAt, IsLexed, IsLexFault};
+ghost use Rattle.pickle_syntax.specs.Lexing.{Span, lexed};
+ghost use Rattle.pickle_syntax.specs.Pieces.{IsLexed, IsLexFault};
+ghost use Rattle.pickle_syntax.specs.Laws.{CutsTheLongest, FaultsWhereNoPiece};
 
 /// What is cut at a place is the longest piece there by the rules of the tokens, and the only one so long; nothing is
 /// cut just where no front of the bytes is a piece, and then the fault is the one that the rules name.
 pub fn cuts_the_longest()
-    ensures piece { (at : ℕ) (o : Option Token) (front after : List ℕ) → (piece_at at (front ++ after) ≡ Ok (o, length front)) ↔ IsLongest o front after }
-    ensures fault { (at : ℕ) (bytes : List ℕ) (f : Fault) → 1 ≤ length bytes → (piece_at at bytes ≡ Err f) ↔ (HasNoPiece bytes × IsFaultAt at bytes f) }
+    ensures piece { CutsTheLongest }
+    ensures fault { FaultsWhereNoPiece }
 {}
 
 /// The rules of the tokens leave one answer for each pickle: its tokens and spans where no place is faulty, and else its

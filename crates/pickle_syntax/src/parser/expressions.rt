@@ -7,10 +7,10 @@ ghost use Rattle.pickle_syntax.specs.declared.parser.fault.Stop.TheVariants.{Mem
 ghost use Rattle.pickle_syntax.specs.declared.parser.operators.Start.TheVariants as start;
 ghost use Rattle.pickle_syntax.specs.declared.parser.operators.Next.TheVariants as next;
 ghost use Rattle.pickle_tree.specs.Limits;
-ghost use Rattle.pickle_syntax.specs.Reading.{Gives};
-ghost use Rattle.pickle_syntax.specs.ReadExpressions.{operand_by, operand_at, step_at, chain, expression_at};
+ghost use Rattle.pickle_syntax.specs.ReadExpressions.{operand_by, operand_at, step_at, chain, expression_at, ReadsExpression};
 
 use crate::parser::fault::Stop;
+use crate::parser::found::FoundExpression;
 use crate::parser::operators::{Next, Start, goes_on, level, level_of, next_of, start_of};
 use crate::parser::reading::{expect, name_at, onward, target_at, unit_at};
 use crate::token::{Kind, Sign};
@@ -20,30 +20,22 @@ use std::alloc::Global;
 /// The least level of what an operator before its operand takes.
 const PREFIX_LEVEL: u8 = 13;
 
-/// An expression, and its depth.
-#[derive(Drop)]
-pub struct Found<'t> {
-    pub expression: Expression<'t>,
-    pub depth: u8,
-    ghost measured: { depth ≡ Limits.depth (expression_tree expression) },
-}
-
 /// What follows `(`.
 #[cycle(expressions)]
 fn bracketed<'a, 't>(
     alloc: Global,
     room: u8,
     tokens: &'a [Kind<'t>],
-) -> Result<(Found<'t>, &'a [Kind<'t>]), Stop>
+) -> Result<(FoundExpression<'t>, &'a [Kind<'t>]), Stop>
     requires { room < 255 }
-    ensures read { Gives (λ x. (expression_tree x.0.expression, tokens_of x.1.now)) result (operand_by (expression_at room) (tokens_of tokens.now) start.Bracket) }
+    ensures read { ReadsExpression result (operand_by (expression_at room) (tokens_of tokens.now) start.Bracket) }
     ensures low { IfOk result (λ x. x.0.depth ≤ room + 1) }
 {
     let (inner, rest) = expression(alloc, room, 1, tokens)?;
     let rest = expect(rest, Sign::CloseParen)?;
     let depth = inner.depth + 1;
     let expression = Expression::Bracket(Box::new(alloc, inner.expression)?);
-    Ok((Found { expression, depth }, rest))
+    Ok((FoundExpression { expression, depth }, rest))
 }
 
 /// What follows an operator before its operand.
@@ -53,24 +45,24 @@ fn prefixed<'a, 't>(
     room: u8,
     op: Prefix,
     tokens: &'a [Kind<'t>],
-) -> Result<(Found<'t>, &'a [Kind<'t>]), Stop>
+) -> Result<(FoundExpression<'t>, &'a [Kind<'t>]), Stop>
     requires { room < 255 }
-    ensures read { Gives (λ x. (expression_tree x.0.expression, tokens_of x.1.now)) result (operand_by (expression_at room) (tokens_of tokens.now) (start.Prefix op)) }
+    ensures read { ReadsExpression result (operand_by (expression_at room) (tokens_of tokens.now) (start.Prefix op)) }
     ensures low { IfOk result (λ x. x.0.depth ≤ room + 1) }
 {
     let (inner, rest) = expression(alloc, room, PREFIX_LEVEL, tokens)?;
     let depth = inner.depth + 1;
     let expression = Expression::Prefix(op, Box::new(alloc, inner.expression)?);
-    Ok((Found { expression, depth }, rest))
+    Ok((FoundExpression { expression, depth }, rest))
 }
 
 /// A literal or a name, which has one level.
-fn leaf<'t>(expression: Expression<'t>) -> Found<'t>
+fn leaf<'t>(expression: Expression<'t>) -> FoundExpression<'t>
     requires { Limits.depth (expression_tree expression) ≡ 1 }
     ensures expression { expression_tree result.expression ≡ expression_tree expression.entry }
     ensures depth { result.depth ≡ 1 }
 {
-    Found {
+    FoundExpression {
         expression,
         depth: 1,
     }
@@ -83,9 +75,9 @@ fn operand<'a, 't>(
     alloc: Global,
     room: u8,
     tokens: &'a [Kind<'t>],
-) -> Result<(Found<'t>, &'a [Kind<'t>]), Stop>
+) -> Result<(FoundExpression<'t>, &'a [Kind<'t>]), Stop>
     requires { room < 255 }
-    ensures read { Gives (λ x. (expression_tree x.0.expression, tokens_of x.1.now)) result (operand_at (expression_at room) (tokens_of tokens.now)) }
+    ensures read { ReadsExpression result (operand_at (expression_at room) (tokens_of tokens.now)) }
     ensures low { IfOk result (λ x. x.0.depth ≤ room + 1) }
 {
     match tokens {
@@ -128,9 +120,14 @@ fn after_first<'a, 't>(tokens: &'a [Kind<'t>]) -> &'a [Kind<'t>]
 }
 
 /// A suffix over what was read.
-fn with_suffix<'t>(alloc: Global, left: Found<'t>, suffix: Suffix<'t>) -> Result<Found<'t>, Stop>
+fn with_suffix<'t>(
+    alloc: Global,
+    left: FoundExpression<'t>,
+    suffix: Suffix<'t>,
+) -> Result<FoundExpression<'t>, Stop>
     requires { left.depth < 255 }
-    ensures made { IfOk result (λ x. (expression_tree x.expression ≡ After (expression_tree left.entry.expression) (suffix_tree suffix.entry)) × (x.depth ≡ left.entry.depth + 1)) }
+    ensures made { IfOk result (λ x. expression_tree x.expression ≡ After (expression_tree left.entry.expression) (suffix_tree suffix.entry)) }
+    ensures deep { IfOk result (λ x. x.depth ≡ left.entry.depth + 1) }
     ensures fails { IfErr result (λ e. e ≡ Memory) }
 {
     let depth = left.depth + 1;
@@ -139,7 +136,7 @@ fn with_suffix<'t>(alloc: Global, left: Found<'t>, suffix: Suffix<'t>) -> Result
         suffix,
     };
     let expression = Expression::After(Box::new(alloc, suffixed)?);
-    Ok(Found { expression, depth })
+    Ok(FoundExpression { expression, depth })
 }
 
 /// What follows an operator between two operands.
@@ -148,13 +145,13 @@ fn with_suffix<'t>(alloc: Global, left: Found<'t>, suffix: Suffix<'t>) -> Result
 fn infix<'a, 't>(
     alloc: Global,
     room: u8,
-    left: Found<'t>,
+    left: FoundExpression<'t>,
     op: Infix,
     rest: &'a [Kind<'t>],
-) -> Result<(Found<'t>, &'a [Kind<'t>]), Stop>
+) -> Result<(FoundExpression<'t>, &'a [Kind<'t>]), Stop>
     requires room { room < 255 }
     requires left { left.depth ≤ room }
-    ensures read { Gives (λ x. (expression_tree x.0.expression, tokens_of x.1.now)) result (step_at (expression_at room) (expression_tree left.entry.expression) (tokens_of rest.now) (next.Infix op)) }
+    ensures read { ReadsExpression result (step_at (expression_at room) (expression_tree left.entry.expression) (tokens_of rest.now) (next.Infix op)) }
     ensures low { IfOk result (λ x. x.0.depth ≤ room + 1) }
 {
     let (right, rest) = expression(alloc, room, level(op) + 1, rest)?;
@@ -165,7 +162,7 @@ fn infix<'a, 't>(
         right: right.expression,
     };
     let expression = Expression::Infix(Box::new(alloc, operation)?);
-    Ok((Found { expression, depth }, rest))
+    Ok((FoundExpression { expression, depth }, rest))
 }
 
 /// What follows `?`.
@@ -174,12 +171,12 @@ fn infix<'a, 't>(
 fn choice<'a, 't>(
     alloc: Global,
     room: u8,
-    left: Found<'t>,
+    left: FoundExpression<'t>,
     rest: &'a [Kind<'t>],
-) -> Result<(Found<'t>, &'a [Kind<'t>]), Stop>
+) -> Result<(FoundExpression<'t>, &'a [Kind<'t>]), Stop>
     requires room { room < 255 }
     requires left { left.depth ≤ room }
-    ensures read { Gives (λ x. (expression_tree x.0.expression, tokens_of x.1.now)) result (step_at (expression_at room) (expression_tree left.entry.expression) (tokens_of rest.now) next.Choice) }
+    ensures read { ReadsExpression result (step_at (expression_at room) (expression_tree left.entry.expression) (tokens_of rest.now) next.Choice) }
     ensures low { IfOk result (λ x. x.0.depth ≤ room + 1) }
 {
     let (yes, rest) = expression(alloc, room, 1, rest)?;
@@ -192,7 +189,7 @@ fn choice<'a, 't>(
         no: no.expression,
     };
     let expression = Expression::Choice(Box::new(alloc, selection)?);
-    Ok((Found { expression, depth }, rest))
+    Ok((FoundExpression { expression, depth }, rest))
 }
 
 /// What follows `[`.
@@ -201,12 +198,12 @@ fn choice<'a, 't>(
 fn index<'a, 't>(
     alloc: Global,
     room: u8,
-    left: Found<'t>,
+    left: FoundExpression<'t>,
     rest: &'a [Kind<'t>],
-) -> Result<(Found<'t>, &'a [Kind<'t>]), Stop>
+) -> Result<(FoundExpression<'t>, &'a [Kind<'t>]), Stop>
     requires room { room < 255 }
     requires left { left.depth ≤ room }
-    ensures read { Gives (λ x. (expression_tree x.0.expression, tokens_of x.1.now)) result (step_at (expression_at room) (expression_tree left.entry.expression) (tokens_of rest.now) next.Index) }
+    ensures read { ReadsExpression result (step_at (expression_at room) (expression_tree left.entry.expression) (tokens_of rest.now) next.Index) }
     ensures low { IfOk result (λ x. x.0.depth ≤ room + 1) }
 {
     let (index, rest) = expression(alloc, room, 1, rest)?;
@@ -217,7 +214,7 @@ fn index<'a, 't>(
         index: index.expression,
     };
     let expression = Expression::Index(Box::new(alloc, element)?);
-    Ok((Found { expression, depth }, rest))
+    Ok((FoundExpression { expression, depth }, rest))
 }
 
 /// The operator after an operand, with what follows it.
@@ -226,13 +223,13 @@ fn index<'a, 't>(
 fn step<'a, 't>(
     alloc: Global,
     room: u8,
-    left: Found<'t>,
+    left: FoundExpression<'t>,
     next: Next,
     rest: &'a [Kind<'t>],
-) -> Result<(Found<'t>, &'a [Kind<'t>]), Stop>
+) -> Result<(FoundExpression<'t>, &'a [Kind<'t>]), Stop>
     requires room { room < 255 }
     requires left { left.depth ≤ room }
-    ensures read { Gives (λ x. (expression_tree x.0.expression, tokens_of x.1.now)) result (step_at (expression_at room) (expression_tree left.entry.expression) (tokens_of rest.now) next) }
+    ensures read { ReadsExpression result (step_at (expression_at room) (expression_tree left.entry.expression) (tokens_of rest.now) next) }
     ensures low { IfOk result (λ x. x.0.depth ≤ room + 1) }
 {
     match next {
@@ -270,12 +267,12 @@ fn chain<'a, 't>(
     room: u8,
     steps: u8,
     level: u8,
-    left: Found<'t>,
+    left: FoundExpression<'t>,
     tokens: &'a [Kind<'t>],
-) -> Result<(Found<'t>, &'a [Kind<'t>]), Stop>
+) -> Result<(FoundExpression<'t>, &'a [Kind<'t>]), Stop>
     requires room { room < 255 }
     requires left { left.depth ≤ room + 1 }
-    ensures read { Gives (λ x. (expression_tree x.0.expression, tokens_of x.1.now)) result (chain (expression_at room) room steps level (expression_tree left.entry.expression) (tokens_of tokens.now)) }
+    ensures read { ReadsExpression result (chain (expression_at room) room steps level (expression_tree left.entry.expression) (tokens_of tokens.now)) }
     ensures low { IfOk result (λ x. x.0.depth ≤ room + 1) }
 {
     let mut left = left;
@@ -307,8 +304,8 @@ pub fn expression<'a, 't>(
     room: u8,
     level: u8,
     tokens: &'a [Kind<'t>],
-) -> Result<(Found<'t>, &'a [Kind<'t>]), Stop>
-    ensures read { Gives (λ x. (expression_tree x.0.expression, tokens_of x.1.now)) result (expression_at room level (tokens_of tokens.now)) }
+) -> Result<(FoundExpression<'t>, &'a [Kind<'t>]), Stop>
+    ensures read { ReadsExpression result (expression_at room level (tokens_of tokens.now)) }
     ensures low { IfOk result (λ x. x.0.depth ≤ room) }
 {
     if room == 0 {

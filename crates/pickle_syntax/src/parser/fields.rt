@@ -4,13 +4,13 @@ ghost use Rattle.std.specs.Prelude.{◌≡◌, ◌≤◌, ◌<◌, IfOk, IfErr};
 ghost use Rattle.pickle_syntax.specs.Tokens.{tokens_of};
 ghost use Rattle.pickle_tree.specs.Tree.{boxed_tree, constraint_in, label_in, condition_in, optional_bytes, field_tree, fields_tree};
 ghost use Rattle.pickle_syntax.specs.declared.parser.fault.Stop.TheVariants.{Memory};
-ghost use Rattle.pickle_tree.specs.Limits;
 ghost use Rattle.pickle_tree.specs.Limits.{standard};
-ghost use Rattle.pickle_syntax.specs.Reading.{Gives};
-ghost use Rattle.pickle_syntax.specs.ReadForms.{present_at, part_at, condition_at, order_at, optional_name_at, field_at, fields_at, braced_at, form_at};
+ghost use Rattle.pickle_syntax.specs.Reading.{Reads};
+ghost use Rattle.pickle_syntax.specs.ReadForms.{present_at, part_at, condition_at, order_at, optional_name_at, field_at, fields_at, braced_at, form_at, ReadsField, ReadsFields};
 
 use crate::parser::expressions::expression;
 use crate::parser::fault::Stop;
+use crate::parser::found::{FoundField, FoundFields};
 use crate::parser::reading::{after_sign, after_word, expect, onward};
 use crate::parser::types::form_at;
 use crate::token::{Kind, Sign, Word};
@@ -23,29 +23,13 @@ const EXPRESSION_DEPTH: u8 = 64;
 /// How many fields a struct or a union may have.
 const FIELDS: usize = 1024;
 
-/// A field, and the depth of its type.
-#[derive(Drop)]
-pub struct FoundField<'t> {
-    pub field: Field<'t>,
-    pub depth: u8,
-    ghost measured: { depth ≡ Limits.form_depth (field_tree field).form },
-}
-
-/// Fields, and the depth of the deepest.
-#[derive(Drop)]
-pub struct FoundFields<'t> {
-    pub fields: Vec<Field<'t>>,
-    pub depth: u8,
-    ghost measured: { depth ≡ Limits.fields_depth (fields_tree fields.items) },
-}
-
 /// An expression that is there.
 #[tactic(auto, unfolding(crate::specs::ReadForms::present_at))]
 pub fn present_at<'a, 't>(
     alloc: Global,
     tokens: &'a [Kind<'t>],
 ) -> Result<(Option<Box<Expression<'t>>>, &'a [Kind<'t>]), Stop>
-    ensures { Gives (λ x. (boxed_tree x.0, tokens_of x.1.now)) result (present_at standard.expression_depth (tokens_of tokens.now)) }
+    ensures { Reads boxed_tree result (present_at standard.expression_depth (tokens_of tokens.now)) }
 {
     let (found, rest) = expression(alloc, EXPRESSION_DEPTH, 1, tokens)?;
     Ok((Some(Box::new(alloc, found.expression)?), rest))
@@ -58,7 +42,7 @@ fn part_at<'a, 't>(
     tokens: &'a [Kind<'t>],
     sign: Sign,
 ) -> Result<(Option<Box<Expression<'t>>>, &'a [Kind<'t>]), Stop>
-    ensures { Gives (λ x. (boxed_tree x.0, tokens_of x.1.now)) result (part_at standard.expression_depth sign (tokens_of tokens.now)) }
+    ensures { Reads boxed_tree result (part_at standard.expression_depth sign (tokens_of tokens.now)) }
 {
     match after_sign(tokens, sign) {
         Some(rest) => present_at(alloc, rest),
@@ -72,7 +56,7 @@ fn condition_at<'a, 't>(
     alloc: Global,
     tokens: &'a [Kind<'t>],
 ) -> Result<(Option<Box<Expression<'t>>>, &'a [Kind<'t>]), Stop>
-    ensures { Gives (λ x. (boxed_tree x.0, tokens_of x.1.now)) result (condition_at standard.expression_depth (tokens_of tokens.now)) }
+    ensures { Reads boxed_tree result (condition_at standard.expression_depth (tokens_of tokens.now)) }
 {
     match after_word(tokens, Word::If) {
         Some(rest) => present_at(alloc, rest),
@@ -137,7 +121,7 @@ fn field_at<'a, 't>(
     room: u8,
     tokens: &'a [Kind<'t>],
 ) -> Result<(FoundField<'t>, &'a [Kind<'t>]), Stop>
-    ensures read { Gives (λ x. (field_tree x.0.field, tokens_of x.1.now)) result (field_at standard (form_at standard room) (tokens_of tokens.now)) }
+    ensures read { ReadsField result (field_at standard (form_at standard room) (tokens_of tokens.now)) }
     ensures low { IfOk result (λ x. x.0.depth ≤ room) }
 {
     let (order, rest) = order_at(tokens);
@@ -171,7 +155,7 @@ pub fn fields_at<'a, 't>(
     room: u8,
     tokens: &'a [Kind<'t>],
 ) -> Result<(FoundFields<'t>, &'a [Kind<'t>]), Stop>
-    ensures read { Gives (λ x. (fields_tree x.0.fields.items, tokens_of x.1.now)) result (fields_at standard (form_at standard room) standard.fields (tokens_of tokens.now)) }
+    ensures read { ReadsFields result (fields_at standard (form_at standard room) standard.fields (tokens_of tokens.now)) }
     ensures low { IfOk result (λ x. x.0.depth ≤ room) }
 {
     let mut fields = Vec::new(alloc);
@@ -200,7 +184,7 @@ pub fn braced_at<'a, 't>(
     room: u8,
     tokens: &'a [Kind<'t>],
 ) -> Result<(FoundFields<'t>, &'a [Kind<'t>]), Stop>
-    ensures read { Gives (λ x. (fields_tree x.0.fields.items, tokens_of x.1.now)) result (braced_at standard (form_at standard room) (tokens_of tokens.now)) }
+    ensures read { ReadsFields result (braced_at standard (form_at standard room) (tokens_of tokens.now)) }
     ensures low { IfOk result (λ x. x.0.depth ≤ room) }
 {
     let rest = expect(tokens, Sign::OpenBrace)?;

@@ -30,6 +30,7 @@ pub enum Next {
     Nothing,
 }
 
+/// What a sign begins, as the first token of an expression.
 pub fn start_of(sign: Sign) -> Start
     ensures { result ≡ start_of sign }
 {

@@ -5,7 +5,7 @@ ghost use Rattle.pickle_syntax.specs.Tokens.{tokens_of};
 ghost use Rattle.pickle_tree.specs.Pickle.{pickle_tree};
 ghost use Rattle.pickle_tree.specs.Tree.{declaration_tree};
 ghost use Rattle.pickle_tree.specs.Limits.{standard, MOST_FORMS};
-ghost use Rattle.pickle_syntax.specs.Reading.{Gives};
+ghost use Rattle.pickle_syntax.specs.Reading.{Gives, Reads};
 ghost use Rattle.pickle_syntax.specs.ReadForms.{declaration_at, is_over, pickle_at};
 
 use crate::parser::fault::Stop;
@@ -26,7 +26,7 @@ fn declaration_at<'a, 't>(
     alloc: Global,
     tokens: &'a [Kind<'t>],
 ) -> Result<(Declaration<'t>, &'a [Kind<'t>]), Stop>
-    ensures { Gives (λ x. (declaration_tree x.0, tokens_of x.1.now)) result (declaration_at standard (tokens_of tokens.now)) }
+    ensures { Reads declaration_tree result (declaration_at standard (tokens_of tokens.now)) }
 {
     let rest = expect_word(tokens, Word::Type)?;
     let (name, rest) = name_at(rest)?;

@@ -3,7 +3,7 @@
 ghost use Rattle.std.specs.Prelude.{◌≡◌};
 ghost use Rattle.pickle_syntax.specs.Tokens.{tokens_of};
 ghost use Rattle.pickle_tree.specs.Tree.{reference_tree, target_tree};
-ghost use Rattle.pickle_syntax.specs.Reading.{Gives, IsRest, after_sign, after_word, needed, expect, name_at, width_at, reference_at, unit_named, unit_at, offset_at, target_at};
+ghost use Rattle.pickle_syntax.specs.Reading.{Gives, Reads, IsRest, after_sign, after_word, needed, expect, name_at, width_at, reference_at, unit_named, unit_at, offset_at, target_at};
 
 use crate::parser::fault::Stop;
 use crate::token::{Kind, Number, Opener, Sign, Word};
@@ -45,6 +45,7 @@ pub fn after_word<'a, 't>(tokens: &'a [Kind<'t>], word: Word) -> Option<&'a [Kin
     }
 }
 
+/// The tokens after this sign, with which they have to begin.
 #[tactic(auto, unfolding(crate::specs::Reading::expect))]
 pub fn expect<'a, 't>(tokens: &'a [Kind<'t>], sign: Sign) -> Result<&'a [Kind<'t>], Stop>
     ensures { Gives (λ x. tokens_of x.now) result (expect sign (tokens_of tokens.now)) }
@@ -55,6 +56,7 @@ pub fn expect<'a, 't>(tokens: &'a [Kind<'t>], sign: Sign) -> Result<&'a [Kind<'t
     }
 }
 
+/// The tokens after this word, with which they have to begin.
 pub fn expect_word<'a, 't>(tokens: &'a [Kind<'t>], word: Word) -> Result<&'a [Kind<'t>], Stop>
     ensures { Gives (λ x. tokens_of x.now) result (needed (after_word word (tokens_of tokens.now)) (tokens_of tokens.now)) }
 {
@@ -64,9 +66,10 @@ pub fn expect_word<'a, 't>(tokens: &'a [Kind<'t>], word: Word) -> Result<&'a [Ki
     }
 }
 
+/// A name, and the tokens after it.
 #[tactic(auto, unfolding(crate::specs::Reading::name_at))]
 pub fn name_at<'a, 't>(tokens: &'a [Kind<'t>]) -> Result<(&'t [u8], &'a [Kind<'t>]), Stop>
-    ensures { Gives (λ x. (x.0.now, tokens_of x.1.now)) result (name_at (tokens_of tokens.now)) }
+    ensures { Reads (λ x. x.now) result (name_at (tokens_of tokens.now)) }
 {
     let [first, rest @ ..] = tokens else {
         return Err(Stop::Syntax(0));
@@ -79,7 +82,7 @@ pub fn name_at<'a, 't>(tokens: &'a [Kind<'t>]) -> Result<(&'t [u8], &'a [Kind<'t
 
 #[tactic(auto, unfolding(crate::specs::Reading::width_at))]
 fn width_at<'a, 't>(tokens: &'a [Kind<'t>]) -> Result<(Number, &'a [Kind<'t>]), Stop>
-    ensures { Gives (λ x. (x.0, tokens_of x.1.now)) result (width_at (tokens_of tokens.now)) }
+    ensures { Reads (λ x. x) result (width_at (tokens_of tokens.now)) }
 {
     let [first, rest @ ..] = tokens else {
         return Err(Stop::Syntax(0));
@@ -96,7 +99,7 @@ fn width_at<'a, 't>(tokens: &'a [Kind<'t>]) -> Result<(Number, &'a [Kind<'t>]), 
 /// An integer type or a name.
 #[tactic(auto, unfolding(crate::specs::Reading::reference_at))]
 pub fn reference_at<'a, 't>(tokens: &'a [Kind<'t>]) -> Result<(Reference<'t>, &'a [Kind<'t>]), Stop>
-    ensures { Gives (λ x. (reference_tree x.0, tokens_of x.1.now)) result (reference_at (tokens_of tokens.now)) }
+    ensures { Reads reference_tree result (reference_at (tokens_of tokens.now)) }
 {
     let [first, rest @ ..] = tokens else {
         return Err(Stop::Syntax(0));
@@ -128,7 +131,7 @@ fn unit_named(name: &[u8]) -> Option<Unit>
 /// The unit of an offset.
 #[tactic(auto, unfolding(crate::specs::Reading::unit_at))]
 pub fn unit_at<'a, 't>(tokens: &'a [Kind<'t>]) -> Result<(Unit, &'a [Kind<'t>]), Stop>
-    ensures { Gives (λ x. (x.0, tokens_of x.1.now)) result (unit_at (tokens_of tokens.now)) }
+    ensures { Reads (λ x. x) result (unit_at (tokens_of tokens.now)) }
 {
     let [first, rest @ ..] = tokens else {
         return Err(Stop::Syntax(0));
@@ -146,7 +149,7 @@ pub fn unit_at<'a, 't>(tokens: &'a [Kind<'t>]) -> Result<(Unit, &'a [Kind<'t>]),
 /// What follows `offset<`.
 #[tactic(auto, unfolding(crate::specs::Reading::offset_at))]
 fn offset_at<'a, 't>(tokens: &'a [Kind<'t>]) -> Result<(Target<'t>, &'a [Kind<'t>]), Stop>
-    ensures { Gives (λ x. (target_tree x.0, tokens_of x.1.now)) result (offset_at (tokens_of tokens.now)) }
+    ensures { Reads target_tree result (offset_at (tokens_of tokens.now)) }
 {
     let (reference, rest) = reference_at(tokens)?;
     let rest = expect(rest, Sign::Comma)?;
@@ -158,7 +161,7 @@ fn offset_at<'a, 't>(tokens: &'a [Kind<'t>]) -> Result<(Target<'t>, &'a [Kind<'t
 /// A type that `as` may convert to.
 #[tactic(auto, unfolding(crate::specs::Reading::target_at))]
 pub fn target_at<'a, 't>(tokens: &'a [Kind<'t>]) -> Result<(Target<'t>, &'a [Kind<'t>]), Stop>
-    ensures { Gives (λ x. (target_tree x.0, tokens_of x.1.now)) result (target_at (tokens_of tokens.now)) }
+    ensures { Reads target_tree result (target_at (tokens_of tokens.now)) }
 {
     match tokens {
         [Kind::Opener(Opener::Offset), rest @ ..] => offset_at(rest),

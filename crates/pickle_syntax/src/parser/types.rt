@@ -4,25 +4,17 @@ ghost use Rattle.std.specs.Prelude.{◌≡◌, ◌+◌, ◌≤◌, ◌<◌, IfOk
 ghost use Rattle.pickle_syntax.specs.Tokens.{tokens_of};
 ghost use Rattle.pickle_tree.specs.Tree.{boxed_tree, target_tree, form_tree};
 ghost use Rattle.pickle_syntax.specs.declared.parser.fault.Stop.TheVariants.{Memory};
-ghost use Rattle.pickle_tree.specs.Limits;
 ghost use Rattle.pickle_tree.specs.Limits.{standard};
-ghost use Rattle.pickle_syntax.specs.Reading.{Gives};
-ghost use Rattle.pickle_syntax.specs.ReadForms.{bound_at, target_form, struct_at, pinned_at, base_at, suffix_at, form_at};
+ghost use Rattle.pickle_syntax.specs.Reading.{Reads};
+ghost use Rattle.pickle_syntax.specs.ReadForms.{bound_at, target_form, struct_at, pinned_at, base_at, suffix_at, form_at, ReadsForm};
 
 use crate::parser::fault::Stop;
 use crate::parser::fields::{braced_at, fields_at, present_at};
+use crate::parser::found::FoundForm;
 use crate::parser::reading::{after_sign, expect, expect_word, reference_at, target_at};
 use crate::token::{Kind, Sign, Word};
 use crate::tree::{Expression, Form, Target};
 use std::alloc::Global;
-
-/// A type, and its depth.
-#[derive(Drop)]
-pub struct FoundForm<'t> {
-    pub form: Form<'t>,
-    pub depth: u8,
-    ghost measured: { depth ≡ Limits.form_depth (form_tree form) },
-}
 
 /// What may stand in the brackets of an array, and the closing one.
 #[tactic(auto, unfolding(crate::specs::ReadForms::bound_at))]
@@ -30,7 +22,7 @@ fn bound_at<'a, 't>(
     alloc: Global,
     tokens: &'a [Kind<'t>],
 ) -> Result<(Option<Box<Expression<'t>>>, &'a [Kind<'t>]), Stop>
-    ensures { Gives (λ x. (boxed_tree x.0, tokens_of x.1.now)) result (bound_at standard.expression_depth (tokens_of tokens.now)) }
+    ensures { Reads boxed_tree result (bound_at standard.expression_depth (tokens_of tokens.now)) }
 {
     if let Some(rest) = after_sign(tokens, Sign::CloseBracket) {
         return Ok((None, rest));
@@ -59,7 +51,7 @@ fn struct_at<'a, 't>(
     tokens: &'a [Kind<'t>],
 ) -> Result<(FoundForm<'t>, &'a [Kind<'t>]), Stop>
     requires { room < 255 }
-    ensures read { Gives (λ x. (form_tree x.0.form, tokens_of x.1.now)) result (struct_at standard (form_at standard room) (tokens_of tokens.now)) }
+    ensures read { ReadsForm result (struct_at standard (form_at standard room) (tokens_of tokens.now)) }
     ensures low { IfOk result (λ x. x.0.depth ≤ room + 1) }
 {
     if let Some(rest) = after_sign(tokens, Sign::OpenBrace) {
@@ -84,7 +76,7 @@ fn pinned_at<'a, 't>(
     tokens: &'a [Kind<'t>],
 ) -> Result<(FoundForm<'t>, &'a [Kind<'t>]), Stop>
     requires { room < 255 }
-    ensures read { Gives (λ x. (form_tree x.0.form, tokens_of x.1.now)) result (pinned_at standard (form_at standard room) (tokens_of tokens.now)) }
+    ensures read { ReadsForm result (pinned_at standard (form_at standard room) (tokens_of tokens.now)) }
     ensures low { IfOk result (λ x. x.0.depth ≤ room + 1) }
 {
     let rest = expect_word(tokens, Word::Struct)?;
@@ -103,7 +95,7 @@ fn base_at<'a, 't>(
     tokens: &'a [Kind<'t>],
 ) -> Result<(FoundForm<'t>, &'a [Kind<'t>]), Stop>
     requires { room < 255 }
-    ensures read { Gives (λ x. (form_tree x.0.form, tokens_of x.1.now)) result (base_at standard (form_at standard room) (tokens_of tokens.now)) }
+    ensures read { ReadsForm result (base_at standard (form_at standard room) (tokens_of tokens.now)) }
     ensures low { IfOk result (λ x. x.0.depth ≤ room + 1) }
 {
     match tokens {
@@ -143,7 +135,7 @@ fn suffix_at<'a, 't>(
 ) -> Result<(FoundForm<'t>, &'a [Kind<'t>]), Stop>
     requires room { room < 255 }
     requires low { found.depth ≤ room + 1 }
-    ensures read { Gives (λ x. (form_tree x.0.form, tokens_of x.1.now)) result (suffix_at standard room (form_tree found.entry.form) (tokens_of tokens.now)) }
+    ensures read { ReadsForm result (suffix_at standard room (form_tree found.entry.form) (tokens_of tokens.now)) }
     ensures low { IfOk result (λ x. x.0.depth ≤ room + 1) }
 {
     match after_sign(tokens, Sign::OpenBracket) {
@@ -168,7 +160,7 @@ pub fn form_at<'a, 't>(
     room: u8,
     tokens: &'a [Kind<'t>],
 ) -> Result<(FoundForm<'t>, &'a [Kind<'t>]), Stop>
-    ensures read { Gives (λ x. (form_tree x.0.form, tokens_of x.1.now)) result (form_at standard room (tokens_of tokens.now)) }
+    ensures read { ReadsForm result (form_at standard room (tokens_of tokens.now)) }
     ensures low { IfOk result (λ x. x.0.depth ≤ room) }
 {
     if room == 0 {

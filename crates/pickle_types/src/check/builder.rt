@@ -9,10 +9,11 @@ ghost use Rattle.pickle_types.specs.Names.{find_type};
 ghost use Rattle.pickle_types.specs.Wrong.{first_wrong, TellsPlace};
 ghost use Rattle.pickle_types.specs.Sound.{IsSoundClause, IsSoundBound};
 ghost use Rattle.pickle_types.specs.Table.{optional_term, bound_of, type_of, open_shape, IsTable, NamesBelow, IsSoundField, IsSoundShape, IsWidth};
-ghost use Rattle.pickle_types.specs.Meaning.{declared_type, declared, fresh, integer_expression, offset_expression, bound_expression, integer_type, called, plain, offset_type, field_meaning, struct_place, meaning, fields_meaning};
-ghost use Rattle.pickle_types.specs.Built.{Fails, Gives, bytes_now, views_of, AreNamed, AreBelow, names_in};
+ghost use Rattle.pickle_types.specs.Meaning.{declared, fresh, integer_expression, offset_expression, bound_expression, integer_type, called, plain, offset_type};
+ghost use Rattle.pickle_types.specs.Built.{Fails, Gives, AreNamed, AreBelow, names_in};
 ghost use Rattle.pickle_types.specs.FieldNames.{shape_names, ArePlaced};
-ghost use Rattle.pickle_types.specs.Building.{known_types, visible_in, after_itself, IsReady, AddsType, named_types, may_add, Builds, FieldGives, FieldBuilds, FieldsBuild, HasRoom, AddsAtMost};
+ghost use Rattle.pickle_types.specs.Building.{known_types, visible_in, after_itself, IsReady, named_types, may_add, Builds, HasRoom, AddsAtMost};
+ghost use Rattle.pickle_types.specs.Calls.{constraint_meaning, BuildsForm, AddsField, BuildsField, BuildsFields, AddsDeclaration};
 
 use crate::check::expressions::{integer, typed};
 use crate::check::field_list::FieldList;
@@ -132,7 +133,7 @@ impl<'n> Builder<'n> {
         requires within { IsFormWithin standard (declaration_tree declaration.now).form }
         requires space { HasRoom self.old (form_count (declaration_tree declaration.now).form) }
         ensures few { OnOk result (AddsAtMost self.old self.new (form_count (declaration_tree declaration.now).form)) }
-        ensures adds { AddsType self.old self.new (declaration_tree declaration.now).name result (declared_type (known_types self.old) (declaration_tree declaration.now)) }
+        ensures adds { AddsDeclaration self.old self.new (declaration_tree declaration.now) result }
     {
         if find_name(&self.names, declaration.name).is_some() {
             return Err(FaultKind::DuplicateType);
@@ -252,7 +253,7 @@ impl<'n> Builder<'n> {
         requires level { itself.level < 64 }
         requires inside { itself.node < length self.old.nodes }
         requires seen { AreBelow (length self.old.nodes) (itself.level + 1) self.old.seen }
-        ensures gives { Gives optional_term result (integer_expression (known_types self.old) (views_of self.old.nodes (self.old.seen ++ itself.entry ∷ [])) (itself.entry.level + 1) (borrowed_tree e.entry)) }
+        ensures gives { Gives optional_term result (constraint_meaning self.old itself.entry (borrowed_tree e.entry)) }
         ensures sound { IfOk result (λ c. IsSoundClause (optional_term c)) }
         ensures names { self.new.names ≡ self.old.names }
         ensures nodes { self.new.nodes ≡ self.old.nodes }
@@ -281,7 +282,7 @@ impl<'n> Builder<'n> {
         requires seen { AreBelow (length self.old.nodes) (levels + 1) self.old.seen }
         requires few { levels < 64 }
         requires inside { found.node < length self.old.nodes }
-        ensures gives { FieldGives self.old self.new place levels (length before.now) (field_tree written.now).parts result (field_meaning (known_types self.old) place (visible_in self.old) levels (names_in before.now) (field_tree written.now).parts (Ok (type_of self.old.nodes found.node))) }
+        ensures gives { AddsField self.old self.new place levels before.now (field_tree written.now).parts (type_of self.old.nodes found.node) result }
         ensures sound { IfOk result IsSoundField }
         ensures fresh { IfOk result (λ _. fresh (field_tree written.now).parts.name (names_in before.now) ≡ Ok tt) }
         ensures node { IfOk result (λ field. field.node ≡ found.node) }
@@ -431,7 +432,7 @@ impl<'n> Builder<'n> {
         requires few { levels + room ≤ 64 }
         requires within { IsFormWithin standard (form_tree form.now) }
         requires space { HasRoom self.old (form_count (form_tree form.now)) }
-        ensures builds { Builds self.old self.new result (meaning (known_types self.old) (visible_in self.old) levels (bytes_now title.entry.name) room (form_tree form.now)) }
+        ensures builds { BuildsForm self.old self.new levels title.entry room (form_tree form.now) result }
         ensures few { OnOk result (AddsAtMost self.old self.new (form_count (form_tree form.now))) }
         ensures low { IfOk result (λ found. found.depth ≤ room) }
     {
@@ -467,7 +468,7 @@ impl<'n> Builder<'n> {
         requires few { levels + room ≤ 64 }
         requires within { IsFormWithin standard (ArrayForm (form_tree element.now) (boxed_tree bound.now)) }
         requires space { HasRoom self.old (form_count (ArrayForm (form_tree element.now) (boxed_tree bound.now))) }
-        ensures builds { Builds self.old self.new result (meaning (known_types self.old) (visible_in self.old) levels (bytes_now title.entry.name) room (ArrayForm (form_tree element.now) (boxed_tree bound.now))) }
+        ensures builds { BuildsForm self.old self.new levels title.entry room (ArrayForm (form_tree element.now) (boxed_tree bound.now)) result }
         ensures few { OnOk result (AddsAtMost self.old self.new (form_count (ArrayForm (form_tree element.now) (boxed_tree bound.now)))) }
         ensures low { IfOk result (λ found. found.depth ≤ room) }
     {
@@ -505,7 +506,7 @@ impl<'n> Builder<'n> {
         requires few { levels + room ≤ 64 }
         requires within { IsFormWithin standard (StructForm pinned (fields_tree written.now)) }
         requires space { HasRoom self.old (form_count (StructForm pinned (fields_tree written.now))) }
-        ensures builds { Builds self.old self.new result (meaning (known_types self.old) (visible_in self.old) levels (bytes_now title.entry.name) room (StructForm pinned (fields_tree written.now))) }
+        ensures builds { BuildsForm self.old self.new levels title.entry room (StructForm pinned (fields_tree written.now)) result }
         ensures few { OnOk result (AddsAtMost self.old self.new (form_count (StructForm pinned (fields_tree written.now)))) }
         ensures low { IfOk result (λ found. found.depth ≤ room) }
     {
@@ -540,7 +541,7 @@ impl<'n> Builder<'n> {
         requires few { levels + room ≤ 64 }
         requires within { IsFormWithin standard (IntegralForm (reference_tree reference.now) (fields_tree written.now)) }
         requires space { HasRoom self.old (form_count (IntegralForm (reference_tree reference.now) (fields_tree written.now))) }
-        ensures builds { Builds self.old self.new result (meaning (known_types self.old) (visible_in self.old) levels (bytes_now title.entry.name) room (IntegralForm (reference_tree reference.now) (fields_tree written.now))) }
+        ensures builds { BuildsForm self.old self.new levels title.entry room (IntegralForm (reference_tree reference.now) (fields_tree written.now)) result }
         ensures few { OnOk result (AddsAtMost self.old self.new (form_count (IntegralForm (reference_tree reference.now) (fields_tree written.now)))) }
         ensures low { IfOk result (λ found. found.depth ≤ room) }
     {
@@ -579,7 +580,7 @@ impl<'n> Builder<'n> {
         requires few { levels + room ≤ 64 }
         requires within { IsFormWithin standard (UnionForm (fields_tree written.now)) }
         requires space { HasRoom self.old (form_count (UnionForm (fields_tree written.now))) }
-        ensures builds { Builds self.old self.new result (meaning (known_types self.old) (visible_in self.old) levels (bytes_now title.entry.name) room (UnionForm (fields_tree written.now))) }
+        ensures builds { BuildsForm self.old self.new levels title.entry room (UnionForm (fields_tree written.now)) result }
         ensures few { OnOk result (AddsAtMost self.old self.new (form_count (UnionForm (fields_tree written.now)))) }
         ensures low { IfOk result (λ found. found.depth ≤ room) }
     {
@@ -614,7 +615,7 @@ impl<'n> Builder<'n> {
         requires few { levels + 1 + room ≤ 64 }
         requires within { IsFormWithin standard (field_tree written.now).form }
         requires space { HasRoom self.old (form_count (field_tree written.now).form) }
-        ensures builds { FieldBuilds self.old self.new place levels (length before.now) (field_tree written.now).parts result (field_meaning (known_types self.old) place (visible_in self.old) levels (names_in before.now) (field_tree written.now).parts (meaning (known_types self.old) (visible_in self.old) (levels + 1) None room (field_tree written.now).form)) }
+        ensures builds { BuildsField self.old self.new place levels room before.now (field_tree written.now) result }
         ensures few { OnOk result (AddsAtMost self.old self.new (form_count (field_tree written.now).form)) }
         ensures sound { IfOk result (λ x. IsSoundField x.0) }
         ensures fresh { IfOk result (λ _. fresh (field_tree written.now).parts.name (names_in before.now) ≡ Ok tt) }
@@ -649,7 +650,7 @@ impl<'n> Builder<'n> {
         requires few { levels + 1 + room ≤ 64 }
         requires within { AreFieldsWithin standard (fields_tree written.now) }
         requires space { HasRoom self.old (fields_form_count (fields_tree written.now)) }
-        ensures builds { FieldsBuild self.old self.new result (fields_meaning (known_types self.old) place (visible_in self.old) levels room [] (fields_tree written.now)) }
+        ensures builds { BuildsFields self.old self.new place levels room (fields_tree written.now) result }
         ensures few { OnOk result (AddsAtMost self.old self.new (fields_form_count (fields_tree written.now))) }
         ensures count { IfOk result (λ x. length x.0 ≡ length written.now) }
         ensures sound { IfOk result (λ x. All IsSoundField x.0) }

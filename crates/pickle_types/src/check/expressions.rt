@@ -4,8 +4,9 @@ ghost use Rattle.std.specs.Prelude.{◌≡◌, ℕ, ◌<◌, ◌≤◌, List, le
 ghost use Rattle.pickle_tree.specs.Tree.{expression_tree, suffix_tree, target_tree};
 ghost use Rattle.pickle_types.specs.Sound.{IsWidth};
 ghost use Rattle.pickle_types.specs.Table.{term_of, type_of, IsTable};
-ghost use Rattle.pickle_types.specs.Expressions.{is_held, number_meant, character_meant, text_meant, resolved, bracketed, prefixed, infixed, selected, indexed, suffixed, selection, length_of, size_of, in_unit, conversion, is_path, integer_or_wrong, typed};
+ghost use Rattle.pickle_types.specs.Expressions.{is_held, number_meant, character_meant, text_meant, resolved, bracketed, prefixed, infixed, selected, indexed, suffixed, selection, length_of, size_of, in_unit, conversion, is_path, integer_or_wrong};
 ghost use Rattle.pickle_types.specs.Built.{Gives, names_of, views_of, sort_of, meant_of, IsInside, IsSoundMeant, AreNamed, AreBelow};
+ghost use Rattle.pickle_types.specs.Calls.{typed_among};
 ghost use Rattle.pickle_types.specs.declared.node.Node.{Node};
 
 use crate::check::nodes::Nodes;
@@ -345,7 +346,7 @@ pub fn typed(
     requires table { IsTable nodes.now }
     requires names { AreNamed nodes.now names.now }
     requires seen { AreBelow (length nodes.now) levels seen.now }
-    ensures gives { Gives (meant_of nodes.now) result (typed (names_of nodes.now names.now) (views_of nodes.now seen.now) levels (expression_tree e.now)) }
+    ensures gives { Gives (meant_of nodes.now) result (typed_among nodes.now names.now seen.now levels (expression_tree e.now)) }
     ensures sound { IfOk result (IsSoundMeant nodes.now) }
 {
     match e {

@@ -52,12 +52,14 @@ impl<'n> FieldList<'n> {
         Ok(FieldList { fields, names })
     }
 
+    /// How many fields there are.
     pub fn len(&self) -> usize
         ensures { result ≡ length self.now }
     {
         self.fields.len()
     }
 
+    /// Whether a field has this name.
     pub fn has_name(&self, word: &[u8]) -> bool
         ensures { result ≡ has_name word.now (names_in self.now) }
     {

@@ -25,12 +25,14 @@ pub fn form_in<'a, 't>(field: &'a tree::Field<'t>) -> &'a Form<'t>
     &field.form
 }
 
+/// The name of a field, where it has one.
 pub fn name_in<'t>(field: &tree::Field<'t>) -> Option<&'t [u8]>
     ensures { bytes_now result ≡ (field_tree field.now).parts.name }
 {
     field.name
 }
 
+/// The byte order that a field's prefix names, where it has one.
 pub fn order_in(field: &tree::Field<'_>) -> Option<ByteOrder>
     ensures { result ≡ (field_tree field.now).parts.order }
 {
@@ -46,6 +48,7 @@ fn lent<'a, 't>(e: &'a Option<Box<Expression<'t>>>) -> Option<&'a Expression<'t>
     }
 }
 
+/// The label of a field, where it has one.
 pub fn label_in<'a, 't>(field: &'a tree::Field<'t>) -> Option<&'a Expression<'t>>
     ensures { borrowed_tree result ≡ (field_tree field.now).parts.label }
 {
@@ -55,6 +58,7 @@ pub fn label_in<'a, 't>(field: &'a tree::Field<'t>) -> Option<&'a Expression<'t>
     }
 }
 
+/// The condition of a field, where it has one.
 pub fn condition_in<'a, 't>(field: &'a tree::Field<'t>) -> Option<&'a Expression<'t>>
     ensures { borrowed_tree result ≡ (field_tree field.now).parts.condition }
 {
@@ -64,6 +68,7 @@ pub fn condition_in<'a, 't>(field: &'a tree::Field<'t>) -> Option<&'a Expression
     }
 }
 
+/// The constraint of a field, where it has one.
 pub fn constraint_in<'a, 't>(field: &'a tree::Field<'t>) -> Option<&'a Expression<'t>>
     ensures { borrowed_tree result ≡ (field_tree field.now).parts.constraint }
 {
@@ -93,6 +98,7 @@ fn may_stand(place: Place, bits: bool, field: &tree::Field<'_>) -> bool
     }
 }
 
+/// That a field may stand here, which has a width of bits or not.
 pub fn stand(place: Place, bits: bool, field: &tree::Field<'_>) -> Result<(), FaultKind>
     ensures { Gives (λ u. u) result (if_here (may_stand place bits (field_tree field.now).parts)) }
 {
@@ -119,6 +125,7 @@ pub fn fresh(name: Option<&[u8]>, fields: &FieldList) -> Result<(), FaultKind>
     }
 }
 
+/// The place of the fields of a struct, which is pinned or not.
 pub fn struct_place(pinned: bool) -> Place
     ensures { result ≡ struct_place pinned }
 {
@@ -135,6 +142,7 @@ pub fn place_in(place: Place, before: usize) -> usize
     }
 }
 
+/// A copy of a name, where there is one.
 pub fn copied(alloc: Global, name: Option<&[u8]>) -> Result<Option<Name>, FaultKind>
     ensures ok { IfOk result (λ x. name_of x ≡ bytes_now name.entry) }
     ensures err { IfErr result (λ e. e ≡ FaultKind.Memory) }

@@ -33,6 +33,7 @@ impl<'n> Model for Nodes<'n> {
 }
 
 impl<'n> Nodes<'n> {
+    /// No nodes yet.
     pub fn new(alloc: Global) -> Nodes<'n>
         ensures { result ≡ [] }
     {
@@ -42,12 +43,14 @@ impl<'n> Nodes<'n> {
         }
     }
 
+    /// How many nodes there are.
     pub fn len(&self) -> usize
         ensures { result ≡ length self.now }
     {
         self.nodes.len()
     }
 
+    /// The node at an index below their number.
     pub fn node(&self, i: usize) -> &Node
         requires inside { i < length self.now }
         ensures { slice_get self.now i ≡ Some result.now }
@@ -86,6 +89,7 @@ impl<'n> Nodes<'n> {
         }
     }
 
+    /// The nodes, without the names of their fields.
     pub fn into_nodes(self) -> Vec<Node>
         ensures { result.items ≡ self.entry }
     {

@@ -189,6 +189,7 @@ fn is_same(a: IntegerType, b: IntegerType) -> bool
 }
 
 impl Scalar {
+    /// The type of an integer; of an offset there is none.
     pub fn integer(self) -> Option<IntegerType>
         ensures is { result ≡ integer_in self }
         ensures wide { IsSoundScalar self → IfSome result IsWidth }
@@ -201,6 +202,7 @@ impl Scalar {
 }
 
 impl Operand {
+    /// The integer or offset that an operand is, where it is one.
     pub fn number(self) -> Option<Scalar>
         ensures { result ≡ number_in self }
     {
@@ -210,6 +212,7 @@ impl Operand {
         }
     }
 
+    /// The type of an operand that is an integer, where it is one.
     pub fn integer(self) -> Option<IntegerType>
         ensures is { result ≡ integer_operand self }
         ensures wide { IsSoundOperand self → IfSome result IsWidth }

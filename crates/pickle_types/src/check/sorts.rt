@@ -1,14 +1,14 @@
 //! What an expression is: a text literal, or of a type.
 
-ghost use Rattle.std.specs.Prelude.{◌≡◌, ℕ, ◌<◌, List, length, slice_get, Some, true, IfOk, IfSome, option_map};
+ghost use Rattle.std.specs.Prelude.{◌≡◌, ℕ, ◌<◌, length, slice_get, Some, true, IfOk, IfSome, option_map};
 ghost use Rattle.pickle_types.specs.Types.{PokeType, IntegerOf};
-ghost use Rattle.pickle_types.specs.Table.{open_shape, open_fields, open_parts, type_of, FieldsBelow, PartsBelow, NamesBelow, IsTable};
-ghost use Rattle.pickle_types.specs.Expressions.{or_wrong, type_operand, operand_of, element_in, sort_element, find_field, find_part, field_in, sort_field};
+ghost use Rattle.pickle_types.specs.Table.{open_shape, type_of, FieldsBelow, PartsBelow, NamesBelow, IsTable};
+ghost use Rattle.pickle_types.specs.Expressions.{or_wrong, type_operand, operand_of, element_in, sort_element, sort_field};
 ghost use Rattle.pickle_types.specs.Meaning.{bit_width, has_some};
 ghost use Rattle.pickle_types.specs.Sound.{IsSoundOperand};
-ghost use Rattle.pickle_types.specs.Built.{Gives, names_in, sort_of, IsInside, IsFoundField};
+ghost use Rattle.pickle_types.specs.Built.{Gives, sort_of, IsInside};
 ghost use Rattle.pickle_types.specs.declared.node.Node.{Node};
-ghost use Rattle.pickle_types.specs.FieldNames.{place_named, part_names, shape_names};
+ghost use Rattle.pickle_types.specs.Calls.{FindsField, FindsPart, SelectsField};
 
 use crate::check::nodes::Nodes;
 use crate::check::operators::{Operand, Scalar};
@@ -128,7 +128,7 @@ pub fn element_of(nodes: &Nodes, sort: Sort) -> Option<usize>
 }
 
 fn field_at(fields: &[Field], place: Option<usize>) -> Option<(usize, usize)>
-    ensures found { (at : ℕ → PokeType) (word : List ℕ) → place ≡ place_named word (names_in fields.now) → IsFoundField at result (find_field 0 word (open_fields at fields.now)) }
+    ensures found { FindsField fields.now place result }
     ensures below { (n : ℕ) → FieldsBelow n fields.now → IfSome result (λ x. x.1 < n) }
 {
     let place = place?;
@@ -137,7 +137,7 @@ fn field_at(fields: &[Field], place: Option<usize>) -> Option<(usize, usize)>
 }
 
 fn part_at(parts: &[Part], place: Option<usize>) -> Option<(usize, usize)>
-    ensures found { (at : ℕ → PokeType) (word : List ℕ) → place ≡ place_named word (part_names parts.now) → IsFoundField at result (find_part 0 word (open_parts at parts.now)) }
+    ensures found { FindsPart parts.now place result }
     ensures below { (n : ℕ) → PartsBelow n parts.now → IfSome result (λ x. x.1 < n) }
 {
     let place = place?;
@@ -155,7 +155,7 @@ fn or_unknown(found: Option<(usize, usize)>) -> Result<(usize, usize), FaultKind
 }
 
 fn shape_field(shape: &Shape, place: Option<usize>) -> Result<(usize, usize), FaultKind>
-    ensures gives { (at : ℕ → PokeType) (word : List ℕ) → place ≡ place_named word (shape_names shape.now) → Gives (λ x. (x.0, at x.1)) result (field_in word (open_shape at shape.now)) }
+    ensures gives { SelectsField shape.now place result }
     ensures below { (n : ℕ) → NamesBelow n shape.now → IfOk result (λ x. x.1 < n) }
 {
     match shape {

@@ -66,7 +66,7 @@ shape_bounds-returns-in-Struct t c =
 pub shape_bounds-returns-in-Integral : goal.shape_bounds-returns-in-Integral
 shape_bounds-returns-in-Integral t c =
     let all = subst (λ ps. ArePartBounds c.parts_bounds.result (open_parts (type_of c.args.nodes.now) ps) c.args.bits) c.deref-in-Integral.ensures.value c.parts_bounds.ensures in
-    bounded c.args.nodes.now c.requires.table c.args.at c.index-nodes-at.result c.requires.at c.index-nodes-at.is _ c.in-Integral.is _ _ (c.integral_bounds.ensures _ _ _ _ refl all)
+    bounded c.args.nodes.now c.requires.table c.args.at c.index-nodes-at.result c.requires.at c.index-nodes-at.is _ c.in-Integral.is _ _ (c.integral_bounds.ensures _ _ refl _ _ all)
 
 pub shape_bounds-returns-in-Union : goal.shape_bounds-returns-in-Union
 shape_bounds-returns-in-Union t c =
