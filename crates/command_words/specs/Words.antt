@@ -1,7 +1,8 @@
 -- What words ask for.
-use Rattle.std.specs.Prelude.{◌≡◌, ◌≢◌, ℕ, List, Option, Some, None, string_bytes, codes}
+use Rattle.std.specs.Prelude.{◌≡◌, ◌≢◌, ℕ, false, List, Option, Some, None, string_bytes, codes}
 use Rattle.text_forms.specs.declared.mode.Mode.{Mode}
 use Rattle.text_forms.specs.declared.mode.Mode.TheVariants.{Flat, Tree, Json, Lines}
+use Rattle.command_words.specs.declared.words.Asked.{Asked}
 use Rattle.command_words.specs.declared.words.Job.{Job}
 use Rattle.command_words.specs.declared.words.Job.TheVariants.{Map, MapUnder, Each, Bound, BoundText, Check, Types, Dump}
 
@@ -15,6 +16,10 @@ IsCheckOf name (BoundText pickle type bits mode) = ⊥
 IsCheckOf name (Check pickle) = string_bytes pickle ≡ name
 IsCheckOf name (Types pickle) = ⊥
 IsCheckOf name (Dump from size ruler file) = ⊥
+
+-- likewise, and no refusal of it is to be explained
+abbrev pub IsBareCheckOf : List ℕ → Asked → Type 0
+IsBareCheckOf name asked = IsCheckOf name asked.job × (asked.why ≡ false)
 
 -- `tree`, `json` and `lines` name modes of their own, all other words the first
 abbrev pub NamesMode : List ℕ → Mode → Type 0

@@ -1,3 +1,5 @@
+//! What a run is asked to do with a type.
+
 use bit_space::Order;
 use text_forms::mode::Mode;
 

@@ -22,6 +22,7 @@ pub enum Step {
 /// The steps to a part of a value; none lead to the value itself.
 #[derive(Debug, Drop, PartialEq, Eq)]
 pub struct Path {
+    /// The steps, the first from the value itself.
     pub steps: Vec<Step>,
 }
 

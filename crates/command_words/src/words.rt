@@ -7,7 +7,7 @@ ghost use Rattle.std.specs.Prelude.{◌≡◌, ◌≢◌, ◌*◌, [], Some, cod
 ghost use Rattle.clap.specs.Matches.{found_of, first_value, subcommand_name_of};
 ghost use Rattle.command_words.specs.OffsetWord.{IsOffsetWord};
 ghost use Rattle.command_words.specs.Paths.{path_text};
-ghost use Rattle.command_words.specs.Words.{IsCheckOf, NamesMode, NamesModeIfAny};
+ghost use Rattle.command_words.specs.Words.{IsCheckOf, IsBareCheckOf, NamesMode, NamesModeIfAny};
 ghost use Rattle.command_words.specs.Found.{word_in, HasTerms, no_terms, NamesOrder, NamesFiles, PathIfAny, Asks, IsJobOf, IsNoOffset, IsNoByteOffset, IsNoRange};
 ghost use Rattle.command_words.specs.declared.words.WordFault.TheVariants.{Memory};
 
@@ -130,6 +130,7 @@ impl From<AllocError> for WordFault {
 /// A job, and whether a refusal by it is explained.
 #[derive(Debug, Drop, PartialEq, Eq)]
 pub struct Asked {
+    /// What is asked for.
     pub job: Job,
     /// Whether `--why` was given.
     pub why: bool,
@@ -149,7 +150,7 @@ pub fn read_words(alloc: Global, words: Vec<String>) -> Result<Job, WordFault>
 /// What the words of a command line, without the program's name, ask for, and whether `--why` is among them. No words at all
 /// ask for a check of standard input, `-`, without it.
 pub fn read_asked(alloc: Global, words: Vec<String>) -> Result<Asked, WordFault>
-    ensures { words.items ≡ [] → MatchResult result (λ asked. IsCheckOf (codes "-") asked.job × (asked.why ≡ false)) (λ fault. fault ≡ WordFault.Memory) }
+    ensures { words.items ≡ [] → MatchResult result (IsBareCheckOf (codes "-")) (λ fault. fault ≡ WordFault.Memory) }
 {
     if words.is_empty() {
         let pickle = String::from_str(alloc, "-")?;

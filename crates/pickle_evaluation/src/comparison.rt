@@ -20,7 +20,9 @@ use value_store::store::Store;
 /// An integer and its type.
 #[derive(Clone, Copy)]
 pub struct Typed {
+    /// The integer.
     pub number: i128,
+    /// Its type.
     pub of: IntegerType,
 }
 

@@ -23,8 +23,11 @@ use value_store::value::Kind;
 /// What operators see of an operand: an integer or offset, a text, or none of these.
 #[derive(Clone, Copy)]
 pub enum Content<'a> {
+    /// An integer or an offset.
     Scalar(Scalar),
+    /// The bytes of a text, without its final 0.
     Text(&'a [u8]),
+    /// None of these.
     Other,
 }
 

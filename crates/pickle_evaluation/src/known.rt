@@ -18,9 +18,11 @@ use value_store::value::ValueRef;
 /// What an expression comes to, with the names of a table.
 #[derive(Clone, Copy)]
 pub enum Known<'a> {
+    /// An integer with its type.
     Integer(i128, IntegerType),
     /// A magnitude with its type, and the unit in bits.
     Offset(i128, IntegerType, u32),
+    /// The bytes of a text, without its final 0.
     Text(&'a [u8]),
     /// The value at a path.
     Value(ValueRef<'a>),

@@ -11,15 +11,20 @@ use value_store::stored::StoredValue;
 /// What an expression comes to: a computed number, a text, or the value at a path, as the store lends it.
 #[derive(Clone, Copy)]
 pub enum Operand<'a> {
+    /// A computed integer or offset.
     Scalar(Scalar),
+    /// The bytes of a text that the expression writes down, without its final 0.
     Text(&'a [u8]),
+    /// The value at a path.
     Value(StoredValue<'a>),
 }
 
 /// Why an expression has no value: its first fault, or no step was left.
 #[derive(Clone, Copy, Debug, PartialEq, Eq)]
 pub enum Unvalued {
+    /// The first fault.
     Fault(MapFaultKind),
+    /// No step was left.
     Limit,
 }
 

@@ -12,7 +12,8 @@ use Rattle.pickle_syntax.specs.FaultNames.{lex_kind}
 use Rattle.pickle_types.specs.Meaning.{declared}
 use Rattle.pickle_types.specs.Names.{Names, predeclared}
 use Rattle.pickle_types.specs.WellTyped.{Declares}
-use Rattle.pickle_types.specs.TypeTable.{IsWellTyped}
+use Rattle.pickle_types.specs.TypeTable.{types_of, count_of, IsWellTyped}
+use Rattle.pickle_types.specs.declared.table.Table.{Table}
 use Rattle.pickle_types.specs.Wrong.{first_wrong}
 use Rattle.pickle_types.specs.FaultNames.{type_kind}
 use Rattle.pickle_types.specs.declared.fault.FaultKind.{FaultKind}
@@ -56,6 +57,10 @@ pub record IsIllTyped (declarations : List DeclarationTree) (kind : FaultKind) (
 pub record IsAccepted (pickle : List ℕ) (declarations : List DeclarationTree) (types : Names) : Type 0 where
   pub syntax : HasSyntax pickle declarations
   pub declares : Declares predeclared declarations types
+
+-- a table has the types of such a pickle, and knows how many it declares
+abbrev pub IsTableOf : (pickle : List ℕ) → Table → Type 0
+IsTableOf pickle table = (declarations : List DeclarationTree) × IsAccepted pickle declarations (types_of table) × (count_of table ≡ length declarations)
 
 -- why the bytes are no pickle, or its types not well formed; want of memory says nothing of them
 pub data Refuses (pickle : List ℕ) : Refusal → Type 0 where

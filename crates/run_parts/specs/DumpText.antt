@@ -1,8 +1,11 @@
 -- The text of a dump of bytes.
-use Rattle.std.specs.Prelude.{ℕ, ◌+◌, ◌-◌, ◌*◌, ◌/◌, ◌%◌, Bool, List, [], ◌∷◌, ◌++◌, Option, None, Some, ◌==◌, ◌&&◌, nat_le, length, take, drop, map, replicate, slice_get, if◌then◌else◌, codes}
+use Rattle.std.specs.Prelude.{◌≡◌, ℕ, ◌+◌, ◌-◌, ◌*◌, ◌/◌, ◌%◌, Bool, List, [], ◌∷◌, ◌++◌, Option, None, Some, ◌==◌, ◌&&◌, nat_le, length, take, drop, slice_range, map, replicate, slice_get, if◌then◌else◌, codes}
 use Rattle.std.specs.List.{flat_map, range_with_len}
 use Rattle.std.specs.Int.Digits.{digits_of}
+use Rattle.std.specs.Io.KnownBytes.{Appends}
+use Rattle.bit_space.specs.SpaceView.{SpaceView}
 use Rattle.text_forms.specs.HexDigits.{hex_digit}
+use Rattle.text_forms.specs.Written.{AppendsPart}
 
 -- hexadecimal digits of a place, after the zeros that make them eight, if they are fewer
 unfoldable pub place_text : ℕ → List ℕ
@@ -40,6 +43,14 @@ unfoldable pub lines_text : ℕ → List ℕ → List ℕ
 lines_text place bytes =
     flat_map (λ line. line_text (place + 16 * line) (take 16 (drop (16 * line) bytes))) (range_with_len 0 ((length bytes + 15) / 16))
 
+-- of a file's bytes, the lines of at most `size` of them from the place `from` on
+abbrev pub range_text : (from size : ℕ) (bytes : List ℕ) → List ℕ
+range_text from size bytes = lines_text from (take size (drop from bytes))
+
+-- and the line of `count` of them at a place
+abbrev pub row_text : (place count : ℕ) (bytes : List ℕ) → List ℕ
+row_text place count bytes = line_text place (slice_range bytes place (place + count))
+
 -- the line above them all
 unfoldable pub ruler_text : List ℕ
 ruler_text = codes "76543210  0011 2233 4455 6677 8899 aabb ccdd eeff  0123456789ABCDEF\n"
@@ -47,4 +58,12 @@ ruler_text = codes "76543210  0011 2233 4455 6677 8899 aabb ccdd eeff  012345678
 -- a dump of at most `size` of the bytes from the place `from` on
 unfoldable pub dump_text : (bytes : List ℕ) (from size : ℕ) (ruler : Bool) → List ℕ
 dump_text bytes from size ruler =
-    (if ruler then ruler_text else []) ++ lines_text from (take size (drop from bytes))
+    (if ruler then ruler_text else []) ++ range_text from size bytes
+
+-- where the bytes of a space are known, a writer takes a text of them
+abbrev pub Dumps : SpaceView → (old new : Option (List ℕ)) → (text : List ℕ → List ℕ) → Type 0
+Dumps space old new text = (bytes : List ℕ) → space.bytes ≡ Some bytes → Appends old new (text bytes)
+
+-- or a part of that text, from its front
+abbrev pub DumpsPart : SpaceView → (old new : Option (List ℕ)) → (text : List ℕ → List ℕ) → Type 0
+DumpsPart space old new text = (bytes : List ℕ) → space.bytes ≡ Some bytes → AppendsPart old new (text bytes)

@@ -1,6 +1,6 @@
 //! Whether bytes are a pickle whose types are well formed, and the lines that refuse them.
 
-ghost use Rattle.std.specs.Prelude.{◌≡◌, ◌≢◌, ℕ, List, Option, length, IfOk, IfErr};
+ghost use Rattle.std.specs.Prelude.{◌≡◌, ◌≢◌, ℕ, List, Option, IfOk, IfErr};
 ghost use Rattle.pickle_syntax.specs.Bytes as lexing;
 ghost use Rattle.pickle_syntax.specs.Lexing.{lexed};
 ghost use Rattle.pickle_types.specs.declared.fault.FaultKind.TheVariants as types;
@@ -10,8 +10,8 @@ ghost use Rattle.pickle_types.specs.Built as checking;
 ghost use Rattle.pickle_types.specs.Meaning.{declared};
 ghost use Rattle.pickle_types.specs.Names.{predeclared};
 ghost use Rattle.pickle_types.specs.Wrong.{first_wrong, TellsPlace};
-ghost use Rattle.pickle_types.specs.TypeTable.{types_of, count_of, IsWellTyped};
-ghost use Rattle.run_parts.specs.Accepted.{HasSyntax, IsAccepted, Refuses, refusal_kind, refusal_saying, place_of};
+ghost use Rattle.pickle_types.specs.TypeTable.{IsWellTyped};
+ghost use Rattle.run_parts.specs.Accepted.{HasSyntax, IsTableOf, Refuses, refusal_kind, refusal_saying, place_of};
 ghost use Rattle.run_parts.specs.Told.{IsSaid};
 
 use crate::status::Status;
@@ -32,14 +32,20 @@ use thiserror::Error;
 #[derive(Clone, Copy, Debug, PartialEq, Eq, Error)]
 #[error("refused {}", self.name())]
 pub enum Refusal {
+    /// The bytes are no tokens, for this reason, at this byte, counted from 0.
     #[error("refused {} at byte {}", self.name(), .1)]
     Tokens(LexFaultKind, usize),
+    /// No pickle goes on with the token at this byte, counted from 0; where it is their number, the bytes end too early.
     #[error("refused {} at byte {}", self.name(), .0)]
     Syntax(usize),
+    /// An expression, or the types inside a type, are nested more than 64 deep.
     TooDeep,
+    /// More than 1,024 fields in a struct or union, or more than 4,096 declarations.
     TooMany,
+    /// A type is wrong, for this reason, in this declaration, counted from 1.
     #[error("refused {} in type {}", self.name(), .1)]
     Types(FaultKind, usize),
+    /// There was no memory for tokens, tree or table.
     #[error("fault {}", self.name())]
     Memory,
 }
@@ -80,7 +86,7 @@ pub fn read_syntax(alloc: Global, pickle: &[u8]) -> Result<Pickle<'_>, Refusal>
 
 /// Reads a pickle, and checks its types.
 pub fn accept(alloc: Global, pickle: &[u8]) -> Result<Table, Refusal>
-    ensures ok { IfOk result (λ table. (declarations : List DeclarationTree) × IsAccepted pickle.now declarations (types_of table) × (count_of table ≡ length declarations)) }
+    ensures ok { IfOk result (IsTableOf pickle.now) }
     ensures err { IfErr result (λ refusal. Refuses pickle.now refusal) }
 {
     let tree = read_syntax(alloc, pickle)?;

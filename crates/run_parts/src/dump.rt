@@ -1,11 +1,11 @@
 //! Dumps of bytes, in lines of 16.
 mod line;
 
-ghost use Rattle.std.specs.Prelude.{◌≡◌, ℕ, ◌+◌, ◌-◌, ◌^◌, ◌<◌, ◌≤◌, List, Some, [], if◌then◌else◌, slice_range, take, drop, min, codes, OnOk, OnErr, IfErr};
+ghost use Rattle.std.specs.Prelude.{◌≡◌, ◌+◌, ◌-◌, ◌^◌, ◌<◌, ◌≤◌, [], if◌then◌else◌, min, codes, OnOk, OnErr, IfErr};
 ghost use Rattle.std.specs.Io.KnownBytes.{Appends};
 ghost use Rattle.bit_space.specs.SpaceView.{HasRisen, Keeps};
 ghost use Rattle.text_forms.specs.Written.{AppendsPart};
-ghost use Rattle.run_parts.specs.DumpText.{dump_text, line_text, lines_text, ruler_text};
+ghost use Rattle.run_parts.specs.DumpText.{Dumps, DumpsPart, dump_text, range_text, row_text, ruler_text};
 ghost use Rattle.run_parts.specs.declared.dump.DumpFault.TheVariants.{Device, Write as WriteFailed};
 
 use bit_space::{DeviceFault, Space};
@@ -64,8 +64,8 @@ pub fn dump<S: Space, W: Write>(
     ruler: bool,
     w: &mut W,
 ) -> Result<(), DumpFault>
-    ensures ok { OnOk result ((bytes : List ℕ) → (S.view space.old).bytes ≡ Some bytes → Appends (W.contents w.old) (W.contents w.new) (dump_text bytes from size ruler)) }
-    ensures err { OnErr result ((bytes : List ℕ) → (S.view space.old).bytes ≡ Some bytes → AppendsPart (W.contents w.old) (W.contents w.new) (dump_text bytes from size ruler)) }
+    ensures ok { OnOk result (Dumps (S.view space.old) (W.contents w.old) (W.contents w.new) (λ bytes. dump_text bytes from size ruler)) }
+    ensures err { OnErr result (DumpsPart (S.view space.old) (W.contents w.old) (W.contents w.new) (λ bytes. dump_text bytes from size ruler)) }
     ensures device { IfErr result (λ fault. fault ≡ DumpFault.Device → HasRisen (S.view space.old).failures (S.view space.new).failures) }
     ensures keeps { Keeps (S.view space.old) (S.view space.new) }
 {
@@ -95,8 +95,8 @@ fn put_lines<S: Space, W: Write>(
     size: u64,
     w: &mut W,
 ) -> Result<(), DumpFault>
-    ensures ok { OnOk result ((bytes : List ℕ) → (S.view space.old).bytes ≡ Some bytes → Appends (W.contents w.old) (W.contents w.new) (lines_text from (take size (drop from bytes)))) }
-    ensures err { OnErr result ((bytes : List ℕ) → (S.view space.old).bytes ≡ Some bytes → AppendsPart (W.contents w.old) (W.contents w.new) (lines_text from (take size (drop from bytes)))) }
+    ensures ok { OnOk result (Dumps (S.view space.old) (W.contents w.old) (W.contents w.new) (range_text from size)) }
+    ensures err { OnErr result (DumpsPart (S.view space.old) (W.contents w.old) (W.contents w.new) (range_text from size)) }
     ensures device { IfErr result (λ fault. fault ≡ DumpFault.Device → HasRisen (S.view space.old).failures (S.view space.new).failures) }
     ensures keeps { Keeps (S.view space.old) (S.view space.new) }
 {
@@ -118,8 +118,8 @@ fn put_line<S: Space, W: Write>(
 ) -> Result<(), DumpFault>
     requires few { count ≤ 16 }
     requires within { at + count ≤ (S.view space.old).len }
-    ensures ok { OnOk result ((bytes : List ℕ) → (S.view space.old).bytes ≡ Some bytes → Appends (W.contents w.old) (W.contents w.new) (line_text at (slice_range bytes at (at + count)))) }
-    ensures err { OnErr result ((bytes : List ℕ) → (S.view space.old).bytes ≡ Some bytes → AppendsPart (W.contents w.old) (W.contents w.new) (line_text at (slice_range bytes at (at + count)))) }
+    ensures ok { OnOk result (Dumps (S.view space.old) (W.contents w.old) (W.contents w.new) (row_text at count)) }
+    ensures err { OnErr result (DumpsPart (S.view space.old) (W.contents w.old) (W.contents w.new) (row_text at count)) }
     ensures device { IfErr result (λ fault. fault ≡ DumpFault.Device → HasRisen (S.view space.old).failures (S.view space.new).failures) }
     ensures keeps { Keeps (S.view space.old) (S.view space.new) }
 {

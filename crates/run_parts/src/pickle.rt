@@ -1,3 +1,5 @@
+//! The bytes of a pickle, read until they end.
+
 ghost use Rattle.std.specs.Prelude.{◌≡◌, ◌≤◌, length, codes, IfOk, OnErr};
 ghost use Rattle.run_parts.specs.Taken.{GivesFirst, ConsumesUpTo};
 

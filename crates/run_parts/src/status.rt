@@ -1,3 +1,5 @@
+//! The ways in which a run ends.
+
 /// How a run ended. Its number is the program's exit code.
 #[derive(Clone, Copy, Debug, Drop, PartialEq, Eq)]
 pub enum Status {
