@@ -1,19 +1,34 @@
 -- What refused calls leave, and what a store that never grows holds.
-use Rattle.std.proofs.Common.{◌≡◌, ◌≤◌, List, ap, subst, ◌∙◌}
+use Rattle.std.proofs.Common.{◌≡◌, ℕ, ◌≤◌, List, Option, refl, ap, subst, ◌∙◌}
 use Rattle.pickle_types.specs.declared.node.Node.{Node}
 use Rattle.value_store.specs.declared.store.room.Growth.TheVariants.{Never}
 use Rattle.value_store.specs.declared.store.room.Room.{Room}
 use Rattle.value_store.specs.Levels.{FitsIn}
-use Rattle.value_store.specs.Slots.{Held, levels, level_count, Regrown}
+use Rattle.value_store.specs.declared.store.slots.Shape.{Shape}
+use Rattle.value_store.specs.Slots.{Held, levels, level_count, Regrown, IsPacking}
 use Rattle.value_store.proofs.Held.{regrown-levels, regrown-depth}
+use Rattle.value_store.proofs.PackedRows.{packing-outer}
 use Rattle.pickle_map.specs.Framed.{LevelStays}
-use Rattle.pickle_meaning.specs.Values.{outer_of}
+use Rattle.pickle_meaning.specs.Values.{Value, pushed, outer_of}
 use Rattle.pickle_meaning.specs.Room.{Slot, slots}
+use Rattle.pickle_map.proofs.Walks.{outer_pushed}
 
 module _ (nodes : List Node) where
   -- a call that was refused leaves its level
-  pub regrown_stays : (first old new : Held) → outer_of (levels nodes old) ≡ outer_of (levels nodes first) → level_count old ≡ level_count first → Regrown old new → LevelStays nodes first new
-  regrown_stays first old new outer depth e = record { outer = ap outer_of (regrown-levels nodes old new e) ∙ outer; depth = regrown-depth old new e ∙ depth }
+  pub regrown_stays : (first old new : Held) → LevelStays nodes first old → Regrown old new → LevelStays nodes first new
+  regrown_stays first old new stays e = record { outer = ap outer_of (regrown-levels nodes old new e) ∙ stays.outer; depth = regrown-depth old new e ∙ stays.depth }
+
+  -- a call that kept one more value leaves its level too
+  pub pushed_stays : (first old new : Held) (v : Option Value) → LevelStays nodes first old → levels nodes new ≡ pushed (levels nodes old) v → level_count new ≡ level_count old → LevelStays nodes first new
+  pushed_stays first old new v stays kept same = record { outer = ap outer_of kept ∙ outer_pushed (levels nodes old) v ∙ stays.outer; depth = same ∙ stays.depth }
+
+  -- numbers that are packed leave it
+  pub packing_stays : (first store : Held) (shape : Shape) (numbers : List ℕ) (start : ℕ) → IsPacking nodes store shape numbers start (outer_of (levels nodes first)) → level_count store ≡ level_count first → LevelStays nodes first store
+  packing_stays first store shape numbers start packing same = record { outer = packing-outer nodes store shape numbers start (outer_of (levels nodes first)) packing; depth = same }
+
+  -- what does nothing leaves it
+  pub same_stays : (store : Held) → LevelStays nodes store store
+  same_stays store = record { outer = refl; depth = refl }
 
   -- a store that never grows holds no more than its room
   pub kept_within : (old new : Held) → new.room ≡ old.room → old.room.growth ≡ Never → (new.room.growth ≡ Never → FitsIn new.room (levels nodes new)) → (kind : Slot) → slots kind (levels nodes new) ≤ old.room.least

@@ -1,5 +1,5 @@
 -- What each call of a mapping leaves as it was, what may only rise, and what it is to have followed a plan.
-use Rattle.std.specs.Prelude.{◌≡◌, ℕ, ◌+◌, ◌*◌, ◌<◌, ◌≤◌, List, Option, Some, Result, Ok, Err}
+use Rattle.std.specs.Prelude.{◌≡◌, ◌≢◌, ℕ, ◌+◌, ◌*◌, ◌<◌, ◌≤◌, List, Option, Some, Result, Ok, Err, IfErr, OnErr}
 use Rattle.bit_space.specs.declared.meter.Meter.{Meter}
 use Rattle.bit_space.specs.declared.number.BitFault.{BitFault}
 use Rattle.bit_space.specs.declared.number.BitFault.TheVariants as refused
@@ -15,31 +15,38 @@ use Rattle.mapping_plans.specs.Plan.{Plan}
 use Rattle.pickle_map.specs.Follows.{World, Finish, Done, Follows}
 use Rattle.value_store.specs.Slots.{Held, KeepsRoom, levels, level_count}
 
--- What every call leaves: the meter's limit, the room that the store has, the bytes of the space, and a count of failures that never falls.
--- It makes no more values than it takes steps, with those taken ahead of it for which no value is made yet.
-pub record Frame (space space' : SpaceView) (meter meter' : Meter) (store store' : Held) (ahead : ℕ) : Type 0 where
+-- What every call leaves, whatever it gives: the meter's limit, the room that the store has, the bytes of the space, and a count of failures that never falls.
+-- It makes no more values than it takes steps, with those taken ahead of it for which no value is made yet. Where a device stopped it, the space has failed.
+pub record Frame {A : Type 0} (space space' : SpaceView) (meter meter' : Meter) (store store' : Held) (ahead : ℕ) (result : Result A Stop) : Type 0 where
   pub limit : meter'.limit ≡ meter.limit
   pub len : space'.len ≡ space.len
   pub bytes : space'.bytes ≡ space.bytes
   pub failures : space.failures ≤ space'.failures
   pub room : KeepsRoom store store'
   pub made : meter'.made + meter.steps ≤ meter.made + meter'.steps + ahead
+  pub device : IfErr result (λ stop. stop ≡ Device → HasRisen space.failures space'.failures)
 
--- the same of a call that reads nothing
-pub record WorkFrame (meter meter' : Meter) (store store' : Held) (ahead : ℕ) : Type 0 where
+-- the same of a call that reads nothing, which no device stops
+pub record WorkFrame {A : Type 0} (meter meter' : Meter) (store store' : Held) (ahead : ℕ) (result : Result A Stop) : Type 0 where
   pub limit : meter'.limit ≡ meter.limit
   pub room : KeepsRoom store store'
   pub made : meter'.made + meter.steps ≤ meter.made + meter'.steps + ahead
+  pub device : IfErr result (λ stop. stop ≢ Device)
+
+-- what a call under way would give that nothing has stopped so far
+abbrev pub under_way : Result (Unit {0}) Stop
+under_way = Ok tt
 
 -- what was mapped from the bit `start` on ends in the space
 abbrev pub IsEnd : (start : ℕ) → SpaceView → (end : ℕ) → Type 0
 IsEnd start space end = (start ≤ end) × (end ≤ 8 * space.len)
 
--- where a device stopped a call, the space has failed
-abbrev pub DeviceFailed : (before after : SpaceView) → Stop → Type 0
-DeviceFailed before after stop = stop ≡ Device → HasRisen before.failures after.failures
+-- a call adds to the innermost level, or stops, and then leaves the levels as they were
+pub record AddsToLevel {A : Type 0} (nodes : List Node) (store store' : Held) (result : Result A Stop) : Type 0 where
+  pub same : OnErr result (levels nodes store' ≡ levels nodes store)
+  pub depth : level_count store' ≡ level_count store
 
--- a stop leaves the levels as many, and those around the innermost one as they were
+-- a call leaves the levels as many, and those around the innermost one as they were
 pub record LevelStays (nodes : List Node) (store store' : Held) : Type 0 where
   pub outer : outer_of (levels nodes store') ≡ outer_of (levels nodes store)
   pub depth : level_count store' ≡ level_count store

@@ -1,16 +1,15 @@
 //! Types that are read as one number: integers, offsets and integral structs.
 
-ghost use Rattle.std.specs.Prelude.{◌≡◌, List, ◌≢◌, ◌+◌, ◌*◌, ◌<◌, ◌≤◌, ◌^◌, Some, map, length, All, IfOk, IfErr, OnErr};
+ghost use Rattle.std.specs.Prelude.{◌≡◌, List, ◌+◌, ◌*◌, ◌<◌, ◌≤◌, ◌^◌, Some, map, length, All, IfOk};
 ghost use Rattle.pickle_types.specs.declared.node.Node.{Node as TableNode};
 ghost use Rattle.pickle_types.specs.Types.{IntegerOf, OffsetOf, depth};
 ghost use Rattle.pickle_types.specs.Table.{IsTable, type_of, IsWidth};
 ghost use Rattle.pickle_map.specs.Calls.{as_number, Maps, MapsInteger, integral_at, Places, PlacesLevel, PlacesPart, PlacesFields};
-ghost use Rattle.pickle_map.specs.Framed.{Frame, WorkFrame, IsEnd, DeviceFailed, LeavesLevel};
-ghost use Rattle.pickle_meaning.specs.Values.{outer_of};
+ghost use Rattle.pickle_map.specs.Framed.{Frame, WorkFrame, IsEnd, AddsToLevel, LevelStays, LeavesLevel};
 ghost use Rattle.pickle_map.specs.Mappable.{IsPartOf};
 ghost use Rattle.pickle_meaning.specs.Means.{first_digits, number_type, width_in};
 ghost use Rattle.value_store.specs.Names.{names_at, part_name};
-ghost use Rattle.value_store.specs.Slots.{levels, level_count};
+ghost use Rattle.value_store.specs.Slots.{level_count};
 
 use crate::mapper::blame::check;
 use crate::mapper::read::read_digits;
@@ -41,12 +40,10 @@ pub(crate) fn map_number<S: Space, W: Watch>(
     requires number { number_type (type_of nodes.now at) ≡ Some number }
     requires width { IsWidth number }
     requires inside { start ≤ 8 * (S.view space.old).len }
-    ensures frame { Frame (S.view space.old) (S.view space.new) meter.old meter.new store.old store.new 0 }
+    ensures frame { Frame (S.view space.old) (S.view space.new) meter.old meter.new store.old store.new 0 result }
     ensures ends { IfOk result (IsEnd start (S.view space.old)) }
     ensures is { Maps nodes.now (S.view space.old) meter.old meter.new store.old store.new (as_number at number order start) result }
-    ensures same { OnErr result (levels nodes.now store.new ≡ levels nodes.now store.old) }
-    ensures depth { level_count store.new ≡ level_count store.old }
-    ensures device { IfErr result (DeviceFailed (S.view space.old) (S.view space.new)) }
+    ensures level { AddsToLevel nodes.now store.old store.new result }
 {
     let digits = read_digits(space, start, number.width, order, meter)?;
     place_number(nodes, at, digits, start, meter, store, watch)?;
@@ -65,12 +62,10 @@ pub(crate) fn map_integer<S: Space>(
 ) -> Result<u64, Stop>
     requires width { IsWidth number }
     requires inside { start ≤ 8 * (S.view space.old).len }
-    ensures frame { Frame (S.view space.old) (S.view space.new) meter.old meter.new store.old store.new 0 }
+    ensures frame { Frame (S.view space.old) (S.view space.new) meter.old meter.new store.old store.new 0 result }
     ensures ends { IfOk result (IsEnd start (S.view space.old)) }
     ensures is { MapsInteger (S.view space.old) meter.old meter.new store.old store.new number order start result }
-    ensures same { (nodes : List TableNode) → OnErr result (levels nodes store.new ≡ levels nodes store.old) }
-    ensures depth { level_count store.new ≡ level_count store.old }
-    ensures device { IfErr result (DeviceFailed (S.view space.old) (S.view space.new)) }
+    ensures level { (nodes : List TableNode) → AddsToLevel nodes store.old store.new result }
 {
     let digits = read_digits(space, start, number.width, order, meter)?;
     place_integer(number, digits, start, meter, store)?;
@@ -94,11 +89,9 @@ pub fn place_number<W: Watch>(
     requires digits { digits < 2 ^ width_in (number_type (type_of nodes.now at)) }
     requires start { start < 2 ^ 63 }
     requires free { meter.old.made < meter.old.steps }
-    ensures frame { WorkFrame meter.old meter.new store.old store.new 1 }
+    ensures frame { WorkFrame meter.old meter.new store.old store.new 1 result }
     ensures is { Places nodes.now meter.old meter.new store.old store.new (type_of nodes.now at) digits start result }
-    ensures same { OnErr result (levels nodes.now store.new ≡ levels nodes.now store.old) }
-    ensures depth { level_count store.new ≡ level_count store.old }
-    ensures stays { IfErr result (λ stop. stop ≢ Stop.Device) }
+    ensures level { AddsToLevel nodes.now store.old store.new result }
 {
     match &nodes[at].shape {
         Shape::Integer(number) => place_integer(*number, digits, start, meter, store),
@@ -136,11 +129,9 @@ fn place_integer(
     requires width { IsWidth number }
     requires digits { digits < 2 ^ number.width }
     requires free { meter.old.made < meter.old.steps }
-    ensures frame { WorkFrame meter.old meter.new store.old store.new 1 }
+    ensures frame { WorkFrame meter.old meter.new store.old store.new 1 result }
     ensures is { (nodes : List TableNode) → Places nodes meter.old meter.new store.old store.new (IntegerOf number) digits start result }
-    ensures same { (nodes : List TableNode) → OnErr result (levels nodes store.new ≡ levels nodes store.old) }
-    ensures depth { level_count store.new ≡ level_count store.old }
-    ensures stays { IfErr result (λ stop. stop ≢ Stop.Device) }
+    ensures level { (nodes : List TableNode) → AddsToLevel nodes store.old store.new result }
 {
     store.push_integer(number, digits, start)?;
     meter.note_made();
@@ -160,11 +151,9 @@ fn place_offset(
     requires unit { 1 ≤ unit }
     requires digits { digits < 2 ^ number.width }
     requires free { meter.old.made < meter.old.steps }
-    ensures frame { WorkFrame meter.old meter.new store.old store.new 1 }
+    ensures frame { WorkFrame meter.old meter.new store.old store.new 1 result }
     ensures is { (nodes : List TableNode) → Places nodes meter.old meter.new store.old store.new (OffsetOf number unit) digits start result }
-    ensures same { (nodes : List TableNode) → OnErr result (levels nodes store.new ≡ levels nodes store.old) }
-    ensures depth { level_count store.new ≡ level_count store.old }
-    ensures stays { IfErr result (λ stop. stop ≢ Stop.Device) }
+    ensures level { (nodes : List TableNode) → AddsToLevel nodes store.old store.new result }
 {
     store.push_offset(number, unit, digits, start)?;
     meter.note_made();
@@ -192,11 +181,9 @@ fn place_integral<W: Watch>(
     requires width { IsWidth number }
     requires start { start < 2 ^ 63 }
     requires free { meter.old.made < meter.old.steps }
-    ensures frame { WorkFrame meter.old meter.new store.old store.new 1 }
+    ensures frame { WorkFrame meter.old meter.new store.old store.new 1 result }
     ensures is { Places nodes.now meter.old meter.new store.old store.new (integral_at nodes.now at number fields.now) digits start result }
-    ensures same { OnErr result (levels nodes.now store.new ≡ levels nodes.now store.old) }
-    ensures depth { level_count store.new ≡ level_count store.old }
-    ensures stays { IfErr result (λ stop. stop ≢ Stop.Device) }
+    ensures level { AddsToLevel nodes.now store.old store.new result }
 {
     watch.open(at);
     store.open_level();
@@ -236,10 +223,9 @@ fn integral_body<W: Watch>(
     requires width { IsWidth number }
     requires start { start < 2 ^ 63 }
     requires free { meter.old.made < meter.old.steps }
-    ensures frame { WorkFrame meter.old meter.new store.old store.new 1 }
+    ensures frame { WorkFrame meter.old meter.new store.old store.new 1 result }
     ensures is { PlacesLevel nodes.now meter.old meter.new store.old store.new at number fields.now digits start result }
     ensures level { LeavesLevel nodes.now store.old store.new result }
-    ensures stays { IfErr result (λ stop. stop ≢ Stop.Device) }
 {
     place_fields(
         nodes,
@@ -272,11 +258,9 @@ fn place_fields<W: Watch>(
     requires fields { All (IsPartOf nodes.now (level_count store.old)) fields.now }
     requires width { width ≤ 64 }
     requires start { start < 2 ^ 63 }
-    ensures frame { WorkFrame meter.old meter.new store.old store.new 0 }
+    ensures frame { WorkFrame meter.old meter.new store.old store.new 0 result }
     ensures is { PlacesFields nodes.now meter.old meter.new store.old store.new fields.now digits width start result }
-    ensures outer { outer_of (levels nodes.now store.new) ≡ outer_of (levels nodes.now store.old) }
-    ensures depth { level_count store.new ≡ level_count store.old }
-    ensures stays { IfErr result (λ stop. stop ≢ Stop.Device) }
+    ensures level { LevelStays nodes.now store.old store.new }
 {
     let mut left = width;
     for part in fields {
@@ -305,11 +289,9 @@ fn place_part<W: Watch>(
     requires part { IsPartOf nodes.now (level_count store.old) part.now }
     requires digits { digits < 2 ^ width_in (number_type (type_of nodes.now part.now.node)) }
     requires start { start < 2 ^ 63 }
-    ensures frame { WorkFrame meter.old meter.new store.old store.new 0 }
+    ensures frame { WorkFrame meter.old meter.new store.old store.new 0 result }
     ensures is { PlacesPart nodes.now meter.old meter.new store.old store.new part.now digits start result }
-    ensures outer { outer_of (levels nodes.now store.new) ≡ outer_of (levels nodes.now store.old) }
-    ensures depth { level_count store.new ≡ level_count store.old }
-    ensures stays { IfErr result (λ stop. stop ≢ Stop.Device) }
+    ensures level { LevelStays nodes.now store.old store.new }
 {
     meter.tick()?;
     place_number(nodes, part.node, digits, start, meter, store, watch)?;

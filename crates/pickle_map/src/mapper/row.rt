@@ -1,9 +1,9 @@
 //! Arrays of numbers that the store packs.
 
-ghost use Rattle.std.specs.Prelude.{◌≡◌, ◌*◌, ◌<◌, ◌≤◌, [], length, IfOk, IfErr};
+ghost use Rattle.std.specs.Prelude.{◌*◌, ◌<◌, ◌≤◌, [], length, IfOk};
 ghost use Rattle.pickle_types.specs.Table.{IsTable, type_of};
 ghost use Rattle.pickle_map.specs.Calls.{as_array_level, Closes, PacksRow};
-ghost use Rattle.pickle_map.specs.Framed.{Frame, IsEnd, DeviceFailed, LeavesLevel};
+ghost use Rattle.pickle_map.specs.Framed.{Frame, IsEnd, LevelStays, LeavesLevel};
 ghost use Rattle.pickle_map.specs.Row.{PacksAs, PacksOrNot};
 ghost use Rattle.value_store.specs.Slots.{levels, IsPacking, level_count};
 ghost use Rattle.pickle_meaning.specs.Values.{outer_of};
@@ -59,11 +59,10 @@ pub(crate) fn row_body<S: Space, W: Watch>(
     requires open { 1 < level_count store.old }
     requires inside { start ≤ 8 * (S.view space.old).len }
     requires free { meter.old.made < meter.old.steps }
-    ensures frame { Frame (S.view space.old) (S.view space.new) meter.old meter.new store.old store.new 1 }
+    ensures frame { Frame (S.view space.old) (S.view space.new) meter.old meter.new store.old store.new 1 result }
     ensures ends { IfOk result (IsEnd start (S.view space.old)) }
     ensures is { Closes nodes.now (S.view space.old) meter.old meter.new store.old store.new (as_array_level element extent order start) result }
     ensures level { LeavesLevel nodes.now store.old store.new result }
-    ensures device { IfErr result (DeviceFailed (S.view space.old) (S.view space.new)) }
 {
     let end = map_packed(
         nodes, element, shape, extent, order, start, space, meter, store, watch,
@@ -90,12 +89,10 @@ fn map_packed<S: Space, W: Watch>(
     requires shape { PacksAs shape (type_of nodes.now element) store.old.room }
     requires packing { IsPacking nodes.now store.old shape [] start (outer_of (levels nodes.now store.old)) }
     requires inside { start ≤ 8 * (S.view space.old).len }
-    ensures frame { Frame (S.view space.old) (S.view space.new) meter.old meter.new store.old store.new 0 }
+    ensures frame { Frame (S.view space.old) (S.view space.new) meter.old meter.new store.old store.new 0 result }
     ensures ends { IfOk result (IsEnd start (S.view space.old)) }
     ensures is { PacksRow nodes.now (S.view space.old) meter.old meter.new store.old store.new shape element extent order start result }
-    ensures outer { outer_of (levels nodes.now store.new) ≡ outer_of (levels nodes.now store.old) }
-    ensures depth { level_count store.new ≡ level_count store.old }
-    ensures device { IfErr result (DeviceFailed (S.view space.old) (S.view space.new)) }
+    ensures level { LevelStays nodes.now store.old store.new }
 {
     let bits = 8 * space.len();
     let width = shape.element_width();

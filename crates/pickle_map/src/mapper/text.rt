@@ -1,11 +1,11 @@
 //! Strings.
 
-ghost use Rattle.std.specs.Prelude.{◌≡◌, ◌+◌, ◌*◌, ◌<◌, ◌≤◌, [], length, IfOk, IfErr, OnOk, OnErr};
+ghost use Rattle.std.specs.Prelude.{◌≡◌, ◌+◌, ◌*◌, ◌<◌, ◌≤◌, [], IfOk, IfErr, OnOk};
 ghost use Rattle.bit_space.specs.SpaceView.{known_bits, Keeps};
 ghost use Rattle.bit_space.specs.Reading.{MayRead};
 ghost use Rattle.bit_space.specs.declared.order.Order.TheVariants.{Big};
 ghost use Rattle.pickle_map.specs.Calls.{as_text, as_text_level, Maps, Closes};
-ghost use Rattle.pickle_map.specs.Framed.{Frame, IsEnd, DeviceFailed, LeavesLevel, RefusesReading};
+ghost use Rattle.pickle_map.specs.Framed.{Frame, IsEnd, AddsToLevel, LeavesLevel, RefusesReading};
 ghost use Rattle.pickle_meaning.specs.Values.{outer_of};
 ghost use Rattle.value_store.specs.Slots.{levels, IsWriting, level_count};
 
@@ -25,12 +25,10 @@ pub(crate) fn map_text<S: Space>(
 ) -> Result<u64, Stop>
     requires inside { start ≤ 8 * (S.view space.old).len }
     requires open { level_count store.old ≤ 64 }
-    ensures frame { Frame (S.view space.old) (S.view space.new) meter.old meter.new store.old store.new 0 }
+    ensures frame { Frame (S.view space.old) (S.view space.new) meter.old meter.new store.old store.new 0 result }
     ensures ends { IfOk result (IsEnd start (S.view space.old)) }
     ensures is { Maps nodes.now (S.view space.old) meter.old meter.new store.old store.new (as_text start) result }
-    ensures same { OnErr result (levels nodes.now store.new ≡ levels nodes.now store.old) }
-    ensures depth { level_count store.new ≡ level_count store.old }
-    ensures device { IfErr result (DeviceFailed (S.view space.old) (S.view space.new)) }
+    ensures level { AddsToLevel nodes.now store.old store.new result }
 {
     meter.tick()?;
     store.open_text();
@@ -56,11 +54,10 @@ fn text_body<S: Space>(
     requires writing { IsWriting nodes.now store.old [] start (outer_of (levels nodes.now store.old)) }
     requires open { 1 < level_count store.old }
     requires free { meter.old.made < meter.old.steps }
-    ensures frame { Frame (S.view space.old) (S.view space.new) meter.old meter.new store.old store.new 0 }
+    ensures frame { Frame (S.view space.old) (S.view space.new) meter.old meter.new store.old store.new 0 result }
     ensures ends { IfOk result (IsEnd start (S.view space.old)) }
     ensures is { Closes nodes.now (S.view space.old) meter.old meter.new store.old store.new (as_text_level start) result }
     ensures level { LeavesLevel nodes.now store.old store.new result }
-    ensures device { IfErr result (DeviceFailed (S.view space.old) (S.view space.new)) }
 {
     let mut place = start;
     loop {

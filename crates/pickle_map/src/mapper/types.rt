@@ -1,10 +1,10 @@
 //! The types of a table, over the bits of a space.
 
-ghost use Rattle.std.specs.Prelude.{◌≡◌, ◌+◌, ◌*◌, ◌^◌, ◌<◌, ◌≤◌, ◌∷◌, [], map, length, All, IfOk, IfErr, OnOk, OnErr};
+ghost use Rattle.std.specs.Prelude.{◌≡◌, ◌+◌, ◌*◌, ◌^◌, ◌<◌, ◌≤◌, ◌∷◌, [], map, length, All, IfOk, OnOk};
 ghost use Rattle.pickle_types.specs.Types.{depth};
 ghost use Rattle.pickle_types.specs.Table.{IsTable, type_of, optional_term, bound_of};
 ghost use Rattle.pickle_map.specs.Calls.{as_type, as_checked, as_array, as_array_level, as_elements, as_struct, ClosesStruct, as_fields, as_union, as_union_level, Maps, Closes, Fills, Takes};
-ghost use Rattle.pickle_map.specs.Framed.{Frame, IsEnd, DeviceFailed, LeavesLevel};
+ghost use Rattle.pickle_map.specs.Framed.{Frame, IsEnd, AddsToLevel, LevelStays, LeavesLevel};
 ghost use Rattle.pickle_meaning.specs.Values.{outer_of};
 ghost use Rattle.pickle_map.specs.Mappable.{IsFieldOf, IsPartOf};
 ghost use Rattle.pickle_map.specs.Row.{StandApart, BeginsApart};
@@ -42,12 +42,10 @@ pub fn map_type<S: Space, W: Watch>(
     requires table { IsTable nodes.now }
     requires at { at < length nodes.now }
     requires open { level_count store.old + depth (type_of nodes.now at) ≤ 65 }
-    ensures frame { Frame (S.view space.old) (S.view space.new) meter.old meter.new store.old store.new 0 }
+    ensures frame { Frame (S.view space.old) (S.view space.new) meter.old meter.new store.old store.new 0 result }
     ensures ends { IfOk result (IsEnd start (S.view space.old)) }
     ensures is { Maps nodes.now (S.view space.old) meter.old meter.new store.old store.new (as_type at order start) result }
-    ensures same { OnErr result (levels nodes.now store.new ≡ levels nodes.now store.old) }
-    ensures depth { level_count store.new ≡ level_count store.old }
-    ensures device { IfErr result (DeviceFailed (S.view space.old) (S.view space.new)) }
+    ensures level { AddsToLevel nodes.now store.old store.new result }
 {
     if u128::from(8 * space.len()) < start {
         return Err(Stop::Fault(MapFaultKind::End, start));
@@ -73,12 +71,10 @@ fn map_inside<S: Space, W: Watch>(
     requires at { at < length nodes.now }
     requires open { level_count store.old + depth (type_of nodes.now at) ≤ 65 }
     requires inside { start ≤ 8 * (S.view space.old).len }
-    ensures frame { Frame (S.view space.old) (S.view space.new) meter.old meter.new store.old store.new 0 }
+    ensures frame { Frame (S.view space.old) (S.view space.new) meter.old meter.new store.old store.new 0 result }
     ensures ends { IfOk result (IsEnd start (S.view space.old)) }
     ensures is { Maps nodes.now (S.view space.old) meter.old meter.new store.old store.new (as_type at order start) result }
-    ensures same { OnErr result (levels nodes.now store.new ≡ levels nodes.now store.old) }
-    ensures depth { level_count store.new ≡ level_count store.old }
-    ensures device { IfErr result (DeviceFailed (S.view space.old) (S.view space.new)) }
+    ensures level { AddsToLevel nodes.now store.old store.new result }
 {
     match &nodes[at].shape {
         Shape::Integer(number) => map_integer(*number, order, start, space, meter, store),
@@ -104,12 +100,10 @@ fn map_shape<S: Space, W: Watch>(
     requires at { at < length nodes.now }
     requires open { level_count store.old + depth (type_of nodes.now at) ≤ 65 }
     requires inside { start ≤ 8 * (S.view space.old).len }
-    ensures frame { Frame (S.view space.old) (S.view space.new) meter.old meter.new store.old store.new 0 }
+    ensures frame { Frame (S.view space.old) (S.view space.new) meter.old meter.new store.old store.new 0 result }
     ensures ends { IfOk result (IsEnd start (S.view space.old)) }
     ensures is { Maps nodes.now (S.view space.old) meter.old meter.new store.old store.new (as_type at order start) result }
-    ensures same { OnErr result (levels nodes.now store.new ≡ levels nodes.now store.old) }
-    ensures depth { level_count store.new ≡ level_count store.old }
-    ensures device { IfErr result (DeviceFailed (S.view space.old) (S.view space.new)) }
+    ensures level { AddsToLevel nodes.now store.old store.new result }
 {
     match &nodes[at].shape {
         Shape::Integer(number) => {
@@ -171,12 +165,10 @@ fn map_checked<S: Space, W: Watch>(
     requires at { node < length nodes.now }
     requires open { level_count store.old + depth (type_of nodes.now node) ≤ 65 }
     requires sound { IsSoundClause (optional_term constraint.now) }
-    ensures frame { Frame (S.view space.old) (S.view space.new) meter.old meter.new store.old store.new 0 }
+    ensures frame { Frame (S.view space.old) (S.view space.new) meter.old meter.new store.old store.new 0 result }
     ensures ends { IfOk result (IsEnd start (S.view space.old)) }
     ensures is { Maps nodes.now (S.view space.old) meter.old meter.new store.old store.new (as_checked node constraint.now order start) result }
-    ensures outer { outer_of (levels nodes.now store.new) ≡ outer_of (levels nodes.now store.old) }
-    ensures depth { level_count store.new ≡ level_count store.old }
-    ensures device { IfErr result (DeviceFailed (S.view space.old) (S.view space.new)) }
+    ensures level { LevelStays nodes.now store.old store.new }
 {
     let end = map_type(nodes, node, order, start, space, meter, store, watch)?;
     check(nodes, constraint, store, start, meter, watch)?;
@@ -202,12 +194,10 @@ fn map_array<S: Space, W: Watch>(
     requires open { level_count store.old + 1 + depth (type_of nodes.now element) ≤ 65 }
     requires sound { IsSoundBound (bound_of bound.now) }
     requires inside { start ≤ 8 * (S.view space.old).len }
-    ensures frame { Frame (S.view space.old) (S.view space.new) meter.old meter.new store.old store.new 0 }
+    ensures frame { Frame (S.view space.old) (S.view space.new) meter.old meter.new store.old store.new 0 result }
     ensures ends { IfOk result (IsEnd start (S.view space.old)) }
     ensures is { Maps nodes.now (S.view space.old) meter.old meter.new store.old store.new (as_array element bound.now order start) result }
-    ensures same { OnErr result (levels nodes.now store.new ≡ levels nodes.now store.old) }
-    ensures depth { level_count store.new ≡ level_count store.old }
-    ensures device { IfErr result (DeviceFailed (S.view space.old) (S.view space.new)) }
+    ensures level { AddsToLevel nodes.now store.old store.new result }
 {
     meter.tick()?;
     watch.open(at);
@@ -254,11 +244,10 @@ fn array_body<S: Space, W: Watch>(
     requires apart { StandApart (type_of nodes.now element) store.old.room }
     requires inside { start ≤ 8 * (S.view space.old).len }
     requires free { meter.old.made < meter.old.steps }
-    ensures frame { Frame (S.view space.old) (S.view space.new) meter.old meter.new store.old store.new 1 }
+    ensures frame { Frame (S.view space.old) (S.view space.new) meter.old meter.new store.old store.new 1 result }
     ensures ends { IfOk result (IsEnd start (S.view space.old)) }
     ensures is { Closes nodes.now (S.view space.old) meter.old meter.new store.old store.new (as_array_level element extent order start) result }
     ensures level { LeavesLevel nodes.now store.old store.new result }
-    ensures device { IfErr result (DeviceFailed (S.view space.old) (S.view space.new)) }
 {
     let end = map_elements(
         nodes, element, extent, order, start, space, meter, store, watch,
@@ -287,13 +276,11 @@ fn map_elements<S: Space, W: Watch>(
     requires apart { StandApart (type_of nodes.now element) store.old.room }
     requires begins { BeginsApart nodes.now store.old }
     requires inside { start ≤ 8 * (S.view space.old).len }
-    ensures frame { Frame (S.view space.old) (S.view space.new) meter.old meter.new store.old store.new 0 }
+    ensures frame { Frame (S.view space.old) (S.view space.new) meter.old meter.new store.old store.new 0 result }
     ensures ends { IfOk result (IsEnd start (S.view space.old)) }
     ensures is { Fills nodes.now (S.view space.old) meter.old meter.new store.old store.new (as_elements element extent order start) result }
     ensures begins { OnOk result (BeginsApart nodes.now store.new) }
-    ensures outer { outer_of (levels nodes.now store.new) ≡ outer_of (levels nodes.now store.old) }
-    ensures depth { level_count store.new ≡ level_count store.old }
-    ensures device { IfErr result (DeviceFailed (S.view space.old) (S.view space.new)) }
+    ensures level { LevelStays nodes.now store.old store.new }
 {
     let bits = 8 * space.len();
     let mut place = start;
@@ -347,12 +334,10 @@ fn map_struct<S: Space, W: Watch>(
     requires names { names_at nodes.now at ≡ map field_name fields.now }
     requires open { level_count store.old ≤ 64 }
     requires inside { start ≤ 8 * (S.view space.old).len }
-    ensures frame { Frame (S.view space.old) (S.view space.new) meter.old meter.new store.old store.new 0 }
+    ensures frame { Frame (S.view space.old) (S.view space.new) meter.old meter.new store.old store.new 0 result }
     ensures ends { IfOk result (IsEnd start (S.view space.old)) }
     ensures is { Maps nodes.now (S.view space.old) meter.old meter.new store.old store.new (as_struct at pinned fields.now order start) result }
-    ensures same { OnErr result (levels nodes.now store.new ≡ levels nodes.now store.old) }
-    ensures depth { level_count store.new ≡ level_count store.old }
-    ensures device { IfErr result (DeviceFailed (S.view space.old) (S.view space.new)) }
+    ensures level { AddsToLevel nodes.now store.old store.new result }
 {
     meter.tick()?;
     watch.open(at);
@@ -393,11 +378,10 @@ fn struct_body<S: Space, W: Watch>(
     requires open { 1 < level_count store.old }
     requires inside { start ≤ 8 * (S.view space.old).len }
     requires free { meter.old.made < meter.old.steps }
-    ensures frame { Frame (S.view space.old) (S.view space.new) meter.old meter.new store.old store.new 1 }
+    ensures frame { Frame (S.view space.old) (S.view space.new) meter.old meter.new store.old store.new 1 result }
     ensures ends { IfOk result (IsEnd start (S.view space.old)) }
     ensures is { ClosesStruct nodes.now (S.view space.old) meter.old meter.new store.old store.new at pinned fields.now order start result }
     ensures level { LeavesLevel nodes.now store.old store.new result }
-    ensures device { IfErr result (DeviceFailed (S.view space.old) (S.view space.new)) }
 {
     let end = map_fields(
         nodes, pinned, fields, order, start, space, meter, store, watch,
@@ -423,12 +407,10 @@ fn map_fields<S: Space, W: Watch>(
     requires table { IsTable nodes.now }
     requires fields { All (IsFieldOf nodes.now (level_count store.old)) fields.now }
     requires inside { start ≤ 8 * (S.view space.old).len }
-    ensures frame { Frame (S.view space.old) (S.view space.new) meter.old meter.new store.old store.new 0 }
+    ensures frame { Frame (S.view space.old) (S.view space.new) meter.old meter.new store.old store.new 0 result }
     ensures ends { IfOk result (IsEnd start (S.view space.old)) }
     ensures is { Fills nodes.now (S.view space.old) meter.old meter.new store.old store.new (as_fields pinned fields.now order start) result }
-    ensures outer { outer_of (levels nodes.now store.new) ≡ outer_of (levels nodes.now store.old) }
-    ensures depth { level_count store.new ≡ level_count store.old }
-    ensures device { IfErr result (DeviceFailed (S.view space.old) (S.view space.new)) }
+    ensures level { LevelStays nodes.now store.old store.new }
 {
     let origin = u128::from(start);
     let mut behind = start;
@@ -486,12 +468,10 @@ fn map_union<S: Space, W: Watch>(
     requires names { names_at nodes.now at ≡ map part_name alternatives.now }
     requires open { level_count store.old ≤ 64 }
     requires inside { start ≤ 8 * (S.view space.old).len }
-    ensures frame { Frame (S.view space.old) (S.view space.new) meter.old meter.new store.old store.new 0 }
+    ensures frame { Frame (S.view space.old) (S.view space.new) meter.old meter.new store.old store.new 0 result }
     ensures ends { IfOk result (IsEnd start (S.view space.old)) }
     ensures is { Maps nodes.now (S.view space.old) meter.old meter.new store.old store.new (as_union at alternatives.now order start) result }
-    ensures same { OnErr result (levels nodes.now store.new ≡ levels nodes.now store.old) }
-    ensures depth { level_count store.new ≡ level_count store.old }
-    ensures device { IfErr result (DeviceFailed (S.view space.old) (S.view space.new)) }
+    ensures level { AddsToLevel nodes.now store.old store.new result }
 {
     meter.tick()?;
     watch.open(at);
@@ -541,11 +521,10 @@ fn union_body<S: Space, W: Watch>(
     requires fresh { levels nodes.now store.old ≡ [] ∷ outer_of (levels nodes.now store.old) }
     requires inside { start ≤ 8 * (S.view space.old).len }
     requires free { meter.old.made < meter.old.steps }
-    ensures frame { Frame (S.view space.old) (S.view space.new) meter.old meter.new store.old store.new 1 }
+    ensures frame { Frame (S.view space.old) (S.view space.new) meter.old meter.new store.old store.new 1 result }
     ensures ends { IfOk result (IsEnd start (S.view space.old)) }
     ensures is { Closes nodes.now (S.view space.old) meter.old meter.new store.old store.new (as_union_level at alternatives.now order start) result }
     ensures level { LeavesLevel nodes.now store.old store.new result }
-    ensures device { IfErr result (DeviceFailed (S.view space.old) (S.view space.new)) }
 {
     let (index, end) = map_alternatives(
         nodes,
@@ -578,12 +557,10 @@ fn map_alternatives<S: Space, W: Watch>(
     requires alternatives { All (IsPartOf nodes.now (level_count store.old)) alternatives.now }
     requires fresh { levels nodes.now store.old ≡ [] ∷ outer_of (levels nodes.now store.old) }
     requires inside { start ≤ 8 * (S.view space.old).len }
-    ensures frame { Frame (S.view space.old) (S.view space.new) meter.old meter.new store.old store.new 0 }
+    ensures frame { Frame (S.view space.old) (S.view space.new) meter.old meter.new store.old store.new 0 result }
     ensures ends { IfOk result (λ r. IsEnd start (S.view space.old) r.1 × (r.0 < length alternatives.now)) }
     ensures is { Takes nodes.now (S.view space.old) meter.old meter.new store.old store.new alternatives.now order start result }
-    ensures outer { outer_of (levels nodes.now store.new) ≡ outer_of (levels nodes.now store.old) }
-    ensures depth { level_count store.new ≡ level_count store.old }
-    ensures device { IfErr result (DeviceFailed (S.view space.old) (S.view space.new)) }
+    ensures level { LevelStays nodes.now store.old store.new }
 {
     for (index, part) in alternatives.iter().enumerate() {
         watch.next();

@@ -1,18 +1,18 @@
-use Rattle.std.proofs.Common.{rules, ◌+◌, ◌^◌, ◌<◌, Some, None, refl, sym, ap, subst, ◌∙◌, arith}
+use Rattle.std.proofs.Common.{rules, ◌+◌, ◌^◌, ◌<◌, None, refl, sym, ap, subst, ◌∙◌, arith}
 use Rattle.std.proofs.lemmas.List.{drop_more, drop_all}
 use Rattle.std.proofs.lemmas.Result.{err_from_is_err_and}
 use Rattle.pickle_types.specs.Table.{type_of}
 use Rattle.pickle_types.specs.Types.{parts_depth}
 use Rattle.mapping_plans.specs.Mapping.{number_plan}
 use Rattle.pickle_meaning.specs.Means.{number_type, width_in}
-use Rattle.value_store.specs.Slots.{levels, level_count}
+use Rattle.value_store.specs.Slots.{level_count}
 use Rattle.pickle_meaning.specs.Values.{outer_of}
 use Rattle.pickle_map.proofs.Shapes.{opened_as, below_as, sound_as, names_as, parts_within, parts_bounded, part_bounded, of_one, integral_opened, parts_named}
 use Rattle.pickle_map.specs.Mappable.{IsPartOf}
-use Rattle.pickle_map.proofs.Keeping.{regrown_stays}
+use Rattle.pickle_map.proofs.Keeping.{regrown_stays, pushed_stays, same_stays}
 use Rattle.pickle_map.proofs.Clauses.{checks_ok, checks_stop}
 use Rattle.pickle_map.proofs.Placing.{digits_end, digits_no_tick, digits_stop, digits_goes}
-use Rattle.pickle_map.proofs.Walks.{follow_done, follow_here, follow_on, follow_tick, follow_stop, closes_no_room, closes_made, first_no_tick, outer_pushed}
+use Rattle.pickle_map.proofs.Walks.{follow_done, follow_here, follow_on, follow_tick, follow_stop, closes_no_room, closes_made, first_no_tick}
 use Rattle.pickle_map.proofs.Worlds.{room_then, in_store, in_call, in_later, holds_these, lacks_these}
 use Rattle.pickle_map.proofs.mapper.number.+placing.Goals as goal
 
@@ -32,14 +32,14 @@ integral_body-returns-in_err-close_struct-clause-is g t c =
 pub integral_body-returns-in_err-close_struct-clause-level : goal.integral_body-returns-in_err-close_struct-clause-level
 integral_body-returns-in_err-close_struct-clause-level g t c =
     let p = err_from_is_err_and c.from_residual-in_err-close_struct.result c.from_residual-in_err-close_struct.ensures.1 in
-    rw p.1 (regrown_stays c.args.nodes.now _ _ _ c.in_ok-place_fields.ensures.outer c.in_ok-place_fields.ensures.depth c.in_err-close_struct.ensures.err)
+    rw p.1 (regrown_stays c.args.nodes.now _ _ _ c.in_ok-place_fields.ensures.level c.in_err-close_struct.ensures.err)
 
 pub integral_body-returns-clause-is : goal.integral_body-returns-clause-is
 integral_body-returns-clause-is g t c =
     let n = c.note_made.ensures in
     let named = c.requires.names ∙ sym (parts_named (type_of c.args.nodes.now) c.args.fields.now) in
     let closed = rw (named, c.from.ensures) at (c.in_ok-close_struct.ensures.ok c.args.nodes.now) in
-    let h = rw c.in_ok-place_fields.ensures.outer at closed in
+    let h = rw c.in_ok-place_fields.ensures.level.outer at closed in
     let room = c.in_ok-close_struct.ensures.room in
     let has = holds_these c.args.nodes.now (room_then c.in_ok-place_fields.ensures.frame.room room) c.in_ok-close_struct.ensures.within closed in
     λ known. record { value = _; kept = h; ends = refl; follows = closes_made _ _ _ (in_later c.in_ok-place_fields.ensures.frame.room room (c.in_ok-place_fields.ensures.is known)) has n.steps n.made }
@@ -48,8 +48,7 @@ pub place_fields-loop-part-init : goal.place_fields-loop-part-init
 place_fields-loop-part-init g t c = record {
   frame = search rules;
   left = search rules;
-  outer = search rules;
-  depth = search rules;
+  level = search rules;
   so_far = λ known. follow_here;
 }
 
@@ -66,7 +65,7 @@ pub place_fields-place_part-requires : goal.place_fields-place_part-requires
 place_fields-place_part-requires g t c =
     let bounded = part_bounded c.args.fields.now c.loop-part.part-index c.part-item.result (omega arith) c.part-item.is in
     let part = of_one (IsPartOf c.args.nodes.now (level_count c.args.store.now)) c.args.fields.now c.loop-part.part-index c.part-item.result c.requires.fields (omega arith) c.part-item.is in
-    let part = rw (← c.loop-part.invariant.depth) at part in
+    let part = rw (← c.loop-part.invariant.level.depth) at part in
     let below = rw c.width_at-width.ensures.is at c.first_digits-digits.ensures.below in
     search rules
 
@@ -92,8 +91,7 @@ place_fields-loop-part-preserved g t c =
     record {
       frame = search rules;
       left = search rules;
-      outer = search rules;
-      depth = search rules;
+      level = search rules;
       so_far = λ known.
           let h = c.in_ok-place_part.ensures.is known in
           rw h.kept (follow_on (in_later i.frame.room c.in_ok-place_part.ensures.frame.room (i.so_far known)) (digits_goes _ _ _ _ _ _ _ _ next _ cut (e.limit ∙ i.frame.limit) e.ok e.made h.value _ less (in_call i.frame.room c.in_ok-place_part.ensures.frame.room h.follows)));
@@ -158,6 +156,12 @@ place_number-returns-in-Integer-clause-is g t c = rw (opened_as c.args.nodes.now
 pub place_number-returns-in-Offset-clause-is : goal.place_number-returns-in-Offset-clause-is
 place_number-returns-in-Offset-clause-is g t c = rw (opened_as c.args.nodes.now c.requires.table c.args.at c.requires.at c.index-nodes-at.result _ c.in-Offset.is) (c.place_offset.ensures.is c.args.nodes.now)
 
+pub place_number-returns-in-Integer-clause-level : goal.place_number-returns-in-Integer-clause-level
+place_number-returns-in-Integer-clause-level g t c = c.place_integer.ensures.level c.args.nodes.now
+
+pub place_number-returns-in-Offset-clause-level : goal.place_number-returns-in-Offset-clause-level
+place_number-returns-in-Offset-clause-level g t c = c.place_offset.ensures.level c.args.nodes.now
+
 pub place_number-returns-in-Integral-clause-is : goal.place_number-returns-in-Integral-clause-is
 place_number-returns-in-Integral-clause-is g t c = rw (integral_opened c.args.nodes.now c.requires.table c.args.at c.requires.at c.index-nodes-at.result _ _ _ _ c.in-Integral.is c.deref.ensures.value) c.place_integral.ensures.is
 
@@ -206,17 +210,13 @@ place_part-returns-in_err-check-clause-is g t c =
     let checked = rw (h.kept, c.from.ensures) at c.in_err-check.ensures.is in
     checks_stop _ _ _ _ h.value (follow_tick e.limit e.ok e.made h.follows) (c.in_ok-place_number.ensures.frame.limit ∙ e.limit) c.in_err-check.ensures.made _ (omega arith) checked)
 
-pub place_part-returns-clause-outer : goal.place_part-returns-clause-outer
-place_part-returns-clause-outer g t c =
-    let h = c.in_ok-place_number.ensures.is None in
-    ap outer_of h.kept ∙ outer_pushed (levels c.args.nodes.now c.args.store.now) (Some h.value)
+pub place_part-returns-clause-level : goal.place_part-returns-clause-level
+place_part-returns-clause-level g t c = pushed_stays c.args.nodes.now _ _ _ _ (same_stays _ _) (c.in_ok-place_number.ensures.is None).kept c.in_ok-place_number.ensures.level.depth
 
-pub place_part-returns-in_err-check-clause-outer : goal.place_part-returns-in_err-check-clause-outer
-place_part-returns-in_err-check-clause-outer g t c =
-    let h = c.in_ok-place_number.ensures.is None in
-    ap outer_of h.kept ∙ outer_pushed (levels c.args.nodes.now c.args.store.now) (Some h.value)
+pub place_part-returns-in_err-check-clause-level : goal.place_part-returns-in_err-check-clause-level
+place_part-returns-in_err-check-clause-level g t c = pushed_stays c.args.nodes.now _ _ _ _ (same_stays _ _) (c.in_ok-place_number.ensures.is None).kept c.in_ok-place_number.ensures.level.depth
 
-pub place_integral-returns-in-Err-clause-same : goal.place_integral-returns-in-Err-clause-same
-place_integral-returns-in-Err-clause-same g t c =
+pub place_integral-returns-in-Err-clause-level : goal.place_integral-returns-in-Err-clause-level
+place_integral-returns-in-Err-clause-level g t c =
     let opened = c.open_level.ensures.levels c.args.nodes.now in
-    c.drop_level.ensures.levels c.args.nodes.now ∙ c.in-Err.ensures.level.outer ∙ ap outer_of opened
+    record { same = c.drop_level.ensures.levels c.args.nodes.now ∙ c.in-Err.ensures.level.outer ∙ ap outer_of opened; depth = search rules }

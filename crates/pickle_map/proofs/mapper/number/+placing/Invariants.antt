@@ -1,10 +1,9 @@
-use Rattle.std.proofs.Common.{◌≡◌, ◌+◌, ◌*◌, ◌≤◌, drop}
+use Rattle.std.proofs.Common.{◌+◌, ◌*◌, ◌≤◌, drop}
 use Rattle.pickle_types.specs.Table.{type_of, open_parts}
 use Rattle.pickle_map.specs.Follows.{Partly}
-use Rattle.pickle_map.specs.Framed.{WorkFrame, Works}
-use Rattle.pickle_meaning.specs.Values.{outer_of}
+use Rattle.pickle_map.specs.Framed.{WorkFrame, Works, LevelStays, under_way}
 use Rattle.mapping_plans.specs.Mapping.{digits_plan}
-use Rattle.value_store.specs.Slots.{levels, level_count}
+use Rattle.value_store.specs.Slots.{levels}
 use Rattle.pickle_map.proofs.Shapes.{parts_bound}
 use Rattle.pickle_map.proofs.mapper.number.+placing.Given as goal
 
@@ -25,10 +24,9 @@ decreases-place_part g l = 5 * l.part.now.node + 5
 
 abbrev pub invariant-place_fields-loop-part : goal.invariant-place_fields-loop-part
 invariant-place_fields-loop-part g l = record {
-  frame : WorkFrame l.initial.meter l.meter l.initial.store l.store 0;
+  frame : WorkFrame l.initial.meter l.meter l.initial.store l.store 0 under_way;
   left : l.left ≤ 64;
-  outer : outer_of (levels l.nodes l.store) ≡ outer_of (levels l.nodes l.initial.store);
-  depth : level_count l.store ≡ level_count l.initial.store;
+  level : LevelStays l.nodes l.initial.store l.store;
   so_far : Works l.initial.meter l.meter l.initial.store l.store
       (digits_plan (open_parts (type_of l.nodes) l.fields) l.digits l.width (levels l.nodes l.initial.store) l.start)
       (Partly (digits_plan (open_parts (type_of l.nodes) (drop l.part-index l.fields)) l.digits l.left (levels l.nodes l.store) l.start));

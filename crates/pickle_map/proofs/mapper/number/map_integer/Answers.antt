@@ -18,6 +18,15 @@ returns-in_err-place_integer-clause-is g c nodes =
     let r = c.in_ok-digits.ensures in
     rw (p.1, p.2) (read_goes _ _ _ _ _ _ _ r.limit r.steps r.made r.inside r.ok (c.in_err-place_integer.ensures.is nodes (known_bits (g.S.Space.view c.args.space.now))))
 
+pub returns-in_err-place_integer-clause-level : goal.returns-in_err-place_integer-clause-level
+returns-in_err-place_integer-clause-level g c nodes =
+    let p = err_from_is_err_and c.from_residual-in_err-place_integer.result c.from_residual-in_err-place_integer.ensures.1 in
+    let level = c.in_err-place_integer.ensures.level nodes in
+    rw p.1 (record { same = level.same; depth = level.depth })
+
+pub returns-clause-level : goal.returns-clause-level
+returns-clause-level g c nodes = record { same = tt; depth = (c.in_ok-place_integer.ensures.level nodes).depth }
+
 pub returns-clause-is : goal.returns-clause-is
 unfolding read_plan
 returns-clause-is g c nodes =

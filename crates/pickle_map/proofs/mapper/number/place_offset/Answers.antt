@@ -2,7 +2,7 @@ use Rattle.std.proofs.Common.{refl}
 use Rattle.std.proofs.lemmas.Result.{err_from_is_err_and}
 use Rattle.pickle_meaning.specs.Means.{offset_value}
 use Rattle.mapping_plans.specs.Mapping.{number_plan}
-use Rattle.value_store.proofs.Held.{regrown-levels}
+use Rattle.value_store.proofs.Held.{regrown-levels, regrown-depth}
 use Rattle.pickle_map.proofs.Walks.{follow_made, follow_done, follow_no_room}
 use Rattle.pickle_map.proofs.Worlds.{same_room, holds_these, lacks_these}
 use Rattle.pickle_map.proofs.mapper.number.place_offset.Goals as goal
@@ -13,10 +13,11 @@ returns-in_err-push_offset-clause-is c nodes =
     let p = err_from_is_err_and c.from_residual.result c.from_residual.ensures.1 in
     rw (p.1, p.2) (λ known. follow_no_room (lacks_these (same_room c.args.store.now) (c.in_err-push_offset.ensures.full nodes)))
 
-pub returns-in_err-push_offset-clause-same : goal.returns-in_err-push_offset-clause-same
-returns-in_err-push_offset-clause-same c nodes =
+pub returns-in_err-push_offset-clause-level : goal.returns-in_err-push_offset-clause-level
+returns-in_err-push_offset-clause-level c nodes =
     let p = err_from_is_err_and c.from_residual.result c.from_residual.ensures.1 in
-    rw p.1 (regrown-levels nodes _ _ c.in_err-push_offset.ensures.err)
+    let e = c.in_err-push_offset.ensures.err in
+    rw p.1 (record { same = regrown-levels nodes _ _ e; depth = regrown-depth c.args.store.now c.push_offset.new.self e })
 
 pub returns-clause-is : goal.returns-clause-is
 unfolding number_plan

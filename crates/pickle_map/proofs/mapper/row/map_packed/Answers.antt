@@ -9,8 +9,8 @@ use Rattle.mapping_plans.specs.Mapping.{plan, element_plan}
 use Rattle.pickle_map.specs.Row.{row_levels}
 use Rattle.value_store.specs.Slots.{levels, element_width, element_value}
 use Rattle.pickle_meaning.specs.Values.{outer_of}
-use Rattle.value_store.proofs.Held.{regrown-levels}
-use Rattle.value_store.proofs.PackedRows.{packing-outer, packing-empty}
+use Rattle.value_store.proofs.PackedRows.{packing-empty}
+use Rattle.pickle_map.proofs.Keeping.{regrown_stays, packing_stays}
 use Rattle.pickle_map.proofs.Worlds.{same_room, in_world, in_later, lacks_these}
 use Rattle.pickle_map.proofs.Mapping.{few_enough, elements_end, elements_beyond, elements_no_tick, elements_goes, elements_over, elements_stop}
 use Rattle.pickle_map.proofs.Row.{some_bits, least_is, element_end, element_stops, element_no_room, element_goes, row_more, first_is}
@@ -30,11 +30,10 @@ loop-shape-init g c =
       so_far = ([], count_of (8 * (g.S.Space.view c.args.space.now).len) (least_width (type_of c.args.nodes.now c.args.element)), omega (arith, few), omega arith, refl, c.requires.packing, rw fresh follow_here);
     }
 
-pub returns-in_err-tick-clause-outer : goal.returns-in_err-tick-clause-outer
-returns-in_err-tick-clause-outer g c =
+pub returns-in_err-tick-clause-level : goal.returns-in_err-tick-clause-level
+returns-in_err-tick-clause-level g c =
     let i = c.loop-shape.invariant in
-    let outer = outer_of (levels c.args.nodes.now c.args.store.now) in
-    packing-outer c.args.nodes.now c.loop-shape.store c.args.shape i.so_far.0 c.args.start outer i.so_far.5
+    packing_stays c.args.nodes.now _ c.loop-shape.store c.args.shape i.so_far.0 c.args.start i.so_far.5 i.depth
 
 pub returns-in_err-tick-clause-is : goal.returns-in_err-tick-clause-is
 returns-in_err-tick-clause-is g c =
@@ -50,12 +49,11 @@ push_packed-requires-clause-first g c =
     let i = c.loop-shape.invariant in
     first_is c.args.nodes.now c.loop-shape.store c.args.shape i.so_far.0 c.args.start (outer_of (levels c.args.nodes.now c.args.store.now)) c.loop-shape.count i.so_far.5 c.requires.shape.packed i.so_far.4
 
-pub returns-in_err-push_packed-in-Ok-clause-outer : goal.returns-in_err-push_packed-in-Ok-clause-outer
-returns-in_err-push_packed-in-Ok-clause-outer g c =
+pub returns-in_err-push_packed-in-Ok-clause-level : goal.returns-in_err-push_packed-in-Ok-clause-level
+returns-in_err-push_packed-in-Ok-clause-level g c =
     let i = c.loop-shape.invariant in
-    let outer = outer_of (levels c.args.nodes.now c.args.store.now) in
-    ap outer_of (regrown-levels c.args.nodes.now _ _ c.in_err-push_packed-in-Ok.ensures.err)
-    ∙ packing-outer c.args.nodes.now c.loop-shape.store c.args.shape i.so_far.0 c.args.start outer i.so_far.5
+    let stays = packing_stays c.args.nodes.now _ c.loop-shape.store c.args.shape i.so_far.0 c.args.start i.so_far.5 i.depth in
+    regrown_stays c.args.nodes.now _ _ _ stays c.in_err-push_packed-in-Ok.ensures.err
 
 pub returns-in_err-push_packed-in-Ok-clause-is : goal.returns-in_err-push_packed-in-Ok-clause-is
 returns-in_err-push_packed-in-Ok-clause-is g c =
@@ -127,17 +125,15 @@ returns-then-ends-clause-is g c =
       runs = follow_on i.so_far.6 (elements_over _ _ _ _ _ _ _ (max 1 (least_width (type_of c.args.nodes.now c.args.element))) _ i.so_far.2 i.inside due (e.limit ∙ i.frame.limit) e.ok e.made _ ends h);
     }
 
-pub returns-then-ends-clause-outer : goal.returns-then-ends-clause-outer
-returns-then-ends-clause-outer g c =
+pub returns-then-ends-clause-level : goal.returns-then-ends-clause-level
+returns-then-ends-clause-level g c =
     let i = c.loop-shape.invariant in
-    let outer = outer_of (levels c.args.nodes.now c.args.store.now) in
-    packing-outer c.args.nodes.now c.loop-shape.store c.args.shape i.so_far.0 c.args.start outer i.so_far.5
+    packing_stays c.args.nodes.now _ c.loop-shape.store c.args.shape i.so_far.0 c.args.start i.so_far.5 i.depth
 
-pub returns-in-Err-clause-outer : goal.returns-in-Err-clause-outer
-returns-in-Err-clause-outer g c =
+pub returns-in-Err-clause-level : goal.returns-in-Err-clause-level
+returns-in-Err-clause-level g c =
     let i = c.loop-shape.invariant in
-    let outer = outer_of (levels c.args.nodes.now c.args.store.now) in
-    packing-outer c.args.nodes.now c.loop-shape.store c.args.shape i.so_far.0 c.args.start outer i.so_far.5
+    packing_stays c.args.nodes.now _ c.loop-shape.store c.args.shape i.so_far.0 c.args.start i.so_far.5 i.depth
 
 pub returns-in-Err-clause-is : goal.returns-in-Err-clause-is
 returns-in-Err-clause-is g c =
@@ -163,17 +159,15 @@ returns-then-is_met-clause-is g c =
       runs = follow_on i.so_far.6 (elements_end _ _ _ _ _ _ _ (max 1 (least_width (type_of c.args.nodes.now c.args.element))) _ i.so_far.2 i.inside over (sym c.is_met.ensures ∙ c.if-is_met.true));
     }
 
-pub returns-then-is_met-clause-outer : goal.returns-then-is_met-clause-outer
-returns-then-is_met-clause-outer g c =
+pub returns-then-is_met-clause-level : goal.returns-then-is_met-clause-level
+returns-then-is_met-clause-level g c =
     let i = c.loop-shape.invariant in
-    let outer = outer_of (levels c.args.nodes.now c.args.store.now) in
-    packing-outer c.args.nodes.now c.loop-shape.store c.args.shape i.so_far.0 c.args.start outer i.so_far.5
+    packing_stays c.args.nodes.now _ c.loop-shape.store c.args.shape i.so_far.0 c.args.start i.so_far.5 i.depth
 
-pub returns-else-is_met-clause-outer : goal.returns-else-is_met-clause-outer
-returns-else-is_met-clause-outer g c =
+pub returns-else-is_met-clause-level : goal.returns-else-is_met-clause-level
+returns-else-is_met-clause-level g c =
     let i = c.loop-shape.invariant in
-    let outer = outer_of (levels c.args.nodes.now c.args.store.now) in
-    packing-outer c.args.nodes.now c.loop-shape.store c.args.shape i.so_far.0 c.args.start outer i.so_far.5
+    packing_stays c.args.nodes.now _ c.loop-shape.store c.args.shape i.so_far.0 c.args.start i.so_far.5 i.depth
 
 pub returns-else-is_met-clause-is : goal.returns-else-is_met-clause-is
 returns-else-is_met-clause-is g c =

@@ -2,7 +2,7 @@ use Rattle.std.proofs.Common.{◌≡◌, ℕ, ◌+◌, ◌-◌, ◌*◌, ◌≤�
 use Rattle.pickle_types.specs.Bounds.{least_width}
 use Rattle.pickle_types.specs.Table.{type_of}
 use Rattle.pickle_map.specs.Calls.{as_elements}
-use Rattle.pickle_map.specs.Framed.{Frame, Runs}
+use Rattle.pickle_map.specs.Framed.{Frame, Runs, under_way}
 use Rattle.pickle_map.specs.Follows.{Partly}
 use Rattle.pickle_meaning.specs.Values.{outer_of}
 use Rattle.mapping_plans.specs.Mapping.{plan, element_plan, elements_plan}
@@ -15,7 +15,7 @@ decreases-loop-shape g l = 8 * (g.S.Space.view l.initial.space).len - l.place
 
 abbrev pub invariant-loop-shape : goal.invariant-loop-shape
 invariant-loop-shape g l = record {
-  frame : Frame (g.S.Space.view l.initial.space) (g.S.Space.view l.space) l.initial.meter l.meter l.initial.store l.store 0;
+  frame : Frame (g.S.Space.view l.initial.space) (g.S.Space.view l.space) l.initial.meter l.meter l.initial.store l.store 0 under_way;
   after : l.start ≤ l.place;
   inside : l.place ≤ 8 * (g.S.Space.view l.initial.space).len;
   depth : level_count l.store ≡ level_count l.initial.store;

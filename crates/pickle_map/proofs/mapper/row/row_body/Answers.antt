@@ -27,7 +27,7 @@ returns-in_err-close_row-clause-is g c =
 pub returns-in_err-close_row-clause-level : goal.returns-in_err-close_row-clause-level
 returns-in_err-close_row-clause-level g c =
     let p = err_from_is_err_and c.from_residual-in_err-close_row.result c.from_residual-in_err-close_row.ensures.1 in
-    rw p.1 (regrown_stays c.args.nodes.now _ _ _ c.in_ok-end.ensures.outer c.in_ok-end.ensures.depth c.in_err-close_row.ensures.err)
+    rw p.1 (regrown_stays c.args.nodes.now _ _ _ c.in_ok-end.ensures.level c.in_err-close_row.ensures.err)
 
 pub returns-clause-is : goal.returns-clause-is
 returns-clause-is g c =

@@ -1,4 +1,4 @@
-use Rattle.std.proofs.Common.{refl, ap, ◌∙◌, arith}
+use Rattle.std.proofs.Common.{rules, refl, ap, ◌∙◌, arith}
 use Rattle.std.proofs.lemmas.Result.{err_from_is_err_and}
 use Rattle.pickle_meaning.specs.Values.{outer_of}
 use Rattle.pickle_map.proofs.Walks.{follow_tick, follow_no_tick}
@@ -34,7 +34,7 @@ returns-in-Err-clause-is g c =
     let h = rw opened at c.in-Err.ensures.is in
     follow_tick e.limit e.ok e.made (in_store c.open_text.ensures.room c.in-Err.ensures.frame.room c.drop_level.ensures.room h)
 
-pub returns-in-Err-clause-same : goal.returns-in-Err-clause-same
-returns-in-Err-clause-same g c =
+pub returns-in-Err-clause-level : goal.returns-in-Err-clause-level
+returns-in-Err-clause-level g c =
     let opened = c.open_text.ensures.levels c.args.nodes.now in
-    c.drop_level.ensures.levels c.args.nodes.now ∙ c.in-Err.ensures.level.outer ∙ ap outer_of opened
+    record { same = c.drop_level.ensures.levels c.args.nodes.now ∙ c.in-Err.ensures.level.outer ∙ ap outer_of opened; depth = search rules }

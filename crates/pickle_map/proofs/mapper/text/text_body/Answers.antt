@@ -49,7 +49,7 @@ returns-in_err-close_text-in-Ok-clause-level g c =
     let p = err_from_is_err_and c.from_residual.result c.from_residual.ensures.1 in
     let i = c.loop-byte.invariant in
     let same = writing-outer c.args.nodes.now c.loop-byte.store i.so_far.0 c.args.start (outer_of (levels c.args.nodes.now c.args.store.now)) i.so_far.4 in
-    rw p.1 (regrown_stays c.args.nodes.now _ _ _ same i.depth c.in_err-close_text-in-Ok.ensures.err)
+    rw p.1 (regrown_stays c.args.nodes.now _ _ _ (record { outer = same; depth = i.depth }) c.in_err-close_text-in-Ok.ensures.err)
 
 pub returns-then-byte-eq0-clause-is : goal.returns-then-byte-eq0-clause-is
 returns-then-byte-eq0-clause-is g c =
@@ -85,7 +85,7 @@ returns-in_err-push_byte-in-Ok-clause-level g c =
     let p = err_from_is_err_and c.from_residual-in_err-push_byte-in-Ok.result c.from_residual-in_err-push_byte-in-Ok.ensures.1 in
     let i = c.loop-byte.invariant in
     let same = writing-outer c.args.nodes.now c.loop-byte.store i.so_far.0 c.args.start (outer_of (levels c.args.nodes.now c.args.store.now)) i.so_far.4 in
-    rw p.1 (regrown_stays c.args.nodes.now _ _ _ same i.depth c.in_err-push_byte-in-Ok.ensures.err)
+    rw p.1 (regrown_stays c.args.nodes.now _ _ _ (record { outer = same; depth = i.depth }) c.in_err-push_byte-in-Ok.ensures.err)
 
 pub loop-byte-preserved : goal.loop-byte-preserved
 loop-byte-preserved g c =

@@ -1,6 +1,6 @@
 use Rattle.std.proofs.Common.{◌≡◌, ℕ, ◌+◌, ◌-◌, ◌*◌, ◌≤◌, ◌<◌, List, length}
 use Rattle.pickle_map.specs.Calls.{as_text_level}
-use Rattle.pickle_map.specs.Framed.{Frame, Runs}
+use Rattle.pickle_map.specs.Framed.{Frame, Runs, under_way}
 use Rattle.pickle_map.specs.Follows.{Partly}
 use Rattle.mapping_plans.specs.Mapping.{text_plan}
 use Rattle.value_store.specs.Slots.{levels, IsWriting, level_count}
@@ -9,7 +9,7 @@ use Rattle.pickle_map.proofs.mapper.text.text_body.Given as goal
 
 abbrev pub invariant-loop-byte : goal.invariant-loop-byte
 invariant-loop-byte g l = record {
-  frame : Frame (g.S.Space.view l.initial.space) (g.S.Space.view l.space) l.initial.meter l.meter l.initial.store l.store 0;
+  frame : Frame (g.S.Space.view l.initial.space) (g.S.Space.view l.space) l.initial.meter l.meter l.initial.store l.store 0 under_way;
   after : l.start ≤ l.place;
   inside : l.place ≤ 8 * (g.S.Space.view l.initial.space).len;
   depth : level_count l.store ≡ level_count l.initial.store;

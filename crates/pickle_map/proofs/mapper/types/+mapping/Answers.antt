@@ -1,5 +1,5 @@
 use Rattle.pickle_map.proofs.mapper.types.+mapping.Goals.{map_array-in-Some, map_array-in-None, map_fields-then-branch+in_ok-place+in_ok-behind, map_fields-else-branch+in_ok-push_absent}
-use Rattle.std.proofs.Common.{rules, ◌≡◌, ◌+◌, ◌*◌, ◌≤◌, max, [], ◌∷◌, Some, None, refl, sym, ap, ◌∙◌, arith}
+use Rattle.std.proofs.Common.{rules, ◌≡◌, ◌+◌, ◌*◌, ◌≤◌, max, [], ◌∷◌, Some, refl, sym, ap, ◌∙◌, arith}
 use Rattle.std.proofs.lemmas.List.{drop_more, drop_all}
 use Rattle.std.proofs.lemmas.Result.{err_from_is_err_and}
 use Rattle.pickle_types.specs.Types.{depth}
@@ -13,8 +13,7 @@ use Rattle.value_store.specs.Slots.{levels, level_count}
 use Rattle.pickle_meaning.specs.Values.{pushed, outer_of}
 use Rattle.pickle_map.proofs.Clauses.{checks_ok, checks_stop, settles_ok, settles_stop}
 use Rattle.pickle_map.proofs.Followed.{followed_fits, followed_wide}
-use Rattle.value_store.proofs.Held.{regrown-levels}
-use Rattle.pickle_map.proofs.Keeping.{regrown_stays}
+use Rattle.pickle_map.proofs.Keeping.{regrown_stays, pushed_stays}
 use Rattle.mapping_plans.specs.Mapping.{element_plan, makes_row}
 use Rattle.pickle_map.proofs.Widths.{any_names}
 use Rattle.pickle_map.proofs.Elements.{element_done, element_stopped, pushed_apart}
@@ -22,7 +21,7 @@ use Rattle.pickle_map.proofs.Worlds.{room_then, in_store, in_call, in_world, in_
 use Rattle.pickle_map.proofs.Mapping.{few_enough, inside_no_tick, inside_ticks, plan_past, number_is, text_is, struct_is, array_is, union_is, struct_no_room, struct_made, array_no_room, array_made, union_no_room, union_made, fields_end, fields_no_tick, condition_stops, absent_no_room, absent_goes, start_stops, field_stops, field_goes, elements_end, elements_beyond, elements_no_tick, elements_no_bits, elements_goes, elements_over, elements_stop, alternatives_end, alternatives_no_tick, alternatives_fit, alternatives_miss, alternatives_stop}
 use Rattle.value_store.proofs.PackedRows.{row-opened}
 use Rattle.pickle_map.proofs.Shapes.{opened_as, below_as, sound_as, names_as, fields_within, parts_within, fields_bounded, parts_bounded, field_bounded, part_bounded, of_one, name_of_one, struct_opened, union_opened, fields_named}
-use Rattle.pickle_map.proofs.Walks.{follow_here, follow_on, follow_at, follow_stop, follow_then_ok, outer_pushed}
+use Rattle.pickle_map.proofs.Walks.{follow_here, follow_on, follow_at, follow_stop, follow_then_ok}
 use Rattle.pickle_map.proofs.mapper.types.+mapping.Goals as goal
 
 pub map_type-returns-then-from-start-clause-is : goal.map_type-returns-then-from-start-clause-is
@@ -36,6 +35,9 @@ map_inside-map_integer-requires g t c =
 
 pub map_inside-returns-in-Integer-clause-is : goal.map_inside-returns-in-Integer-clause-is
 map_inside-returns-in-Integer-clause-is g t c = rw (opened_as c.args.nodes.now c.requires.table c.args.at c.requires.at c.index-nodes-at.result _ c.in-Integer.is, number_is _ _ _ _ _ _ refl c.requires.inside) (c.map_integer.ensures.is c.args.nodes.now)
+
+pub map_inside-returns-in-Integer-clause-level : goal.map_inside-returns-in-Integer-clause-level
+map_inside-returns-in-Integer-clause-level g t c = c.map_integer.ensures.level c.args.nodes.now
 
 pub map_inside-map_text-requires-clause-open : goal.map_inside-map_text-requires-clause-open
 unfolding depth
@@ -149,10 +151,10 @@ map_struct-returns-in_err-tick-clause-is g t c =
 pub map_struct-drop_level-requires : goal.map_struct-drop_level-requires
 map_struct-drop_level-requires g t c = omega (arith, c.in-Err.ensures.level.depth, c.open_level.ensures.depth)
 
-pub map_struct-returns-in-Err-clause-same : goal.map_struct-returns-in-Err-clause-same
-map_struct-returns-in-Err-clause-same g t c =
+pub map_struct-returns-in-Err-clause-level : goal.map_struct-returns-in-Err-clause-level
+map_struct-returns-in-Err-clause-level g t c =
     let opened = c.open_level.ensures.levels c.args.nodes.now in
-    c.drop_level.ensures.levels c.args.nodes.now ∙ c.in-Err.ensures.level.outer ∙ ap outer_of opened
+    record { same = c.drop_level.ensures.levels c.args.nodes.now ∙ c.in-Err.ensures.level.outer ∙ ap outer_of opened; depth = search rules }
 
 pub map_struct-returns-in-Ok-clause-is : goal.map_struct-returns-in-Ok-clause-is
 map_struct-returns-in-Ok-clause-is g t c =
@@ -178,10 +180,10 @@ map_union-returns-in_err-tick-clause-is g t c =
 pub map_union-drop_level-requires : goal.map_union-drop_level-requires
 map_union-drop_level-requires g t c = omega (arith, c.in-Err.ensures.level.depth, c.open_level.ensures.depth)
 
-pub map_union-returns-in-Err-clause-same : goal.map_union-returns-in-Err-clause-same
-map_union-returns-in-Err-clause-same g t c =
+pub map_union-returns-in-Err-clause-level : goal.map_union-returns-in-Err-clause-level
+map_union-returns-in-Err-clause-level g t c =
     let opened = c.open_level.ensures.levels c.args.nodes.now in
-    c.drop_level.ensures.levels c.args.nodes.now ∙ c.in-Err.ensures.level.outer ∙ ap outer_of opened
+    record { same = c.drop_level.ensures.levels c.args.nodes.now ∙ c.in-Err.ensures.level.outer ∙ ap outer_of opened; depth = search rules }
 
 pub map_union-returns-in-Ok-clause-is : goal.map_union-returns-in-Ok-clause-is
 map_union-returns-in-Ok-clause-is g t c =
@@ -215,15 +217,15 @@ map_array-drop_level-requires g t c =
           rw w.store-is (omega (arith, stays.depth, c.open_level.ensures.depth))
     ]
 
-pub map_array-returns-in-Err-clause-same : goal.map_array-returns-in-Err-clause-same
-map_array-returns-in-Err-clause-same g t c =
+pub map_array-returns-in-Err-clause-level : goal.map_array-returns-in-Err-clause-level
+map_array-returns-in-Err-clause-level g t c =
     let opened = c.open_level.ensures.levels c.args.nodes.now in
     let outer : outer_of (levels c.args.nodes.now c.match-packed_as.store) ≡ outer_of (levels c.args.nodes.now c.open_level.new.self) =
     elim c.match-packed_as.branch [
       | map_array-in-Some w ↦ let stays = rw (sym w.mapped-is ∙ c.in-Err.is) at w.row_body-mapped.ensures.level in rw w.store-is stays.outer
       | map_array-in-None w ↦ let stays = rw (sym w.mapped-is ∙ c.in-Err.is) at w.array_body-mapped.ensures.level in rw w.store-is stays.outer
     ] in
-    c.drop_level.ensures.levels c.args.nodes.now ∙ outer ∙ ap outer_of opened
+    record { same = c.drop_level.ensures.levels c.args.nodes.now ∙ outer ∙ ap outer_of opened; depth = search rules }
 
 pub map_array-returns-in-Ok-clause-is : goal.map_array-returns-in-Ok-clause-is
 map_array-returns-in-Ok-clause-is g t c =
@@ -313,14 +315,14 @@ struct_body-returns-in_err-close_struct-clause-is g t c =
 pub struct_body-returns-in_err-close_struct-clause-level : goal.struct_body-returns-in_err-close_struct-clause-level
 struct_body-returns-in_err-close_struct-clause-level g t c =
     let p = err_from_is_err_and c.from_residual-in_err-close_struct.result c.from_residual-in_err-close_struct.ensures.1 in
-    rw p.1 (regrown_stays c.args.nodes.now _ _ _ c.in_ok-end.ensures.outer c.in_ok-end.ensures.depth c.in_err-close_struct.ensures.err)
+    rw p.1 (regrown_stays c.args.nodes.now _ _ _ c.in_ok-end.ensures.level c.in_err-close_struct.ensures.err)
 
 pub struct_body-returns-clause-is : goal.struct_body-returns-clause-is
 struct_body-returns-clause-is g t c =
     let n = c.note_made.ensures in
     let named = c.requires.names ∙ sym (fields_named (type_of c.args.nodes.now) c.args.fields.now) in
     let closed = rw named at (c.in_ok-close_struct.ensures.ok c.args.nodes.now) in
-    let h = rw c.in_ok-end.ensures.outer at closed in
+    let h = rw c.in_ok-end.ensures.level.outer at closed in
     let room = c.in_ok-close_struct.ensures.room in
     let has = holds_these c.args.nodes.now (room_then c.in_ok-end.ensures.frame.room room) c.in_ok-close_struct.ensures.within closed in
     record { value = _; kept = h; ends = refl; follows = struct_made _ _ _ _ (in_later c.in_ok-end.ensures.frame.room room c.in_ok-end.ensures.is) _ _ has n.steps n.made }
@@ -346,13 +348,13 @@ array_body-returns-in_err-close_array-clause-is g t c =
 pub array_body-returns-in_err-close_array-clause-level : goal.array_body-returns-in_err-close_array-clause-level
 array_body-returns-in_err-close_array-clause-level g t c =
     let p = err_from_is_err_and c.from_residual-in_err-close_array.result c.from_residual-in_err-close_array.ensures.1 in
-    rw p.1 (regrown_stays c.args.nodes.now _ _ _ c.in_ok-end.ensures.outer c.in_ok-end.ensures.depth c.in_err-close_array.ensures.err)
+    rw p.1 (regrown_stays c.args.nodes.now _ _ _ c.in_ok-end.ensures.level c.in_err-close_array.ensures.err)
 
 pub array_body-returns-clause-is : goal.array_body-returns-clause-is
 array_body-returns-clause-is g t c =
     let n = c.note_made.ensures in
     let closed = c.in_ok-close_array.ensures.ok c.args.nodes.now in
-    let h = rw c.in_ok-end.ensures.outer at closed in
+    let h = rw c.in_ok-end.ensures.level.outer at closed in
     let room = c.in_ok-close_array.ensures.room in
     let has = holds_these c.args.nodes.now (room_then c.in_ok-end.ensures.frame.room room) c.in_ok-close_array.ensures.within closed in
     record { value = _; kept = h; ends = refl; follows = array_made _ _ _ _ (in_later c.in_ok-end.ensures.frame.room room c.in_ok-end.ensures.is) has n.steps n.made }
@@ -374,7 +376,7 @@ union_body-returns-in_err-close_union-clause-is g t c =
 pub union_body-returns-in_err-close_union-clause-level : goal.union_body-returns-in_err-close_union-clause-level
 union_body-returns-in_err-close_union-clause-level g t c =
     let p = err_from_is_err_and c.from_residual-in_err-close_union.result c.from_residual-in_err-close_union.ensures.1 in
-    rw p.1 (regrown_stays c.args.nodes.now _ _ _ c.in_ok-index.ensures.outer c.in_ok-index.ensures.depth c.in_err-close_union.ensures.err)
+    rw p.1 (regrown_stays c.args.nodes.now _ _ _ c.in_ok-index.ensures.level c.in_err-close_union.ensures.err)
 
 pub union_body-returns-clause-is : goal.union_body-returns-clause-is
 union_body-returns-clause-is g t c =
@@ -392,8 +394,7 @@ map_fields-loop-field-init g t c = record {
   frame = search rules;
   after = search rules;
   inside = search rules;
-  outer = search rules;
-  depth = search rules;
+  level = search rules;
   so_far = follow_here;
 }
 
@@ -433,7 +434,7 @@ pub map_fields-map_checked-requires : goal.map_fields-map_checked-requires
 map_fields-map_checked-requires g t c =
     let bounded = field_bounded c.args.fields.now c.loop-field.field-index c.field-item.result (omega arith) c.field-item.is in
     let field = of_one (IsFieldOf c.args.nodes.now (level_count c.args.store.now)) c.args.fields.now c.loop-field.field-index c.field-item.result c.requires.fields (omega arith) c.field-item.is in
-    let field = rw (← c.loop-field.invariant.depth) at field in
+    let field = rw (← c.loop-field.invariant.level.depth) at field in
     search rules
 
 pub map_fields-returns-in_err-behind-clause-is : goal.map_fields-returns-in_err-behind-clause-is
@@ -462,9 +463,8 @@ map_fields-returns-in_err-push_absent-clause-is g t c =
     let there_is = rw (c.if-branch.false, c.from-origin.ensures) at there.is in
     rw (p.1, p.2) (follow_on (in_later i.frame.room c.in_err-push_absent.ensures.room i.so_far) (absent_no_room _ _ _ _ _ _ _ _ _ _ _ next (e.limit ∙ i.frame.limit) e.ok e.made there.made there_is (lacks_these i.frame.room (c.in_err-push_absent.ensures.full c.args.nodes.now))))
 
-pub map_fields-returns-in_err-push_absent-clause-outer : goal.map_fields-returns-in_err-push_absent-clause-outer
-map_fields-returns-in_err-push_absent-clause-outer g t c =
-    ap outer_of (regrown-levels c.args.nodes.now _ _ c.in_err-push_absent.ensures.err) ∙ c.loop-field.invariant.outer
+pub map_fields-returns-in_err-push_absent-clause-level : goal.map_fields-returns-in_err-push_absent-clause-level
+map_fields-returns-in_err-push_absent-clause-level g t c = regrown_stays c.args.nodes.now _ _ _ c.loop-field.invariant.level c.in_err-push_absent.ensures.err
 
 pub map_fields-loop-field-preserved : goal.map_fields-loop-field-preserved
 map_fields-loop-field-preserved g t c =
@@ -481,13 +481,11 @@ map_fields-loop-field-preserved g t c =
           let m = w.in_ok-behind.ensures.is in
           let h = rw (i.frame.len, w.ordered.ensures) at m.follows in
           let h = in_world (g.S.Space.view c.args.space.now) (g.S.Space.view c.loop-field.space) i.frame.bytes i.frame.room w.in_ok-behind.ensures.frame.room h in
-          let outer = ap outer_of m.kept ∙ outer_pushed (levels c.args.nodes.now c.loop-field.store) (Some m.value) ∙ i.outer in
           rw (w.space-is, w.meter-is, w.store-is, w.behind-is, w.top-is) (record {
             frame = search rules;
             after = search rules;
             inside = search rules;
-            outer = outer;
-            depth = search rules;
+            level = pushed_stays c.args.nodes.now _ _ _ _ i.level m.kept w.in_ok-behind.ensures.level.depth;
             so_far = rw m.kept (follow_on (in_later i.frame.room w.in_ok-behind.ensures.frame.room i.so_far) (field_goes _ _ _ _ _ _ _ _ _ _ _ next (e.limit ∙ i.frame.limit) e.ok e.made there.made there_is there.limit start.made _ start_is start.limit m.value _ _ m.ends w.max-top.ensures h));
           })
       | map_fields-else-branch+in_ok-push_absent w ↦
@@ -499,8 +497,7 @@ map_fields-loop-field-preserved g t c =
             frame = search rules;
             after = search rules;
             inside = search rules;
-            outer = ap outer_of keeps ∙ outer_pushed (levels c.args.nodes.now c.loop-field.store) None ∙ i.outer;
-            depth = search rules;
+            level = pushed_stays c.args.nodes.now _ _ _ _ i.level keeps w.in_ok-push_absent.ensures.depth;
             so_far = rw keeps (follow_on (in_later i.frame.room room i.so_far) (absent_goes _ _ _ _ _ _ _ _ _ _ _ next (e.limit ∙ i.frame.limit) e.ok e.made there.made there_is has));
           })
     ]
@@ -517,8 +514,7 @@ map_elements-loop-order-init g t c =
       frame = search rules;
       after = search rules;
       inside = search rules;
-      outer = search rules;
-      depth = search rules;
+      level = search rules;
       counted = search rules;
       begins = c.requires.begins;
       so_far = (_, omega (arith, few), follow_here);
@@ -563,8 +559,7 @@ map_elements-loop-order-preserved g t c =
       frame = search rules;
       after = search rules;
       inside = search rules;
-      outer = ap outer_of m.kept ∙ outer_pushed (levels c.args.nodes.now c.loop-order.store) (Some m.value) ∙ i.outer;
-      depth = search rules;
+      level = pushed_stays c.args.nodes.now _ _ _ _ i.level m.kept c.in-Ok.ensures.level.depth;
       counted = omega (arith, i.counted, far);
       begins = λ packing.
           let there = rw c.in-Ok.ensures.frame.room.room at packing in
@@ -583,12 +578,12 @@ map_elements-returns-then-ends-clause-is g t c =
     let h = in_world (g.S.Space.view c.args.space.now) (g.S.Space.view c.loop-order.space) i.frame.bytes i.frame.room c.in-Err.ensures.frame.room h in
     let ends = sym c.ends.ensures ∙ c.if-ends.true in
     let h = element_stopped (makes_row (type_of c.args.nodes.now c.args.element)) c.requires.apart _ h in
-    rw c.in-Err.ensures.same (follow_on (in_later i.frame.room c.in-Err.ensures.frame.room i.so_far.2) (elements_over _ _ _ _ _ _ _ (max 1 (least_width (type_of c.args.nodes.now c.args.element))) _ i.so_far.1 i.inside due (e.limit ∙ i.frame.limit) e.ok e.made _ ends h))
+    rw c.in-Err.ensures.level.same (follow_on (in_later i.frame.room c.in-Err.ensures.frame.room i.so_far.2) (elements_over _ _ _ _ _ _ _ (max 1 (least_width (type_of c.args.nodes.now c.args.element))) _ i.so_far.1 i.inside due (e.limit ∙ i.frame.limit) e.ok e.made _ ends h))
 
 pub map_elements-returns-then-ends-clause-begins : goal.map_elements-returns-then-ends-clause-begins
 map_elements-returns-then-ends-clause-begins g t c = λ packing.
     let there = rw c.in-Err.ensures.frame.room.room at packing in
-    rw c.in-Err.ensures.same (c.loop-order.invariant.begins there)
+    rw c.in-Err.ensures.level.same (c.loop-order.invariant.begins there)
 
 pub map_elements-returns-in-Err-clause-is : goal.map_elements-returns-in-Err-clause-is
 map_elements-returns-in-Err-clause-is g t c =
@@ -675,7 +670,7 @@ map_alternatives-loop-index-preserved g t c =
     let cleared = c.clear_level.ensures.levels c.args.nodes.now in
     record {
       frame = search rules;
-      same = cleared ∙ ap (λ o. [] ∷ o) (c.in-Err.ensures.outer ∙ ap outer_of i.same) ∙ sym c.requires.fresh;
+      same = cleared ∙ ap (λ o. [] ∷ o) (c.in-Err.ensures.level.outer ∙ ap outer_of i.same) ∙ sym c.requires.fresh;
       depth = search rules;
       so_far = follow_on (in_later i.frame.room (room_then c.in-Err.ensures.frame.room c.clear_level.ensures.room) i.so_far) (alternatives_miss _ _ _ _ _ _ _ _ _ next (e.limit ∙ i.frame.limit) e.ok e.made _ (sym c.misses.ensures ∙ c.if-not-misses.false) h);
     }

@@ -3,11 +3,10 @@ use Rattle.pickle_types.specs.Bounds.{least_width}
 use Rattle.pickle_types.specs.Table.{type_of, open_fields, open_parts}
 use Rattle.pickle_map.specs.Calls.{as_fields, as_alternatives, as_elements}
 use Rattle.pickle_map.specs.Follows.{Partly}
-use Rattle.pickle_map.specs.Framed.{Frame, Runs}
+use Rattle.pickle_map.specs.Framed.{Frame, Runs, LevelStays, under_way}
 use Rattle.pickle_map.specs.Row.{BeginsApart}
 use Rattle.mapping_plans.specs.Mapping.{plan, fields_plan, element_plan, elements_plan, alternatives_plan}
 use Rattle.value_store.specs.Slots.{levels, level_count}
-use Rattle.pickle_meaning.specs.Values.{outer_of}
 use Rattle.pickle_map.proofs.Shapes.{fields_bound, parts_bound}
 use Rattle.pickle_map.proofs.mapper.types.+mapping.Given as goal
 
@@ -53,11 +52,10 @@ decreases-map_alternatives g l = 8 * parts_bound l.alternatives.now
 
 abbrev pub invariant-map_fields-loop-field : goal.invariant-map_fields-loop-field
 invariant-map_fields-loop-field g l = record {
-  frame : Frame (g.S.Space.view l.initial.space) (g.S.Space.view l.space) l.initial.meter l.meter l.initial.store l.store 0;
+  frame : Frame (g.S.Space.view l.initial.space) (g.S.Space.view l.space) l.initial.meter l.meter l.initial.store l.store 0 under_way;
   after : l.start ≤ l.top;
   inside : l.top ≤ 8 * (g.S.Space.view l.initial.space).len;
-  outer : outer_of (levels l.nodes l.store) ≡ outer_of (levels l.nodes l.initial.store);
-  depth : level_count l.store ≡ level_count l.initial.store;
+  level : LevelStays l.nodes l.initial.store l.store;
   so_far : Runs (g.S.Space.view l.initial.space) l.initial.meter l.meter l.initial.store l.store
       (as_fields l.pinned l.fields l.order l.start l.nodes (8 * (g.S.Space.view l.initial.space).len) (levels l.nodes l.initial.store))
       (Partly (fields_plan (8 * (g.S.Space.view l.initial.space).len) l.pinned l.start (open_fields (type_of l.nodes) (drop l.field-index l.fields)) l.order (levels l.nodes l.store) l.behind l.top));
@@ -65,7 +63,7 @@ invariant-map_fields-loop-field g l = record {
 
 abbrev pub invariant-map_alternatives-loop-index : goal.invariant-map_alternatives-loop-index
 invariant-map_alternatives-loop-index g l = record {
-  frame : Frame (g.S.Space.view l.initial.space) (g.S.Space.view l.space) l.initial.meter l.meter l.initial.store l.store 0;
+  frame : Frame (g.S.Space.view l.initial.space) (g.S.Space.view l.space) l.initial.meter l.meter l.initial.store l.store 0 under_way;
   same : levels l.nodes l.store ≡ levels l.nodes l.initial.store;
   depth : level_count l.store ≡ level_count l.initial.store;
   so_far : Runs (g.S.Space.view l.initial.space) l.initial.meter l.meter l.initial.store l.store
@@ -78,11 +76,10 @@ decreases-map_elements-loop-order g l = 8 * (g.S.Space.view l.initial.space).len
 
 abbrev pub invariant-map_elements-loop-order : goal.invariant-map_elements-loop-order
 invariant-map_elements-loop-order g l = record {
-  frame : Frame (g.S.Space.view l.initial.space) (g.S.Space.view l.space) l.initial.meter l.meter l.initial.store l.store 0;
+  frame : Frame (g.S.Space.view l.initial.space) (g.S.Space.view l.space) l.initial.meter l.meter l.initial.store l.store 0 under_way;
   after : l.start ≤ l.place;
   inside : l.place ≤ 8 * (g.S.Space.view l.initial.space).len;
-  outer : outer_of (levels l.nodes l.store) ≡ outer_of (levels l.nodes l.initial.store);
-  depth : level_count l.store ≡ level_count l.initial.store;
+  level : LevelStays l.nodes l.initial.store l.store;
   counted : l.count + l.start ≤ l.place;
   begins : BeginsApart l.nodes l.store;
   so_far : (n : ℕ) × (8 * (g.S.Space.view l.initial.space).len < l.place + n * max 1 (least_width (type_of l.nodes l.element))) ×
