@@ -62,22 +62,19 @@ last_bytes-below bs i p most h =
     let is : bytes_number (drop at bs) ≡ slice_index_or bs at 0 + 256 * bytes_number (drop (length bs - i) bs) = ap bytes_number own ∙ ap (λ m. slice_index_or bs at 0 + 256 * bytes_number (drop m bs)) next in
     omega (arith, below, wide, is)
 
--- a number of one byte is that byte
-one_byte : (bs : List ℕ) (i : ℕ) → i < length bs → bytes_number (take 1 (drop (1 * i) bs)) ≡ slice_index bs i
-one_byte bs i p =
-    let e : 1 * i ≡ i = omega arith in
-    let own : drop i bs ≡ slice_index_or bs i 0 ∷ drop (i + 1) bs = drop_more bs i 0 p in
-    let last : slice_index_or bs i 0 + 256 * 0 ≡ slice_index bs i = omega arith in
-    ap (λ m. bytes_number (take 1 (drop m bs))) e ∙ ap (λ xs. bytes_number (take 1 xs)) own ∙ last
-
 pub length-numbers : (w : ℕ) (bs : List ℕ) → length (numbers_in w bs) ≡ length bs / bytes_for w
 length-numbers w bs = length-unpacked (bytes_for w) (length bs / bytes_for w) bs
 
--- a byte for each
-pub length-byte_numbers : (w : ℕ) (bs : List ℕ) → 1 ≤ w → w ≤ 8 → length (numbers_in w bs) ≡ length bs
-length-byte_numbers w bs some most =
+-- numbers of a byte each are these bytes
+pub byte_numbers : (w : ℕ) (bs : List ℕ) → 1 ≤ w → w ≤ 8 → numbers_in w bs ≡ bs
+byte_numbers w bs some most =
     let one : bytes_for w ≡ 1 = omega arith in
-    length-numbers w bs ∙ ap (λ k. length bs / k) one ∙ omega arith
+    let all : length bs / 1 ≡ length bs = omega arith in
+    ap (λ k. unpacked k (length bs / k) bs) one ∙ ap (λ n. unpacked 1 n bs) all ∙ unpacked-bytes bs
+  where
+    unpacked-bytes : (bs : List ℕ) → unpacked 1 (length bs) bs ≡ bs
+    unpacked-bytes [] = refl
+    unpacked-bytes (b ∷ bs) = let last : b + 256 * 0 ≡ b = omega arith in ap (λ n. n ∷ unpacked 1 (length bs) bs) last ∙ ap (λ ns. b ∷ ns) (unpacked-bytes bs)
 
 -- a whole row of k lies below n
 row_within : (n k i : ℕ) → i < n / k → i * k + k ≤ n
@@ -98,20 +95,6 @@ number-at w bs i p =
     let at : k * i ≡ i * k = omega arith in
     let size : k ≡ (i * k + k) - i * k = omega arith in
     unpacked-at k (length bs / k) bs i below ∙ ap (λ m. bytes_number (take k (drop m bs))) at ∙ ap (λ m. bytes_number (take m (drop (i * k) bs))) size
-
-pub byte_within : (w : ℕ) (bs : List ℕ) (i : ℕ) → 1 ≤ w → w ≤ 8 → i < length (numbers_in w bs) → i < length bs
-byte_within w bs i some most p =
-    let one : bytes_for w ≡ 1 = omega arith in
-    let fits : i * bytes_for w + bytes_for w ≤ length bs = number_within w bs i p in
-    let e : i * bytes_for w ≡ i * 1 = ap (λ k. i * k) one in
-    omega (arith, fits, e, one)
-
-pub byte-at : (w : ℕ) (bs : List ℕ) (i : ℕ) → 1 ≤ w → w ≤ 8 → i < length (numbers_in w bs) → slice_index (numbers_in w bs) i ≡ slice_index bs i
-byte-at w bs i some most p =
-    let one : bytes_for w ≡ 1 = omega arith in
-    let below : i < length bs / bytes_for w = omega (arith, p, length-numbers w bs) in
-    unpacked-at (bytes_for w) (length bs / bytes_for w) bs i below
-    ∙ ap (λ k. bytes_number (take k (drop (k * i) bs))) one ∙ one_byte bs i (byte_within w bs i some most p)
 
 label_shape : (names : Names) (s : Slots) (shape : Shape) (c : ℕ) → label_in names s shape c ≡ shape_label names shape (number_of (label_in [] s shape c)) (bytes_of (label_in [] s shape c))
 label_shape names s (Integer w g) c = refl

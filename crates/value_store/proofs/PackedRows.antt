@@ -1,5 +1,5 @@
 -- Arrays of packed numbers under way.
-use Rattle.std.proofs.Common.{◌≡◌, ℕ, ◌+◌, ◌*◌, ◌^◌, ◌<◌, ◌≤◌, Bool, true, false, List, [], ◌∷◌, ◌++◌, Option, Some, None, Result, Ok, Err, OnOk, OnErr, length, take, refl, sym, ◌∙◌, ap, subst, arith, add-one}
+use Rattle.std.proofs.Common.{◌≡◌, ℕ, ◌+◌, ◌*◌, ◌%◌, ◌^◌, ◌<◌, ◌≤◌, pow_mono, Bool, true, false, List, [], ◌∷◌, ◌++◌, Option, Some, None, Result, Ok, Err, OnOk, OnErr, length, take, refl, sym, ◌∙◌, ap, subst, arith, add-one}
 use Rattle.std.specs.Prelude.{All}
 use Rattle.std.specs.Int.{to_le_bytes, w64}
 use Rattle.std.proofs.Math.Nat.{mul-zero, mul-suc, mul-le-mul_left}
@@ -140,6 +140,15 @@ pub own-bytes : (shape : Shape) (width digits count : ℕ) (bytes : List ℕ) �
 own-bytes shape width digits count bytes p same counts is =
     let counted : count ≡ bytes_for (element_width shape) = counts ∙ ap (λ w. bytes_for w) same in
     rw (counted, is) (le_bytes-take (bytes_for (element_width shape)) digits (bytes_for-most (element_width shape) (row-width shape p).1))
+
+-- the only byte of a number of at most 8 bits
+pub own-byte : (shape : Shape) (width digits : ℕ) → IsPacked shape → width ≡ element_width shape → width ≤ 8 → digits < 2 ^ width →
+    digits ∷ [] ≡ number_bytes (bytes_for (element_width shape)) digits
+own-byte shape width digits p same most small =
+    let one : 1 ≡ bytes_for (element_width shape) = omega (arith, same, most, (row-width shape p).0) in
+    let wide : 2 ^ width ≤ 2 ^ 8 = pow_mono {j = 8} most in
+    let own : digits ≡ digits % 256 = omega (arith, small, wide) in
+    ap (λ b. b ∷ []) own ∙ ap (λ k. number_bytes k digits) one
 
 on_ok : {T E A B : Type 0} (r : Result T E) → (A → B) → OnOk r A → OnOk r B
 on_ok (Ok x) f a = f a

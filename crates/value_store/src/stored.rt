@@ -4,7 +4,7 @@ ghost use Rattle.std.specs.Prelude.{◌≡◌, ℕ, ◌+◌, ◌<◌, Some, IfSo
 ghost use Rattle.std.specs.Option.{option_map};
 ghost use Rattle.pickle_types.specs.Sound.{IsSmall};
 ghost use Rattle.pickle_meaning.specs.Values.{label_of, start_of, end_of, members_of, member_count, member_at};
-ghost use Rattle.value_store.specs.Integers.{AreIntegersOf};
+ghost use Rattle.value_store.specs.Integers.{AreIntegersOf, AreBytesOf};
 ghost use Rattle.value_store.specs.Labels.{kind_of, number_of, signed_of, width_of, unit_of, bytes_of, taken_of, name_of, member_name};
 ghost use Rattle.value_store.specs.Names.{Names, title_found, member_found};
 ghost use Rattle.value_store.specs.Lent.{place_value, place_links, place_packed, place_rank, IsPlace, IsShapeOf};
@@ -240,6 +240,23 @@ impl<'a> StoredValue<'a> {
         };
         match self.store.node_at(at).shape {
             Shape::Integers { width, signed } => Some(IntegerType { width, signed }),
+            _ => None,
+        }
+    }
+
+    /// The type of the parts and the bytes that they are, where they are packed integers of a byte each.
+    pub(crate) fn byte_row(&self) -> Option<(IntegerType, &'a [u8])>
+        ensures { (names : Names) → IfSome result (λ row. AreBytesOf row.0 row.1.now (value_of names self.now)) }
+    {
+        let Place::Node(at) = self.place else {
+            return None;
+        };
+        let node = self.store.node_at(at);
+        match node.shape {
+            Shape::Integers { width, signed } if width <= 8 => {
+                let bytes = self.store.text(node.content as usize);
+                Some((IntegerType { width, signed }, bytes))
+            }
             _ => None,
         }
     }

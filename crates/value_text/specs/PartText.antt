@@ -1,9 +1,10 @@
 -- The text of a value in the parts that are written one after the other.
-use Rattle.std.specs.Prelude.{ℕ, Bool, true, List, ◌++◌, codes}
+use Rattle.std.specs.Prelude.{ℕ, Bool, true, false, List, [], ◌∷◌, ◌++◌, codes}
 use Rattle.pickle_types.specs.declared.integer.IntegerType.{IntegerType}
+use Rattle.pickle_meaning.specs.Arithmetic.{with_sign}
 use Rattle.pickle_meaning.specs.Values.{Naming, Label, ArrayLabel, Value, label_of, members_of}
 use Rattle.value_store.specs.Labels.{name_of, width_of, signed_of}
-use Rattle.value_text.specs.ValueText.{value_text, members_text, title_text, name_text, comma}
+use Rattle.value_text.specs.ValueText.{value_text, members_text, integer_text, title_text, name_text, comma}
 
 -- the type of an integer, or of an offset's magnitude
 abbrev pub type_of : Label → IntegerType
@@ -20,6 +21,11 @@ member_text first name value = (comma first ++ name_text name) ++ value_text val
 -- the elements of an array, which have no names
 abbrev pub elements_text : Value → List ℕ
 elements_text value = members_text ArrayLabel 0 true (members_of value)
+
+-- integers of a type whose binary digits are these bytes
+abbrev pub byte_row_text : IntegerType → (first : Bool) → List ℕ → List ℕ
+byte_row_text type first [] = []
+byte_row_text type first (byte ∷ bytes) = (comma first ++ integer_text type (with_sign type byte)) ++ byte_row_text type false bytes
 
 abbrev pub array_text : Value → List ℕ
 array_text value = codes "[" ++ (elements_text value ++ codes "]")

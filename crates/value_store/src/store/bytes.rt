@@ -1,5 +1,5 @@
 //! What is made of bytes: texts, and arrays of packed numbers.
-ghost use Rattle.std.specs.Prelude.{◌≡◌, Some, length, IsTrue, ◌↔◌, OnOk, OnErr};
+ghost use Rattle.std.specs.Prelude.{◌≡◌, [], ◌∷◌, Some, length, IsTrue, ◌↔◌, OnOk, OnErr};
 ghost use Rattle.value_store.specs.Keeping.{HoldsLevels, LacksBytes, IsPushed, CannotPush};
 ghost use Rattle.value_store.specs.Slots.{level_count, with_bytes, with_more, bytes_value, AreBytes, AreSome, MayKeep, HasNoNode, GoesOn, KeepsRoom, Regrown};
 
@@ -59,6 +59,24 @@ impl Store {
     {
         self.room.reserve(&mut self.bytes, more.len())?;
         append(&mut self.bytes, more, self.room);
+        let last = self.texts.len() - 1;
+        self.texts[last] = self.bytes.len();
+        Ok(())
+    }
+
+    // Places one more byte, as `append_bytes` places more: this one without a loop.
+    #[inline(always)]
+    pub(super) fn append_byte(&mut self, shape: Shape, byte: u8) -> Result<(), Memory>
+        requires { GoesOn self.old shape (byte ∷ []) }
+        ensures slots { OnOk result (Regrown (record self.old { slots = with_more (byte ∷ []) self.old.slots }) self.new) }
+        ensures within { OnOk result (HoldsLevels self.new) }
+        ensures err { OnErr result (Regrown self.old self.new) }
+        ensures room { KeepsRoom self.old self.new }
+        ensures depth { level_count self.new ≡ level_count self.old }
+        ensures full { OnErr result (LacksBytes self.old 1) }
+    {
+        self.room.reserve(&mut self.bytes, 1)?;
+        self.bytes.push_reserved(byte);
         let last = self.texts.len() - 1;
         self.texts[last] = self.bytes.len();
         Ok(())

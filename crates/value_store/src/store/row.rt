@@ -47,6 +47,9 @@ impl Store {
         ensures depth { level_count self.new ≡ level_count self.old }
         ensures full { OnErr result (CannotPack self.old shape digits start) }
     {
+        if !first && width <= 8 {
+            return self.append_byte(shape, digits as u8);
+        }
         let bytes = digits.to_le_bytes();
         let own = &bytes[..bytes_for(width)];
         if first {

@@ -40,7 +40,7 @@ impl Store {
         if first {
             self.place_bytes(Shape::Text, start, &[byte])
         } else {
-            self.append_bytes(Shape::Text, &[byte])
+            self.append_byte(Shape::Text, byte)
         }
     }
 

@@ -2,7 +2,7 @@
 
 ghost use Rattle.std.specs.Prelude.{◌≡◌, ◌<◌, IfSome};
 ghost use Rattle.std.specs.Option.{option_map};
-ghost use Rattle.value_store.specs.Integers.{AreIntegersOf};
+ghost use Rattle.value_store.specs.Integers.{AreIntegersOf, AreBytesOf};
 ghost use Rattle.value_store.specs.Lent.{place_links, place_packed};
 ghost use Rattle.pickle_meaning.specs.Values.{members_of, member_count, member_at};
 
@@ -41,6 +41,14 @@ impl<'a> Members<'a> {
         ensures { IfSome result (λ number. AreIntegersOf number (members_of (value_shown (owner_of self.now)))) }
     {
         self.value.stored.row_type()
+    }
+
+    /// The type of the members and their binary digits, where they are the integers of an array, of at most 8 bits each, that are kept
+    /// side by side.
+    pub fn byte_row(&self) -> Option<(IntegerType, &'a [u8])>
+        ensures { IfSome result (λ row. AreBytesOf row.0 row.1.now (value_shown (owner_of self.now))) }
+    {
+        self.value.stored.byte_row()
     }
 
     /// How many there are, absent fields too.

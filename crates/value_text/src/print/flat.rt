@@ -1,13 +1,14 @@
 //! Prints values on one line.
-ghost use Rattle.std.specs.Prelude.{◌++◌, OnOk, OnErr, codes};
+ghost use Rattle.std.specs.Prelude.{◌^◌, ◌<◌, true, ◌++◌, All, OnOk, OnErr, codes};
 ghost use Rattle.std.specs.Option.{option_map};
 ghost use Rattle.value_store.specs.Integers.{AreIntegersOf};
 ghost use Rattle.value_store.specs.Refs.{value_shown};
+ghost use Rattle.pickle_types.specs.Sound.{IsWidth};
 ghost use Rattle.pickle_meaning.specs.Values.{members_of};
 ghost use Rattle.text_forms.specs.Written.{AppendsPart};
 ghost use Rattle.value_text.specs.Gathered.{Gathers};
 ghost use Rattle.value_text.specs.ValueText.{flat_text, value_text, integer_text, comma};
-ghost use Rattle.value_text.specs.PartText.{array_text, elements_text, titled_text, all_members_text, member_text};
+ghost use Rattle.value_text.specs.PartText.{array_text, elements_text, byte_row_text, titled_text, all_members_text, member_text};
 
 use super::line::Line;
 use super::name::{put_comma, put_start, put_title};
@@ -16,6 +17,7 @@ use super::string::put_string;
 use pickle_types::integer::IntegerType;
 use std::io::Write;
 use text_forms::write::WriteFault;
+use value_store::ranges::with_sign;
 use value_store::{Kind, ValueRef};
 
 /// Writes a value and a line feed.
@@ -71,7 +73,11 @@ fn put_elements<W: Write>(w: &mut W, line: &mut Line, value: ValueRef<'_>) -> Re
     ensures ok { OnOk result (Gathers (W.contents w.old) (W.contents w.new) line.old line.new (elements_text (value_shown value.entry))) }
     ensures err { OnErr result (AppendsPart (W.contents w.old) (W.contents w.new) (line.old ++ elements_text (value_shown value.entry))) }
 {
-    match value.members().row_type() {
+    let elements = value.members();
+    if let Some((number, bytes)) = elements.byte_row() {
+        return put_byte_row(w, line, number, bytes);
+    }
+    match elements.row_type() {
         Some(number) => put_row(w, line, value, number),
         None => put_each(w, line, value),
     }
@@ -112,6 +118,26 @@ fn put_row<W: Write>(
             put_item(w, line, first, number, element.number())?;
             first = false;
         }
+    }
+    Ok(())
+}
+
+// Writes elements from their binary digits, a byte each.
+fn put_byte_row<W: Write>(
+    w: &mut W,
+    line: &mut Line,
+    number: IntegerType,
+    bytes: &[u8],
+) -> Result<(), WriteFault>
+    requires width { IsWidth number }
+    requires below { All (λ byte. byte < 2 ^ number.width) bytes.now }
+    ensures ok { OnOk result (Gathers (W.contents w.old) (W.contents w.new) line.old line.new (byte_row_text number true bytes.now)) }
+    ensures err { OnErr result (AppendsPart (W.contents w.old) (W.contents w.new) (line.old ++ byte_row_text number true bytes.now)) }
+{
+    let mut first = true;
+    for byte in bytes {
+        put_item(w, line, first, number, with_sign(number, u64::from(*byte)))?;
+        first = false;
     }
     Ok(())
 }

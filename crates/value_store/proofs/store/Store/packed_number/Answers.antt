@@ -1,19 +1,18 @@
 use Rattle.std.proofs.Common.{◌≡◌, ◌+◌, ◌*◌, ◌<◌, ◌≤◌, length, slice_index, subst, sym, ap, ◌∙◌, arith, rules}
 use Rattle.value_store.specs.Packed.{numbers_in}
-use Rattle.value_store.proofs.Lent.{number_within, number-at, byte-at, byte_within}
+use Rattle.value_store.proofs.Lent.{number_within, number-at, byte_numbers}
 use Rattle.value_store.proofs.store.Store.packed_number.Goals as goal
 
 pub bounds-bytes-i : goal.bounds-bytes-i
 bounds-bytes-i c =
     let within = subst (λ bs. c.args.i < length (numbers_in c.args.width bs)) (sym c.text-bytes.ensures) c.requires.within in
-    byte_within c.args.width c.text-bytes.result.now c.args.i c.requires.width.0 c.if-width-le8.true within
+    subst (λ ns. c.args.i < length ns) (byte_numbers c.args.width c.text-bytes.result.now c.requires.width.0 c.if-width-le8.true) within
 
 pub returns-then-width-le8 : goal.returns-then-width-le8
 returns-then-width-le8 c =
-    let within = subst (λ bs. c.args.i < length (numbers_in c.args.width bs)) (sym c.text-bytes.ensures) c.requires.within in
-    let own = byte-at c.args.width c.text-bytes.result.now c.args.i c.requires.width.0 c.if-width-le8.true within in
+    let own = byte_numbers c.args.width c.text-bytes.result.now c.requires.width.0 c.if-width-le8.true in
     let got : c.from.result ≡ slice_index c.text-bytes.result.now c.args.i = search rules in
-    got ∙ sym own ∙ ap (λ bs. slice_index (numbers_in c.args.width bs) c.args.i) c.text-bytes.ensures
+    got ∙ ap (λ ns. slice_index ns c.args.i) (sym own) ∙ ap (λ bs. slice_index (numbers_in c.args.width bs) c.args.i) c.text-bytes.ensures
 
 pub overflow_mul-first : goal.overflow_mul-first
 overflow_mul-first c =

@@ -21,14 +21,14 @@ returns-then-first-clause-full c =
 pub returns-else-first-clause-writes : goal.returns-else-first-clause-writes
 returns-else-first-clause-writes c =
     let stale : HasNoNode c.args.self.now → ⊥ = search rules in
-    stale-writes c.append_bytes.result c.args.self.now c.append_bytes.new.self c.args.byte c.args.start stale c.append_bytes.ensures.slots
+    stale-writes c.append_byte.result c.args.self.now c.append_byte.new.self c.args.byte c.args.start stale c.append_byte.ensures.slots
 
 pub returns-else-first-clause-levels : goal.returns-else-first-clause-levels
 returns-else-first-clause-levels c =
     let stale : HasNoNode c.args.self.now → ⊥ = search rules in
-    stale-clause c.append_bytes.result c.args.self.now c.append_bytes.new.self c.args.byte c.args.start stale c.append_bytes.ensures.slots
+    stale-clause c.append_byte.result c.args.self.now c.append_byte.new.self c.args.byte c.args.start stale c.append_byte.ensures.slots
 
 pub returns-else-first-clause-full : goal.returns-else-first-clause-full
 returns-else-first-clause-full c =
     let stale : HasNoNode c.args.self.now → ⊥ = search rules in
-    stale-full c.append_bytes.result c.args.self.now c.append_bytes.new.self c.args.byte c.args.start stale c.append_bytes.ensures.full
+    stale-full c.append_byte.result c.args.self.now c.append_byte.new.self c.args.byte c.args.start stale c.append_byte.ensures.full

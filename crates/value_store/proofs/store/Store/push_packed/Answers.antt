@@ -1,6 +1,6 @@
-use Rattle.std.proofs.Common.{rules, ◌<◌, ◌^◌, length, sym, subst}
+use Rattle.std.proofs.Common.{rules, ◌<◌, ◌^◌, length, [], ◌∷◌, sym, subst}
 use Rattle.value_store.specs.Slots.{HasNoNode, AreBytes, AreSome, GoesOn, element_width}
-use Rattle.value_store.proofs.PackedRows.{own-bytes, one-are, one-some, stale-row, fresh-packs, stale-packs, packs-within, fresh-cannot, stale-cannot}
+use Rattle.value_store.proofs.PackedRows.{own-byte, own-bytes, one-are, one-some, stale-row, fresh-packs, stale-packs, packs-within, fresh-cannot, stale-cannot}
 use Rattle.value_store.proofs.store.Store.push_packed.Goals as goal
 
 pub place_bytes-requires-clause-are : goal.place_bytes-requires-clause-are
@@ -61,3 +61,30 @@ returns-else-first-clause-full c =
     let own = own-bytes c.args.shape c.args.width c.args.digits c.bytes_for.result c.to_le_bytes-bytes.result c.requires.packed c.requires.width c.bytes_for.ensures c.to_le_bytes-bytes.ensures in
     let stale : HasNoNode c.args.self.now → ⊥ = search rules in
     stale-cannot c.append_bytes.result c.args.self.now c.args.shape c.args.digits c.args.start _ c.requires.packed own stale c.append_bytes.ensures.full
+
+pub append_byte-requires : goal.append_byte-requires
+append_byte-requires c =
+    let own = own-byte c.args.shape c.args.width c.args.digits c.requires.packed c.requires.width c.if-width-le8.true c.requires.below in
+    let small : c.args.digits < 2 ^ element_width c.args.shape = subst (λ m. c.args.digits < 2 ^ m) c.requires.width c.requires.below in
+    let stale : HasNoNode c.args.self.now → ⊥ = search rules in
+    let t = c.requires.takes in
+    subst (λ bs. GoesOn c.args.self.now c.args.shape bs) (sym own) (stale-row t.names c.args.self.now c.args.shape c.args.digits t.numbers c.args.start t.outer t.packing c.requires.packed small t.short stale)
+
+pub returns-then-width-le8-clause-ok : goal.returns-then-width-le8-clause-ok
+returns-then-width-le8-clause-ok c =
+    let own = own-byte c.args.shape c.args.width c.args.digits c.requires.packed c.requires.width c.if-width-le8.true c.requires.below in
+    let stale : HasNoNode c.args.self.now → ⊥ = search rules in
+    stale-packs c.args.self.now c.append_byte.new.self c.args.shape c.args.width c.args.digits c.args.start _ c.requires.packed c.requires.width c.requires.below own c.append_byte.result stale c.append_byte.ensures.slots
+
+pub returns-then-width-le8-clause-within : goal.returns-then-width-le8-clause-within
+returns-then-width-le8-clause-within c =
+    let own = own-byte c.args.shape c.args.width c.args.digits c.requires.packed c.requires.width c.if-width-le8.true c.requires.below in
+    let stale : HasNoNode c.args.self.now → ⊥ = search rules in
+    let packing = stale-packs c.args.self.now c.append_byte.new.self c.args.shape c.args.width c.args.digits c.args.start _ c.requires.packed c.requires.width c.requires.below own c.append_byte.result stale c.append_byte.ensures.slots in
+    packs-within c.append_byte.result c.args.self.now c.append_byte.new.self c.args.shape c.args.digits c.args.start c.requires.packed packing c.append_byte.ensures.within
+
+pub returns-then-width-le8-clause-full : goal.returns-then-width-le8-clause-full
+returns-then-width-le8-clause-full c =
+    let own = own-byte c.args.shape c.args.width c.args.digits c.requires.packed c.requires.width c.if-width-le8.true c.requires.below in
+    let stale : HasNoNode c.args.self.now → ⊥ = search rules in
+    stale-cannot c.append_byte.result c.args.self.now c.args.shape c.args.digits c.args.start _ c.requires.packed own stale c.append_byte.ensures.full

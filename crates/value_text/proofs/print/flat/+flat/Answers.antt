@@ -1,12 +1,16 @@
-use Rattle.std.proofs.Common.{◌≡◌, codes, arith, subst, Some, None}
+use Rattle.std.proofs.Common.{◌≡◌, ◌++◌, codes, arith, subst, Some, None, OnOk, OnErr}
 use Rattle.std.proofs.lemmas.Result.{err_from_is_err_and}
 use Rattle.pickle_meaning.specs.Values.{ArrayLabel, label_of, members_of, member_at, member_count}
+use Rattle.value_store.specs.Integers.{AreBytesOf}
 use Rattle.value_store.specs.Labels.{name_of, member_name}
 use Rattle.value_store.specs.Refs.{value_shown}
+use Rattle.text_forms.specs.Written.{AppendsPart}
+use Rattle.value_text.specs.Gathered.{Gathers}
 use Rattle.value_text.specs.ValueText.{title_text}
 use Rattle.value_text.specs.PartText.{all_members_text, elements_text, member_text}
 use Rattle.value_text.proofs.Gathered.{gathers_next, cut_first, cut_next, told_more, told_cut}
 use Rattle.value_text.proofs.MemberTexts.{told_present, told_absent, told_end}
+use Rattle.value_text.proofs.RowTexts.{byte_row}
 use Rattle.value_text.proofs.print.flat.+flat.Goals.{put_members-in-Some+in_ok-put_member, put_members-in_default, put_each-in-Some+in_ok-put_member, put_each-in_default}
 use Rattle.value_text.proofs.print.flat.+flat.Goals as goal
 
@@ -127,3 +131,13 @@ pub put_each-returns-clause-ok : goal.put_each-returns-clause-ok
 put_each-returns-clause-ok g t c =
     let len : c.len-place-end.result ≡ member_count (members_of (value_shown c.args.value)) = subst (λ v. c.len-place-end.result ≡ member_count (members_of (value_shown v))) c.members-elements.ensures c.len-place-end.ensures in
     told_end _ _ _ _ (ArrayLabel) (members_of (value_shown c.args.value)) c.loop-place.first c.loop-place.place _ (omega (arith, len, c.loop-place-test.false)) c.loop-place.invariant
+
+pub put_elements-returns-in-Some-clause-ok : goal.put_elements-returns-in-Some-clause-ok
+put_elements-returns-in-Some-clause-ok g t c =
+    let are : AreBytesOf c.in-Some.number c.in-Some.bytes.now (value_shown c.args.value) = subst (λ v. AreBytesOf c.in-Some.number c.in-Some.bytes.now (value_shown v)) c.members-elements.ensures c.in-Some.ensures in
+    subst (λ text. OnOk c.put_byte_row.result (Gathers (g.W.Write.contents c.args.w.now) (g.W.Write.contents c.put_byte_row.new.w) c.args.line.now c.put_byte_row.new.line text)) (byte_row _ _ _ are) c.put_byte_row.ensures.ok
+
+pub put_elements-returns-in-Some-clause-err : goal.put_elements-returns-in-Some-clause-err
+put_elements-returns-in-Some-clause-err g t c =
+    let are : AreBytesOf c.in-Some.number c.in-Some.bytes.now (value_shown c.args.value) = subst (λ v. AreBytesOf c.in-Some.number c.in-Some.bytes.now (value_shown v)) c.members-elements.ensures c.in-Some.ensures in
+    subst (λ text. OnErr c.put_byte_row.result (AppendsPart (g.W.Write.contents c.args.w.now) (g.W.Write.contents c.put_byte_row.new.w) (c.args.line.now ++ text))) (byte_row _ _ _ are) c.put_byte_row.ensures.err

@@ -1,0 +1,54 @@
+use Rattle.std.proofs.Common.{rules, [], ◌∷◌, ap, subst, sym, arith}
+use Rattle.std.specs.Prelude.{vec_capacity}
+use Rattle.value_store.specs.Keeping.{LacksBytes}
+use Rattle.value_store.specs.Slots.{Slots, Held, GoesOn}
+use Rattle.value_store.specs.contracts.store.Store.{the_view}
+use Rattle.value_store.proofs.Fits.{held-levels}
+use Rattle.value_store.proofs.Held.{refused}
+use Rattle.value_store.proofs.Writing.{more-frames, more-placed}
+use Rattle.value_store.proofs.store.Store.append_byte.Goals as goal
+
+pub invariant_of-self-2 : goal.invariant_of-self-2
+invariant_of-self-2 c =
+    let h = the_view c.self.inside in
+    let more = c.args.byte ∷ [] in
+    let g : GoesOn h c.args.shape more = subst (λ (h : Held). GoesOn h c.args.shape more) (sym c.self.view_is) c.requires in
+    let e = more-placed h c.args.shape more c.len-last.result c.len.result c.push_reserved.new.self.items g (search rules) (search rules) (search rules) in
+    record {
+      levels = rw e (more-frames g.names h c.args.shape g.bytes g.start g.outer g.filling g.some more g.are);
+      nodes = search rules;
+      families = search rules;
+      links = search rules;
+      pending = search rules;
+      texts = search rules;
+      bytes = search rules;
+      fixed = λ e. let f = c.self.invariant.fixed e in record {
+        nodes = f.nodes;
+        families = f.families;
+        links = f.links;
+        pending = f.pending;
+        texts = f.texts;
+        bytes = omega (arith, f.bytes, c.reserve.ensures.fixed e, c.push_reserved.ensures.capacity);
+      };
+    }
+
+pub returns-clause-slots : goal.returns-clause-slots
+returns-clause-slots c =
+    let h = the_view c.self.inside in
+    let more = c.args.byte ∷ [] in
+    let g : GoesOn h c.args.shape more = subst (λ (h : Held). GoesOn h c.args.shape more) (sym c.self.view_is) c.requires in
+    let e = more-placed h c.args.shape more c.len-last.result c.len.result c.push_reserved.new.self.items g (search rules) (search rules) (search rules) in
+    rw (← c.self.view_is) (ap (λ (x : Slots). record { slots = x; frames = h.frames; room = h.room; capacity = record { nodes = h.capacity.nodes; families = h.capacity.families; links = h.capacity.links; pending = h.capacity.pending; texts = h.capacity.texts; bytes = vec_capacity c.push_reserved.new.self } }) e)
+
+pub returns-in_err-reserve-clause-full : goal.returns-in_err-reserve-clause-full
+returns-in_err-reserve-clause-full c =
+    let lacks : LacksBytes (the_view c.self.inside) 1 = (c.self.invariant.bytes, omega (arith, c.in_err-reserve.ensures.full)) in
+    rw (← c.self.view_is) (refused c.from_residual.result lacks)
+
+pub returns-clause-within : goal.returns-clause-within
+returns-clause-within c =
+    let h = the_view c.self.inside in
+    let more = c.args.byte ∷ [] in
+    let g : GoesOn h c.args.shape more = subst (λ (h : Held). GoesOn h c.args.shape more) (sym c.self.view_is) c.requires in
+    let e = more-placed h c.args.shape more c.len-last.result c.len.result c.push_reserved.new.self.items g (search rules) (search rules) (search rules) in
+    held-levels _ (rw e (more-frames g.names h c.args.shape g.bytes g.start g.outer g.filling g.some more g.are)) (search rules)
