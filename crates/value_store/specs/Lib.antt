@@ -6,6 +6,7 @@ pub mod Links
 pub mod Packed
 pub mod Slots
 pub mod Names
+pub mod MemberNames
 pub mod Refs
 pub mod Linked
 pub mod Lent

@@ -1,12 +1,13 @@
 -- The names that the types of a table give to their values.
-use Rattle.std.specs.Prelude.{ℕ, zero, suc, map, List, [], Option, Some, None, slice_get, unwrap_or}
+use Rattle.std.specs.Prelude.{◌≡◌, ℕ, zero, suc, map, List, [], Option, Some, None, slice_get, unwrap_or}
 use Rattle.pickle_types.specs.declared.node.Field.{Field}
 use Rattle.pickle_types.specs.declared.node.Part.{Part}
 use Rattle.pickle_types.specs.declared.node.Shape.{Shape}
 use Rattle.pickle_types.specs.declared.node.Shape.TheVariants as shape
 use Rattle.pickle_types.specs.declared.node.Node.{Node}
 use Rattle.pickle_types.specs.Table.{name_of}
-use Rattle.pickle_meaning.specs.Values.{Naming}
+use Rattle.pickle_meaning.specs.Values.{Naming, Value, label_of}
+use Rattle.value_store.specs.Labels.{taken_of, member_name}
 
 -- where names are looked up: the types of a table
 abbrev pub Names : Type 0
@@ -66,3 +67,7 @@ member_found names None taken i = None
 member_found names (Some of) None i = name_at names of i
 member_found names (Some of) (Some taken) zero = name_at names of taken
 member_found names (Some of) (Some taken) (suc i) = None
+
+-- the type at an index, where there is one, names the members of a value
+abbrev pub NamesMembers : (of : Option ℕ) → (Names → Value) → Type 0
+NamesMembers of value = (names : Names) (i : ℕ) → let l = label_of (value names) in member_found names of (taken_of l) i ≡ member_name l i

@@ -1,8 +1,9 @@
 //! The names that a table has for types, fields and alternatives.
 
-ghost use Rattle.std.specs.Prelude.{◌≡◌, None, slice_get, unwrap_or};
+ghost use Rattle.std.specs.Prelude.{◌≡◌, ℕ, None, slice_get, unwrap_or};
 ghost use Rattle.std.specs.Option.{option_map};
 ghost use Rattle.pickle_types.specs.Table.{name_of};
+ghost use Rattle.value_store.specs.MemberNames.{name_among};
 ghost use Rattle.value_store.specs.Names.{shape_title, shape_names, title_at, name_at, field_name, part_name};
 
 use pickle_types::view::{Field, Name, Node, Part, Shape};
@@ -17,13 +18,38 @@ pub fn title(nodes: &[Node], of: u32) -> Option<&[u8]>
     }
 }
 
-/// The name of the field or alternative at a place of the type at an index.
-pub fn part_name(nodes: &[Node], of: u32, place: usize) -> Option<&[u8]>
-    ensures { option_map (λ name. name.now) result ≡ name_at nodes.now of place }
+/// The names of a value's members, which are looked up once for all of them.
+#[derive(Clone, Copy)]
+pub enum MemberNames<'a> {
+    Nameless,
+    Fields(&'a [Field]),
+    Parts(&'a [Part]),
+    /// That of the alternative that a union took.
+    Only(Option<&'a [u8]>),
+}
+
+impl<'a> MemberNames<'a> {
+    /// The name of the member at a place, where it has one.
+    #[inline(always)]
+    pub fn get(&self, place: usize) -> Option<&'a [u8]>
+        ensures { option_map (λ name. name.now) result ≡ name_among self.now place }
+    {
+        match *self {
+            MemberNames::Fields(fields) => name_of_field(fields, place),
+            MemberNames::Parts(parts) => name_of_part(parts, place),
+            MemberNames::Only(name) if place == 0 => name,
+            MemberNames::Only(_) | MemberNames::Nameless => None,
+        }
+    }
+}
+
+/// The names of the fields or alternatives of the type at an index.
+pub fn part_names(nodes: &[Node], of: u32) -> MemberNames<'_>
+    ensures { (place : ℕ) → name_among result place ≡ name_at nodes.now of place }
 {
     match nodes.get(of as usize) {
-        Some(node) => name_in(&node.shape, place),
-        None => None,
+        Some(node) => names_in(&node.shape),
+        None => MemberNames::Nameless,
     }
 }
 
@@ -39,14 +65,16 @@ fn shape_title(shape: &Shape) -> Option<&[u8]>
 }
 
 #[tactic(auto, using(crate::proofs::Naming::names_mapped))]
-fn name_in(shape: &Shape, place: usize) -> Option<&[u8]>
-    ensures { option_map (λ name. name.now) result ≡ unwrap_or (slice_get (shape_names shape.now) place) None }
+fn names_in(shape: &Shape) -> MemberNames<'_>
+    ensures { (place : ℕ) → name_among result place ≡ unwrap_or (slice_get (shape_names shape.now) place) None }
 {
     match shape {
-        Shape::Struct { fields, .. } => name_of_field(fields, place),
-        Shape::Integral { fields, .. } => name_of_part(fields, place),
-        Shape::Union { alternatives, .. } => name_of_part(alternatives, place),
-        Shape::Integer(_) | Shape::Offset(_, _) | Shape::String | Shape::Array(_, _) => None,
+        Shape::Struct { fields, .. } => MemberNames::Fields(fields),
+        Shape::Integral { fields, .. } => MemberNames::Parts(fields),
+        Shape::Union { alternatives, .. } => MemberNames::Parts(alternatives),
+        Shape::Integer(_) | Shape::Offset(_, _) | Shape::String | Shape::Array(_, _) => {
+            MemberNames::Nameless
+        }
     }
 }
 

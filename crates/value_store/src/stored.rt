@@ -5,8 +5,8 @@ ghost use Rattle.std.specs.Option.{option_map};
 ghost use Rattle.pickle_types.specs.Sound.{IsSmall};
 ghost use Rattle.pickle_meaning.specs.Values.{label_of, start_of, end_of, members_of, member_count, member_at};
 ghost use Rattle.value_store.specs.Integers.{AreIntegersOf, AreBytesOf};
-ghost use Rattle.value_store.specs.Labels.{kind_of, number_of, signed_of, width_of, unit_of, bytes_of, taken_of, name_of, member_name};
-ghost use Rattle.value_store.specs.Names.{Names, title_found, member_found};
+ghost use Rattle.value_store.specs.Labels.{kind_of, number_of, signed_of, width_of, unit_of, bytes_of, taken_of, name_of};
+ghost use Rattle.value_store.specs.Names.{Names, NamesMembers, title_found};
 ghost use Rattle.value_store.specs.Lent.{place_value, place_links, place_packed, place_rank, IsPlace, IsShapeOf};
 ghost use Rattle.value_store.specs.Scalars.{scalar_label, scalar_in, IsScalar};
 ghost use Rattle.value_store.specs.Slots.{number_in};
@@ -327,7 +327,7 @@ impl<'a> StoredValue<'a> {
     /// The index of the type that names a struct or a union.
     pub(crate) fn type_index(&self) -> Option<u32>
         ensures title { (names : Names) → title_found names result ≡ name_of (label_of (value_of names self.now)) }
-        ensures members { (names : Names) (i : ℕ) → let l = label_of (value_of names self.now) in member_found names result (taken_of l) i ≡ member_name l i }
+        ensures members { NamesMembers result (λ names. value_of names self.now) }
     {
         match self.shape() {
             Shape::Struct { of } => Some(of),

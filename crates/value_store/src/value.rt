@@ -1,13 +1,14 @@
 //! References to values with the names of their types.
 
-ghost use Rattle.std.specs.Prelude.{◌≡◌, ◌<◌, ◌-◌, IfSome};
+ghost use Rattle.std.specs.Prelude.{◌≡◌, ℕ, ◌<◌, ◌-◌, IfSome};
 ghost use Rattle.std.specs.Option.{option_map};
 ghost use Rattle.pickle_meaning.specs.Values.{label_of, start_of, end_of, members_of, member_count, member_at};
 ghost use Rattle.value_store.specs.Labels.{kind_of, number_of, signed_of, width_of, unit_of, bytes_of, name_of, member_name};
+ghost use Rattle.value_store.specs.MemberNames.{name_among};
 
 mod members;
 
-use crate::names::{part_name, title};
+use crate::names::{MemberNames, part_names, title};
 use crate::stored::StoredValue;
 pub use members::Members;
 use pickle_types::view::Node;
@@ -133,20 +134,27 @@ impl<'a> ValueRef<'a> {
         }
     }
 
+    /// The names of the members, looked up once for all of them: [`MemberNames::get`] gives what [`ValueRef::field_name`] does.
+    pub fn member_names(&self) -> MemberNames<'a>
+        ensures { (place : ℕ) → name_among result place ≡ member_name (label_of (value_shown self.now)) place }
+    {
+        let of = match self.stored.type_index() {
+            Some(of) => of,
+            None => return MemberNames::Nameless,
+        };
+        let names = part_names(self.nodes, of);
+        match self.stored.taken() {
+            None => names,
+            Some(taken) => MemberNames::Only(names.get(usize::from(taken))),
+        }
+    }
+
     /// The name of the field at a place of a struct, of the alternative taken at place 0 of a union; nothing for nameless
     /// fields, for elements and past the end.
     #[inline(always)]
     pub fn field_name(&self, i: usize) -> Option<&'a [u8]>
         ensures { option_map (λ name. name.now) result ≡ member_name (label_of (value_shown self.now)) i }
     {
-        let of = match self.stored.type_index() {
-            Some(of) => of,
-            None => return None,
-        };
-        match self.stored.taken() {
-            None => part_name(self.nodes, of, i),
-            Some(taken) if i == 0 => part_name(self.nodes, of, usize::from(taken)),
-            Some(_) => None,
-        }
+        self.member_names().get(i)
     }
 }

@@ -9,8 +9,8 @@ use Rattle.value_text.specs.Gathered.{Gathers}
 use Rattle.value_text.specs.ValueText.{integer_text, offset_text, string_text, title_text, name_text}
 use Rattle.value_text.specs.PartText.{type_of}
 use Rattle.text_forms.specs.Brackets.{in_brackets}
-use Rattle.value_text.specs.TreeText.{indent_text, prefix_text, head_text, has_parts, lines_text, parts_text, tree_text}
-use Rattle.value_text.specs.LineText.{rest_text, below_text, part_text}
+use Rattle.value_text.specs.TreeText.{indent_text, prefix_text, head_text, lines_text, parts_text, tree_text}
+use Rattle.value_text.specs.LineText.{rest_text, part_text}
 use Rattle.value_text.proofs.Gathered.{Told, told_all}
 use Rattle.value_text.proofs.MemberTexts.{members_from, with_member, from_at, from_end}
 

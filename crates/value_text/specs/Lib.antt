@@ -17,3 +17,4 @@ pub mod Json
 pub mod JsonValue
 pub mod SmallParts
 pub mod Laws
+pub mod Lent

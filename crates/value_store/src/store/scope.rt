@@ -3,6 +3,7 @@
 ghost use Rattle.std.specs.Prelude.{◌≡◌, ℕ, ◌<◌, ◌≤◌, None, length, slice_get, unwrap_or, IfSome};
 ghost use Rattle.std.specs.Option.{option_map};
 ghost use Rattle.pickle_meaning.specs.Values.{level_at, value_at};
+ghost use Rattle.value_store.specs.Linked.{AreLinksAt};
 ghost use Rattle.value_store.specs.Names.{Names};
 ghost use Rattle.value_store.specs.Slots.{levels, marks_at, level_end, value_at as node_value};
 
@@ -43,7 +44,7 @@ impl Store {
 
     // The links of the parts of an open value.
     fn level_links(&self, level: usize) -> &[Link]
-        ensures parts { (names : Names) (i : ℕ) → option_map (node_value names self.now.slots) (unwrap_or (slice_get result.now i) None) ≡ value_at (levels names self.now) level i }
+        ensures parts { AreLinksAt self.now level result.now }
         ensures below { (i : ℕ) → IfSome (unwrap_or (slice_get result.now i) None) (λ j. j < length self.now.slots.nodes) }
         ensures count { (names : Names) → length result.now ≡ length (level_at (levels names self.now) level) }
     {

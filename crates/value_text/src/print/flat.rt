@@ -1,6 +1,5 @@
 //! Prints values on one line.
 ghost use Rattle.std.specs.Prelude.{◌^◌, ◌<◌, true, ◌++◌, All, OnOk, OnErr, codes};
-ghost use Rattle.std.specs.Option.{option_map};
 ghost use Rattle.value_store.specs.Integers.{AreIntegersOf};
 ghost use Rattle.value_store.specs.Refs.{value_shown};
 ghost use Rattle.pickle_types.specs.Sound.{IsWidth};
@@ -8,7 +7,8 @@ ghost use Rattle.pickle_meaning.specs.Values.{members_of};
 ghost use Rattle.text_forms.specs.Written.{AppendsPart};
 ghost use Rattle.value_text.specs.Gathered.{Gathers};
 ghost use Rattle.value_text.specs.ValueText.{flat_text, value_text, integer_text, comma};
-ghost use Rattle.value_text.specs.PartText.{array_text, elements_text, byte_row_text, titled_text, all_members_text, member_text};
+ghost use Rattle.value_text.specs.PartText.{array_text, elements_text, byte_row_text, titled_text, all_members_text};
+ghost use Rattle.value_text.specs.Lent.{lent_member};
 
 use super::line::Line;
 use super::name::{put_comma, put_start, put_title};
@@ -186,10 +186,11 @@ fn put_members<W: Write>(w: &mut W, line: &mut Line, value: ValueRef<'_>) -> Res
     ensures err { OnErr result (AppendsPart (W.contents w.old) (W.contents w.new) (line.old ++ all_members_text (value_shown value.entry))) }
 {
     let members = value.members();
+    let names = value.member_names();
     let mut first = true;
     for place in 0..members.len() {
         if let Some(member) = members.get(place) {
-            put_member(w, line, first, value.field_name(place), member)?;
+            put_member(w, line, first, names.get(place), member)?;
             first = false;
         }
     }
@@ -206,8 +207,8 @@ fn put_member<W: Write>(
     name: Option<&[u8]>,
     member: ValueRef<'_>,
 ) -> Result<(), WriteFault>
-    ensures ok { OnOk result (Gathers (W.contents w.old) (W.contents w.new) line.old line.new (member_text first (option_map (λ name. name.now) name.entry) (value_shown member.entry))) }
-    ensures err { OnErr result (AppendsPart (W.contents w.old) (W.contents w.new) (line.old ++ member_text first (option_map (λ name. name.now) name.entry) (value_shown member.entry))) }
+    ensures ok { OnOk result (Gathers (W.contents w.old) (W.contents w.new) line.old line.new (lent_member first name.entry member.entry)) }
+    ensures err { OnErr result (AppendsPart (W.contents w.old) (W.contents w.new) (line.old ++ lent_member first name.entry member.entry)) }
 {
     put_start(w, line, first, name)?;
     put_value(w, line, member)?;

@@ -1,8 +1,8 @@
 //! Prints names.
 ghost use Rattle.std.specs.Prelude.{◌++◌, OnOk, OnErr, codes};
-ghost use Rattle.std.specs.Option.{option_map};
 ghost use Rattle.text_forms.specs.Written.{AppendsPart};
 ghost use Rattle.value_text.specs.Gathered.{Gathers};
+ghost use Rattle.value_text.specs.Lent.{lent_name};
 ghost use Rattle.value_text.specs.ValueText.{title_text, name_text, comma};
 
 use super::bytes::SHORT;
@@ -18,8 +18,8 @@ pub fn put_title<W: Write>(
     sort: &[u8],
     name: Option<&[u8]>,
 ) -> Result<(), WriteFault>
-    ensures ok { OnOk result (Gathers (W.contents w.old) (W.contents w.new) line.old line.new (title_text sort.now (option_map (λ name. name.now) name.entry))) }
-    ensures err { OnErr result (AppendsPart (W.contents w.old) (W.contents w.new) (line.old ++ title_text sort.now (option_map (λ name. name.now) name.entry))) }
+    ensures ok { OnOk result (Gathers (W.contents w.old) (W.contents w.new) line.old line.new (title_text sort.now (lent_name name.entry))) }
+    ensures err { OnErr result (AppendsPart (W.contents w.old) (W.contents w.new) (line.old ++ title_text sort.now (lent_name name.entry))) }
 {
     match name {
         Some(name) => line.put_word(w, name),
@@ -35,8 +35,8 @@ pub fn put_start<W: Write>(
     first: bool,
     name: Option<&[u8]>,
 ) -> Result<(), WriteFault>
-    ensures ok { OnOk result (Gathers (W.contents w.old) (W.contents w.new) line.old line.new (comma first ++ name_text (option_map (λ name. name.now) name.entry))) }
-    ensures err { OnErr result (AppendsPart (W.contents w.old) (W.contents w.new) (line.old ++ (comma first ++ name_text (option_map (λ name. name.now) name.entry)))) }
+    ensures ok { OnOk result (Gathers (W.contents w.old) (W.contents w.new) line.old line.new (comma first ++ name_text (lent_name name.entry))) }
+    ensures err { OnErr result (AppendsPart (W.contents w.old) (W.contents w.new) (line.old ++ (comma first ++ name_text (lent_name name.entry)))) }
 {
     match name {
         Some(name) => put_name(w, line, first, name),

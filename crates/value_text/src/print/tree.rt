@@ -1,14 +1,13 @@
 //! Prints values over lines, one for each value.
 ghost use Rattle.std.specs.Prelude.{◌≡◌, ◌+◌, ◌^◌, ◌≤◌, ◌++◌, OnOk, OnErr, codes};
-ghost use Rattle.std.specs.Option.{option_map};
-ghost use Rattle.pickle_meaning.specs.Values.{label_of};
 ghost use Rattle.value_store.specs.Refs.{value_shown, rank_of};
 ghost use Rattle.text_forms.specs.Written.{AppendsPart};
 ghost use Rattle.value_text.specs.Gathered.{Gathers};
 ghost use Rattle.value_text.specs.ValueText.{name_text};
 ghost use Rattle.text_forms.specs.Brackets.{in_brackets};
-ghost use Rattle.value_text.specs.TreeText.{tree_text, indent_text, prefix_text, has_parts};
-ghost use Rattle.value_text.specs.LineText.{head_of, start_text, rest_text, below_text, all_parts_text, part_text};
+ghost use Rattle.value_text.specs.TreeText.{tree_text, indent_text, has_parts};
+ghost use Rattle.value_text.specs.Lent.{lent_prefix, lent_start, lent_part};
+ghost use Rattle.value_text.specs.LineText.{head_of, rest_text, below_text, all_parts_text};
 
 use super::line::Line;
 use super::name::{put_start, put_title};
@@ -134,8 +133,8 @@ fn put_part<W: Write>(
     part: ValueRef<'_>,
 ) -> Result<(), WriteFault>
     requires { level + rank_of part ≤ 2 ^ 64 }
-    ensures ok { OnOk result (Gathers (W.contents w.old) (W.contents w.new) line.old line.new (part_text level (label_of (value_shown value.entry)) place (value_shown part.entry))) }
-    ensures err { OnErr result (AppendsPart (W.contents w.old) (W.contents w.new) (line.old ++ part_text level (label_of (value_shown value.entry)) place (value_shown part.entry))) }
+    ensures ok { OnOk result (Gathers (W.contents w.old) (W.contents w.new) line.old line.new (lent_part level value.entry place part.entry)) }
+    ensures err { OnErr result (AppendsPart (W.contents w.old) (W.contents w.new) (line.old ++ lent_part level value.entry place part.entry)) }
 {
     put_line_start(w, line, level, value, place)?;
     put_rest(w, line, level, part)?;
@@ -152,8 +151,8 @@ fn put_line_start<W: Write>(
     value: ValueRef<'_>,
     place: usize,
 ) -> Result<(), WriteFault>
-    ensures ok { OnOk result (Gathers (W.contents w.old) (W.contents w.new) line.old line.new (start_text level (label_of (value_shown value.entry)) place)) }
-    ensures err { OnErr result (AppendsPart (W.contents w.old) (W.contents w.new) (line.old ++ start_text level (label_of (value_shown value.entry)) place)) }
+    ensures ok { OnOk result (Gathers (W.contents w.old) (W.contents w.new) line.old line.new (lent_start level value.entry place)) }
+    ensures err { OnErr result (AppendsPart (W.contents w.old) (W.contents w.new) (line.old ++ lent_start level value.entry place)) }
 {
     put_indent(w, line, level)?;
     put_prefix(w, line, value, place)?;
@@ -168,8 +167,8 @@ fn put_prefix<W: Write>(
     value: ValueRef<'_>,
     place: usize,
 ) -> Result<(), WriteFault>
-    ensures ok { OnOk result (Gathers (W.contents w.old) (W.contents w.new) line.old line.new (prefix_text (label_of (value_shown value.entry)) place)) }
-    ensures err { OnErr result (AppendsPart (W.contents w.old) (W.contents w.new) (line.old ++ prefix_text (label_of (value_shown value.entry)) place)) }
+    ensures ok { OnOk result (Gathers (W.contents w.old) (W.contents w.new) line.old line.new (lent_prefix value.entry place)) }
+    ensures err { OnErr result (AppendsPart (W.contents w.old) (W.contents w.new) (line.old ++ lent_prefix value.entry place)) }
 {
     match value.kind() {
         Kind::Array => put_place(w, line, place),

@@ -1,4 +1,4 @@
-use Rattle.std.proofs.Common.{rules, ◌<◌, ◌^◌, length, [], ◌∷◌, sym, subst}
+use Rattle.std.proofs.Common.{rules, ◌<◌, ◌^◌, length, sym, subst}
 use Rattle.value_store.specs.Slots.{HasNoNode, AreBytes, AreSome, GoesOn, element_width}
 use Rattle.value_store.proofs.PackedRows.{own-byte, own-bytes, one-are, one-some, stale-row, fresh-packs, stale-packs, packs-within, fresh-cannot, stale-cannot}
 use Rattle.value_store.proofs.store.Store.push_packed.Goals as goal

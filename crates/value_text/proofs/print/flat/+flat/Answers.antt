@@ -1,4 +1,4 @@
-use Rattle.std.proofs.Common.{◌≡◌, ◌++◌, codes, arith, subst, Some, None, OnOk, OnErr}
+use Rattle.std.proofs.Common.{◌≡◌, ◌++◌, ◌∙◌, codes, arith, subst, Some, None, OnOk, OnErr}
 use Rattle.std.proofs.lemmas.Result.{err_from_is_err_and}
 use Rattle.pickle_meaning.specs.Values.{ArrayLabel, label_of, members_of, member_at, member_count}
 use Rattle.value_store.specs.Integers.{AreBytesOf}
@@ -41,7 +41,7 @@ put_members-returns-in_err-put_member-clause-err g t c =
     let i = c.loop-place.place in
     let u = value_shown c.in-Some.member in
     let h = told_present _ _ _ _ l all u c.loop-place.first i _ (omega (arith, len, c.loop-place-test.true)) (subst (λ v. Some (value_shown c.in-Some.member) ≡ member_at (members_of (value_shown v)) i) c.members-members.ensures c.in-Some.ensures.member) c.loop-place.invariant in
-    rw p.1 (told_cut _ _ _ _ _ (member_text c.loop-place.first (member_name l i) u) _ _ h (rw c.field_name.ensures at c.in_err-put_member.ensures.err))
+    rw p.1 (told_cut _ _ _ _ _ (member_text c.loop-place.first (member_name l i) u) _ _ h (rw (c.get-in-Some.ensures ∙ c.member_names-names.ensures i) at c.in_err-put_member.ensures.err))
 
 pub put_members-loop-place-preserved : goal.put_members-loop-place-preserved
 put_members-loop-place-preserved g t c =
@@ -53,7 +53,7 @@ put_members-loop-place-preserved g t c =
       | put_members-in-Some+in_ok-put_member w ↦
           (let u = value_shown w.in-Some.member in
           let h = told_present _ _ _ _ l all u c.loop-place.first i _ (omega (arith, len, c.loop-place-test.true)) (subst (λ v. Some (value_shown w.in-Some.member) ≡ member_at (members_of (value_shown v)) i) c.members-members.ensures w.in-Some.ensures.member) c.loop-place.invariant in
-          rw (w.w-is, w.line-is, w.first-is) (told_more _ _ _ _ _ _ (member_text c.loop-place.first (member_name l i) u) _ _ h (rw w.field_name.ensures at w.in_ok-put_member.ensures.ok)))
+          rw (w.w-is, w.line-is, w.first-is) (told_more _ _ _ _ _ _ (member_text c.loop-place.first (member_name l i) u) _ _ h (rw (w.get-in-Some.ensures ∙ c.member_names-names.ensures i) at w.in_ok-put_member.ensures.ok)))
       | put_members-in_default w ↦
           (let n : None ≡ member_at all i = subst (λ v. None ≡ member_at (members_of (value_shown v)) i) c.members-members.ensures w.in_default.ensures.member in
           rw (w.w-is, w.line-is, w.first-is) (told_absent _ _ _ _ l all c.loop-place.first i _ (omega (arith, len, c.loop-place-test.true)) n c.loop-place.invariant))

@@ -30,7 +30,7 @@ decreases-put_value g l = 5 * rank_of l.value + 4
 
 abbrev pub invariant-put_members-loop-place : goal.invariant-put_members-loop-place
 invariant-put_members-loop-place g l =
-    Told (g.W.Write.contents l.initial.w) (g.W.Write.contents l.w) l.initial.line l.line (members_text (label_of (value_shown l.value)) l.place l.first (members_from l.place (members_of (value_shown l.value)))) (all_members_text (value_shown l.value))
+    Told (g.W.Write.contents l.initial.w) (g.W.Write.contents l.w) l.initial.line l.line (members_text (label_of (value_shown l.fn.value)) l.place l.first (members_from l.place (members_of (value_shown l.fn.value)))) (all_members_text (value_shown l.fn.value))
 
 abbrev pub invariant-put_each-loop-place : goal.invariant-put_each-loop-place
 invariant-put_each-loop-place g l =
