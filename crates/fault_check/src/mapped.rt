@@ -35,7 +35,7 @@ pub fn map_part<S: Space>(
     requires table { IsTable nodes.now }
     requires at { node < length nodes.now }
     requires open { level_count store.old + depth (type_of nodes.now node) ≤ 65 }
-    ensures frame { Frame (S.view space.old) (S.view space.new) meter.old meter.new store.old store.new 0 }
+    ensures frame { Frame (S.view space.old) (S.view space.new) meter.old meter.new store.old store.new 0 result }
     ensures ends { IfOk result (IsEnd start (S.view space.old)) }
     ensures is { OnBits (S.view space.old) (MapsType nodes.now node order start store.old store.new result) }
     ensures same { OnErr result (levels nodes.now store.new ≡ levels nodes.now store.old) }
