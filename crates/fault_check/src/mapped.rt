@@ -1,13 +1,13 @@
 //! Parts that are mapped on a way, with what they mean.
 
-ghost use Rattle.std.specs.Prelude.{◌≡◌, ◌+◌, ◌≤◌, ◌<◌, length, IfOk, OnErr, IsTrue, List};
+ghost use Rattle.std.specs.Prelude.{◌≡◌, ◌+◌, ◌≤◌, ◌<◌, length, IfOk, IsTrue, List};
 ghost use Rattle.pickle_types.specs.declared.node.Node.{Node as TableNode};
 ghost use Rattle.pickle_types.specs.Types.{depth};
 ghost use Rattle.pickle_types.specs.Table.{IsTable, type_of, optional_term};
 ghost use Rattle.pickle_types.specs.Sound.{IsSoundClause};
 ghost use Rattle.pickle_meaning.specs.Clauses.{constraint, condition};
 ghost use Rattle.pickle_meaning.specs.Values.{outer_of};
-ghost use Rattle.pickle_map.specs.Framed.{Frame, IsEnd};
+ghost use Rattle.pickle_map.specs.Framed.{Frame, IsEnd, AddsToLevel, LevelStays};
 ghost use Rattle.value_store.specs.Slots.{levels, level_count};
 ghost use Rattle.fault_check.specs.Calls.{FindsStart, MapsChecked, MapsType};
 ghost use Rattle.fault_check.specs.Ways.{OnBits, Settled, IsThere, IsFault, Leaves};
@@ -35,12 +35,11 @@ pub fn map_part<S: Space>(
     requires table { IsTable nodes.now }
     requires at { node < length nodes.now }
     requires open { level_count store.old + depth (type_of nodes.now node) ≤ 65 }
-    ensures frame { Frame (S.view space.old) (S.view space.new) meter.old meter.new store.old store.new 0 }
+    ensures frame { Frame (S.view space.old) (S.view space.new) meter.old meter.new store.old store.new 0 result }
     ensures ends { IfOk result (IsEnd start (S.view space.old)) }
     ensures is { OnBits (S.view space.old) (MapsType nodes.now node order start store.old store.new result) }
-    ensures same { OnErr result (levels nodes.now store.new ≡ levels nodes.now store.old) }
+    ensures level { AddsToLevel nodes.now store.old store.new result }
     ensures outer { outer_of (levels nodes.now store.new) ≡ outer_of (levels nodes.now store.old) }
-    ensures depth { level_count store.new ≡ level_count store.old }
 {
     map_type(
         nodes,
@@ -123,8 +122,7 @@ pub fn map_checked<S: Space>(
     ensures leaves { Leaves (S.view space.old) (S.view space.new) meter.old meter.new }
     ensures ends { IfOk result (IsEnd start (S.view space.old)) }
     ensures is { OnBits (S.view space.old) (MapsChecked nodes.now node clause.now order start store.old store.new result) }
-    ensures outer { outer_of (levels nodes.now store.new) ≡ outer_of (levels nodes.now store.old) }
-    ensures depth { level_count store.new ≡ level_count store.old }
+    ensures level { LevelStays nodes.now store.old store.new }
 {
     let end = map_part(nodes, node, order, start, space, meter, store)?;
     check_constraint(clause, start, meter, store)?;

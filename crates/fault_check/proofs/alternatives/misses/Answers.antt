@@ -11,4 +11,4 @@ returns-in-Err-clause-is g c =
 pub returns-in-Err-clause-same : goal.returns-in-Err-clause-same
 returns-in-Err-clause-same g c =
     let cleared = c.clear_level.ensures.levels c.args.nodes.now in
-    λ yes. cleared ∙ ap (λ o. [] ∷ o) c.in-Err.ensures.outer ∙ sym c.requires.fresh
+    λ yes. cleared ∙ ap (λ o. [] ∷ o) c.in-Err.ensures.level.outer ∙ sym c.requires.fresh

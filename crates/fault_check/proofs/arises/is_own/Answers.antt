@@ -13,4 +13,4 @@ pub returns-then-is_fault-clause-is : goal.returns-then-is_fault-clause-is
 returns-then-is_fault-clause-is g c =
     λ yes bytes e.
     let own = c.is_own_fault.ensures.is yes bytes (c.in-Err.ensures.frame.bytes ∙ e) in
-    in_part (rw c.in-Err.ensures.same at own)
+    in_part (rw c.in-Err.ensures.level.same at own)

@@ -10,4 +10,4 @@ returns-clause-is g c =
 pub returns-clause-outer : goal.returns-clause-outer
 returns-clause-outer g c =
     outer_mapped c.args.nodes.now (g.S.Space.view c.args.space.now) c.args.meter.now c.map_type.new.meter c.args.store.now c.map_type.new.store (as_type c.args.node c.args.order c.args.start)
-    c.map_type.result c.map_type.ensures.is c.map_type.ensures.same
+    c.map_type.result c.map_type.ensures.is c.map_type.ensures.level.same
