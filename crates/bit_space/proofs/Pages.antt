@@ -1,18 +1,19 @@
 -- Pages of a space, and what a cache keeps of them.
-use Rattle.std.proofs.Common.{◌≡◌, ℕ, ◌+◌, ◌-◌, ◌*◌, ◌/◌, ◌%◌, ◌≤◌, inl, inr, Bool, List, ◌++◌, length, take, drop, Some, Result, Ok, Err, Contains, nat_eq, refl, sym, ap, ◌∙◌, subst, arith}
-use Rattle.std.specs.Prelude.{slice_range, OnOk, OnErr}
-use Rattle.std.specs.Map.{lookup, remove_entry}
+use Rattle.std.proofs.Common.{◌≡◌, ℕ, ◌+◌, ◌-◌, ◌*◌, ◌/◌, ◌%◌, ◌≤◌, inl, inr, Bool, List, [], ◌∷◌, ◌++◌, length, take, drop, Some, Result, Ok, Err, Contains, nat_eq, refl, sym, ap, ◌∙◌, subst, arith}
+use Rattle.std.specs.Prelude.{slice_range, slice_get, OnOk, OnErr}
+use Rattle.std.specs.Map.{lookup}
 use Rattle.std.specs.declared.alloc.Global.{Global}
 use Rattle.std.specs.declared.vec.Vec.{Vec}
 use Rattle.std.proofs.lemmas.Bool.{eqb-true}
-use Rattle.lru.specs.LruCache.{LruCache, lru_cache, put_entries}
-use Rattle.lru.proofs.CallerLemmas.{Contains-lookup, Contains-remove_entry, Contains-put_entries}
+use Rattle.lru.specs.LruCache.{LruCache, lru_cache, promoted, put_entries}
+use Rattle.lru.proofs.CallerLemmas.{Contains-lookup, Contains-promoted, Contains-put_entries}
+use Rattle.lru.proofs.Splits.{Contains-head}
 use Rattle.std.proofs.lemmas.Slice.{take-put_mid}
 use Rattle.std.proofs.lemmas.List.{drop-drop}
 use Rattle.std.proofs.Math.Seq.{take-add}
 use borrow.Rule.Slice.PartMut.{put_mid}
 use Rattle.bit_space.specs.SpaceView.{SpaceView, Keeps}
-use Rattle.bit_space.specs.Pages.{IsPage, ArePages, AreKept}
+use Rattle.bit_space.specs.Pages.{IsPage, ArePages}
 use Rattle.bit_space.proofs.Digits.{range_of_range}
 
 -- what a cache keeps is still right after a call on the space
@@ -30,13 +31,14 @@ page_found {view} {entries} page content h e =
     let f = Contains-lookup (nat_eq page) entries content (sym e) in
     subst (λ k. IsPage view k content.items) (sym (eqb-true page f.0 f.2)) (h.each f.0 content f.1)
 
-pub pages_left : {view : SpaceView} {entries : List (ℕ × Vec ℕ Global)} (test : ℕ → Bool) → ArePages view entries → ArePages view (remove_entry test entries)
-pages_left {view} {entries} test h = record { each = λ page content c. h.each page content (Contains-remove_entry test entries (page, content) c) }
+pub page_newest : {view : SpaceView} {entries : List (ℕ × Vec ℕ Global)} (page : ℕ) (content : Vec ℕ Global) → ArePages view entries → Some (page, content) ≡ slice_get entries 0 → IsPage view page content.items
+page_newest {view} {entries = []} page content h e = cc
+page_newest {view} {entries = entry ∷ entries} page content h e =
+    let same : entry ≡ (page, content) = cc in
+    h.each page content (subst (λ x. Contains (entry ∷ entries) x) same (Contains-head entry entries))
 
--- what is kept after a page was taken out of the older ones, and a call on the space
-pub kept_left : {before after : SpaceView} {none newest : ℕ} {content : List ℕ} {older : List (ℕ × Vec ℕ Global)} (test : ℕ → Bool) → Keeps before after
-    → AreKept before none newest content older → AreKept after none newest content (remove_entry test older)
-kept_left test k h = record { first = λ some. page_kept k (h.first some); others = pages_left test (pages_kept k h.others) }
+pub pages_promoted : {view : SpaceView} {entries : List (ℕ × Vec ℕ Global)} (test : ℕ → Bool) → ArePages view entries → ArePages view (promoted test entries)
+pages_promoted {view} {entries} test h = record { each = λ page content c. h.each page content (Contains-promoted test entries (page, content) c) }
 
 put_page : {view : SpaceView} (k page : ℕ) (v content : Vec ℕ Global) → IsPage view k v.items → content ≡ v → page ≡ k → IsPage view page content.items
 put_page k page v content p e f = rw (e, f) p

@@ -1,5 +1,5 @@
 -- The pages of a space that a cache keeps.
-use Rattle.std.specs.Prelude.{◌≡◌, ◌≢◌, ℕ, ◌+◌, ◌-◌, ◌*◌, List, Some, length, min, slice_range, Contains}
+use Rattle.std.specs.Prelude.{◌≡◌, ℕ, ◌+◌, ◌-◌, ◌*◌, List, Some, length, min, slice_range, Contains}
 use Rattle.std.specs.declared.alloc.Global.{Global}
 use Rattle.std.specs.declared.vec.Vec.{Vec}
 use Rattle.bit_space.specs.SpaceView.{SpaceView}
@@ -13,8 +13,3 @@ pub record IsPage (view : SpaceView) (page : ℕ) (content : List ℕ) : Type 0 
 -- each entry of a cache is a page of a space, by its number
 pub record ArePages (view : SpaceView) (entries : List (ℕ × Vec ℕ Global)) : Type 0 where
   pub each : (page : ℕ) (content : Vec ℕ Global) → Contains entries (page, content) → IsPage view page content.items
-
--- what is kept of a space: the newest page, which is one unless it has the number of none, and the older ones
-pub record AreKept (view : SpaceView) (none newest : ℕ) (content : List ℕ) (older : List (ℕ × Vec ℕ Global)) : Type 0 where
-  pub first : newest ≢ none → IsPage view newest content
-  pub others : ArePages view older

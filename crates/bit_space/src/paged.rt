@@ -2,25 +2,20 @@
 
 ghost use Rattle.std.specs.Prelude.{◌≡◌, ◌+◌, ◌*◌, ◌%◌, ◌≤◌, length, slice_range, IfOk, IfSome, OnOk, OnErr};
 ghost use Rattle.bit_space.specs.SpaceView.{GivesRange, HasRisen, Keeps};
-ghost use Rattle.bit_space.specs.Pages.{AreKept, IsPage};
-ghost use Rattle.bit_space.specs.declared.paged.TheConstants.{NO_PAGE};
+ghost use Rattle.bit_space.specs.Pages.{IsPage, ArePages};
 
 use crate::memory::Memory;
 use crate::space::{DeviceFault, Space};
 use lru::LruCache;
 use std::alloc::Global;
 use std::marker::Model;
-use std::mem;
 use std::num::NonZeroUsize;
 
 /// The bytes of a page.
 const PAGE: u64 = 4096;
 
-/// How many pages are kept beside the newest.
-const OLDER: usize = 15;
-
-/// The number of no page: those of pages are below 2^52.
-const NO_PAGE: u64 = u64::MAX;
+/// How many pages are kept.
+const PAGES: usize = 16;
 
 /// A space whose pages are kept as they are read: up to 16 pages of 4,096 bytes, of which the
 /// least recently used is given up first. A page for which there is no memory is read each time.
@@ -30,10 +25,7 @@ const NO_PAGE: u64 = u64::MAX;
 pub struct Paged<S: Space> {
     alloc: Global,
     inner: S,
-    // The number and the bytes of the page that was read last, beside those that were read before it.
-    newest: u64,
-    bytes: Vec<u8>,
-    older: LruCache<u64, Vec<u8>>,
+    pages: LruCache<u64, Vec<u8>>,
 }
 
 impl<S: Space> Model for Paged<S> {
@@ -41,7 +33,7 @@ impl<S: Space> Model for Paged<S> {
 
     ghost view = { λ p. p.inner };
 
-    ghost invariant = { λ p. AreKept (S.view p.inner) NO_PAGE p.newest p.bytes.items p.older.entries };
+    ghost invariant = { λ p. ArePages (S.view p.inner) p.pages.entries };
 }
 
 impl<S: Space + Drop> Paged<S> {
@@ -49,16 +41,14 @@ impl<S: Space + Drop> Paged<S> {
     pub fn new(alloc: Global, inner: S) -> Result<Paged<S>, Memory>
         ensures { IfOk result (λ paged. paged ≡ inner) }
     {
-        let Some(cap) = NonZeroUsize::new(OLDER) else {
+        let Some(cap) = NonZeroUsize::new(PAGES) else {
             return Err(Memory);
         };
         match LruCache::new(alloc, cap) {
-            Ok(older) => Ok(Paged {
+            Ok(pages) => Ok(Paged {
                 alloc,
                 inner,
-                newest: NO_PAGE,
-                bytes: Vec::new(alloc),
-                older,
+                pages,
             }),
             Err(_) => Err(Memory),
         }
@@ -77,9 +67,11 @@ impl<S: Space> Paged<S> {
     {
         let page = at / PAGE;
         let offset = (at % PAGE) as usize;
-        if page == self.newest {
-            copy_part(self.bytes.as_slice(), offset, into);
-            return Ok(());
+        if let Some((newest, bytes)) = self.pages.peek_mru() {
+            if *newest == page {
+                copy_part(bytes.as_slice(), offset, into);
+                return Ok(());
+            }
         }
         self.read_older(at, into)
     }
@@ -95,30 +87,18 @@ impl<S: Space> Paged<S> {
     {
         let page = at / PAGE;
         let offset = (at % PAGE) as usize;
-        if let Some(bytes) = self.older.pop(&page) {
+        if let Some(bytes) = self.pages.peek(&page) {
             copy_part(bytes.as_slice(), offset, into);
-            self.make_newest(page, bytes);
+            let _ = self.pages.promote(&page);
             return Ok(());
         }
         match load(self.alloc, &mut self.inner, page)? {
             Some(bytes) => {
                 copy_part(bytes.as_slice(), offset, into);
-                self.make_newest(page, bytes);
+                let _ = self.pages.put(page, bytes);
                 Ok(())
             }
             None => self.inner.read_at(at, into),
-        }
-    }
-
-    // Makes a page the newest. The one before it joins the older ones, or is given up where there is no memory for that.
-    fn make_newest(&mut self, page: u64, bytes: Vec<u8>)
-        requires { IsPage (S.view self.old) page bytes.items }
-        ensures { self.new ≡ self.old }
-    {
-        let last = mem::replace(&mut self.newest, page);
-        let content = mem::replace(&mut self.bytes, bytes);
-        if last != NO_PAGE {
-            drop(self.older.put(last, content));
         }
     }
 

@@ -1,32 +1,29 @@
 use Rattle.std.proofs.Common.{◌/◌, length, ap, refl}
-use Rattle.bit_space.proofs.Failures.{keeps_all}
-use Rattle.bit_space.proofs.Pages.{page_found, pages_left, kept_left, shown_inside, shown_same}
+use Rattle.bit_space.proofs.Pages.{page_found, page_kept, pages_kept, pages_promoted, pages_put, shown_inside, shown_same}
 use Rattle.bit_space.proofs.paged.Paged.read_older.Goals as goal
 
 pub copy_part-requires : goal.copy_part-requires
 copy_part-requires g c =
-    let p = page_found (c.args.at / 4096) c.in-Some.bytes c.self.invariant.others c.in-Some.ensures.value in
+    let p = page_found (c.args.at / 4096) c.in-Some.bytes.now c.self.invariant c.in-Some.ensures in
     shown_inside c.args.at (length c.args.into.now) (ap g.S.Space.view c.self.view_is) p refl c.as_slice.ensures.value c.requires.inside c.requires.one_page
 
 pub invariant_of-self : goal.invariant_of-self
-invariant_of-self g c = rw c.pop.ensures.entries (record { first = c.self.invariant.first; others = pages_left _ c.self.invariant.others })
-
-pub make_newest-requires : goal.make_newest-requires
-make_newest-requires g c = page_found (c.args.at / 4096) c.in-Some.bytes c.self.invariant.others c.in-Some.ensures.value
+invariant_of-self g c = rw c.promote.ensures.entries (pages_promoted _ c.self.invariant)
 
 pub returns-in-Some-clause-bytes : goal.returns-in-Some-clause-bytes
 returns-in-Some-clause-bytes g c =
-    let p = page_found (c.args.at / 4096) c.in-Some.bytes c.self.invariant.others c.in-Some.ensures.value in
+    let p = page_found (c.args.at / 4096) c.in-Some.bytes.now c.self.invariant c.in-Some.ensures in
     shown_same c.args.at (length c.args.into.now) (ap g.S.Space.view c.self.view_is) p refl c.as_slice.ensures.value c.requires.inside c.requires.one_page c.copy_part.ensures
 
 pub invariant_of-self-in_err-bytes : goal.invariant_of-self-in_err-bytes
-invariant_of-self-in_err-bytes g c = rw c.pop.ensures.entries (kept_left _ c.load.ensures.keeps c.self.invariant)
+invariant_of-self-in_err-bytes g c = pages_kept c.load.ensures.keeps c.self.invariant
 
 pub invariant_of-self-in-Some-2 : goal.invariant_of-self-in-Some-2
-invariant_of-self-in-Some-2 g c = rw c.pop.ensures.entries (kept_left _ c.load.ensures.keeps c.self.invariant)
+invariant_of-self-in-Some-2 g c =
+    pages_put c.put.result c.self.inside.pages c.put.new.self (c.args.at / 4096) c.in-Some-2.bytes c.put.ensures.entries c.put.ensures.err (pages_kept c.load.ensures.keeps c.self.invariant) (page_kept c.load.ensures.keeps (rw c.in-Some-2.is at c.in_ok-bytes.ensures.page))
 
 pub invariant_of-self-in-None : goal.invariant_of-self-in-None
-invariant_of-self-in-None g c = rw c.pop.ensures.entries (kept_left _ (keeps_all c.load.ensures.keeps c.read_at.ensures.keeps) c.self.invariant)
+invariant_of-self-in-None g c = pages_kept c.read_at.ensures.keeps (pages_kept c.load.ensures.keeps c.self.invariant)
 
 pub returns-in-Some-2-clause-bytes : goal.returns-in-Some-2-clause-bytes
 returns-in-Some-2-clause-bytes g c =
