@@ -53,6 +53,13 @@ pub fn part_names(nodes: &[Node], of: u32) -> MemberNames<'_>
     }
 }
 
+/// The name of the field or alternative at a place of the type at an index.
+pub fn part_name(nodes: &[Node], of: u32, place: usize) -> Option<&[u8]>
+    ensures { option_map (λ name. name.now) result ≡ name_at nodes.now of place }
+{
+    part_names(nodes, of).get(place)
+}
+
 fn shape_title(shape: &Shape) -> Option<&[u8]>
     ensures { option_map (λ name. name.now) result ≡ shape_title shape.now }
 {

@@ -8,7 +8,7 @@ ghost use Rattle.value_store.specs.MemberNames.{name_among};
 
 mod members;
 
-use crate::names::{MemberNames, part_names, title};
+use crate::names::{MemberNames, part_name, part_names, title};
 use crate::stored::StoredValue;
 pub use members::Members;
 use pickle_types::view::Node;
@@ -142,10 +142,9 @@ impl<'a> ValueRef<'a> {
             Some(of) => of,
             None => return MemberNames::Nameless,
         };
-        let names = part_names(self.nodes, of);
         match self.stored.taken() {
-            None => names,
-            Some(taken) => MemberNames::Only(names.get(usize::from(taken))),
+            None => part_names(self.nodes, of),
+            Some(taken) => MemberNames::Only(part_name(self.nodes, of, usize::from(taken))),
         }
     }
 
