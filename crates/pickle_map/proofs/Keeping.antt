@@ -1,13 +1,11 @@
 -- What refused calls leave, and what a store that never grows holds.
-use Rattle.std.proofs.Common.{◌≡◌, ℕ, ◌≤◌, List, Option, refl, ap, subst, ◌∙◌}
+use Rattle.std.proofs.Common.{◌≡◌, ◌≤◌, List, Option, refl, ap, subst, ◌∙◌}
 use Rattle.pickle_types.specs.declared.node.Node.{Node}
 use Rattle.value_store.specs.declared.store.room.Growth.TheVariants.{Never}
 use Rattle.value_store.specs.declared.store.room.Room.{Room}
 use Rattle.value_store.specs.Levels.{FitsIn}
-use Rattle.value_store.specs.declared.store.slots.Shape.{Shape}
-use Rattle.value_store.specs.Slots.{Held, levels, level_count, Regrown, IsPacking}
+use Rattle.value_store.specs.Slots.{Held, levels, level_count, Regrown}
 use Rattle.value_store.proofs.Held.{regrown-levels, regrown-depth}
-use Rattle.value_store.proofs.PackedRows.{packing-outer}
 use Rattle.pickle_map.specs.Framed.{LevelStays}
 use Rattle.pickle_meaning.specs.Values.{Value, pushed, outer_of}
 use Rattle.pickle_meaning.specs.Room.{Slot, slots}
@@ -21,10 +19,6 @@ module _ (nodes : List Node) where
   -- a call that kept one more value leaves its level too
   pub pushed_stays : (first old new : Held) (v : Option Value) → LevelStays nodes first old → levels nodes new ≡ pushed (levels nodes old) v → level_count new ≡ level_count old → LevelStays nodes first new
   pushed_stays first old new v stays kept same = record { outer = ap outer_of kept ∙ outer_pushed (levels nodes old) v ∙ stays.outer; depth = same ∙ stays.depth }
-
-  -- numbers that are packed leave it
-  pub packing_stays : (first store : Held) (shape : Shape) (numbers : List ℕ) (start : ℕ) → IsPacking nodes store shape numbers start (outer_of (levels nodes first)) → level_count store ≡ level_count first → LevelStays nodes first store
-  packing_stays first store shape numbers start packing same = record { outer = packing-outer nodes store shape numbers start (outer_of (levels nodes first)) packing; depth = same }
 
   -- what does nothing leaves it
   pub same_stays : (store : Held) → LevelStays nodes store store

@@ -9,8 +9,8 @@ use Rattle.mapping_plans.specs.Mapping.{plan, element_plan}
 use Rattle.pickle_map.specs.Row.{row_levels}
 use Rattle.value_store.specs.Slots.{levels, element_width, element_value}
 use Rattle.pickle_meaning.specs.Values.{outer_of}
-use Rattle.value_store.proofs.PackedRows.{packing-empty}
-use Rattle.pickle_map.proofs.Keeping.{regrown_stays, packing_stays}
+use Rattle.value_store.proofs.PackedRows.{packing-outer, packing-empty}
+use Rattle.pickle_map.proofs.Keeping.{regrown_stays}
 use Rattle.pickle_map.proofs.Worlds.{same_room, in_world, in_later, lacks_these}
 use Rattle.pickle_map.proofs.Mapping.{few_enough, elements_end, elements_beyond, elements_no_tick, elements_goes, elements_over, elements_stop}
 use Rattle.pickle_map.proofs.Row.{some_bits, least_is, element_end, element_stops, element_no_room, element_goes, row_more, first_is}
@@ -25,15 +25,10 @@ loop-shape-init g c =
       frame = search rules;
       after = search rules;
       inside = search rules;
-      depth = search rules;
+      level = search rules;
       counted = search rules;
       so_far = ([], count_of (8 * (g.S.Space.view c.args.space.now).len) (least_width (type_of c.args.nodes.now c.args.element)), omega (arith, few), omega arith, refl, c.requires.packing, rw fresh follow_here);
     }
-
-pub returns-in_err-tick-clause-level : goal.returns-in_err-tick-clause-level
-returns-in_err-tick-clause-level g c =
-    let i = c.loop-shape.invariant in
-    packing_stays c.args.nodes.now _ c.loop-shape.store c.args.shape i.so_far.0 c.args.start i.so_far.5 i.depth
 
 pub returns-in_err-tick-clause-is : goal.returns-in_err-tick-clause-is
 returns-in_err-tick-clause-is g c =
@@ -50,10 +45,7 @@ push_packed-requires-clause-first g c =
     first_is c.args.nodes.now c.loop-shape.store c.args.shape i.so_far.0 c.args.start (outer_of (levels c.args.nodes.now c.args.store.now)) c.loop-shape.count i.so_far.5 c.requires.shape.packed i.so_far.4
 
 pub returns-in_err-push_packed-in-Ok-clause-level : goal.returns-in_err-push_packed-in-Ok-clause-level
-returns-in_err-push_packed-in-Ok-clause-level g c =
-    let i = c.loop-shape.invariant in
-    let stays = packing_stays c.args.nodes.now _ c.loop-shape.store c.args.shape i.so_far.0 c.args.start i.so_far.5 i.depth in
-    regrown_stays c.args.nodes.now _ _ _ stays c.in_err-push_packed-in-Ok.ensures.err
+returns-in_err-push_packed-in-Ok-clause-level g c = regrown_stays c.args.nodes.now _ _ _ c.loop-shape.invariant.level c.in_err-push_packed-in-Ok.ensures.err
 
 pub returns-in_err-push_packed-in-Ok-clause-is : goal.returns-in_err-push_packed-in-Ok-clause-is
 returns-in_err-push_packed-in-Ok-clause-is g c =
@@ -102,7 +94,7 @@ loop-shape-preserved g c =
       frame = search rules;
       after = search rules;
       inside = search rules;
-      depth = search rules;
+      level = record { outer = packing-outer c.args.nodes.now c.push_packed.new.self c.args.shape _ c.args.start outer packed; depth = k.depth ∙ i.level.depth };
       counted = omega (arith, i.counted, some.0, width, c.from-place.ensures);
       so_far = rw (c.from-place.ensures, width)
           (i.so_far.0 ++ c.in-Ok.digits ∷ [], next.0, next.1, rw more place, rw more (ap (λ x. x + 1) i.so_far.4), packed, rw levels (follow_on (in_later i.frame.room k.room i.so_far.6) next.2));
@@ -124,16 +116,6 @@ returns-then-ends-clause-is g c =
       ends = i.so_far.3;
       runs = follow_on i.so_far.6 (elements_over _ _ _ _ _ _ _ (max 1 (least_width (type_of c.args.nodes.now c.args.element))) _ i.so_far.2 i.inside due (e.limit ∙ i.frame.limit) e.ok e.made _ ends h);
     }
-
-pub returns-then-ends-clause-level : goal.returns-then-ends-clause-level
-returns-then-ends-clause-level g c =
-    let i = c.loop-shape.invariant in
-    packing_stays c.args.nodes.now _ c.loop-shape.store c.args.shape i.so_far.0 c.args.start i.so_far.5 i.depth
-
-pub returns-in-Err-clause-level : goal.returns-in-Err-clause-level
-returns-in-Err-clause-level g c =
-    let i = c.loop-shape.invariant in
-    packing_stays c.args.nodes.now _ c.loop-shape.store c.args.shape i.so_far.0 c.args.start i.so_far.5 i.depth
 
 pub returns-in-Err-clause-is : goal.returns-in-Err-clause-is
 returns-in-Err-clause-is g c =
@@ -158,16 +140,6 @@ returns-then-is_met-clause-is g c =
       ends = i.so_far.3;
       runs = follow_on i.so_far.6 (elements_end _ _ _ _ _ _ _ (max 1 (least_width (type_of c.args.nodes.now c.args.element))) _ i.so_far.2 i.inside over (sym c.is_met.ensures ∙ c.if-is_met.true));
     }
-
-pub returns-then-is_met-clause-level : goal.returns-then-is_met-clause-level
-returns-then-is_met-clause-level g c =
-    let i = c.loop-shape.invariant in
-    packing_stays c.args.nodes.now _ c.loop-shape.store c.args.shape i.so_far.0 c.args.start i.so_far.5 i.depth
-
-pub returns-else-is_met-clause-level : goal.returns-else-is_met-clause-level
-returns-else-is_met-clause-level g c =
-    let i = c.loop-shape.invariant in
-    packing_stays c.args.nodes.now _ c.loop-shape.store c.args.shape i.so_far.0 c.args.start i.so_far.5 i.depth
 
 pub returns-else-is_met-clause-is : goal.returns-else-is_met-clause-is
 returns-else-is_met-clause-is g c =

@@ -2,12 +2,12 @@ use Rattle.std.proofs.Common.{◌≡◌, ℕ, ◌+◌, ◌-◌, ◌*◌, ◌≤�
 use Rattle.pickle_types.specs.Bounds.{least_width}
 use Rattle.pickle_types.specs.Table.{type_of}
 use Rattle.pickle_map.specs.Calls.{as_elements}
-use Rattle.pickle_map.specs.Framed.{Frame, Runs, under_way}
+use Rattle.pickle_map.specs.Framed.{Frame, Runs, LevelStays, under_way}
 use Rattle.pickle_map.specs.Follows.{Partly}
 use Rattle.pickle_meaning.specs.Values.{outer_of}
 use Rattle.mapping_plans.specs.Mapping.{plan, element_plan, elements_plan}
 use Rattle.pickle_map.specs.Row.{row_levels}
-use Rattle.value_store.specs.Slots.{levels, element_width, IsPacking, level_count}
+use Rattle.value_store.specs.Slots.{levels, element_width, IsPacking}
 use Rattle.pickle_map.proofs.mapper.row.map_packed.Given as goal
 
 abbrev pub decreases-loop-shape : goal.decreases-loop-shape
@@ -18,7 +18,7 @@ invariant-loop-shape g l = record {
   frame : Frame (g.S.Space.view l.initial.space) (g.S.Space.view l.space) l.initial.meter l.meter l.initial.store l.store 0 under_way;
   after : l.start ≤ l.place;
   inside : l.place ≤ 8 * (g.S.Space.view l.initial.space).len;
-  depth : level_count l.store ≡ level_count l.initial.store;
+  level : LevelStays l.nodes l.initial.store l.store;
   counted : l.count + l.start ≤ l.place;
   so_far : (numbers : List ℕ) × (n : ℕ) × (8 * (g.S.Space.view l.initial.space).len < l.place + n * max 1 (least_width (type_of l.nodes l.element))) ×
       (l.place ≡ l.start + element_width l.shape * length numbers) × (l.count ≡ length numbers) × IsPacking l.nodes l.store l.shape numbers l.start (outer_of (levels l.nodes l.initial.store)) ×

@@ -16,7 +16,7 @@ loop-byte-init g c = record {
   frame = search rules;
   after = search rules;
   inside = search rules;
-  depth = search rules;
+  level = search rules;
   so_far = ([], _, omega arith, omega arith, c.requires.writing, follow_here);
 }
 
@@ -28,9 +28,7 @@ returns-in-Err-clause-is g c =
     rw c.refusal_at.ensures (follow_on i.so_far.5 (text_stops _ _ _ _ _ _ i.so_far.2 i.inside _ _ _ i.frame.limit (ap (λ l. 8 * l) (sym i.frame.len)) stops e.made))
 
 pub returns-in-Err-clause-level : goal.returns-in-Err-clause-level
-returns-in-Err-clause-level g c =
-    let i = c.loop-byte.invariant in
-    record { outer = writing-outer c.args.nodes.now c.loop-byte.store i.so_far.0 c.args.start (outer_of (levels c.args.nodes.now c.args.store.now)) i.so_far.4; depth = i.depth }
+returns-in-Err-clause-level g c = c.loop-byte.invariant.level
 
 pub returns-in_err-close_text-in-Ok-clause-is : goal.returns-in_err-close_text-in-Ok-clause-is
 returns-in_err-close_text-in-Ok-clause-is g c =
@@ -47,9 +45,7 @@ returns-in_err-close_text-in-Ok-clause-is g c =
 pub returns-in_err-close_text-in-Ok-clause-level : goal.returns-in_err-close_text-in-Ok-clause-level
 returns-in_err-close_text-in-Ok-clause-level g c =
     let p = err_from_is_err_and c.from_residual.result c.from_residual.ensures.1 in
-    let i = c.loop-byte.invariant in
-    let same = writing-outer c.args.nodes.now c.loop-byte.store i.so_far.0 c.args.start (outer_of (levels c.args.nodes.now c.args.store.now)) i.so_far.4 in
-    rw p.1 (regrown_stays c.args.nodes.now _ _ _ (record { outer = same; depth = i.depth }) c.in_err-close_text-in-Ok.ensures.err)
+    rw p.1 (regrown_stays c.args.nodes.now _ _ _ c.loop-byte.invariant.level c.in_err-close_text-in-Ok.ensures.err)
 
 pub returns-then-byte-eq0-clause-is : goal.returns-then-byte-eq0-clause-is
 returns-then-byte-eq0-clause-is g c =
@@ -83,9 +79,7 @@ returns-in_err-push_byte-in-Ok-clause-is g c =
 pub returns-in_err-push_byte-in-Ok-clause-level : goal.returns-in_err-push_byte-in-Ok-clause-level
 returns-in_err-push_byte-in-Ok-clause-level g c =
     let p = err_from_is_err_and c.from_residual-in_err-push_byte-in-Ok.result c.from_residual-in_err-push_byte-in-Ok.ensures.1 in
-    let i = c.loop-byte.invariant in
-    let same = writing-outer c.args.nodes.now c.loop-byte.store i.so_far.0 c.args.start (outer_of (levels c.args.nodes.now c.args.store.now)) i.so_far.4 in
-    rw p.1 (regrown_stays c.args.nodes.now _ _ _ (record { outer = same; depth = i.depth }) c.in_err-push_byte-in-Ok.ensures.err)
+    rw p.1 (regrown_stays c.args.nodes.now _ _ _ c.loop-byte.invariant.level c.in_err-push_byte-in-Ok.ensures.err)
 
 pub loop-byte-preserved : goal.loop-byte-preserved
 loop-byte-preserved g c =
@@ -98,6 +92,7 @@ loop-byte-preserved g c =
     let more = longer i.so_far.0 c.in-Ok.byte in
     let room = c.in_ok-push_byte-in-Ok.ensures.room in
     let outer = outer_of (levels c.args.nodes.now c.args.store.now) in
+    let writes = c.in_ok-push_byte-in-Ok.ensures.writes c.args.nodes.now i.so_far.0 outer i.so_far.4 (omega (arith, i.so_far.3, fits, short)) in
     let shows = c.in_ok-push_byte-in-Ok.ensures.levels c.args.nodes.now i.so_far.0 outer i.so_far.4 (omega (arith, i.so_far.3, fits, short)) in
     let has = holds_these c.args.nodes.now (room_then i.frame.room room) c.in_ok-push_byte-in-Ok.ensures.within shows in
     let next = text_goes _ _ _ _ _ _ i.so_far.2 i.inside _ (r.limit ∙ i.frame.limit) r.steps r.made fits may c.if-byte-eq0.false has n.steps n.made in
@@ -105,6 +100,6 @@ loop-byte-preserved g c =
       frame = search rules;
       after = search rules;
       inside = search rules;
-      depth = search rules;
-      so_far = (i.so_far.0 ++ c.in-Ok.byte ∷ [], next.0, next.1, omega (arith, i.so_far.3, more), c.in_ok-push_byte-in-Ok.ensures.writes c.args.nodes.now i.so_far.0 (outer_of (levels c.args.nodes.now c.args.store.now)) i.so_far.4 (omega (arith, i.so_far.3, fits, short)), follow_on (in_later i.frame.room room i.so_far.5) next.2);
+      level = record { outer = writing-outer c.args.nodes.now c.push_byte.new.self _ c.args.start outer writes; depth = c.in_ok-push_byte-in-Ok.ensures.depth ∙ i.level.depth };
+      so_far = (i.so_far.0 ++ c.in-Ok.byte ∷ [], next.0, next.1, omega (arith, i.so_far.3, more), writes, follow_on (in_later i.frame.room room i.so_far.5) next.2);
     }

@@ -1,9 +1,9 @@
 use Rattle.std.proofs.Common.{◌≡◌, ℕ, ◌+◌, ◌-◌, ◌*◌, ◌≤◌, ◌<◌, List, length}
 use Rattle.pickle_map.specs.Calls.{as_text_level}
-use Rattle.pickle_map.specs.Framed.{Frame, Runs, under_way}
+use Rattle.pickle_map.specs.Framed.{Frame, Runs, LevelStays, under_way}
 use Rattle.pickle_map.specs.Follows.{Partly}
 use Rattle.mapping_plans.specs.Mapping.{text_plan}
-use Rattle.value_store.specs.Slots.{levels, IsWriting, level_count}
+use Rattle.value_store.specs.Slots.{levels, IsWriting}
 use Rattle.pickle_meaning.specs.Values.{outer_of}
 use Rattle.pickle_map.proofs.mapper.text.text_body.Given as goal
 
@@ -12,7 +12,7 @@ invariant-loop-byte g l = record {
   frame : Frame (g.S.Space.view l.initial.space) (g.S.Space.view l.space) l.initial.meter l.meter l.initial.store l.store 0 under_way;
   after : l.start ≤ l.place;
   inside : l.place ≤ 8 * (g.S.Space.view l.initial.space).len;
-  depth : level_count l.store ≡ level_count l.initial.store;
+  level : LevelStays l.nodes l.initial.store l.store;
   so_far : (bytes : List ℕ) × (n : ℕ) × (8 * (g.S.Space.view l.initial.space).len < l.place + 8 * n) × (l.place ≡ l.start + 8 * length bytes) × IsWriting l.nodes l.store bytes l.start (outer_of (levels l.nodes l.initial.store)) ×
       Runs (g.S.Space.view l.initial.space) l.initial.meter l.meter l.initial.store l.store
       (as_text_level l.start l.nodes (8 * (g.S.Space.view l.initial.space).len) (levels l.nodes l.initial.store))
