@@ -1,5 +1,5 @@
 -- Laws of the parts that paths lead to.
-use Rattle.std.proofs.Common.{◌≡◌, ◌∙◌, ℕ, zero, suc, ◌+◌, ◌-◌, ◌<◌, ◌≤◌, Bool, true, false, List, [], ◌∷◌, Option, Some, None, drop, length, refl, sym, ap, subst, arith}
+use Rattle.std.proofs.Common.{◌≡◌, ◌∙◌, ℕ, suc, ◌+◌, ◌-◌, ◌<◌, true, false, List, [], ◌∷◌, Some, None, drop, refl, sym, ap, subst, arith}
 use Rattle.value_store.specs.Labels.{member_name}
 use Rattle.pickle_meaning.specs.Values.{Label, Value}
 use Rattle.command_words.specs.declared.path.Step.{Step}

@@ -1,6 +1,6 @@
 -- What the definitions of words, writers and runs refuse.
-use Rattle.std.proofs.Common.{◌≡◌, ◌<◌, ◌++◌, ℕ, List, [], ◌∷◌, length, Some, None, refl, sym, ap, subst, inl, inr, arith}
-use Rattle.std.specs.Prelude.{◌^◌, codes}
+use Rattle.std.proofs.Common.{◌≡◌, ◌<◌, ◌++◌, ℕ, List, [], ◌∷◌, length, Some, refl, sym, ap, subst, inl, inr, arith}
+use Rattle.std.specs.Prelude.{codes}
 use Rattle.bit_space.specs.SpaceView.{SpaceView, HasRisen, honest}
 use Rattle.command_words.specs.declared.ask.Ask.{Ask}
 use Rattle.run_parts.specs.declared.accept.Refusal.{Refusal}

@@ -1,5 +1,5 @@
 -- The part of a value to which a path leads.
-use Rattle.std.specs.Prelude.{◌≡◌, ℕ, zero, suc, ◌+◌, Bool, true, false, List, [], ◌∷◌, ◌++◌, Option, Some, None, if◌then◌else◌, codes, decimal}
+use Rattle.std.specs.Prelude.{ℕ, zero, suc, ◌+◌, Bool, true, false, List, [], ◌∷◌, Option, Some, None, if◌then◌else◌}
 use Rattle.std.specs.Str.{bytes_eq}
 use Rattle.pickle_meaning.specs.Values.{Naming, Label, IntegerLabel, OffsetLabel, TextLabel, ArrayLabel, StructLabel, UnionLabel, Value, label_of, members_of, member_at, member_count}
 use Rattle.value_store.specs.Labels.{member_name}
@@ -23,6 +23,10 @@ abbrev pub is_nameless : Naming → Bool
 is_nameless None = true
 is_nameless (Some its) = false
 
+-- whether the member at a place of a value is a field or an alternative, and has no name
+abbrev pub is_nameless_at : Value → (place : ℕ) → Bool
+is_nameless_at value place = if is_array (label_of value) then false else is_nameless (member_name (label_of value) place)
+
 -- the first of so many places, from one on, whose member has this name
 abbrev pub place_named : (name : List ℕ) → Label → (count place : ℕ) → Option ℕ
 place_named name label zero place = None
@@ -39,7 +43,7 @@ member_there value (Some place) = member_at (members_of value) place
 -- the part that a step leads to: the field or alternative of a name, a nameless one at its place, the element at a place
 abbrev pub step_to : Step → Value → Option Value
 step_to (Field name) value = member_there value (place_named name.items (label_of value) (member_count (members_of value)) 0)
-step_to (Place place) value = member_if (if is_array (label_of value) then false else is_nameless (member_name (label_of value) place)) (member_at (members_of value) place)
+step_to (Place place) value = member_if (is_nameless_at value place) (member_at (members_of value) place)
 step_to (Element place) value = member_if (is_array (label_of value)) (member_at (members_of value) place)
 
 abbrev pub step_from : Step → Option Value → Option Value

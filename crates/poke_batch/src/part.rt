@@ -1,11 +1,10 @@
 //! The part of a value that a path leads to.
 
-ghost use Rattle.std.specs.Prelude.{◌≡◌, false, if◌then◌else◌};
+ghost use Rattle.std.specs.Prelude.{◌≡◌};
 ghost use Rattle.std.specs.Option.{option_map};
 ghost use Rattle.value_store.specs.Refs.{value_shown};
 ghost use Rattle.pickle_meaning.specs.Values.{label_of, members_of, member_count};
-ghost use Rattle.value_store.specs.Labels.{member_name};
-ghost use Rattle.poke_batch.specs.PathParts.{is_array, is_named, is_nameless, place_named, step_to, part_of, part_at};
+ghost use Rattle.poke_batch.specs.PathParts.{is_array, is_named, is_nameless_at, place_named, step_to, part_of, part_at};
 
 use command_words::path::{Path, Step};
 use pickle_map::{Kind, ValueRef};
@@ -68,7 +67,7 @@ fn is_named(its: Option<&[u8]>, name: &[u8]) -> bool
 
 // Whether the member at a place of a value is a field or an alternative, and has no name.
 fn is_nameless(value: ValueRef<'_>, place: usize) -> bool
-    ensures { result ≡ (if is_array (label_of (value_shown value.entry)) then false else is_nameless (member_name (label_of (value_shown value.entry)) place)) }
+    ensures { result ≡ is_nameless_at (value_shown value.entry) place }
 {
     !is_array(value) && value.field_name(place).is_none()
 }

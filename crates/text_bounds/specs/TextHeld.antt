@@ -1,8 +1,10 @@
 -- What the sizes of texts hold, as they are computed.
-use Rattle.std.specs.Prelude.{◌≡◌, ℕ, List, Some, slice_get}
+use Rattle.std.specs.Prelude.{◌≡◌, ℕ, ◌+◌, Bool, List, Option, Some, slice_get}
+use Rattle.pickle_types.specs.declared.node.Field.{Field}
 use Rattle.pickle_types.specs.declared.node.Node.{Node}
-use Rattle.pickle_types.specs.Types.{PokeType, Fields, Parts}
-use Rattle.pickle_types.specs.Table.{type_of}
+use Rattle.pickle_types.specs.declared.node.Part.{Part}
+use Rattle.pickle_types.specs.Types.{PokeType, Fields, FieldThen, Parts, PartThen, StructOf}
+use Rattle.pickle_types.specs.Table.{type_of, name_of, optional_term}
 use Rattle.pickle_types.specs.Bounds.{IsBound, least_width, sum_of_widths, greatest_width, has_label, least_of_widths}
 use Rattle.pickle_types.specs.Holds.{HoldsWidth, is_none}
 use Rattle.text_forms.specs.declared.mode.Mode.{Mode}
@@ -32,6 +34,22 @@ pub record ArePartSizes (b : PartSizes) (mode : Mode) (place : ℕ) (parts : Par
   pub least : HoldsWidth b.least (least_of_widths parts)
   pub all : HoldsSize b.all (parts_size mode place parts m)
   pub greatest : HoldsSize b.greatest (greatest_size mode parts m)
+
+-- the sizes of a field's own type and of the fields behind it give those of all of them
+abbrev pub JoinsField : Mode → (place : ℕ) → Field → (own : NodeSize) → (rest all : FieldSizes) → Type 0
+JoinsField mode place field own rest all =
+    (type : PokeType) (fields : Fields) (m : ℕ) → AreSizes own mode type m → AreFieldSizes rest mode (place + 1) fields m →
+    AreFieldSizes all mode place (FieldThen (name_of field.name) field.order type (optional_term field.constraint) (optional_term field.label) (optional_term field.condition) fields) m
+
+abbrev pub JoinsPart : Mode → (place : ℕ) → Part → (own : NodeSize) → (rest all : PartSizes) → Type 0
+JoinsPart mode place part own rest all =
+    (type : PokeType) (parts : Parts) (m : ℕ) → AreSizes own mode type m → ArePartSizes rest mode (place + 1) parts m →
+    ArePartSizes all mode place (PartThen (name_of part.name) part.order type (optional_term part.constraint) parts) m
+
+-- the least width of a struct whose fields have these sizes, whatever its name is
+abbrev pub HoldsLeast : (pinned : Bool) → FieldSizes → (least : Option ℕ) → Type 0
+HoldsLeast pinned sizes least =
+    (name : Option (List ℕ)) (mode : Mode) (place m : ℕ) (fields : Fields) → AreFieldSizes sizes mode place fields m → HoldsWidth least (least_width (StructOf name pinned fields))
 
 -- the sizes of the first declared types are known
 pub record AreKnownSizes (nodes : List Node) (roots : List ℕ) (known : List NodeSize) (mode : Mode) (m : ℕ) : Type 0 where

@@ -1,12 +1,11 @@
 //! The sizes of types, by those of the types that they are made of.
-ghost use Rattle.std.specs.Prelude.{◌≡◌, ℕ, ◌+◌, ◌||◌, List, Option};
+ghost use Rattle.std.specs.Prelude.{◌≡◌, ℕ, ◌+◌, ◌||◌};
 ghost use Rattle.pickle_types.specs.Sound.{IsWidth};
 ghost use Rattle.pickle_types.specs.Table.{name_of, optional_term};
-ghost use Rattle.pickle_types.specs.Types.{Bound, PokeType, IntegerOf, OffsetOf, StringOf, ArrayOf, StructOf, IntegralOf, UnionOf, Fields, FieldThen, NoFields, Parts, PartThen, NoParts};
-ghost use Rattle.pickle_types.specs.Bounds.{is_some, least_width};
-ghost use Rattle.pickle_types.specs.Holds.{HoldsWidth};
+ghost use Rattle.pickle_types.specs.Types.{Bound, PokeType, IntegerOf, OffsetOf, StringOf, ArrayOf, StructOf, IntegralOf, UnionOf, Fields, NoFields, Parts, NoParts};
+ghost use Rattle.pickle_types.specs.Bounds.{is_some};
 ghost use Rattle.text_bounds.specs.TextRoom.{Size, moved, field_before, field_moves};
-ghost use Rattle.text_bounds.specs.TextHeld.{HoldsSize, AreSizes, AreFieldSizes, ArePartSizes};
+ghost use Rattle.text_bounds.specs.TextHeld.{HoldsSize, AreSizes, AreFieldSizes, ArePartSizes, JoinsField, JoinsPart, HoldsLeast};
 
 use super::room::{
     array_room, element_before, element_moves, field_before, field_moves, integer_room, line_room,
@@ -23,25 +22,32 @@ use poke_batch::mode::Mode;
 /// The least width of a type in bits, None from 2^64 on, and the size of its texts.
 #[derive(Clone, Copy, Default)]
 pub struct NodeSize {
+    /// The least width.
     pub least: Option<u64>,
+    /// The size of the texts.
     pub size: TextSize,
 }
 
-/// What is known of some fields of a struct, the last ones.
+/// What is known of some fields of a struct, the last ones. A width is in bits, and None from 2^64 on.
 #[derive(Clone, Copy)]
 pub struct FieldSizes {
     /// The least width where the fields follow one another.
     pub sum: Option<u64>,
     /// The least width where they may lie over one another.
     pub greatest: Option<u64>,
+    /// Whether one of the fields has a label.
     pub has_label: bool,
+    /// The size of the fields' texts.
     pub size: TextSize,
 }
 
-/// What is known of some alternatives of a union, or fields of an integral struct, the last ones.
+/// What is known of some alternatives of a union, or fields of an integral struct, the last ones. A width is in bits, and None
+/// from 2^64 on.
 #[derive(Clone, Copy)]
 pub struct PartSizes {
+    /// Whether there are none.
     pub is_empty: bool,
+    /// The least width of one of them, 0 where there are none.
     pub least: Option<u64>,
     /// Where all are written.
     pub all: TextSize,
@@ -49,6 +55,7 @@ pub struct PartSizes {
     pub greatest: TextSize,
 }
 
+/// The sizes of no fields.
 #[tactic(auto, unfolding(pickle_types::specs::Bounds::least_width, crate::specs::TextRoom::size_of))]
 pub fn no_fields() -> FieldSizes
     ensures { (mode : Mode) (place m : ℕ) → AreFieldSizes result mode place NoFields m }
@@ -61,6 +68,7 @@ pub fn no_fields() -> FieldSizes
     }
 }
 
+/// The sizes of no parts.
 #[tactic(auto, unfolding(pickle_types::specs::Bounds::least_width, crate::specs::TextRoom::size_of))]
 pub fn no_parts() -> PartSizes
     ensures { (mode : Mode) (place m : ℕ) → ArePartSizes result mode place NoParts m }
@@ -82,7 +90,7 @@ pub fn field_and_rest(
     own: NodeSize,
     rest: FieldSizes,
 ) -> FieldSizes
-    ensures { (type : PokeType) (fields : Fields) (m : ℕ) → AreSizes own mode type m → AreFieldSizes rest mode (place + 1) fields m → AreFieldSizes result mode place (FieldThen (name_of field.now.name) field.now.order type (optional_term field.now.constraint) (optional_term field.now.label) (optional_term field.now.condition) fields) m }
+    ensures { JoinsField mode place field.now own rest result }
 {
     let least = least_present(own.least, &field.condition);
     let sum = width_sum(least, rest.sum);
@@ -113,7 +121,7 @@ pub fn part_and_rest(
     own: NodeSize,
     rest: PartSizes,
 ) -> PartSizes
-    ensures { (type : PokeType) (parts : Parts) (m : ℕ) → AreSizes own mode type m → ArePartSizes rest mode (place + 1) parts m → ArePartSizes result mode place (PartThen (name_of part.now.name) part.now.order type (optional_term part.now.constraint) parts) m }
+    ensures { JoinsPart mode place part.now own rest result }
 {
     let least = least_before(own.least, rest.least, rest.is_empty);
     let all = both(placed(mode, place, &part.name, own.size), rest.all);
@@ -136,6 +144,7 @@ fn placed(mode: Mode, place: usize, name: &Option<Name>, part: TextSize) -> Text
     moved(before, moves, part)
 }
 
+/// The sizes of an integer of a type, in a file of so many bits.
 #[tactic(auto, unfolding(pickle_types::specs::Bounds::least_width, crate::specs::TextRoom::size_of))]
 pub fn integer_size(mode: Mode, bits: u64, ty: IntegerType) -> NodeSize
     requires width { IsWidth ty }
@@ -149,6 +158,7 @@ pub fn integer_size(mode: Mode, bits: u64, ty: IntegerType) -> NodeSize
     }
 }
 
+/// The sizes of an offset whose magnitude has a type, with its unit in bits.
 #[tactic(auto, unfolding(pickle_types::specs::Bounds::least_width, crate::specs::TextRoom::size_of))]
 pub fn offset_size(mode: Mode, bits: u64, ty: IntegerType, unit: u32) -> NodeSize
     requires width { IsWidth ty }
@@ -162,6 +172,7 @@ pub fn offset_size(mode: Mode, bits: u64, ty: IntegerType, unit: u32) -> NodeSiz
     }
 }
 
+/// The sizes of a string, which has at most the bits of the file.
 #[tactic(auto, unfolding(pickle_types::specs::Bounds::least_width, crate::specs::TextRoom::size_of))]
 pub fn string_size(mode: Mode, bits: u64) -> NodeSize
     ensures { AreSizes result mode StringOf bits }
@@ -173,6 +184,7 @@ pub fn string_size(mode: Mode, bits: u64) -> NodeSize
     }
 }
 
+/// The sizes of an array, by those of an element. It has as many elements as the file's bits have room for.
 #[tactic(auto, unfolding(pickle_types::specs::Bounds::least_width, crate::specs::TextRoom::size_of))]
 pub fn array_size(mode: Mode, bits: u64, element: NodeSize) -> NodeSize
     ensures { (type : PokeType) (bound : Bound) → AreSizes element mode type bits → AreSizes result mode (ArrayOf type bound) bits }
@@ -190,7 +202,7 @@ pub fn array_size(mode: Mode, bits: u64, element: NodeSize) -> NodeSize
 
 #[tactic(auto, unfolding(pickle_types::specs::Bounds::least_width))]
 fn least_of_fields(pinned: bool, fields: FieldSizes) -> Option<u64>
-    ensures { (name : Option (List ℕ)) (mode : Mode) (place m : ℕ) (all : Fields) → AreFieldSizes fields mode place all m → HoldsWidth result (least_width (StructOf name pinned all)) }
+    ensures { HoldsLeast pinned fields result }
 {
     if pinned || fields.has_label {
         fields.greatest
@@ -199,6 +211,7 @@ fn least_of_fields(pinned: bool, fields: FieldSizes) -> Option<u64>
     }
 }
 
+/// The sizes of a struct, by those of its fields.
 #[tactic(auto, unfolding(pickle_types::specs::Bounds::least_width, crate::specs::TextRoom::size_of))]
 pub fn struct_size(
     mode: Mode,
@@ -217,6 +230,7 @@ pub fn struct_size(
     }
 }
 
+/// The sizes of an integral struct, by those of its fields.
 #[tactic(auto, unfolding(pickle_types::specs::Bounds::least_width, crate::specs::TextRoom::size_of))]
 pub fn integral_size(
     mode: Mode,
@@ -235,6 +249,7 @@ pub fn integral_size(
     }
 }
 
+/// The sizes of a union, by those of its alternatives.
 #[tactic(auto, unfolding(pickle_types::specs::Bounds::least_width, crate::specs::TextRoom::size_of))]
 pub fn union_size(mode: Mode, bits: u64, name: &Option<Name>, alternatives: PartSizes) -> NodeSize
     ensures { (all : Parts) → ArePartSizes alternatives mode 0 all bits → AreSizes result mode (UnionOf (name_of name.now) all) bits }

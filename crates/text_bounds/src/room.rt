@@ -64,7 +64,7 @@ fn cast_room(ty: IntegerType) -> u128
     word + 3 + digits(u128::from(ty.width))
 }
 
-/// The longest text of an integer.
+/// The longest text of an integer that tells its type.
 #[tactic(auto, unfolding(value_text::specs::ValueText::integer_text))]
 fn typed_room(ty: IntegerType) -> u128
     requires width { IsWidth ty }
@@ -74,6 +74,7 @@ fn typed_room(ty: IntegerType) -> u128
     type_room(ty) + longest_digits(ty)
 }
 
+/// The longest text of an integer.
 pub fn integer_room(mode: Mode, ty: IntegerType) -> u128
     requires width { IsWidth ty }
     ensures count { result ≡ integer_room mode ty }
@@ -96,6 +97,7 @@ fn unit_room(unit: u32) -> u128
     }
 }
 
+/// The longest text of an offset, whose unit is in bits.
 #[tactic(auto, unfolding(value_text::specs::ValueText::offset_text))]
 pub fn offset_room(mode: Mode, ty: IntegerType, unit: u32) -> u128
     requires width { IsWidth ty }
@@ -118,6 +120,7 @@ fn json_offset_room(ty: IntegerType, unit: u32) -> u128
     22 + longest_digits(ty) + digits(u128::from(unit))
 }
 
+/// Quotes, and the longest escape for each byte that so many bits have room for; the last byte is the 0, which isn't written.
 pub fn string_room(mode: Mode, bits: u64) -> u128
     ensures count { result ≡ string_room mode bits }
     ensures few { result < 2 ^ 65 }

@@ -10,7 +10,9 @@ use poke_batch::mode::Mode;
 /// A bound on the bytes of a text, and one on the lines in it that move where it is that of a part; None from 2^128 on.
 #[derive(Clone, Copy, Default)]
 pub struct TextSize {
+    /// The bytes.
     pub text: Option<u128>,
+    /// The lines that move.
     pub lines: Option<u128>,
 }
 
@@ -37,6 +39,7 @@ fn joined(mode: Mode, own: Option<u128>, parts: Option<u128>) -> Option<u128>
     }
 }
 
+/// The size of no text.
 pub fn no_size() -> TextSize
     ensures { HoldsSize result no_size }
 {
@@ -66,6 +69,7 @@ pub fn moved(before: u128, moves: u128, part: TextSize) -> TextSize
     }
 }
 
+/// The size of two texts, one behind the other.
 pub fn both(a: TextSize, b: TextSize) -> TextSize
     ensures { (x y : Size) → HoldsSize a x → HoldsSize b y → HoldsSize result (both x y) }
 {
@@ -74,6 +78,7 @@ pub fn both(a: TextSize, b: TextSize) -> TextSize
     TextSize { text, lines }
 }
 
+/// A size that holds either of two texts.
 pub fn greater(a: TextSize, b: TextSize) -> TextSize
     ensures { (x y : Size) → HoldsSize a x → HoldsSize b y → HoldsSize result (greater x y) }
 {
@@ -82,6 +87,7 @@ pub fn greater(a: TextSize, b: TextSize) -> TextSize
     TextSize { text, lines }
 }
 
+/// The size of so many texts of one size.
 pub fn repeated(count: u128, each: TextSize) -> TextSize
     ensures { (n : ℕ) (size : Size) → count ≡ n → HoldsSize each size → HoldsSize result (repeated n size) }
 {

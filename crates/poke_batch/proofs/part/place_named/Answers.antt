@@ -1,5 +1,4 @@
-use Rattle.std.proofs.Common.{◌≡◌, ◌∙◌, ◌<◌, ap, arith, sym, false}
-use Rattle.value_store.specs.Labels.{member_name}
+use Rattle.std.proofs.Common.{◌≡◌, ◌∙◌, ◌<◌, ap, arith, sym}
 use Rattle.value_store.specs.Refs.{value_shown}
 use Rattle.pickle_meaning.specs.Values.{label_of, members_of, member_count}
 use Rattle.poke_batch.specs.PathParts.{is_named}

@@ -1,9 +1,8 @@
-use Rattle.std.proofs.Common.{◌≡◌, ◌+◌, ◌∙◌, codes, arith, sym, true}
+use Rattle.std.proofs.Common.{◌≡◌, ◌+◌, ◌∙◌, codes, arith, sym}
 use Rattle.value_store.specs.Refs.{value_shown}
 use Rattle.pickle_meaning.specs.Values.{end_of}
 use Rattle.run_parts.specs.declared.status.Status.TheVariants.{Fault}
 use Rattle.run_parts.specs.Lines.{fault_at_line}
-use Rattle.poke_batch.specs.RunsUnder.{is_left}
 use Rattle.run_parts.proofs.Sayings.{line_says}
 use Rattle.poke_batch.proofs.UnderTerms.{left_saying}
 use Rattle.poke_batch.proofs.tell_value.tell_value.Goals as goal
