@@ -1,18 +1,18 @@
 -- A value that fits a type is no larger than the type's size.
-use Rattle.std.proofs.Common.{◌≡◌, ℕ, zero, suc, ◌+◌, ◌-◌, ◌*◌, ◌/◌, ◌^◌, ◌<◌, ◌≤◌, max, Bool, true, false, List, [], ◌∷◌, ◌++◌, Option, Some, None, length, codes, decimal, refl, sym, ap, subst, ◌∙◌, inl, inr, arith, length-append, get_or}
+use Rattle.std.proofs.Common.{◌≡◌, ℕ, suc, ◌+◌, ◌-◌, ◌*◌, ◌/◌, ◌^◌, ◌<◌, ◌≤◌, max, Bool, true, false, List, [], ◌∷◌, ◌++◌, Option, Some, None, length, codes, decimal, refl, sym, ap, ◌∙◌, inl, inr, arith, length-append, get_or}
 use Rattle.std.proofs.Math.Nat.{add-mul, mul-add, le-div_iff_mul-le}
 use Rattle.std.proofs.Math.Seq.{get_or-append_seam}
 use Rattle.std.proofs.lemmas.Nat.{mul-le}
 use Rattle.std.proofs.lemmas.List.{append_assoc, append-nil}
 use Rattle.std.proofs.lemmas.Option.{unwrap_or-slice_get}
-use Rattle.std.specs.Prelude.{if◌then◌else◌, ◌==◌, slice_get, unwrap_or}
+use Rattle.std.specs.Prelude.{if◌then◌else◌, ◌==◌}
 use Rattle.pickle_types.specs.declared.integer.IntegerType.{IntegerType}
 use Rattle.pickle_types.specs.Types.{PokeType, IntegerOf, OffsetOf, StringOf, ArrayOf, StructOf, IntegralOf, UnionOf, Fields, NoFields, FieldThen, Parts, NoParts, PartThen}
 use Rattle.pickle_types.specs.Bounds.{least_width, count_of}
-use Rattle.pickle_meaning.specs.Values.{Naming, Label, IntegerLabel, OffsetLabel, TextLabel, ArrayLabel, StructLabel, UnionLabel, Value, Mapped, Members, NoMembers, MemberThen, AbsentThen, member_count, end_of, text_value, Levels, pushed, opened, top_of, gathered}
+use Rattle.pickle_meaning.specs.Values.{Naming, Label, IntegerLabel, OffsetLabel, TextLabel, ArrayLabel, StructLabel, UnionLabel, Value, Mapped, NoMembers, member_count, end_of, Levels, pushed, opened, top_of, gathered}
 use Rattle.value_store.specs.Labels.{member_name}
 use Rattle.pickle_meaning.specs.Arithmetic.{with_sign}
-use Rattle.pickle_meaning.specs.Means.{field_names, part_names, integer_value, offset_value, array_value, struct_value, Taken, union_value}
+use Rattle.pickle_meaning.specs.Means.{field_names, part_names, array_value, struct_value, Taken, union_value}
 use Rattle.pickle_meaning.specs.Fits.{ElementsFit, no_more_fit, one_more_fits, FitsNumber, DigitsFit, Fits, FieldsFit, AlternativeFits}
 use Rattle.mapping_plans.proofs.Fitting.{fits_wide, fits_inside}
 use Rattle.text_forms.specs.declared.mode.Mode.{Mode}
@@ -20,10 +20,9 @@ use Rattle.text_forms.specs.declared.mode.Mode.TheVariants.{Flat, Tree, Json, Li
 use Rattle.poke_batch.specs.ValueText.{spelled_byte, spelled, escape_text, is_plain, string_text}
 use Rattle.poke_batch.specs.JsonText.{json_escape, json_string}
 use Rattle.text_forms.specs.Brackets.{in_brackets}
-use Rattle.text_bounds.specs.TextRoom
 use Rattle.text_bounds.specs.TextRoom.{Size, integer_room, offset_room, string_room, array_room, titled_room, line_room, element_before, element_moves, field_before, field_moves, joined, with_parts, moved, no_size, both, greater, repeated, array_size, size_of, fields_size, parts_size, greatest_size}
 use Rattle.text_bounds.proofs.NumberLengths.{decimal_longer, number_longest, integer_longest, offset_longest, json_offset_longest}
-use Rattle.text_bounds.proofs.Sizes.{own_room, member_before, member_moves, size_in, members_in}
+use Rattle.text_bounds.proofs.Sizes.{own_room, size_in, members_in}
 
 -- ---- sizes within sizes
 

@@ -1,8 +1,7 @@
 -- Bounds on texts, worked out by hand, against the definition.
-use Rattle.std.proofs.Common.{◌≡◌, ℕ, refl, false, true, codes, [], ◌∷◌, Some, None}
+use Rattle.std.proofs.Common.{◌≡◌, ℕ, refl, false, true, codes, Some, None}
 use Rattle.std.specs.Fmt.{digits}
-use Rattle.pickle_types.specs.declared.integer.IntegerType.{IntegerType}
-use Rattle.pickle_types.specs.Types.{PokeType, IntegerOf, OffsetOf, StringOf, ArrayOf, StructOf, IntegralOf, UnionOf, Unbounded, FieldThen, NoFields, PartThen, NoParts}
+use Rattle.pickle_types.specs.Types.{PokeType, IntegerOf, OffsetOf, StringOf, ArrayOf, StructOf, UnionOf, Unbounded, FieldThen, NoFields, PartThen, NoParts}
 use Rattle.pickle_types.specs.Bounds.{least_width}
 use Rattle.text_forms.specs.declared.mode.Mode.TheVariants.{Flat, Tree, Json, Lines}
 use Rattle.poke_batch.specs.ValueText.{integer_text, offset_text}

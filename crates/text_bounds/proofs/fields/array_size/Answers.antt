@@ -1,4 +1,4 @@
-use Rattle.std.proofs.Common.{◌≡◌, ◌+◌, refl, ap, ◌∙◌, arith}
+use Rattle.std.proofs.Common.{refl, ap, ◌∙◌, arith}
 use Rattle.pickle_types.specs.Bounds.{least_width}
 use Rattle.text_bounds.specs.TextRoom.{size_of, array_room, element_before, element_moves}
 use Rattle.text_bounds.proofs.fields.array_size.Goals as goal

@@ -1,4 +1,4 @@
-use Rattle.std.proofs.Common.{◌≡◌, ap, ◌∙◌}
+use Rattle.std.proofs.Common.{ap, ◌∙◌}
 use Rattle.std.specs.Prelude.{◌||◌}
 use Rattle.pickle_types.specs.Bounds.{is_some, least_width}
 use Rattle.pickle_types.specs.Table.{optional_term}

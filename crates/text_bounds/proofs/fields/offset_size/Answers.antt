@@ -1,4 +1,4 @@
-use Rattle.std.proofs.Common.{◌≡◌, ◌+◌, ap, ◌∙◌, arith}
+use Rattle.std.proofs.Common.{ap, ◌∙◌, arith}
 use Rattle.pickle_types.specs.Bounds.{least_width}
 use Rattle.text_bounds.specs.TextRoom.{size_of, line_room, no_size}
 use Rattle.text_bounds.proofs.fields.offset_size.Goals as goal

@@ -1,6 +1,4 @@
-use Rattle.std.proofs.Common.{◌≡◌, Bool, true, false, refl, sym, ◌∙◌}
-use Rattle.pickle_types.specs.Types.{PokeType, Parts, NoParts, PartThen}
-use Rattle.pickle_types.specs.Bounds.{least_width}
+use Rattle.std.proofs.Common.{refl}
 use Rattle.text_bounds.specs.TextRoom.{size_of}
 use Rattle.text_bounds.proofs.TextNodes.{least_with_rest}
 use Rattle.text_bounds.proofs.fields.part_and_rest.Goals as goal

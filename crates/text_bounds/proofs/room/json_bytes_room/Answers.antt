@@ -1,5 +1,5 @@
-use Rattle.std.proofs.Common.{◌≡◌, ◌+◌, ◌*◌, ◌≤◌, [], ◌∷◌, ◌++◌, length, take, get_or, refl, sym, ap, ◌∙◌, arith, length-append}
-use Rattle.std.proofs.lemmas.List.{take_more, take_all}
+use Rattle.std.proofs.Common.{[], ◌∷◌, length, take, get_or, ap, arith, length-append}
+use Rattle.std.proofs.lemmas.List.{take_more}
 use Rattle.poke_batch.specs.JsonText.{json_escape}
 use Rattle.poke_batch.specs.ValueText.{spelled, spelled_byte}
 use Rattle.value_text.proofs.StringTexts.{bytes_append}
