@@ -94,14 +94,7 @@ pub fn find_start(
     ensures limit { meter.new.limit ≡ meter.old.limit }
     ensures is { FindsStart pinned label.now store.now start behind result }
 {
-    clauses::find_start(
-        pinned,
-        label,
-        store,
-        u128::from(start),
-        u128::from(behind),
-        meter,
-    )
+    clauses::find_start(pinned, label, store, start, behind, meter)
 }
 
 /// Maps the type at a place of the table, and checks the constraint that stands beside it.

@@ -66,13 +66,12 @@ pub fn find_start<W: Watch>(
     pinned: bool,
     label: &Option<Box<Resolved>>,
     store: &Store,
-    start: u128,
-    behind: u128,
+    start: u64,
+    behind: u64,
     meter: &mut Meter,
     watch: &mut W,
 ) -> Result<u128, Stop>
     requires sound { IsSoundClause (optional_term label.now) }
-    requires start { start < 2 ^ 127 }
     ensures limit { meter.new.limit ≡ meter.old.limit }
     ensures made { meter.new.made ≡ meter.old.made }
     ensures steps { meter.old.steps ≤ meter.new.steps }

@@ -71,23 +71,22 @@ pub fn find_start(
     pinned: bool,
     label: &Option<Box<Resolved>>,
     store: &Store,
-    start: u128,
-    behind: u128,
+    start: u64,
+    behind: u64,
     meter: &mut Meter,
 ) -> Result<u128, Stop>
     requires sound { IsSoundClause (optional_term label.now) }
-    requires start { start < 2 ^ 127 }
     ensures limit { meter.new.limit ≡ meter.old.limit }
     ensures made { meter.new.made ≡ meter.old.made }
     ensures steps { meter.old.steps ≤ meter.new.steps }
     ensures is { (nodes : List TableNode) → FindsStart nodes meter.old meter.new store.now pinned label.now start behind result }
 {
     if pinned {
-        return Ok(start);
+        return Ok(u128::from(start));
     }
     match label {
-        None => Ok(behind),
-        Some(e) => labelled_start(e, store, start, meter),
+        None => Ok(u128::from(behind)),
+        Some(e) => labelled_start(e, store, u128::from(start), meter),
     }
 }
 

@@ -424,8 +424,8 @@ fn map_fields<S: Space, W: Watch>(
                 pinned,
                 &field.label,
                 store,
-                origin,
-                u128::from(behind),
+                start,
+                behind,
                 meter,
                 watch,
             )?;

@@ -427,8 +427,7 @@ map_fields-returns-in_err-place-clause-is g t c =
     let there = c.in_ok-is_there.ensures in
     let there_is = rw (c.if-branch.true, c.from-origin.ensures) at there.is in
     let start = c.in_err-place.ensures in
-    let start_is = rw (c.from-origin.ensures, c.from.ensures) at start.is in
-    rw (p.1, p.2) (follow_on i.so_far (start_stops _ _ _ _ _ _ _ _ _ _ _ next (e.limit ∙ i.frame.limit) e.ok e.made there.made there_is there.limit start.made _ (omega arith) start_is))
+    rw (p.1, p.2) (follow_on i.so_far (start_stops _ _ _ _ _ _ _ _ _ _ _ next (e.limit ∙ i.frame.limit) e.ok e.made there.made there_is there.limit start.made _ (omega arith) start.is))
 
 pub map_fields-map_checked-requires : goal.map_fields-map_checked-requires
 map_fields-map_checked-requires g t c =
@@ -447,10 +446,9 @@ map_fields-returns-in_err-behind-clause-is g t c =
     let there = c.in_ok-is_there.ensures in
     let there_is = rw (c.if-branch.true, c.from-origin.ensures) at there.is in
     let start = c.in_ok-place.ensures in
-    let start_is = rw (c.from-origin.ensures, c.from.ensures) at start.is in
     let h = rw (i.frame.len, c.ordered.ensures) at c.in_err-behind.ensures.is in
     let h = in_world (g.S.Space.view c.args.space.now) (g.S.Space.view c.loop-field.space) i.frame.bytes i.frame.room c.in_err-behind.ensures.frame.room h in
-    rw (p.1, p.2) (follow_on (in_later i.frame.room c.in_err-behind.ensures.frame.room i.so_far) (field_stops _ _ _ _ _ _ _ _ _ _ _ next (e.limit ∙ i.frame.limit) e.ok e.made there.made there_is there.limit start.made _ start_is start.limit _ h))
+    rw (p.1, p.2) (follow_on (in_later i.frame.room c.in_err-behind.ensures.frame.room i.so_far) (field_stops _ _ _ _ _ _ _ _ _ _ _ next (e.limit ∙ i.frame.limit) e.ok e.made there.made there_is there.limit start.made _ start.is start.limit _ h))
 
 pub map_fields-returns-in_err-push_absent-clause-is : goal.map_fields-returns-in_err-push_absent-clause-is
 map_fields-returns-in_err-push_absent-clause-is g t c =
@@ -477,7 +475,6 @@ map_fields-loop-field-preserved g t c =
       | map_fields-then-branch+in_ok-place+in_ok-behind w ↦
           let there_is = rw (w.if-branch.true, c.from-origin.ensures) at there.is in
           let start = w.in_ok-place.ensures in
-          let start_is = rw (c.from-origin.ensures, w.from.ensures) at start.is in
           let m = w.in_ok-behind.ensures.is in
           let h = rw (i.frame.len, w.ordered.ensures) at m.follows in
           let h = in_world (g.S.Space.view c.args.space.now) (g.S.Space.view c.loop-field.space) i.frame.bytes i.frame.room w.in_ok-behind.ensures.frame.room h in
@@ -486,7 +483,7 @@ map_fields-loop-field-preserved g t c =
             after = search rules;
             inside = search rules;
             level = pushed_stays c.args.nodes.now _ _ _ _ i.level m.kept w.in_ok-behind.ensures.level.depth;
-            so_far = rw m.kept (follow_on (in_later i.frame.room w.in_ok-behind.ensures.frame.room i.so_far) (field_goes _ _ _ _ _ _ _ _ _ _ _ next (e.limit ∙ i.frame.limit) e.ok e.made there.made there_is there.limit start.made _ start_is start.limit m.value _ _ m.ends w.max-top.ensures h));
+            so_far = rw m.kept (follow_on (in_later i.frame.room w.in_ok-behind.ensures.frame.room i.so_far) (field_goes _ _ _ _ _ _ _ _ _ _ _ next (e.limit ∙ i.frame.limit) e.ok e.made there.made there_is there.limit start.made _ start.is start.limit m.value _ _ m.ends w.max-top.ensures h));
           })
       | map_fields-else-branch+in_ok-push_absent w ↦
           let there_is = rw (w.if-branch.false, c.from-origin.ensures) at there.is in
