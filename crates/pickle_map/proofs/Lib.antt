@@ -1,6 +1,7 @@
 pub mod Walks
 pub mod Worlds
 pub mod Keeping
+pub mod Left
 pub mod Settling
 pub mod Shapes
 pub mod Clauses

@@ -22,7 +22,7 @@ use Rattle.pickle_meaning.specs.Means.{Opened, Taken, struct_value, field_names,
 use Rattle.mapping_plans.specs.Plan.{Plan, Tick, then_ok}
 use Rattle.mapping_plans.specs.Mapping.{plan, read_plan, number_plan, digits_plan, text_plan, fields_plan, element_plan, elements_plan, alternatives_plan, constrained, closes, array_closes, struct_closes, union_closes}
 use Rattle.pickle_map.specs.Follows.{Done}
-use Rattle.pickle_map.specs.Framed.{world_between, world_of, KeepsOne, Runs, Works}
+use Rattle.pickle_map.specs.Framed.{world_between, world_of, KeepsOrStops, Runs, Works}
 use Rattle.pickle_map.specs.Row.{Packs}
 use Rattle.value_store.specs.Slots.{Held, levels}
 use Rattle.value_store.specs.Names.{title_at, part_name}
@@ -97,8 +97,7 @@ as_union_level at alternatives order start = λ nodes m levels.
 module _ (nodes : List Node) (space : SpaceView) (meter meter' : Meter) (store store' : Held) where
   -- it kept one more value in these levels, or stopped
   abbrev pub MapsIn : Levels → Plan (Result Value FaultAt) → Result ℕ Stop → Type 0
-  MapsIn before p (Ok end) = KeepsOne (world_of space store store') meter.limit p meter.steps meter.made meter'.steps meter'.made before (levels nodes store') end
-  MapsIn before p (Err stop) = Runs space meter meter' store store' p (stop_finish stop)
+  MapsIn before p result = KeepsOrStops (world_of space store store') meter.limit p meter.steps meter.made meter'.steps meter'.made before (levels nodes store') (λ end. end) result
 
   -- it kept one more value in the innermost level
   abbrev pub Maps : Planned Value → Result ℕ Stop → Type 0
@@ -159,9 +158,8 @@ integral_at nodes at number fields = IntegralOf (title_at nodes at) number (open
 module _ (nodes : List Node) (meter meter' : Meter) (store store' : Held) where
   -- it kept one more value in these levels, which ends at `end`, or stopped
   abbrev pub PlacesIn : Levels → Plan (Result Value FaultAt) → (end : ℕ) → Result (Unit {0}) Stop → Type 0
-  PlacesIn before p end (Ok u) =
-      (known : Option (List ℕ)) → KeepsOne (world_between known store store') meter.limit p meter.steps meter.made meter'.steps meter'.made before (levels nodes store') end
-  PlacesIn before p end (Err stop) = Works meter meter' store store' p (stop_finish stop)
+  PlacesIn before p end result =
+      (known : Option (List ℕ)) → KeepsOrStops (world_between known store store') meter.limit p meter.steps meter.made meter'.steps meter'.made before (levels nodes store') (λ u. end) result
 
   -- it kept the number as a value of a type, after its own first step
   abbrev pub Places : PokeType → (digits start : ℕ) → Result (Unit {0}) Stop → Type 0

@@ -13,6 +13,7 @@ use Rattle.pickle_meaning.specs.Values.{Value, end_of, Levels, pushed, outer_of}
 use Rattle.pickle_meaning.specs.Clauses.{FaultAt}
 use Rattle.mapping_plans.specs.Plan.{Plan}
 use Rattle.pickle_map.specs.Follows.{World, Finish, Done, Follows}
+use Rattle.pickle_map.specs.Stops.{stop_finish}
 use Rattle.value_store.specs.Slots.{Held, KeepsRoom, levels, level_count}
 
 -- What every call leaves, whatever it gives: the meter's limit, the room that the store has, the bytes of the space, and a count of failures that never falls.
@@ -56,6 +57,11 @@ abbrev pub LeavesLevel : {A : Type 0} → List Node → (store store' : Held) �
 LeavesLevel nodes store store' (Ok x) = level_count store' + 1 ≡ level_count store
 LeavesLevel nodes store store' (Err stop) = LevelStays nodes store store'
 
+-- a level in which a call stopped was given up with all that it held, and else the store is as it was
+abbrev pub DropsStopped : {A : Type 0} → (store store' : Held) → Result A Stop → Type 0
+DropsStopped store store' (Ok x) = store' ≡ store
+DropsStopped store store' (Err stop) = ((nodes : List Node) → levels nodes store' ≡ outer_of (levels nodes store)) × (level_count store' + 1 ≡ level_count store)
+
 -- the world of a call over a file's bits, where they are known, between two states of a store
 abbrev pub world_between : Option (List ℕ) → (store store' : Held) → World
 world_between known store store' = record { known = known; room = store.room; before = store.capacity; filled = store'.capacity }
@@ -70,6 +76,11 @@ pub record KeepsOne (world : World) (limit : ℕ) (p : Plan (Result Value FaultA
   pub kept : levels' ≡ pushed levels (Some value)
   pub ends : end_of value ≡ end
   pub follows : Follows world limit p k j k' j' (Done (Ok value))
+
+-- a call that kept one more value so, which ends where `ends` tells of its result, or stopped
+abbrev pub KeepsOrStops : {A : Type 0} → World → (limit : ℕ) → Plan (Result Value FaultAt) → (k j k' j' : ℕ) → (levels levels' : Levels) → (ends : A → ℕ) → Result A Stop → Type 0
+KeepsOrStops world limit p k j k' j' levels levels' ends (Ok x) = KeepsOne world limit p k j k' j' levels levels' (ends x)
+KeepsOrStops world limit p k j k' j' levels levels' ends (Err stop) = Follows world limit p k j k' j' (stop_finish stop)
 
 -- what a call did between two states of the meter and of a store, by a plan
 abbrev pub Runs : {A : Type 0} → SpaceView → (meter meter' : Meter) → (store store' : Held) → Plan A → Finish A → Type 0

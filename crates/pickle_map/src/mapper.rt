@@ -9,6 +9,7 @@ ghost use Rattle.value_store.specs.Slots.{emptied, HoldsInRoom, KeepsRoom};
 
 pub(crate) mod blame;
 pub mod clauses;
+pub(crate) mod level;
 pub mod number;
 pub mod read;
 pub(crate) mod row;

@@ -12,6 +12,7 @@ ghost use Rattle.value_store.specs.Names.{names_at, part_name};
 ghost use Rattle.value_store.specs.Slots.{level_count};
 
 use crate::mapper::blame::check;
+use crate::mapper::level::leave_level;
 use crate::mapper::read::read_digits;
 use crate::mapper::stop::Stop;
 use crate::mapper::watch::Watch;
@@ -187,19 +188,11 @@ fn place_integral<W: Watch>(
 {
     watch.open(at);
     store.open_level();
-    match integral_body(
+    let placed = integral_body(
         nodes, at, number, fields, digits, start, meter, store, watch,
-    ) {
-        Ok(()) => {
-            watch.close();
-            Ok(())
-        }
-        Err(stop) => {
-            store.drop_level();
-            watch.stop(stop);
-            Err(stop)
-        }
-    }
+    );
+    leave_level(&placed, store, watch);
+    placed
 }
 
 /// Keeps the fields of an integral struct in its level, and closes it.

@@ -9,8 +9,10 @@ ghost use Rattle.pickle_map.specs.Framed.{Frame, IsEnd, AddsToLevel, LeavesLevel
 ghost use Rattle.pickle_meaning.specs.Values.{outer_of};
 ghost use Rattle.value_store.specs.Slots.{levels, IsWriting, level_count};
 
+use crate::mapper::level::leave_level;
 use crate::mapper::read::refusal_at;
 use crate::mapper::stop::Stop;
+use crate::mapper::watch::Unwatched;
 use bit_space::{BitFault, Meter, Order, Space, read_number};
 use pickle_types::view::Node;
 use value_store::store::Store;
@@ -32,13 +34,9 @@ pub(crate) fn map_text<S: Space>(
 {
     meter.tick()?;
     store.open_text();
-    match text_body(nodes, start, space, meter, store) {
-        Ok(end) => Ok(end),
-        Err(stop) => {
-            store.drop_level();
-            Err(stop)
-        }
-    }
+    let mapped = text_body(nodes, start, space, meter, store);
+    leave_level(&mapped, store, &mut Unwatched);
+    mapped
 }
 
 /// Reads the bytes of a string into its level, and closes it. It stands apart, so that its loop has the registers.

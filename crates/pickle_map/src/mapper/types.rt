@@ -11,9 +11,10 @@ ghost use Rattle.pickle_map.specs.Row.{StandApart, BeginsApart};
 ghost use Rattle.pickle_meaning.specs.Means.{ordered};
 ghost use Rattle.pickle_types.specs.Sound.{IsSoundClause, IsSoundBound};
 ghost use Rattle.value_store.specs.Names.{names_at, field_name, part_name};
-ghost use Rattle.value_store.specs.Slots.{levels, level_count};
+ghost use Rattle.value_store.specs.Slots.{levels, level_count, AreLevels, HasNoNode};
 
 use crate::mapper::blame::{check, find_extent, find_start, is_there};
+use crate::mapper::level::leave_level;
 use crate::mapper::number::{map_integer, map_number};
 use crate::mapper::row::{packed_as, row_body};
 use crate::mapper::stop::Stop;
@@ -203,28 +204,14 @@ fn map_array<S: Space, W: Watch>(
     watch.open(at);
     let extent = find_extent(nodes, bound, store, u128::from(start), meter, watch)?;
     store.open_level();
-    let mapped = match packed_as(nodes, element, store) {
-        Some(shape) => row_body(
-            nodes, element, shape, extent, order, start, space, meter, store, watch,
-        ),
-        None => array_body(
-            nodes, element, extent, order, start, space, meter, store, watch,
-        ),
-    };
-    match mapped {
-        Ok(end) => {
-            watch.close();
-            Ok(end)
-        }
-        Err(stop) => {
-            store.drop_level();
-            watch.stop(stop);
-            Err(stop)
-        }
-    }
+    let mapped = array_body(
+        nodes, element, extent, order, start, space, meter, store, watch,
+    );
+    leave_level(&mapped, store, watch);
+    mapped
 }
 
-/// Maps the elements of an array into its level, and closes it.
+/// Maps the elements of an array into its level, as a row of packed numbers where the store packs them, and closes it.
 #[cycle(mapping)]
 fn array_body<S: Space, W: Watch>(
     nodes: &[Node],
@@ -241,7 +228,8 @@ fn array_body<S: Space, W: Watch>(
     requires element { element < length nodes.now }
     requires open { (1 < level_count store.old) × (level_count store.old + depth (type_of nodes.now element) ≤ 65) }
     requires fresh { levels nodes.now store.old ≡ [] ∷ outer_of (levels nodes.now store.old) }
-    requires apart { StandApart (type_of nodes.now element) store.old.room }
+    requires empty { HasNoNode store.old }
+    requires sound { AreLevels store.old.room store.old.frames store.old.slots }
     requires inside { start ≤ 8 * (S.view space.old).len }
     requires free { meter.old.made < meter.old.steps }
     ensures frame { Frame (S.view space.old) (S.view space.new) meter.old meter.new store.old store.new 1 result }
@@ -249,6 +237,11 @@ fn array_body<S: Space, W: Watch>(
     ensures is { Closes nodes.now (S.view space.old) meter.old meter.new store.old store.new (as_array_level element extent order start) result }
     ensures level { LeavesLevel nodes.now store.old store.new result }
 {
+    if let Some(shape) = packed_as(nodes, element, store) {
+        return row_body(
+            nodes, element, shape, extent, order, start, space, meter, store, watch,
+        );
+    }
     let end = map_elements(
         nodes, element, extent, order, start, space, meter, store, watch,
     )?;
@@ -342,19 +335,11 @@ fn map_struct<S: Space, W: Watch>(
     meter.tick()?;
     watch.open(at);
     store.open_level();
-    match struct_body(
+    let mapped = struct_body(
         nodes, at, pinned, fields, order, start, space, meter, store, watch,
-    ) {
-        Ok(end) => {
-            watch.close();
-            Ok(end)
-        }
-        Err(stop) => {
-            store.drop_level();
-            watch.stop(stop);
-            Err(stop)
-        }
-    }
+    );
+    leave_level(&mapped, store, watch);
+    mapped
 }
 
 /// Maps the fields of a struct into its level, and closes it.
@@ -476,7 +461,7 @@ fn map_union<S: Space, W: Watch>(
     meter.tick()?;
     watch.open(at);
     store.open_level();
-    match union_body(
+    let mapped = union_body(
         nodes,
         at,
         alternatives,
@@ -486,17 +471,9 @@ fn map_union<S: Space, W: Watch>(
         meter,
         store,
         watch,
-    ) {
-        Ok(end) => {
-            watch.close();
-            Ok(end)
-        }
-        Err(stop) => {
-            store.drop_level();
-            watch.stop(stop);
-            Err(stop)
-        }
-    }
+    );
+    leave_level(&mapped, store, watch);
+    mapped
 }
 
 /// Maps an alternative of a union into its level, and closes it.

@@ -1,4 +1,4 @@
-use Rattle.std.proofs.Common.{rules, ◌+◌, ◌^◌, ◌<◌, None, refl, sym, ap, subst, ◌∙◌, arith}
+use Rattle.std.proofs.Common.{rules, ◌+◌, ◌^◌, ◌<◌, None, refl, sym, subst, ◌∙◌, arith}
 use Rattle.std.proofs.lemmas.List.{drop_more, drop_all}
 use Rattle.std.proofs.lemmas.Result.{err_from_is_err_and}
 use Rattle.pickle_types.specs.Table.{type_of}
@@ -6,14 +6,14 @@ use Rattle.pickle_types.specs.Types.{parts_depth}
 use Rattle.mapping_plans.specs.Mapping.{number_plan}
 use Rattle.pickle_meaning.specs.Means.{number_type, width_in}
 use Rattle.value_store.specs.Slots.{level_count}
-use Rattle.pickle_meaning.specs.Values.{outer_of}
 use Rattle.pickle_map.proofs.Shapes.{opened_as, below_as, sound_as, names_as, parts_within, parts_bounded, part_bounded, of_one, integral_opened, parts_named}
 use Rattle.pickle_map.specs.Mappable.{IsPartOf}
 use Rattle.pickle_map.proofs.Keeping.{regrown_stays, pushed_stays, same_stays}
+use Rattle.pickle_map.proofs.Left.{left_open, left_keeps, left_adds}
 use Rattle.pickle_map.proofs.Clauses.{checks_ok, checks_stop}
 use Rattle.pickle_map.proofs.Placing.{digits_end, digits_no_tick, digits_stop, digits_goes}
 use Rattle.pickle_map.proofs.Walks.{follow_done, follow_here, follow_on, follow_tick, follow_stop, closes_no_room, closes_made, first_no_tick}
-use Rattle.pickle_map.proofs.Worlds.{room_then, in_store, in_call, in_later, holds_these, lacks_these}
+use Rattle.pickle_map.proofs.Worlds.{room_then, in_call, in_later, holds_these, lacks_these}
 use Rattle.pickle_map.proofs.mapper.number.+placing.Goals as goal
 
 pub integral_body-returns-in_err-place_fields-clause-is : goal.integral_body-returns-in_err-place_fields-clause-is
@@ -102,28 +102,28 @@ place_fields-returns-clause-is g t c =
     let i = c.loop-part.invariant in
     λ known. follow_on (i.so_far known) (digits_end _ _ _ _ _ _ (drop_all c.loop-part.part-index c.args.fields.now (omega arith)))
 
-pub place_integral-integral_body-requires : goal.place_integral-integral_body-requires
-place_integral-integral_body-requires g t c =
+pub place_integral-integral_body-placed-requires : goal.place_integral-integral_body-placed-requires
+place_integral-integral_body-placed-requires g t c =
     let depth = c.open_level.ensures.depth in
     let fields = rw (← depth) at c.requires.fields in
     search rules
 
-pub place_integral-drop_level-requires : goal.place_integral-drop_level-requires
-place_integral-drop_level-requires g t c = omega (arith, c.in-Err.ensures.level.depth, c.open_level.ensures.depth)
+pub place_integral-leave_level-requires : goal.place_integral-leave_level-requires
+place_integral-leave_level-requires g t c = left_open c.args.nodes.now c.open_level.ensures.room c.integral_body-placed.ensures.frame.room c.open_level.ensures.depth _ c.integral_body-placed.ensures.level
 
-pub place_integral-returns-in-Ok-clause-is : goal.place_integral-returns-in-Ok-clause-is
+pub place_integral-returns-clause-is : goal.place_integral-returns-clause-is
 unfolding number_plan
-place_integral-returns-in-Ok-clause-is g t c =
-    let opened = c.open_level.ensures.levels c.args.nodes.now in
+place_integral-returns-clause-is g t c =
+    let o = c.open_level.ensures in
+    let left = c.leave_level.ensures in
     λ known.
-    let h = rw opened at (c.in-Ok.ensures.is known) in
-    record { value = h.value; kept = h.kept; ends = h.ends; follows = in_call c.open_level.ensures.room c.in-Ok.ensures.frame.room h.follows }
+    let h = rw (o.levels c.args.nodes.now) at (c.integral_body-placed.ensures.is known) in
+    left_keeps c.args.nodes.now o.room c.integral_body-placed.ensures.frame.room left.room (λ _ h. h) _ _ left.left h
 
-pub place_integral-returns-in-Err-clause-is : goal.place_integral-returns-in-Err-clause-is
-unfolding number_plan
-place_integral-returns-in-Err-clause-is g t c =
-    let opened = c.open_level.ensures.levels c.args.nodes.now in
-    λ known. in_store c.open_level.ensures.room c.in-Err.ensures.frame.room c.drop_level.ensures.room (rw opened at (c.in-Err.ensures.is known))
+pub place_integral-returns-clause-level : goal.place_integral-returns-clause-level
+place_integral-returns-clause-level g t c =
+    let o = c.open_level.ensures in
+    left_adds c.args.nodes.now o.room c.integral_body-placed.ensures.frame.room c.leave_level.ensures.room o.depth (o.levels c.args.nodes.now) _ c.integral_body-placed.ensures.level c.leave_level.ensures.left
 
 pub place_number-place_integer-requires-clause-digits : goal.place_number-place_integer-requires-clause-digits
 place_number-place_integer-requires-clause-digits g t c = subst (λ x. c.args.digits < 2 ^ width_in (number_type x)) (opened_as c.args.nodes.now c.requires.table c.args.at c.requires.at c.index-nodes-at.result _ c.in-Integer.is) c.requires.digits
@@ -215,8 +215,3 @@ place_part-returns-clause-level g t c = pushed_stays c.args.nodes.now _ _ _ _ (s
 
 pub place_part-returns-in_err-check-clause-level : goal.place_part-returns-in_err-check-clause-level
 place_part-returns-in_err-check-clause-level g t c = pushed_stays c.args.nodes.now _ _ _ _ (same_stays _ _) (c.in_ok-place_number.ensures.is None).kept c.in_ok-place_number.ensures.level.depth
-
-pub place_integral-returns-in-Err-clause-level : goal.place_integral-returns-in-Err-clause-level
-place_integral-returns-in-Err-clause-level g t c =
-    let opened = c.open_level.ensures.levels c.args.nodes.now in
-    record { same = c.drop_level.ensures.levels c.args.nodes.now ∙ c.in-Err.ensures.level.outer ∙ ap outer_of opened; depth = search rules }

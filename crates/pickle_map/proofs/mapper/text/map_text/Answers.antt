@@ -1,8 +1,7 @@
-use Rattle.std.proofs.Common.{rules, refl, ap, ◌∙◌, arith}
+use Rattle.std.proofs.Common.{refl, ◌∙◌, arith}
 use Rattle.std.proofs.lemmas.Result.{err_from_is_err_and}
-use Rattle.pickle_meaning.specs.Values.{outer_of}
 use Rattle.pickle_map.proofs.Walks.{follow_tick, follow_no_tick}
-use Rattle.pickle_map.proofs.Worlds.{in_store, in_call}
+use Rattle.pickle_map.proofs.Left.{left_open, left_keeps, left_adds}
 use Rattle.pickle_map.proofs.mapper.text.map_text.Goals as goal
 
 pub returns-in_err-tick-clause-is : goal.returns-in_err-tick-clause-is
@@ -11,30 +10,24 @@ returns-in_err-tick-clause-is g c =
     let e = c.in_err-tick.ensures in
     rw (p.1, p.2) (follow_no_tick e.err (e.err ∙ e.refused.0 refl) e.made)
 
-pub text_body-requires-clause-writing : goal.text_body-requires-clause-writing
-text_body-requires-clause-writing g c = rw (c.open_text.ensures.levels c.args.nodes.now) (c.open_text.ensures.writes c.args.nodes.now c.args.start)
+pub text_body-mapped-requires-clause-writing : goal.text_body-mapped-requires-clause-writing
+text_body-mapped-requires-clause-writing g c = rw (c.open_text.ensures.levels c.args.nodes.now) (c.open_text.ensures.writes c.args.nodes.now c.args.start)
 
-pub text_body-requires-clause-open : goal.text_body-requires-clause-open
-text_body-requires-clause-open g c = omega (arith, c.open_text.ensures.depth)
+pub text_body-mapped-requires-clause-open : goal.text_body-mapped-requires-clause-open
+text_body-mapped-requires-clause-open g c = omega (arith, c.open_text.ensures.depth)
 
-pub drop_level-requires : goal.drop_level-requires
-drop_level-requires g c = omega (arith, c.in-Err.ensures.level.depth, c.open_text.ensures.depth)
+pub leave_level-requires : goal.leave_level-requires
+leave_level-requires g c = left_open c.args.nodes.now c.open_text.ensures.room c.text_body-mapped.ensures.frame.room c.open_text.ensures.depth _ c.text_body-mapped.ensures.level
 
-pub returns-in-Ok-clause-is : goal.returns-in-Ok-clause-is
-returns-in-Ok-clause-is g c =
+pub returns-clause-is : goal.returns-clause-is
+returns-clause-is g c =
     let e = c.in_ok-tick.ensures in
-    let opened = c.open_text.ensures.levels c.args.nodes.now in
-    let h = rw opened at c.in-Ok.ensures.is in
-    record { value = h.value; kept = h.kept; ends = h.ends; follows = follow_tick e.limit e.ok e.made (in_call c.open_text.ensures.room c.in-Ok.ensures.frame.room h.follows) }
+    let o = c.open_text.ensures in
+    let left = c.leave_level.ensures in
+    let h = rw (o.levels c.args.nodes.now) at c.text_body-mapped.ensures.is in
+    left_keeps c.args.nodes.now o.room c.text_body-mapped.ensures.frame.room left.room (λ _ h. follow_tick e.limit e.ok e.made h) (λ end. end) _ left.left h
 
-pub returns-in-Err-clause-is : goal.returns-in-Err-clause-is
-returns-in-Err-clause-is g c =
-    let e = c.in_ok-tick.ensures in
-    let opened = c.open_text.ensures.levels c.args.nodes.now in
-    let h = rw opened at c.in-Err.ensures.is in
-    follow_tick e.limit e.ok e.made (in_store c.open_text.ensures.room c.in-Err.ensures.frame.room c.drop_level.ensures.room h)
-
-pub returns-in-Err-clause-level : goal.returns-in-Err-clause-level
-returns-in-Err-clause-level g c =
-    let opened = c.open_text.ensures.levels c.args.nodes.now in
-    record { same = c.drop_level.ensures.levels c.args.nodes.now ∙ c.in-Err.ensures.level.outer ∙ ap outer_of opened; depth = search rules }
+pub returns-clause-level : goal.returns-clause-level
+returns-clause-level g c =
+    let o = c.open_text.ensures in
+    left_adds c.args.nodes.now o.room c.text_body-mapped.ensures.frame.room c.leave_level.ensures.room o.depth (o.levels c.args.nodes.now) _ c.text_body-mapped.ensures.level c.leave_level.ensures.left

@@ -1,5 +1,5 @@
-use Rattle.pickle_map.proofs.mapper.types.+mapping.Goals.{map_array-in-Some, map_array-in-None, map_fields-then-branch+in_ok-place+in_ok-behind, map_fields-else-branch+in_ok-push_absent}
-use Rattle.std.proofs.Common.{rules, ◌≡◌, ◌+◌, ◌*◌, ◌≤◌, max, [], ◌∷◌, Some, refl, sym, ap, ◌∙◌, arith}
+use Rattle.pickle_map.proofs.mapper.types.+mapping.Goals.{map_fields-then-branch+in_ok-place+in_ok-behind, map_fields-else-branch+in_ok-push_absent}
+use Rattle.std.proofs.Common.{rules, ◌+◌, ◌*◌, ◌≤◌, max, [], ◌∷◌, Some, refl, sym, ap, ◌∙◌, arith}
 use Rattle.std.proofs.lemmas.List.{drop_more, drop_all}
 use Rattle.std.proofs.lemmas.Result.{err_from_is_err_and}
 use Rattle.pickle_types.specs.Types.{depth}
@@ -14,10 +14,11 @@ use Rattle.pickle_meaning.specs.Values.{pushed, outer_of}
 use Rattle.pickle_map.proofs.Clauses.{checks_ok, checks_stop, settles_ok, settles_stop}
 use Rattle.pickle_map.proofs.Followed.{followed_fits, followed_wide}
 use Rattle.pickle_map.proofs.Keeping.{regrown_stays, pushed_stays}
+use Rattle.pickle_map.proofs.Left.{left_open, left_keeps, left_adds}
 use Rattle.mapping_plans.specs.Mapping.{element_plan, makes_row}
 use Rattle.pickle_map.proofs.Widths.{any_names}
 use Rattle.pickle_map.proofs.Elements.{element_done, element_stopped, pushed_apart}
-use Rattle.pickle_map.proofs.Worlds.{room_then, in_store, in_call, in_world, in_later, holds_these, lacks_these}
+use Rattle.pickle_map.proofs.Worlds.{room_then, in_world, in_later, holds_these, lacks_these}
 use Rattle.pickle_map.proofs.Mapping.{few_enough, inside_no_tick, inside_ticks, plan_past, number_is, text_is, struct_is, array_is, union_is, struct_no_room, struct_made, array_no_room, array_made, union_no_room, union_made, fields_end, fields_no_tick, condition_stops, absent_no_room, absent_goes, start_stops, field_stops, field_goes, elements_end, elements_beyond, elements_no_tick, elements_no_bits, elements_goes, elements_over, elements_stop, alternatives_end, alternatives_no_tick, alternatives_fit, alternatives_miss, alternatives_stop}
 use Rattle.value_store.proofs.PackedRows.{row-opened}
 use Rattle.pickle_map.proofs.Shapes.{opened_as, below_as, sound_as, names_as, fields_within, parts_within, fields_bounded, parts_bounded, field_bounded, part_bounded, of_one, name_of_one, struct_opened, union_opened, fields_named}
@@ -148,28 +149,21 @@ map_struct-returns-in_err-tick-clause-is g t c =
     let e = c.in_err-tick.ensures in
     rw (p.1, p.2, struct_is) (inside_no_tick _ _ _ c.requires.inside e.err (e.err ∙ e.refused.0 refl) e.made)
 
-pub map_struct-drop_level-requires : goal.map_struct-drop_level-requires
-map_struct-drop_level-requires g t c = omega (arith, c.in-Err.ensures.level.depth, c.open_level.ensures.depth)
+pub map_struct-leave_level-requires : goal.map_struct-leave_level-requires
+map_struct-leave_level-requires g t c = left_open c.args.nodes.now c.open_level.ensures.room c.struct_body-mapped.ensures.frame.room c.open_level.ensures.depth _ c.struct_body-mapped.ensures.level
 
-pub map_struct-returns-in-Err-clause-level : goal.map_struct-returns-in-Err-clause-level
-map_struct-returns-in-Err-clause-level g t c =
-    let opened = c.open_level.ensures.levels c.args.nodes.now in
-    record { same = c.drop_level.ensures.levels c.args.nodes.now ∙ c.in-Err.ensures.level.outer ∙ ap outer_of opened; depth = search rules }
-
-pub map_struct-returns-in-Ok-clause-is : goal.map_struct-returns-in-Ok-clause-is
-map_struct-returns-in-Ok-clause-is g t c =
+pub map_struct-returns-clause-is : goal.map_struct-returns-clause-is
+map_struct-returns-clause-is g t c =
     let e = c.in_ok-tick.ensures in
-    let opened = c.open_level.ensures.levels c.args.nodes.now in
-    let h = rw opened at c.in-Ok.ensures.is in
-    let follows = in_call c.open_level.ensures.room c.in-Ok.ensures.frame.room h.follows in
-    record { value = h.value; kept = h.kept; ends = h.ends; follows = rw struct_is (inside_ticks _ _ _ c.requires.inside e.limit e.ok e.made follows) }
+    let o = c.open_level.ensures in
+    let left = c.leave_level.ensures in
+    let h = rw (o.levels c.args.nodes.now) at c.struct_body-mapped.ensures.is in
+    rw struct_is (left_keeps c.args.nodes.now o.room c.struct_body-mapped.ensures.frame.room left.room (λ _ h. inside_ticks _ _ _ c.requires.inside e.limit e.ok e.made h) (λ end. end) _ left.left h)
 
-pub map_struct-returns-in-Err-clause-is : goal.map_struct-returns-in-Err-clause-is
-map_struct-returns-in-Err-clause-is g t c =
-    let e = c.in_ok-tick.ensures in
-    let opened = c.open_level.ensures.levels c.args.nodes.now in
-    let h = in_store c.open_level.ensures.room c.in-Err.ensures.frame.room c.drop_level.ensures.room (rw opened at c.in-Err.ensures.is) in
-    rw struct_is (inside_ticks _ _ _ c.requires.inside e.limit e.ok e.made h)
+pub map_struct-returns-clause-level : goal.map_struct-returns-clause-level
+map_struct-returns-clause-level g t c =
+    let o = c.open_level.ensures in
+    left_adds c.args.nodes.now o.room c.struct_body-mapped.ensures.frame.room c.leave_level.ensures.room o.depth (o.levels c.args.nodes.now) _ c.struct_body-mapped.ensures.level c.leave_level.ensures.left
 
 pub map_union-returns-in_err-tick-clause-is : goal.map_union-returns-in_err-tick-clause-is
 map_union-returns-in_err-tick-clause-is g t c =
@@ -177,28 +171,21 @@ map_union-returns-in_err-tick-clause-is g t c =
     let e = c.in_err-tick.ensures in
     rw (p.1, p.2, union_is) (inside_no_tick _ _ _ c.requires.inside e.err (e.err ∙ e.refused.0 refl) e.made)
 
-pub map_union-drop_level-requires : goal.map_union-drop_level-requires
-map_union-drop_level-requires g t c = omega (arith, c.in-Err.ensures.level.depth, c.open_level.ensures.depth)
+pub map_union-leave_level-requires : goal.map_union-leave_level-requires
+map_union-leave_level-requires g t c = left_open c.args.nodes.now c.open_level.ensures.room c.union_body-mapped.ensures.frame.room c.open_level.ensures.depth _ c.union_body-mapped.ensures.level
 
-pub map_union-returns-in-Err-clause-level : goal.map_union-returns-in-Err-clause-level
-map_union-returns-in-Err-clause-level g t c =
-    let opened = c.open_level.ensures.levels c.args.nodes.now in
-    record { same = c.drop_level.ensures.levels c.args.nodes.now ∙ c.in-Err.ensures.level.outer ∙ ap outer_of opened; depth = search rules }
-
-pub map_union-returns-in-Ok-clause-is : goal.map_union-returns-in-Ok-clause-is
-map_union-returns-in-Ok-clause-is g t c =
+pub map_union-returns-clause-is : goal.map_union-returns-clause-is
+map_union-returns-clause-is g t c =
     let e = c.in_ok-tick.ensures in
-    let opened = c.open_level.ensures.levels c.args.nodes.now in
-    let h = rw opened at c.in-Ok.ensures.is in
-    let follows = in_call c.open_level.ensures.room c.in-Ok.ensures.frame.room h.follows in
-    record { value = h.value; kept = h.kept; ends = h.ends; follows = rw union_is (inside_ticks _ _ _ c.requires.inside e.limit e.ok e.made follows) }
+    let o = c.open_level.ensures in
+    let left = c.leave_level.ensures in
+    let h = rw (o.levels c.args.nodes.now) at c.union_body-mapped.ensures.is in
+    rw union_is (left_keeps c.args.nodes.now o.room c.union_body-mapped.ensures.frame.room left.room (λ _ h. inside_ticks _ _ _ c.requires.inside e.limit e.ok e.made h) (λ end. end) _ left.left h)
 
-pub map_union-returns-in-Err-clause-is : goal.map_union-returns-in-Err-clause-is
-map_union-returns-in-Err-clause-is g t c =
-    let e = c.in_ok-tick.ensures in
-    let opened = c.open_level.ensures.levels c.args.nodes.now in
-    let h = in_store c.open_level.ensures.room c.in-Err.ensures.frame.room c.drop_level.ensures.room (rw opened at c.in-Err.ensures.is) in
-    rw union_is (inside_ticks _ _ _ c.requires.inside e.limit e.ok e.made h)
+pub map_union-returns-clause-level : goal.map_union-returns-clause-level
+map_union-returns-clause-level g t c =
+    let o = c.open_level.ensures in
+    left_adds c.args.nodes.now o.room c.union_body-mapped.ensures.frame.room c.leave_level.ensures.room o.depth (o.levels c.args.nodes.now) _ c.union_body-mapped.ensures.level c.leave_level.ensures.left
 
 pub map_array-returns-in_err-tick-clause-is : goal.map_array-returns-in_err-tick-clause-is
 map_array-returns-in_err-tick-clause-is g t c =
@@ -206,60 +193,23 @@ map_array-returns-in_err-tick-clause-is g t c =
     let e = c.in_err-tick.ensures in
     rw (p.1, p.2, array_is) (inside_no_tick _ _ _ c.requires.inside e.err (e.err ∙ e.refused.0 refl) e.made)
 
-pub map_array-drop_level-requires : goal.map_array-drop_level-requires
-map_array-drop_level-requires g t c =
-    elim c.match-packed_as.branch [
-      | map_array-in-Some w ↦
-          let stays = rw (sym w.mapped-is ∙ c.in-Err.is) at w.row_body-mapped.ensures.level in
-          rw w.store-is (omega (arith, stays.depth, c.open_level.ensures.depth))
-      | map_array-in-None w ↦
-          let stays = rw (sym w.mapped-is ∙ c.in-Err.is) at w.array_body-mapped.ensures.level in
-          rw w.store-is (omega (arith, stays.depth, c.open_level.ensures.depth))
-    ]
+pub map_array-leave_level-requires : goal.map_array-leave_level-requires
+map_array-leave_level-requires g t c = left_open c.args.nodes.now c.open_level.ensures.room c.array_body-mapped.ensures.frame.room c.open_level.ensures.depth _ c.array_body-mapped.ensures.level
 
-pub map_array-returns-in-Err-clause-level : goal.map_array-returns-in-Err-clause-level
-map_array-returns-in-Err-clause-level g t c =
-    let opened = c.open_level.ensures.levels c.args.nodes.now in
-    let outer : outer_of (levels c.args.nodes.now c.match-packed_as.store) ≡ outer_of (levels c.args.nodes.now c.open_level.new.self) =
-    elim c.match-packed_as.branch [
-      | map_array-in-Some w ↦ let stays = rw (sym w.mapped-is ∙ c.in-Err.is) at w.row_body-mapped.ensures.level in rw w.store-is stays.outer
-      | map_array-in-None w ↦ let stays = rw (sym w.mapped-is ∙ c.in-Err.is) at w.array_body-mapped.ensures.level in rw w.store-is stays.outer
-    ] in
-    record { same = c.drop_level.ensures.levels c.args.nodes.now ∙ outer ∙ ap outer_of opened; depth = search rules }
-
-pub map_array-returns-in-Ok-clause-is : goal.map_array-returns-in-Ok-clause-is
-map_array-returns-in-Ok-clause-is g t c =
+pub map_array-returns-clause-is : goal.map_array-returns-clause-is
+map_array-returns-clause-is g t c =
     let e = c.in_ok-tick.ensures in
-    let opened = c.open_level.ensures.levels c.args.nodes.now in
-    elim c.match-packed_as.branch [
-      | map_array-in-Some w ↦
-          let h = rw (sym w.mapped-is ∙ c.in-Ok.is, opened) at w.row_body-mapped.ensures.is in
-          let follows = in_call c.open_level.ensures.room w.row_body-mapped.ensures.frame.room h.follows in
-          rw (w.store-is, w.meter-is)
-          (record { value = h.value; kept = h.kept; ends = h.ends; follows = rw array_is (inside_ticks _ _ _ c.requires.inside e.limit e.ok e.made (follow_then_ok _ _ (settles_ok _ _ _ refl (rw c.from.ensures at c.in_ok-extent.ensures.is) c.in_ok-extent.ensures.made) (follow_at c.in_ok-extent.ensures.limit refl refl follows))) })
-      | map_array-in-None w ↦
-          let h = rw (sym w.mapped-is ∙ c.in-Ok.is, opened) at w.array_body-mapped.ensures.is in
-          let follows = in_call c.open_level.ensures.room w.array_body-mapped.ensures.frame.room h.follows in
-          rw (w.store-is, w.meter-is)
-          (record { value = h.value; kept = h.kept; ends = h.ends; follows = rw array_is (inside_ticks _ _ _ c.requires.inside e.limit e.ok e.made (follow_then_ok _ _ (settles_ok _ _ _ refl (rw c.from.ensures at c.in_ok-extent.ensures.is) c.in_ok-extent.ensures.made) (follow_at c.in_ok-extent.ensures.limit refl refl follows))) })
-    ]
+    let found = c.in_ok-extent.ensures in
+    let o = c.open_level.ensures in
+    let left = c.leave_level.ensures in
+    let h = rw (o.levels c.args.nodes.now) at c.array_body-mapped.ensures.is in
+    let extent = settles_ok _ _ _ refl (rw c.from.ensures at found.is) found.made in
+    rw array_is (left_keeps c.args.nodes.now o.room c.array_body-mapped.ensures.frame.room left.room (λ _ h. inside_ticks _ _ _ c.requires.inside e.limit e.ok e.made (follow_then_ok _ _ extent (follow_at found.limit refl refl h))) (λ end. end) _ left.left h)
 
-pub map_array-returns-in-Err-clause-is : goal.map_array-returns-in-Err-clause-is
-map_array-returns-in-Err-clause-is g t c =
-    let e = c.in_ok-tick.ensures in
-    let opened = c.open_level.ensures.levels c.args.nodes.now in
-    elim c.match-packed_as.branch [
-      | map_array-in-Some w ↦
-          let h = rw (sym w.mapped-is ∙ c.in-Err.is, opened) at w.row_body-mapped.ensures.is in
-          let dropped = rw w.store-is at c.drop_level.ensures.room in
-          let h = in_store c.open_level.ensures.room w.row_body-mapped.ensures.frame.room dropped h in
-          rw (w.meter-is, array_is) (inside_ticks _ _ _ c.requires.inside e.limit e.ok e.made (follow_then_ok _ _ (settles_ok _ _ _ refl (rw c.from.ensures at c.in_ok-extent.ensures.is) c.in_ok-extent.ensures.made) (follow_at c.in_ok-extent.ensures.limit refl refl h)))
-      | map_array-in-None w ↦
-          let h = rw (sym w.mapped-is ∙ c.in-Err.is, opened) at w.array_body-mapped.ensures.is in
-          let dropped = rw w.store-is at c.drop_level.ensures.room in
-          let h = in_store c.open_level.ensures.room w.array_body-mapped.ensures.frame.room dropped h in
-          rw (w.meter-is, array_is) (inside_ticks _ _ _ c.requires.inside e.limit e.ok e.made (follow_then_ok _ _ (settles_ok _ _ _ refl (rw c.from.ensures at c.in_ok-extent.ensures.is) c.in_ok-extent.ensures.made) (follow_at c.in_ok-extent.ensures.limit refl refl h)))
-    ]
+pub map_array-returns-clause-level : goal.map_array-returns-clause-level
+map_array-returns-clause-level g t c =
+    let o = c.open_level.ensures in
+    left_adds c.args.nodes.now o.room c.array_body-mapped.ensures.frame.room c.leave_level.ensures.room o.depth (o.levels c.args.nodes.now) _ c.array_body-mapped.ensures.level c.leave_level.ensures.left
 
 pub map_array-returns-in_err-extent-clause-is : goal.map_array-returns-in_err-extent-clause-is
 map_array-returns-in_err-extent-clause-is g t c =
@@ -267,33 +217,21 @@ map_array-returns-in_err-extent-clause-is g t c =
     let e = c.in_ok-tick.ensures in
     rw (p.1, p.2, array_is) (inside_ticks _ _ _ c.requires.inside e.limit e.ok e.made (follow_stop _ _ _ (settles_stop _ _ _ refl (omega arith) (rw c.from.ensures at c.in_err-extent.ensures.is) c.in_err-extent.ensures.made)))
 
-pub map_array-row_body-mapped-requires-clause-packing : goal.map_array-row_body-mapped-requires-clause-packing
-map_array-row_body-mapped-requires-clause-packing g t c =
-    let packs = c.in-Some.ensures in
-    let o = c.open_level.ensures in
-    let short = g.met.S.Space.short c.args.space.now in
-    row-opened c.args.nodes.now c.open_level.new.self c.in-Some.shape c.args.start (outer_of (levels c.args.nodes.now c.open_level.new.self)) packs.packed packs.packs
-    (omega (arith, c.requires.inside, short)) o.fresh o.sound (o.levels c.args.nodes.now ∙ sym (ap (λ ls. [] ∷ outer_of ls) (o.levels c.args.nodes.now)))
-
-pub map_array-row_body-mapped-requires-clause-open : goal.map_array-row_body-mapped-requires-clause-open
-map_array-row_body-mapped-requires-clause-open g t c = omega (arith, c.open_level.ensures.depth)
-
 pub map_array-array_body-mapped-requires : goal.map_array-array_body-mapped-requires
 map_array-array_body-mapped-requires g t c =
     let depth = c.open_level.ensures.depth in
     let opened = c.open_level.ensures.levels c.args.nodes.now in
     let fresh = opened ∙ ap (λ o. [] ∷ o) (sym (ap outer_of opened)) in
-    let apart = c.in-None.ensures in
     search rules
 
-pub map_struct-struct_body-requires : goal.map_struct-struct_body-requires
-map_struct-struct_body-requires g t c =
+pub map_struct-struct_body-mapped-requires : goal.map_struct-struct_body-mapped-requires
+map_struct-struct_body-mapped-requires g t c =
     let depth = c.open_level.ensures.depth in
     let fields = rw (← depth) at c.requires.fields in
     search rules
 
-pub map_union-union_body-requires : goal.map_union-union_body-requires
-map_union-union_body-requires g t c =
+pub map_union-union_body-mapped-requires : goal.map_union-union_body-mapped-requires
+map_union-union_body-mapped-requires g t c =
     let depth = c.open_level.ensures.depth in
     let alternatives = rw (← depth) at c.requires.alternatives in
     let opened = c.open_level.ensures.levels c.args.nodes.now in
@@ -326,6 +264,12 @@ struct_body-returns-clause-is g t c =
     let room = c.in_ok-close_struct.ensures.room in
     let has = holds_these c.args.nodes.now (room_then c.in_ok-end.ensures.frame.room room) c.in_ok-close_struct.ensures.within closed in
     record { value = _; kept = h; ends = refl; follows = struct_made _ _ _ _ (in_later c.in_ok-end.ensures.frame.room room c.in_ok-end.ensures.is) _ _ has n.steps n.made }
+
+pub array_body-row_body-requires-clause-packing : goal.array_body-row_body-requires-clause-packing
+array_body-row_body-requires-clause-packing g t c =
+    let packs = c.in-Some.ensures in
+    let short = g.met.S.Space.short c.args.space.now in
+    row-opened c.args.nodes.now c.args.store.now c.in-Some.shape c.args.start (outer_of (levels c.args.nodes.now c.args.store.now)) packs.packed packs.packs (omega (arith, c.requires.inside, short)) c.requires.empty c.requires.sound c.requires.fresh
 
 pub array_body-map_elements-requires : goal.array_body-map_elements-requires
 array_body-map_elements-requires g t c =
