@@ -7,7 +7,7 @@ use std::alloc::{AllocError, Global};
 pub const PROGRAM: &str = "poke_batch";
 
 /// The program's version, and the line by which the toolchain that proves it names itself.
-pub const VERSION: &str = "0.1.0, proved with rattle-kit-13b logic dac8208d650f15bf";
+pub const VERSION: &str = "0.1.0, proved with rattle-kit-13f logic dac8208d650f15bf";
 
 /// The steps that a mapping may take where no limit is given.
 pub const DEFAULT_LIMIT: u64 = 1_000_000_000;
