@@ -13,8 +13,9 @@ ghost use Rattle.fault_check.specs.Digits.{KeepsNumber, PassesNumber, RefusesNum
 
 use crate::mapped::{check_constraint, is_fault};
 use bit_space::{Meter, Order, Space};
-use pickle_map::mapper::number::{first_digits, place_number, width_at};
+use pickle_map::mapper::number::{first_digits, width_at};
 use pickle_map::mapper::read::read_digits;
+use pickle_map::mapper::state::Mapper;
 use pickle_map::mapper::stop::Stop;
 use pickle_map::mapper::watch::Unwatched;
 use pickle_meaning::faults::MapFault;
@@ -212,5 +213,11 @@ fn keep_number(
     ensures is { IfOk result (λ _. KeepsNumber (type_of nodes.now at) digits start (levels nodes.now store.old) (levels nodes.now store.new)) }
 {
     meter.tick()?;
-    place_number(nodes, at, digits, start, meter, store, &mut Unwatched)
+    let mut mapper = Mapper {
+        nodes,
+        meter,
+        store,
+        watch: &mut Unwatched,
+    };
+    mapper.place_number(at, digits, start)
 }

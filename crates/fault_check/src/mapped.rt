@@ -15,8 +15,8 @@ ghost use Rattle.fault_check.specs.Ways.{OnBits, Settled, IsThere, IsFault, Leav
 use crate::part::Entered;
 use bit_space::{Meter, Order, Space};
 use pickle_map::mapper::clauses;
+use pickle_map::mapper::state::Mapper;
 use pickle_map::mapper::stop::Stop;
-use pickle_map::mapper::types::map_type;
 use pickle_map::mapper::watch::Unwatched;
 use pickle_meaning::faults::MapFault;
 use pickle_types::view::{Node, Resolved};
@@ -41,16 +41,13 @@ pub fn map_part<S: Space>(
     ensures level { AddsToLevel nodes.now store.old store.new result }
     ensures outer { outer_of (levels nodes.now store.new) ≡ outer_of (levels nodes.now store.old) }
 {
-    map_type(
+    let mut mapper = Mapper {
         nodes,
-        node,
-        order,
-        start,
-        space,
         meter,
         store,
-        &mut Unwatched,
-    )
+        watch: &mut Unwatched,
+    };
+    mapper.map_type(node, order, start, space)
 }
 
 /// Checks a constraint of the value that stands last in the innermost level and began at the bit `place`.

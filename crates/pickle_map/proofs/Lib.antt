@@ -2,6 +2,7 @@ pub mod Walks
 pub mod Worlds
 pub mod Keeping
 pub mod Left
+mod Lent
 pub mod Settling
 pub mod Shapes
 pub mod Clauses

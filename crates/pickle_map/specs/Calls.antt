@@ -107,10 +107,6 @@ module _ (nodes : List Node) (space : SpaceView) (meter meter' : Meter) (store s
   abbrev pub Closes : Planned Value → Result ℕ Stop → Type 0
   Closes planned result = MapsIn (outer_of (levels nodes store)) (planned nodes (8 * space.len) (levels nodes store)) result
 
-  -- it closed it as a struct
-  abbrev pub ClosesStruct : (at : ℕ) → (pinned : Bool) → List Field → Order → (start : ℕ) → Result ℕ Stop → Type 0
-  ClosesStruct at pinned fields order start result = Closes (as_struct_level at pinned fields order start) result
-
   -- it kept parts of the innermost level, which end at a bit
   abbrev pub FillsBy : Plan (Result Opened FaultAt) → Result ℕ Stop → Type 0
   FillsBy p (Ok end) = Runs space meter meter' store store' p (Done (Ok (levels nodes store', end)))
@@ -143,11 +139,6 @@ module _ (nodes : List Node) (space : SpaceView) (meter meter' : Meter) (store s
   abbrev pub PacksRow : Shape → (element : ℕ) → Extent → Order → (start : ℕ) → Result ℕ Stop → Type 0
   PacksRow shape element extent order start result =
       PacksBy shape start (as_elements element extent order start nodes (8 * space.len) (levels nodes store)) result
-
--- it kept an integer, by whatever names values are told
-abbrev pub MapsInteger : SpaceView → (meter meter' : Meter) → (store store' : Held) → IntegerType → Order → (start : ℕ) → Result ℕ Stop → Type 0
-MapsInteger space meter meter' store store' number order start result =
-    (nodes : List Node) → Maps nodes space meter meter' store store' (as_integer number order start) result
 
 -- ---- what a call did with a number that was read
 

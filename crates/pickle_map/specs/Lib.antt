@@ -4,6 +4,7 @@ pub mod Framed
 pub mod Row
 pub mod Stops
 pub mod Calls
+pub mod AtWork
 pub mod Settles
 pub mod Settled
 pub mod Mappable

@@ -13,6 +13,7 @@ pub(crate) mod level;
 pub mod number;
 pub mod read;
 pub(crate) mod row;
+pub mod state;
 pub mod stop;
 pub(crate) mod text;
 pub mod types;
@@ -21,8 +22,8 @@ pub mod watch;
 use bit_space::{Meter, Order, Space};
 use pickle_meaning::faults::{MapFault, MapFaultKind};
 use pickle_types::table::{Table, TypeId};
+use state::Mapper;
 use stop::Stop;
-use types::map_type;
 use value_store::store::Store;
 use watch::{Unwatched, Watch};
 
@@ -92,22 +93,19 @@ pub fn map_watched<S: Space, W: Watch>(
     requires empty { store.old ≡ emptied store.old }
     ensures { MapsNamed table.now id order start (S.view space.old) (S.view space.new) meter.old meter.new store.old store.new result }
 {
-    match map_type(
-        table.nodes(),
-        id.node,
-        order,
-        u128::from(start),
-        space,
+    let mut mapper = Mapper {
+        nodes: table.nodes(),
         meter,
         store,
         watch,
-    ) {
+    };
+    match mapper.map_type(id.node, order, u128::from(start), space) {
         Ok(_) => {
-            let _fixed = store.never_grows();
+            let _fixed = mapper.store.never_grows();
             Ok(())
         }
         Err(stop) => {
-            store.clear();
+            mapper.store.clear();
             Err(told(stop, start))
         }
     }

@@ -2,16 +2,18 @@
 
 ghost use Rattle.std.specs.Prelude.{◌*◌, ◌<◌, ◌≤◌, [], length, IfOk};
 ghost use Rattle.pickle_types.specs.Table.{IsTable, type_of};
-ghost use Rattle.pickle_map.specs.Calls.{as_array_level, Closes, PacksRow};
-ghost use Rattle.pickle_map.specs.Framed.{Frame, IsEnd, LevelStays, LeavesLevel};
+ghost use Rattle.pickle_map.specs.AtWork.{StaysLent, Frame, LevelStays, LeavesLevel, Closes, PacksRow};
+ghost use Rattle.pickle_map.specs.Calls.{as_array_level};
+ghost use Rattle.pickle_map.specs.Framed.{IsEnd};
 ghost use Rattle.pickle_map.specs.Row.{PacksAs, PacksOrNot};
 ghost use Rattle.value_store.specs.Slots.{levels, IsPacking, level_count};
 ghost use Rattle.pickle_meaning.specs.Values.{outer_of};
 
 use crate::mapper::read::read_digits;
+use crate::mapper::state::Mapper;
 use crate::mapper::stop::Stop;
 use crate::mapper::watch::Watch;
-use bit_space::{Meter, Order, Space};
+use bit_space::{Order, Space};
 use pickle_meaning::extent::Extent;
 use pickle_meaning::faults::MapFaultKind;
 use pickle_types::view::{Node, Shape as Type};
@@ -41,87 +43,86 @@ pub(crate) fn packed_as(nodes: &[Node], element: usize, store: &Store) -> Option
     }
 }
 
-/// Maps the elements of an array of packed numbers into its level, and closes it.
-pub(crate) fn row_body<S: Space, W: Watch>(
-    nodes: &[Node],
-    element: usize,
-    shape: Shape,
-    extent: Extent,
-    order: Order,
-    start: u64,
-    space: &mut S,
-    meter: &mut Meter,
-    store: &mut Store,
-    watch: &mut W,
-) -> Result<u64, Stop>
-    requires shape { PacksAs shape (type_of nodes.now element) store.old.room }
-    requires packing { IsPacking nodes.now store.old shape [] start (outer_of (levels nodes.now store.old)) }
-    requires open { 1 < level_count store.old }
-    requires inside { start ≤ 8 * (S.view space.old).len }
-    requires free { meter.old.made < meter.old.steps }
-    ensures frame { Frame (S.view space.old) (S.view space.new) meter.old meter.new store.old store.new 1 result }
-    ensures ends { IfOk result (IsEnd start (S.view space.old)) }
-    ensures is { Closes nodes.now (S.view space.old) meter.old meter.new store.old store.new (as_array_level element extent order start) result }
-    ensures level { LeavesLevel nodes.now store.old store.new result }
-{
-    let end = map_packed(
-        nodes, element, shape, extent, order, start, space, meter, store, watch,
-    )?;
-    store.close_row(shape, start)?;
-    meter.note_made();
-    Ok(end)
-}
+impl<W: Watch> Mapper<'_, W> {
+    /// Maps the elements of an array of packed numbers into its level, and closes it.
+    pub(crate) fn row_body<S: Space>(
+        &mut self,
+        element: usize,
+        shape: Shape,
+        extent: Extent,
+        order: Order,
+        start: u64,
+        space: &mut S,
+    ) -> Result<u64, Stop>
+        requires shape { PacksAs shape (type_of self.old.nodes.now element) self.old.store.now.room }
+        requires packing { IsPacking self.old.nodes.now self.old.store.now shape [] start (outer_of (levels self.old.nodes.now self.old.store.now)) }
+        requires open { 1 < level_count self.old.store.now }
+        requires inside { start ≤ 8 * (S.view space.old).len }
+        requires free { self.old.meter.now.made < self.old.meter.now.steps }
+        ensures lent { StaysLent self.old self.new }
+        ensures frame { Frame (S.view space.old) (S.view space.new) self.old self.new 1 result }
+        ensures ends { IfOk result (IsEnd start (S.view space.old)) }
+        ensures is { Closes (S.view space.old) self.old self.new (as_array_level element extent order start) result }
+        ensures level { LeavesLevel self.old self.new result }
+    {
+        let end = self.map_packed(element, shape, extent, order, start, space)?;
+        self.store.close_row(shape, start)?;
+        self.meter.note_made();
+        Ok(end)
+    }
 
-/// Maps numbers, one after the other, into an array of packed numbers.
-#[inline(never)]
-fn map_packed<S: Space, W: Watch>(
-    nodes: &[Node],
-    element: usize,
-    shape: Shape,
-    extent: Extent,
-    order: Order,
-    start: u64,
-    space: &mut S,
-    meter: &mut Meter,
-    store: &mut Store,
-    watch: &mut W,
-) -> Result<u64, Stop>
-    requires shape { PacksAs shape (type_of nodes.now element) store.old.room }
-    requires packing { IsPacking nodes.now store.old shape [] start (outer_of (levels nodes.now store.old)) }
-    requires inside { start ≤ 8 * (S.view space.old).len }
-    ensures frame { Frame (S.view space.old) (S.view space.new) meter.old meter.new store.old store.new 0 result }
-    ensures ends { IfOk result (IsEnd start (S.view space.old)) }
-    ensures is { PacksRow nodes.now (S.view space.old) meter.old meter.new store.old store.new shape element extent order start result }
-    ensures level { LevelStays nodes.now store.old store.new }
-{
-    let bits = 8 * space.len();
-    let width = shape.element_width();
-    let mut place = start;
-    let mut count = 0;
-    while extent.is_due(bits, start, count, place) {
-        watch.next();
-        meter.tick()?;
-        match read_digits(space, place, width, order, meter) {
-            Ok(digits) => {
-                store.push_packed(shape, width, digits, count == 0, start)?;
-                meter.note_made();
-                place += u64::from(width);
-                count += 1;
-            }
-            Err(stop) => {
-                if stop.ends(extent) {
-                    watch.end(stop);
-                    return Ok(place);
+    /// Maps numbers, one after the other, into an array of packed numbers. Its loop has the meter and the store in registers.
+    #[inline(never)]
+    fn map_packed<S: Space>(
+        &mut self,
+        element: usize,
+        shape: Shape,
+        extent: Extent,
+        order: Order,
+        start: u64,
+        space: &mut S,
+    ) -> Result<u64, Stop>
+        requires shape { PacksAs shape (type_of self.old.nodes.now element) self.old.store.now.room }
+        requires packing { IsPacking self.old.nodes.now self.old.store.now shape [] start (outer_of (levels self.old.nodes.now self.old.store.now)) }
+        requires inside { start ≤ 8 * (S.view space.old).len }
+        ensures lent { StaysLent self.old self.new }
+        ensures frame { Frame (S.view space.old) (S.view space.new) self.old self.new 0 result }
+        ensures ends { IfOk result (IsEnd start (S.view space.old)) }
+        ensures is { PacksRow (S.view space.old) self.old self.new shape element extent order start result }
+        ensures level { LevelStays self.old self.new }
+    {
+        let meter = &mut *self.meter;
+        let store = &mut *self.store;
+        let watch = &mut *self.watch;
+        let bits = 8 * space.len();
+        let width = shape.element_width();
+        let mut place = start;
+        let mut count = 0;
+        while extent.is_due(bits, start, count, place) {
+            watch.next();
+            meter.tick()?;
+            match read_digits(space, place, width, order, meter) {
+                Ok(digits) => {
+                    store.push_packed(shape, width, digits, count == 0, start)?;
+                    meter.note_made();
+                    place += u64::from(width);
+                    count += 1;
                 }
-                return Err(stop);
+                Err(stop) => {
+                    if stop.ends(extent) {
+                        watch.end(stop);
+                        return Ok(place);
+                    }
+                    return Err(stop);
+                }
             }
         }
-    }
-    if extent.is_met(start, place) {
-        Ok(place)
-    } else {
-        let stop = Stop::Fault(MapFaultKind::Bounds, u128::from(start));
-        watch.outgrow(extent, place, stop);
-        Err(stop)
+        if extent.is_met(start, place) {
+            Ok(place)
+        } else {
+            let stop = Stop::Fault(MapFaultKind::Bounds, u128::from(start));
+            watch.outgrow(extent, place, stop);
+            Err(stop)
+        }
     }
 }

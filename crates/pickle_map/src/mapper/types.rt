@@ -3,8 +3,9 @@
 ghost use Rattle.std.specs.Prelude.{◌≡◌, ◌+◌, ◌*◌, ◌^◌, ◌<◌, ◌≤◌, ◌∷◌, [], map, length, All, IfOk, OnOk};
 ghost use Rattle.pickle_types.specs.Types.{depth};
 ghost use Rattle.pickle_types.specs.Table.{IsTable, type_of, optional_term, bound_of};
-ghost use Rattle.pickle_map.specs.Calls.{as_type, as_checked, as_array, as_array_level, as_elements, as_struct, ClosesStruct, as_fields, as_union, as_union_level, Maps, Closes, Fills, Takes};
-ghost use Rattle.pickle_map.specs.Framed.{Frame, IsEnd, AddsToLevel, LevelStays, LeavesLevel};
+ghost use Rattle.pickle_map.specs.AtWork.{StaysLent, Frame, AddsToLevel, LevelStays, LeavesLevel, Maps, Closes, Fills, Takes};
+ghost use Rattle.pickle_map.specs.Calls.{as_type, as_checked, as_array, as_array_level, as_elements, as_struct, as_struct_level, as_fields, as_union, as_union_level};
+ghost use Rattle.pickle_map.specs.Framed.{IsEnd};
 ghost use Rattle.pickle_meaning.specs.Values.{outer_of};
 ghost use Rattle.pickle_map.specs.Mappable.{IsFieldOf, IsPartOf};
 ghost use Rattle.pickle_map.specs.Row.{StandApart, BeginsApart};
@@ -15,559 +16,490 @@ ghost use Rattle.value_store.specs.Slots.{levels, level_count, AreLevels, HasNoN
 
 use crate::mapper::blame::{check, find_extent, find_start, is_there};
 use crate::mapper::level::leave_level;
-use crate::mapper::number::{map_integer, map_number};
-use crate::mapper::row::{packed_as, row_body};
+use crate::mapper::row::packed_as;
+use crate::mapper::state::Mapper;
 use crate::mapper::stop::Stop;
-use crate::mapper::text::map_text;
 use crate::mapper::watch::Watch;
-use bit_space::{Meter, Order, Space};
+use bit_space::{Order, Space};
 use pickle_meaning::extent::Extent;
 use pickle_meaning::faults::MapFaultKind;
 use pickle_tree::tree::ByteOrder;
 use pickle_types::view::{Extent as Bound, Field, Node, Part, Resolved, Shape};
-use value_store::store::Store;
 
-/// Maps the type at a place of the table from the bit `start` on, and gives the bit behind it.
-#[cycle(mapping)]
-#[inline(always)]
-pub fn map_type<S: Space, W: Watch>(
-    nodes: &[Node],
-    at: usize,
-    order: Order,
-    start: u128,
-    space: &mut S,
-    meter: &mut Meter,
-    store: &mut Store,
-    watch: &mut W,
-) -> Result<u64, Stop>
-    requires table { IsTable nodes.now }
-    requires at { at < length nodes.now }
-    requires open { level_count store.old + depth (type_of nodes.now at) ≤ 65 }
-    ensures frame { Frame (S.view space.old) (S.view space.new) meter.old meter.new store.old store.new 0 result }
-    ensures ends { IfOk result (IsEnd start (S.view space.old)) }
-    ensures is { Maps nodes.now (S.view space.old) meter.old meter.new store.old store.new (as_type at order start) result }
-    ensures level { AddsToLevel nodes.now store.old store.new result }
-{
-    if u128::from(8 * space.len()) < start {
-        return Err(Stop::Fault(MapFaultKind::End, start));
-    }
-    map_inside(nodes, at, order, start as u64, space, meter, store, watch)
-}
-
-/// Maps the type at a place of the table, whose start is inside the file. Most values are integers: those are
-/// mapped without one more call, and strings with one less.
-#[cycle(mapping)]
-#[inline(always)]
-fn map_inside<S: Space, W: Watch>(
-    nodes: &[Node],
-    at: usize,
-    order: Order,
-    start: u64,
-    space: &mut S,
-    meter: &mut Meter,
-    store: &mut Store,
-    watch: &mut W,
-) -> Result<u64, Stop>
-    requires table { IsTable nodes.now }
-    requires at { at < length nodes.now }
-    requires open { level_count store.old + depth (type_of nodes.now at) ≤ 65 }
-    requires inside { start ≤ 8 * (S.view space.old).len }
-    ensures frame { Frame (S.view space.old) (S.view space.new) meter.old meter.new store.old store.new 0 result }
-    ensures ends { IfOk result (IsEnd start (S.view space.old)) }
-    ensures is { Maps nodes.now (S.view space.old) meter.old meter.new store.old store.new (as_type at order start) result }
-    ensures level { AddsToLevel nodes.now store.old store.new result }
-{
-    match &nodes[at].shape {
-        Shape::Integer(number) => map_integer(*number, order, start, space, meter, store),
-        Shape::String => map_text(nodes, start, space, meter, store),
-        _ => map_shape(nodes, at, order, start, space, meter, store, watch),
-    }
-}
-
-/// Maps the type at a place of the table by its shape.
-#[cycle(mapping)]
-#[inline(never)]
-fn map_shape<S: Space, W: Watch>(
-    nodes: &[Node],
-    at: usize,
-    order: Order,
-    start: u64,
-    space: &mut S,
-    meter: &mut Meter,
-    store: &mut Store,
-    watch: &mut W,
-) -> Result<u64, Stop>
-    requires table { IsTable nodes.now }
-    requires at { at < length nodes.now }
-    requires open { level_count store.old + depth (type_of nodes.now at) ≤ 65 }
-    requires inside { start ≤ 8 * (S.view space.old).len }
-    ensures frame { Frame (S.view space.old) (S.view space.new) meter.old meter.new store.old store.new 0 result }
-    ensures ends { IfOk result (IsEnd start (S.view space.old)) }
-    ensures is { Maps nodes.now (S.view space.old) meter.old meter.new store.old store.new (as_type at order start) result }
-    ensures level { AddsToLevel nodes.now store.old store.new result }
-{
-    match &nodes[at].shape {
-        Shape::Integer(number) => {
-            map_number(nodes, at, *number, order, start, space, meter, store, watch)
+impl<W: Watch> Mapper<'_, W> {
+    /// Maps the type at a place of the table from the bit `start` on, and gives the bit behind it.
+    #[cycle(mapping)]
+    #[inline(always)]
+    pub fn map_type<S: Space>(
+        &mut self,
+        at: usize,
+        order: Order,
+        start: u128,
+        space: &mut S,
+    ) -> Result<u64, Stop>
+        requires table { IsTable self.old.nodes.now }
+        requires at { at < length self.old.nodes.now }
+        requires open { level_count self.old.store.now + depth (type_of self.old.nodes.now at) ≤ 65 }
+        ensures lent { StaysLent self.old self.new }
+        ensures frame { Frame (S.view space.old) (S.view space.new) self.old self.new 0 result }
+        ensures ends { IfOk result (IsEnd start (S.view space.old)) }
+        ensures is { Maps (S.view space.old) self.old self.new (as_type at order start) result }
+        ensures level { AddsToLevel self.old self.new result }
+    {
+        if u128::from(8 * space.len()) < start {
+            return Err(Stop::Fault(MapFaultKind::End, start));
         }
-        Shape::Offset(number, _) => {
-            map_number(nodes, at, *number, order, start, space, meter, store, watch)
-        }
-        Shape::Integral {
-            name: _,
-            number,
-            fields: _,
-        } => map_number(nodes, at, *number, order, start, space, meter, store, watch),
-        Shape::String => map_text(nodes, start, space, meter, store),
-        Shape::Array(element, bound) => {
-            map_array(
-                nodes, at, *element, bound, order, start, space, meter, store, watch,
-            )
-        }
-        Shape::Struct {
-            name: _,
-            pinned,
-            fields,
-        } => map_struct(
-            nodes, at, *pinned, fields, order, start, space, meter, store, watch,
-        ),
-        Shape::Union {
-            name: _,
-            alternatives,
-        } => map_union(
-            nodes,
-            at,
-            alternatives,
-            order,
-            start,
-            space,
-            meter,
-            store,
-            watch,
-        ),
+        self.map_inside(at, order, start as u64, space)
     }
-}
 
-/// Maps a type into the innermost level, and checks the constraint that stands beside it.
-#[cycle(mapping)]
-#[inline(always)]
-fn map_checked<S: Space, W: Watch>(
-    nodes: &[Node],
-    node: usize,
-    constraint: &Option<Box<Resolved>>,
-    order: Order,
-    start: u128,
-    space: &mut S,
-    meter: &mut Meter,
-    store: &mut Store,
-    watch: &mut W,
-) -> Result<u64, Stop>
-    requires table { IsTable nodes.now }
-    requires at { node < length nodes.now }
-    requires open { level_count store.old + depth (type_of nodes.now node) ≤ 65 }
-    requires sound { IsSoundClause (optional_term constraint.now) }
-    ensures frame { Frame (S.view space.old) (S.view space.new) meter.old meter.new store.old store.new 0 result }
-    ensures ends { IfOk result (IsEnd start (S.view space.old)) }
-    ensures is { Maps nodes.now (S.view space.old) meter.old meter.new store.old store.new (as_checked node constraint.now order start) result }
-    ensures level { LevelStays nodes.now store.old store.new }
-{
-    let end = map_type(nodes, node, order, start, space, meter, store, watch)?;
-    check(nodes, constraint, store, start, meter, watch)?;
-    Ok(end)
-}
-
-/// Maps the array at a place of the table, whose start is inside the file.
-#[cycle(mapping)]
-fn map_array<S: Space, W: Watch>(
-    nodes: &[Node],
-    at: usize,
-    element: usize,
-    bound: &Bound,
-    order: Order,
-    start: u64,
-    space: &mut S,
-    meter: &mut Meter,
-    store: &mut Store,
-    watch: &mut W,
-) -> Result<u64, Stop>
-    requires table { IsTable nodes.now }
-    requires element { element < length nodes.now }
-    requires open { level_count store.old + 1 + depth (type_of nodes.now element) ≤ 65 }
-    requires sound { IsSoundBound (bound_of bound.now) }
-    requires inside { start ≤ 8 * (S.view space.old).len }
-    ensures frame { Frame (S.view space.old) (S.view space.new) meter.old meter.new store.old store.new 0 result }
-    ensures ends { IfOk result (IsEnd start (S.view space.old)) }
-    ensures is { Maps nodes.now (S.view space.old) meter.old meter.new store.old store.new (as_array element bound.now order start) result }
-    ensures level { AddsToLevel nodes.now store.old store.new result }
-{
-    meter.tick()?;
-    watch.open(at);
-    let extent = find_extent(nodes, bound, store, u128::from(start), meter, watch)?;
-    store.open_level();
-    let mapped = array_body(
-        nodes, element, extent, order, start, space, meter, store, watch,
-    );
-    leave_level(&mapped, store, watch);
-    mapped
-}
-
-/// Maps the elements of an array into its level, as a row of packed numbers where the store packs them, and closes it.
-#[cycle(mapping)]
-fn array_body<S: Space, W: Watch>(
-    nodes: &[Node],
-    element: usize,
-    extent: Extent,
-    order: Order,
-    start: u64,
-    space: &mut S,
-    meter: &mut Meter,
-    store: &mut Store,
-    watch: &mut W,
-) -> Result<u64, Stop>
-    requires table { IsTable nodes.now }
-    requires element { element < length nodes.now }
-    requires open { (1 < level_count store.old) × (level_count store.old + depth (type_of nodes.now element) ≤ 65) }
-    requires fresh { levels nodes.now store.old ≡ [] ∷ outer_of (levels nodes.now store.old) }
-    requires empty { HasNoNode store.old }
-    requires sound { AreLevels store.old.room store.old.frames store.old.slots }
-    requires inside { start ≤ 8 * (S.view space.old).len }
-    requires free { meter.old.made < meter.old.steps }
-    ensures frame { Frame (S.view space.old) (S.view space.new) meter.old meter.new store.old store.new 1 result }
-    ensures ends { IfOk result (IsEnd start (S.view space.old)) }
-    ensures is { Closes nodes.now (S.view space.old) meter.old meter.new store.old store.new (as_array_level element extent order start) result }
-    ensures level { LeavesLevel nodes.now store.old store.new result }
-{
-    if let Some(shape) = packed_as(nodes, element, store) {
-        return row_body(
-            nodes, element, shape, extent, order, start, space, meter, store, watch,
-        );
+    /// Maps the type at a place of the table, whose start is inside the file. Most values are integers: those are
+    /// mapped without one more call, and strings with one less.
+    #[cycle(mapping)]
+    #[inline(always)]
+    fn map_inside<S: Space>(
+        &mut self,
+        at: usize,
+        order: Order,
+        start: u64,
+        space: &mut S,
+    ) -> Result<u64, Stop>
+        requires table { IsTable self.old.nodes.now }
+        requires at { at < length self.old.nodes.now }
+        requires open { level_count self.old.store.now + depth (type_of self.old.nodes.now at) ≤ 65 }
+        requires inside { start ≤ 8 * (S.view space.old).len }
+        ensures lent { StaysLent self.old self.new }
+        ensures frame { Frame (S.view space.old) (S.view space.new) self.old self.new 0 result }
+        ensures ends { IfOk result (IsEnd start (S.view space.old)) }
+        ensures is { Maps (S.view space.old) self.old self.new (as_type at order start) result }
+        ensures level { AddsToLevel self.old self.new result }
+    {
+        let nodes = self.nodes;
+        match &nodes[at].shape {
+            Shape::Integer(number) => self.map_integer(*number, order, start, space),
+            Shape::String => self.map_text(start, space),
+            _ => self.map_shape(at, order, start, space),
+        }
     }
-    let end = map_elements(
-        nodes, element, extent, order, start, space, meter, store, watch,
-    )?;
-    store.close_array(start, end)?;
-    meter.note_made();
-    Ok(end)
-}
 
-/// Maps elements, one after the other, into their level.
-#[cycle(mapping)]
-fn map_elements<S: Space, W: Watch>(
-    nodes: &[Node],
-    element: usize,
-    extent: Extent,
-    order: Order,
-    start: u64,
-    space: &mut S,
-    meter: &mut Meter,
-    store: &mut Store,
-    watch: &mut W,
-) -> Result<u64, Stop>
-    requires table { IsTable nodes.now }
-    requires element { element < length nodes.now }
-    requires open { level_count store.old + depth (type_of nodes.now element) ≤ 65 }
-    requires apart { StandApart (type_of nodes.now element) store.old.room }
-    requires begins { BeginsApart nodes.now store.old }
-    requires inside { start ≤ 8 * (S.view space.old).len }
-    ensures frame { Frame (S.view space.old) (S.view space.new) meter.old meter.new store.old store.new 0 result }
-    ensures ends { IfOk result (IsEnd start (S.view space.old)) }
-    ensures is { Fills nodes.now (S.view space.old) meter.old meter.new store.old store.new (as_elements element extent order start) result }
-    ensures begins { OnOk result (BeginsApart nodes.now store.new) }
-    ensures level { LevelStays nodes.now store.old store.new }
-{
-    let bits = 8 * space.len();
-    let mut place = start;
-    let mut count = 0;
-    while extent.is_due(bits, start, count, place) {
-        watch.next();
-        meter.tick()?;
-        match map_inside(nodes, element, order, place, space, meter, store, watch) {
-            Ok(end) => {
-                if end == place {
-                    return Err(Stop::Fault(MapFaultKind::NoBits, u128::from(place)));
-                }
-                place = end;
-                count += 1;
+    /// Maps the type at a place of the table by its shape.
+    #[cycle(mapping)]
+    #[inline(never)]
+    fn map_shape<S: Space>(
+        &mut self,
+        at: usize,
+        order: Order,
+        start: u64,
+        space: &mut S,
+    ) -> Result<u64, Stop>
+        requires table { IsTable self.old.nodes.now }
+        requires at { at < length self.old.nodes.now }
+        requires open { level_count self.old.store.now + depth (type_of self.old.nodes.now at) ≤ 65 }
+        requires inside { start ≤ 8 * (S.view space.old).len }
+        ensures lent { StaysLent self.old self.new }
+        ensures frame { Frame (S.view space.old) (S.view space.new) self.old self.new 0 result }
+        ensures ends { IfOk result (IsEnd start (S.view space.old)) }
+        ensures is { Maps (S.view space.old) self.old self.new (as_type at order start) result }
+        ensures level { AddsToLevel self.old self.new result }
+    {
+        let nodes = self.nodes;
+        match &nodes[at].shape {
+            Shape::Integer(number) => { self.map_number(at, *number, order, start, space) }
+            Shape::Offset(number, _) => { self.map_number(at, *number, order, start, space) }
+            Shape::Integral {
+                name: _,
+                number,
+                fields: _,
+            } => self.map_number(at, *number, order, start, space),
+            Shape::String => self.map_text(start, space),
+            Shape::Array(element, bound) => {
+                self.map_array(at, *element, bound, order, start, space)
             }
-            Err(stop) => {
-                if stop.ends(extent) {
-                    watch.end(stop);
-                    return Ok(place);
-                }
-                return Err(stop);
-            }
-        }
-    }
-    if extent.is_met(start, place) {
-        Ok(place)
-    } else {
-        let stop = Stop::Fault(MapFaultKind::Bounds, u128::from(start));
-        watch.outgrow(extent, place, stop);
-        Err(stop)
-    }
-}
-
-/// Maps a struct, whose start is inside the file.
-#[cycle(mapping)]
-fn map_struct<S: Space, W: Watch>(
-    nodes: &[Node],
-    at: usize,
-    pinned: bool,
-    fields: &[Field],
-    order: Order,
-    start: u64,
-    space: &mut S,
-    meter: &mut Meter,
-    store: &mut Store,
-    watch: &mut W,
-) -> Result<u64, Stop>
-    requires table { IsTable nodes.now }
-    requires at { at < length nodes.now }
-    requires fields { All (IsFieldOf nodes.now (level_count store.old + 1)) fields.now }
-    requires names { names_at nodes.now at ≡ map field_name fields.now }
-    requires open { level_count store.old ≤ 64 }
-    requires inside { start ≤ 8 * (S.view space.old).len }
-    ensures frame { Frame (S.view space.old) (S.view space.new) meter.old meter.new store.old store.new 0 result }
-    ensures ends { IfOk result (IsEnd start (S.view space.old)) }
-    ensures is { Maps nodes.now (S.view space.old) meter.old meter.new store.old store.new (as_struct at pinned fields.now order start) result }
-    ensures level { AddsToLevel nodes.now store.old store.new result }
-{
-    meter.tick()?;
-    watch.open(at);
-    store.open_level();
-    let mapped = struct_body(
-        nodes, at, pinned, fields, order, start, space, meter, store, watch,
-    );
-    leave_level(&mapped, store, watch);
-    mapped
-}
-
-/// Maps the fields of a struct into its level, and closes it.
-#[cycle(mapping)]
-fn struct_body<S: Space, W: Watch>(
-    nodes: &[Node],
-    at: usize,
-    pinned: bool,
-    fields: &[Field],
-    order: Order,
-    start: u64,
-    space: &mut S,
-    meter: &mut Meter,
-    store: &mut Store,
-    watch: &mut W,
-) -> Result<u64, Stop>
-    requires table { IsTable nodes.now }
-    requires at { at < length nodes.now }
-    requires fields { All (IsFieldOf nodes.now (level_count store.old)) fields.now }
-    requires names { names_at nodes.now at ≡ map field_name fields.now }
-    requires open { 1 < level_count store.old }
-    requires inside { start ≤ 8 * (S.view space.old).len }
-    requires free { meter.old.made < meter.old.steps }
-    ensures frame { Frame (S.view space.old) (S.view space.new) meter.old meter.new store.old store.new 1 result }
-    ensures ends { IfOk result (IsEnd start (S.view space.old)) }
-    ensures is { ClosesStruct nodes.now (S.view space.old) meter.old meter.new store.old store.new at pinned fields.now order start result }
-    ensures level { LeavesLevel nodes.now store.old store.new result }
-{
-    let end = map_fields(
-        nodes, pinned, fields, order, start, space, meter, store, watch,
-    )?;
-    store.close_struct(at as u32, start, end)?;
-    meter.note_made();
-    Ok(end)
-}
-
-/// Maps fields, one after the other, into their level, and gives their greatest end.
-#[cycle(mapping)]
-fn map_fields<S: Space, W: Watch>(
-    nodes: &[Node],
-    pinned: bool,
-    fields: &[Field],
-    order: Order,
-    start: u64,
-    space: &mut S,
-    meter: &mut Meter,
-    store: &mut Store,
-    watch: &mut W,
-) -> Result<u64, Stop>
-    requires table { IsTable nodes.now }
-    requires fields { All (IsFieldOf nodes.now (level_count store.old)) fields.now }
-    requires inside { start ≤ 8 * (S.view space.old).len }
-    ensures frame { Frame (S.view space.old) (S.view space.new) meter.old meter.new store.old store.new 0 result }
-    ensures ends { IfOk result (IsEnd start (S.view space.old)) }
-    ensures is { Fills nodes.now (S.view space.old) meter.old meter.new store.old store.new (as_fields pinned fields.now order start) result }
-    ensures level { LevelStays nodes.now store.old store.new }
-{
-    let origin = u128::from(start);
-    let mut behind = start;
-    let mut top = start;
-    for field in fields {
-        watch.next();
-        meter.tick()?;
-        if is_there(nodes, &field.condition, store, origin, meter, watch)? {
-            let place = find_start(
-                nodes,
+            Shape::Struct {
+                name: _,
                 pinned,
-                &field.label,
-                store,
-                start,
-                behind,
-                meter,
-                watch,
-            )?;
-            behind = map_checked(
-                nodes,
-                field.node,
-                &field.constraint,
-                ordered(field.order, order),
-                place,
-                space,
-                meter,
-                store,
-                watch,
-            )?;
-            top = top.max(behind);
-        } else {
-            store.push_absent()?;
+                fields,
+            } => self.map_struct(at, *pinned, fields, order, start, space),
+            Shape::Union {
+                name: _,
+                alternatives,
+            } => self.map_union(at, alternatives, order, start, space),
         }
     }
-    Ok(top)
-}
 
-/// Maps a union, whose start is inside the file.
-#[cycle(mapping)]
-fn map_union<S: Space, W: Watch>(
-    nodes: &[Node],
-    at: usize,
-    alternatives: &[Part],
-    order: Order,
-    start: u64,
-    space: &mut S,
-    meter: &mut Meter,
-    store: &mut Store,
-    watch: &mut W,
-) -> Result<u64, Stop>
-    requires table { IsTable nodes.now }
-    requires at { at < length nodes.now }
-    requires alternatives { All (IsPartOf nodes.now (level_count store.old + 1)) alternatives.now }
-    requires few { length alternatives.now ≤ 2 ^ 16 }
-    requires names { names_at nodes.now at ≡ map part_name alternatives.now }
-    requires open { level_count store.old ≤ 64 }
-    requires inside { start ≤ 8 * (S.view space.old).len }
-    ensures frame { Frame (S.view space.old) (S.view space.new) meter.old meter.new store.old store.new 0 result }
-    ensures ends { IfOk result (IsEnd start (S.view space.old)) }
-    ensures is { Maps nodes.now (S.view space.old) meter.old meter.new store.old store.new (as_union at alternatives.now order start) result }
-    ensures level { AddsToLevel nodes.now store.old store.new result }
-{
-    meter.tick()?;
-    watch.open(at);
-    store.open_level();
-    let mapped = union_body(
-        nodes,
-        at,
-        alternatives,
-        order,
-        start,
-        space,
-        meter,
-        store,
-        watch,
-    );
-    leave_level(&mapped, store, watch);
-    mapped
-}
+    /// Maps a type into the innermost level, and checks the constraint that stands beside it.
+    #[cycle(mapping)]
+    #[inline(always)]
+    fn map_checked<S: Space>(
+        &mut self,
+        node: usize,
+        constraint: &Option<Box<Resolved>>,
+        order: Order,
+        start: u128,
+        space: &mut S,
+    ) -> Result<u64, Stop>
+        requires table { IsTable self.old.nodes.now }
+        requires at { node < length self.old.nodes.now }
+        requires open { level_count self.old.store.now + depth (type_of self.old.nodes.now node) ≤ 65 }
+        requires sound { IsSoundClause (optional_term constraint.now) }
+        ensures lent { StaysLent self.old self.new }
+        ensures frame { Frame (S.view space.old) (S.view space.new) self.old self.new 0 result }
+        ensures ends { IfOk result (IsEnd start (S.view space.old)) }
+        ensures is { Maps (S.view space.old) self.old self.new (as_checked node constraint.now order start) result }
+        ensures level { LevelStays self.old self.new }
+    {
+        let nodes = self.nodes;
+        let end = self.map_type(node, order, start, space)?;
+        check(nodes, constraint, self.store, start, self.meter, self.watch)?;
+        Ok(end)
+    }
 
-/// Maps an alternative of a union into its level, and closes it.
-#[cycle(mapping)]
-fn union_body<S: Space, W: Watch>(
-    nodes: &[Node],
-    at: usize,
-    alternatives: &[Part],
-    order: Order,
-    start: u64,
-    space: &mut S,
-    meter: &mut Meter,
-    store: &mut Store,
-    watch: &mut W,
-) -> Result<u64, Stop>
-    requires table { IsTable nodes.now }
-    requires at { at < length nodes.now }
-    requires alternatives { All (IsPartOf nodes.now (level_count store.old)) alternatives.now }
-    requires few { length alternatives.now ≤ 2 ^ 16 }
-    requires names { names_at nodes.now at ≡ map part_name alternatives.now }
-    requires open { 1 < level_count store.old }
-    requires fresh { levels nodes.now store.old ≡ [] ∷ outer_of (levels nodes.now store.old) }
-    requires inside { start ≤ 8 * (S.view space.old).len }
-    requires free { meter.old.made < meter.old.steps }
-    ensures frame { Frame (S.view space.old) (S.view space.new) meter.old meter.new store.old store.new 1 result }
-    ensures ends { IfOk result (IsEnd start (S.view space.old)) }
-    ensures is { Closes nodes.now (S.view space.old) meter.old meter.new store.old store.new (as_union_level at alternatives.now order start) result }
-    ensures level { LeavesLevel nodes.now store.old store.new result }
-{
-    let (index, end) = map_alternatives(
-        nodes,
-        alternatives,
-        order,
-        start,
-        space,
-        meter,
-        store,
-        watch,
-    )?;
-    store.close_union(at as u32, index as u16, start, end)?;
-    meter.note_made();
-    Ok(end)
-}
+    /// Maps the array at a place of the table, whose start is inside the file.
+    #[cycle(mapping)]
+    fn map_array<S: Space>(
+        &mut self,
+        at: usize,
+        element: usize,
+        bound: &Bound,
+        order: Order,
+        start: u64,
+        space: &mut S,
+    ) -> Result<u64, Stop>
+        requires table { IsTable self.old.nodes.now }
+        requires element { element < length self.old.nodes.now }
+        requires open { level_count self.old.store.now + 1 + depth (type_of self.old.nodes.now element) ≤ 65 }
+        requires sound { IsSoundBound (bound_of bound.now) }
+        requires inside { start ≤ 8 * (S.view space.old).len }
+        ensures lent { StaysLent self.old self.new }
+        ensures frame { Frame (S.view space.old) (S.view space.new) self.old self.new 0 result }
+        ensures ends { IfOk result (IsEnd start (S.view space.old)) }
+        ensures is { Maps (S.view space.old) self.old self.new (as_array element bound.now order start) result }
+        ensures level { AddsToLevel self.old self.new result }
+    {
+        self.meter.tick()?;
+        self.watch.open(at);
+        let extent = find_extent(
+            self.nodes,
+            bound,
+            self.store,
+            u128::from(start),
+            self.meter,
+            self.watch,
+        )?;
+        self.store.open_level();
+        let mapped = self.array_body(element, extent, order, start, space);
+        leave_level(&mapped, self.store, self.watch);
+        mapped
+    }
 
-/// Maps the first alternative that fits into its level, and gives its index and its end.
-#[cycle(mapping)]
-fn map_alternatives<S: Space, W: Watch>(
-    nodes: &[Node],
-    alternatives: &[Part],
-    order: Order,
-    start: u64,
-    space: &mut S,
-    meter: &mut Meter,
-    store: &mut Store,
-    watch: &mut W,
-) -> Result<(usize, u64), Stop>
-    requires table { IsTable nodes.now }
-    requires alternatives { All (IsPartOf nodes.now (level_count store.old)) alternatives.now }
-    requires fresh { levels nodes.now store.old ≡ [] ∷ outer_of (levels nodes.now store.old) }
-    requires inside { start ≤ 8 * (S.view space.old).len }
-    ensures frame { Frame (S.view space.old) (S.view space.new) meter.old meter.new store.old store.new 0 result }
-    ensures ends { IfOk result (λ r. IsEnd start (S.view space.old) r.1 × (r.0 < length alternatives.now)) }
-    ensures is { Takes nodes.now (S.view space.old) meter.old meter.new store.old store.new alternatives.now order start result }
-    ensures level { LevelStays nodes.now store.old store.new }
-{
-    for (index, part) in alternatives.iter().enumerate() {
-        watch.next();
-        meter.tick()?;
-        let prefixed = ordered(part.order, order);
-        let origin = u128::from(start);
-        match map_checked(
-            nodes,
-            part.node,
-            &part.constraint,
-            prefixed,
-            origin,
-            space,
-            meter,
-            store,
-            watch,
-        ) {
-            Ok(end) => return Ok((index, end)),
-            Err(stop) => {
-                if !stop.misses() {
+    /// Maps the elements of an array into its level, as a row of packed numbers where the store packs them, and closes it.
+    #[cycle(mapping)]
+    fn array_body<S: Space>(
+        &mut self,
+        element: usize,
+        extent: Extent,
+        order: Order,
+        start: u64,
+        space: &mut S,
+    ) -> Result<u64, Stop>
+        requires table { IsTable self.old.nodes.now }
+        requires element { element < length self.old.nodes.now }
+        requires open { (1 < level_count self.old.store.now) × (level_count self.old.store.now + depth (type_of self.old.nodes.now element) ≤ 65) }
+        requires fresh { levels self.old.nodes.now self.old.store.now ≡ [] ∷ outer_of (levels self.old.nodes.now self.old.store.now) }
+        requires empty { HasNoNode self.old.store.now }
+        requires sound { AreLevels self.old.store.now.room self.old.store.now.frames self.old.store.now.slots }
+        requires inside { start ≤ 8 * (S.view space.old).len }
+        requires free { self.old.meter.now.made < self.old.meter.now.steps }
+        ensures lent { StaysLent self.old self.new }
+        ensures frame { Frame (S.view space.old) (S.view space.new) self.old self.new 1 result }
+        ensures ends { IfOk result (IsEnd start (S.view space.old)) }
+        ensures is { Closes (S.view space.old) self.old self.new (as_array_level element extent order start) result }
+        ensures level { LeavesLevel self.old self.new result }
+    {
+        if let Some(shape) = packed_as(self.nodes, element, self.store) {
+            return self.row_body(element, shape, extent, order, start, space);
+        }
+        let end = self.map_elements(element, extent, order, start, space)?;
+        self.store.close_array(start, end)?;
+        self.meter.note_made();
+        Ok(end)
+    }
+
+    /// Maps elements, one after the other, into their level.
+    #[cycle(mapping)]
+    fn map_elements<S: Space>(
+        &mut self,
+        element: usize,
+        extent: Extent,
+        order: Order,
+        start: u64,
+        space: &mut S,
+    ) -> Result<u64, Stop>
+        requires table { IsTable self.old.nodes.now }
+        requires element { element < length self.old.nodes.now }
+        requires open { level_count self.old.store.now + depth (type_of self.old.nodes.now element) ≤ 65 }
+        requires apart { StandApart (type_of self.old.nodes.now element) self.old.store.now.room }
+        requires begins { BeginsApart self.old.nodes.now self.old.store.now }
+        requires inside { start ≤ 8 * (S.view space.old).len }
+        ensures lent { StaysLent self.old self.new }
+        ensures frame { Frame (S.view space.old) (S.view space.new) self.old self.new 0 result }
+        ensures ends { IfOk result (IsEnd start (S.view space.old)) }
+        ensures is { Fills (S.view space.old) self.old self.new (as_elements element extent order start) result }
+        ensures begins { OnOk result (BeginsApart self.old.nodes.now self.new.store.now) }
+        ensures level { LevelStays self.old self.new }
+    {
+        let bits = 8 * space.len();
+        let mut place = start;
+        let mut count = 0;
+        while extent.is_due(bits, start, count, place) {
+            self.watch.next();
+            self.meter.tick()?;
+            match self.map_inside(element, order, place, space) {
+                Ok(end) => {
+                    if end == place {
+                        return Err(Stop::Fault(MapFaultKind::NoBits, u128::from(place)));
+                    }
+                    place = end;
+                    count += 1;
+                }
+                Err(stop) => {
+                    if stop.ends(extent) {
+                        self.watch.end(stop);
+                        return Ok(place);
+                    }
                     return Err(stop);
                 }
-                watch.miss(stop);
-                store.clear_level();
             }
         }
+        if extent.is_met(start, place) {
+            Ok(place)
+        } else {
+            let stop = Stop::Fault(MapFaultKind::Bounds, u128::from(start));
+            self.watch.outgrow(extent, place, stop);
+            Err(stop)
+        }
     }
-    let stop = Stop::Fault(MapFaultKind::Constraint, u128::from(start));
-    watch.refuse(stop);
-    Err(stop)
+
+    /// Maps a struct, whose start is inside the file.
+    #[cycle(mapping)]
+    fn map_struct<S: Space>(
+        &mut self,
+        at: usize,
+        pinned: bool,
+        fields: &[Field],
+        order: Order,
+        start: u64,
+        space: &mut S,
+    ) -> Result<u64, Stop>
+        requires table { IsTable self.old.nodes.now }
+        requires at { at < length self.old.nodes.now }
+        requires fields { All (IsFieldOf self.old.nodes.now (level_count self.old.store.now + 1)) fields.now }
+        requires names { names_at self.old.nodes.now at ≡ map field_name fields.now }
+        requires open { level_count self.old.store.now ≤ 64 }
+        requires inside { start ≤ 8 * (S.view space.old).len }
+        ensures lent { StaysLent self.old self.new }
+        ensures frame { Frame (S.view space.old) (S.view space.new) self.old self.new 0 result }
+        ensures ends { IfOk result (IsEnd start (S.view space.old)) }
+        ensures is { Maps (S.view space.old) self.old self.new (as_struct at pinned fields.now order start) result }
+        ensures level { AddsToLevel self.old self.new result }
+    {
+        self.meter.tick()?;
+        self.watch.open(at);
+        self.store.open_level();
+        let mapped = self.struct_body(at, pinned, fields, order, start, space);
+        leave_level(&mapped, self.store, self.watch);
+        mapped
+    }
+
+    /// Maps the fields of a struct into its level, and closes it.
+    #[cycle(mapping)]
+    fn struct_body<S: Space>(
+        &mut self,
+        at: usize,
+        pinned: bool,
+        fields: &[Field],
+        order: Order,
+        start: u64,
+        space: &mut S,
+    ) -> Result<u64, Stop>
+        requires table { IsTable self.old.nodes.now }
+        requires at { at < length self.old.nodes.now }
+        requires fields { All (IsFieldOf self.old.nodes.now (level_count self.old.store.now)) fields.now }
+        requires names { names_at self.old.nodes.now at ≡ map field_name fields.now }
+        requires open { 1 < level_count self.old.store.now }
+        requires inside { start ≤ 8 * (S.view space.old).len }
+        requires free { self.old.meter.now.made < self.old.meter.now.steps }
+        ensures lent { StaysLent self.old self.new }
+        ensures frame { Frame (S.view space.old) (S.view space.new) self.old self.new 1 result }
+        ensures ends { IfOk result (IsEnd start (S.view space.old)) }
+        ensures is { Closes (S.view space.old) self.old self.new (as_struct_level at pinned fields.now order start) result }
+        ensures level { LeavesLevel self.old self.new result }
+    {
+        let end = self.map_fields(pinned, fields, order, start, space)?;
+        self.store.close_struct(at as u32, start, end)?;
+        self.meter.note_made();
+        Ok(end)
+    }
+
+    /// Maps fields, one after the other, into their level, and gives their greatest end.
+    #[cycle(mapping)]
+    fn map_fields<S: Space>(
+        &mut self,
+        pinned: bool,
+        fields: &[Field],
+        order: Order,
+        start: u64,
+        space: &mut S,
+    ) -> Result<u64, Stop>
+        requires table { IsTable self.old.nodes.now }
+        requires fields { All (IsFieldOf self.old.nodes.now (level_count self.old.store.now)) fields.now }
+        requires inside { start ≤ 8 * (S.view space.old).len }
+        ensures lent { StaysLent self.old self.new }
+        ensures frame { Frame (S.view space.old) (S.view space.new) self.old self.new 0 result }
+        ensures ends { IfOk result (IsEnd start (S.view space.old)) }
+        ensures is { Fills (S.view space.old) self.old self.new (as_fields pinned fields.now order start) result }
+        ensures level { LevelStays self.old self.new }
+    {
+        let nodes = self.nodes;
+        let origin = u128::from(start);
+        let mut behind = start;
+        let mut top = start;
+        for field in fields {
+            self.watch.next();
+            self.meter.tick()?;
+            if is_there(
+                nodes,
+                &field.condition,
+                self.store,
+                origin,
+                self.meter,
+                self.watch,
+            )? {
+                let place = find_start(
+                    nodes,
+                    pinned,
+                    &field.label,
+                    self.store,
+                    start,
+                    behind,
+                    self.meter,
+                    self.watch,
+                )?;
+                behind = self.map_checked(
+                    field.node,
+                    &field.constraint,
+                    ordered(field.order, order),
+                    place,
+                    space,
+                )?;
+                top = top.max(behind);
+            } else {
+                self.store.push_absent()?;
+            }
+        }
+        Ok(top)
+    }
+
+    /// Maps a union, whose start is inside the file.
+    #[cycle(mapping)]
+    fn map_union<S: Space>(
+        &mut self,
+        at: usize,
+        alternatives: &[Part],
+        order: Order,
+        start: u64,
+        space: &mut S,
+    ) -> Result<u64, Stop>
+        requires table { IsTable self.old.nodes.now }
+        requires at { at < length self.old.nodes.now }
+        requires alternatives { All (IsPartOf self.old.nodes.now (level_count self.old.store.now + 1)) alternatives.now }
+        requires few { length alternatives.now ≤ 2 ^ 16 }
+        requires names { names_at self.old.nodes.now at ≡ map part_name alternatives.now }
+        requires open { level_count self.old.store.now ≤ 64 }
+        requires inside { start ≤ 8 * (S.view space.old).len }
+        ensures lent { StaysLent self.old self.new }
+        ensures frame { Frame (S.view space.old) (S.view space.new) self.old self.new 0 result }
+        ensures ends { IfOk result (IsEnd start (S.view space.old)) }
+        ensures is { Maps (S.view space.old) self.old self.new (as_union at alternatives.now order start) result }
+        ensures level { AddsToLevel self.old self.new result }
+    {
+        self.meter.tick()?;
+        self.watch.open(at);
+        self.store.open_level();
+        let mapped = self.union_body(at, alternatives, order, start, space);
+        leave_level(&mapped, self.store, self.watch);
+        mapped
+    }
+
+    /// Maps an alternative of a union into its level, and closes it.
+    #[cycle(mapping)]
+    fn union_body<S: Space>(
+        &mut self,
+        at: usize,
+        alternatives: &[Part],
+        order: Order,
+        start: u64,
+        space: &mut S,
+    ) -> Result<u64, Stop>
+        requires table { IsTable self.old.nodes.now }
+        requires at { at < length self.old.nodes.now }
+        requires alternatives { All (IsPartOf self.old.nodes.now (level_count self.old.store.now)) alternatives.now }
+        requires few { length alternatives.now ≤ 2 ^ 16 }
+        requires names { names_at self.old.nodes.now at ≡ map part_name alternatives.now }
+        requires open { 1 < level_count self.old.store.now }
+        requires fresh { levels self.old.nodes.now self.old.store.now ≡ [] ∷ outer_of (levels self.old.nodes.now self.old.store.now) }
+        requires inside { start ≤ 8 * (S.view space.old).len }
+        requires free { self.old.meter.now.made < self.old.meter.now.steps }
+        ensures lent { StaysLent self.old self.new }
+        ensures frame { Frame (S.view space.old) (S.view space.new) self.old self.new 1 result }
+        ensures ends { IfOk result (IsEnd start (S.view space.old)) }
+        ensures is { Closes (S.view space.old) self.old self.new (as_union_level at alternatives.now order start) result }
+        ensures level { LeavesLevel self.old self.new result }
+    {
+        let (index, end) = self.map_alternatives(alternatives, order, start, space)?;
+        self.store.close_union(at as u32, index as u16, start, end)?;
+        self.meter.note_made();
+        Ok(end)
+    }
+
+    /// Maps the first alternative that fits into its level, and gives its index and its end.
+    #[cycle(mapping)]
+    fn map_alternatives<S: Space>(
+        &mut self,
+        alternatives: &[Part],
+        order: Order,
+        start: u64,
+        space: &mut S,
+    ) -> Result<(usize, u64), Stop>
+        requires table { IsTable self.old.nodes.now }
+        requires alternatives { All (IsPartOf self.old.nodes.now (level_count self.old.store.now)) alternatives.now }
+        requires fresh { levels self.old.nodes.now self.old.store.now ≡ [] ∷ outer_of (levels self.old.nodes.now self.old.store.now) }
+        requires inside { start ≤ 8 * (S.view space.old).len }
+        ensures lent { StaysLent self.old self.new }
+        ensures frame { Frame (S.view space.old) (S.view space.new) self.old self.new 0 result }
+        ensures ends { IfOk result (λ r. IsEnd start (S.view space.old) r.1 × (r.0 < length alternatives.now)) }
+        ensures is { Takes (S.view space.old) self.old self.new alternatives.now order start result }
+        ensures level { LevelStays self.old self.new }
+    {
+        for (index, part) in alternatives.iter().enumerate() {
+            self.watch.next();
+            self.meter.tick()?;
+            let prefixed = ordered(part.order, order);
+            let origin = u128::from(start);
+            match self.map_checked(part.node, &part.constraint, prefixed, origin, space) {
+                Ok(end) => return Ok((index, end)),
+                Err(stop) => {
+                    if !stop.misses() {
+                        return Err(stop);
+                    }
+                    self.watch.miss(stop);
+                    self.store.clear_level();
+                }
+            }
+        }
+        let stop = Stop::Fault(MapFaultKind::Constraint, u128::from(start));
+        self.watch.refuse(stop);
+        Err(stop)
+    }
 }
 
 /// The order of a field: its prefix's, or the one around it.

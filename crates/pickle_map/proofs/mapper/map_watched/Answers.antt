@@ -1,4 +1,4 @@
-use Rattle.std.proofs.Common.{◌*◌, option_map, refl, sym, ap, ◌∙◌, arith}
+use Rattle.std.proofs.Common.{rules, ◌*◌, option_map, refl, sym, ap, ◌∙◌, arith}
 use Rattle.bit_space.specs.Bits.{bits_of}
 use Rattle.bit_space.proofs.Digits.{length-bits_of}
 use Rattle.pickle_types.specs.Table.{type_of}
@@ -6,6 +6,7 @@ use Rattle.value_store.specs.Slots.{level_count, emptied}
 use Rattle.pickle_meaning.specs.Values.{no_values}
 use Rattle.pickle_map.proofs.Followed.{walk_rises, followed_steps, followed_made, followed_fits, followed_size, followed_result}
 use Rattle.pickle_map.proofs.Keeping.{kept_within}
+use Rattle.pickle_map.proofs.Lent.{given_back}
 use Rattle.pickle_map.proofs.Stopped.{told_there, told_limit, told_memory, told_device, told_counts, told_means, told_kept, told_wanted, none_kept}
 use Rattle.pickle_map.proofs.Repeated.{room_when_done}
 use Rattle.pickle_map.proofs.mapper.map_watched.Goals as goal
@@ -24,9 +25,9 @@ returns-in-Ok g c =
     let h = rw (c.nodes.ensures, none, c.from.ensures) at m.follows in
     let bits = 8 * (g.S.Space.view c.args.space.now).len in
     let ty = type_of c.args.table.now.nodes.items c.args.id.node in
-    let within = c.map_type.new.meter.within in
+    let within = c.map_type.new.self.meter.now.within in
     let limit = c.in-Ok.ensures.frame.limit in
-    record {
+    given_back c.map_type.new.self.meter.now c.map_type.new.self.store.now (search rules) (search rules) (record {
       value = λ bytes known.
           let e = ap (λ n. 8 * n) (sym (g.met.S.Space.whole c.args.space.now bytes known)) ∙ sym (length-bits_of bytes) in
           let h = rw e at h in
@@ -47,12 +48,12 @@ returns-in-Ok g c =
       emptied = tt;
       holds = c.never_grows-fixed.ensures.holds;
       room = c.in-Ok.ensures.frame.room;
-      held = λ never. kept_within c.args.table.now.nodes.items c.args.store.now c.map_type.new.store c.in-Ok.ensures.frame.room.room never (λ e. c.never_grows-fixed.ensures.fits e c.args.table.now.nodes.items);
+      held = λ never. kept_within c.args.table.now.nodes.items c.args.store.now c.map_type.new.self.store.now c.in-Ok.ensures.frame.room.room never (λ e. c.never_grows-fixed.ensures.fits e c.args.table.now.nodes.items);
       most = limit;
       len = c.in-Ok.ensures.frame.len;
       bytes = c.in-Ok.ensures.frame.bytes;
       failures = c.in-Ok.ensures.frame.failures;
-    }
+    })
 
 pub returns-in-Err : goal.returns-in-Err
 returns-in-Err g c =
@@ -62,10 +63,10 @@ returns-in-Err g c =
     let ty = type_of c.args.table.now.nodes.items c.args.id.node in
     let order = c.args.order in
     let start = c.args.start in
-    let within = c.map_type.new.meter.within in
+    let within = c.map_type.new.self.meter.now.within in
     let limit = c.in-Err.ensures.frame.limit in
     let keeps = c.in-Err.ensures.frame.room in
-    record {
+    given_back c.map_type.new.self.meter.now c.clear.new.self (search rules) (search rules) (record {
       value = λ bytes known. tt;
       fault = λ bytes known.
           let e = ap (λ n. 8 * n) (sym (g.met.S.Space.whole c.args.space.now bytes known)) ∙ sym (length-bits_of bytes) in
@@ -79,7 +80,7 @@ returns-in-Err g c =
       limit = rw c.told.ensures (told_limit bits ty order start c.in-Err.stop h);
       memory = rw c.told.ensures (told_memory bits ty order start c.in-Err.stop h);
       device = rw c.told.ensures (λ e. c.in-Err.ensures.frame.device (told_device bits ty order start c.in-Err.stop h e));
-      counts = rw (c.told.ensures, c.clear.ensures.empty) (told_counts bits ty order start (g.S.Space.view c.args.space.now) c.args.meter.now c.map_type.new.meter c.args.store.now (emptied c.map_type.new.store) c.in-Err.stop h);
+      counts = rw (c.told.ensures, c.clear.ensures.empty) (told_counts bits ty order start (g.S.Space.view c.args.space.now) c.args.meter.now c.map_type.new.self.meter.now c.args.store.now (emptied c.map_type.new.self.store.now) c.in-Err.stop h);
       kept = λ bytes known. rw (c.told.ensures, c.clear.ensures.empty) (told_kept (bits_of bytes) bits ty order start (ap (option_map bits_of) known) c.in-Err.stop h);
       asked = λ bytes known. rw c.told.ensures (told_wanted (bits_of bytes) bits ty order start (ap (option_map bits_of) known) (omega (arith, within, limit)) c.in-Err.stop h);
       place = rw c.told.ensures (told_there bits ty order start c.in-Err.stop h);
@@ -91,4 +92,4 @@ returns-in-Err g c =
       len = c.in-Err.ensures.frame.len;
       bytes = c.in-Err.ensures.frame.bytes;
       failures = c.in-Err.ensures.frame.failures;
-    }
+    })

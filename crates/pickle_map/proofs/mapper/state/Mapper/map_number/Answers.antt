@@ -4,7 +4,7 @@ use Rattle.bit_space.specs.SpaceView.{known_bits}
 use Rattle.mapping_plans.specs.Mapping.{read_plan}
 use Rattle.pickle_meaning.specs.Means.{width_in}
 use Rattle.pickle_map.proofs.Placing.{read_stops, read_goes}
-use Rattle.pickle_map.proofs.mapper.number.map_number.Goals as goal
+use Rattle.pickle_map.proofs.mapper.state.Mapper.map_number.Goals as goal
 
 pub returns-in_err-digits-clause-is : goal.returns-in_err-digits-clause-is
 unfolding read_plan

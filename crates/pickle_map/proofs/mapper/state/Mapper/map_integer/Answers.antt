@@ -3,33 +3,33 @@ use Rattle.std.proofs.lemmas.Result.{err_from_is_err_and}
 use Rattle.bit_space.specs.SpaceView.{known_bits}
 use Rattle.mapping_plans.specs.Mapping.{read_plan}
 use Rattle.pickle_map.proofs.Placing.{read_stops, read_goes}
-use Rattle.pickle_map.proofs.mapper.number.map_integer.Goals as goal
+use Rattle.pickle_map.proofs.mapper.state.Mapper.map_integer.Goals as goal
 
 pub returns-in_err-digits-clause-is : goal.returns-in_err-digits-clause-is
 unfolding read_plan
-returns-in_err-digits-clause-is g c nodes =
+returns-in_err-digits-clause-is g c =
     let p = err_from_is_err_and c.from_residual.result c.from_residual.ensures.1 in
     rw (p.1, p.2) (read_stops _ _ _ _ _ _ _ _ _ refl refl c.in_err-digits.ensures.err c.in_err-digits.ensures.made)
 
 pub returns-in_err-place_integer-clause-is : goal.returns-in_err-place_integer-clause-is
 unfolding read_plan
-returns-in_err-place_integer-clause-is g c nodes =
+returns-in_err-place_integer-clause-is g c =
     let p = err_from_is_err_and c.from_residual-in_err-place_integer.result c.from_residual-in_err-place_integer.ensures.1 in
     let r = c.in_ok-digits.ensures in
-    rw (p.1, p.2) (read_goes _ _ _ _ _ _ _ r.limit r.steps r.made r.inside r.ok (c.in_err-place_integer.ensures.is nodes (known_bits (g.S.Space.view c.args.space.now))))
+    rw (p.1, p.2) (read_goes _ _ _ _ _ _ _ r.limit r.steps r.made r.inside r.ok (c.in_err-place_integer.ensures.is (known_bits (g.S.Space.view c.args.space.now))))
 
 pub returns-in_err-place_integer-clause-level : goal.returns-in_err-place_integer-clause-level
-returns-in_err-place_integer-clause-level g c nodes =
+returns-in_err-place_integer-clause-level g c =
     let p = err_from_is_err_and c.from_residual-in_err-place_integer.result c.from_residual-in_err-place_integer.ensures.1 in
-    let level = c.in_err-place_integer.ensures.level nodes in
+    let level = c.in_err-place_integer.ensures.level in
     rw p.1 (record { same = level.same; depth = level.depth })
 
 pub returns-clause-level : goal.returns-clause-level
-returns-clause-level g c nodes = record { same = tt; depth = (c.in_ok-place_integer.ensures.level nodes).depth }
+returns-clause-level g c = record { same = tt; depth = (c.in_ok-place_integer.ensures.level).depth }
 
 pub returns-clause-is : goal.returns-clause-is
 unfolding read_plan
-returns-clause-is g c nodes =
+returns-clause-is g c =
     let r = c.in_ok-digits.ensures in
-    let h = c.in_ok-place_integer.ensures.is nodes (known_bits (g.S.Space.view c.args.space.now)) in
+    let h = c.in_ok-place_integer.ensures.is (known_bits (g.S.Space.view c.args.space.now)) in
     rw c.from.ensures (record { value = h.value; kept = h.kept; ends = h.ends; follows = read_goes _ _ _ _ _ _ _ r.limit r.steps r.made r.inside r.ok h.follows })

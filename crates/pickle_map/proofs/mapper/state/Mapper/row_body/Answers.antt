@@ -8,7 +8,7 @@ use Rattle.pickle_map.proofs.Mapping.{array_no_room, array_made}
 use Rattle.pickle_map.proofs.Row.{row_closed}
 use Rattle.pickle_map.proofs.Worlds.{room_then, in_later, holds_these, lacks_these}
 use Rattle.pickle_map.proofs.Walks.{follow_stop}
-use Rattle.pickle_map.proofs.mapper.row.row_body.Goals as goal
+use Rattle.pickle_map.proofs.mapper.state.Mapper.row_body.Goals as goal
 
 pub returns-in_err-end-clause-is : goal.returns-in_err-end-clause-is
 returns-in_err-end-clause-is g c =
@@ -19,22 +19,22 @@ pub returns-in_err-close_row-clause-is : goal.returns-in_err-close_row-clause-is
 returns-in_err-close_row-clause-is g c =
     let p = err_from_is_err_and c.from_residual-in_err-close_row.result c.from_residual-in_err-close_row.ensures.1 in
     let m = c.in_ok-end.ensures.is in
-    let outer = outer_of (levels c.args.nodes.now c.args.store.now) in
+    let outer = outer_of (levels c.args.self.now.nodes.now c.args.self.now.store.now) in
     let closed = row_closed c.args.shape m.numbers c.args.start c.in_ok-end.end outer m.ends in
-    let full = rw closed at (c.in_err-close_row.ensures.full c.args.nodes.now m.numbers outer m.packing) in
+    let full = rw closed at (c.in_err-close_row.ensures.full c.args.self.now.nodes.now m.numbers outer m.packing) in
     rw (p.1, p.2) (array_no_room _ _ _ _ (in_later c.in_ok-end.ensures.frame.room c.in_err-close_row.ensures.room m.runs) (lacks_these c.in_ok-end.ensures.frame.room full))
 
 pub returns-in_err-close_row-clause-level : goal.returns-in_err-close_row-clause-level
 returns-in_err-close_row-clause-level g c =
     let p = err_from_is_err_and c.from_residual-in_err-close_row.result c.from_residual-in_err-close_row.ensures.1 in
-    rw p.1 (regrown_stays c.args.nodes.now _ _ _ c.in_ok-end.ensures.level c.in_err-close_row.ensures.err)
+    rw p.1 (regrown_stays c.args.self.now.nodes.now _ _ _ c.in_ok-end.ensures.level c.in_err-close_row.ensures.err)
 
 pub returns-clause-is : goal.returns-clause-is
 returns-clause-is g c =
     let n = c.note_made.ensures in
     let m = c.in_ok-end.ensures.is in
-    let outer = outer_of (levels c.args.nodes.now c.args.store.now) in
-    let kept = c.in_ok-close_row.ensures.ok c.args.nodes.now m.numbers outer m.packing ∙ ap (λ v. pushed outer (Some v)) (row_closed c.args.shape m.numbers c.args.start c.in_ok-end.end outer m.ends) in
+    let outer = outer_of (levels c.args.self.now.nodes.now c.args.self.now.store.now) in
+    let kept = c.in_ok-close_row.ensures.ok c.args.self.now.nodes.now m.numbers outer m.packing ∙ ap (λ v. pushed outer (Some v)) (row_closed c.args.shape m.numbers c.args.start c.in_ok-end.end outer m.ends) in
     let room = c.in_ok-close_row.ensures.room in
-    let has = holds_these c.args.nodes.now (room_then c.in_ok-end.ensures.frame.room room) c.in_ok-close_row.ensures.within kept in
+    let has = holds_these c.args.self.now.nodes.now (room_then c.in_ok-end.ensures.frame.room room) c.in_ok-close_row.ensures.within kept in
     record { value = _; kept = kept; ends = refl; follows = array_made _ _ _ _ (in_later c.in_ok-end.ensures.frame.room room m.runs) has n.steps n.made }

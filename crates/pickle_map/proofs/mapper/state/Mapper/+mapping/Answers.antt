@@ -1,4 +1,4 @@
-use Rattle.pickle_map.proofs.mapper.types.+mapping.Goals.{map_fields-then-branch+in_ok-place+in_ok-behind, map_fields-else-branch+in_ok-push_absent}
+use Rattle.pickle_map.proofs.mapper.state.Mapper.+mapping.Goals.{map_fields-then-branch+in_ok-place+in_ok-behind, map_fields-else-branch+in_ok-push_absent}
 use Rattle.std.proofs.Common.{rules, ◌+◌, ◌*◌, ◌≤◌, max, [], ◌∷◌, Some, refl, sym, ap, ◌∙◌, arith}
 use Rattle.std.proofs.lemmas.List.{drop_more, drop_all}
 use Rattle.std.proofs.lemmas.Result.{err_from_is_err_and}
@@ -23,7 +23,7 @@ use Rattle.pickle_map.proofs.Mapping.{few_enough, inside_no_tick, inside_ticks, 
 use Rattle.value_store.proofs.PackedRows.{row-opened}
 use Rattle.pickle_map.proofs.Shapes.{opened_as, below_as, sound_as, names_as, fields_within, parts_within, fields_bounded, parts_bounded, field_bounded, part_bounded, of_one, name_of_one, struct_opened, union_opened, fields_named}
 use Rattle.pickle_map.proofs.Walks.{follow_here, follow_on, follow_at, follow_stop, follow_then_ok}
-use Rattle.pickle_map.proofs.mapper.types.+mapping.Goals as goal
+use Rattle.pickle_map.proofs.mapper.state.Mapper.+mapping.Goals as goal
 
 pub map_type-returns-then-from-start-clause-is : goal.map_type-returns-then-from-start-clause-is
 map_type-returns-then-from-start-clause-is g t c =
@@ -31,99 +31,99 @@ map_type-returns-then-from-start-clause-is g t c =
 
 pub map_inside-map_integer-requires : goal.map_inside-map_integer-requires
 map_inside-map_integer-requires g t c =
-    let width = below_as c.args.nodes.now c.requires.table c.args.at c.requires.at c.index-nodes-at.result _ c.in-Integer.is in
+    let width = below_as c.args.self.now.nodes.now c.requires.table c.args.at c.requires.at c.index-nodes-at.result _ c.in-Integer.is in
     search rules
 
 pub map_inside-returns-in-Integer-clause-is : goal.map_inside-returns-in-Integer-clause-is
-map_inside-returns-in-Integer-clause-is g t c = rw (opened_as c.args.nodes.now c.requires.table c.args.at c.requires.at c.index-nodes-at.result _ c.in-Integer.is, number_is _ _ _ _ _ _ refl c.requires.inside) (c.map_integer.ensures.is c.args.nodes.now)
+map_inside-returns-in-Integer-clause-is g t c = rw (opened_as c.args.self.now.nodes.now c.requires.table c.args.at c.requires.at c.index-nodes-at.result _ c.in-Integer.is, number_is _ _ _ _ _ _ refl c.requires.inside) (c.map_integer.ensures.is)
 
 pub map_inside-returns-in-Integer-clause-level : goal.map_inside-returns-in-Integer-clause-level
-map_inside-returns-in-Integer-clause-level g t c = c.map_integer.ensures.level c.args.nodes.now
+map_inside-returns-in-Integer-clause-level g t c = c.map_integer.ensures.level
 
 pub map_inside-map_text-requires-clause-open : goal.map_inside-map_text-requires-clause-open
 unfolding depth
 map_inside-map_text-requires-clause-open g t c =
-    let deep = rw (opened_as c.args.nodes.now c.requires.table c.args.at c.requires.at c.index-nodes-at.result _ c.in-String.is) at c.requires.open in
+    let deep = rw (opened_as c.args.self.now.nodes.now c.requires.table c.args.at c.requires.at c.index-nodes-at.result _ c.in-String.is) at c.requires.open in
     omega (arith, deep)
 
 pub map_inside-returns-in-String-clause-is : goal.map_inside-returns-in-String-clause-is
-map_inside-returns-in-String-clause-is g t c = rw (opened_as c.args.nodes.now c.requires.table c.args.at c.requires.at c.index-nodes-at.result _ c.in-String.is, text_is _ _ _ _ c.requires.inside) c.map_text.ensures.is
+map_inside-returns-in-String-clause-is g t c = rw (opened_as c.args.self.now.nodes.now c.requires.table c.args.at c.requires.at c.index-nodes-at.result _ c.in-String.is, text_is _ _ _ _ c.requires.inside) c.map_text.ensures.is
 
 pub map_shape-map_number-requires-clause-number : goal.map_shape-map_number-requires-clause-number
-map_shape-map_number-requires-clause-number g t c = ap number_type (opened_as c.args.nodes.now c.requires.table c.args.at c.requires.at c.index-nodes-at.result _ c.in-Integer.is)
+map_shape-map_number-requires-clause-number g t c = ap number_type (opened_as c.args.self.now.nodes.now c.requires.table c.args.at c.requires.at c.index-nodes-at.result _ c.in-Integer.is)
 
 pub map_shape-map_number-requires-clause-width : goal.map_shape-map_number-requires-clause-width
-map_shape-map_number-requires-clause-width g t c = (below_as c.args.nodes.now c.requires.table c.args.at c.requires.at c.index-nodes-at.result _ c.in-Integer.is)
+map_shape-map_number-requires-clause-width g t c = (below_as c.args.self.now.nodes.now c.requires.table c.args.at c.requires.at c.index-nodes-at.result _ c.in-Integer.is)
 
 pub map_shape-returns-in-Integer-clause-is : goal.map_shape-returns-in-Integer-clause-is
-map_shape-returns-in-Integer-clause-is g t c = rw (number_is _ _ _ _ _ _ (ap number_type (opened_as c.args.nodes.now c.requires.table c.args.at c.requires.at c.index-nodes-at.result _ c.in-Integer.is)) c.requires.inside) c.map_number.ensures.is
+map_shape-returns-in-Integer-clause-is g t c = rw (number_is _ _ _ _ _ _ (ap number_type (opened_as c.args.self.now.nodes.now c.requires.table c.args.at c.requires.at c.index-nodes-at.result _ c.in-Integer.is)) c.requires.inside) c.map_number.ensures.is
 
 pub map_shape-map_number-requires-in-Offset-clause-number : goal.map_shape-map_number-requires-in-Offset-clause-number
-map_shape-map_number-requires-in-Offset-clause-number g t c = ap number_type (opened_as c.args.nodes.now c.requires.table c.args.at c.requires.at c.index-nodes-at.result _ c.in-Offset.is)
+map_shape-map_number-requires-in-Offset-clause-number g t c = ap number_type (opened_as c.args.self.now.nodes.now c.requires.table c.args.at c.requires.at c.index-nodes-at.result _ c.in-Offset.is)
 
 pub map_shape-map_number-requires-in-Offset-clause-width : goal.map_shape-map_number-requires-in-Offset-clause-width
-map_shape-map_number-requires-in-Offset-clause-width g t c = (below_as c.args.nodes.now c.requires.table c.args.at c.requires.at c.index-nodes-at.result _ c.in-Offset.is).0
+map_shape-map_number-requires-in-Offset-clause-width g t c = (below_as c.args.self.now.nodes.now c.requires.table c.args.at c.requires.at c.index-nodes-at.result _ c.in-Offset.is).0
 
 pub map_shape-returns-in-Offset-clause-is : goal.map_shape-returns-in-Offset-clause-is
-map_shape-returns-in-Offset-clause-is g t c = rw (number_is _ _ _ _ _ _ (ap number_type (opened_as c.args.nodes.now c.requires.table c.args.at c.requires.at c.index-nodes-at.result _ c.in-Offset.is)) c.requires.inside) c.map_number-in-Offset.ensures.is
+map_shape-returns-in-Offset-clause-is g t c = rw (number_is _ _ _ _ _ _ (ap number_type (opened_as c.args.self.now.nodes.now c.requires.table c.args.at c.requires.at c.index-nodes-at.result _ c.in-Offset.is)) c.requires.inside) c.map_number-in-Offset.ensures.is
 
 pub map_shape-map_number-requires-in-Integral-clause-number : goal.map_shape-map_number-requires-in-Integral-clause-number
-map_shape-map_number-requires-in-Integral-clause-number g t c = ap number_type (opened_as c.args.nodes.now c.requires.table c.args.at c.requires.at c.index-nodes-at.result _ c.in-Integral.is)
+map_shape-map_number-requires-in-Integral-clause-number g t c = ap number_type (opened_as c.args.self.now.nodes.now c.requires.table c.args.at c.requires.at c.index-nodes-at.result _ c.in-Integral.is)
 
 pub map_shape-map_number-requires-in-Integral-clause-width : goal.map_shape-map_number-requires-in-Integral-clause-width
-map_shape-map_number-requires-in-Integral-clause-width g t c = (below_as c.args.nodes.now c.requires.table c.args.at c.requires.at c.index-nodes-at.result _ c.in-Integral.is).0
+map_shape-map_number-requires-in-Integral-clause-width g t c = (below_as c.args.self.now.nodes.now c.requires.table c.args.at c.requires.at c.index-nodes-at.result _ c.in-Integral.is).0
 
 pub map_shape-returns-in-Integral-clause-is : goal.map_shape-returns-in-Integral-clause-is
-map_shape-returns-in-Integral-clause-is g t c = rw (number_is _ _ _ _ _ _ (ap number_type (opened_as c.args.nodes.now c.requires.table c.args.at c.requires.at c.index-nodes-at.result _ c.in-Integral.is)) c.requires.inside) c.map_number-in-Integral.ensures.is
+map_shape-returns-in-Integral-clause-is g t c = rw (number_is _ _ _ _ _ _ (ap number_type (opened_as c.args.self.now.nodes.now c.requires.table c.args.at c.requires.at c.index-nodes-at.result _ c.in-Integral.is)) c.requires.inside) c.map_number-in-Integral.ensures.is
 
 pub map_shape-map_text-requires-clause-open : goal.map_shape-map_text-requires-clause-open
 unfolding depth
 map_shape-map_text-requires-clause-open g t c =
-    let deep = rw (opened_as c.args.nodes.now c.requires.table c.args.at c.requires.at c.index-nodes-at.result _ c.in-String.is) at c.requires.open in
+    let deep = rw (opened_as c.args.self.now.nodes.now c.requires.table c.args.at c.requires.at c.index-nodes-at.result _ c.in-String.is) at c.requires.open in
     omega (arith, deep)
 
 pub map_shape-map_array-requires : goal.map_shape-map_array-requires
 unfolding depth
 map_shape-map_array-requires g t c =
-    let below = below_as c.args.nodes.now c.requires.table c.args.at c.requires.at c.index-nodes-at.result _ c.in-Array.is in
-    let sound = sound_as c.args.nodes.now c.requires.table c.args.at c.requires.at c.index-nodes-at.result _ c.in-Array.is in
-    let deep = rw (opened_as c.args.nodes.now c.requires.table c.args.at c.requires.at c.index-nodes-at.result _ c.in-Array.is) at c.requires.open in
+    let below = below_as c.args.self.now.nodes.now c.requires.table c.args.at c.requires.at c.index-nodes-at.result _ c.in-Array.is in
+    let sound = sound_as c.args.self.now.nodes.now c.requires.table c.args.at c.requires.at c.index-nodes-at.result _ c.in-Array.is in
+    let deep = rw (opened_as c.args.self.now.nodes.now c.requires.table c.args.at c.requires.at c.index-nodes-at.result _ c.in-Array.is) at c.requires.open in
     search rules
 
 pub map_shape-map_struct-requires : goal.map_shape-map_struct-requires
 unfolding depth
 map_shape-map_struct-requires g t c =
-    let below = below_as c.args.nodes.now c.requires.table c.args.at c.requires.at c.index-nodes-at.result _ c.in-Struct.is in
-    let names = names_as c.args.nodes.now c.requires.table c.args.at c.requires.at c.index-nodes-at.result _ c.in-Struct.is in
-    let sound = sound_as c.args.nodes.now c.requires.table c.args.at c.requires.at c.index-nodes-at.result _ c.in-Struct.is in
-    let deep = rw (opened_as c.args.nodes.now c.requires.table c.args.at c.requires.at c.index-nodes-at.result _ c.in-Struct.is) at c.requires.open in
-    let fields = fields_within c.args.nodes.now c.args.at c.requires.at (level_count c.args.store.now + 1) c.in-Struct.fields.items below sound (omega (arith, deep)) in
+    let below = below_as c.args.self.now.nodes.now c.requires.table c.args.at c.requires.at c.index-nodes-at.result _ c.in-Struct.is in
+    let names = names_as c.args.self.now.nodes.now c.requires.table c.args.at c.requires.at c.index-nodes-at.result _ c.in-Struct.is in
+    let sound = sound_as c.args.self.now.nodes.now c.requires.table c.args.at c.requires.at c.index-nodes-at.result _ c.in-Struct.is in
+    let deep = rw (opened_as c.args.self.now.nodes.now c.requires.table c.args.at c.requires.at c.index-nodes-at.result _ c.in-Struct.is) at c.requires.open in
+    let fields = fields_within c.args.self.now.nodes.now c.args.at c.requires.at (level_count c.args.self.now.store.now + 1) c.in-Struct.fields.items below sound (omega (arith, deep)) in
     let bounded = fields_bounded c.args.at c.in-Struct.fields.items below in
     rw c.deref.ensures.value (search rules)
 
 pub map_shape-map_union-requires : goal.map_shape-map_union-requires
 unfolding depth
 map_shape-map_union-requires g t c =
-    let below = below_as c.args.nodes.now c.requires.table c.args.at c.requires.at c.index-nodes-at.result _ c.in-Union.is in
-    let names = names_as c.args.nodes.now c.requires.table c.args.at c.requires.at c.index-nodes-at.result _ c.in-Union.is in
-    let sound = sound_as c.args.nodes.now c.requires.table c.args.at c.requires.at c.index-nodes-at.result _ c.in-Union.is in
-    let deep = rw (opened_as c.args.nodes.now c.requires.table c.args.at c.requires.at c.index-nodes-at.result _ c.in-Union.is) at c.requires.open in
-    let alternatives = parts_within c.args.nodes.now c.args.at c.requires.at (level_count c.args.store.now + 1) c.in-Union.alternatives.items below sound.0 (omega (arith, deep)) in
+    let below = below_as c.args.self.now.nodes.now c.requires.table c.args.at c.requires.at c.index-nodes-at.result _ c.in-Union.is in
+    let names = names_as c.args.self.now.nodes.now c.requires.table c.args.at c.requires.at c.index-nodes-at.result _ c.in-Union.is in
+    let sound = sound_as c.args.self.now.nodes.now c.requires.table c.args.at c.requires.at c.index-nodes-at.result _ c.in-Union.is in
+    let deep = rw (opened_as c.args.self.now.nodes.now c.requires.table c.args.at c.requires.at c.index-nodes-at.result _ c.in-Union.is) at c.requires.open in
+    let alternatives = parts_within c.args.self.now.nodes.now c.args.at c.requires.at (level_count c.args.self.now.store.now + 1) c.in-Union.alternatives.items below sound.0 (omega (arith, deep)) in
     let bounded = parts_bounded c.args.at c.in-Union.alternatives.items below in
     let few = sound.1 in
     rw c.deref-in-Union.ensures.value (search rules)
 
 pub map_shape-returns-in-String-clause-is : goal.map_shape-returns-in-String-clause-is
-map_shape-returns-in-String-clause-is g t c = rw (opened_as c.args.nodes.now c.requires.table c.args.at c.requires.at c.index-nodes-at.result _ c.in-String.is, text_is _ _ _ _ c.requires.inside) c.map_text.ensures.is
+map_shape-returns-in-String-clause-is g t c = rw (opened_as c.args.self.now.nodes.now c.requires.table c.args.at c.requires.at c.index-nodes-at.result _ c.in-String.is, text_is _ _ _ _ c.requires.inside) c.map_text.ensures.is
 
 pub map_shape-returns-in-Array-clause-is : goal.map_shape-returns-in-Array-clause-is
-map_shape-returns-in-Array-clause-is g t c = rw (opened_as c.args.nodes.now c.requires.table c.args.at c.requires.at c.index-nodes-at.result _ c.in-Array.is) c.map_array.ensures.is
+map_shape-returns-in-Array-clause-is g t c = rw (opened_as c.args.self.now.nodes.now c.requires.table c.args.at c.requires.at c.index-nodes-at.result _ c.in-Array.is) c.map_array.ensures.is
 
 pub map_shape-returns-in-Struct-clause-is : goal.map_shape-returns-in-Struct-clause-is
-map_shape-returns-in-Struct-clause-is g t c = rw (struct_opened c.args.nodes.now c.requires.table c.args.at c.requires.at c.index-nodes-at.result _ _ _ _ c.in-Struct.is c.deref.ensures.value) c.map_struct.ensures.is
+map_shape-returns-in-Struct-clause-is g t c = rw (struct_opened c.args.self.now.nodes.now c.requires.table c.args.at c.requires.at c.index-nodes-at.result _ _ _ _ c.in-Struct.is c.deref.ensures.value) c.map_struct.ensures.is
 
 pub map_shape-returns-in-Union-clause-is : goal.map_shape-returns-in-Union-clause-is
-map_shape-returns-in-Union-clause-is g t c = rw (union_opened c.args.nodes.now c.requires.table c.args.at c.requires.at c.index-nodes-at.result _ _ _ c.in-Union.is c.deref-in-Union.ensures.value) c.map_union.ensures.is
+map_shape-returns-in-Union-clause-is g t c = rw (union_opened c.args.self.now.nodes.now c.requires.table c.args.at c.requires.at c.index-nodes-at.result _ _ _ c.in-Union.is c.deref-in-Union.ensures.value) c.map_union.ensures.is
 
 pub map_checked-returns-in_err-end-clause-is : goal.map_checked-returns-in_err-end-clause-is
 map_checked-returns-in_err-end-clause-is g t c =
@@ -150,20 +150,20 @@ map_struct-returns-in_err-tick-clause-is g t c =
     rw (p.1, p.2, struct_is) (inside_no_tick _ _ _ c.requires.inside e.err (e.err ∙ e.refused.0 refl) e.made)
 
 pub map_struct-leave_level-requires : goal.map_struct-leave_level-requires
-map_struct-leave_level-requires g t c = left_open c.args.nodes.now c.open_level.ensures.room c.struct_body-mapped.ensures.frame.room c.open_level.ensures.depth _ c.struct_body-mapped.ensures.level
+map_struct-leave_level-requires g t c = left_open c.args.self.now.nodes.now c.open_level.ensures.room c.struct_body-mapped.ensures.frame.room c.open_level.ensures.depth _ c.struct_body-mapped.ensures.level
 
 pub map_struct-returns-clause-is : goal.map_struct-returns-clause-is
 map_struct-returns-clause-is g t c =
     let e = c.in_ok-tick.ensures in
     let o = c.open_level.ensures in
     let left = c.leave_level.ensures in
-    let h = rw (o.levels c.args.nodes.now) at c.struct_body-mapped.ensures.is in
-    rw struct_is (left_keeps c.args.nodes.now o.room c.struct_body-mapped.ensures.frame.room left.room (λ _ h. inside_ticks _ _ _ c.requires.inside e.limit e.ok e.made h) (λ end. end) _ left.left h)
+    let h = rw (o.levels c.args.self.now.nodes.now) at c.struct_body-mapped.ensures.is in
+    rw struct_is (left_keeps c.args.self.now.nodes.now o.room c.struct_body-mapped.ensures.frame.room left.room (λ _ h. inside_ticks _ _ _ c.requires.inside e.limit e.ok e.made h) (λ end. end) _ left.left h)
 
 pub map_struct-returns-clause-level : goal.map_struct-returns-clause-level
 map_struct-returns-clause-level g t c =
     let o = c.open_level.ensures in
-    left_adds c.args.nodes.now o.room c.struct_body-mapped.ensures.frame.room c.leave_level.ensures.room o.depth (o.levels c.args.nodes.now) _ c.struct_body-mapped.ensures.level c.leave_level.ensures.left
+    left_adds c.args.self.now.nodes.now o.room c.struct_body-mapped.ensures.frame.room c.leave_level.ensures.room o.depth (o.levels c.args.self.now.nodes.now) _ c.struct_body-mapped.ensures.level c.leave_level.ensures.left
 
 pub map_union-returns-in_err-tick-clause-is : goal.map_union-returns-in_err-tick-clause-is
 map_union-returns-in_err-tick-clause-is g t c =
@@ -172,20 +172,20 @@ map_union-returns-in_err-tick-clause-is g t c =
     rw (p.1, p.2, union_is) (inside_no_tick _ _ _ c.requires.inside e.err (e.err ∙ e.refused.0 refl) e.made)
 
 pub map_union-leave_level-requires : goal.map_union-leave_level-requires
-map_union-leave_level-requires g t c = left_open c.args.nodes.now c.open_level.ensures.room c.union_body-mapped.ensures.frame.room c.open_level.ensures.depth _ c.union_body-mapped.ensures.level
+map_union-leave_level-requires g t c = left_open c.args.self.now.nodes.now c.open_level.ensures.room c.union_body-mapped.ensures.frame.room c.open_level.ensures.depth _ c.union_body-mapped.ensures.level
 
 pub map_union-returns-clause-is : goal.map_union-returns-clause-is
 map_union-returns-clause-is g t c =
     let e = c.in_ok-tick.ensures in
     let o = c.open_level.ensures in
     let left = c.leave_level.ensures in
-    let h = rw (o.levels c.args.nodes.now) at c.union_body-mapped.ensures.is in
-    rw union_is (left_keeps c.args.nodes.now o.room c.union_body-mapped.ensures.frame.room left.room (λ _ h. inside_ticks _ _ _ c.requires.inside e.limit e.ok e.made h) (λ end. end) _ left.left h)
+    let h = rw (o.levels c.args.self.now.nodes.now) at c.union_body-mapped.ensures.is in
+    rw union_is (left_keeps c.args.self.now.nodes.now o.room c.union_body-mapped.ensures.frame.room left.room (λ _ h. inside_ticks _ _ _ c.requires.inside e.limit e.ok e.made h) (λ end. end) _ left.left h)
 
 pub map_union-returns-clause-level : goal.map_union-returns-clause-level
 map_union-returns-clause-level g t c =
     let o = c.open_level.ensures in
-    left_adds c.args.nodes.now o.room c.union_body-mapped.ensures.frame.room c.leave_level.ensures.room o.depth (o.levels c.args.nodes.now) _ c.union_body-mapped.ensures.level c.leave_level.ensures.left
+    left_adds c.args.self.now.nodes.now o.room c.union_body-mapped.ensures.frame.room c.leave_level.ensures.room o.depth (o.levels c.args.self.now.nodes.now) _ c.union_body-mapped.ensures.level c.leave_level.ensures.left
 
 pub map_array-returns-in_err-tick-clause-is : goal.map_array-returns-in_err-tick-clause-is
 map_array-returns-in_err-tick-clause-is g t c =
@@ -194,7 +194,7 @@ map_array-returns-in_err-tick-clause-is g t c =
     rw (p.1, p.2, array_is) (inside_no_tick _ _ _ c.requires.inside e.err (e.err ∙ e.refused.0 refl) e.made)
 
 pub map_array-leave_level-requires : goal.map_array-leave_level-requires
-map_array-leave_level-requires g t c = left_open c.args.nodes.now c.open_level.ensures.room c.array_body-mapped.ensures.frame.room c.open_level.ensures.depth _ c.array_body-mapped.ensures.level
+map_array-leave_level-requires g t c = left_open c.args.self.now.nodes.now c.open_level.ensures.room c.array_body-mapped.ensures.frame.room c.open_level.ensures.depth _ c.array_body-mapped.ensures.level
 
 pub map_array-returns-clause-is : goal.map_array-returns-clause-is
 map_array-returns-clause-is g t c =
@@ -202,14 +202,14 @@ map_array-returns-clause-is g t c =
     let found = c.in_ok-extent.ensures in
     let o = c.open_level.ensures in
     let left = c.leave_level.ensures in
-    let h = rw (o.levels c.args.nodes.now) at c.array_body-mapped.ensures.is in
+    let h = rw (o.levels c.args.self.now.nodes.now) at c.array_body-mapped.ensures.is in
     let extent = settles_ok _ _ _ refl (rw c.from.ensures at found.is) found.made in
-    rw array_is (left_keeps c.args.nodes.now o.room c.array_body-mapped.ensures.frame.room left.room (λ _ h. inside_ticks _ _ _ c.requires.inside e.limit e.ok e.made (follow_then_ok _ _ extent (follow_at found.limit refl refl h))) (λ end. end) _ left.left h)
+    rw array_is (left_keeps c.args.self.now.nodes.now o.room c.array_body-mapped.ensures.frame.room left.room (λ _ h. inside_ticks _ _ _ c.requires.inside e.limit e.ok e.made (follow_then_ok _ _ extent (follow_at found.limit refl refl h))) (λ end. end) _ left.left h)
 
 pub map_array-returns-clause-level : goal.map_array-returns-clause-level
 map_array-returns-clause-level g t c =
     let o = c.open_level.ensures in
-    left_adds c.args.nodes.now o.room c.array_body-mapped.ensures.frame.room c.leave_level.ensures.room o.depth (o.levels c.args.nodes.now) _ c.array_body-mapped.ensures.level c.leave_level.ensures.left
+    left_adds c.args.self.now.nodes.now o.room c.array_body-mapped.ensures.frame.room c.leave_level.ensures.room o.depth (o.levels c.args.self.now.nodes.now) _ c.array_body-mapped.ensures.level c.leave_level.ensures.left
 
 pub map_array-returns-in_err-extent-clause-is : goal.map_array-returns-in_err-extent-clause-is
 map_array-returns-in_err-extent-clause-is g t c =
@@ -220,7 +220,7 @@ map_array-returns-in_err-extent-clause-is g t c =
 pub map_array-array_body-mapped-requires : goal.map_array-array_body-mapped-requires
 map_array-array_body-mapped-requires g t c =
     let depth = c.open_level.ensures.depth in
-    let opened = c.open_level.ensures.levels c.args.nodes.now in
+    let opened = c.open_level.ensures.levels c.args.self.now.nodes.now in
     let fresh = opened ∙ ap (λ o. [] ∷ o) (sym (ap outer_of opened)) in
     search rules
 
@@ -234,7 +234,7 @@ pub map_union-union_body-mapped-requires : goal.map_union-union_body-mapped-requ
 map_union-union_body-mapped-requires g t c =
     let depth = c.open_level.ensures.depth in
     let alternatives = rw (← depth) at c.requires.alternatives in
-    let opened = c.open_level.ensures.levels c.args.nodes.now in
+    let opened = c.open_level.ensures.levels c.args.self.now.nodes.now in
     let fresh = opened ∙ ap (λ o. [] ∷ o) (sym (ap outer_of opened)) in
     search rules
 
@@ -246,38 +246,38 @@ struct_body-returns-in_err-end-clause-is g t c =
 pub struct_body-returns-in_err-close_struct-clause-is : goal.struct_body-returns-in_err-close_struct-clause-is
 struct_body-returns-in_err-close_struct-clause-is g t c =
     let p = err_from_is_err_and c.from_residual-in_err-close_struct.result c.from_residual-in_err-close_struct.ensures.1 in
-    let named = c.requires.names ∙ sym (fields_named (type_of c.args.nodes.now) c.args.fields.now) in
-    let full = rw named at (c.in_err-close_struct.ensures.full c.args.nodes.now) in
+    let named = c.requires.names ∙ sym (fields_named (type_of c.args.self.now.nodes.now) c.args.fields.now) in
+    let full = rw named at (c.in_err-close_struct.ensures.full c.args.self.now.nodes.now) in
     rw (p.1, p.2) (struct_no_room _ _ _ _ (in_later c.in_ok-end.ensures.frame.room c.in_err-close_struct.ensures.room c.in_ok-end.ensures.is) _ _ (lacks_these c.in_ok-end.ensures.frame.room full))
 
 pub struct_body-returns-in_err-close_struct-clause-level : goal.struct_body-returns-in_err-close_struct-clause-level
 struct_body-returns-in_err-close_struct-clause-level g t c =
     let p = err_from_is_err_and c.from_residual-in_err-close_struct.result c.from_residual-in_err-close_struct.ensures.1 in
-    rw p.1 (regrown_stays c.args.nodes.now _ _ _ c.in_ok-end.ensures.level c.in_err-close_struct.ensures.err)
+    rw p.1 (regrown_stays c.args.self.now.nodes.now _ _ _ c.in_ok-end.ensures.level c.in_err-close_struct.ensures.err)
 
 pub struct_body-returns-clause-is : goal.struct_body-returns-clause-is
 struct_body-returns-clause-is g t c =
     let n = c.note_made.ensures in
-    let named = c.requires.names ∙ sym (fields_named (type_of c.args.nodes.now) c.args.fields.now) in
-    let closed = rw named at (c.in_ok-close_struct.ensures.ok c.args.nodes.now) in
+    let named = c.requires.names ∙ sym (fields_named (type_of c.args.self.now.nodes.now) c.args.fields.now) in
+    let closed = rw named at (c.in_ok-close_struct.ensures.ok c.args.self.now.nodes.now) in
     let h = rw c.in_ok-end.ensures.level.outer at closed in
     let room = c.in_ok-close_struct.ensures.room in
-    let has = holds_these c.args.nodes.now (room_then c.in_ok-end.ensures.frame.room room) c.in_ok-close_struct.ensures.within closed in
+    let has = holds_these c.args.self.now.nodes.now (room_then c.in_ok-end.ensures.frame.room room) c.in_ok-close_struct.ensures.within closed in
     record { value = _; kept = h; ends = refl; follows = struct_made _ _ _ _ (in_later c.in_ok-end.ensures.frame.room room c.in_ok-end.ensures.is) _ _ has n.steps n.made }
 
 pub array_body-row_body-requires-clause-packing : goal.array_body-row_body-requires-clause-packing
 array_body-row_body-requires-clause-packing g t c =
     let packs = c.in-Some.ensures in
     let short = g.met.S.Space.short c.args.space.now in
-    row-opened c.args.nodes.now c.args.store.now c.in-Some.shape c.args.start (outer_of (levels c.args.nodes.now c.args.store.now)) packs.packed packs.packs (omega (arith, c.requires.inside, short)) c.requires.empty c.requires.sound c.requires.fresh
+    row-opened c.args.self.now.nodes.now c.args.self.now.store.now c.in-Some.shape c.args.start (outer_of (levels c.args.self.now.nodes.now c.args.self.now.store.now)) packs.packed packs.packs (omega (arith, c.requires.inside, short)) c.requires.empty c.requires.sound c.requires.fresh
 
 pub array_body-map_elements-requires : goal.array_body-map_elements-requires
 array_body-map_elements-requires g t c =
-    let begins : BeginsApart c.args.nodes.now c.args.store.now = λ packing. rw c.requires.fresh refl in
+    let begins : BeginsApart c.args.self.now.nodes.now c.args.self.now.store.now = λ packing. rw c.requires.fresh refl in
     search rules
 
 pub array_body-close_array-requires-clause-members : goal.array_body-close_array-requires-clause-members
-array_body-close_array-requires-clause-members g t c = λ packing names. any_names names c.args.nodes.now c.map_elements.new.store ∙ c.in_ok-end.ensures.begins packing
+array_body-close_array-requires-clause-members g t c = λ packing names. any_names names c.args.self.now.nodes.now c.map_elements.new.self.store.now ∙ c.in_ok-end.ensures.begins packing
 
 pub array_body-returns-in_err-end-clause-is : goal.array_body-returns-in_err-end-clause-is
 array_body-returns-in_err-end-clause-is g t c =
@@ -287,20 +287,20 @@ array_body-returns-in_err-end-clause-is g t c =
 pub array_body-returns-in_err-close_array-clause-is : goal.array_body-returns-in_err-close_array-clause-is
 array_body-returns-in_err-close_array-clause-is g t c =
     let p = err_from_is_err_and c.from_residual-in_err-close_array.result c.from_residual-in_err-close_array.ensures.1 in
-    rw (p.1, p.2) (array_no_room _ _ _ _ (in_later c.in_ok-end.ensures.frame.room c.in_err-close_array.ensures.room c.in_ok-end.ensures.is) (lacks_these c.in_ok-end.ensures.frame.room (c.in_err-close_array.ensures.full c.args.nodes.now)))
+    rw (p.1, p.2) (array_no_room _ _ _ _ (in_later c.in_ok-end.ensures.frame.room c.in_err-close_array.ensures.room c.in_ok-end.ensures.is) (lacks_these c.in_ok-end.ensures.frame.room (c.in_err-close_array.ensures.full c.args.self.now.nodes.now)))
 
 pub array_body-returns-in_err-close_array-clause-level : goal.array_body-returns-in_err-close_array-clause-level
 array_body-returns-in_err-close_array-clause-level g t c =
     let p = err_from_is_err_and c.from_residual-in_err-close_array.result c.from_residual-in_err-close_array.ensures.1 in
-    rw p.1 (regrown_stays c.args.nodes.now _ _ _ c.in_ok-end.ensures.level c.in_err-close_array.ensures.err)
+    rw p.1 (regrown_stays c.args.self.now.nodes.now _ _ _ c.in_ok-end.ensures.level c.in_err-close_array.ensures.err)
 
 pub array_body-returns-clause-is : goal.array_body-returns-clause-is
 array_body-returns-clause-is g t c =
     let n = c.note_made.ensures in
-    let closed = c.in_ok-close_array.ensures.ok c.args.nodes.now in
+    let closed = c.in_ok-close_array.ensures.ok c.args.self.now.nodes.now in
     let h = rw c.in_ok-end.ensures.level.outer at closed in
     let room = c.in_ok-close_array.ensures.room in
-    let has = holds_these c.args.nodes.now (room_then c.in_ok-end.ensures.frame.room room) c.in_ok-close_array.ensures.within closed in
+    let has = holds_these c.args.self.now.nodes.now (room_then c.in_ok-end.ensures.frame.room room) c.in_ok-close_array.ensures.within closed in
     record { value = _; kept = h; ends = refl; follows = array_made _ _ _ _ (in_later c.in_ok-end.ensures.frame.room room c.in_ok-end.ensures.is) has n.steps n.made }
 
 pub union_body-returns-in_err-index-clause-is : goal.union_body-returns-in_err-index-clause-is
@@ -314,13 +314,13 @@ union_body-returns-in_err-close_union-clause-is g t c =
     let h = c.in_ok-index.ensures.is in
     let fresh = c.requires.fresh in
     let inside = h.keeps ∙ ap (λ ls. pushed ls (Some h.value)) fresh in
-    let full = rw (inside, c.requires.names, ← h.ends) at (c.in_err-close_union.ensures.full c.args.nodes.now) in
+    let full = rw (inside, c.requires.names, ← h.ends) at (c.in_err-close_union.ensures.full c.args.self.now.nodes.now) in
     rw (p.1, p.2) (union_no_room _ _ _ _ _ (in_later c.in_ok-index.ensures.frame.room c.in_err-close_union.ensures.room h.follows) (lacks_these c.in_ok-index.ensures.frame.room full))
 
 pub union_body-returns-in_err-close_union-clause-level : goal.union_body-returns-in_err-close_union-clause-level
 union_body-returns-in_err-close_union-clause-level g t c =
     let p = err_from_is_err_and c.from_residual-in_err-close_union.result c.from_residual-in_err-close_union.ensures.1 in
-    rw p.1 (regrown_stays c.args.nodes.now _ _ _ c.in_ok-index.ensures.level c.in_err-close_union.ensures.err)
+    rw p.1 (regrown_stays c.args.self.now.nodes.now _ _ _ c.in_ok-index.ensures.level c.in_err-close_union.ensures.err)
 
 pub union_body-returns-clause-is : goal.union_body-returns-clause-is
 union_body-returns-clause-is g t c =
@@ -328,13 +328,14 @@ union_body-returns-clause-is g t c =
     let fresh = c.requires.fresh in
     let inside = h.keeps ∙ ap (λ ls. pushed ls (Some h.value)) fresh in
     let n = c.note_made.ensures in
-    let closed = rw (inside, c.requires.names, ← h.ends) at (c.in_ok-close_union.ensures.ok c.args.nodes.now) in
+    let closed = rw (inside, c.requires.names, ← h.ends) at (c.in_ok-close_union.ensures.ok c.args.self.now.nodes.now) in
     let room = c.in_ok-close_union.ensures.room in
-    let has = holds_these c.args.nodes.now (room_then c.in_ok-index.ensures.frame.room room) c.in_ok-close_union.ensures.within closed in
+    let has = holds_these c.args.self.now.nodes.now (room_then c.in_ok-index.ensures.frame.room room) c.in_ok-close_union.ensures.within closed in
     record { value = _; kept = closed; ends = h.ends; follows = union_made _ _ _ _ _ (in_later c.in_ok-index.ensures.frame.room room h.follows) has n.steps n.made }
 
 pub map_fields-loop-field-init : goal.map_fields-loop-field-init
 map_fields-loop-field-init g t c = record {
+  lent = search rules;
   frame = search rules;
   after = search rules;
   inside = search rules;
@@ -376,7 +377,7 @@ map_fields-returns-in_err-place-clause-is g t c =
 pub map_fields-map_checked-requires : goal.map_fields-map_checked-requires
 map_fields-map_checked-requires g t c =
     let bounded = field_bounded c.args.fields.now c.loop-field.field-index c.field-item.result (omega arith) c.field-item.is in
-    let field = of_one (IsFieldOf c.args.nodes.now (level_count c.args.store.now)) c.args.fields.now c.loop-field.field-index c.field-item.result c.requires.fields (omega arith) c.field-item.is in
+    let field = of_one (IsFieldOf c.args.self.now.nodes.now (level_count c.args.self.now.store.now)) c.args.fields.now c.loop-field.field-index c.field-item.result c.requires.fields (omega arith) c.field-item.is in
     let field = rw (← c.loop-field.invariant.level.depth) at field in
     search rules
 
@@ -390,7 +391,7 @@ map_fields-returns-in_err-behind-clause-is g t c =
     let there = c.in_ok-is_there.ensures in
     let there_is = rw (c.if-branch.true, c.from-origin.ensures) at there.is in
     let start = c.in_ok-place.ensures in
-    let h = rw (i.frame.len, c.ordered.ensures) at c.in_err-behind.ensures.is in
+    let h = rw (i.lent.nodes, i.frame.len, c.ordered.ensures) at c.in_err-behind.ensures.is in
     let h = in_world (g.S.Space.view c.args.space.now) (g.S.Space.view c.loop-field.space) i.frame.bytes i.frame.room c.in_err-behind.ensures.frame.room h in
     rw (p.1, p.2) (follow_on (in_later i.frame.room c.in_err-behind.ensures.frame.room i.so_far) (field_stops _ _ _ _ _ _ _ _ _ _ _ next (e.limit ∙ i.frame.limit) e.ok e.made there.made there_is there.limit start.made _ start.is start.limit _ h))
 
@@ -403,10 +404,10 @@ map_fields-returns-in_err-push_absent-clause-is g t c =
     let next = rw (← c.field-item.is) at next in
     let there = c.in_ok-is_there.ensures in
     let there_is = rw (c.if-branch.false, c.from-origin.ensures) at there.is in
-    rw (p.1, p.2) (follow_on (in_later i.frame.room c.in_err-push_absent.ensures.room i.so_far) (absent_no_room _ _ _ _ _ _ _ _ _ _ _ next (e.limit ∙ i.frame.limit) e.ok e.made there.made there_is (lacks_these i.frame.room (c.in_err-push_absent.ensures.full c.args.nodes.now))))
+    rw (p.1, p.2) (follow_on (in_later i.frame.room c.in_err-push_absent.ensures.room i.so_far) (absent_no_room _ _ _ _ _ _ _ _ _ _ _ next (e.limit ∙ i.frame.limit) e.ok e.made there.made there_is (lacks_these i.frame.room (c.in_err-push_absent.ensures.full c.args.self.now.nodes.now))))
 
 pub map_fields-returns-in_err-push_absent-clause-level : goal.map_fields-returns-in_err-push_absent-clause-level
-map_fields-returns-in_err-push_absent-clause-level g t c = regrown_stays c.args.nodes.now _ _ _ c.loop-field.invariant.level c.in_err-push_absent.ensures.err
+map_fields-returns-in_err-push_absent-clause-level g t c = regrown_stays c.args.self.now.nodes.now _ _ _ c.loop-field.invariant.level c.in_err-push_absent.ensures.err
 
 pub map_fields-loop-field-preserved : goal.map_fields-loop-field-preserved
 map_fields-loop-field-preserved g t c =
@@ -419,26 +420,28 @@ map_fields-loop-field-preserved g t c =
       | map_fields-then-branch+in_ok-place+in_ok-behind w ↦
           let there_is = rw (w.if-branch.true, c.from-origin.ensures) at there.is in
           let start = w.in_ok-place.ensures in
-          let m = w.in_ok-behind.ensures.is in
+          let m = rw i.lent.nodes at w.in_ok-behind.ensures.is in
           let h = rw (i.frame.len, w.ordered.ensures) at m.follows in
           let h = in_world (g.S.Space.view c.args.space.now) (g.S.Space.view c.loop-field.space) i.frame.bytes i.frame.room w.in_ok-behind.ensures.frame.room h in
-          rw (w.space-is, w.meter-is, w.store-is, w.behind-is, w.top-is) (record {
+          rw (w.space-is, w.self-is, w.behind-is, w.top-is) (record {
+            lent = search rules;
             frame = search rules;
             after = search rules;
             inside = search rules;
-            level = pushed_stays c.args.nodes.now _ _ _ _ i.level m.kept w.in_ok-behind.ensures.level.depth;
+            level = pushed_stays c.args.self.now.nodes.now _ _ _ _ i.level m.kept w.in_ok-behind.ensures.level.depth;
             so_far = rw m.kept (follow_on (in_later i.frame.room w.in_ok-behind.ensures.frame.room i.so_far) (field_goes _ _ _ _ _ _ _ _ _ _ _ next (e.limit ∙ i.frame.limit) e.ok e.made there.made there_is there.limit start.made _ start.is start.limit m.value _ _ m.ends w.max-top.ensures h));
           })
       | map_fields-else-branch+in_ok-push_absent w ↦
           let there_is = rw (w.if-branch.false, c.from-origin.ensures) at there.is in
-          let keeps = (w.in_ok-push_absent.ensures.ok c.args.nodes.now) in
+          let keeps = (w.in_ok-push_absent.ensures.ok c.args.self.now.nodes.now) in
           let room = w.in_ok-push_absent.ensures.room in
-          let has = holds_these c.args.nodes.now (room_then i.frame.room room) w.in_ok-push_absent.ensures.within keeps in
-          rw (w.space-is, w.meter-is, w.store-is, w.behind-is, w.top-is) (record {
+          let has = holds_these c.args.self.now.nodes.now (room_then i.frame.room room) w.in_ok-push_absent.ensures.within keeps in
+          rw (w.space-is, w.self-is, w.behind-is, w.top-is) (record {
+            lent = search rules;
             frame = search rules;
             after = search rules;
             inside = search rules;
-            level = pushed_stays c.args.nodes.now _ _ _ _ i.level keeps w.in_ok-push_absent.ensures.depth;
+            level = pushed_stays c.args.self.now.nodes.now _ _ _ _ i.level keeps w.in_ok-push_absent.ensures.depth;
             so_far = rw keeps (follow_on (in_later i.frame.room room i.so_far) (absent_goes _ _ _ _ _ _ _ _ _ _ _ next (e.limit ∙ i.frame.limit) e.ok e.made there.made there_is has));
           })
     ]
@@ -450,8 +453,9 @@ map_fields-returns-clause-is g t c =
 
 pub map_elements-loop-order-init : goal.map_elements-loop-order-init
 map_elements-loop-order-init g t c =
-    let few = few_enough (8 * (g.S.Space.view c.args.space.now).len) (least_width (type_of c.args.nodes.now c.args.element)) in
+    let few = few_enough (8 * (g.S.Space.view c.args.space.now).len) (least_width (type_of c.args.self.now.nodes.now c.args.element)) in
     record {
+      lent = search rules;
       frame = search rules;
       after = search rules;
       inside = search rules;
@@ -468,7 +472,7 @@ map_elements-returns-in_err-tick-clause-is g t c =
     let e = c.in_err-tick.ensures in
     let due = sym c.is_due.ensures ∙ c.loop-order-test.true in
     let due = rw c.len-bits.ensures at due in
-    rw (p.1, p.2) (follow_on i.so_far.2 (elements_no_tick _ _ _ _ _ _ _ (max 1 (least_width (type_of c.args.nodes.now c.args.element))) _ i.so_far.1 i.inside due e.err (e.err ∙ e.refused.0 refl ∙ i.frame.limit) e.made))
+    rw (p.1, p.2) (follow_on i.so_far.2 (elements_no_tick _ _ _ _ _ _ _ (max 1 (least_width (type_of c.args.self.now.nodes.now c.args.element))) _ i.so_far.1 i.inside due e.err (e.err ∙ e.refused.0 refl ∙ i.frame.limit) e.made))
 
 pub map_elements-returns-then-end-place-clause-is : goal.map_elements-returns-then-end-place-clause-is
 map_elements-returns-then-end-place-clause-is g t c =
@@ -476,10 +480,11 @@ map_elements-returns-then-end-place-clause-is g t c =
     let e = c.in_ok-tick.ensures in
     let due = sym c.is_due.ensures ∙ c.loop-order-test.true in
     let due = rw c.len-bits.ensures at due in
-    let h = rw i.frame.len at c.in-Ok.ensures.is.follows in
+    let m = rw i.lent.nodes at c.in-Ok.ensures.is in
+    let h = rw i.frame.len at m.follows in
     let h = in_world (g.S.Space.view c.args.space.now) (g.S.Space.view c.loop-order.space) i.frame.bytes i.frame.room c.in-Ok.ensures.frame.room h in
-    let h = element_done (makes_row (type_of c.args.nodes.now c.args.element)) c.requires.apart h in
-    rw c.from.ensures (follow_on (in_later i.frame.room c.in-Ok.ensures.frame.room i.so_far.2) (elements_no_bits _ _ _ _ _ _ _ (max 1 (least_width (type_of c.args.nodes.now c.args.element))) _ i.so_far.1 i.inside due (e.limit ∙ i.frame.limit) e.ok e.made _ (c.in-Ok.ensures.is.ends ∙ c.if-end-place.true) h))
+    let h = element_done (makes_row (type_of c.args.self.now.nodes.now c.args.element)) c.requires.apart h in
+    rw c.from.ensures (follow_on (in_later i.frame.room c.in-Ok.ensures.frame.room i.so_far.2) (elements_no_bits _ _ _ _ _ _ _ (max 1 (least_width (type_of c.args.self.now.nodes.now c.args.element))) _ i.so_far.1 i.inside due (e.limit ∙ i.frame.limit) e.ok e.made _ (m.ends ∙ c.if-end-place.true) h))
 
 pub map_elements-loop-order-preserved : goal.map_elements-loop-order-preserved
 map_elements-loop-order-preserved g t c =
@@ -487,25 +492,26 @@ map_elements-loop-order-preserved g t c =
     let e = c.in_ok-tick.ensures in
     let due = sym c.is_due.ensures ∙ c.loop-order-test.true in
     let due = rw c.len-bits.ensures at due in
-    let h = rw i.frame.len at c.in-Ok.ensures.is.follows in
+    let m = rw i.lent.nodes at c.in-Ok.ensures.is in
+    let h = rw i.frame.len at m.follows in
     let h = in_world (g.S.Space.view c.args.space.now) (g.S.Space.view c.loop-order.space) i.frame.bytes i.frame.room c.in-Ok.ensures.frame.room h in
-    let m = c.in-Ok.ensures.is in
     let wide = followed_wide _ _ _ _ _ h in
     let ends = m.ends in
-    let far : c.loop-order.place + max 1 (least_width (type_of c.args.nodes.now c.args.element)) ≤ c.in-Ok.end = omega (arith, wide, ends, c.in-Ok.ensures.ends.0, c.if-end-place.false) in
+    let far : c.loop-order.place + max 1 (least_width (type_of c.args.self.now.nodes.now c.args.element)) ≤ c.in-Ok.end = omega (arith, wide, ends, c.in-Ok.ensures.ends.0, c.if-end-place.false) in
     let fit = followed_fits _ _ _ _ _ h in
-    let h = element_done (makes_row (type_of c.args.nodes.now c.args.element)) c.requires.apart h in
-    let next = elements_goes (element_plan (type_of c.args.nodes.now c.args.element) (plan (8 * (g.S.Space.view c.args.space.now).len) (type_of c.args.nodes.now c.args.element) c.args.order)) (8 * (g.S.Space.view c.args.space.now).len) c.args.start c.args.extent c.loop-order.count (levels c.args.nodes.now c.loop-order.store) c.loop-order.place (max 1 (least_width (type_of c.args.nodes.now c.args.element))) _ i.so_far.1 i.inside due (e.limit ∙ i.frame.limit) e.ok e.made m.value c.in-Ok.end (c.loop-order.count + 1) refl ends c.if-end-place.false far h in
+    let h = element_done (makes_row (type_of c.args.self.now.nodes.now c.args.element)) c.requires.apart h in
+    let next = elements_goes (element_plan (type_of c.args.self.now.nodes.now c.args.element) (plan (8 * (g.S.Space.view c.args.space.now).len) (type_of c.args.self.now.nodes.now c.args.element) c.args.order)) (8 * (g.S.Space.view c.args.space.now).len) c.args.start c.args.extent c.loop-order.count (levels c.args.self.now.nodes.now c.loop-order.self.store.now) c.loop-order.place (max 1 (least_width (type_of c.args.self.now.nodes.now c.args.element))) _ i.so_far.1 i.inside due (e.limit ∙ i.frame.limit) e.ok e.made m.value c.in-Ok.end (c.loop-order.count + 1) refl ends c.if-end-place.false far h in
     record {
+      lent = search rules;
       frame = search rules;
       after = search rules;
       inside = search rules;
-      level = pushed_stays c.args.nodes.now _ _ _ _ i.level m.kept c.in-Ok.ensures.level.depth;
+      level = pushed_stays c.args.self.now.nodes.now _ _ _ _ i.level m.kept c.in-Ok.ensures.level.depth;
       counted = omega (arith, i.counted, far);
       begins = λ packing.
           let there = rw c.in-Ok.ensures.frame.room.room at packing in
           let here = rw i.frame.room.room at there in
-          rw m.kept (pushed_apart _ _ _ (levels c.args.nodes.now c.loop-order.store) _ m.value (c.requires.apart here) fit (i.begins there));
+          rw m.kept (pushed_apart _ _ _ (levels c.args.self.now.nodes.now c.loop-order.self.store.now) _ m.value (c.requires.apart here) fit (i.begins there));
       so_far = (next.0, next.1, rw m.kept (follow_on (in_later i.frame.room c.in-Ok.ensures.frame.room i.so_far.2) next.2));
     }
 
@@ -515,16 +521,18 @@ map_elements-returns-then-ends-clause-is g t c =
     let e = c.in_ok-tick.ensures in
     let due = sym c.is_due.ensures ∙ c.loop-order-test.true in
     let due = rw c.len-bits.ensures at due in
-    let h = rw i.frame.len at c.in-Err.ensures.is in
+    let h = rw (i.lent.nodes, i.frame.len) at c.in-Err.ensures.is in
     let h = in_world (g.S.Space.view c.args.space.now) (g.S.Space.view c.loop-order.space) i.frame.bytes i.frame.room c.in-Err.ensures.frame.room h in
     let ends = sym c.ends.ensures ∙ c.if-ends.true in
-    let h = element_stopped (makes_row (type_of c.args.nodes.now c.args.element)) c.requires.apart _ h in
-    rw c.in-Err.ensures.level.same (follow_on (in_later i.frame.room c.in-Err.ensures.frame.room i.so_far.2) (elements_over _ _ _ _ _ _ _ (max 1 (least_width (type_of c.args.nodes.now c.args.element))) _ i.so_far.1 i.inside due (e.limit ∙ i.frame.limit) e.ok e.made _ ends h))
+    let h = element_stopped (makes_row (type_of c.args.self.now.nodes.now c.args.element)) c.requires.apart _ h in
+    let stays = rw i.lent.nodes at c.in-Err.ensures.level in
+    rw stays.same (follow_on (in_later i.frame.room c.in-Err.ensures.frame.room i.so_far.2) (elements_over _ _ _ _ _ _ _ (max 1 (least_width (type_of c.args.self.now.nodes.now c.args.element))) _ i.so_far.1 i.inside due (e.limit ∙ i.frame.limit) e.ok e.made _ ends h))
 
 pub map_elements-returns-then-ends-clause-begins : goal.map_elements-returns-then-ends-clause-begins
 map_elements-returns-then-ends-clause-begins g t c = λ packing.
     let there = rw c.in-Err.ensures.frame.room.room at packing in
-    rw c.in-Err.ensures.level.same (c.loop-order.invariant.begins there)
+    let stays = rw c.loop-order.invariant.lent.nodes at c.in-Err.ensures.level in
+    rw stays.same (c.loop-order.invariant.begins there)
 
 pub map_elements-returns-in-Err-clause-is : goal.map_elements-returns-in-Err-clause-is
 map_elements-returns-in-Err-clause-is g t c =
@@ -532,28 +540,29 @@ map_elements-returns-in-Err-clause-is g t c =
     let e = c.in_ok-tick.ensures in
     let due = sym c.is_due.ensures ∙ c.loop-order-test.true in
     let due = rw c.len-bits.ensures at due in
-    let h = rw i.frame.len at c.in-Err.ensures.is in
+    let h = rw (i.lent.nodes, i.frame.len) at c.in-Err.ensures.is in
     let h = in_world (g.S.Space.view c.args.space.now) (g.S.Space.view c.loop-order.space) i.frame.bytes i.frame.room c.in-Err.ensures.frame.room h in
     let ends = sym c.ends.ensures ∙ c.if-ends.false in
-    let h = element_stopped (makes_row (type_of c.args.nodes.now c.args.element)) c.requires.apart _ h in
-    follow_on (in_later i.frame.room c.in-Err.ensures.frame.room i.so_far.2) (elements_stop _ _ _ _ _ _ _ (max 1 (least_width (type_of c.args.nodes.now c.args.element))) _ i.so_far.1 i.inside due (e.limit ∙ i.frame.limit) e.ok e.made _ ends h)
+    let h = element_stopped (makes_row (type_of c.args.self.now.nodes.now c.args.element)) c.requires.apart _ h in
+    follow_on (in_later i.frame.room c.in-Err.ensures.frame.room i.so_far.2) (elements_stop _ _ _ _ _ _ _ (max 1 (least_width (type_of c.args.self.now.nodes.now c.args.element))) _ i.so_far.1 i.inside due (e.limit ∙ i.frame.limit) e.ok e.made _ ends h)
 
 pub map_elements-returns-then-is_met-clause-is : goal.map_elements-returns-then-is_met-clause-is
 map_elements-returns-then-is_met-clause-is g t c =
     let i = c.loop-order.invariant in
     let over = sym c.is_due.ensures ∙ c.loop-order-test.false in
     let over = rw c.len-bits.ensures at over in
-    follow_on i.so_far.2 (elements_end _ _ _ _ _ _ _ (max 1 (least_width (type_of c.args.nodes.now c.args.element))) _ i.so_far.1 i.inside over (sym c.is_met.ensures ∙ c.if-is_met.true))
+    follow_on i.so_far.2 (elements_end _ _ _ _ _ _ _ (max 1 (least_width (type_of c.args.self.now.nodes.now c.args.element))) _ i.so_far.1 i.inside over (sym c.is_met.ensures ∙ c.if-is_met.true))
 
 pub map_elements-returns-else-is_met-clause-is : goal.map_elements-returns-else-is_met-clause-is
 map_elements-returns-else-is_met-clause-is g t c =
     let i = c.loop-order.invariant in
     let over = sym c.is_due.ensures ∙ c.loop-order-test.false in
     let over = rw c.len-bits.ensures at over in
-    rw c.from-else-is_met.ensures (follow_on i.so_far.2 (elements_beyond _ _ _ _ _ _ _ (max 1 (least_width (type_of c.args.nodes.now c.args.element))) _ i.so_far.1 i.inside over (sym c.is_met.ensures ∙ c.if-is_met.false)))
+    rw c.from-else-is_met.ensures (follow_on i.so_far.2 (elements_beyond _ _ _ _ _ _ _ (max 1 (least_width (type_of c.args.self.now.nodes.now c.args.element))) _ i.so_far.1 i.inside over (sym c.is_met.ensures ∙ c.if-is_met.false)))
 
 pub map_alternatives-loop-index-init : goal.map_alternatives-loop-index-init
 map_alternatives-loop-index-init g t c = record {
+  lent = search rules;
   frame = search rules;
   same = search rules;
   depth = search rules;
@@ -572,7 +581,7 @@ map_alternatives-returns-in_err-tick-clause-is g t c =
 pub map_alternatives-map_checked-requires : goal.map_alternatives-map_checked-requires
 map_alternatives-map_checked-requires g t c =
     let bounded = part_bounded c.args.alternatives.now c.loop-index.index c.index-alternatives-index.result (omega arith) c.index-alternatives-index.is in
-    let part = of_one (IsPartOf c.args.nodes.now (level_count c.args.store.now)) c.args.alternatives.now c.loop-index.index c.index-alternatives-index.result c.requires.alternatives (omega arith) c.index-alternatives-index.is in
+    let part = of_one (IsPartOf c.args.self.now.nodes.now (level_count c.args.self.now.store.now)) c.args.alternatives.now c.loop-index.index c.index-alternatives-index.result c.requires.alternatives (omega arith) c.index-alternatives-index.is in
     let part = rw (← c.loop-index.invariant.depth) at part in
     search rules
 
@@ -582,7 +591,7 @@ map_alternatives-returns-in-Ok-clause-is g t c =
     let e = c.in_ok-tick.ensures in
     let next = drop_more c.args.alternatives.now c.loop-index.index c.index-alternatives-index.result (omega arith) in
     let next = rw (← c.index-alternatives-index.is) at next in
-    let m = c.in-Ok.ensures.is in
+    let m = rw i.lent.nodes at c.in-Ok.ensures.is in
     let h = rw (i.frame.len, i.same, c.ordered-prefixed.ensures, c.from-origin.ensures) at m.follows in
     let h = in_world (g.S.Space.view c.args.space.now) (g.S.Space.view c.loop-index.space) i.frame.bytes i.frame.room c.in-Ok.ensures.frame.room h in
     let keeps = m.kept ∙ ap (λ ls. pushed ls (Some m.value)) i.same in
@@ -595,7 +604,7 @@ map_alternatives-returns-then-not-misses-clause-is g t c =
     let e = c.in_ok-tick.ensures in
     let next = drop_more c.args.alternatives.now c.loop-index.index c.index-alternatives-index.result (omega arith) in
     let next = rw (← c.index-alternatives-index.is) at next in
-    let h = rw (i.frame.len, i.same, c.ordered-prefixed.ensures, c.from-origin.ensures) at c.in-Err.ensures.is in
+    let h = rw (i.lent.nodes, i.frame.len, i.same, c.ordered-prefixed.ensures, c.from-origin.ensures) at c.in-Err.ensures.is in
     let h = in_world (g.S.Space.view c.args.space.now) (g.S.Space.view c.loop-index.space) i.frame.bytes i.frame.room c.in-Err.ensures.frame.room h in
     follow_on (in_later i.frame.room c.in-Err.ensures.frame.room i.so_far) (alternatives_stop _ _ _ _ _ _ _ _ _ next (e.limit ∙ i.frame.limit) e.ok e.made _ (sym c.misses.ensures ∙ c.if-not-misses.true) h)
 
@@ -605,13 +614,15 @@ map_alternatives-loop-index-preserved g t c =
     let e = c.in_ok-tick.ensures in
     let next = drop_more c.args.alternatives.now c.loop-index.index c.index-alternatives-index.result (omega arith) in
     let next = rw (← c.index-alternatives-index.is) at next in
-    let h = rw (i.frame.len, i.same, c.ordered-prefixed.ensures, c.from-origin.ensures) at c.in-Err.ensures.is in
+    let h = rw (i.lent.nodes, i.frame.len, i.same, c.ordered-prefixed.ensures, c.from-origin.ensures) at c.in-Err.ensures.is in
     let h = in_world (g.S.Space.view c.args.space.now) (g.S.Space.view c.loop-index.space) i.frame.bytes i.frame.room c.in-Err.ensures.frame.room h in
     let h = in_later (room_then i.frame.room c.in-Err.ensures.frame.room) c.clear_level.ensures.room h in
-    let cleared = c.clear_level.ensures.levels c.args.nodes.now in
+    let cleared = c.clear_level.ensures.levels c.args.self.now.nodes.now in
+    let stays = rw i.lent.nodes at c.in-Err.ensures.level in
     record {
+      lent = search rules;
       frame = search rules;
-      same = cleared ∙ ap (λ o. [] ∷ o) (c.in-Err.ensures.level.outer ∙ ap outer_of i.same) ∙ sym c.requires.fresh;
+      same = cleared ∙ ap (λ o. [] ∷ o) (stays.outer ∙ ap outer_of i.same) ∙ sym c.requires.fresh;
       depth = search rules;
       so_far = follow_on (in_later i.frame.room (room_then c.in-Err.ensures.frame.room c.clear_level.ensures.room) i.so_far) (alternatives_miss _ _ _ _ _ _ _ _ _ next (e.limit ∙ i.frame.limit) e.ok e.made _ (sym c.misses.ensures ∙ c.if-not-misses.false) h);
     }

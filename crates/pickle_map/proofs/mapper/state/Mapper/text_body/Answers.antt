@@ -9,7 +9,7 @@ use Rattle.pickle_map.proofs.Walks.{follow_here, follow_on}
 use Rattle.pickle_map.proofs.Worlds.{room_then, in_later, holds_these, lacks_these}
 use Rattle.pickle_map.proofs.Placing.{refusal_stops}
 use Rattle.pickle_map.proofs.Texts.{text_stops, text_not_closed, text_closed, text_no_room, text_goes, may_same}
-use Rattle.pickle_map.proofs.mapper.text.text_body.Goals as goal
+use Rattle.pickle_map.proofs.mapper.state.Mapper.text_body.Goals as goal
 
 pub loop-byte-init : goal.loop-byte-init
 loop-byte-init g c = record {
@@ -37,7 +37,7 @@ returns-in_err-close_text-in-Ok-clause-is g c =
     let r = c.in-Ok.ensures in
     let fits = rw i.frame.len at r.inside in
     let may = may_same _ _ _ _ i.frame.bytes r.ok in
-    let full = c.in_err-close_text-in-Ok.ensures.full c.args.nodes.now i.so_far.0 (outer_of (levels c.args.nodes.now c.args.store.now)) i.so_far.4 in
+    let full = c.in_err-close_text-in-Ok.ensures.full c.args.self.now.nodes.now i.so_far.0 (outer_of (levels c.args.self.now.nodes.now c.args.self.now.store.now)) i.so_far.4 in
     let end : c.args.start + 8 * (length i.so_far.0 + 1) ≡ c.loop-byte.place + 8 = omega (arith, i.so_far.3) in
     let full = rw end at full in
     rw (p.1, p.2) (follow_on (in_later i.frame.room c.in_err-close_text-in-Ok.ensures.room i.so_far.5) (text_not_closed _ _ _ _ _ _ i.so_far.2 i.inside _ (r.limit ∙ i.frame.limit) r.steps r.made fits may c.if-byte-eq0.true (lacks_these i.frame.room full)))
@@ -45,7 +45,7 @@ returns-in_err-close_text-in-Ok-clause-is g c =
 pub returns-in_err-close_text-in-Ok-clause-level : goal.returns-in_err-close_text-in-Ok-clause-level
 returns-in_err-close_text-in-Ok-clause-level g c =
     let p = err_from_is_err_and c.from_residual.result c.from_residual.ensures.1 in
-    rw p.1 (regrown_stays c.args.nodes.now _ _ _ c.loop-byte.invariant.level c.in_err-close_text-in-Ok.ensures.err)
+    rw p.1 (regrown_stays c.args.self.now.nodes.now _ _ _ c.loop-byte.invariant.level c.in_err-close_text-in-Ok.ensures.err)
 
 pub returns-then-byte-eq0-clause-is : goal.returns-then-byte-eq0-clause-is
 returns-then-byte-eq0-clause-is g c =
@@ -54,11 +54,11 @@ returns-then-byte-eq0-clause-is g c =
     let r = c.in-Ok.ensures in
     let fits = rw i.frame.len at r.inside in
     let may = may_same _ _ _ _ i.frame.bytes r.ok in
-    let keeps = c.in_ok-close_text-in-Ok.ensures.ok c.args.nodes.now i.so_far.0 (outer_of (levels c.args.nodes.now c.args.store.now)) i.so_far.4 in
+    let keeps = c.in_ok-close_text-in-Ok.ensures.ok c.args.self.now.nodes.now i.so_far.0 (outer_of (levels c.args.self.now.nodes.now c.args.self.now.store.now)) i.so_far.4 in
     let end : c.args.start + 8 * (length i.so_far.0 + 1) ≡ c.loop-byte.place + 8 = omega (arith, i.so_far.3) in
     let keeps = rw end at keeps in
     let room = c.in_ok-close_text-in-Ok.ensures.room in
-    let has = holds_these c.args.nodes.now (room_then i.frame.room room) c.in_ok-close_text-in-Ok.ensures.within keeps in
+    let has = holds_these c.args.self.now.nodes.now (room_then i.frame.room room) c.in_ok-close_text-in-Ok.ensures.within keeps in
     record {
       value = text_value i.so_far.0 c.args.start (c.loop-byte.place + 8);
       kept = keeps;
@@ -73,13 +73,13 @@ returns-in_err-push_byte-in-Ok-clause-is g c =
     let r = c.in-Ok.ensures in
     let fits = rw i.frame.len at r.inside in
     let may = may_same _ _ _ _ i.frame.bytes r.ok in
-    let full = c.in_err-push_byte-in-Ok.ensures.full c.args.nodes.now i.so_far.0 (outer_of (levels c.args.nodes.now c.args.store.now)) i.so_far.4 in
+    let full = c.in_err-push_byte-in-Ok.ensures.full c.args.self.now.nodes.now i.so_far.0 (outer_of (levels c.args.self.now.nodes.now c.args.self.now.store.now)) i.so_far.4 in
     rw (p.1, p.2) (follow_on (in_later i.frame.room c.in_err-push_byte-in-Ok.ensures.room i.so_far.5) (text_no_room _ _ _ _ _ _ i.so_far.2 i.inside _ (r.limit ∙ i.frame.limit) r.steps r.made fits may c.if-byte-eq0.false (lacks_these i.frame.room full)))
 
 pub returns-in_err-push_byte-in-Ok-clause-level : goal.returns-in_err-push_byte-in-Ok-clause-level
 returns-in_err-push_byte-in-Ok-clause-level g c =
     let p = err_from_is_err_and c.from_residual-in_err-push_byte-in-Ok.result c.from_residual-in_err-push_byte-in-Ok.ensures.1 in
-    rw p.1 (regrown_stays c.args.nodes.now _ _ _ c.loop-byte.invariant.level c.in_err-push_byte-in-Ok.ensures.err)
+    rw p.1 (regrown_stays c.args.self.now.nodes.now _ _ _ c.loop-byte.invariant.level c.in_err-push_byte-in-Ok.ensures.err)
 
 pub loop-byte-preserved : goal.loop-byte-preserved
 loop-byte-preserved g c =
@@ -91,15 +91,15 @@ loop-byte-preserved g c =
     let short = g.met.S.Space.short c.args.space.now in
     let more = longer i.so_far.0 c.in-Ok.byte in
     let room = c.in_ok-push_byte-in-Ok.ensures.room in
-    let outer = outer_of (levels c.args.nodes.now c.args.store.now) in
-    let writes = c.in_ok-push_byte-in-Ok.ensures.writes c.args.nodes.now i.so_far.0 outer i.so_far.4 (omega (arith, i.so_far.3, fits, short)) in
-    let shows = c.in_ok-push_byte-in-Ok.ensures.levels c.args.nodes.now i.so_far.0 outer i.so_far.4 (omega (arith, i.so_far.3, fits, short)) in
-    let has = holds_these c.args.nodes.now (room_then i.frame.room room) c.in_ok-push_byte-in-Ok.ensures.within shows in
+    let outer = outer_of (levels c.args.self.now.nodes.now c.args.self.now.store.now) in
+    let writes = c.in_ok-push_byte-in-Ok.ensures.writes c.args.self.now.nodes.now i.so_far.0 outer i.so_far.4 (omega (arith, i.so_far.3, fits, short)) in
+    let shows = c.in_ok-push_byte-in-Ok.ensures.levels c.args.self.now.nodes.now i.so_far.0 outer i.so_far.4 (omega (arith, i.so_far.3, fits, short)) in
+    let has = holds_these c.args.self.now.nodes.now (room_then i.frame.room room) c.in_ok-push_byte-in-Ok.ensures.within shows in
     let next = text_goes _ _ _ _ _ _ i.so_far.2 i.inside _ (r.limit ∙ i.frame.limit) r.steps r.made fits may c.if-byte-eq0.false has n.steps n.made in
     record {
       frame = search rules;
       after = search rules;
       inside = search rules;
-      level = record { outer = writing-outer c.args.nodes.now c.push_byte.new.self _ c.args.start outer writes; depth = c.in_ok-push_byte-in-Ok.ensures.depth ∙ i.level.depth };
+      level = record { outer = writing-outer c.args.self.now.nodes.now c.push_byte.new.self _ c.args.start outer writes; depth = c.in_ok-push_byte-in-Ok.ensures.depth ∙ i.level.depth };
       so_far = (i.so_far.0 ++ c.in-Ok.byte ∷ [], next.0, next.1, omega (arith, i.so_far.3, more), writes, follow_on (in_later i.frame.room room i.so_far.5) next.2);
     }

@@ -14,7 +14,7 @@ use Rattle.pickle_map.proofs.Clauses.{checks_ok, checks_stop}
 use Rattle.pickle_map.proofs.Placing.{digits_end, digits_no_tick, digits_stop, digits_goes}
 use Rattle.pickle_map.proofs.Walks.{follow_done, follow_here, follow_on, follow_tick, follow_stop, closes_no_room, closes_made, first_no_tick}
 use Rattle.pickle_map.proofs.Worlds.{room_then, in_call, in_later, holds_these, lacks_these}
-use Rattle.pickle_map.proofs.mapper.number.+placing.Goals as goal
+use Rattle.pickle_map.proofs.mapper.state.Mapper.+placing.Goals as goal
 
 pub integral_body-returns-in_err-place_fields-clause-is : goal.integral_body-returns-in_err-place_fields-clause-is
 integral_body-returns-in_err-place_fields-clause-is g t c =
@@ -24,28 +24,29 @@ integral_body-returns-in_err-place_fields-clause-is g t c =
 pub integral_body-returns-in_err-close_struct-clause-is : goal.integral_body-returns-in_err-close_struct-clause-is
 integral_body-returns-in_err-close_struct-clause-is g t c =
     let p = err_from_is_err_and c.from_residual-in_err-close_struct.result c.from_residual-in_err-close_struct.ensures.1 in
-    let named = c.requires.names ∙ sym (parts_named (type_of c.args.nodes.now) c.args.fields.now) in
-    let full = rw (named, c.from.ensures) at (c.in_err-close_struct.ensures.full c.args.nodes.now) in
+    let named = c.requires.names ∙ sym (parts_named (type_of c.args.self.now.nodes.now) c.args.fields.now) in
+    let full = rw (named, c.from.ensures) at (c.in_err-close_struct.ensures.full c.args.self.now.nodes.now) in
     let keeps = c.in_ok-place_fields.ensures.frame.room in
     rw (p.1, p.2) (λ known. closes_no_room _ _ _ (in_later keeps c.in_err-close_struct.ensures.room (c.in_ok-place_fields.ensures.is known)) (lacks_these keeps full))
 
 pub integral_body-returns-in_err-close_struct-clause-level : goal.integral_body-returns-in_err-close_struct-clause-level
 integral_body-returns-in_err-close_struct-clause-level g t c =
     let p = err_from_is_err_and c.from_residual-in_err-close_struct.result c.from_residual-in_err-close_struct.ensures.1 in
-    rw p.1 (regrown_stays c.args.nodes.now _ _ _ c.in_ok-place_fields.ensures.level c.in_err-close_struct.ensures.err)
+    rw p.1 (regrown_stays c.args.self.now.nodes.now _ _ _ c.in_ok-place_fields.ensures.level c.in_err-close_struct.ensures.err)
 
 pub integral_body-returns-clause-is : goal.integral_body-returns-clause-is
 integral_body-returns-clause-is g t c =
     let n = c.note_made.ensures in
-    let named = c.requires.names ∙ sym (parts_named (type_of c.args.nodes.now) c.args.fields.now) in
-    let closed = rw (named, c.from.ensures) at (c.in_ok-close_struct.ensures.ok c.args.nodes.now) in
+    let named = c.requires.names ∙ sym (parts_named (type_of c.args.self.now.nodes.now) c.args.fields.now) in
+    let closed = rw (named, c.from.ensures) at (c.in_ok-close_struct.ensures.ok c.args.self.now.nodes.now) in
     let h = rw c.in_ok-place_fields.ensures.level.outer at closed in
     let room = c.in_ok-close_struct.ensures.room in
-    let has = holds_these c.args.nodes.now (room_then c.in_ok-place_fields.ensures.frame.room room) c.in_ok-close_struct.ensures.within closed in
+    let has = holds_these c.args.self.now.nodes.now (room_then c.in_ok-place_fields.ensures.frame.room room) c.in_ok-close_struct.ensures.within closed in
     λ known. record { value = _; kept = h; ends = refl; follows = closes_made _ _ _ (in_later c.in_ok-place_fields.ensures.frame.room room (c.in_ok-place_fields.ensures.is known)) has n.steps n.made }
 
 pub place_fields-loop-part-init : goal.place_fields-loop-part-init
 place_fields-loop-part-init g t c = record {
+  lent = search rules;
   frame = search rules;
   left = search rules;
   level = search rules;
@@ -64,7 +65,7 @@ place_fields-returns-in_err-tick-clause-is g t c =
 pub place_fields-place_part-requires : goal.place_fields-place_part-requires
 place_fields-place_part-requires g t c =
     let bounded = part_bounded c.args.fields.now c.loop-part.part-index c.part-item.result (omega arith) c.part-item.is in
-    let part = of_one (IsPartOf c.args.nodes.now (level_count c.args.store.now)) c.args.fields.now c.loop-part.part-index c.part-item.result c.requires.fields (omega arith) c.part-item.is in
+    let part = of_one (IsPartOf c.args.self.now.nodes.now (level_count c.args.self.now.store.now)) c.args.fields.now c.loop-part.part-index c.part-item.result c.requires.fields (omega arith) c.part-item.is in
     let part = rw (← c.loop-part.invariant.level.depth) at part in
     let below = rw c.width_at-width.ensures.is at c.first_digits-digits.ensures.below in
     search rules
@@ -78,7 +79,7 @@ place_fields-returns-in_err-place_part-clause-is g t c =
     let next = rw (← c.part-item.is) at next in
     let cut = rw c.width_at-width.ensures.is at c.first_digits-digits.ensures.is in
     let room = c.in_err-place_part.ensures.frame.room in
-    rw (p.1, p.2) (λ known. follow_on (in_later i.frame.room room (i.so_far known)) (digits_stop _ _ _ _ _ _ _ _ next _ cut (e.limit ∙ i.frame.limit) e.ok e.made _ (in_call i.frame.room room (c.in_err-place_part.ensures.is known))))
+    rw (p.1, p.2) (λ known. follow_on (in_later i.frame.room room (i.so_far known)) (digits_stop _ _ _ _ _ _ _ _ next _ cut (e.limit ∙ i.frame.limit) e.ok e.made _ (in_call i.frame.room room (rw i.lent.nodes at (c.in_err-place_part.ensures.is known)))))
 
 pub place_fields-loop-part-preserved : goal.place_fields-loop-part-preserved
 place_fields-loop-part-preserved g t c =
@@ -88,12 +89,14 @@ place_fields-loop-part-preserved g t c =
     let next = rw (← c.part-item.is) at next in
     let cut = rw c.width_at-width.ensures.is at c.first_digits-digits.ensures.is in
     let less = rw c.width_at-width.ensures.is at c.saturating_sub-left.ensures in
+    let stays = rw i.lent.nodes at c.in_ok-place_part.ensures.level in
     record {
+      lent = search rules;
       frame = search rules;
       left = search rules;
       level = search rules;
       so_far = λ known.
-          let h = c.in_ok-place_part.ensures.is known in
+          let h = rw i.lent.nodes at (c.in_ok-place_part.ensures.is known) in
           rw h.kept (follow_on (in_later i.frame.room c.in_ok-place_part.ensures.frame.room (i.so_far known)) (digits_goes _ _ _ _ _ _ _ _ next _ cut (e.limit ∙ i.frame.limit) e.ok e.made h.value _ less (in_call i.frame.room c.in_ok-place_part.ensures.frame.room h.follows)));
     }
 
@@ -109,7 +112,7 @@ place_integral-integral_body-placed-requires g t c =
     search rules
 
 pub place_integral-leave_level-requires : goal.place_integral-leave_level-requires
-place_integral-leave_level-requires g t c = left_open c.args.nodes.now c.open_level.ensures.room c.integral_body-placed.ensures.frame.room c.open_level.ensures.depth _ c.integral_body-placed.ensures.level
+place_integral-leave_level-requires g t c = left_open c.args.self.now.nodes.now c.open_level.ensures.room c.integral_body-placed.ensures.frame.room c.open_level.ensures.depth _ c.integral_body-placed.ensures.level
 
 pub place_integral-returns-clause-is : goal.place_integral-returns-clause-is
 unfolding number_plan
@@ -117,69 +120,69 @@ place_integral-returns-clause-is g t c =
     let o = c.open_level.ensures in
     let left = c.leave_level.ensures in
     λ known.
-    let h = rw (o.levels c.args.nodes.now) at (c.integral_body-placed.ensures.is known) in
-    left_keeps c.args.nodes.now o.room c.integral_body-placed.ensures.frame.room left.room (λ _ h. h) _ _ left.left h
+    let h = rw (o.levels c.args.self.now.nodes.now) at (c.integral_body-placed.ensures.is known) in
+    left_keeps c.args.self.now.nodes.now o.room c.integral_body-placed.ensures.frame.room left.room (λ _ h. h) _ _ left.left h
 
 pub place_integral-returns-clause-level : goal.place_integral-returns-clause-level
 place_integral-returns-clause-level g t c =
     let o = c.open_level.ensures in
-    left_adds c.args.nodes.now o.room c.integral_body-placed.ensures.frame.room c.leave_level.ensures.room o.depth (o.levels c.args.nodes.now) _ c.integral_body-placed.ensures.level c.leave_level.ensures.left
+    left_adds c.args.self.now.nodes.now o.room c.integral_body-placed.ensures.frame.room c.leave_level.ensures.room o.depth (o.levels c.args.self.now.nodes.now) _ c.integral_body-placed.ensures.level c.leave_level.ensures.left
 
 pub place_number-place_integer-requires-clause-digits : goal.place_number-place_integer-requires-clause-digits
-place_number-place_integer-requires-clause-digits g t c = subst (λ x. c.args.digits < 2 ^ width_in (number_type x)) (opened_as c.args.nodes.now c.requires.table c.args.at c.requires.at c.index-nodes-at.result _ c.in-Integer.is) c.requires.digits
+place_number-place_integer-requires-clause-digits g t c = subst (λ x. c.args.digits < 2 ^ width_in (number_type x)) (opened_as c.args.self.now.nodes.now c.requires.table c.args.at c.requires.at c.index-nodes-at.result _ c.in-Integer.is) c.requires.digits
 
 pub place_number-place_offset-requires-clause-width : goal.place_number-place_offset-requires-clause-width
-place_number-place_offset-requires-clause-width g t c = (below_as c.args.nodes.now c.requires.table c.args.at c.requires.at c.index-nodes-at.result _ c.in-Offset.is).0
+place_number-place_offset-requires-clause-width g t c = (below_as c.args.self.now.nodes.now c.requires.table c.args.at c.requires.at c.index-nodes-at.result _ c.in-Offset.is).0
 
 pub place_number-place_offset-requires-clause-unit : goal.place_number-place_offset-requires-clause-unit
-place_number-place_offset-requires-clause-unit g t c = (below_as c.args.nodes.now c.requires.table c.args.at c.requires.at c.index-nodes-at.result _ c.in-Offset.is).1
+place_number-place_offset-requires-clause-unit g t c = (below_as c.args.self.now.nodes.now c.requires.table c.args.at c.requires.at c.index-nodes-at.result _ c.in-Offset.is).1
 
 pub place_number-place_offset-requires-clause-digits : goal.place_number-place_offset-requires-clause-digits
-place_number-place_offset-requires-clause-digits g t c = subst (λ x. c.args.digits < 2 ^ width_in (number_type x)) (opened_as c.args.nodes.now c.requires.table c.args.at c.requires.at c.index-nodes-at.result _ c.in-Offset.is) c.requires.digits
+place_number-place_offset-requires-clause-digits g t c = subst (λ x. c.args.digits < 2 ^ width_in (number_type x)) (opened_as c.args.self.now.nodes.now c.requires.table c.args.at c.requires.at c.index-nodes-at.result _ c.in-Offset.is) c.requires.digits
 
 pub place_number-place_integral-requires : goal.place_number-place_integral-requires
 unfolding parts_depth
 place_number-place_integral-requires g t c =
-    let below = below_as c.args.nodes.now c.requires.table c.args.at c.requires.at c.index-nodes-at.result _ c.in-Integral.is in
-    let names = names_as c.args.nodes.now c.requires.table c.args.at c.requires.at c.index-nodes-at.result _ c.in-Integral.is in
-    let sound = sound_as c.args.nodes.now c.requires.table c.args.at c.requires.at c.index-nodes-at.result _ c.in-Integral.is in
-    let opened = opened_as c.args.nodes.now c.requires.table c.args.at c.requires.at c.index-nodes-at.result _ c.in-Integral.is in
+    let below = below_as c.args.self.now.nodes.now c.requires.table c.args.at c.requires.at c.index-nodes-at.result _ c.in-Integral.is in
+    let names = names_as c.args.self.now.nodes.now c.requires.table c.args.at c.requires.at c.index-nodes-at.result _ c.in-Integral.is in
+    let sound = sound_as c.args.self.now.nodes.now c.requires.table c.args.at c.requires.at c.index-nodes-at.result _ c.in-Integral.is in
+    let opened = opened_as c.args.self.now.nodes.now c.requires.table c.args.at c.requires.at c.index-nodes-at.result _ c.in-Integral.is in
     let deep = rw opened at c.requires.open in
-    let fields = parts_within c.args.nodes.now c.args.at c.requires.at (level_count c.args.store.now + 1) c.in-Integral.fields.items below.1 sound (omega (arith, deep)) in
+    let fields = parts_within c.args.self.now.nodes.now c.args.at c.requires.at (level_count c.args.self.now.store.now + 1) c.in-Integral.fields.items below.1 sound (omega (arith, deep)) in
     let bounded = parts_bounded c.args.at c.in-Integral.fields.items below.1 in
     let wide = below.0 in
     rw c.deref.ensures.value (search rules)
 
 pub place_number-returns-in-Integer-clause-is : goal.place_number-returns-in-Integer-clause-is
-place_number-returns-in-Integer-clause-is g t c = rw (opened_as c.args.nodes.now c.requires.table c.args.at c.requires.at c.index-nodes-at.result _ c.in-Integer.is) (c.place_integer.ensures.is c.args.nodes.now)
+place_number-returns-in-Integer-clause-is g t c = rw (opened_as c.args.self.now.nodes.now c.requires.table c.args.at c.requires.at c.index-nodes-at.result _ c.in-Integer.is) (c.place_integer.ensures.is)
 
 pub place_number-returns-in-Offset-clause-is : goal.place_number-returns-in-Offset-clause-is
-place_number-returns-in-Offset-clause-is g t c = rw (opened_as c.args.nodes.now c.requires.table c.args.at c.requires.at c.index-nodes-at.result _ c.in-Offset.is) (c.place_offset.ensures.is c.args.nodes.now)
+place_number-returns-in-Offset-clause-is g t c = rw (opened_as c.args.self.now.nodes.now c.requires.table c.args.at c.requires.at c.index-nodes-at.result _ c.in-Offset.is) (c.place_offset.ensures.is)
 
 pub place_number-returns-in-Integer-clause-level : goal.place_number-returns-in-Integer-clause-level
-place_number-returns-in-Integer-clause-level g t c = c.place_integer.ensures.level c.args.nodes.now
+place_number-returns-in-Integer-clause-level g t c = c.place_integer.ensures.level
 
 pub place_number-returns-in-Offset-clause-level : goal.place_number-returns-in-Offset-clause-level
-place_number-returns-in-Offset-clause-level g t c = c.place_offset.ensures.level c.args.nodes.now
+place_number-returns-in-Offset-clause-level g t c = c.place_offset.ensures.level
 
 pub place_number-returns-in-Integral-clause-is : goal.place_number-returns-in-Integral-clause-is
-place_number-returns-in-Integral-clause-is g t c = rw (integral_opened c.args.nodes.now c.requires.table c.args.at c.requires.at c.index-nodes-at.result _ _ _ _ c.in-Integral.is c.deref.ensures.value) c.place_integral.ensures.is
+place_number-returns-in-Integral-clause-is g t c = rw (integral_opened c.args.self.now.nodes.now c.requires.table c.args.at c.requires.at c.index-nodes-at.result _ _ _ _ c.in-Integral.is c.deref.ensures.value) c.place_integral.ensures.is
 
 pub place_number-returns-in-String-clause-is : goal.place_number-returns-in-String-clause-is
 unfolding number_plan
-place_number-returns-in-String-clause-is g t c = rw (c.no_number.ensures, opened_as c.args.nodes.now c.requires.table c.args.at c.requires.at c.index-nodes-at.result _ c.in-String.is) (λ known. follow_done)
+place_number-returns-in-String-clause-is g t c = rw (c.no_number.ensures, opened_as c.args.self.now.nodes.now c.requires.table c.args.at c.requires.at c.index-nodes-at.result _ c.in-String.is) (λ known. follow_done)
 
 pub place_number-returns-in-Array-clause-is : goal.place_number-returns-in-Array-clause-is
 unfolding number_plan
-place_number-returns-in-Array-clause-is g t c = rw (c.no_number-in-Array.ensures, opened_as c.args.nodes.now c.requires.table c.args.at c.requires.at c.index-nodes-at.result _ c.in-Array.is) (λ known. follow_done)
+place_number-returns-in-Array-clause-is g t c = rw (c.no_number-in-Array.ensures, opened_as c.args.self.now.nodes.now c.requires.table c.args.at c.requires.at c.index-nodes-at.result _ c.in-Array.is) (λ known. follow_done)
 
 pub place_number-returns-in-Struct-clause-is : goal.place_number-returns-in-Struct-clause-is
 unfolding number_plan
-place_number-returns-in-Struct-clause-is g t c = rw (c.no_number-in-Struct.ensures, opened_as c.args.nodes.now c.requires.table c.args.at c.requires.at c.index-nodes-at.result _ c.in-Struct.is) (λ known. follow_done)
+place_number-returns-in-Struct-clause-is g t c = rw (c.no_number-in-Struct.ensures, opened_as c.args.self.now.nodes.now c.requires.table c.args.at c.requires.at c.index-nodes-at.result _ c.in-Struct.is) (λ known. follow_done)
 
 pub place_number-returns-in-Union-clause-is : goal.place_number-returns-in-Union-clause-is
 unfolding number_plan
-place_number-returns-in-Union-clause-is g t c = rw (c.no_number-in-Union.ensures, opened_as c.args.nodes.now c.requires.table c.args.at c.requires.at c.index-nodes-at.result _ c.in-Union.is) (λ known. follow_done)
+place_number-returns-in-Union-clause-is g t c = rw (c.no_number-in-Union.ensures, opened_as c.args.self.now.nodes.now c.requires.table c.args.at c.requires.at c.index-nodes-at.result _ c.in-Union.is) (λ known. follow_done)
 
 pub place_part-returns-in_err-tick-clause-is : goal.place_part-returns-in_err-tick-clause-is
 place_part-returns-in_err-tick-clause-is g t c =
@@ -211,7 +214,7 @@ place_part-returns-in_err-check-clause-is g t c =
     checks_stop _ _ _ _ h.value (follow_tick e.limit e.ok e.made h.follows) (c.in_ok-place_number.ensures.frame.limit ∙ e.limit) c.in_err-check.ensures.made _ (omega arith) checked)
 
 pub place_part-returns-clause-level : goal.place_part-returns-clause-level
-place_part-returns-clause-level g t c = pushed_stays c.args.nodes.now _ _ _ _ (same_stays _ _) (c.in_ok-place_number.ensures.is None).kept c.in_ok-place_number.ensures.level.depth
+place_part-returns-clause-level g t c = pushed_stays c.args.self.now.nodes.now _ _ _ _ (same_stays _ _) (c.in_ok-place_number.ensures.is None).kept c.in_ok-place_number.ensures.level.depth
 
 pub place_part-returns-in_err-check-clause-level : goal.place_part-returns-in_err-check-clause-level
-place_part-returns-in_err-check-clause-level g t c = pushed_stays c.args.nodes.now _ _ _ _ (same_stays _ _) (c.in_ok-place_number.ensures.is None).kept c.in_ok-place_number.ensures.level.depth
+place_part-returns-in_err-check-clause-level g t c = pushed_stays c.args.self.now.nodes.now _ _ _ _ (same_stays _ _) (c.in_ok-place_number.ensures.is None).kept c.in_ok-place_number.ensures.level.depth
