@@ -24,11 +24,14 @@ module _ {W : Type 0} where
 
   -- ---- frames
 
-  abbrev pub Frame : {A : Type 0} → (space space' : SpaceView) → (old new : Mapper W) → (ahead : ℕ) → Result A Stop → Type 0
-  Frame space space' old new ahead result = framed.Frame space space' old.meter.now new.meter.now old.store.now new.store.now ahead result
+  -- what a call leaves that reads, and one that doesn't
+  pub record Frame {A : Type 0} (space space' : SpaceView) (old new : Mapper W) (ahead : ℕ) (result : Result A Stop) : Type 0 where
+    pub lent : StaysLent old new
+    pub left : framed.Frame space space' old.meter.now new.meter.now old.store.now new.store.now ahead result
 
-  abbrev pub WorkFrame : {A : Type 0} → (old new : Mapper W) → (ahead : ℕ) → Result A Stop → Type 0
-  WorkFrame old new ahead result = framed.WorkFrame old.meter.now new.meter.now old.store.now new.store.now ahead result
+  pub record WorkFrame {A : Type 0} (old new : Mapper W) (ahead : ℕ) (result : Result A Stop) : Type 0 where
+    pub lent : StaysLent old new
+    pub left : framed.WorkFrame old.meter.now new.meter.now old.store.now new.store.now ahead result
 
   -- ---- levels
 

@@ -4,7 +4,7 @@ ghost use Rattle.std.specs.Prelude.{◌≡◌, List, ◌+◌, ◌*◌, ◌<◌, 
 ghost use Rattle.pickle_types.specs.declared.node.Node.{Node as TableNode};
 ghost use Rattle.pickle_types.specs.Types.{IntegerOf, OffsetOf, depth};
 ghost use Rattle.pickle_types.specs.Table.{IsTable, type_of, IsWidth};
-ghost use Rattle.pickle_map.specs.AtWork.{StaysLent, Frame, WorkFrame, AddsToLevel, LevelStays, LeavesLevel};
+ghost use Rattle.pickle_map.specs.AtWork.{Frame, WorkFrame, AddsToLevel, LevelStays, LeavesLevel};
 ghost use Rattle.pickle_map.specs.AtWork.{Maps, Places, PlacesLevel, PlacesPart, PlacesFields};
 ghost use Rattle.pickle_map.specs.Calls.{as_integer, as_number, integral_at};
 ghost use Rattle.pickle_map.specs.Framed.{IsEnd};
@@ -41,7 +41,6 @@ impl<W: Watch> Mapper<'_, W> {
         requires number { number_type (type_of self.old.nodes.now at) ≡ Some number }
         requires width { IsWidth number }
         requires inside { start ≤ 8 * (S.view space.old).len }
-        ensures lent { StaysLent self.old self.new }
         ensures frame { Frame (S.view space.old) (S.view space.new) self.old self.new 0 result }
         ensures ends { IfOk result (IsEnd start (S.view space.old)) }
         ensures is { Maps (S.view space.old) self.old self.new (as_number at number order start) result }
@@ -63,7 +62,6 @@ impl<W: Watch> Mapper<'_, W> {
     ) -> Result<u64, Stop>
         requires width { IsWidth number }
         requires inside { start ≤ 8 * (S.view space.old).len }
-        ensures lent { StaysLent self.old self.new }
         ensures frame { Frame (S.view space.old) (S.view space.new) self.old self.new 0 result }
         ensures ends { IfOk result (IsEnd start (S.view space.old)) }
         ensures is { Maps (S.view space.old) self.old self.new (as_integer number order start) result }
@@ -83,7 +81,6 @@ impl<W: Watch> Mapper<'_, W> {
         requires digits { digits < 2 ^ width_in (number_type (type_of self.old.nodes.now at)) }
         requires start { start < 2 ^ 63 }
         requires free { self.old.meter.now.made < self.old.meter.now.steps }
-        ensures lent { StaysLent self.old self.new }
         ensures frame { WorkFrame self.old self.new 1 result }
         ensures is { Places self.old self.new (type_of self.old.nodes.now at) digits start result }
         ensures level { AddsToLevel self.old self.new result }
@@ -110,7 +107,6 @@ impl<W: Watch> Mapper<'_, W> {
         requires width { IsWidth number }
         requires digits { digits < 2 ^ number.width }
         requires free { self.old.meter.now.made < self.old.meter.now.steps }
-        ensures lent { StaysLent self.old self.new }
         ensures frame { WorkFrame self.old self.new 1 result }
         ensures is { Places self.old self.new (IntegerOf number) digits start result }
         ensures level { AddsToLevel self.old self.new result }
@@ -132,7 +128,6 @@ impl<W: Watch> Mapper<'_, W> {
         requires unit { 1 ≤ unit }
         requires digits { digits < 2 ^ number.width }
         requires free { self.old.meter.now.made < self.old.meter.now.steps }
-        ensures lent { StaysLent self.old self.new }
         ensures frame { WorkFrame self.old self.new 1 result }
         ensures is { Places self.old self.new (OffsetOf number unit) digits start result }
         ensures level { AddsToLevel self.old self.new result }
@@ -160,7 +155,6 @@ impl<W: Watch> Mapper<'_, W> {
         requires width { IsWidth number }
         requires start { start < 2 ^ 63 }
         requires free { self.old.meter.now.made < self.old.meter.now.steps }
-        ensures lent { StaysLent self.old self.new }
         ensures frame { WorkFrame self.old self.new 1 result }
         ensures is { Places self.old self.new (integral_at self.old.nodes.now at number fields.now) digits start result }
         ensures level { AddsToLevel self.old self.new result }
@@ -190,7 +184,6 @@ impl<W: Watch> Mapper<'_, W> {
         requires width { IsWidth number }
         requires start { start < 2 ^ 63 }
         requires free { self.old.meter.now.made < self.old.meter.now.steps }
-        ensures lent { StaysLent self.old self.new }
         ensures frame { WorkFrame self.old self.new 1 result }
         ensures is { PlacesLevel self.old self.new at number fields.now digits start result }
         ensures level { LeavesLevel self.old self.new result }
@@ -215,7 +208,6 @@ impl<W: Watch> Mapper<'_, W> {
         requires fields { All (IsPartOf self.old.nodes.now (level_count self.old.store.now)) fields.now }
         requires width { width ≤ 64 }
         requires start { start < 2 ^ 63 }
-        ensures lent { StaysLent self.old self.new }
         ensures frame { WorkFrame self.old self.new 0 result }
         ensures is { PlacesFields self.old self.new fields.now digits width start result }
         ensures level { LevelStays self.old self.new }
@@ -240,7 +232,6 @@ impl<W: Watch> Mapper<'_, W> {
         requires part { IsPartOf self.old.nodes.now (level_count self.old.store.now) part.now }
         requires digits { digits < 2 ^ width_in (number_type (type_of self.old.nodes.now part.now.node)) }
         requires start { start < 2 ^ 63 }
-        ensures lent { StaysLent self.old self.new }
         ensures frame { WorkFrame self.old self.new 0 result }
         ensures is { PlacesPart self.old self.new part.now digits start result }
         ensures level { LevelStays self.old self.new }

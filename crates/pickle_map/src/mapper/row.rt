@@ -2,7 +2,7 @@
 
 ghost use Rattle.std.specs.Prelude.{◌*◌, ◌<◌, ◌≤◌, [], length, IfOk};
 ghost use Rattle.pickle_types.specs.Table.{IsTable, type_of};
-ghost use Rattle.pickle_map.specs.AtWork.{StaysLent, Frame, LevelStays, LeavesLevel, Closes, PacksRow};
+ghost use Rattle.pickle_map.specs.AtWork.{Frame, LevelStays, LeavesLevel, Closes, PacksRow};
 ghost use Rattle.pickle_map.specs.Calls.{as_array_level};
 ghost use Rattle.pickle_map.specs.Framed.{IsEnd};
 ghost use Rattle.pickle_map.specs.Row.{PacksAs, PacksOrNot};
@@ -59,7 +59,6 @@ impl<W: Watch> Mapper<'_, W> {
         requires open { 1 < level_count self.old.store.now }
         requires inside { start ≤ 8 * (S.view space.old).len }
         requires free { self.old.meter.now.made < self.old.meter.now.steps }
-        ensures lent { StaysLent self.old self.new }
         ensures frame { Frame (S.view space.old) (S.view space.new) self.old self.new 1 result }
         ensures ends { IfOk result (IsEnd start (S.view space.old)) }
         ensures is { Closes (S.view space.old) self.old self.new (as_array_level element extent order start) result }
@@ -85,7 +84,6 @@ impl<W: Watch> Mapper<'_, W> {
         requires shape { PacksAs shape (type_of self.old.nodes.now element) self.old.store.now.room }
         requires packing { IsPacking self.old.nodes.now self.old.store.now shape [] start (outer_of (levels self.old.nodes.now self.old.store.now)) }
         requires inside { start ≤ 8 * (S.view space.old).len }
-        ensures lent { StaysLent self.old self.new }
         ensures frame { Frame (S.view space.old) (S.view space.new) self.old self.new 0 result }
         ensures ends { IfOk result (IsEnd start (S.view space.old)) }
         ensures is { PacksRow (S.view space.old) self.old self.new shape element extent order start result }

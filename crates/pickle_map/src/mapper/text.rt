@@ -4,7 +4,7 @@ ghost use Rattle.std.specs.Prelude.{◌≡◌, ◌+◌, ◌*◌, ◌<◌, ◌≤
 ghost use Rattle.bit_space.specs.SpaceView.{known_bits, Keeps};
 ghost use Rattle.bit_space.specs.Reading.{MayRead};
 ghost use Rattle.bit_space.specs.declared.order.Order.TheVariants.{Big};
-ghost use Rattle.pickle_map.specs.AtWork.{StaysLent, Frame, AddsToLevel, LeavesLevel, Maps, Closes};
+ghost use Rattle.pickle_map.specs.AtWork.{Frame, AddsToLevel, LeavesLevel, Maps, Closes};
 ghost use Rattle.pickle_map.specs.Calls.{as_text, as_text_level};
 ghost use Rattle.pickle_map.specs.Framed.{IsEnd, RefusesReading};
 ghost use Rattle.pickle_meaning.specs.Values.{outer_of};
@@ -22,7 +22,6 @@ impl<W: Watch> Mapper<'_, W> {
     pub(crate) fn map_text<S: Space>(&mut self, start: u64, space: &mut S) -> Result<u64, Stop>
         requires inside { start ≤ 8 * (S.view space.old).len }
         requires open { level_count self.old.store.now ≤ 64 }
-        ensures lent { StaysLent self.old self.new }
         ensures frame { Frame (S.view space.old) (S.view space.new) self.old self.new 0 result }
         ensures ends { IfOk result (IsEnd start (S.view space.old)) }
         ensures is { Maps (S.view space.old) self.old self.new (as_text start) result }
@@ -43,7 +42,6 @@ impl<W: Watch> Mapper<'_, W> {
         requires writing { IsWriting self.old.nodes.now self.old.store.now [] start (outer_of (levels self.old.nodes.now self.old.store.now)) }
         requires open { 1 < level_count self.old.store.now }
         requires free { self.old.meter.now.made < self.old.meter.now.steps }
-        ensures lent { StaysLent self.old self.new }
         ensures frame { Frame (S.view space.old) (S.view space.new) self.old self.new 0 result }
         ensures ends { IfOk result (IsEnd start (S.view space.old)) }
         ensures is { Closes (S.view space.old) self.old self.new (as_text_level start) result }

@@ -3,7 +3,7 @@
 ghost use Rattle.std.specs.Prelude.{◌≡◌, ◌+◌, ◌*◌, ◌^◌, ◌<◌, ◌≤◌, ◌∷◌, [], map, length, All, IfOk, OnOk};
 ghost use Rattle.pickle_types.specs.Types.{depth};
 ghost use Rattle.pickle_types.specs.Table.{IsTable, type_of, optional_term, bound_of};
-ghost use Rattle.pickle_map.specs.AtWork.{StaysLent, Frame, AddsToLevel, LevelStays, LeavesLevel, Maps, Closes, Fills, Takes};
+ghost use Rattle.pickle_map.specs.AtWork.{Frame, AddsToLevel, LevelStays, LeavesLevel, Maps, Closes, Fills, Takes};
 ghost use Rattle.pickle_map.specs.Calls.{as_type, as_checked, as_array, as_array_level, as_elements, as_struct, as_struct_level, as_fields, as_union, as_union_level};
 ghost use Rattle.pickle_map.specs.Framed.{IsEnd};
 ghost use Rattle.pickle_meaning.specs.Values.{outer_of};
@@ -40,7 +40,6 @@ impl<W: Watch> Mapper<'_, W> {
         requires table { IsTable self.old.nodes.now }
         requires at { at < length self.old.nodes.now }
         requires open { level_count self.old.store.now + depth (type_of self.old.nodes.now at) ≤ 65 }
-        ensures lent { StaysLent self.old self.new }
         ensures frame { Frame (S.view space.old) (S.view space.new) self.old self.new 0 result }
         ensures ends { IfOk result (IsEnd start (S.view space.old)) }
         ensures is { Maps (S.view space.old) self.old self.new (as_type at order start) result }
@@ -67,7 +66,6 @@ impl<W: Watch> Mapper<'_, W> {
         requires at { at < length self.old.nodes.now }
         requires open { level_count self.old.store.now + depth (type_of self.old.nodes.now at) ≤ 65 }
         requires inside { start ≤ 8 * (S.view space.old).len }
-        ensures lent { StaysLent self.old self.new }
         ensures frame { Frame (S.view space.old) (S.view space.new) self.old self.new 0 result }
         ensures ends { IfOk result (IsEnd start (S.view space.old)) }
         ensures is { Maps (S.view space.old) self.old self.new (as_type at order start) result }
@@ -95,7 +93,6 @@ impl<W: Watch> Mapper<'_, W> {
         requires at { at < length self.old.nodes.now }
         requires open { level_count self.old.store.now + depth (type_of self.old.nodes.now at) ≤ 65 }
         requires inside { start ≤ 8 * (S.view space.old).len }
-        ensures lent { StaysLent self.old self.new }
         ensures frame { Frame (S.view space.old) (S.view space.new) self.old self.new 0 result }
         ensures ends { IfOk result (IsEnd start (S.view space.old)) }
         ensures is { Maps (S.view space.old) self.old self.new (as_type at order start) result }
@@ -141,7 +138,6 @@ impl<W: Watch> Mapper<'_, W> {
         requires at { node < length self.old.nodes.now }
         requires open { level_count self.old.store.now + depth (type_of self.old.nodes.now node) ≤ 65 }
         requires sound { IsSoundClause (optional_term constraint.now) }
-        ensures lent { StaysLent self.old self.new }
         ensures frame { Frame (S.view space.old) (S.view space.new) self.old self.new 0 result }
         ensures ends { IfOk result (IsEnd start (S.view space.old)) }
         ensures is { Maps (S.view space.old) self.old self.new (as_checked node constraint.now order start) result }
@@ -169,7 +165,6 @@ impl<W: Watch> Mapper<'_, W> {
         requires open { level_count self.old.store.now + 1 + depth (type_of self.old.nodes.now element) ≤ 65 }
         requires sound { IsSoundBound (bound_of bound.now) }
         requires inside { start ≤ 8 * (S.view space.old).len }
-        ensures lent { StaysLent self.old self.new }
         ensures frame { Frame (S.view space.old) (S.view space.new) self.old self.new 0 result }
         ensures ends { IfOk result (IsEnd start (S.view space.old)) }
         ensures is { Maps (S.view space.old) self.old self.new (as_array element bound.now order start) result }
@@ -209,7 +204,6 @@ impl<W: Watch> Mapper<'_, W> {
         requires sound { AreLevels self.old.store.now.room self.old.store.now.frames self.old.store.now.slots }
         requires inside { start ≤ 8 * (S.view space.old).len }
         requires free { self.old.meter.now.made < self.old.meter.now.steps }
-        ensures lent { StaysLent self.old self.new }
         ensures frame { Frame (S.view space.old) (S.view space.new) self.old self.new 1 result }
         ensures ends { IfOk result (IsEnd start (S.view space.old)) }
         ensures is { Closes (S.view space.old) self.old self.new (as_array_level element extent order start) result }
@@ -240,7 +234,6 @@ impl<W: Watch> Mapper<'_, W> {
         requires apart { StandApart (type_of self.old.nodes.now element) self.old.store.now.room }
         requires begins { BeginsApart self.old.nodes.now self.old.store.now }
         requires inside { start ≤ 8 * (S.view space.old).len }
-        ensures lent { StaysLent self.old self.new }
         ensures frame { Frame (S.view space.old) (S.view space.new) self.old self.new 0 result }
         ensures ends { IfOk result (IsEnd start (S.view space.old)) }
         ensures is { Fills (S.view space.old) self.old self.new (as_elements element extent order start) result }
@@ -296,7 +289,6 @@ impl<W: Watch> Mapper<'_, W> {
         requires names { names_at self.old.nodes.now at ≡ map field_name fields.now }
         requires open { level_count self.old.store.now ≤ 64 }
         requires inside { start ≤ 8 * (S.view space.old).len }
-        ensures lent { StaysLent self.old self.new }
         ensures frame { Frame (S.view space.old) (S.view space.new) self.old self.new 0 result }
         ensures ends { IfOk result (IsEnd start (S.view space.old)) }
         ensures is { Maps (S.view space.old) self.old self.new (as_struct at pinned fields.now order start) result }
@@ -328,7 +320,6 @@ impl<W: Watch> Mapper<'_, W> {
         requires open { 1 < level_count self.old.store.now }
         requires inside { start ≤ 8 * (S.view space.old).len }
         requires free { self.old.meter.now.made < self.old.meter.now.steps }
-        ensures lent { StaysLent self.old self.new }
         ensures frame { Frame (S.view space.old) (S.view space.new) self.old self.new 1 result }
         ensures ends { IfOk result (IsEnd start (S.view space.old)) }
         ensures is { Closes (S.view space.old) self.old self.new (as_struct_level at pinned fields.now order start) result }
@@ -353,7 +344,6 @@ impl<W: Watch> Mapper<'_, W> {
         requires table { IsTable self.old.nodes.now }
         requires fields { All (IsFieldOf self.old.nodes.now (level_count self.old.store.now)) fields.now }
         requires inside { start ≤ 8 * (S.view space.old).len }
-        ensures lent { StaysLent self.old self.new }
         ensures frame { Frame (S.view space.old) (S.view space.new) self.old self.new 0 result }
         ensures ends { IfOk result (IsEnd start (S.view space.old)) }
         ensures is { Fills (S.view space.old) self.old self.new (as_fields pinned fields.now order start) result }
@@ -416,7 +406,6 @@ impl<W: Watch> Mapper<'_, W> {
         requires names { names_at self.old.nodes.now at ≡ map part_name alternatives.now }
         requires open { level_count self.old.store.now ≤ 64 }
         requires inside { start ≤ 8 * (S.view space.old).len }
-        ensures lent { StaysLent self.old self.new }
         ensures frame { Frame (S.view space.old) (S.view space.new) self.old self.new 0 result }
         ensures ends { IfOk result (IsEnd start (S.view space.old)) }
         ensures is { Maps (S.view space.old) self.old self.new (as_union at alternatives.now order start) result }
@@ -449,7 +438,6 @@ impl<W: Watch> Mapper<'_, W> {
         requires fresh { levels self.old.nodes.now self.old.store.now ≡ [] ∷ outer_of (levels self.old.nodes.now self.old.store.now) }
         requires inside { start ≤ 8 * (S.view space.old).len }
         requires free { self.old.meter.now.made < self.old.meter.now.steps }
-        ensures lent { StaysLent self.old self.new }
         ensures frame { Frame (S.view space.old) (S.view space.new) self.old self.new 1 result }
         ensures ends { IfOk result (IsEnd start (S.view space.old)) }
         ensures is { Closes (S.view space.old) self.old self.new (as_union_level at alternatives.now order start) result }
@@ -474,7 +462,6 @@ impl<W: Watch> Mapper<'_, W> {
         requires alternatives { All (IsPartOf self.old.nodes.now (level_count self.old.store.now)) alternatives.now }
         requires fresh { levels self.old.nodes.now self.old.store.now ≡ [] ∷ outer_of (levels self.old.nodes.now self.old.store.now) }
         requires inside { start ≤ 8 * (S.view space.old).len }
-        ensures lent { StaysLent self.old self.new }
         ensures frame { Frame (S.view space.old) (S.view space.new) self.old self.new 0 result }
         ensures ends { IfOk result (λ r. IsEnd start (S.view space.old) r.1 × (r.0 < length alternatives.now)) }
         ensures is { Takes (S.view space.old) self.old self.new alternatives.now order start result }

@@ -26,7 +26,7 @@ returns-in-Ok g c =
     let bits = 8 * (g.S.Space.view c.args.space.now).len in
     let ty = type_of c.args.table.now.nodes.items c.args.id.node in
     let within = c.map_type.new.self.meter.now.within in
-    let limit = c.in-Ok.ensures.frame.limit in
+    let limit = c.in-Ok.ensures.frame.left.limit in
     given_back c.map_type.new.self.meter.now c.map_type.new.self.store.now (search rules) (search rules) (record {
       value = λ bytes known.
           let e = ap (λ n. 8 * n) (sym (g.met.S.Space.whole c.args.space.now bytes known)) ∙ sym (length-bits_of bytes) in
@@ -47,12 +47,12 @@ returns-in-Ok g c =
       place = tt;
       emptied = tt;
       holds = c.never_grows-fixed.ensures.holds;
-      room = c.in-Ok.ensures.frame.room;
-      held = λ never. kept_within c.args.table.now.nodes.items c.args.store.now c.map_type.new.self.store.now c.in-Ok.ensures.frame.room.room never (λ e. c.never_grows-fixed.ensures.fits e c.args.table.now.nodes.items);
+      room = c.in-Ok.ensures.frame.left.room;
+      held = λ never. kept_within c.args.table.now.nodes.items c.args.store.now c.map_type.new.self.store.now c.in-Ok.ensures.frame.left.room.room never (λ e. c.never_grows-fixed.ensures.fits e c.args.table.now.nodes.items);
       most = limit;
-      len = c.in-Ok.ensures.frame.len;
-      bytes = c.in-Ok.ensures.frame.bytes;
-      failures = c.in-Ok.ensures.frame.failures;
+      len = c.in-Ok.ensures.frame.left.len;
+      bytes = c.in-Ok.ensures.frame.left.bytes;
+      failures = c.in-Ok.ensures.frame.left.failures;
     })
 
 pub returns-in-Err : goal.returns-in-Err
@@ -64,8 +64,8 @@ returns-in-Err g c =
     let order = c.args.order in
     let start = c.args.start in
     let within = c.map_type.new.self.meter.now.within in
-    let limit = c.in-Err.ensures.frame.limit in
-    let keeps = c.in-Err.ensures.frame.room in
+    let limit = c.in-Err.ensures.frame.left.limit in
+    let keeps = c.in-Err.ensures.frame.left.room in
     given_back c.map_type.new.self.meter.now c.clear.new.self (search rules) (search rules) (record {
       value = λ bytes known. tt;
       fault = λ bytes known.
@@ -79,7 +79,7 @@ returns-in-Err g c =
       made = ((walk_rises h.walk).1, followed_made bits ty order no_values start h);
       limit = rw c.told.ensures (told_limit bits ty order start c.in-Err.stop h);
       memory = rw c.told.ensures (told_memory bits ty order start c.in-Err.stop h);
-      device = rw c.told.ensures (λ e. c.in-Err.ensures.frame.device (told_device bits ty order start c.in-Err.stop h e));
+      device = rw c.told.ensures (λ e. c.in-Err.ensures.frame.left.device (told_device bits ty order start c.in-Err.stop h e));
       counts = rw (c.told.ensures, c.clear.ensures.empty) (told_counts bits ty order start (g.S.Space.view c.args.space.now) c.args.meter.now c.map_type.new.self.meter.now c.args.store.now (emptied c.map_type.new.self.store.now) c.in-Err.stop h);
       kept = λ bytes known. rw (c.told.ensures, c.clear.ensures.empty) (told_kept (bits_of bytes) bits ty order start (ap (option_map bits_of) known) c.in-Err.stop h);
       asked = λ bytes known. rw c.told.ensures (told_wanted (bits_of bytes) bits ty order start (ap (option_map bits_of) known) (omega (arith, within, limit)) c.in-Err.stop h);
@@ -89,7 +89,7 @@ returns-in-Err g c =
       room = rw c.clear.ensures.empty (record { room = keeps.room; nodes = keeps.nodes; families = keeps.families; links = keeps.links; pending = keeps.pending; texts = keeps.texts; bytes = keeps.bytes });
       held = tt;
       most = limit;
-      len = c.in-Err.ensures.frame.len;
-      bytes = c.in-Err.ensures.frame.bytes;
-      failures = c.in-Err.ensures.frame.failures;
+      len = c.in-Err.ensures.frame.left.len;
+      bytes = c.in-Err.ensures.frame.left.bytes;
+      failures = c.in-Err.ensures.frame.left.failures;
     })

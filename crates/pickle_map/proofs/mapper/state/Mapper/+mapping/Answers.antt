@@ -135,13 +135,13 @@ map_checked-returns-in_err-check-clause-is g t c =
     let p = err_from_is_err_and c.from_residual-in_err-check.result c.from_residual-in_err-check.ensures.1 in
     let h = c.in_ok-end.ensures.is in
     let checked = rw h.kept at c.in_err-check.ensures.is in
-    rw (p.1, p.2) (checks_stop _ _ _ _ h.value h.follows c.in_ok-end.ensures.frame.limit c.in_err-check.ensures.made _ (omega arith) checked)
+    rw (p.1, p.2) (checks_stop _ _ _ _ h.value h.follows c.in_ok-end.ensures.frame.left.limit c.in_err-check.ensures.made _ (omega arith) checked)
 
 pub map_checked-returns-clause-is : goal.map_checked-returns-clause-is
 map_checked-returns-clause-is g t c =
     let h = c.in_ok-end.ensures.is in
     let checked = rw h.kept at c.in_ok-check.ensures.is in
-    record { value = h.value; kept = h.kept; ends = h.ends; follows = checks_ok _ _ _ _ h.value h.follows c.in_ok-end.ensures.frame.limit c.in_ok-check.ensures.made tt checked }
+    record { value = h.value; kept = h.kept; ends = h.ends; follows = checks_ok _ _ _ _ h.value h.follows c.in_ok-end.ensures.frame.left.limit c.in_ok-check.ensures.made tt checked }
 
 pub map_struct-returns-in_err-tick-clause-is : goal.map_struct-returns-in_err-tick-clause-is
 map_struct-returns-in_err-tick-clause-is g t c =
@@ -150,7 +150,7 @@ map_struct-returns-in_err-tick-clause-is g t c =
     rw (p.1, p.2, struct_is) (inside_no_tick _ _ _ c.requires.inside e.err (e.err ∙ e.refused.0 refl) e.made)
 
 pub map_struct-leave_level-requires : goal.map_struct-leave_level-requires
-map_struct-leave_level-requires g t c = left_open c.args.self.now.nodes.now c.open_level.ensures.room c.struct_body-mapped.ensures.frame.room c.open_level.ensures.depth _ c.struct_body-mapped.ensures.level
+map_struct-leave_level-requires g t c = left_open c.args.self.now.nodes.now c.open_level.ensures.room c.struct_body-mapped.ensures.frame.left.room c.open_level.ensures.depth _ c.struct_body-mapped.ensures.level
 
 pub map_struct-returns-clause-is : goal.map_struct-returns-clause-is
 map_struct-returns-clause-is g t c =
@@ -158,12 +158,12 @@ map_struct-returns-clause-is g t c =
     let o = c.open_level.ensures in
     let left = c.leave_level.ensures in
     let h = rw (o.levels c.args.self.now.nodes.now) at c.struct_body-mapped.ensures.is in
-    rw struct_is (left_keeps c.args.self.now.nodes.now o.room c.struct_body-mapped.ensures.frame.room left.room (λ _ h. inside_ticks _ _ _ c.requires.inside e.limit e.ok e.made h) (λ end. end) _ left.left h)
+    rw struct_is (left_keeps c.args.self.now.nodes.now o.room c.struct_body-mapped.ensures.frame.left.room left.room (λ _ h. inside_ticks _ _ _ c.requires.inside e.limit e.ok e.made h) (λ end. end) _ left.left h)
 
 pub map_struct-returns-clause-level : goal.map_struct-returns-clause-level
 map_struct-returns-clause-level g t c =
     let o = c.open_level.ensures in
-    left_adds c.args.self.now.nodes.now o.room c.struct_body-mapped.ensures.frame.room c.leave_level.ensures.room o.depth (o.levels c.args.self.now.nodes.now) _ c.struct_body-mapped.ensures.level c.leave_level.ensures.left
+    left_adds c.args.self.now.nodes.now o.room c.struct_body-mapped.ensures.frame.left.room c.leave_level.ensures.room o.depth (o.levels c.args.self.now.nodes.now) _ c.struct_body-mapped.ensures.level c.leave_level.ensures.left
 
 pub map_union-returns-in_err-tick-clause-is : goal.map_union-returns-in_err-tick-clause-is
 map_union-returns-in_err-tick-clause-is g t c =
@@ -172,7 +172,7 @@ map_union-returns-in_err-tick-clause-is g t c =
     rw (p.1, p.2, union_is) (inside_no_tick _ _ _ c.requires.inside e.err (e.err ∙ e.refused.0 refl) e.made)
 
 pub map_union-leave_level-requires : goal.map_union-leave_level-requires
-map_union-leave_level-requires g t c = left_open c.args.self.now.nodes.now c.open_level.ensures.room c.union_body-mapped.ensures.frame.room c.open_level.ensures.depth _ c.union_body-mapped.ensures.level
+map_union-leave_level-requires g t c = left_open c.args.self.now.nodes.now c.open_level.ensures.room c.union_body-mapped.ensures.frame.left.room c.open_level.ensures.depth _ c.union_body-mapped.ensures.level
 
 pub map_union-returns-clause-is : goal.map_union-returns-clause-is
 map_union-returns-clause-is g t c =
@@ -180,12 +180,12 @@ map_union-returns-clause-is g t c =
     let o = c.open_level.ensures in
     let left = c.leave_level.ensures in
     let h = rw (o.levels c.args.self.now.nodes.now) at c.union_body-mapped.ensures.is in
-    rw union_is (left_keeps c.args.self.now.nodes.now o.room c.union_body-mapped.ensures.frame.room left.room (λ _ h. inside_ticks _ _ _ c.requires.inside e.limit e.ok e.made h) (λ end. end) _ left.left h)
+    rw union_is (left_keeps c.args.self.now.nodes.now o.room c.union_body-mapped.ensures.frame.left.room left.room (λ _ h. inside_ticks _ _ _ c.requires.inside e.limit e.ok e.made h) (λ end. end) _ left.left h)
 
 pub map_union-returns-clause-level : goal.map_union-returns-clause-level
 map_union-returns-clause-level g t c =
     let o = c.open_level.ensures in
-    left_adds c.args.self.now.nodes.now o.room c.union_body-mapped.ensures.frame.room c.leave_level.ensures.room o.depth (o.levels c.args.self.now.nodes.now) _ c.union_body-mapped.ensures.level c.leave_level.ensures.left
+    left_adds c.args.self.now.nodes.now o.room c.union_body-mapped.ensures.frame.left.room c.leave_level.ensures.room o.depth (o.levels c.args.self.now.nodes.now) _ c.union_body-mapped.ensures.level c.leave_level.ensures.left
 
 pub map_array-returns-in_err-tick-clause-is : goal.map_array-returns-in_err-tick-clause-is
 map_array-returns-in_err-tick-clause-is g t c =
@@ -194,7 +194,7 @@ map_array-returns-in_err-tick-clause-is g t c =
     rw (p.1, p.2, array_is) (inside_no_tick _ _ _ c.requires.inside e.err (e.err ∙ e.refused.0 refl) e.made)
 
 pub map_array-leave_level-requires : goal.map_array-leave_level-requires
-map_array-leave_level-requires g t c = left_open c.args.self.now.nodes.now c.open_level.ensures.room c.array_body-mapped.ensures.frame.room c.open_level.ensures.depth _ c.array_body-mapped.ensures.level
+map_array-leave_level-requires g t c = left_open c.args.self.now.nodes.now c.open_level.ensures.room c.array_body-mapped.ensures.frame.left.room c.open_level.ensures.depth _ c.array_body-mapped.ensures.level
 
 pub map_array-returns-clause-is : goal.map_array-returns-clause-is
 map_array-returns-clause-is g t c =
@@ -204,12 +204,12 @@ map_array-returns-clause-is g t c =
     let left = c.leave_level.ensures in
     let h = rw (o.levels c.args.self.now.nodes.now) at c.array_body-mapped.ensures.is in
     let extent = settles_ok _ _ _ refl (rw c.from.ensures at found.is) found.made in
-    rw array_is (left_keeps c.args.self.now.nodes.now o.room c.array_body-mapped.ensures.frame.room left.room (λ _ h. inside_ticks _ _ _ c.requires.inside e.limit e.ok e.made (follow_then_ok _ _ extent (follow_at found.limit refl refl h))) (λ end. end) _ left.left h)
+    rw array_is (left_keeps c.args.self.now.nodes.now o.room c.array_body-mapped.ensures.frame.left.room left.room (λ _ h. inside_ticks _ _ _ c.requires.inside e.limit e.ok e.made (follow_then_ok _ _ extent (follow_at found.limit refl refl h))) (λ end. end) _ left.left h)
 
 pub map_array-returns-clause-level : goal.map_array-returns-clause-level
 map_array-returns-clause-level g t c =
     let o = c.open_level.ensures in
-    left_adds c.args.self.now.nodes.now o.room c.array_body-mapped.ensures.frame.room c.leave_level.ensures.room o.depth (o.levels c.args.self.now.nodes.now) _ c.array_body-mapped.ensures.level c.leave_level.ensures.left
+    left_adds c.args.self.now.nodes.now o.room c.array_body-mapped.ensures.frame.left.room c.leave_level.ensures.room o.depth (o.levels c.args.self.now.nodes.now) _ c.array_body-mapped.ensures.level c.leave_level.ensures.left
 
 pub map_array-returns-in_err-extent-clause-is : goal.map_array-returns-in_err-extent-clause-is
 map_array-returns-in_err-extent-clause-is g t c =
@@ -248,7 +248,7 @@ struct_body-returns-in_err-close_struct-clause-is g t c =
     let p = err_from_is_err_and c.from_residual-in_err-close_struct.result c.from_residual-in_err-close_struct.ensures.1 in
     let named = c.requires.names ∙ sym (fields_named (type_of c.args.self.now.nodes.now) c.args.fields.now) in
     let full = rw named at (c.in_err-close_struct.ensures.full c.args.self.now.nodes.now) in
-    rw (p.1, p.2) (struct_no_room _ _ _ _ (in_later c.in_ok-end.ensures.frame.room c.in_err-close_struct.ensures.room c.in_ok-end.ensures.is) _ _ (lacks_these c.in_ok-end.ensures.frame.room full))
+    rw (p.1, p.2) (struct_no_room _ _ _ _ (in_later c.in_ok-end.ensures.frame.left.room c.in_err-close_struct.ensures.room c.in_ok-end.ensures.is) _ _ (lacks_these c.in_ok-end.ensures.frame.left.room full))
 
 pub struct_body-returns-in_err-close_struct-clause-level : goal.struct_body-returns-in_err-close_struct-clause-level
 struct_body-returns-in_err-close_struct-clause-level g t c =
@@ -262,8 +262,8 @@ struct_body-returns-clause-is g t c =
     let closed = rw named at (c.in_ok-close_struct.ensures.ok c.args.self.now.nodes.now) in
     let h = rw c.in_ok-end.ensures.level.outer at closed in
     let room = c.in_ok-close_struct.ensures.room in
-    let has = holds_these c.args.self.now.nodes.now (room_then c.in_ok-end.ensures.frame.room room) c.in_ok-close_struct.ensures.within closed in
-    record { value = _; kept = h; ends = refl; follows = struct_made _ _ _ _ (in_later c.in_ok-end.ensures.frame.room room c.in_ok-end.ensures.is) _ _ has n.steps n.made }
+    let has = holds_these c.args.self.now.nodes.now (room_then c.in_ok-end.ensures.frame.left.room room) c.in_ok-close_struct.ensures.within closed in
+    record { value = _; kept = h; ends = refl; follows = struct_made _ _ _ _ (in_later c.in_ok-end.ensures.frame.left.room room c.in_ok-end.ensures.is) _ _ has n.steps n.made }
 
 pub array_body-row_body-requires-clause-packing : goal.array_body-row_body-requires-clause-packing
 array_body-row_body-requires-clause-packing g t c =
@@ -287,7 +287,7 @@ array_body-returns-in_err-end-clause-is g t c =
 pub array_body-returns-in_err-close_array-clause-is : goal.array_body-returns-in_err-close_array-clause-is
 array_body-returns-in_err-close_array-clause-is g t c =
     let p = err_from_is_err_and c.from_residual-in_err-close_array.result c.from_residual-in_err-close_array.ensures.1 in
-    rw (p.1, p.2) (array_no_room _ _ _ _ (in_later c.in_ok-end.ensures.frame.room c.in_err-close_array.ensures.room c.in_ok-end.ensures.is) (lacks_these c.in_ok-end.ensures.frame.room (c.in_err-close_array.ensures.full c.args.self.now.nodes.now)))
+    rw (p.1, p.2) (array_no_room _ _ _ _ (in_later c.in_ok-end.ensures.frame.left.room c.in_err-close_array.ensures.room c.in_ok-end.ensures.is) (lacks_these c.in_ok-end.ensures.frame.left.room (c.in_err-close_array.ensures.full c.args.self.now.nodes.now)))
 
 pub array_body-returns-in_err-close_array-clause-level : goal.array_body-returns-in_err-close_array-clause-level
 array_body-returns-in_err-close_array-clause-level g t c =
@@ -300,8 +300,8 @@ array_body-returns-clause-is g t c =
     let closed = c.in_ok-close_array.ensures.ok c.args.self.now.nodes.now in
     let h = rw c.in_ok-end.ensures.level.outer at closed in
     let room = c.in_ok-close_array.ensures.room in
-    let has = holds_these c.args.self.now.nodes.now (room_then c.in_ok-end.ensures.frame.room room) c.in_ok-close_array.ensures.within closed in
-    record { value = _; kept = h; ends = refl; follows = array_made _ _ _ _ (in_later c.in_ok-end.ensures.frame.room room c.in_ok-end.ensures.is) has n.steps n.made }
+    let has = holds_these c.args.self.now.nodes.now (room_then c.in_ok-end.ensures.frame.left.room room) c.in_ok-close_array.ensures.within closed in
+    record { value = _; kept = h; ends = refl; follows = array_made _ _ _ _ (in_later c.in_ok-end.ensures.frame.left.room room c.in_ok-end.ensures.is) has n.steps n.made }
 
 pub union_body-returns-in_err-index-clause-is : goal.union_body-returns-in_err-index-clause-is
 union_body-returns-in_err-index-clause-is g t c =
@@ -315,7 +315,7 @@ union_body-returns-in_err-close_union-clause-is g t c =
     let fresh = c.requires.fresh in
     let inside = h.keeps ∙ ap (λ ls. pushed ls (Some h.value)) fresh in
     let full = rw (inside, c.requires.names, ← h.ends) at (c.in_err-close_union.ensures.full c.args.self.now.nodes.now) in
-    rw (p.1, p.2) (union_no_room _ _ _ _ _ (in_later c.in_ok-index.ensures.frame.room c.in_err-close_union.ensures.room h.follows) (lacks_these c.in_ok-index.ensures.frame.room full))
+    rw (p.1, p.2) (union_no_room _ _ _ _ _ (in_later c.in_ok-index.ensures.frame.left.room c.in_err-close_union.ensures.room h.follows) (lacks_these c.in_ok-index.ensures.frame.left.room full))
 
 pub union_body-returns-in_err-close_union-clause-level : goal.union_body-returns-in_err-close_union-clause-level
 union_body-returns-in_err-close_union-clause-level g t c =
@@ -330,8 +330,8 @@ union_body-returns-clause-is g t c =
     let n = c.note_made.ensures in
     let closed = rw (inside, c.requires.names, ← h.ends) at (c.in_ok-close_union.ensures.ok c.args.self.now.nodes.now) in
     let room = c.in_ok-close_union.ensures.room in
-    let has = holds_these c.args.self.now.nodes.now (room_then c.in_ok-index.ensures.frame.room room) c.in_ok-close_union.ensures.within closed in
-    record { value = _; kept = closed; ends = h.ends; follows = union_made _ _ _ _ _ (in_later c.in_ok-index.ensures.frame.room room h.follows) has n.steps n.made }
+    let has = holds_these c.args.self.now.nodes.now (room_then c.in_ok-index.ensures.frame.left.room room) c.in_ok-close_union.ensures.within closed in
+    record { value = _; kept = closed; ends = h.ends; follows = union_made _ _ _ _ _ (in_later c.in_ok-index.ensures.frame.left.room room h.follows) has n.steps n.made }
 
 pub map_fields-loop-field-init : goal.map_fields-loop-field-init
 map_fields-loop-field-init g t c = record {
@@ -392,8 +392,8 @@ map_fields-returns-in_err-behind-clause-is g t c =
     let there_is = rw (c.if-branch.true, c.from-origin.ensures) at there.is in
     let start = c.in_ok-place.ensures in
     let h = rw (i.lent.nodes, i.frame.len, c.ordered.ensures) at c.in_err-behind.ensures.is in
-    let h = in_world (g.S.Space.view c.args.space.now) (g.S.Space.view c.loop-field.space) i.frame.bytes i.frame.room c.in_err-behind.ensures.frame.room h in
-    rw (p.1, p.2) (follow_on (in_later i.frame.room c.in_err-behind.ensures.frame.room i.so_far) (field_stops _ _ _ _ _ _ _ _ _ _ _ next (e.limit ∙ i.frame.limit) e.ok e.made there.made there_is there.limit start.made _ start.is start.limit _ h))
+    let h = in_world (g.S.Space.view c.args.space.now) (g.S.Space.view c.loop-field.space) i.frame.bytes i.frame.room c.in_err-behind.ensures.frame.left.room h in
+    rw (p.1, p.2) (follow_on (in_later i.frame.room c.in_err-behind.ensures.frame.left.room i.so_far) (field_stops _ _ _ _ _ _ _ _ _ _ _ next (e.limit ∙ i.frame.limit) e.ok e.made there.made there_is there.limit start.made _ start.is start.limit _ h))
 
 pub map_fields-returns-in_err-push_absent-clause-is : goal.map_fields-returns-in_err-push_absent-clause-is
 map_fields-returns-in_err-push_absent-clause-is g t c =
@@ -422,14 +422,14 @@ map_fields-loop-field-preserved g t c =
           let start = w.in_ok-place.ensures in
           let m = rw i.lent.nodes at w.in_ok-behind.ensures.is in
           let h = rw (i.frame.len, w.ordered.ensures) at m.follows in
-          let h = in_world (g.S.Space.view c.args.space.now) (g.S.Space.view c.loop-field.space) i.frame.bytes i.frame.room w.in_ok-behind.ensures.frame.room h in
+          let h = in_world (g.S.Space.view c.args.space.now) (g.S.Space.view c.loop-field.space) i.frame.bytes i.frame.room w.in_ok-behind.ensures.frame.left.room h in
           rw (w.space-is, w.self-is, w.behind-is, w.top-is) (record {
             lent = search rules;
             frame = search rules;
             after = search rules;
             inside = search rules;
             level = pushed_stays c.args.self.now.nodes.now _ _ _ _ i.level m.kept w.in_ok-behind.ensures.level.depth;
-            so_far = rw m.kept (follow_on (in_later i.frame.room w.in_ok-behind.ensures.frame.room i.so_far) (field_goes _ _ _ _ _ _ _ _ _ _ _ next (e.limit ∙ i.frame.limit) e.ok e.made there.made there_is there.limit start.made _ start.is start.limit m.value _ _ m.ends w.max-top.ensures h));
+            so_far = rw m.kept (follow_on (in_later i.frame.room w.in_ok-behind.ensures.frame.left.room i.so_far) (field_goes _ _ _ _ _ _ _ _ _ _ _ next (e.limit ∙ i.frame.limit) e.ok e.made there.made there_is there.limit start.made _ start.is start.limit m.value _ _ m.ends w.max-top.ensures h));
           })
       | map_fields-else-branch+in_ok-push_absent w ↦
           let there_is = rw (w.if-branch.false, c.from-origin.ensures) at there.is in
@@ -482,9 +482,9 @@ map_elements-returns-then-end-place-clause-is g t c =
     let due = rw c.len-bits.ensures at due in
     let m = rw i.lent.nodes at c.in-Ok.ensures.is in
     let h = rw i.frame.len at m.follows in
-    let h = in_world (g.S.Space.view c.args.space.now) (g.S.Space.view c.loop-order.space) i.frame.bytes i.frame.room c.in-Ok.ensures.frame.room h in
+    let h = in_world (g.S.Space.view c.args.space.now) (g.S.Space.view c.loop-order.space) i.frame.bytes i.frame.room c.in-Ok.ensures.frame.left.room h in
     let h = element_done (makes_row (type_of c.args.self.now.nodes.now c.args.element)) c.requires.apart h in
-    rw c.from.ensures (follow_on (in_later i.frame.room c.in-Ok.ensures.frame.room i.so_far.2) (elements_no_bits _ _ _ _ _ _ _ (max 1 (least_width (type_of c.args.self.now.nodes.now c.args.element))) _ i.so_far.1 i.inside due (e.limit ∙ i.frame.limit) e.ok e.made _ (m.ends ∙ c.if-end-place.true) h))
+    rw c.from.ensures (follow_on (in_later i.frame.room c.in-Ok.ensures.frame.left.room i.so_far.2) (elements_no_bits _ _ _ _ _ _ _ (max 1 (least_width (type_of c.args.self.now.nodes.now c.args.element))) _ i.so_far.1 i.inside due (e.limit ∙ i.frame.limit) e.ok e.made _ (m.ends ∙ c.if-end-place.true) h))
 
 pub map_elements-loop-order-preserved : goal.map_elements-loop-order-preserved
 map_elements-loop-order-preserved g t c =
@@ -494,7 +494,7 @@ map_elements-loop-order-preserved g t c =
     let due = rw c.len-bits.ensures at due in
     let m = rw i.lent.nodes at c.in-Ok.ensures.is in
     let h = rw i.frame.len at m.follows in
-    let h = in_world (g.S.Space.view c.args.space.now) (g.S.Space.view c.loop-order.space) i.frame.bytes i.frame.room c.in-Ok.ensures.frame.room h in
+    let h = in_world (g.S.Space.view c.args.space.now) (g.S.Space.view c.loop-order.space) i.frame.bytes i.frame.room c.in-Ok.ensures.frame.left.room h in
     let wide = followed_wide _ _ _ _ _ h in
     let ends = m.ends in
     let far : c.loop-order.place + max 1 (least_width (type_of c.args.self.now.nodes.now c.args.element)) ≤ c.in-Ok.end = omega (arith, wide, ends, c.in-Ok.ensures.ends.0, c.if-end-place.false) in
@@ -509,10 +509,10 @@ map_elements-loop-order-preserved g t c =
       level = pushed_stays c.args.self.now.nodes.now _ _ _ _ i.level m.kept c.in-Ok.ensures.level.depth;
       counted = omega (arith, i.counted, far);
       begins = λ packing.
-          let there = rw c.in-Ok.ensures.frame.room.room at packing in
+          let there = rw c.in-Ok.ensures.frame.left.room.room at packing in
           let here = rw i.frame.room.room at there in
           rw m.kept (pushed_apart _ _ _ (levels c.args.self.now.nodes.now c.loop-order.self.store.now) _ m.value (c.requires.apart here) fit (i.begins there));
-      so_far = (next.0, next.1, rw m.kept (follow_on (in_later i.frame.room c.in-Ok.ensures.frame.room i.so_far.2) next.2));
+      so_far = (next.0, next.1, rw m.kept (follow_on (in_later i.frame.room c.in-Ok.ensures.frame.left.room i.so_far.2) next.2));
     }
 
 pub map_elements-returns-then-ends-clause-is : goal.map_elements-returns-then-ends-clause-is
@@ -522,15 +522,15 @@ map_elements-returns-then-ends-clause-is g t c =
     let due = sym c.is_due.ensures ∙ c.loop-order-test.true in
     let due = rw c.len-bits.ensures at due in
     let h = rw (i.lent.nodes, i.frame.len) at c.in-Err.ensures.is in
-    let h = in_world (g.S.Space.view c.args.space.now) (g.S.Space.view c.loop-order.space) i.frame.bytes i.frame.room c.in-Err.ensures.frame.room h in
+    let h = in_world (g.S.Space.view c.args.space.now) (g.S.Space.view c.loop-order.space) i.frame.bytes i.frame.room c.in-Err.ensures.frame.left.room h in
     let ends = sym c.ends.ensures ∙ c.if-ends.true in
     let h = element_stopped (makes_row (type_of c.args.self.now.nodes.now c.args.element)) c.requires.apart _ h in
     let stays = rw i.lent.nodes at c.in-Err.ensures.level in
-    rw stays.same (follow_on (in_later i.frame.room c.in-Err.ensures.frame.room i.so_far.2) (elements_over _ _ _ _ _ _ _ (max 1 (least_width (type_of c.args.self.now.nodes.now c.args.element))) _ i.so_far.1 i.inside due (e.limit ∙ i.frame.limit) e.ok e.made _ ends h))
+    rw stays.same (follow_on (in_later i.frame.room c.in-Err.ensures.frame.left.room i.so_far.2) (elements_over _ _ _ _ _ _ _ (max 1 (least_width (type_of c.args.self.now.nodes.now c.args.element))) _ i.so_far.1 i.inside due (e.limit ∙ i.frame.limit) e.ok e.made _ ends h))
 
 pub map_elements-returns-then-ends-clause-begins : goal.map_elements-returns-then-ends-clause-begins
 map_elements-returns-then-ends-clause-begins g t c = λ packing.
-    let there = rw c.in-Err.ensures.frame.room.room at packing in
+    let there = rw c.in-Err.ensures.frame.left.room.room at packing in
     let stays = rw c.loop-order.invariant.lent.nodes at c.in-Err.ensures.level in
     rw stays.same (c.loop-order.invariant.begins there)
 
@@ -541,10 +541,10 @@ map_elements-returns-in-Err-clause-is g t c =
     let due = sym c.is_due.ensures ∙ c.loop-order-test.true in
     let due = rw c.len-bits.ensures at due in
     let h = rw (i.lent.nodes, i.frame.len) at c.in-Err.ensures.is in
-    let h = in_world (g.S.Space.view c.args.space.now) (g.S.Space.view c.loop-order.space) i.frame.bytes i.frame.room c.in-Err.ensures.frame.room h in
+    let h = in_world (g.S.Space.view c.args.space.now) (g.S.Space.view c.loop-order.space) i.frame.bytes i.frame.room c.in-Err.ensures.frame.left.room h in
     let ends = sym c.ends.ensures ∙ c.if-ends.false in
     let h = element_stopped (makes_row (type_of c.args.self.now.nodes.now c.args.element)) c.requires.apart _ h in
-    follow_on (in_later i.frame.room c.in-Err.ensures.frame.room i.so_far.2) (elements_stop _ _ _ _ _ _ _ (max 1 (least_width (type_of c.args.self.now.nodes.now c.args.element))) _ i.so_far.1 i.inside due (e.limit ∙ i.frame.limit) e.ok e.made _ ends h)
+    follow_on (in_later i.frame.room c.in-Err.ensures.frame.left.room i.so_far.2) (elements_stop _ _ _ _ _ _ _ (max 1 (least_width (type_of c.args.self.now.nodes.now c.args.element))) _ i.so_far.1 i.inside due (e.limit ∙ i.frame.limit) e.ok e.made _ ends h)
 
 pub map_elements-returns-then-is_met-clause-is : goal.map_elements-returns-then-is_met-clause-is
 map_elements-returns-then-is_met-clause-is g t c =
@@ -593,10 +593,10 @@ map_alternatives-returns-in-Ok-clause-is g t c =
     let next = rw (← c.index-alternatives-index.is) at next in
     let m = rw i.lent.nodes at c.in-Ok.ensures.is in
     let h = rw (i.frame.len, i.same, c.ordered-prefixed.ensures, c.from-origin.ensures) at m.follows in
-    let h = in_world (g.S.Space.view c.args.space.now) (g.S.Space.view c.loop-index.space) i.frame.bytes i.frame.room c.in-Ok.ensures.frame.room h in
+    let h = in_world (g.S.Space.view c.args.space.now) (g.S.Space.view c.loop-index.space) i.frame.bytes i.frame.room c.in-Ok.ensures.frame.left.room h in
     let keeps = m.kept ∙ ap (λ ls. pushed ls (Some m.value)) i.same in
     let named = name_of_one c.args.alternatives.now c.loop-index.index c.index-alternatives-index.result (omega arith) c.index-alternatives-index.is in
-    record { value = m.value; keeps = keeps; ends = m.ends; follows = rw named (follow_on (in_later i.frame.room c.in-Ok.ensures.frame.room i.so_far) (alternatives_fit _ _ _ _ _ _ _ _ _ next (e.limit ∙ i.frame.limit) e.ok e.made m.value h)) }
+    record { value = m.value; keeps = keeps; ends = m.ends; follows = rw named (follow_on (in_later i.frame.room c.in-Ok.ensures.frame.left.room i.so_far) (alternatives_fit _ _ _ _ _ _ _ _ _ next (e.limit ∙ i.frame.limit) e.ok e.made m.value h)) }
 
 pub map_alternatives-returns-then-not-misses-clause-is : goal.map_alternatives-returns-then-not-misses-clause-is
 map_alternatives-returns-then-not-misses-clause-is g t c =
@@ -605,8 +605,8 @@ map_alternatives-returns-then-not-misses-clause-is g t c =
     let next = drop_more c.args.alternatives.now c.loop-index.index c.index-alternatives-index.result (omega arith) in
     let next = rw (← c.index-alternatives-index.is) at next in
     let h = rw (i.lent.nodes, i.frame.len, i.same, c.ordered-prefixed.ensures, c.from-origin.ensures) at c.in-Err.ensures.is in
-    let h = in_world (g.S.Space.view c.args.space.now) (g.S.Space.view c.loop-index.space) i.frame.bytes i.frame.room c.in-Err.ensures.frame.room h in
-    follow_on (in_later i.frame.room c.in-Err.ensures.frame.room i.so_far) (alternatives_stop _ _ _ _ _ _ _ _ _ next (e.limit ∙ i.frame.limit) e.ok e.made _ (sym c.misses.ensures ∙ c.if-not-misses.true) h)
+    let h = in_world (g.S.Space.view c.args.space.now) (g.S.Space.view c.loop-index.space) i.frame.bytes i.frame.room c.in-Err.ensures.frame.left.room h in
+    follow_on (in_later i.frame.room c.in-Err.ensures.frame.left.room i.so_far) (alternatives_stop _ _ _ _ _ _ _ _ _ next (e.limit ∙ i.frame.limit) e.ok e.made _ (sym c.misses.ensures ∙ c.if-not-misses.true) h)
 
 pub map_alternatives-loop-index-preserved : goal.map_alternatives-loop-index-preserved
 map_alternatives-loop-index-preserved g t c =
@@ -615,8 +615,8 @@ map_alternatives-loop-index-preserved g t c =
     let next = drop_more c.args.alternatives.now c.loop-index.index c.index-alternatives-index.result (omega arith) in
     let next = rw (← c.index-alternatives-index.is) at next in
     let h = rw (i.lent.nodes, i.frame.len, i.same, c.ordered-prefixed.ensures, c.from-origin.ensures) at c.in-Err.ensures.is in
-    let h = in_world (g.S.Space.view c.args.space.now) (g.S.Space.view c.loop-index.space) i.frame.bytes i.frame.room c.in-Err.ensures.frame.room h in
-    let h = in_later (room_then i.frame.room c.in-Err.ensures.frame.room) c.clear_level.ensures.room h in
+    let h = in_world (g.S.Space.view c.args.space.now) (g.S.Space.view c.loop-index.space) i.frame.bytes i.frame.room c.in-Err.ensures.frame.left.room h in
+    let h = in_later (room_then i.frame.room c.in-Err.ensures.frame.left.room) c.clear_level.ensures.room h in
     let cleared = c.clear_level.ensures.levels c.args.self.now.nodes.now in
     let stays = rw i.lent.nodes at c.in-Err.ensures.level in
     record {
@@ -624,7 +624,7 @@ map_alternatives-loop-index-preserved g t c =
       frame = search rules;
       same = cleared ∙ ap (λ o. [] ∷ o) (stays.outer ∙ ap outer_of i.same) ∙ sym c.requires.fresh;
       depth = search rules;
-      so_far = follow_on (in_later i.frame.room (room_then c.in-Err.ensures.frame.room c.clear_level.ensures.room) i.so_far) (alternatives_miss _ _ _ _ _ _ _ _ _ next (e.limit ∙ i.frame.limit) e.ok e.made _ (sym c.misses.ensures ∙ c.if-not-misses.false) h);
+      so_far = follow_on (in_later i.frame.room (room_then c.in-Err.ensures.frame.left.room c.clear_level.ensures.room) i.so_far) (alternatives_miss _ _ _ _ _ _ _ _ _ next (e.limit ∙ i.frame.limit) e.ok e.made _ (sym c.misses.ensures ∙ c.if-not-misses.false) h);
     }
 
 pub map_alternatives-returns-clause-is : goal.map_alternatives-returns-clause-is

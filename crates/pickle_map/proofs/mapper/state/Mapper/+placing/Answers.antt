@@ -26,7 +26,7 @@ integral_body-returns-in_err-close_struct-clause-is g t c =
     let p = err_from_is_err_and c.from_residual-in_err-close_struct.result c.from_residual-in_err-close_struct.ensures.1 in
     let named = c.requires.names ∙ sym (parts_named (type_of c.args.self.now.nodes.now) c.args.fields.now) in
     let full = rw (named, c.from.ensures) at (c.in_err-close_struct.ensures.full c.args.self.now.nodes.now) in
-    let keeps = c.in_ok-place_fields.ensures.frame.room in
+    let keeps = c.in_ok-place_fields.ensures.frame.left.room in
     rw (p.1, p.2) (λ known. closes_no_room _ _ _ (in_later keeps c.in_err-close_struct.ensures.room (c.in_ok-place_fields.ensures.is known)) (lacks_these keeps full))
 
 pub integral_body-returns-in_err-close_struct-clause-level : goal.integral_body-returns-in_err-close_struct-clause-level
@@ -41,8 +41,8 @@ integral_body-returns-clause-is g t c =
     let closed = rw (named, c.from.ensures) at (c.in_ok-close_struct.ensures.ok c.args.self.now.nodes.now) in
     let h = rw c.in_ok-place_fields.ensures.level.outer at closed in
     let room = c.in_ok-close_struct.ensures.room in
-    let has = holds_these c.args.self.now.nodes.now (room_then c.in_ok-place_fields.ensures.frame.room room) c.in_ok-close_struct.ensures.within closed in
-    λ known. record { value = _; kept = h; ends = refl; follows = closes_made _ _ _ (in_later c.in_ok-place_fields.ensures.frame.room room (c.in_ok-place_fields.ensures.is known)) has n.steps n.made }
+    let has = holds_these c.args.self.now.nodes.now (room_then c.in_ok-place_fields.ensures.frame.left.room room) c.in_ok-close_struct.ensures.within closed in
+    λ known. record { value = _; kept = h; ends = refl; follows = closes_made _ _ _ (in_later c.in_ok-place_fields.ensures.frame.left.room room (c.in_ok-place_fields.ensures.is known)) has n.steps n.made }
 
 pub place_fields-loop-part-init : goal.place_fields-loop-part-init
 place_fields-loop-part-init g t c = record {
@@ -78,7 +78,7 @@ place_fields-returns-in_err-place_part-clause-is g t c =
     let next = drop_more c.args.fields.now c.loop-part.part-index c.part-item.result (omega arith) in
     let next = rw (← c.part-item.is) at next in
     let cut = rw c.width_at-width.ensures.is at c.first_digits-digits.ensures.is in
-    let room = c.in_err-place_part.ensures.frame.room in
+    let room = c.in_err-place_part.ensures.frame.left.room in
     rw (p.1, p.2) (λ known. follow_on (in_later i.frame.room room (i.so_far known)) (digits_stop _ _ _ _ _ _ _ _ next _ cut (e.limit ∙ i.frame.limit) e.ok e.made _ (in_call i.frame.room room (rw i.lent.nodes at (c.in_err-place_part.ensures.is known)))))
 
 pub place_fields-loop-part-preserved : goal.place_fields-loop-part-preserved
@@ -97,7 +97,7 @@ place_fields-loop-part-preserved g t c =
       level = search rules;
       so_far = λ known.
           let h = rw i.lent.nodes at (c.in_ok-place_part.ensures.is known) in
-          rw h.kept (follow_on (in_later i.frame.room c.in_ok-place_part.ensures.frame.room (i.so_far known)) (digits_goes _ _ _ _ _ _ _ _ next _ cut (e.limit ∙ i.frame.limit) e.ok e.made h.value _ less (in_call i.frame.room c.in_ok-place_part.ensures.frame.room h.follows)));
+          rw h.kept (follow_on (in_later i.frame.room c.in_ok-place_part.ensures.frame.left.room (i.so_far known)) (digits_goes _ _ _ _ _ _ _ _ next _ cut (e.limit ∙ i.frame.limit) e.ok e.made h.value _ less (in_call i.frame.room c.in_ok-place_part.ensures.frame.left.room h.follows)));
     }
 
 pub place_fields-returns-clause-is : goal.place_fields-returns-clause-is
@@ -112,7 +112,7 @@ place_integral-integral_body-placed-requires g t c =
     search rules
 
 pub place_integral-leave_level-requires : goal.place_integral-leave_level-requires
-place_integral-leave_level-requires g t c = left_open c.args.self.now.nodes.now c.open_level.ensures.room c.integral_body-placed.ensures.frame.room c.open_level.ensures.depth _ c.integral_body-placed.ensures.level
+place_integral-leave_level-requires g t c = left_open c.args.self.now.nodes.now c.open_level.ensures.room c.integral_body-placed.ensures.frame.left.room c.open_level.ensures.depth _ c.integral_body-placed.ensures.level
 
 pub place_integral-returns-clause-is : goal.place_integral-returns-clause-is
 unfolding number_plan
@@ -121,12 +121,12 @@ place_integral-returns-clause-is g t c =
     let left = c.leave_level.ensures in
     λ known.
     let h = rw (o.levels c.args.self.now.nodes.now) at (c.integral_body-placed.ensures.is known) in
-    left_keeps c.args.self.now.nodes.now o.room c.integral_body-placed.ensures.frame.room left.room (λ _ h. h) _ _ left.left h
+    left_keeps c.args.self.now.nodes.now o.room c.integral_body-placed.ensures.frame.left.room left.room (λ _ h. h) _ _ left.left h
 
 pub place_integral-returns-clause-level : goal.place_integral-returns-clause-level
 place_integral-returns-clause-level g t c =
     let o = c.open_level.ensures in
-    left_adds c.args.self.now.nodes.now o.room c.integral_body-placed.ensures.frame.room c.leave_level.ensures.room o.depth (o.levels c.args.self.now.nodes.now) _ c.integral_body-placed.ensures.level c.leave_level.ensures.left
+    left_adds c.args.self.now.nodes.now o.room c.integral_body-placed.ensures.frame.left.room c.leave_level.ensures.room o.depth (o.levels c.args.self.now.nodes.now) _ c.integral_body-placed.ensures.level c.leave_level.ensures.left
 
 pub place_number-place_integer-requires-clause-digits : goal.place_number-place_integer-requires-clause-digits
 place_number-place_integer-requires-clause-digits g t c = subst (λ x. c.args.digits < 2 ^ width_in (number_type x)) (opened_as c.args.self.now.nodes.now c.requires.table c.args.at c.requires.at c.index-nodes-at.result _ c.in-Integer.is) c.requires.digits
@@ -202,7 +202,7 @@ place_part-returns-clause-is g t c =
     λ known.
     let h = c.in_ok-place_number.ensures.is known in
     let checked = rw (h.kept, c.from.ensures) at c.in_ok-check.ensures.is in
-    record { value = h.value; kept = h.kept; ends = h.ends; follows = checks_ok _ _ _ _ h.value (follow_tick e.limit e.ok e.made h.follows) (c.in_ok-place_number.ensures.frame.limit ∙ e.limit) c.in_ok-check.ensures.made tt checked }
+    record { value = h.value; kept = h.kept; ends = h.ends; follows = checks_ok _ _ _ _ h.value (follow_tick e.limit e.ok e.made h.follows) (c.in_ok-place_number.ensures.frame.left.limit ∙ e.limit) c.in_ok-check.ensures.made tt checked }
 
 pub place_part-returns-in_err-check-clause-is : goal.place_part-returns-in_err-check-clause-is
 place_part-returns-in_err-check-clause-is g t c =
@@ -211,7 +211,7 @@ place_part-returns-in_err-check-clause-is g t c =
     rw (p.1, p.2) (λ known.
     let h = c.in_ok-place_number.ensures.is known in
     let checked = rw (h.kept, c.from.ensures) at c.in_err-check.ensures.is in
-    checks_stop _ _ _ _ h.value (follow_tick e.limit e.ok e.made h.follows) (c.in_ok-place_number.ensures.frame.limit ∙ e.limit) c.in_err-check.ensures.made _ (omega arith) checked)
+    checks_stop _ _ _ _ h.value (follow_tick e.limit e.ok e.made h.follows) (c.in_ok-place_number.ensures.frame.left.limit ∙ e.limit) c.in_err-check.ensures.made _ (omega arith) checked)
 
 pub place_part-returns-clause-level : goal.place_part-returns-clause-level
 place_part-returns-clause-level g t c = pushed_stays c.args.self.now.nodes.now _ _ _ _ (same_stays _ _) (c.in_ok-place_number.ensures.is None).kept c.in_ok-place_number.ensures.level.depth

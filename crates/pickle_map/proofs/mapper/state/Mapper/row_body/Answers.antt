@@ -22,7 +22,7 @@ returns-in_err-close_row-clause-is g c =
     let outer = outer_of (levels c.args.self.now.nodes.now c.args.self.now.store.now) in
     let closed = row_closed c.args.shape m.numbers c.args.start c.in_ok-end.end outer m.ends in
     let full = rw closed at (c.in_err-close_row.ensures.full c.args.self.now.nodes.now m.numbers outer m.packing) in
-    rw (p.1, p.2) (array_no_room _ _ _ _ (in_later c.in_ok-end.ensures.frame.room c.in_err-close_row.ensures.room m.runs) (lacks_these c.in_ok-end.ensures.frame.room full))
+    rw (p.1, p.2) (array_no_room _ _ _ _ (in_later c.in_ok-end.ensures.frame.left.room c.in_err-close_row.ensures.room m.runs) (lacks_these c.in_ok-end.ensures.frame.left.room full))
 
 pub returns-in_err-close_row-clause-level : goal.returns-in_err-close_row-clause-level
 returns-in_err-close_row-clause-level g c =
@@ -36,5 +36,5 @@ returns-clause-is g c =
     let outer = outer_of (levels c.args.self.now.nodes.now c.args.self.now.store.now) in
     let kept = c.in_ok-close_row.ensures.ok c.args.self.now.nodes.now m.numbers outer m.packing ∙ ap (λ v. pushed outer (Some v)) (row_closed c.args.shape m.numbers c.args.start c.in_ok-end.end outer m.ends) in
     let room = c.in_ok-close_row.ensures.room in
-    let has = holds_these c.args.self.now.nodes.now (room_then c.in_ok-end.ensures.frame.room room) c.in_ok-close_row.ensures.within kept in
-    record { value = _; kept = kept; ends = refl; follows = array_made _ _ _ _ (in_later c.in_ok-end.ensures.frame.room room m.runs) has n.steps n.made }
+    let has = holds_these c.args.self.now.nodes.now (room_then c.in_ok-end.ensures.frame.left.room room) c.in_ok-close_row.ensures.within kept in
+    record { value = _; kept = kept; ends = refl; follows = array_made _ _ _ _ (in_later c.in_ok-end.ensures.frame.left.room room m.runs) has n.steps n.made }
