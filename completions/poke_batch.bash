@@ -25,20 +25,25 @@ _poke_batch_plain() {
         \'*) word=${word#\'} word=${word%\'} ;;
         \"*) word=${word#\"} word=${word%\"} ;;
         *)
-            [[ $word == '~/'* ]] && word=$HOME/${word#\~/}
+            [[ $word == \~/* ]] && word=$HOME/${word#\~/}
             word=${word//\\/}
             ;;
     esac
     printf '%s\n' "$word"
 }
 
-# Sets COMPREPLY to the lines of standard input that begin with a text.
+# Sets COMPREPLY to the lines of a text that begin as the first argument does.
 _poke_batch_reply() {
     local line
     COMPREPLY=()
     while IFS= read -r line; do
-        [[ $line == "$1"* ]] && COMPREPLY+=("$line")
-    done
+        [[ -n $line && $line == "$1"* ]] && COMPREPLY+=("$line")
+    done <<<"$2"
+}
+
+# The same of words with blanks between them.
+_poke_batch_words() {
+    _poke_batch_reply "$1" "${2// /$'\n'}"
 }
 
 # The files that begin with a text: the folders, and the names with an ending.
@@ -53,12 +58,12 @@ _poke_batch_named() {
 # Sets COMPREPLY to the files that begin with a text and, where one is given, have an ending.
 _poke_batch_files() {
     compopt -o filenames 2>/dev/null
-    _poke_batch_reply '' < <(_poke_batch_named "$(_poke_batch_plain "$1")" "${2:-}")
+    _poke_batch_reply '' "$(_poke_batch_named "$(_poke_batch_plain "$1")" "${2:-}")"
 }
 
 # An offset has a number, # and a unit: the units behind a number.
 _poke_batch_offsets() {
-    [[ $1 =~ ^([0-9]+)(#.*)?$ ]] && _poke_batch_reply "$1" < <(printf '%s\n' "${BASH_REMATCH[1]}#b" "${BASH_REMATCH[1]}#B")
+    [[ $1 =~ ^([0-9]+)(#.*)?$ ]] && _poke_batch_words "$1" "${BASH_REMATCH[1]}#b ${BASH_REMATCH[1]}#B"
 }
 
 _poke_batch_pickles() {
@@ -72,7 +77,7 @@ _poke_batch_types() {
     program=$(_poke_batch_plain "$1")
     pickle=$(_poke_batch_plain "$2")
     [[ -f $pickle ]] || return
-    _poke_batch_reply "$3" < <("$program" types -- "$pickle" 2>/dev/null </dev/null | cut -f 1)
+    _poke_batch_reply "$3" "$("$program" types -- "$pickle" 2>/dev/null </dev/null | cut -f 1)"
 }
 
 _poke_batch() {
@@ -106,11 +111,11 @@ _poke_batch() {
         current=''
     fi
     case $option in
-        --endian) _poke_batch_reply "$current" < <(printf '%s\n' big little) ;;
+        --endian) _poke_batch_words "$current" 'big little' ;;
         --mode)
             case $command in
-                each) _poke_batch_reply "$current" < <(printf '%s\n' flat json) ;;
-                *) _poke_batch_reply "$current" < <(printf '%s\n' flat tree json lines) ;;
+                each) _poke_batch_words "$current" 'flat json' ;;
+                *) _poke_batch_words "$current" 'flat tree json lines' ;;
             esac
             ;;
         --at | --from | --size) _poke_batch_offsets "$current" ;;
@@ -118,12 +123,12 @@ _poke_batch() {
         --*) ;;
         *)
             if [[ -z $ended && $current == -* ]]; then
-                _poke_batch_reply "$current" < <(printf '%s\n' $(_poke_batch_options "$command"))
+                _poke_batch_words "$current" "$(_poke_batch_options "$command")"
                 return
             fi
             case $command/${#arguments[@]} in
-                /*) _poke_batch_reply "$current" < <(printf '%s\n' map each bound check types dump help) ;;
-                help/0) _poke_batch_reply "$current" < <(printf '%s\n' map each bound check types dump help) ;;
+                /*) _poke_batch_words "$current" 'map each bound check types dump help' ;;
+                help/0) _poke_batch_words "$current" 'map each bound check types dump help' ;;
                 map/0 | each/0 | bound/0 | check/0 | types/0) _poke_batch_pickles "$current" ;;
                 map/1 | each/1 | bound/1) _poke_batch_types "$program" "${arguments[0]}" "$current" ;;
                 map/2 | each/* | dump/0) _poke_batch_files "$current" ;;
