@@ -13,7 +13,7 @@ use Rattle.command_words.specs.Words.{NamesMode, NamesModeIfAny}
 use Rattle.command_words.specs.declared.path.Path.{Path}
 use Rattle.command_words.specs.declared.terms.Terms.{Terms}
 use Rattle.command_words.specs.declared.words.Job.{Job}
-use Rattle.command_words.specs.declared.words.Job.TheVariants.{Map, MapUnder, Each, Bound, BoundText, Check, Types, Dump}
+use Rattle.command_words.specs.declared.words.Job.TheVariants.{Map, MapUnder, Each, Bound, BoundText, Check, Types, Formats, Dump}
 use Rattle.command_words.specs.declared.words.FileNames.{FileNames}
 use Rattle.command_words.specs.declared.words.FileNames.TheVariants.{Words, EndedByZero}
 
@@ -93,6 +93,7 @@ Asks found (BoundText pickle name bits mode) = AsksBound found (string_bytes pic
     × FlagIn (one_text found (codes "text")) true × NamesModeIfAny (first_value found (codes "mode")) mode
 Asks found (Check pickle) = string_bytes pickle ≡ word_in found (codes "PICKLE")
 Asks found (Types pickle) = string_bytes pickle ≡ word_in found (codes "PICKLE")
+Asks found Formats = Unit {0}
 Asks found (Dump from size ruler file) = IsOffsetWord (word_in found (codes "from")) (8 * from) × IsOffsetWord (word_in found (codes "size")) (8 * size)
     × FlagIn (one_text found (codes "no-ruler")) (not ruler) × (string_bytes file ≡ word_in found (codes "FILE"))
 
@@ -108,9 +109,10 @@ IsJobOf command (Each at order limit mode terms pickle name files) = command ≡
 IsJobOf command (Bound pickle name bits) = command ≡ Some (codes "bound")
 IsJobOf command (BoundText pickle name bits mode) = command ≡ Some (codes "bound")
 IsJobOf command (Types pickle) = command ≡ Some (codes "types")
+IsJobOf command Formats = command ≡ Some (codes "formats")
 IsJobOf command (Dump from size ruler file) = command ≡ Some (codes "dump")
 IsJobOf command (Check pickle) = IsOther command (codes "map") × IsOther command (codes "each") × IsOther command (codes "bound")
-    × IsOther command (codes "types") × IsOther command (codes "dump")
+    × IsOther command (codes "types") × IsOther command (codes "formats") × IsOther command (codes "dump")
 
 -- a word is no offset below 2^64
 abbrev pub IsNoOffset : List ℕ → Type 0

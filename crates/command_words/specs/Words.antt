@@ -4,7 +4,7 @@ use Rattle.text_forms.specs.declared.mode.Mode.{Mode}
 use Rattle.text_forms.specs.declared.mode.Mode.TheVariants.{Flat, Tree, Json, Lines}
 use Rattle.command_words.specs.declared.words.Asked.{Asked}
 use Rattle.command_words.specs.declared.words.Job.{Job}
-use Rattle.command_words.specs.declared.words.Job.TheVariants.{Map, MapUnder, Each, Bound, BoundText, Check, Types, Dump}
+use Rattle.command_words.specs.declared.words.Job.TheVariants.{Map, MapUnder, Each, Bound, BoundText, Check, Types, Formats, Dump}
 
 -- a check of the pickle with this name
 abbrev pub IsCheckOf : List ℕ → Job → Type 0
@@ -15,6 +15,7 @@ IsCheckOf name (Bound pickle type bits) = ⊥
 IsCheckOf name (BoundText pickle type bits mode) = ⊥
 IsCheckOf name (Check pickle) = string_bytes pickle ≡ name
 IsCheckOf name (Types pickle) = ⊥
+IsCheckOf name Formats = ⊥
 IsCheckOf name (Dump from size ruler file) = ⊥
 
 -- likewise, and no refusal of it is to be explained

@@ -84,6 +84,8 @@ pub enum Job {
     Types {
         pickle: String,
     },
+    /// Print the pickles that are installed.
+    Formats,
     /// Dump the bytes of a file, from a byte on.
     Dump {
         from: u64,
@@ -232,6 +234,7 @@ fn read_command(alloc: Global, matches: &ArgMatches<'_>) -> Result<Job, WordFaul
         Some(("each", found)) => read_each(alloc, found),
         Some(("bound", found)) => read_bound(alloc, found),
         Some(("types", found)) => read_types(alloc, found),
+        Some(("formats", _)) => Ok(Job::Formats),
         Some(("dump", found)) => read_dump(alloc, found),
         Some((_, found)) => read_check(alloc, found),
         None => read_check(alloc, matches),

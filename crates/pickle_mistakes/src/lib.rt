@@ -7,7 +7,7 @@ mod expected;
 pub mod lexical;
 pub mod limits;
 mod names;
-mod near;
+pub mod near;
 mod nodes;
 mod probe;
 mod search;

@@ -1,6 +1,6 @@
 -- What jobs do.
 use Rattle.command_words.specs.declared.words.Job.{Job}
-use Rattle.command_words.specs.declared.words.Job.TheVariants.{Map, MapUnder, Each, Bound, BoundText, Check, Types, Dump}
+use Rattle.command_words.specs.declared.words.Job.TheVariants.{Map, MapUnder, Each, Bound, BoundText, Check, Types, Formats, Dump}
 
 -- a job that maps a type
 abbrev pub Maps : Job → Type 0
@@ -11,4 +11,5 @@ Maps (Bound pickle type bits) = ⊥
 Maps (BoundText pickle type bits mode) = ⊥
 Maps (Check pickle) = ⊥
 Maps (Types pickle) = ⊥
+Maps Formats = ⊥
 Maps (Dump from size ruler file) = ⊥

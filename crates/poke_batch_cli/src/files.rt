@@ -2,6 +2,7 @@
 use bit_space::{FileSpace, Memory, OpenFault, Paged};
 use poke_batch::DumpFault;
 use poke_batch::pickle::{PickleFault, read_pickle};
+use std::alloc::AllocError;
 use std::fs::File;
 use std::io::Input;
 use std::rt::Files;
@@ -48,6 +49,12 @@ impl From<OpenFault> for FileFault {
 impl From<DumpFault> for FileFault {
     fn from(fault: DumpFault) -> FileFault {
         FileFault::Dump(fault)
+    }
+}
+
+impl From<AllocError> for FileFault {
+    fn from(_error: AllocError) -> FileFault {
+        FileFault::Memory
     }
 }
 

@@ -1,31 +1,31 @@
 //! Each job, over its files and a writer for its answer.
 use crate::Line;
 use crate::files::{FileFault, open_space};
+use crate::formats::list_formats;
+use crate::installed::tell_missing;
 use crate::mappings::run_mapping;
 use crate::pickles::{bound_text, bound_type, check_pickle, tell_types};
 use crate::why::Why;
 use poke_batch::dump;
+use poke_batch::pickle::PickleFault;
 use poke_batch::status::Status;
 use poke_batch::tell::fail;
 use poke_batch::words::{Asked, Job};
 use poke_batch::write::WriteFault;
 use std::fs::File;
 use std::io::{BufWriter, Input, Write};
-use std::rt::Files;
+use std::rt::{Env, Files};
 
 /// The bytes of an answer that are gathered before they are written.
 const GATHERED: usize = 65_536;
 
 /// Does a job. Its answer goes to `out`, which has it all before the status is told, and its line to `err`. Why it ends so, where
 /// that is asked, goes to `reason`; of one file among many to `aside`, behind the file's line.
-pub fn do_job<R: Files<File = File> + Input + AllocGlobal, O: Write + Drop, A: Write>(
-    rt: &R,
-    asked: Asked,
-    out: O,
-    err: &mut Line,
-    aside: &mut A,
-    reason: &mut Vec<u8>,
-) -> Status {
+pub fn do_job<
+    R: Files<File = File> + Env + Input + AllocGlobal + Clone + Drop,
+    O: Write + Drop,
+    A: Write,
+>(rt: &R, asked: Asked, out: O, err: &mut Line, aside: &mut A, reason: &mut Vec<u8>) -> Status {
     let Ok(mut out) = BufWriter::with_capacity(rt.alloc(), GATHERED, out) else {
         return fail(err, b"Memory");
     };
@@ -35,7 +35,10 @@ pub fn do_job<R: Files<File = File> + Input + AllocGlobal, O: Write + Drop, A: W
     };
     let status = match run_job(rt, &asked.job, &mut out, err, aside, &mut why) {
         Ok(status) => status,
-        Err(fault) => fail(err, fault.name().as_bytes()),
+        Err(fault) => {
+            explain_fault(rt, &asked.job, fault, &mut why);
+            fail(err, fault.name().as_bytes())
+        }
     };
     if out.flush().is_ok() {
         return status;
@@ -43,13 +46,45 @@ pub fn do_job<R: Files<File = File> + Input + AllocGlobal, O: Write + Drop, A: W
     // What the writer didn't take isn't offered to it again.
     let (_writer, _rest) = out.into_parts();
     reason.clear();
-    if status == Status::Outside {
+    // One line is told: that of what failed first, if it has one.
+    if status == Status::Outside && !err.is_empty() {
         return status;
     }
     fail(err, WriteFault.name().as_bytes())
 }
 
-fn run_job<R: Files<File = File> + Input + AllocGlobal, O: Write, A: Write>(
+// Explains why no pickle was read, where that is asked. Nothing is explained where there is no memory for it: the line stands.
+fn explain_fault<R: Files<File = File> + Env + AllocGlobal + Clone + Drop>(
+    rt: &R,
+    job: &Job,
+    fault: FileFault,
+    why: &mut Why<'_>,
+) {
+    if !why.asked || fault != FileFault::Pickle(PickleFault::Read) {
+        return;
+    }
+    if let Some(word) = pickle_of(job) {
+        if tell_missing(rt, word, why.text).is_err() {
+            why.text.clear();
+        }
+    }
+}
+
+// The word for the pickle of a job, where it has one.
+fn pickle_of(job: &Job) -> Option<&str> {
+    match job {
+        Job::Map { pickle, .. }
+        | Job::MapUnder { pickle, .. }
+        | Job::Each { pickle, .. }
+        | Job::Bound { pickle, .. }
+        | Job::BoundText { pickle, .. }
+        | Job::Check { pickle }
+        | Job::Types { pickle } => Some(pickle.as_str()),
+        Job::Formats | Job::Dump { .. } => None,
+    }
+}
+
+fn run_job<R: Files<File = File> + Env + Input + AllocGlobal + Clone + Drop, O: Write, A: Write>(
     rt: &R,
     job: &Job,
     out: &mut O,
@@ -69,6 +104,7 @@ fn run_job<R: Files<File = File> + Input + AllocGlobal, O: Write, A: Write>(
         } => bound_text(rt, pickle, name.as_bytes(), *bits, *mode, out, err, why),
         Job::Check { pickle } => check_pickle(rt, pickle, out, err, why),
         Job::Types { pickle } => tell_types(rt, pickle, out, err, why),
+        Job::Formats => list_formats(rt, out, err),
         Job::Dump {
             from,
             size,

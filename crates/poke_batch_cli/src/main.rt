@@ -3,7 +3,9 @@
 
 mod each;
 mod files;
+mod formats;
 mod given;
+mod installed;
 mod jobs;
 mod mappings;
 mod pickles;

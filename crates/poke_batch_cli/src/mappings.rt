@@ -4,6 +4,7 @@ ghost use Rattle.poke_batch_cli.specs.Jobs.{Maps};
 use crate::Line;
 use crate::each::{WhyFiles, run_each};
 use crate::files::{FileFault, open_space, read_pickle_of};
+use crate::installed::pickle_path;
 use crate::why::{Why, explain};
 use mapping_reasons::reasons;
 use poke_batch::ask::Ask;
@@ -13,10 +14,10 @@ use poke_batch::terms::Terms;
 use poke_batch::words::{FileNames, Job};
 use std::fs::File;
 use std::io::{Input, Write};
-use std::rt::Files;
+use std::rt::{Env, Files};
 
 /// Does a job that maps.
-pub fn run_mapping<R: Files<File = File> + Input + AllocGlobal, O: Write, A: Write>(
+pub fn run_mapping<R: Files<File = File> + Env + Input + AllocGlobal, O: Write, A: Write>(
     rt: &R,
     job: &Job,
     out: &mut O,
@@ -87,7 +88,7 @@ fn ask_of(job: &Job) -> Ask<'_>
 }
 
 // Maps a type of a pickle over a file, each at its path.
-fn map_file<R: Files<File = File> + Input + AllocGlobal, O: Write>(
+fn map_file<R: Files<File = File> + Env + Input + AllocGlobal, O: Write>(
     rt: &R,
     path: &str,
     file: &str,
@@ -97,6 +98,7 @@ fn map_file<R: Files<File = File> + Input + AllocGlobal, O: Write>(
     err: &mut Line,
     why: &mut Why<'_>,
 ) -> Result<Status, FileFault> {
+    let path = &pickle_path(rt, path)?;
     let pickle = read_pickle_of(rt, path)?;
     let mut space = open_space(rt, file)?;
     let status = run_map_under(rt.alloc(), &pickle, ask, terms, &mut space, out, err);
@@ -112,7 +114,7 @@ fn map_file<R: Files<File = File> + Input + AllocGlobal, O: Write>(
 }
 
 // Maps a type of a pickle over many files. Why one of them ends as it does goes to `aside`.
-fn map_files<R: Files<File = File> + Input + AllocGlobal, O: Write, A: Write>(
+fn map_files<R: Files<File = File> + Env + Input + AllocGlobal, O: Write, A: Write>(
     rt: &R,
     path: &str,
     files: &FileNames,
@@ -123,6 +125,7 @@ fn map_files<R: Files<File = File> + Input + AllocGlobal, O: Write, A: Write>(
     aside: &mut A,
     why: &mut Why<'_>,
 ) -> Result<Status, FileFault> {
+    let path = &pickle_path(rt, path)?;
     let pickle = read_pickle_of(rt, path)?;
     let mut why_files = WhyFiles {
         aside,

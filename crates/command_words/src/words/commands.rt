@@ -6,47 +6,60 @@ use std::alloc::{AllocError, Global};
 /// The program's name, by which it is installed.
 pub const PROGRAM: &str = "poke_batch";
 
-/// The program's version, and the line by which the toolchain that proves it names itself.
-pub const VERSION: &str = "0.1.0, proved with rattle-kit-13f logic dac8208d650f15bf";
+/// The program's version.
+pub const VERSION: &str = "0.1.0";
 
 /// The steps that a mapping may take where no limit is given.
 pub const DEFAULT_LIMIT: u64 = 1_000_000_000;
 
+const PROGRAM_SHORT_HELP: &str = "\
+Many files, one line each:
+  poke_batch each PICKLE TYPE FILE..
+  find . -name '*.png' -print0 | poke_batch each --files0-from - +png Png
+
+PICKLE is a path, - for standard input, or +NAME for a pickle that is installed: `poke_batch formats`.
+`poke_batch COMMAND -h` lists the options of a command, `--help` also explains them.";
+
 const PROGRAM_HELP: &str = "\
+PICKLE is a path, - for standard input, or +NAME for a pickle that is installed, as +png: `poke_batch formats` lists
+these. They are in the folder that POKE_BATCH_PICKLES names, else in ../share/poke_batch/pickles from the program.
 OFFSET is a number, # and a unit: b for bits, B for bytes, or a number of bits, as 8#b, 1#B or 2#4.
 
-Options of map:
+Options of map and each:
   --at OFFSET      where the value begins [default: 0#b]
   --endian ORDER   byte order, big or little [default: big]
   --limit N        the most steps of the mapping, 0 to 18446744073709551615 [default: 1000000000]
-  --mode MODE      how the value is written: flat, tree, json or lines [default: flat]
-  --whole          take only a value that ends where FILE does [default: any end]
-  --max-output N   the most bytes of the text, 0 to 18446744073709551615 [default: any length]
+  --mode MODE      how the value is printed: flat, tree, json or lines; each: flat or json [default: flat]
+  --whole          accept only a value that ends where FILE does [default: any end]
+  --max-output N   the most bytes of the printed value, 0 to 18446744073709551615 [default: any length]
   --slots N        the most slots of the mapping, of each kind, 0 to 18446744073709551615 [default: any number]
-  --get PATH       write a part of the value: . or steps of .name, .place, [place] [default: .]
+  --get PATH       print a part of the value: . or steps of .name, .place, [place] [default: .]
+
+Options of each:
+  --files0-from PATH  read the names of the files from PATH, or from standard input for -, each ended by a byte 0
 
 Options of map, each, bound, check and types:
-  --why            tell why a pickle or a type's name is refused, or what stops a mapping [default: not told]
+  --why            explain why a pickle or a type's name is refused, or what stops a mapping [default: no]
 
 Options of bound:
-  --text           print the most bytes of the text too
-  --mode MODE      with --text, the text in this mode alone [default: in any]
+  --text           print the most bytes of the printed value too
+  --mode MODE      with --text, in this mode alone [default: in any]
 
 Options of dump:
   --from OFFSET    the first byte, in whole bytes [default: 0#B]
   --size OFFSET    how much to dump at most, in whole bytes [default: 128#B]
-  --no-ruler       leave out the line above the bytes [default: it is written]
+  --no-ruler       leave out the line above the bytes [default: it is printed]
 
-Without words the program does `check -`.
+Without arguments the program runs `check -`.
 
 Example:
   printf '\\001\\002\\003' > three.bin
   echo 'type P = struct { uint<8> a; uint<16> b; };' | poke_batch map - P three.bin
 
-Statuses:
+Exit status:
   0  done
-  1  the mapping has a fault, or its value isn't taken
-  2  refused: words, an offset, the pickle or the type's name
+  1  the mapping has a fault, or its value is rejected
+  2  refused: the arguments, an offset, the pickle or the type's name
   3  memory, a file, standard input or an output failed";
 
 const MAP_HELP: &str = "\
@@ -56,43 +69,43 @@ Example:
   printf '\\001\\002\\003' > three.bin
   echo 'type P = struct { uint<8> a; uint<16> b; };' | poke_batch map - P three.bin
 
-Statuses:
-  0  the value was written
-  1  the mapping has a fault, or its value isn't taken, which is told with its place
-  2  refused: words, an offset, the pickle or the type's name
+Exit status:
+  0  the value was printed
+  1  the mapping has a fault, or its value is rejected, which is reported with its place
+  2  refused: the arguments, an offset, the pickle or the type's name
   3  memory, a file, standard input or an output failed";
 
 const EACH_HELP: &str = "\
-The options are those of map, for each file. Each file has a line: its name, a tab, the status of its mapping, a tab, and
-the value's text or the line of its fault. In a name, \\, a tab, a line feed and other bytes outside ' ' to '~' are escaped, as \\\\,
-\\t, \\n and \\x and two digits. A fault in one file stops nothing; the status is the greatest of all.
+The options are those of map, for each file. Each file has a line: its name, a tab, the exit status of its mapping, a tab, and
+the printed value or the line of its fault. In a name, \\, a tab, a line feed and other bytes outside ' ' to '~' are escaped, as \\\\,
+\\t, \\n and \\x and two digits. A fault in one file stops nothing; the exit status is the greatest of all.
 
 Example:
   printf '\\001\\002\\003' > three.bin
   echo 'type P = struct { uint<8> a; uint<16> b; };' | poke_batch each - P three.bin
 
-Statuses:
-  0  each value was written
-  1  a mapping has a fault, which its line tells
-  2  refused: words, an offset, the pickle or the type's name
+Exit status:
+  0  each value was printed
+  1  a mapping has a fault, which its line reports
+  2  refused: the arguments, an offset, the pickle or the type's name
   3  memory, a file, standard input or an output failed";
 
 const BOUND_HELP: &str = "\
 Example:
   echo 'type P = struct { uint<8> a; uint<16> b; };' | poke_batch bound - P 24
 
-Statuses:
-  0  the bounds were written
-  2  refused: words, the pickle or the type's name
+Exit status:
+  0  the bounds were printed
+  2  refused: the arguments, the pickle or the type's name
   3  memory, a file, standard input or an output failed";
 
 const CHECK_HELP: &str = "\
 Example:
   echo 'type P = struct { uint<8> a; uint<16> b; };' | poke_batch check -
 
-Statuses:
-  0  the pickle is accepted, and the number of its types was written
-  2  refused: words or the pickle
+Exit status:
+  0  the pickle is accepted, and the number of its types was printed
+  2  refused: the arguments or the pickle
   3  memory, a file, standard input or an output failed";
 
 const TYPES_HELP: &str = "\
@@ -102,10 +115,23 @@ least width of its values as an offset, such as 24#b.
 Example:
   echo 'type P = struct { uint<8> a; uint<16> b; };' | poke_batch types -
 
-Statuses:
-  0  the lines were written
-  2  refused: words or the pickle
+Exit status:
+  0  the lines were printed
+  2  refused: the arguments or the pickle
   3  memory, a file, standard input or an output failed";
+
+const FORMATS_HELP: &str = "\
+Each pickle has a line: its name, a tab, the type to map, a tab, the options to map it with, a tab, and a sentence. A pickle
+that is named png is read by +png in the place of PICKLE. The pickles are in the folder that POKE_BATCH_PICKLES names, else
+in ../share/poke_batch/pickles from the program.
+
+Example:
+  poke_batch map +png Png picture.png
+
+Exit status:
+  0  the lines were printed
+  2  refused: the arguments
+  3  memory, the folder, a file or an output failed";
 
 const DUMP_HELP: &str = "\
 OFFSET is a number, # and a unit: b for bits, B for bytes, or a number of bits, as 16#B or 2#4.
@@ -114,9 +140,9 @@ Example:
   printf 'Hello' > hello.bin
   poke_batch dump --size 16#B hello.bin
 
-Statuses:
-  0  the bytes were written
-  2  refused: words or an offset
+Exit status:
+  0  the bytes were printed
+  2  refused: the arguments or an offset
   3  memory, a file or an output failed";
 
 /// The program with its commands.
@@ -124,13 +150,15 @@ pub fn program<'a>(alloc: Global) -> Result<Command<'a>, AllocError> {
     Command::new(alloc, PROGRAM)
         .version(VERSION)
         .about("Maps the types of GNU poke pickles over files and prints the values")
-        .after_help(PROGRAM_HELP)
+        .after_help(PROGRAM_SHORT_HELP)
+        .after_long_help(PROGRAM_HELP)
         .subcommand_required(true)
         .subcommand(map(alloc)?)?
         .subcommand(each(alloc)?)?
         .subcommand(bound(alloc)?)?
         .subcommand(check(alloc)?)?
         .subcommand(types(alloc)?)?
+        .subcommand(formats(alloc))?
         .subcommand(dump(alloc)?)
 }
 
@@ -138,7 +166,7 @@ fn map<'a>(alloc: Global) -> Result<Command<'a>, AllocError> {
     let modes = ["flat", "tree", "json", "lines"].as_slice();
     let command = Command::new(alloc, "map")
         .about("Maps a type over a file and prints the value")
-        .after_help(MAP_HELP);
+        .after_long_help(MAP_HELP);
     with_mapping(alloc, command, modes)?.arg(file(alloc))
 }
 
@@ -156,8 +184,8 @@ fn each<'a>(alloc: Global) -> Result<Command<'a>, AllocError> {
             "Read the names of the files from PATH, or from standard input for -, each ended by a byte 0",
         );
     let command = Command::new(alloc, "each")
-        .about("Maps a type over one file after the other and prints a line for each")
-        .after_help(EACH_HELP);
+        .about("Maps a type over many files, one after the other, and prints a line for each")
+        .after_long_help(EACH_HELP);
     with_mapping(alloc, command, modes)?.arg(names)?.arg(files)
 }
 
@@ -179,7 +207,7 @@ fn with_mapping<'a>(
             "1000000000",
         )
         .value_parser(clap::value_parser!(u64)))?
-        .arg(option(alloc, "mode", "MODE", "How the value is written", "flat").value_parser(modes))?
+        .arg(option(alloc, "mode", "MODE", "How the value is printed", "flat").value_parser(modes))?
         .arg(whole(alloc))?
         .arg(max_output(alloc))?
         .arg(slots(alloc))?
@@ -193,7 +221,7 @@ fn whole<'a>(alloc: Global) -> Arg<'a> {
     Arg::new(alloc, "whole")
         .long("whole")
         .action(ArgAction::SetTrue)
-        .help("Take only a value that ends where FILE does [default: any end]")
+        .help("Accept only a value that ends where FILE does [default: any end]")
 }
 
 fn slots<'a>(alloc: Global) -> Arg<'a> {
@@ -210,13 +238,15 @@ fn max_output<'a>(alloc: Global) -> Arg<'a> {
     Arg::new(alloc, "max-output")
         .long("max-output")
         .value_name("N")
-        .help("The most bytes of the text, 0 to 18446744073709551615 [default: any length]")
+        .help(
+            "The most bytes of the printed value, 0 to 18446744073709551615 [default: any length]",
+        )
         .value_parser(clap::value_parser!(u64))
 }
 
 fn part<'a>(alloc: Global) -> Arg<'a> {
     Arg::new(alloc, "get").long("get").value_name("PATH").help(
-        "Write a part of the value: . or steps of .name, .place, [place] [default: .]",
+        "Print a part of the value: . or steps of .name, .place, [place] [default: .]",
     )
 }
 
@@ -228,17 +258,17 @@ fn bound<'a>(alloc: Global) -> Result<Command<'a>, AllocError> {
     let text = Arg::new(alloc, "text")
         .long("text")
         .action(ArgAction::SetTrue)
-        .help("Print the most bytes of the text too");
+        .help("Print the most bytes of the printed value too");
     let modes = ["flat", "tree", "json", "lines"].as_slice();
     let mode = Arg::new(alloc, "mode")
         .long("mode")
         .value_name("MODE")
-        .help("The text in this mode alone [default: in any]")
+        .help("With --text, in this mode alone [default: in any]")
         .value_parser(modes)
         .requires_arg("text")?;
     Command::new(alloc, "bound")
         .about("Prints the most steps and slots that mapping a type over so many bits takes")
-        .after_help(BOUND_HELP)
+        .after_long_help(BOUND_HELP)
         .arg(text)?
         .arg(mode)?
         .arg(why(alloc))?
@@ -250,7 +280,7 @@ fn bound<'a>(alloc: Global) -> Result<Command<'a>, AllocError> {
 fn check<'a>(alloc: Global) -> Result<Command<'a>, AllocError> {
     Command::new(alloc, "check")
         .about("Checks a pickle and prints the number of its types")
-        .after_help(CHECK_HELP)
+        .after_long_help(CHECK_HELP)
         .arg(why(alloc))?
         .arg(pickle(alloc))
 }
@@ -258,19 +288,27 @@ fn check<'a>(alloc: Global) -> Result<Command<'a>, AllocError> {
 fn types<'a>(alloc: Global) -> Result<Command<'a>, AllocError> {
     Command::new(alloc, "types")
         .about("Prints the name, the kind and the least width of each type of a pickle")
-        .after_help(TYPES_HELP)
+        .after_long_help(TYPES_HELP)
         .arg(why(alloc))?
         .arg(pickle(alloc))
+}
+
+fn formats<'a>(alloc: Global) -> Command<'a> {
+    Command::new(alloc, "formats")
+        .about(
+            "Prints the name, the type, the options and a sentence of each pickle that is installed",
+        )
+        .after_long_help(FORMATS_HELP)
 }
 
 fn dump<'a>(alloc: Global) -> Result<Command<'a>, AllocError> {
     let no_ruler = Arg::new(alloc, "no-ruler")
         .long("no-ruler")
         .action(ArgAction::SetTrue)
-        .help("Leave out the line above the bytes [default: it is written]");
+        .help("Leave out the line above the bytes [default: it is printed]");
     Command::new(alloc, "dump")
         .about("Prints the bytes of a file in hexadecimal digits and as text")
-        .after_help(DUMP_HELP)
+        .after_long_help(DUMP_HELP)
         .arg(offset(alloc, "from", "The first byte, in whole bytes", "0#B"))?
         .arg(offset(
             alloc,
@@ -304,13 +342,13 @@ fn why<'a>(alloc: Global) -> Arg<'a> {
     Arg::new(alloc, "why")
         .long("why")
         .action(ArgAction::SetTrue)
-        .help("Tell why the pickle or TYPE is refused, or what stops a mapping [default: not told]")
+        .help("Explain why the pickle or TYPE is refused, or what stops a mapping [default: no]")
 }
 
 fn pickle<'a>(alloc: Global) -> Arg<'a> {
-    Arg::new(alloc, "PICKLE")
-        .required(true)
-        .help("The file of the pickle, or - for standard input")
+    Arg::new(alloc, "PICKLE").required(true).help(
+        "The file of the pickle, - for standard input, or +NAME for one that is installed",
+    )
 }
 
 fn name<'a>(alloc: Global) -> Arg<'a> {

@@ -1,0 +1,86 @@
+//! The list of the installed pickles, by the heads of their files.
+use crate::Line;
+use crate::files::{FileFault, read_pickle_of};
+use crate::installed::{path_in, pickles_folder, pickles_in};
+use poke_batch::file_line::put_name;
+use poke_batch::pickle::PickleFault;
+use poke_batch::status::Status;
+use poke_batch::tell::answer;
+use poke_batch::write::{WriteFault, put};
+use std::io::{Input, Write};
+use std::rt::{Env, Files};
+
+/// What the first lines of a pickle say of it: `// NAME: SENTENCE` and `// main: TYPE`, behind which `, options: OPTIONS` may
+/// stand. What isn't there is empty.
+#[derive(Clone, Copy, Debug, Drop, PartialEq, Eq)]
+struct Head<'a> {
+    /// The type to map.
+    main: &'a [u8],
+    /// The options to map it with.
+    options: &'a [u8],
+    /// What the pickle is for.
+    sentence: &'a [u8],
+}
+
+/// Prints a line for each installed pickle: its name, the type to map, the options, and a sentence, with tabs between.
+pub fn list_formats<R: Files + Env + Input + AllocGlobal + Clone + Drop, O: Write>(
+    rt: &R,
+    out: &mut O,
+    err: &mut Line,
+) -> Result<Status, FileFault> {
+    let folder = pickles_folder(rt)?.ok_or(PickleFault::Read)?;
+    for name in &pickles_in(rt, folder.as_str())? {
+        let path = path_in(rt.alloc(), folder.as_str(), name.as_str())?;
+        let pickle = read_pickle_of(rt, path.as_str())?;
+        let written = put_format(out, name.as_bytes(), head_of(name.as_bytes(), &pickle));
+        if written.is_err() {
+            return Ok(answer(written, err));
+        }
+    }
+    Ok(Status::Done)
+}
+
+fn put_format<O: Write>(out: &mut O, name: &[u8], head: Head<'_>) -> Result<(), WriteFault> {
+    put_name(out, name)?;
+    for column in [head.main, head.options, head.sentence] {
+        put(out, b"\t")?;
+        put_name(out, column)?;
+    }
+    put(out, b"\n")
+}
+
+// The head of the pickle of a name.
+fn head_of<'a>(name: &[u8], pickle: &'a [u8]) -> Head<'a> {
+    let (first, rest) = line_of(pickle);
+    let (second, _) = line_of(rest);
+    let (main, options) = parted(behind(second, b"// main: "), b", options: ");
+    let sentence = behind(behind(behind(first, b"// "), name), b": ");
+    Head {
+        main,
+        options,
+        sentence,
+    }
+}
+
+// The first line of a text, and what follows it.
+fn line_of(text: &[u8]) -> (&[u8], &[u8]) {
+    match text.iter().position(|byte| *byte == b'\n') {
+        Some(end) => (&text[..end], &text[end..][1..]),
+        None => (text, b""),
+    }
+}
+
+// What stands behind the front of a text, if it has that front.
+fn behind<'a>(text: &'a [u8], front: &[u8]) -> &'a [u8] {
+    text.strip_prefix(front).unwrap_or(b"")
+}
+
+// What stands before a mark in a text, and what stands behind it.
+fn parted<'a>(text: &'a [u8], mark: &[u8]) -> (&'a [u8], &'a [u8]) {
+    for place in 0..text.len() {
+        if let Some(rest) = text[place..].strip_prefix(mark) {
+            return (&text[..place], rest);
+        }
+    }
+    (text, b"")
+}

@@ -1,0 +1,157 @@
+//! The pickles that are installed with the program. The word `+NAME` in the place of a pickle's path names one.
+use crate::files::FileFault;
+use pickle_mistakes::near::nearest;
+use poke_batch::pickle::PickleFault;
+use std::alloc::{AllocError, Global};
+use std::env::VarError;
+use std::rt::{Env, Files};
+use std::{env, fs};
+
+/// The variable of the environment that names their folder.
+const VARIABLE: &str = "POKE_BATCH_PICKLES";
+
+/// Their folder where the variable isn't set, from the folder above the program's own.
+const SHARED: &str = "/share/poke_batch/pickles";
+
+/// How the name of a pickle's file ends.
+const ENDING: &str = ".pk";
+
+/// The path of a pickle, by the word that is given for it: the word itself, unless it is a `+` and a name, and no file has
+/// that word as its path; then that of the installed pickle.
+pub fn pickle_path<R: Files + Env + AllocGlobal>(rt: &R, word: &str) -> Result<String, FileFault> {
+    let alloc = rt.alloc();
+    if let Some(name) = name_in(word) {
+        if fs::metadata(rt, word).is_err() {
+            let folder = pickles_folder(rt)?.ok_or(PickleFault::Read)?;
+            return Ok(path_in(alloc, folder.as_str(), name)?);
+        }
+    }
+    Ok(String::from_str(alloc, word)?)
+}
+
+/// The folder of the installed pickles, if there can be one.
+pub fn pickles_folder<R: Files + Env + AllocGlobal>(rt: &R) -> Result<Option<String>, AllocError> {
+    match env::var(rt, VARIABLE) {
+        Ok(folder) => return Ok(Some(folder)),
+        Err(VarError::OutOfMemory) => return Err(AllocError),
+        Err(VarError::NotUnicode) => return Ok(None),
+        Err(VarError::NotPresent) => {}
+    }
+    let Ok(program) = env::current_exe(rt) else {
+        return Ok(None);
+    };
+    match folder_of(program.as_str()).and_then(folder_of) {
+        Some(above) => {
+            let mut folder = String::from_str(rt.alloc(), above)?;
+            folder.push_str(SHARED)?;
+            Ok(Some(folder))
+        }
+        None => Ok(None),
+    }
+}
+
+/// The names of the pickles in a folder, in the order of their bytes.
+pub fn pickles_in<R: Files + AllocGlobal + Clone + Drop>(
+    rt: &R,
+    folder: &str,
+) -> Result<Vec<String>, FileFault> {
+    let mut names = Vec::new(rt.alloc());
+    let Ok(entries) = fs::read_dir(rt, folder) else {
+        return Err(PickleFault::Read.into());
+    };
+    for entry in entries {
+        // a name that isn't UTF-8 is no pickle's
+        if let Ok(entry) = entry {
+            push_pickle(rt.alloc(), &mut names, entry.file_name())?;
+        }
+    }
+    names.sort()?;
+    Ok(names)
+}
+
+// Adds the name of a pickle, where a file's name is one.
+fn push_pickle(alloc: Global, names: &mut Vec<String>, file: &str) -> Result<(), AllocError> {
+    match file.strip_suffix(ENDING).filter(|name| is_name(name)) {
+        Some(name) => Ok(names.push(String::from_str(alloc, name)?)?),
+        None => Ok(()),
+    }
+}
+
+/// The path of the pickle of a name in a folder.
+pub fn path_in(alloc: Global, folder: &str, name: &str) -> Result<String, AllocError> {
+    let mut path = String::from_str(alloc, folder)?;
+    path.push('/')?;
+    path.push_str(name)?;
+    path.push_str(ENDING)?;
+    Ok(path)
+}
+
+/// Says where an installed pickle was looked for, and which name is near, where the word for a pickle names one.
+pub fn tell_missing<R: Files + Env + AllocGlobal + Clone + Drop>(
+    rt: &R,
+    word: &str,
+    text: &mut Vec<u8>,
+) -> Result<(), FileFault> {
+    let Some(name) = name_in(word) else {
+        return Ok(());
+    };
+    let Some(folder) = pickles_folder(rt)? else {
+        return Ok(text.extend_from_slice(
+            b"  no folder of pickles is known: set POKE_BATCH_PICKLES\n",
+        )?);
+    };
+    tell_place(folder.as_str(), name, text)?;
+    let names = pickles_in(rt, folder.as_str())?;
+    Ok(tell_near(rt.alloc(), name, &names, text)?)
+}
+
+fn tell_place(folder: &str, name: &str, text: &mut Vec<u8>) -> Result<(), AllocError> {
+    for part in ["  there is no file ", folder, "/", name, ENDING, "\n"] {
+        text.extend_from_slice(part.as_bytes())?;
+    }
+    Ok(())
+}
+
+fn tell_near(
+    alloc: Global,
+    name: &str,
+    names: &[String],
+    text: &mut Vec<u8>,
+) -> Result<(), AllocError> {
+    let mut among = Vec::new(alloc);
+    for other in names {
+        among.push(other.as_bytes())?;
+    }
+    match nearest(alloc, name.as_bytes(), among.as_slice())? {
+        Some(other) => {
+            text.extend_from_slice(b"  is +")?;
+            text.extend_from_slice(other)?;
+            text.extend_from_slice(b" meant?\n")
+        }
+        None => text.extend_from_slice(
+            b"  `poke_batch formats` lists the pickles that are there\n",
+        ),
+    }
+}
+
+// The name in a word that names an installed pickle.
+fn name_in(word: &str) -> Option<&str> {
+    word.strip_prefix('+').filter(|name| is_name(name))
+}
+
+// Whether a word is letters, digits, `_` and `-`.
+fn is_name(word: &str) -> bool {
+    !word.is_empty() && word.bytes().all(is_name_byte)
+}
+
+fn is_name_byte(byte: u8) -> bool {
+    byte.is_ascii_alphanumeric() || byte == b'_' || byte == b'-'
+}
+
+// The folder that a path's last part is in.
+fn folder_of(path: &str) -> Option<&str> {
+    match path.rsplit_once('/') {
+        Some((folder, _)) => Some(folder),
+        None => None,
+    }
+}
