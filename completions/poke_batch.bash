@@ -9,6 +9,7 @@ _poke_batch_options() {
         each) echo "$mapping --files0-from --help" ;;
         bound) echo '--text --mode --why --help' ;;
         check | types) echo '--why --help' ;;
+        formats) echo '--help' ;;
         dump) echo '--from --size --no-ruler --help' ;;
         '') echo '--help --version' ;;
     esac
@@ -61,14 +62,22 @@ _poke_batch_files() {
     _poke_batch_reply '' "$(_poke_batch_named "$(_poke_batch_plain "$1")" "${2:-}")"
 }
 
-# An offset has a number, # and a unit: the units behind a number.
+# An offset has a number, # and a unit: the units after a number.
 _poke_batch_offsets() {
     [[ $1 =~ ^([0-9]+)(#.*)?$ ]] && _poke_batch_words "$1" "${BASH_REMATCH[1]}#b ${BASH_REMATCH[1]}#B"
 }
 
+# The pickles: files, standard input, and the installed ones after a + or where no file is offered.
 _poke_batch_pickles() {
-    _poke_batch_files "$1" .pk
-    [[ -n $1 ]] || COMPREPLY+=(-)
+    local program
+    program=$(_poke_batch_plain "$1")
+    _poke_batch_files "$2" .pk
+    if ((${#COMPREPLY[@]} == 0)) && [[ -z $2 || $2 == +* ]]; then
+        _poke_batch_reply "$2" "$("$program" formats 2>/dev/null </dev/null | sed 's/^/+/; s/\t.*//')"
+    fi
+    if [[ -z $2 ]]; then
+        COMPREPLY+=(-)
+    fi
 }
 
 # The types that a pickle declares. Standard input isn't read, nor what isn't a regular file.
@@ -76,7 +85,7 @@ _poke_batch_types() {
     local program pickle
     program=$(_poke_batch_plain "$1")
     pickle=$(_poke_batch_plain "$2")
-    [[ -f $pickle ]] || return
+    [[ -f $pickle || $pickle == +* && ! -e $pickle ]] || return
     _poke_batch_reply "$3" "$("$program" types -- "$pickle" 2>/dev/null </dev/null | cut -f 1)"
 }
 
@@ -127,9 +136,9 @@ _poke_batch() {
                 return
             fi
             case $command/${#arguments[@]} in
-                /*) _poke_batch_words "$current" 'map each bound check types dump help' ;;
-                help/0) _poke_batch_words "$current" 'map each bound check types dump help' ;;
-                map/0 | each/0 | bound/0 | check/0 | types/0) _poke_batch_pickles "$current" ;;
+                /*) _poke_batch_words "$current" 'map each bound check types formats dump help' ;;
+                help/0) _poke_batch_words "$current" 'map each bound check types formats dump help' ;;
+                map/0 | each/0 | bound/0 | check/0 | types/0) _poke_batch_pickles "$program" "$current" ;;
                 map/1 | each/1 | bound/1) _poke_batch_types "$program" "${arguments[0]}" "$current" ;;
                 map/2 | each/* | dump/0) _poke_batch_files "$current" ;;
             esac

@@ -35,8 +35,16 @@ function __poke_batch_has
     test (count $argv) -eq 1; or contains -- $arguments[1] $argv[2..-1]
 end
 
+# The pickles: files, standard input, and the installed ones after a + or where no file is offered.
 function __poke_batch_pickles
-    __fish_complete_suffix .pk | string match -r '.*(?:/|\.pk)(?:\t.*)?$'
+    set -l word (commandline -ct)
+    set -l files (__fish_complete_suffix .pk | string match -r '.*(?:/|\.pk)(?:\t.*)?$')
+    if set -q files[1]
+        printf '%s\n' $files
+    else if string match -qr '^(\+|$)' -- $word
+        set -l program (commandline -opc)[1]
+        $program formats 2>/dev/null </dev/null | string replace -r '^([^\t]*)\t[^\t]*\t[^\t]*\t' '+$1\t' | string match -- "$word*"
+    end
     printf '%s\t%s\n' - 'standard input'
 end
 
@@ -45,7 +53,10 @@ function __poke_batch_types
     set -l program (commandline -opc)[1]
     set -l arguments (__poke_batch_arguments)
     set -l pickle (string replace -r '^~/' "$HOME/" -- $arguments[2])
-    test -f "$pickle"; and $program types -- $pickle 2>/dev/null </dev/null | cut -f 1,2
+    if not test -f "$pickle"
+        string match -q -- '+*' $pickle; and not test -e "$pickle"; or return
+    end
+    $program types -- $pickle 2>/dev/null </dev/null | cut -f 1,2
 end
 
 # An offset has a number, # and a unit: the units after a number.
@@ -63,9 +74,10 @@ complete -c poke_batch -n '__poke_batch_has 0' -a each -d 'Map a type over many 
 complete -c poke_batch -n '__poke_batch_has 0' -a bound -d 'Print the most steps and slots that a mapping takes'
 complete -c poke_batch -n '__poke_batch_has 0' -a check -d 'Check a pickle and print the number of its types'
 complete -c poke_batch -n '__poke_batch_has 0' -a types -d 'Print the name, the kind and the least width of each type'
+complete -c poke_batch -n '__poke_batch_has 0' -a formats -d 'List the installed pickles'
 complete -c poke_batch -n '__poke_batch_has 0' -a dump -d 'Print the bytes of a file'
 complete -c poke_batch -n '__poke_batch_has 0' -a help -d 'Print the help of the program or of a command'
-complete -c poke_batch -n '__poke_batch_has 1 help' -a 'map each bound check types dump help'
+complete -c poke_batch -n '__poke_batch_has 1 help' -a 'map each bound check types formats dump help'
 
 complete -c poke_batch -n '__poke_batch_is map each' -l at -xa '(__poke_batch_offsets)' -d 'Where the value begins'
 complete -c poke_batch -n '__poke_batch_is map each' -l endian -xa 'big little' -d 'The byte order'
