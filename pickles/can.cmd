@@ -1,1 +1,1 @@
-map can.pk Capture can.pcap
+map --endian little can.pk Capture can.pcap

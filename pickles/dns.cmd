@@ -1,1 +1,1 @@
-map dns.pk Message dns.bin
+map --whole dns.pk Message dns.bin

@@ -1,1 +1,1 @@
-map --endian little ext4.pk Ext4 ext4.img
+map --endian little ext4.pk Device ext4.img

@@ -1,1 +1,1 @@
-map pcap.pk Capture pcap.pcap
+map --endian little pcap.pk Capture pcap.pcap

@@ -246,14 +246,16 @@ fn run_space<S: Space, A: Write, O: Write>(
         let line = kept.line();
         let path = why.path;
         if let Ok(lines) = reasons_in(alloc, pickle, path, table, id, ask, terms, space, line) {
-            put_reasons(why.aside, name, lines.as_slice(), out)?;
+            put_reasons(alloc, why.aside, name, lines.as_slice(), out)?;
         }
     }
     Ok(status)
 }
 
-// Writes the lines that tell why a file ends as it does, behind its name and what `out` has of it.
+// Writes the lines that tell why a file ends as it does, after its name and what `out` has of it. They go to `aside` by one
+// call, so that those of runs side by side don't mix.
 fn put_reasons<A: Write, O: Write>(
+    alloc: Global,
     aside: &mut A,
     name: &[u8],
     lines: &[u8],
@@ -266,10 +268,17 @@ fn put_reasons<A: Write, O: Write>(
         return Err(WriteFault);
     }
     // The file's status is that of its line, whatever becomes of the reasons for it.
-    let _named = put_name(aside, name);
-    let _told = put(aside, b":\n");
-    let _told = put(aside, lines);
+    let mut text = Vec::new(alloc);
+    if gather_reasons(&mut text, name, lines).is_ok() {
+        let _told = put(aside, text.as_slice());
+    }
     Ok(())
+}
+
+fn gather_reasons(text: &mut Vec<u8>, name: &[u8], lines: &[u8]) -> Result<(), WriteFault> {
+    put_name(text, name)?;
+    put(text, b":\n")?;
+    put(text, lines)
 }
 
 fn greater(a: Status, b: Status) -> Status {

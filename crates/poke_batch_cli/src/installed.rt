@@ -60,17 +60,21 @@ pub fn pickles_in<R: Files + AllocGlobal + Clone + Drop>(
         return Err(PickleFault::Read.into());
     };
     for entry in entries {
-        let Ok(entry) = entry else {
-            continue; // a name that isn't UTF-8 is no pickle's
-        };
-        if let Some(name) = entry.file_name().strip_suffix(ENDING) {
-            if is_name(name) {
-                names.push(String::from_str(rt.alloc(), name)?)?;
-            }
+        // a name that isn't UTF-8 is no pickle's
+        if let Ok(entry) = entry {
+            push_pickle(rt.alloc(), &mut names, entry.file_name())?;
         }
     }
     names.sort()?;
     Ok(names)
+}
+
+// Adds the name of a pickle, where a file's name is one.
+fn push_pickle(alloc: Global, names: &mut Vec<String>, file: &str) -> Result<(), AllocError> {
+    match file.strip_suffix(ENDING).filter(|name| is_name(name)) {
+        Some(name) => Ok(names.push(String::from_str(alloc, name)?)?),
+        None => Ok(()),
+    }
 }
 
 /// The path of the pickle of a name in a folder.
@@ -91,37 +95,43 @@ pub fn tell_missing<R: Files + Env + AllocGlobal + Clone + Drop>(
     let Some(name) = name_in(word) else {
         return Ok(());
     };
-    let alloc = rt.alloc();
     let Some(folder) = pickles_folder(rt)? else {
-        text.extend_from_slice(b"  no folder of pickles is known: set POKE_BATCH_PICKLES\n")?;
-        return Ok(());
+        return Ok(text.extend_from_slice(
+            b"  no folder of pickles is known: set POKE_BATCH_PICKLES\n",
+        )?);
     };
-    for part in [
-        "  there is no file ",
-        folder.as_str(),
-        "/",
-        name,
-        ENDING,
-        "\n",
-    ] {
+    tell_place(folder.as_str(), name, text)?;
+    let names = pickles_in(rt, folder.as_str())?;
+    Ok(tell_near(rt.alloc(), name, &names, text)?)
+}
+
+fn tell_place(folder: &str, name: &str, text: &mut Vec<u8>) -> Result<(), AllocError> {
+    for part in ["  there is no file ", folder, "/", name, ENDING, "\n"] {
         text.extend_from_slice(part.as_bytes())?;
     }
-    let names = pickles_in(rt, folder.as_str())?;
+    Ok(())
+}
+
+fn tell_near(
+    alloc: Global,
+    name: &str,
+    names: &[String],
+    text: &mut Vec<u8>,
+) -> Result<(), AllocError> {
     let mut among = Vec::new(alloc);
-    for other in &names {
+    for other in names {
         among.push(other.as_bytes())?;
     }
     match nearest(alloc, name.as_bytes(), among.as_slice())? {
         Some(other) => {
             text.extend_from_slice(b"  is +")?;
             text.extend_from_slice(other)?;
-            text.extend_from_slice(b" meant?\n")?;
+            text.extend_from_slice(b" meant?\n")
         }
         None => text.extend_from_slice(
             b"  `poke_batch formats` lists the pickles that are there\n",
-        )?,
+        ),
     }
-    Ok(())
 }
 
 // The name in a word that names an installed pickle.

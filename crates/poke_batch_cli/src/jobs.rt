@@ -46,7 +46,8 @@ pub fn do_job<
     // What the writer didn't take isn't offered to it again.
     let (_writer, _rest) = out.into_parts();
     reason.clear();
-    if status == Status::Outside {
+    // One line is told: that of what failed first, if it has one.
+    if status == Status::Outside && !err.is_empty() {
         return status;
     }
     fail(err, WriteFault.name().as_bytes())

@@ -16,11 +16,15 @@ use given::given_words;
 use jobs::do_job;
 use poke_batch::status::Status;
 use poke_batch::tell::{answer, fail, refuse};
-use poke_batch::words::{Asked, WordFault, read_asked, read_words};
+use poke_batch::words::{Asked, FileNames, Job, WordFault, read_asked, read_words};
 use poke_batch::write::put;
 use std::alloc::{AllocError, Global};
 use std::io::{IsTerminal, Write};
 use std::process::ExitCode;
+
+/// What is told where standard input is asked for twice.
+const INPUT_TWICE: &str =
+    "error: PICKLE and --files0-from can't both be standard input\n\nFor more information, try '--help'.\n";
 
 /// The line that a job tells on standard error. The longest has 62 bytes.
 pub type Line = ArrayVec<u8, 128>;
@@ -57,7 +61,24 @@ fn read_job(rt: &HostRuntime) -> Result<Asked, WordFault> {
     if words.is_empty() && rt.stdin().is_terminal() {
         show_help(rt.alloc(), &mut rt.stderr())?;
     }
-    read_asked(rt.alloc(), words)
+    let asked = read_asked(rt.alloc(), words)?;
+    if reads_input_twice(&asked.job) {
+        let text = String::from_str(rt.alloc(), INPUT_TWICE)?;
+        return Err(WordFault::Usage(text));
+    }
+    Ok(asked)
+}
+
+// Whether a job asks for two things of standard input, of which the second would find nothing.
+fn reads_input_twice(job: &Job) -> bool {
+    match job {
+        Job::Each {
+            pickle,
+            files: FileNames::EndedByZero(list),
+            ..
+        } => pickle.as_str() == "-" && list.as_str() == "-",
+        _ => false,
+    }
 }
 
 // Shows the short help to somebody at a terminal who gave no words, since the job then waits for a pickle to be typed.

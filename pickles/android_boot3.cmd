@@ -1,0 +1,1 @@
+map --endian little android_boot.pk Boot android_boot3.img

@@ -1,0 +1,1 @@
+map bmp.pk Bmp bmp_4.bmp

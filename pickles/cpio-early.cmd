@@ -1,0 +1,1 @@
+map cpio.pk RamDisk cpio_early.img

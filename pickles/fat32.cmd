@@ -1,0 +1,1 @@
+map --endian little fat.pk Fat fat32.img

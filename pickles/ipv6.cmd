@@ -1,1 +1,0 @@
-map ipv6.pk Capture ipv6.pcap

@@ -1,0 +1,1 @@
+map pcap.pk Capture pcap_big.pcap

@@ -1,0 +1,1 @@
+map --endian little pcap.pk Capture ipv6.pcap

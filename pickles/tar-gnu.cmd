@@ -1,0 +1,1 @@
+map tar.pk Archive tar_gnu.tar

@@ -1,0 +1,1 @@
+map tiff.pk Tiff tiff_tiles.tif

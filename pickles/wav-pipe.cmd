@@ -1,0 +1,1 @@
+map --endian little wav.pk Wav wav_pipe.wav

@@ -1,0 +1,1 @@
+map --endian little zip.pk Zip zip_64.zip
