@@ -1,0 +1,1 @@
+map flac.pk Flac flac.flac

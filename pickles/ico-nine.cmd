@@ -1,0 +1,1 @@
+map --endian little ico.pk Icon ico_nine.ico

@@ -1,0 +1,1 @@
+map iso9660.pk Image iso9660.iso

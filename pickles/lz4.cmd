@@ -1,0 +1,1 @@
+map --endian little lz4.pk Lz4 lz4.lz4

@@ -1,0 +1,1 @@
+map mp4.pk Mp4 mp4.mp4

@@ -1,0 +1,1 @@
+map --endian little ogg.pk Ogg ogg.ogg

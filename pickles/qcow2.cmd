@@ -1,0 +1,1 @@
+map qcow2.pk Qcow2 qcow2.qcow2

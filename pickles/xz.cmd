@@ -1,0 +1,1 @@
+map xz.pk Xz xz.xz

@@ -1,0 +1,1 @@
+map --endian little zstd.pk Zstd zstd.zst
