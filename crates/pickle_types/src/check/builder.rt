@@ -453,6 +453,7 @@ impl<'n> Builder<'n> {
         }
     }
 
+    #[inline(never)]
     #[cycle(types)]
     fn array_at(
         &mut self,
@@ -491,6 +492,7 @@ impl<'n> Builder<'n> {
         )
     }
 
+    #[inline(never)]
     #[cycle(types)]
     fn struct_at(
         &mut self,
@@ -526,6 +528,7 @@ impl<'n> Builder<'n> {
         )
     }
 
+    #[inline(never)]
     #[cycle(types)]
     fn integral_at(
         &mut self,
@@ -566,6 +569,7 @@ impl<'n> Builder<'n> {
         )
     }
 
+    #[inline(never)]
     #[cycle(types)]
     fn union_at(
         &mut self,

@@ -31,7 +31,10 @@ pub struct FieldList {
 }
 
 impl FieldList {
+    // What lists and their places take of the stack stays out of the frames of types in types: these calls are never inlined.
+
     /// No fields, and room for so many.
+    #[inline(never)]
     pub fn with_capacity(alloc: Global, count: usize) -> Result<FieldList, FaultKind>
         ensures none { IfOk result (λ l. l.fields.items ≡ []) }
         ensures list { IfOk result (λ l. (words : List (List ℕ)) → IsFieldList words l) }
@@ -68,6 +71,7 @@ impl FieldList {
     }
 
     /// One more field. No other has its name.
+    #[inline(never)]
     pub fn push<'n>(
         &mut self,
         names: &mut Names<'n>,
