@@ -11,19 +11,19 @@ use std::os::unix::fs::{FileExt, FileTypeExt};
 use std::rt::Files;
 use thiserror::Error;
 
-/// Why a file was not opened as a space. It displays the line that tells it.
+/// Why a file was not opened as a space. It displays the line that reports it.
 #[derive(Clone, Copy, Debug, PartialEq, Eq, Error)]
 #[error("fault {}", self.name())]
 pub enum OpenFault {
-    /// There is no such file, it is not to be read, or it has no length, as a directory, a FIFO, a socket, a terminal or
-    /// another device of characters.
+    /// There is no such file, it can't be read, or it has no length: a directory, a FIFO, a socket, a terminal or another
+    /// character device.
     NotOpened,
     /// It has 2^60 bytes or more.
     TooLong,
 }
 
 impl OpenFault {
-    /// The name by which lines tell it.
+    /// Its name in the printed line.
     pub fn name(self) -> &'static str
         ensures { result.now ≡ open_kind self }
     {
@@ -40,7 +40,7 @@ impl From<io::Error> for OpenFault {
     }
 }
 
-/// A file of the length that it had when it was opened. Nothing is claimed of its bytes.
+/// A file of the length that it had when it was opened. Nothing is promised about its bytes.
 #[derive(Drop)]
 pub struct FileSpace {
     file: File,
@@ -50,15 +50,15 @@ pub struct FileSpace {
 }
 
 impl FileSpace {
-    /// Opens the file at `path` to be read: a regular file, or a device of blocks. Its length, in bytes, is the place of its
-    /// end. A file of any other kind isn't opened, and so a FIFO isn't waited for.
+    /// Opens the file at `path` for reading: a regular file or a block device. Its length, in bytes, is the place of its
+    /// end. A file of any other kind isn't opened, so that a FIFO isn't waited for.
     pub fn open<R: Files<File = File>>(rt: &R, path: &str) -> Result<FileSpace, OpenFault>
         ensures { IfOk result (λ space. ⟦<FileSpace as Space>⟧.view space ≡ unknown space.length 0) }
     {
-        // To open a FIFO is to wait for its writer, so its kind is asked for before.
+        // Opening a FIFO waits for its writer, so the kind is looked up first.
         require_length(fs::metadata(rt, path)?.file_type())?;
         let mut file = File::open(rt, path)?;
-        // Another file may have taken the path meanwhile.
+        // The path may name another file by now.
         require_length(file.metadata()?.file_type())?;
         let length = file.seek(SeekFrom::End(0))?;
         if length < 1 << 60 {
@@ -73,7 +73,7 @@ impl FileSpace {
     }
 }
 
-// Refuses the kinds of files that have no length.
+// Refuses files of a kind that has no length.
 fn require_length(kind: FileType) -> Result<(), OpenFault> {
     if kind.is_file() || kind.is_block_device() {
         Ok(())

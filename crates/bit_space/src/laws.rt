@@ -1,13 +1,13 @@
-//! The laws of numbers with a sign. These functions do nothing: the contract of each is a law.
+//! The laws of signed numbers. These functions do nothing: the contract of each is a law.
 
 ghost use Rattle.bit_space.specs.Laws.{FirstDigitSigns, NegativeStartsWithOne};
 
-/// In two's complement a number is what the digits behind the first come to, less the first at its place.
+/// A number in two's complement is the value of the digits after the first one, minus the first digit at its place.
 pub fn first_digit_signs()
     ensures law { FirstDigitSigns }
 {}
 
-/// A number with a sign is negative exactly where its first digit is 1.
+/// A signed number is negative exactly where its first digit is 1.
 pub fn negative_starts_with_one()
     ensures law { NegativeStartsWithOne }
 {}

@@ -7,7 +7,7 @@ ghost use Rattle.bit_space.specs.SpaceView.{honest, honest_whole};
 use crate::space::{DeviceFault, Space};
 use thiserror::Error;
 
-/// There are 2^60 bytes or more. It displays the line that tells it.
+/// There are 2^60 bytes or more. It displays the line that reports it.
 #[derive(Clone, Copy, Debug, PartialEq, Eq, Error)]
 #[error("fault TooLong")]
 pub struct TooLong;
@@ -20,7 +20,7 @@ pub struct MemSpace {
 }
 
 impl MemSpace {
-    /// The space of these bytes, or `TooLong` for 2^60 bytes or more, which are then dropped.
+    /// The space of these bytes. 2^60 bytes or more are dropped, and the result is `TooLong`.
     pub fn new(bytes: Vec<u8>) -> Result<MemSpace, TooLong>
         ensures ok { IfOk result (λ space. ⟦<MemSpace as Space>⟧.view space ≡ honest bytes.items) }
         ensures err { IsErr result ↔ (2 ^ 60 ≤ length bytes.items) }

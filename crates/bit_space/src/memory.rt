@@ -1,9 +1,9 @@
-//! Want of memory.
+//! Allocation failures.
 
 use std::alloc::AllocError;
 use thiserror::Error;
 
-/// There was no memory. It displays the line that tells it.
+/// An allocation failed. It displays the line that reports it.
 #[derive(Clone, Copy, Debug, PartialEq, Eq, Error)]
 #[error("fault Memory")]
 pub struct Memory;

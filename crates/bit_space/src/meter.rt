@@ -33,7 +33,7 @@ impl Meter {
         }
     }
 
-    /// Takes a step, or says that none is left and changes nothing.
+    /// Takes a step. Where none is left it returns `LimitPassed` and changes nothing.
     pub fn tick(&mut self) -> Result<(), LimitPassed>
         ensures limit { self.new.limit ≡ self.old.limit }
         ensures made { self.new.made ≡ self.old.made }
@@ -48,7 +48,7 @@ impl Meter {
         Ok(())
     }
 
-    /// Notes a value that was made. Each takes a step of its own, before it is noted.
+    /// Counts a value that was made. Each value takes a step of its own, before it is counted.
     pub fn note_made(&mut self)
         requires { self.old.made < self.old.steps }
         ensures limit { self.new.limit ≡ self.old.limit }

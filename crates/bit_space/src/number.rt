@@ -42,15 +42,14 @@ impl From<LimitPassed> for BitFault {
     }
 }
 
-/// The most bytes that 64 bits can lie in.
+/// The most bytes over which 64 bits can extend.
 const WINDOW: usize = 9;
 
-/// Reads the number, without a sign, of the `width` bits from bit `pos` on, 1 to 64 of them.
+/// Reads the unsigned number of the `width` bits from bit `pos` on, 1 to 64 of them.
 ///
-/// It takes one step first, and is refused with `Limit` exactly where none is left. It then is
-/// refused with `End` exactly where the bits are not all inside the space. Else it reads their
-/// bytes by one call of `read_at`, and is refused with `Device` only where the space's count of
-/// failures rose.
+/// The call takes one step first. It returns `Limit` exactly where no step is left, and then `End`
+/// exactly where the bits are not all inside the space. Otherwise it reads their bytes by one call
+/// of `read_at`, and returns `Device` only where the space's count of failures rose.
 #[inline]
 pub fn read_number<S: Space>(
     space: &mut S,
@@ -81,7 +80,7 @@ pub fn read_number<S: Space>(
     Ok(read_bits(space, pos, width, order)?)
 }
 
-// Reads the number of the 8 bits of one byte, which is that byte in either order.
+// Reads the number of the 8 bits of one byte, which is that byte in either byte order.
 #[inline(always)]
 fn read_byte<S: Space>(space: &mut S, pos: u64) -> Result<u64, DeviceFault>
     requires whole { pos % 8 ≡ 0 }
@@ -95,7 +94,7 @@ fn read_byte<S: Space>(space: &mut S, pos: u64) -> Result<u64, DeviceFault>
     Ok(u64::from(byte[0]))
 }
 
-// Reads the number of bits that are inside the space. Whole bytes have windows of a size that is known beforehand.
+// Reads the number of bits that are inside the space. For whole bytes the size of the window is known at compile time.
 #[inline(never)]
 fn read_bits<S: Space>(space: &mut S, pos: u64, width: u8, order: Order) -> Result<u64, DeviceFault>
     requires some { 0 < width }
@@ -120,7 +119,7 @@ fn read_bits<S: Space>(space: &mut S, pos: u64, width: u8, order: Order) -> Resu
     read_window(space, pos, width, order, &mut bytes[..count])
 }
 
-// Reads the number of bits that lie in a window's bytes, which are read by one call.
+// Reads the number of bits in the bytes of a window, which are read by one call.
 #[inline(always)]
 fn read_window<S: Space>(
     space: &mut S,
@@ -180,7 +179,7 @@ fn cut_out(window: &[u8], lead: usize, width: usize) -> u64
     (join(window) >> behind) & (mask as u64)
 }
 
-// As `cut_out`, with a window of nine bytes, which are rarely needed.
+// The same as `cut_out` for a window of nine bytes, which is rarely needed.
 #[inline(never)]
 fn cut_out_wide(window: &[u8], lead: usize, width: usize) -> u64
     requires window { length window.now ≡ 9 }
@@ -193,7 +192,7 @@ fn cut_out_wide(window: &[u8], lead: usize, width: usize) -> u64
     ((join_wide(window) >> behind) & mask) as u64
 }
 
-// The number in an order of the bits whose numeral is `cut`.
+// The number, in a byte order, of the bits whose numeral is `cut`.
 fn in_order(cut: u64, width: u8, order: Order) -> u64
     requires some { 0 < width }
     requires most { width ≤ 64 }
@@ -206,7 +205,7 @@ fn in_order(cut: u64, width: u8, order: Order) -> u64
     }
 }
 
-// The number in little order of the bits whose numeral is `cut`: the last group is the most
+// The little-endian number of the bits whose numeral is `cut`. The last group is the most
 // significant, and the groups before it follow, the nearest first.
 fn turn(cut: u64, width: u8) -> u64
     requires some { 0 < width }

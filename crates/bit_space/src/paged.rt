@@ -14,11 +14,11 @@ use std::num::NonZeroUsize;
 /// The bytes of a page.
 const PAGE: u64 = 4096;
 
-/// How many pages are kept.
+/// How many pages are cached.
 const PAGES: usize = 16;
 
-/// A space whose pages are kept as they are read: up to 16 pages of 4,096 bytes, of which the
-/// least recently used is given up first. A page for which there is no memory is read each time.
+/// A space whose pages are cached as they are read: up to 16 pages of 4,096 bytes, of which the
+/// least recently used is dropped first. A page for which an allocation fails is read each time.
 ///
 /// It has the length and the bytes of the space under it, and fails only where that one fails.
 #[derive(Drop)]
@@ -37,7 +37,7 @@ impl<S: Space> Model for Paged<S> {
 }
 
 impl<S: Space + Drop> Paged<S> {
-    /// Puts a cache over a space, or drops it where there is no memory for the cache.
+    /// Puts a cache over a space. Where the allocation of the cache fails, the space is dropped.
     pub fn new(alloc: Global, inner: S) -> Result<Paged<S>, Memory>
         ensures { IfOk result (λ paged. paged ≡ inner) }
     {
@@ -76,7 +76,7 @@ impl<S: Space> Paged<S> {
         self.read_older(at, into)
     }
 
-    // Reads bytes of one page, which then is the newest where there is memory for it.
+    // Reads bytes of one page. The page is the newest afterwards, where there is memory for it.
     #[inline(never)]
     fn read_older(&mut self, at: u64, into: &mut [u8]) -> Result<(), DeviceFault>
         requires inside { at + length into.old ≤ (S.view self.old).len }
@@ -102,7 +102,7 @@ impl<S: Space> Paged<S> {
         }
     }
 
-    // Reads bytes of several pages, one page after the other.
+    // Reads bytes of several pages, one page after another.
     #[inline(never)]
     fn read_across(&mut self, at: u64, into: &mut [u8]) -> Result<(), DeviceFault>
         requires { at + length into.old ≤ (S.view self.old).len }
@@ -131,7 +131,7 @@ fn copy_part(content: &[u8], offset: usize, into: &mut [u8])
     into.copy_from_slice(&content[offset..offset + into.len()]);
 }
 
-// Reads a page, or says that there is no memory for it.
+// Reads a page. `None` says that there is no memory for it.
 fn load<S: Space>(alloc: Global, inner: &mut S, page: u64) -> Result<Option<Vec<u8>>, DeviceFault>
     requires { 4096 * page ≤ (S.view inner.old).len }
     ensures keeps { Keeps (S.view inner.old) (S.view inner.new) }

@@ -5,15 +5,15 @@ ghost use Rattle.bit_space.specs.SpaceView.{SpaceView, GivesRange, HasRisen, IsW
 
 use thiserror::Error;
 
-/// A read failed. It displays the line that tells it.
+/// A read failed. It displays the line that reports it.
 #[derive(Clone, Copy, Debug, PartialEq, Eq, Error)]
 #[error("fault Device")]
 pub struct DeviceFault;
 
 /// A run of bytes that are read at their positions.
 ///
-/// A space that is honest has bytes that are known: each read gives those, also after one that
-/// failed. Nothing is said of what any other space gives.
+/// The bytes of an honest space are known: each read returns those, also after a read that failed.
+/// Nothing is promised of the bytes that any other space returns.
 pub trait Space {
     /// What callers see of the space.
     ghost view: { Self → SpaceView };
@@ -23,7 +23,7 @@ pub trait Space {
         ensures { result ≡ (view self.now).len };
 
     /// Reads the bytes from byte `at` on, as many as `into` has. It fails only where the space's
-    /// count of failures rises, and then says nothing of what `into` holds.
+    /// count of failures rises. After a failure the content of `into` is unknown.
     fn read_at(&mut self, at: u64, into: &mut [u8]) -> Result<(), DeviceFault>
         requires { at + length into.old ≤ (view self.old).len }
         ensures keeps { Keeps (view self.old) (view self.new) }
@@ -33,6 +33,6 @@ pub trait Space {
     /// A space is shorter than 2^60 bytes.
     ghost short: { (s : Self) → (view s).len < 2 ^ 60 };
 
-    /// Where the bytes are known, there are as many as the length says.
+    /// Where the bytes are known, their number is the length.
     ghost whole: { (s : Self) → IsWhole (view s) };
 }

@@ -13,7 +13,7 @@ pub fn memory(alloc: Global, bytes: &[u8]) -> Option<MemSpace> {
     MemSpace::new(bytes).ok()
 }
 
-/// A space in memory of the bytes 0 to 250, again and again.
+/// A space in memory of the bytes 0 to 250, repeated.
 pub fn numbered(alloc: Global, length: usize) -> Option<MemSpace> {
     let mut bytes = Vec::with_capacity(alloc, length).ok()?;
     for at in 0..length {
@@ -22,7 +22,7 @@ pub fn numbered(alloc: Global, length: usize) -> Option<MemSpace> {
     MemSpace::new(bytes).ok()
 }
 
-/// Reads a number, which is to be as wanted.
+/// Reads a number and compares it with the expected one.
 pub fn reads<S: Space>(
     rt: &impl Abort,
     space: &mut S,
@@ -70,7 +70,7 @@ impl<S: Space> Space for Counted<S> {
     }
 }
 
-/// A space that fails at its n-th read, and at no other.
+/// A space that fails at its n-th read and at no other.
 #[derive(Drop)]
 pub struct Failing<S> {
     inner: S,
@@ -115,7 +115,7 @@ impl<S: Space> Space for Failing<S> {
     }
 }
 
-/// A space whose bytes are 1 at the first reading, 2 at the second, and so on.
+/// A space whose bytes are 1 at the first read, 2 at the second, and so on.
 #[derive(Drop)]
 pub struct Shifting {
     length: u64,

@@ -26,8 +26,8 @@ use std::alloc::{AllocError, Global};
 /// The most bytes that a pickle may have.
 const MOST_BYTES: usize = 1_048_576;
 
-/// The tokens of a pickle in order, and for each its span: the places of its first byte and after its last. There are no more of
-/// them than a pickle may have bytes.
+/// The tokens of a pickle in order, and the span of each: the places of its first byte and after its last. There are no
+/// more of them than a pickle may have bytes.
 #[derive(Drop)]
 pub struct Tokens<'t> {
     kinds: Vec<Kind<'t>>,
@@ -51,7 +51,8 @@ impl<'t> Tokens<'t> {
         self.kinds.as_slice()
     }
 
-    /// The place of the first byte of token `i`, counted from 0, and the place after its last; none past the last token.
+    /// The place of the first byte of token `i`, counted from 0, and the place after its last byte. Past the last token
+    /// it is none.
     pub fn span(&self, i: usize) -> Option<(usize, usize)>
         ensures there { IsSome result ↔ (i < length self.now.kinds.items) }
         ensures value { IfSome result (λ s. s ≡ slice_index_or self.now.spans.items i s) }
@@ -61,7 +62,7 @@ impl<'t> Tokens<'t> {
     }
 }
 
-/// Keeps the token of a piece, and its span.
+/// Stores the token of a piece, and its span.
 fn keep<'t>(
     kinds: &mut Vec<Kind<'t>>,
     spans: &mut Vec<(u32, u32)>,
@@ -100,7 +101,7 @@ fn tokens_from(alloc: Global, bytes: &[u8]) -> Result<Tokens<'_>, LexFault>
     Ok(Tokens { kinds, spans })
 }
 
-/// The tokens, or the first fault; more than 1,048,576 bytes are too long.
+/// The tokens, or the first fault. More than 1,048,576 bytes are too long.
 #[tactic(auto, unfolding(crate::specs::Lexing::lexed))]
 fn cut(alloc: Global, bytes: &[u8]) -> Result<Tokens<'_>, LexFault>
     ensures { Gives (λ t. (tokens_of t.kinds.items, t.spans.items)) result (lexed bytes.now) }

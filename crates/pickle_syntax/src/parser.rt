@@ -25,7 +25,7 @@ use crate::parser::pickle::pickle_at;
 use crate::tree::Pickle;
 use std::alloc::Global;
 
-/// The fault of a reading that stopped, over so many tokens.
+/// The fault of a reading that stopped, over that many tokens.
 fn fault_of(stop: Stop, count: usize) -> ParseFault
     ensures { result ≡ fault_of stop count }
 {
@@ -37,13 +37,13 @@ fn fault_of(stop: Stop, count: usize) -> ParseFault
     }
 }
 
-/// The pickle that the tokens are: declarations whose tree shows these tokens, each operand binding as tightly as its
-/// place asks, and within the limits of 64 levels of an expression (brackets counted), 64 levels of types in one another,
-/// 1,024 fields of a struct or union and 4,096 declarations, which the pickle keeps by its type.
+/// The pickle that the tokens are: declarations whose tree shows these tokens. Each operand binds as tightly as its
+/// place requires. The limits are 64 levels of an expression (brackets counted), 64 levels of types in one another,
+/// 1,024 fields of a struct or union and 4,096 declarations; the type of the pickle guarantees them.
 ///
-/// `Syntax`, `TooDeep` and `TooMany` come only where the tokens are no pickle, and each only where the reading of the tokens stops
-/// for that reason. `Syntax` names the token at which it stops, with which no pickle goes on (`no_pickle_goes_on`), or the tokens'
-/// number where they end too early.
+/// `Syntax`, `TooDeep` and `TooMany` are returned only where the tokens are no pickle, and each only where the reading
+/// of the tokens stops for that reason. `Syntax` names the token at which it stops and with which no pickle goes on
+/// (`no_pickle_goes_on`). Where the tokens end too early, it names their number.
 pub fn parse<'t>(alloc: Global, tokens: &Tokens<'t>) -> Result<Pickle<'t>, ParseFault>
     ensures found { IfOk result (λ p. IsPickleOf (tokens_of tokens.now.kinds.items) (pickle_tree p)) }
     ensures refused { IfErr result (λ f. f ≢ Memory → IsPickle (tokens_of tokens.now.kinds.items) → ⊥) }
@@ -69,8 +69,8 @@ pub fn one_tree()
     ensures { AreShownOnce IsPickleWellBracketed show_pickle }
 {}
 
-/// Where `Syntax` names a token, with anything else behind it that token is named too: so no pickle begins with the tokens up to it
-/// and with it.
+/// Where `Syntax` names a token, it names that token whatever comes after it. No pickle therefore begins with the
+/// tokens up to it and with it.
 pub fn no_pickle_goes_on()
     ensures same { (front rest more : List Token) (token : Token) → TellsToken front token rest → TellsToken front token more }
     ensures none { (front rest more : List Token) (token : Token) → TellsToken front token rest → IsPickle (front ++ token ∷ more) → ⊥ }

@@ -16,7 +16,7 @@ pub enum Word {
     String,
 }
 
-/// What opens a type that has a size or a unit.
+/// The opener of a type that has a size or a unit.
 #[derive(Clone, Copy, PartialEq, Eq, Debug)]
 pub enum Opener {
     /// `int<`

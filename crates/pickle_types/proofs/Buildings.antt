@@ -24,8 +24,10 @@ use Rattle.pickle_types.specs.Scopes.{Visible}
 use Rattle.pickle_types.specs.Names.{Names}
 use Rattle.pickle_types.specs.Expressions.{◌>>=◌, integer_referred}
 use Rattle.pickle_types.specs.Meaning.{plain, offset_type, integer_expression, offset_expression, bound_expression, fresh, bit_width, has_some, may_stand, if_here, place_in, struct_place, parts_of, total_width, integral_type, if_some_alternative, after_field, with_itself, FieldMeaning, field_meaning, field_then, meaning, fields_meaning}
-use Rattle.pickle_types.specs.Built.{Fails, bytes_now, view_of, views_of, IsInLevel, AreNamed, AreBelow, names_in, part_of}
+use Rattle.pickle_types.specs.Built.{Fails, types_in, words_in, bytes_now, view_of, views_of, IsInLevel, AreNamed, AreBelow, names_in, part_of}
 use Rattle.pickle_types.specs.Building.{visible_in, after_itself, Keeps, IsBuilt, Builds, IsFieldBuilt, AreBuilt, with_front, FieldsSoFar}
+use Rattle.pickle_types.specs.Numbers.{Extends}
+use Rattle.pickle_types.proofs.Numbered.{extends_none, extends_on}
 use Rattle.pickle_types.proofs.Growth.{push_table, push_type, type_kept, longer}
 use Rattle.pickle_types.proofs.Meanings.{parts_depth_is}
 use Rattle.pickle_types.proofs.Tables.{fields_same}
@@ -39,14 +41,15 @@ pub pushed : (old new : Builder) (node : Node) → IsTable old.nodes → AreName
 pushed old new node table named below sound is same seen d at deep low last few =
     let grows : Grows old.nodes new.nodes = record { more = node ∷ []; is = is } in
     let longer = length-append old.nodes (node ∷ []) in
-    let known = names_kept old.nodes new.nodes table grows old.names named in
-    let still = named_kept old.nodes new.nodes table grows (map (λ d. d.declared) old.names) named in
+    let known = names_kept old.nodes new.nodes table grows (types_in old.names) named in
+    let still = named_kept old.nodes new.nodes table grows (map (λ d. d.declared) (types_in old.names)) named in
     record {
       keeps = record {
         grows = grows;
         table = rw is (push_table old.nodes table node below sound (omega arith) (omega arith));
         named = rw same still;
         known = rw same known;
+        numbers = rw same (extends_none (words_in old.names));
       };
       seen = seen;
       inside = rw is (omega arith);
@@ -96,7 +99,7 @@ module _ (names : Names) (seen : List Visible) (levels : ℕ) (title : Option (L
   meaning_union (suc room) alternatives some = let e : suc room - 1 ≡ room = omega arith in rw e refl
 
 pub keeps_on : (a b c : Builder) → Keeps a b → Keeps b c → Keeps a c
-keeps_on a b c g h = record { grows = grows_on a.nodes b.nodes c.nodes g.grows h.grows; table = h.table; named = h.named; known = h.known ∙ g.known }
+keeps_on a b c g h = record { grows = grows_on a.nodes b.nodes c.nodes g.grows h.grows; table = h.table; named = h.named; known = h.known ∙ g.known; numbers = extends_on g.numbers h.numbers }
 
 -- what is built on a table that had grown
 pub built_on : (a b c : Builder) (found : Found) (t : PokeType) → Keeps a b → b.seen ≡ a.seen → IsBuilt b c found t → IsBuilt a c found t
@@ -263,7 +266,7 @@ pub field_built : (old new : Builder) (s : Seen) (here : Place) (index : ℕ) (p
     (record { type = type_of old.nodes s.node; constraint = optional_term field.constraint; label = optional_term field.label; condition = optional_term field.condition })
 field_built old new s here index parts field table named below inside names nodes seen en ep node name order =
     record {
-      keeps = record { grows = record { more = []; is = nodes ∙ sym (append-nil _) }; table = rw nodes table; named = rw (names, nodes) named; known = rw (names, nodes) refl };
+      keeps = record { grows = record { more = []; is = nodes ∙ sym (append-nil _) }; table = rw nodes table; named = rw (names, nodes) named; known = rw (names, nodes) refl; numbers = rw names (extends_none (words_in old.names)) };
       inside = rw (nodes, node) inside;
       name = name;
       type = rw (nodes, node) refl;
@@ -305,7 +308,7 @@ kept_on mark xs ys zs e n k =
 pub so_far_none : (b : Builder) (fields : List Field) (whole : Result Fields FaultKind) → IsTable b.nodes → AreNamed b.nodes b.names → fields ≡ [] → FieldsSoFar b b fields 0 whole whole
 unfolding fields_depth
 so_far_none b fields whole table named none = rw none (record {
-  keeps = record { grows = record { more = []; is = sym (append-nil _) }; table = table; named = named; known = refl };
+  keeps = record { grows = record { more = []; is = sym (append-nil _) }; table = table; named = named; known = refl; numbers = extends_none (words_in b.names) };
   below = λ k d lt. absurd (omega arith);
   given = front_none (type_of b.nodes) whole;
   deep = refl;
@@ -355,10 +358,29 @@ all_built a b c fields deepest whole rest h none names nodes seen =
       open_fields (type_of b.nodes) fields,
       h.given ∙ ap (with_front (fields_onto (type_of b.nodes) fields)) none,
       record {
-        keeps = record { grows = rw nodes k.grows; table = rw nodes k.table; named = rw (nodes, names) k.named; known = rw (nodes, names) k.known };
+        keeps = record { grows = rw nodes k.grows; table = rw nodes k.table; named = rw (nodes, names) k.named; known = rw (nodes, names) k.known; numbers = rw names k.numbers };
         seen = seen;
         below = rw nodes h.below;
         opened = rw nodes refl;
         deep = h.deep;
       },
     )
+
+-- names got numbers, and nothing else changed
+pub keeps_numbers : (b c : Builder) → IsTable b.nodes → AreNamed b.nodes b.names → c.nodes ≡ b.nodes → types_in c.names ≡ types_in b.names → Extends (words_in b.names) (words_in c.names) → Keeps b c
+keeps_numbers b c table named nodes types more = record {
+  grows = record { more = []; is = nodes ∙ sym (append-nil _) };
+  table = rw nodes table;
+  named = rw (types, nodes) named;
+  known = rw (types, nodes) refl;
+  numbers = more;
+}
+
+pub so_far_numbered : (a b c : Builder) (fields : List Field) (deepest : ℕ) (whole rest : Result Fields FaultKind) → FieldsSoFar a b fields deepest whole rest →
+    c.nodes ≡ b.nodes → types_in c.names ≡ types_in b.names → Extends (words_in b.names) (words_in c.names) → FieldsSoFar a c fields deepest whole rest
+so_far_numbered a b c fields deepest whole rest h nodes types more = record {
+  keeps = keeps_on a b c h.keeps (keeps_numbers b c h.keeps.table h.keeps.named nodes types more);
+  below = rw nodes h.below;
+  given = rw nodes h.given;
+  deep = rw nodes h.deep;
+}

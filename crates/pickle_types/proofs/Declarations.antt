@@ -16,7 +16,7 @@ use Rattle.pickle_types.specs.Types.{PokeType, IntegerOf}
 use Rattle.pickle_types.specs.Table.{type_of, IsWidth}
 use Rattle.pickle_types.specs.Names.{Names, find_type}
 use Rattle.pickle_types.specs.Meaning.{unless_declared, meaning, declared_type, declared}
-use Rattle.pickle_types.specs.Built.{Fails, named_of, IsNamed, IsFound, AddsName}
+use Rattle.pickle_types.specs.Built.{Fails, types_in, named_of, IsNamed, IsFound, AddsName}
 use Rattle.pickle_types.specs.Building.{known_types, IsReady, is_unknown, may_add}
 use Rattle.pickle_types.proofs.Steps.{fails_bind}
 
@@ -25,18 +25,18 @@ pub record IsAdded (old new : Builder) (word : List ℕ) (node : ℕ) : Type 0 w
   pub known : known_types new ≡ known_types old ++ (word, type_of old.nodes node) ∷ []
 
 -- one more name
-pub added : (old new : Builder) (word : List ℕ) (d : Declared) → IsReady old → AddsName old.names new.names word d →
+pub added : (old new : Builder) (word : List ℕ) (d : Declared) → IsReady old → AddsName (types_in old.names) (types_in new.names) word d →
     new.nodes ≡ old.nodes → new.seen ≡ old.seen → IsNamed old.nodes d → IsAdded old new word d.node
 added old new word d ready adds nodes seen named =
     let one : Named = record { word = adds.name; declared = d } in
-    let values = map_push (λ (x : Named). x.declared) old.names one in
+    let values = map_push (λ (x : Named). x.declared) (types_in old.names) one in
     record {
       ready = record {
         table = rw nodes ready.table;
-        named = rw (nodes, adds.names, values) (All-append (IsNamed old.nodes) (map (λ (x : Named). x.declared) old.names) (d ∷ []) ready.named (λ k e lt. let z : k ≡ 0 = omega arith in rw z named));
+        named = rw (nodes, adds.names, values) (All-append (IsNamed old.nodes) (map (λ (x : Named). x.declared) (types_in old.names)) (d ∷ []) ready.named (λ k e lt. let z : k ≡ 0 = omega arith in rw z named));
         none = seen ∙ ready.none;
       };
-      known = rw (nodes, adds.names) (map_push (named_of old.nodes) old.names one ∙ rw adds.bytes refl);
+      known = rw (nodes, adds.names) (map_push (named_of old.nodes) (types_in old.names) one ∙ rw adds.bytes refl);
     }
 
 pub declared_twice : (nodes : List Node) (o : Option Declared) (found : Option PokeType) → IsFound nodes o found → is_some o ≡ true → unless_declared found ≡ Err DuplicateType

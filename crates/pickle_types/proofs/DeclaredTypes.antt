@@ -6,7 +6,7 @@ use Rattle.std.proofs.lemmas.Option.{slice_get-get_or}
 use Rattle.std.proofs.lemmas.Simd.{map-map}
 use Rattle.pickle_types.specs.Types.{PokeType}
 use Rattle.pickle_types.specs.Table.{type_of, open_shape, IsTable}
-use Rattle.pickle_types.specs.Built.{IsNamed, AreNamed}
+use Rattle.pickle_types.specs.Built.{IsNamed, AreListed}
 use Rattle.pickle_types.specs.declared.declared_types.TypeKind.{TypeKind}
 use Rattle.pickle_types.specs.declared.names.Named.{Named}
 use Rattle.pickle_types.specs.declared.node.Node.{Node}
@@ -35,7 +35,7 @@ pub told_same : (a b : List ℕ) (k l : TypeKind) (v w : Option ℕ) → a ≡ b
 told_same a b k l v w e f g = ap (λ name. row name k v) e ∙ ap (λ kind. row b kind v) f ∙ ap (row b l) g
 
 -- the node of a name is one of the table
-pub named_inside : (nodes : List Node) (names : List Named) (i : ℕ) (named : Named) → AreNamed nodes names → i < length names → named ≡ get_or names i named → named.declared.node < length nodes
+pub named_inside : (nodes : List Node) (names : List Named) (i : ℕ) (named : Named) → AreListed nodes names → i < length names → named ≡ get_or names i named → named.declared.node < length nodes
 named_inside nodes names i named all lt e =
     let e' : get_or (map (λ (d : Named). d.declared) names) i named.declared ≡ named.declared = get_or-map (λ (d : Named). d.declared) names i named named.declared lt ∙ ap (λ (d : Named). d.declared) (sym e) in
     let within = length-map names (λ (d : Named). d.declared) in

@@ -16,6 +16,10 @@ pub mod IllTyped
 pub mod Places
 pub mod Scattered
 pub mod Placed
+pub mod Numbered
+pub mod Named
+pub mod Lists
+pub mod Listed
 pub mod Items
 pub mod Indexed
 pub mod Selections

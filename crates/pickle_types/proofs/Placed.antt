@@ -22,11 +22,11 @@ module _ (word : List ℕ) where
   placed_is [] = refl
   placed_is (n ∷ names) = some_here (is_named n word) _ (place_named word names) (placed_is names)
 
-  place_other : (names : List (Option (List ℕ))) (n : Option (List ℕ)) → is_named n word ≡ false → place_named word (names ++ n ∷ []) ≡ place_named word names
+  pub place_other : (names : List (Option (List ℕ))) (n : Option (List ℕ)) → is_named n word ≡ false → place_named word (names ++ n ∷ []) ≡ place_named word names
   place_other [] n e = rw e refl
   place_other (m ∷ names) n e = ap (λ o. if is_named m word then Some 0 else option_map suc o) (place_other names n e)
 
-  place_new : (names : List (Option (List ℕ))) (n : Option (List ℕ)) → is_named n word ≡ true → has_name word names ≡ false → place_named word (names ++ n ∷ []) ≡ Some (length names)
+  pub place_new : (names : List (Option (List ℕ))) (n : Option (List ℕ)) → is_named n word ≡ true → has_name word names ≡ false → place_named word (names ++ n ∷ []) ≡ Some (length names)
   place_new [] n e h = rw e refl
   place_new (m ∷ names) n e h =
       let p = or_parts (is_named m word) (has_name word names) h in
@@ -42,7 +42,7 @@ fresh_apart name names e word same = rw (← (bytes_decides name word).0 same) (
     by true found = cc (rw found at e)
     by false found = found
 
-apart : (n : Option (List ℕ)) (names : List (Option (List ℕ))) → fresh n names ≡ Ok tt → (word : List ℕ) → is_named n word ≡ true → has_name word names ≡ false
+pub apart : (n : Option (List ℕ)) (names : List (Option (List ℕ))) → fresh n names ≡ Ok tt → (word : List ℕ) → is_named n word ≡ true → has_name word names ≡ false
 apart None names e word same = cc
 apart (Some name) names e word same = fresh_apart name names e word same
 
@@ -55,10 +55,14 @@ placed_new names n old new h other put = record { kept = λ word. put word ∙ b
     by word true e = sym (place_new word names n e (other word e))
     by word false e = h.kept word ∙ sym (place_other word names n e)
 
--- one more field, whose name no other has
-pub placed_more : (names : List (Option (List ℕ))) (n : Option (List ℕ)) (old new : PlacesByName) → ArePlaced names old → fresh n names ≡ Ok tt →
-    ((word : List ℕ) → place_at new word ≡ (if is_named n word then Some (length names) else place_at old word)) → ArePlaced (names ++ n ∷ []) new
-placed_more names n old new h new_name = placed_new names n old new h (apart n names new_name)
+-- the place of a name among names, of which the last is none of the others
+pub placed_last : (names : List (Option (List ℕ))) (n : Option (List ℕ)) → ((word : List ℕ) → is_named n word ≡ true → has_name word names ≡ false) →
+    (word : List ℕ) → place_named word (names ++ n ∷ []) ≡ (if is_named n word then Some (length names) else place_named word names)
+placed_last names n other word = by (is_named n word) refl
+  where
+    by : (b : Bool) → is_named n word ≡ b → place_named word (names ++ n ∷ []) ≡ (if b then Some (length names) else place_named word names)
+    by true e = place_new word names n e (other word e)
+    by false e = place_other word names n e
 
 -- a place among the names behind the first i
 abbrev pub behind : ℕ → Option ℕ → Option ℕ

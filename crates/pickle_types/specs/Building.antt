@@ -8,6 +8,7 @@ use Rattle.pickle_types.specs.declared.node.Field.{Field}
 use Rattle.pickle_types.specs.declared.scopes.Seen.{Seen}
 use Rattle.pickle_types.specs.declared.check.places.Place.{Place}
 use Rattle.pickle_types.specs.declared.check.places.Place.TheVariants as place
+use Rattle.pickle_types.specs.declared.check.field_list.FieldList.{FieldList}
 use Rattle.pickle_types.specs.declared.check.builder.Builder.{Builder}
 use Rattle.pickle_types.specs.declared.check.builder.Found.{Found}
 use Rattle.pickle_types.specs.Types.{PokeType, IntegerOf, Fields, depth, fields_depth}
@@ -15,7 +16,8 @@ use Rattle.pickle_types.specs.Table.{name_of, type_of, fields_onto, open_fields,
 use Rattle.pickle_types.specs.Scopes.{Visible}
 use Rattle.pickle_types.specs.Names.{Names, find_type}
 use Rattle.pickle_types.specs.Meaning.{after_field, with_itself, FieldMeaning, field_then}
-use Rattle.pickle_types.specs.Built.{Fails, names_of, views_of, AreNamed, AreBelow}
+use Rattle.pickle_types.specs.Built.{Fails, names_of, words_in, views_of, AreNamed, AreBelow}
+use Rattle.pickle_types.specs.Numbers.{Extends}
 
 -- the types that have names
 abbrev pub known_types : Builder → Names
@@ -46,6 +48,7 @@ pub record Keeps (old new : Builder) : Type 0 where
   pub table : IsTable new.nodes
   pub named : AreNamed new.nodes new.names
   pub known : known_types new ≡ known_types old
+  pub numbers : Extends (words_in old.names) (words_in new.names)
 
 -- a node of a table that grew has a type
 pub record IsBuilt (old new : Builder) (found : Found) (t : PokeType) : Type 0 where
@@ -87,8 +90,8 @@ pub record AreBuilt (old new : Builder) (fields : List Field) (deepest : ℕ) (f
   pub opened : open_fields (type_of new.nodes) fields ≡ fs
   pub deep : deepest ≡ fields_depth fs
 
-abbrev pub FieldsBuild : Builder → Builder → Result (List Field × ℕ) FaultKind → Result Fields FaultKind → Type 0
-FieldsBuild old new (Ok x) given = (fs : Fields) × (given ≡ Ok fs) × AreBuilt old new x.0 x.1 fs
+abbrev pub FieldsBuild : Builder → Builder → Result (FieldList × ℕ) FaultKind → Result Fields FaultKind → Type 0
+FieldsBuild old new (Ok x) given = (fs : Fields) × (given ≡ Ok fs) × AreBuilt old new x.0.fields.items x.1 fs
 FieldsBuild old new (Err e) given = Fails e given
 
 abbrev pub with_front : (Fields → Fields) → Result Fields FaultKind → Result Fields FaultKind

@@ -56,12 +56,21 @@ AreBelow n levels seen = All (IsInLevel n levels) seen
 abbrev pub named_of : List Node → Named → List ℕ × PokeType
 named_of nodes d = (d.word.items, type_of nodes d.declared.node)
 
-abbrev pub names_of : List Node → List Named → Names
-names_of nodes names = map (named_of nodes) names
+abbrev pub listed_of : List Node → List Named → Names
+listed_of nodes list = map (named_of nodes) list
 
--- the names alone
-abbrev pub words_of : List Named → List (Option (List ℕ))
-words_of = map (λ d. Some d.word.items)
+-- the types that have names, and the names that have numbers
+abbrev pub Known : Type 0
+Known = List Named × List (List ℕ)
+
+abbrev pub types_in : Known → List Named
+types_in known = known.0
+
+abbrev pub words_in : Known → List (List ℕ)
+words_in known = known.1
+
+abbrev pub names_of : List Node → Known → Names
+names_of nodes known = listed_of nodes (types_in known)
 
 -- what the first of some names that is the word was given to
 abbrev pub declared_as : List ℕ → List Named → Option Declared
@@ -73,8 +82,11 @@ pub record IsNamed (nodes : List Node) (d : Declared) : Type 0 where
   pub inside : d.node < length nodes
   pub deep : d.depth ≡ depth (type_of nodes d.node)
 
-abbrev pub AreNamed : List Node → List Named → Type 0
-AreNamed nodes names = All (IsNamed nodes) (map (λ d. d.declared) names)
+abbrev pub AreListed : List Node → List Named → Type 0
+AreListed nodes list = All (IsNamed nodes) (map (λ d. d.declared) list)
+
+abbrev pub AreNamed : List Node → Known → Type 0
+AreNamed nodes known = AreListed nodes (types_in known)
 
 abbrev pub IsFound : List Node → Option Declared → Option PokeType → Type 0
 IsFound nodes None found = found ≡ None

@@ -6,9 +6,9 @@ use Rattle.pickle_types.specs.declared.node.Field.{Field}
 use Rattle.pickle_types.specs.declared.node.Node.{Node}
 use Rattle.pickle_types.specs.declared.node.Part.{Part}
 use Rattle.pickle_types.specs.declared.node.Shape.{Shape}
-use Rattle.pickle_types.specs.declared.names.Named.{Named}
 use Rattle.pickle_types.specs.declared.scopes.Seen.{Seen}
 use Rattle.pickle_types.specs.declared.check.places.Place.{Place}
+use Rattle.pickle_types.specs.declared.check.field_list.FieldList.{FieldList}
 use Rattle.pickle_types.specs.declared.check.builder.Builder.{Builder}
 use Rattle.pickle_types.specs.declared.check.builder.Found.{Found}
 use Rattle.pickle_types.specs.declared.check.builder.Title.{Title}
@@ -16,7 +16,7 @@ use Rattle.pickle_types.specs.Types.{Term, PokeType}
 use Rattle.pickle_types.specs.Table.{open_shape, open_fields, open_parts}
 use Rattle.pickle_types.specs.Expressions.{Meant, find_field, find_part, field_in, typed}
 use Rattle.pickle_types.specs.Meaning.{integer_expression, meaning, field_meaning, fields_meaning, declared_type}
-use Rattle.pickle_types.specs.Built.{Gives, bytes_now, names_of, views_of, names_in, IsFoundField}
+use Rattle.pickle_types.specs.Built.{Known, Gives, bytes_now, names_of, views_of, names_in, IsFoundField}
 use Rattle.pickle_types.specs.FieldNames.{place_named, part_names, shape_names}
 use Rattle.pickle_types.specs.Building.{known_types, visible_in, Builds, FieldGives, FieldBuilds, FieldsBuild, AddsType}
 
@@ -39,7 +39,7 @@ SelectsField shape place result =
 -- ---- expressions
 
 -- what an expression means, where these types have names and these fields are seen
-abbrev pub typed_among : List Node → List Named → List Seen → (levels : ℕ) → Tree → Result Meant FaultKind
+abbrev pub typed_among : List Node → Known → List Seen → (levels : ℕ) → Tree → Result Meant FaultKind
 typed_among nodes names seen levels e = typed (names_of nodes names) (views_of nodes seen) levels e
 
 -- what a field's constraint means, which sees the field itself
@@ -64,7 +64,7 @@ module _ (old new : Builder) where
       FieldBuilds old new place levels (length before) f.parts result
       (field_meaning (known_types old) place (visible_in old) levels (names_in before) f.parts (meaning (known_types old) (visible_in old) (levels + 1) None room f.form))
 
-  abbrev pub BuildsFields : Place → (levels room : ℕ) → FieldTrees → Result (List Field × ℕ) FaultKind → Type 0
+  abbrev pub BuildsFields : Place → (levels room : ℕ) → FieldTrees → Result (FieldList × ℕ) FaultKind → Type 0
   BuildsFields place levels room fields result = FieldsBuild old new result (fields_meaning (known_types old) place (visible_in old) levels room [] fields)
 
   -- the type that a declaration gives its name

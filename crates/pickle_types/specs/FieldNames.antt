@@ -36,7 +36,11 @@ shape_names (shape.Struct name pinned fields) = names_in fields.items
 shape_names (shape.Integral name number fields) = part_names fields.items
 shape_names (shape.Union name alternatives) = part_names alternatives.items
 
--- where the names of a node's fields are kept, their places are
-pub record AreIndexed (nodes : List Node) (names : List (ℕ × PlacesByName)) : Type 0 where
-  pub some : (i : ℕ) (node : Node) (places : PlacesByName) → slice_get nodes i ≡ Some node → lookup (is_at (nat_cmp i)) names ≡ Some places → ArePlaced (shape_names node.shape) places
-  pub past : (i : ℕ) → length nodes ≤ i → lookup (is_at (nat_cmp i)) names ≡ None
+-- no two fields have one name: the place of each is that of its name
+pub record AreDistinct (names : List (Option (List ℕ))) : Type 0 where
+  pub first : (i : ℕ) (word : List ℕ) → slice_get names i ≡ Some (Some word) → place_named word names ≡ Some i
+
+-- where the places of a node's fields are kept, no two of them have one name
+pub record AreIndexed {P : Type 0} (nodes : List Node) (places : List (ℕ × P)) : Type 0 where
+  pub some : (i : ℕ) (node : Node) (kept : P) → slice_get nodes i ≡ Some node → lookup (is_at (nat_cmp i)) places ≡ Some kept → AreDistinct (shape_names node.shape)
+  pub past : (i : ℕ) → length nodes ≤ i → lookup (is_at (nat_cmp i)) places ≡ None

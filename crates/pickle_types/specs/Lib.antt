@@ -7,7 +7,10 @@ pub mod Scopes
 pub mod Innermost
 pub mod PlacesByName
 pub mod FieldNames
+pub mod FieldLists
 pub mod Names
+pub mod Hashes
+pub mod Numbers
 pub mod Operators
 pub mod Expressions
 pub mod Meaning

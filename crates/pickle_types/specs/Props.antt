@@ -12,7 +12,7 @@ use Rattle.pickle_types.specs.declared.node.Node.{Node}
 use Rattle.pickle_types.specs.Types.{Term, Number, Text, Name, Bracket, Before, Between, Choice, Index, Select, AttributeOf, ToInteger, ToOffset, InUnit, Bound, Unbounded, ByCount, BySize}
 use Rattle.pickle_types.specs.Sound.{IsWidth, IsOptionalWidth, IsSmall, IsSoundTerm, IsSoundClause, IsSoundBound}
 use Rattle.pickle_types.specs.Table.{optional_term, bound_of, FieldsBelow, PartsBelow, NamesBelow, IsSoundField, IsSoundPart, IsSoundShape, IsTable}
-use Rattle.pickle_types.specs.Built.{IsNamed, AreNamed}
+use Rattle.pickle_types.specs.Built.{IsNamed, AreListed}
 
 IsWidth-prop : (type : IntegerType) → IsProp (IsWidth type)
 IsWidth-prop type x y = λ i. record {
@@ -106,5 +106,5 @@ IsNamed-prop nodes d x y = λ i. record {
   deep = Coded-set coded_ℕ _ _ x.deep y.deep i;
 }
 
-pub AreNamed-prop : (nodes : List Node) (names : List Named) → IsProp (AreNamed nodes names)
-AreNamed-prop nodes names = Π_prop λ k. Π_prop λ d. Π_prop λ h. IsNamed-prop nodes _
+pub AreListed-prop : (nodes : List Node) (names : List Named) → IsProp (AreListed nodes names)
+AreListed-prop nodes names = Π_prop λ k. Π_prop λ d. Π_prop λ h. IsNamed-prop nodes _

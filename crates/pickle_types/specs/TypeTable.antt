@@ -8,7 +8,7 @@ use Rattle.pickle_types.specs.Types.{PokeType}
 use Rattle.pickle_types.specs.Table.{type_of}
 use Rattle.pickle_types.specs.Names.{Names, predeclared}
 use Rattle.pickle_types.specs.WellTyped.{Declares}
-use Rattle.pickle_types.specs.Built.{names_of}
+use Rattle.pickle_types.specs.Built.{listed_of}
 
 abbrev pub nodes_of : Table → List Node
 nodes_of t = t.nodes.items
@@ -19,7 +19,7 @@ roots_of t = t.roots.items
 
 -- the predeclared and the declared types, each with its name
 abbrev pub types_of : Table → Names
-types_of t = names_of t.nodes.items t.names.items
+types_of t = listed_of t.nodes.items t.names.items
 
 -- how many types are declared
 abbrev pub count_of : Table → ℕ

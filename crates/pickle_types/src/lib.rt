@@ -12,6 +12,7 @@ pub(crate) mod many_fields;
 pub(crate) mod name;
 pub mod names;
 pub(crate) mod node;
+pub(crate) mod number_hasher;
 pub(crate) mod places_by_name;
 pub mod predeclared;
 pub mod scopes;

@@ -1,17 +1,23 @@
-//! The types that have names.
+//! The numbers of names, and the types that have names.
 
-ghost use Rattle.std.specs.Prelude.{◌≡◌, ℕ, List, [], None, IfSome, IfErr, OnOk};
+ghost use Rattle.std.specs.Prelude.{◌≡◌, ℕ, List, [], None, Some, map, IfSome, IfOk, IfErr, OnOk, nat_eq};
 ghost use Rattle.std.specs.Str.{bytes_eq};
+ghost use Rattle.indexmap.specs.IndexMap.{values, get};
 ghost use Rattle.pickle_types.specs.Names.{find_type};
-ghost use Rattle.pickle_types.specs.FieldNames.{ArePlaced};
-ghost use Rattle.pickle_types.specs.Built.{names_of, words_of, declared_as, AreNamed, IsFound, IsNamed, AddsName};
+ghost use Rattle.pickle_types.specs.Numbers.{number_in, Extends, IsNaming};
+ghost use Rattle.pickle_types.specs.Built.{Known, types_in, words_in, names_of, listed_of, declared_as, AreNamed, AreListed, IsFound, IsNamed, AddsName};
 ghost use Rattle.pickle_types.specs.declared.node.Node.{Node};
 ghost use Rattle.pickle_types.specs.declared.names.Named.{Named};
 
 use crate::fault::FaultKind;
+use crate::number_hasher::ByNumber;
 use crate::places_by_name::PlacesByName;
+use indexmap::IndexMap;
 use std::alloc::Global;
 use std::marker::Model;
+
+/// The number of a name. It is as high as many names were met before.
+pub type NameId = usize;
 
 /// The node of a type that has a name, and how deep the type is.
 #[derive(Clone, Copy)]
@@ -27,30 +33,69 @@ pub struct Named {
     pub declared: Declared,
 }
 
-/// The types that have names, in the order of their declarations.
+/// Names with their numbers, and the types that have names, in the order of their declarations.
 #[derive(Drop)]
 pub struct Names<'n> {
-    list: Vec<Named>,
-    places: PlacesByName<'n>,
+    words: Vec<&'n [u8]>,
+    /// The number of each word.
+    numbers: PlacesByName<'n>,
+    types: IndexMap<NameId, Named, ByNumber>,
 }
 
 impl<'n> Model for Names<'n> {
-    ghost Value = { List Named };
+    ghost Value = { Known };
 
-    ghost view = { λ n. n.list.items };
+    ghost view = { λ n. (values n.types, map (λ w. w.now) n.words.items) };
 
-    ghost invariant = { λ n. ArePlaced (words_of n.list.items) n.places };
+    ghost invariant = { λ n. IsNaming (map (λ w. w.now) n.words.items) n.numbers n.types };
 }
 
 impl<'n> Names<'n> {
     /// No names yet.
     pub fn new(alloc: Global) -> Names<'n>
-        ensures { result ≡ [] }
+        ensures types { types_in result ≡ [] }
+        ensures words { words_in result ≡ [] }
     {
         Names {
-            list: Vec::new(alloc),
-            places: PlacesByName::new(alloc),
+            words: Vec::new(alloc),
+            numbers: PlacesByName::new(alloc),
+            types: IndexMap::with_hasher(alloc, ByNumber),
         }
+    }
+
+    /// The number of a name, where it has one.
+    pub fn number_of(&self, word: &[u8]) -> Option<NameId>
+        ensures { result ≡ number_in (words_in self.now) word.now }
+    {
+        self.numbers.find(word)
+    }
+
+    /// The number of a name, which gets one where it has none.
+    pub fn number(&mut self, word: &'n [u8]) -> Result<NameId, FaultKind>
+        ensures numbered { IfOk result (λ number. number_in (words_in self.new) word.now ≡ Some number) }
+        ensures kept { Extends (words_in self.old) (words_in self.new) }
+        ensures types { types_in self.new ≡ types_in self.old }
+        ensures err { IfErr result (λ e. e ≡ FaultKind.Memory) }
+    {
+        match self.number_of(word) {
+            Some(number) => Ok(number),
+            None => self.add_name(word),
+        }
+    }
+
+    /// A number for a name that has none.
+    fn add_name(&mut self, word: &'n [u8]) -> Result<NameId, FaultKind>
+        requires new { number_in (words_in self.old) word.now ≡ None }
+        ensures numbered { IfOk result (λ number. number_in (words_in self.new) word.now ≡ Some number) }
+        ensures kept { Extends (words_in self.old) (words_in self.new) }
+        ensures types { types_in self.new ≡ types_in self.old }
+        ensures err { IfErr result (λ e. e ≡ FaultKind.Memory) }
+    {
+        self.words.reserve(1)?;
+        let number = self.words.len();
+        self.numbers.put(word, number)?;
+        self.words.push_reserved(word);
+        Ok(number)
     }
 
     /// Gives a type a name that no type has.
@@ -60,26 +105,33 @@ impl<'n> Names<'n> {
         word: &'n [u8],
         declared: Declared,
     ) -> Result<(), FaultKind>
-        requires new { declared_as word.now self.old ≡ None }
-        ensures ok { OnOk result (AddsName self.old self.new word.now declared) }
+        requires new { declared_as word.now (types_in self.old) ≡ None }
+        ensures ok { OnOk result (AddsName (types_in self.old) (types_in self.new) word.now declared) }
         ensures err { IfErr result (λ e. e ≡ FaultKind.Memory) }
     {
-        self.list.reserve(1)?;
+        let number = self.number(word)?;
         let name = Vec::from_slice(alloc, word)?;
-        self.places.put(word, self.list.len())?;
-        self.list.push_reserved(Named {
-            word: name,
-            declared,
-        });
+        self.types.insert(
+            number,
+            Named {
+                word: name,
+                declared,
+            },
+        )?;
         Ok(())
     }
 
     /// The types, in the order of their declarations.
-    pub fn into_list(self) -> Vec<Named>
-        ensures { result.items ≡ self.entry }
+    pub fn into_list(self, alloc: Global) -> Result<Vec<Named>, FaultKind>
+        ensures ok { IfOk result (λ list. list.items ≡ types_in self.entry) }
+        ensures err { IfErr result (λ e. e ≡ FaultKind.Memory) }
     {
-        let Names { list, places: _ } = self;
-        list
+        let Names {
+            words: _,
+            numbers: _,
+            types,
+        } = self;
+        Ok(types.into_values().collect(alloc)?)
     }
 }
 
@@ -88,10 +140,10 @@ pub fn find_name(names: &Names, word: &[u8]) -> Option<Declared>
     ensures found { (nodes : List Node) → IsFound nodes result (find_type word.now (names_of nodes names.now)) }
     ensures named { (nodes : List Node) → AreNamed nodes names.now → IfSome result (IsNamed nodes) }
 {
-    match names.places.find(word) {
-        None => None,
-        Some(place) => Some(names.list[place].declared),
-    }
+    let types = &names.types;
+    let number = names.number_of(word)?;
+    let named = types.get(&number)?;
+    Some(named.declared)
 }
 
 fn is_named(named: &Named, word: &[u8]) -> bool
@@ -102,8 +154,8 @@ fn is_named(named: &Named, word: &[u8]) -> bool
 
 /// The type of that name, where each of the names is looked at.
 pub fn find_listed(list: &[Named], word: &[u8]) -> Option<Declared>
-    ensures found { (nodes : List Node) → IsFound nodes result (find_type word.now (names_of nodes list.now)) }
-    ensures named { (nodes : List Node) → AreNamed nodes list.now → IfSome result (IsNamed nodes) }
+    ensures found { (nodes : List Node) → IsFound nodes result (find_type word.now (listed_of nodes list.now)) }
+    ensures named { (nodes : List Node) → AreListed nodes list.now → IfSome result (IsNamed nodes) }
 {
     for named in list {
         if is_named(named, word) {

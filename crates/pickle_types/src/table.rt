@@ -7,8 +7,8 @@ ghost use Rattle.pickle_types.specs.Bounds.{IsBound, cost, room};
 ghost use Rattle.pickle_types.specs.Names.{predeclared, find_type};
 ghost use Rattle.pickle_types.specs.Meaning.{declared};
 ghost use Rattle.pickle_types.specs.WellTyped.{Declares};
-ghost use Rattle.pickle_types.specs.Built.{Fails, AreNamed};
-ghost use Rattle.pickle_types.specs.Props.{IsTable-prop, AreNamed-prop};
+ghost use Rattle.pickle_types.specs.Built.{Fails, AreListed};
+ghost use Rattle.pickle_types.specs.Props.{IsTable-prop, AreListed-prop};
 ghost use Rattle.pickle_types.specs.Wrong.{first_wrong, TellsPlace};
 
 use crate::bounds::type_bounds;
@@ -36,7 +36,7 @@ pub struct Table {
     declared: usize,
     // The nodes are a table's, and each name has a node.
     pub ghost sound: { IsTable nodes.items } by { IsTable-prop nodes.items },
-    pub ghost named: { AreNamed nodes.items names.items } by { AreNamed-prop nodes.items names.items },
+    pub ghost named: { AreListed nodes.items names.items } by { AreListed-prop nodes.items names.items },
 }
 
 impl Table {
@@ -64,7 +64,7 @@ impl Table {
         Ok(Table {
             nodes: nodes.into_nodes(),
             roots,
-            names: names.into_list(),
+            names: names.into_list(alloc)?,
             declared: pickle.declarations.len(),
         })
     }

@@ -25,7 +25,7 @@ pub use Rattle.value_text.specs.Printed
 pub use Rattle.value_text.specs.Suffixes
 pub use Rattle.value_text.specs.PartText
 pub use Rattle.text_forms.specs.Written
-pub use Rattle.value_text.specs.Gathered
+pub use Rattle.value_text.specs.Puts
 pub use Rattle.value_text.specs.Json
 pub use Rattle.value_text.specs.Laws
 pub use Rattle.command_words.specs.OffsetWord

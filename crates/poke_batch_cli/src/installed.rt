@@ -10,7 +10,7 @@ use std::{env, fs};
 /// The variable of the environment that names their folder.
 const VARIABLE: &str = "POKE_BATCH_PICKLES";
 
-/// Their folder where the variable isn't set, from the folder above the program's own.
+/// Their folder where the variable isn't set or is empty, from the folder above the program's own.
 const SHARED: &str = "/share/poke_batch/pickles";
 
 /// How the name of a pickle's file ends.
@@ -31,11 +31,14 @@ pub fn pickle_path<R: Files + Env + AllocGlobal>(rt: &R, word: &str) -> Result<S
 
 /// The folder of the installed pickles, if there can be one.
 pub fn pickles_folder<R: Files + Env + AllocGlobal>(rt: &R) -> Result<Option<String>, AllocError> {
-    match env::var(rt, VARIABLE) {
-        Ok(folder) => return Ok(Some(folder)),
+    let named = match env::var(rt, VARIABLE) {
+        Ok(folder) => folder,
         Err(VarError::OutOfMemory) => return Err(AllocError),
         Err(VarError::NotUnicode) => return Ok(None),
-        Err(VarError::NotPresent) => {}
+        Err(VarError::NotPresent) => String::new(rt.alloc()),
+    };
+    if !named.is_empty() {
+        return Ok(Some(named));
     }
     let Ok(program) = env::current_exe(rt) else {
         return Ok(None);

@@ -1,4 +1,4 @@
-//! Whether bytes are a pickle whose types are well formed, and the lines that refuse them.
+//! Whether bytes are a pickle whose types are well typed, and the lines that refuse them.
 
 ghost use Rattle.std.specs.Prelude.{◌≡◌, ◌≢◌, ℕ, List, Option, IfOk, IfErr};
 ghost use Rattle.pickle_syntax.specs.Bytes as lexing;
@@ -27,31 +27,32 @@ use std::alloc::Global;
 use std::io::Write;
 use thiserror::Error;
 
-/// Why bytes are no pickle, at a byte counted from 0, or its types not well formed, in a declaration counted from 1.
-/// It displays the line that tells it.
+/// Why bytes are no pickle, at a byte counted from 0; or why its types are not well typed, in a declaration counted
+/// from 1. It displays the line that reports it.
 #[derive(Clone, Copy, Debug, PartialEq, Eq, Error)]
 #[error("refused {}", self.name())]
 pub enum Refusal {
-    /// The bytes are no tokens, for this reason, at this byte, counted from 0.
+    /// The bytes are no tokens, for this reason and at this byte, counted from 0.
     #[error("refused {} at byte {}", self.name(), .1)]
     Tokens(LexFaultKind, usize),
-    /// No pickle goes on with the token at this byte, counted from 0; where it is their number, the bytes end too early.
+    /// No pickle goes on with the token at this byte, counted from 0. Where this is the number of bytes, they end too
+    /// early.
     #[error("refused {} at byte {}", self.name(), .0)]
     Syntax(usize),
     /// An expression, or the types inside a type, are nested more than 64 deep.
     TooDeep,
     /// More than 1,024 fields in a struct or union, or more than 4,096 declarations.
     TooMany,
-    /// A type is wrong, for this reason, in this declaration, counted from 1.
+    /// A type is wrong, for this reason and in this declaration, counted from 1.
     #[error("refused {} in type {}", self.name(), .1)]
     Types(FaultKind, usize),
-    /// There was no memory for tokens, tree or table.
+    /// The allocation of tokens, tree or table failed.
     #[error("fault {}", self.name())]
     Memory,
 }
 
 impl Refusal {
-    /// The name by which its line tells it: that of the fault from which it comes.
+    /// Its name in the printed line: that of the fault from which it comes.
     pub fn name(self) -> &'static str
         ensures { result.now ≡ refusal_kind self }
     {
@@ -118,7 +119,7 @@ fn ill_typed(fault: TypeFault) -> Refusal
     }
 }
 
-/// The place of the first byte of a token, or `count` behind the last token.
+/// The place of the first byte of a token, or `count` after the last token.
 fn place(tokens: &Tokens<'_>, token: usize, count: usize) -> usize
     ensures { result ≡ place_of tokens.now.spans.items token count }
 {
@@ -128,7 +129,7 @@ fn place(tokens: &Tokens<'_>, token: usize, count: usize) -> usize
     }
 }
 
-/// Tells a refusal.
+/// Reports a refusal.
 pub fn tell_refusal<E: Write>(err: &mut E, refusal: Refusal) -> Status
     ensures { (out : Option (List ℕ)) → IsSaid (refusal_saying refusal) result out out (E.contents err.old) (E.contents err.new) }
 {

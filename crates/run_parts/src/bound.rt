@@ -8,7 +8,7 @@ use itoa::Buffer;
 use std::io::Write;
 use text_forms::write::{WriteFault, put};
 
-/// Writes the most steps and slots that a mapping takes, a line each. None is a bound of 2^128 or more.
+/// Writes the most steps and slots that a mapping takes, a line for each. `None` is a bound of 2^128 or more.
 #[tactic(auto, using(text_forms::proofs::Parts::written))]
 pub fn put_bounds<W: Write>(
     w: &mut W,
@@ -23,8 +23,8 @@ pub fn put_bounds<W: Write>(
     Ok(())
 }
 
-/// Writes the most steps and slots that a mapping takes, and the most bytes of its text, a line each. None is a bound of
-/// 2^128 or more.
+/// Writes the most steps and slots that a mapping takes, and the most bytes of its text, a line for each. `None` is a
+/// bound of 2^128 or more.
 #[tactic(auto, using(text_forms::proofs::Parts::written))]
 pub fn put_bounds_and_text<W: Write>(
     w: &mut W,

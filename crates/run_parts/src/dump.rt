@@ -14,18 +14,18 @@ use std::io::Write;
 use text_forms::write::{WriteFault, put};
 use thiserror::Error;
 
-/// Why a dump ended early. It displays the line that tells it.
+/// Why a dump ended early. It displays the line that reports it.
 #[derive(Clone, Copy, Debug, PartialEq, Eq, Error)]
 #[error("fault {}", self.name())]
 pub enum DumpFault {
     /// A read of the space failed.
     Device,
-    /// The writer gave an error, or took no byte.
+    /// The writer returned an error, or accepted no byte.
     Write,
 }
 
 impl DumpFault {
-    /// The name by which its line tells it: that of its variant.
+    /// Its name in the printed line: that of its variant.
     pub fn name(self) -> &'static str
         ensures device { self ≡ DumpFault.Device → result.now ≡ codes "Device" }
         ensures write { self ≡ DumpFault.Write → result.now ≡ codes "Write" }
@@ -53,10 +53,12 @@ impl From<WriteFault> for DumpFault {
     }
 }
 
-/// Writes the bytes of a space from byte `from` on, at most `size` of them, as lines of 16, after a ruler where it is asked for.
+/// Writes the bytes of a space from byte `from` on, at most `size` of them, as lines of 16; before them a ruler, if
+/// `ruler` is set.
 ///
-/// The range is cut at the end of the space. The bytes of each line are read at once, before the line is written. What the writer took before
-/// a fault is a part of the text, from its front. The text is that of the GNU poke command `dump`, by this project's profile.
+/// The range is cut at the end of the space. The bytes of each line are read at once, before the line is written. What
+/// the writer accepted before a fault is a prefix of the text. The text is that of the GNU poke command `dump`, by this
+/// project's profile.
 pub fn dump<S: Space, W: Write>(
     space: &mut S,
     from: u64,

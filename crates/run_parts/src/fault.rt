@@ -1,4 +1,4 @@
-//! The lines that tell the faults of a mapping.
+//! The lines that report the faults of a mapping.
 
 ghost use Rattle.std.specs.Prelude.{ℕ, List, Option};
 ghost use Rattle.run_parts.specs.FaultLines.{fault_saying};
@@ -13,7 +13,7 @@ use pickle_meaning::faults::{MapFault, MapFaultKind};
 use std::io::Write;
 use text_forms::write::WriteFault;
 
-/// Tells a fault of a mapping, at a bit of the file, or what failed outside it.
+/// Reports a fault of a mapping, at a bit of the file, or a failure of the environment.
 pub fn tell_fault<E: Write>(err: &mut E, fault: MapFault) -> Status
     ensures { (out : Option (List ℕ)) → IsSaid (fault_saying fault.kind fault.at) result out out (E.contents err.old) (E.contents err.new) }
 {
@@ -25,7 +25,7 @@ pub fn tell_fault<E: Write>(err: &mut E, fault: MapFault) -> Status
     }
 }
 
-/// Tells a fault that has no place in the file.
+/// Reports a fault that has no place in the file.
 pub fn tell_plain_fault<E: Write>(err: &mut E, kind: &[u8]) -> Status
     ensures { IsTold Fault (fault_line kind.now) result (E.contents err.old) (E.contents err.new) }
 {

@@ -1,4 +1,4 @@
-//! What runs are made of: statuses and lines, whether a pickle is accepted, bounds, dumps, the list of types.
+//! What runs are made of: exit statuses and lines, whether a pickle is accepted, bounds, dumps, the list of types.
 //!
 //! No value is mapped here.
 #![tactic(auto)]

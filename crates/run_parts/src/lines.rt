@@ -1,4 +1,4 @@
-//! The lines that tell a refusal or a fault. `kind` is the fault's name; a line feed ends each line.
+//! The lines that report a refusal or a fault. `kind` is the name of the fault. A line feed ends each line.
 
 ghost use Rattle.std.specs.Prelude.{◌∷◌, [], ◌++◌, decimal, OnOk, OnErr};
 ghost use Rattle.std.specs.Io.KnownBytes.{Appends};
@@ -9,7 +9,7 @@ use itoa::Buffer;
 use std::io::Write;
 use text_forms::write::{WriteFault, put};
 
-/// Writes what is refused as a whole.
+/// Writes the line of a refusal without a place.
 pub fn put_refused<W: Write>(w: &mut W, kind: &[u8]) -> Result<(), WriteFault>
     ensures ok { OnOk result (Appends (W.contents w.old) (W.contents w.new) (refused_line kind.now)) }
     ensures err { OnErr result (AppendsPart (W.contents w.old) (W.contents w.new) (refused_line kind.now)) }
@@ -17,7 +17,7 @@ pub fn put_refused<W: Write>(w: &mut W, kind: &[u8]) -> Result<(), WriteFault>
     put_plain(w, b"refused ", kind)
 }
 
-/// Writes what is refused at a byte of the pickle, counted from 0.
+/// Writes the line of a refusal at a byte of the pickle, counted from 0.
 pub fn put_refused_at<W: Write>(w: &mut W, kind: &[u8], byte: usize) -> Result<(), WriteFault>
     ensures ok { OnOk result (Appends (W.contents w.old) (W.contents w.new) (refused_at_line kind.now byte)) }
     ensures err { OnErr result (AppendsPart (W.contents w.old) (W.contents w.new) (refused_at_line kind.now byte)) }
@@ -25,7 +25,7 @@ pub fn put_refused_at<W: Write>(w: &mut W, kind: &[u8], byte: usize) -> Result<(
     put_placed(w, b"refused ", kind, b" at byte ", byte as u128, b"\n")
 }
 
-/// Writes what is refused in a declaration, counted from 1.
+/// Writes the line of a refusal in a declaration, counted from 1.
 pub fn put_refused_in<W: Write>(
     w: &mut W,
     kind: &[u8],
@@ -44,7 +44,7 @@ pub fn put_refused_in<W: Write>(
     )
 }
 
-/// Writes a fault of a device, of memory, of a reader or of a writer.
+/// Writes the line of a fault of a device, of memory, of a reader or of a writer.
 pub fn put_fault<W: Write>(w: &mut W, kind: &[u8]) -> Result<(), WriteFault>
     ensures ok { OnOk result (Appends (W.contents w.old) (W.contents w.new) (fault_line kind.now)) }
     ensures err { OnErr result (AppendsPart (W.contents w.old) (W.contents w.new) (fault_line kind.now)) }
@@ -52,7 +52,7 @@ pub fn put_fault<W: Write>(w: &mut W, kind: &[u8]) -> Result<(), WriteFault>
     put_plain(w, b"fault ", kind)
 }
 
-/// Writes a fault of a mapping, at a bit of the file.
+/// Writes the line of a fault of a mapping, at a bit of the file.
 pub fn put_fault_at<W: Write>(w: &mut W, kind: &[u8], bit: u128) -> Result<(), WriteFault>
     ensures ok { OnOk result (Appends (W.contents w.old) (W.contents w.new) (fault_at_line kind.now bit)) }
     ensures err { OnErr result (AppendsPart (W.contents w.old) (W.contents w.new) (fault_at_line kind.now bit)) }

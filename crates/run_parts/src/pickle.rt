@@ -7,22 +7,22 @@ use std::alloc::Global;
 use std::io::Read;
 use thiserror::Error;
 
-/// The most bytes of a pickle that are read: one more than a pickle may have, so that a longer one is told by its
+/// The most bytes of a pickle that are read: one more than a pickle may have, so that a longer one is known by its
 /// length.
 pub const MOST_BYTES: usize = 1_048_577;
 
-/// Why a pickle was not read. It displays the line that tells it.
+/// Why a pickle was not read. It displays the line that reports it.
 #[derive(Clone, Copy, Debug, Drop, PartialEq, Eq, Error)]
 #[error("fault {}", self.name())]
 pub enum PickleFault {
-    /// The reader gave an error. It isn't tried again.
+    /// The reader returned an error. It isn't tried again.
     Read,
-    /// There was no memory for the bytes.
+    /// The allocation of the bytes failed.
     Memory,
 }
 
 impl PickleFault {
-    /// The name by which its line tells it: that of its variant.
+    /// Its name in the printed line: that of its variant.
     pub fn name(self) -> &'static str
         ensures read { self ≡ PickleFault.Read → result.now ≡ codes "Read" }
         ensures memory { self ≡ PickleFault.Memory → result.now ≡ codes "Memory" }
@@ -34,8 +34,8 @@ impl PickleFault {
     }
 }
 
-/// Reads until the reader gives no byte or [`MOST_BYTES`] bytes are there, and gives the bytes read. After a fault they
-/// are dropped.
+/// Reads until the reader returns no byte or [`MOST_BYTES`] bytes are there, and returns the bytes read. After a fault
+/// they are dropped.
 pub fn read_pickle<R: Read>(alloc: Global, reader: &mut R) -> Result<Vec<u8>, PickleFault>
     ensures short { IfOk result (λ bytes. length bytes.items ≤ MOST_BYTES) }
     ensures first { IfOk result (λ bytes. GivesFirst MOST_BYTES (R.remaining reader.old) (R.remaining reader.new) bytes.items) }

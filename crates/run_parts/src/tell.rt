@@ -1,4 +1,4 @@
-//! How a run ends: with a text for `out`, or a line for `err` and the status that goes with it.
+//! How a run ends: with a text for `out`, or with a line for `err` and its exit status.
 
 ghost use Rattle.std.specs.Prelude.{◌≡◌, OnOk, OnErr, codes};
 ghost use Rattle.std.specs.Io.KnownBytes.{Keeps};
@@ -11,7 +11,7 @@ use crate::status::Status;
 use std::io::Write;
 use text_forms::write::WriteFault;
 
-/// Ends a run by a refusal.
+/// Ends a run with a refusal.
 pub fn refuse<E: Write>(err: &mut E, kind: &[u8]) -> Status
     ensures { IsTold Refused (refused_line kind.now) result (E.contents err.old) (E.contents err.new) }
 {
@@ -21,7 +21,7 @@ pub fn refuse<E: Write>(err: &mut E, kind: &[u8]) -> Status
     }
 }
 
-/// Ends a run by a refusal at a byte of the pickle.
+/// Ends a run with a refusal at a byte of the pickle.
 pub fn refuse_at<E: Write>(err: &mut E, kind: &[u8], byte: usize) -> Status
     ensures { IsTold Refused (refused_at_line kind.now byte) result (E.contents err.old) (E.contents err.new) }
 {
@@ -31,7 +31,7 @@ pub fn refuse_at<E: Write>(err: &mut E, kind: &[u8], byte: usize) -> Status
     }
 }
 
-/// Ends a run by a refusal in a declaration, counted from 1.
+/// Ends a run with a refusal in a declaration, counted from 1.
 pub fn refuse_in<E: Write>(err: &mut E, kind: &[u8], declaration: usize) -> Status
     ensures { IsTold Refused (refused_in_line kind.now declaration) result (E.contents err.old) (E.contents err.new) }
 {
@@ -41,7 +41,7 @@ pub fn refuse_in<E: Write>(err: &mut E, kind: &[u8], declaration: usize) -> Stat
     }
 }
 
-/// Ends a run by a fault of a mapping, at a bit of the file.
+/// Ends a run with a fault of a mapping, at a bit of the file.
 pub fn fault_at<E: Write>(err: &mut E, kind: &[u8], bit: u128) -> Status
     ensures { IsTold Fault (fault_at_line kind.now bit) result (E.contents err.old) (E.contents err.new) }
 {
@@ -51,7 +51,7 @@ pub fn fault_at<E: Write>(err: &mut E, kind: &[u8], bit: u128) -> Status
     }
 }
 
-/// Ends a run by what failed outside it.
+/// Ends a run with a failure of the environment.
 pub fn fail<E: Write>(err: &mut E, kind: &[u8]) -> Status
     ensures { IsTold Outside (fault_line kind.now) result (E.contents err.old) (E.contents err.new) }
 {

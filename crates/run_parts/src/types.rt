@@ -16,12 +16,12 @@ use std::alloc::Global;
 use std::io::Write;
 use text_forms::write::{WriteFault, put};
 
-/// Checks a pickle, and writes a line for each type that it declares, in the order of the declarations: its name, its kind and the
-/// least width of its values, with a tab between them.
+/// Checks a pickle, and writes a line for each type that it declares, in the order of the declarations: its name, its
+/// kind and the least width of its values, with a tab between them.
 ///
-/// The kind is the word of the type's right side, `integer`, `offset`, `string`, `array`, `struct` or `union`; of a type that is declared
-/// as another's name it is that one's kind. The width is in bits, as `48#b`, and from 2^64 bits on `more than 2^64-1#b`. Lines and
-/// words are this project's profile.
+/// The kind is the word of the type's right side: `integer`, `offset`, `string`, `array`, `struct` or `union`. A type
+/// that is declared as another name of a type has the kind of that type. The width is in bits, such as `48#b`, and from
+/// 2^64 bits on `more than 2^64-1#b`. Lines and words are this project's profile.
 pub fn run_types<O: Write, E: Write>(
     alloc: Global,
     pickle: &[u8],

@@ -1,16 +1,14 @@
 -- Laws of the texts of values in JSON.
-use Rattle.std.proofs.Common.{◌≡◌, ℕ, add-one, ◌+◌, ◌<◌, ◌≤◌, List, [], ◌++◌, length, take, Option, Some, None, Bool, false, codes, refl, sym, ◌∙◌, ap, subst, arith}
+use Rattle.std.proofs.Common.{◌≡◌, ℕ, add-one, ◌+◌, ◌<◌, ◌≤◌, List, [], ◌++◌, length, take, Some, None, Bool, false, codes, refl, sym, ◌∙◌, ap, subst, arith}
 use Rattle.std.specs.Fmt.{signed_decimal}
 use Rattle.std.specs.List.{prefix_len}
 use Rattle.std.proofs.lemmas.List.{append_assoc, append-nil, take_all}
 use Rattle.value_store.specs.declared.value.Kind.TheVariants as kind
 use Rattle.pickle_meaning.specs.Values.{Value, Mapped, IntegerLabel, OffsetLabel, TextLabel, ArrayLabel, StructLabel, UnionLabel, Members, label_of, member_count, member_at}
 use Rattle.value_store.specs.Labels.{kind_of, number_of, unit_of, bytes_of}
-use Rattle.value_text.specs.Gathered.{Gathers}
 use Rattle.value_text.specs.ValueText.{spelled, is_plain, comma}
 use Rattle.value_text.specs.JsonText.{json_text, json_members, no_key, json_offset, json_string, json_escape}
 use Rattle.value_text.specs.JsonParts.{array_json, object_json, plain_key}
-use Rattle.value_text.proofs.Gathered.{Told, told_all}
 use Rattle.value_text.proofs.MemberTexts.{members_from, with_member, from_at, from_end}
 use Rattle.value_text.proofs.StringTexts.{plain_text}
 
@@ -27,42 +25,26 @@ plain_key_is first name e =
     ∙ ap (λ s. comma first ++ (codes "\"" ++ s)) (append_assoc name (codes "\"") (codes ":"))
 
 -- a member that is there
-json_present : (before : ℕ → List ℕ) (all : Members) (i : ℕ) (first : Bool) (value : Value) → i < member_count all → Some value ≡ member_at all i
+pub json_present : (before : ℕ → List ℕ) (all : Members) (i : ℕ) (first : Bool) (value : Value) → i < member_count all → Some value ≡ member_at all i
     → json_members before i first (members_from i all) ≡ ((comma first ++ before i) ++ json_text value) ++ json_members before (i + 1) false (members_from (i + 1) all)
 json_present before all i first value lt is =
     ap (json_members before i first) (from_at all i lt ∙ ap (λ o. with_member o (members_from (i + 1) all)) (sym is))
     ∙ ap (λ n. ((comma first ++ before i) ++ json_text value) ++ json_members before n false (members_from (i + 1) all)) (sym (add-one i))
 
-json_absent : (before : ℕ → List ℕ) (all : Members) (i : ℕ) (first : Bool) → i < member_count all → None ≡ member_at all i
+pub element_present : (all : Members) (i : ℕ) (first : Bool) (value : Value) → i < member_count all → Some value ≡ member_at all i
+    → json_members no_key i first (members_from i all) ≡ (comma first ++ json_text value) ++ json_members no_key (i + 1) false (members_from (i + 1) all)
+element_present all i first value lt is =
+    json_present no_key all i first value lt is
+    ∙ ap (λ s. (s ++ json_text value) ++ json_members no_key (i + 1) false (members_from (i + 1) all)) (append-nil (comma first))
+
+pub json_absent : (before : ℕ → List ℕ) (all : Members) (i : ℕ) (first : Bool) → i < member_count all → None ≡ member_at all i
     → json_members before i first (members_from i all) ≡ json_members before (i + 1) first (members_from (i + 1) all)
 json_absent before all i first lt is =
     ap (json_members before i first) (from_at all i lt ∙ ap (λ o. with_member o (members_from (i + 1) all)) (sym is))
     ∙ ap (λ n. json_members before n first (members_from (i + 1) all)) (sym (add-one i))
 
-json_end : (before : ℕ → List ℕ) (all : Members) (i : ℕ) (first : Bool) → member_count all ≤ i → json_members before i first (members_from i all) ≡ []
+pub json_end : (before : ℕ → List ℕ) (all : Members) (i : ℕ) (first : Bool) → member_count all ≤ i → json_members before i first (members_from i all) ≡ []
 json_end before all i first h = ap (json_members before i first) (from_end all i h)
-
--- what is left of the members' text before a member that is there, before one that isn't, and at the end
-pub told_json_present : (a b : Option (List ℕ)) (l m : List ℕ) (before : ℕ → List ℕ) (all : Members) (u : Value) (first : Bool) (i : ℕ) (text : List ℕ) → i < member_count all → Some u ≡ member_at all i
-    → Told a b l m (json_members before i first (members_from i all)) text
-    → Told a b l m (((comma first ++ before i) ++ json_text u) ++ json_members before (i + 1) false (members_from (i + 1) all)) text
-told_json_present a b l m before all u first i text lt is h = subst (λ t. Told a b l m t text) (json_present before all i first u lt is) h
-
-pub told_element : (a b : Option (List ℕ)) (l m : List ℕ) (all : Members) (u : Value) (first : Bool) (i : ℕ) (text : List ℕ) → i < member_count all → Some u ≡ member_at all i
-    → Told a b l m (json_members no_key i first (members_from i all)) text
-    → Told a b l m ((comma first ++ json_text u) ++ json_members no_key (i + 1) false (members_from (i + 1) all)) text
-told_element a b l m all u first i text lt is h =
-    subst (λ s. Told a b l m ((s ++ json_text u) ++ json_members no_key (i + 1) false (members_from (i + 1) all)) text) (append-nil (comma first))
-    (told_json_present a b l m no_key all u first i text lt is h)
-
-pub told_json_absent : (a b : Option (List ℕ)) (l m : List ℕ) (before : ℕ → List ℕ) (all : Members) (first : Bool) (i : ℕ) (text : List ℕ) → i < member_count all → None ≡ member_at all i
-    → Told a b l m (json_members before i first (members_from i all)) text
-    → Told a b l m (json_members before (i + 1) first (members_from (i + 1) all)) text
-told_json_absent a b l m before all first i text lt is h = subst (λ t. Told a b l m t text) (json_absent before all i first lt is) h
-
-pub told_json_end : (a b : Option (List ℕ)) (l m : List ℕ) (before : ℕ → List ℕ) (all : Members) (first : Bool) (i : ℕ) (text : List ℕ) → member_count all ≤ i
-    → Told a b l m (json_members before i first (members_from i all)) text → Gathers a b l m text
-told_json_end a b l m before all first i text le h = told_all a b l m _ text h (json_end before all i first le)
 
 -- the text of a value, by its kind
 pub json_of_integer : (v : Value) → kind.Integer ≡ kind_of (label_of v) → json_text v ≡ signed_decimal (number_of (label_of v))

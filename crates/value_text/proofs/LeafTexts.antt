@@ -1,13 +1,11 @@
 -- Laws of the lines of parts that have no parts.
-use Rattle.std.proofs.Common.{◌≡◌, ℕ, add-one, ◌+◌, ◌<◌, ◌≤◌, List, [], ◌++◌, Option, Some, None, true, false, refl, sym, ◌∙◌, ap, subst}
+use Rattle.std.proofs.Common.{◌≡◌, ℕ, add-one, ◌+◌, ◌<◌, ◌≤◌, List, [], ◌++◌, Option, Some, None, true, false, refl, sym, ◌∙◌, ap}
 use Rattle.std.specs.Option.{option_map, is_some}
 use Rattle.value_store.specs.declared.value.ValueRef.{ValueRef}
 use Rattle.value_store.specs.Refs.{value_shown}
 use Rattle.pickle_meaning.specs.Values.{Value, Mapped, Label, Members, label_of, members_of, member_count, member_at}
-use Rattle.value_text.specs.Gathered.{Gathers}
 use Rattle.value_text.specs.PathText.{step_text}
 use Rattle.value_text.specs.LinesText.{leaf_line, any_present, is_parted, leaves_text, branches_text}
-use Rattle.value_text.proofs.Gathered.{Told, told_all}
 use Rattle.value_text.proofs.MemberTexts.{members_from, with_member, from_at, from_end}
 
 -- the lines of a value are those of its parts, or its own
@@ -32,34 +30,18 @@ pub none_from : (all : Members) (i : ℕ) → member_count all ≤ i → any_pre
 none_from all i h = ap any_present (from_end all i h)
 
 -- a part that is there
-branches_present : (steps : List ℕ) (label : Label) (all : Members) (i : ℕ) (value : Value) → i < member_count all → Some value ≡ member_at all i
-    → branches_text steps label i (members_from i all) ≡ leaves_text (steps ++ step_text label i) value ++ branches_text steps label (i + 1) (members_from (i + 1) all)
-branches_present steps label all i value lt is =
+pub branches_present : (steps step : List ℕ) (label : Label) (all : Members) (i : ℕ) (value : Value) → i < member_count all → Some value ≡ member_at all i → step ≡ step_text label i
+    → branches_text steps label i (members_from i all) ≡ leaves_text (steps ++ step) value ++ branches_text steps label (i + 1) (members_from (i + 1) all)
+branches_present steps step label all i value lt is same =
     ap (branches_text steps label i) (from_at all i lt ∙ ap (λ o. with_member o (members_from (i + 1) all)) (sym is))
     ∙ ap (λ n. leaves_text (steps ++ step_text label i) value ++ branches_text steps label n (members_from (i + 1) all)) (sym (add-one i))
+    ∙ ap (λ s. leaves_text (steps ++ s) value ++ branches_text steps label (i + 1) (members_from (i + 1) all)) (sym same)
 
-branches_absent : (steps : List ℕ) (label : Label) (all : Members) (i : ℕ) → i < member_count all → None ≡ member_at all i
+pub branches_absent : (steps : List ℕ) (label : Label) (all : Members) (i : ℕ) → i < member_count all → None ≡ member_at all i
     → branches_text steps label i (members_from i all) ≡ branches_text steps label (i + 1) (members_from (i + 1) all)
 branches_absent steps label all i lt is =
     ap (branches_text steps label i) (from_at all i lt ∙ ap (λ o. with_member o (members_from (i + 1) all)) (sym is))
     ∙ ap (λ n. branches_text steps label n (members_from (i + 1) all)) (sym (add-one i))
 
-branches_end : (steps : List ℕ) (label : Label) (all : Members) (i : ℕ) → member_count all ≤ i → branches_text steps label i (members_from i all) ≡ []
+pub branches_end : (steps : List ℕ) (label : Label) (all : Members) (i : ℕ) → member_count all ≤ i → branches_text steps label i (members_from i all) ≡ []
 branches_end steps label all i h = ap (branches_text steps label i) (from_end all i h)
-
--- what is left of the lines of all parts before a part that is there, before one that isn't, and at the end
-pub told_branch : (a b : Option (List ℕ)) (l m steps step : List ℕ) (label : Label) (all : Members) (u : Value) (i : ℕ) (text : List ℕ) → i < member_count all → Some u ≡ member_at all i → step ≡ step_text label i
-    → Told a b l m (branches_text steps label i (members_from i all)) text
-    → Told a b l m (leaves_text (steps ++ step) u ++ branches_text steps label (i + 1) (members_from (i + 1) all)) text
-told_branch a b l m steps step label all u i text lt is same h =
-    subst (λ s. Told a b l m (leaves_text (steps ++ s) u ++ branches_text steps label (i + 1) (members_from (i + 1) all)) text) (sym same)
-    (subst (λ t. Told a b l m t text) (branches_present steps label all i u lt is) h)
-
-pub told_branch_absent : (a b : Option (List ℕ)) (l m steps : List ℕ) (label : Label) (all : Members) (i : ℕ) (text : List ℕ) → i < member_count all → None ≡ member_at all i
-    → Told a b l m (branches_text steps label i (members_from i all)) text
-    → Told a b l m (branches_text steps label (i + 1) (members_from (i + 1) all)) text
-told_branch_absent a b l m steps label all i text lt is h = subst (λ t. Told a b l m t text) (branches_absent steps label all i lt is) h
-
-pub told_branches_end : (a b : Option (List ℕ)) (l m steps : List ℕ) (label : Label) (all : Members) (i : ℕ) (text : List ℕ) → member_count all ≤ i
-    → Told a b l m (branches_text steps label i (members_from i all)) text → Gathers a b l m text
-told_branches_end a b l m steps label all i text le h = told_all a b l m _ text h (branches_end steps label all i le)

@@ -1,4 +1,4 @@
-pub mod Gathered
+pub mod Puts
 pub mod StringTexts
 pub mod MemberTexts
 pub mod RowTexts

@@ -1,17 +1,15 @@
 -- Laws of the lines of values.
-use Rattle.std.proofs.Common.{◌≡◌, ◌≢◌, ℕ, suc, add-one, ◌+◌, ◌-◌, ◌*◌, ◌<◌, ◌≤◌, List, [], ◌++◌, Option, Some, None, codes, refl, sym, ◌∙◌, ap, subst, replicate, take, arith}
+use Rattle.std.proofs.Common.{◌≡◌, ◌≢◌, ℕ, suc, add-one, ◌+◌, ◌-◌, ◌*◌, ◌<◌, ◌≤◌, List, [], ◌++◌, Some, None, codes, refl, sym, ◌∙◌, ap, replicate, take, arith}
 use Rattle.std.proofs.lemmas.List.{append_assoc, replicate-append-replicate, take-replicate}
 use Rattle.value_store.specs.declared.value.Kind.{Kind}
 use Rattle.value_store.specs.declared.value.Kind.TheVariants as kind
 use Rattle.pickle_meaning.specs.Values.{Value, Mapped, Label, IntegerLabel, OffsetLabel, TextLabel, ArrayLabel, StructLabel, UnionLabel, Members, member_count, member_at}
 use Rattle.value_store.specs.Labels.{kind_of, number_of, unit_of, bytes_of, name_of, member_name}
-use Rattle.value_text.specs.Gathered.{Gathers}
 use Rattle.value_text.specs.ValueText.{integer_text, offset_text, string_text, title_text, name_text}
 use Rattle.value_text.specs.PartText.{type_of}
 use Rattle.text_forms.specs.Brackets.{in_brackets}
 use Rattle.value_text.specs.TreeText.{indent_text, prefix_text, head_text, lines_text, parts_text, tree_text}
 use Rattle.value_text.specs.LineText.{rest_text, part_text}
-use Rattle.value_text.proofs.Gathered.{Told, told_all}
 use Rattle.value_text.proofs.MemberTexts.{members_from, with_member, from_at, from_end}
 
 -- the head of a label, by its kind
@@ -88,36 +86,20 @@ lines_present level label all i value lt is =
     ∙ ap (λ s. s ++ parts_text level label (suc i) (members_from (i + 1) all)) (lines_rest level (prefix_text label i) value)
     ∙ ap (λ n. part_text level label i value ++ parts_text level label n (members_from (i + 1) all)) (sym (add-one i))
 
-lines_absent : (level : ℕ) (label : Label) (all : Members) (i : ℕ) → i < member_count all → None ≡ member_at all i
+pub lines_absent : (level : ℕ) (label : Label) (all : Members) (i : ℕ) → i < member_count all → None ≡ member_at all i
     → parts_text level label i (members_from i all) ≡ parts_text level label (i + 1) (members_from (i + 1) all)
 lines_absent level label all i lt is =
     ap (parts_text level label i) (from_at all i lt ∙ ap (λ o. with_member o (members_from (i + 1) all)) (sym is))
     ∙ ap (λ n. parts_text level label n (members_from (i + 1) all)) (sym (add-one i))
 
-lines_end : (level : ℕ) (label : Label) (all : Members) (i : ℕ) → member_count all ≤ i → parts_text level label i (members_from i all) ≡ []
+pub lines_end : (level : ℕ) (label : Label) (all : Members) (i : ℕ) → member_count all ≤ i → parts_text level label i (members_from i all) ≡ []
 lines_end level label all i h = ap (parts_text level label i) (from_end all i h)
 
--- what is left of the lines of all parts before a part that is there, before one that isn't, and at the end
-pub told_part_present : (a b : Option (List ℕ)) (l m : List ℕ) (level : ℕ) (label : Label) (all : Members) (u : Value) (i : ℕ) (text : List ℕ) → i < member_count all → Some u ≡ member_at all i
-    → Told a b l m (parts_text level label i (members_from i all)) text
-    → Told a b l m (part_text level label i u ++ parts_text level label (i + 1) (members_from (i + 1) all)) text
-told_part_present a b l m level label all u i text lt is h = subst (λ t. Told a b l m t text) (lines_present level label all i u lt is) h
-
-pub told_part_absent : (a b : Option (List ℕ)) (l m : List ℕ) (level : ℕ) (label : Label) (all : Members) (i : ℕ) (text : List ℕ) → i < member_count all → None ≡ member_at all i
-    → Told a b l m (parts_text level label i (members_from i all)) text
-    → Told a b l m (parts_text level label (i + 1) (members_from (i + 1) all)) text
-told_part_absent a b l m level label all i text lt is h = subst (λ t. Told a b l m t text) (lines_absent level label all i lt is) h
-
-pub told_parts_end : (a b : Option (List ℕ)) (l m : List ℕ) (level : ℕ) (label : Label) (all : Members) (i : ℕ) (text : List ℕ) → member_count all ≤ i
-    → Told a b l m (parts_text level label i (members_from i all)) text → Gathers a b l m text
-told_parts_end a b l m level label all i text le h = told_all a b l m _ text h (lines_end level label all i le)
-
 -- the blanks of more than 32 levels begin with those of 32
-pub told_blanks : (a b : Option (List ℕ)) (l m : List ℕ) (left : ℕ) (text : List ℕ) → 32 < left
-    → Told a b l m (replicate (2 * left) 32) text → Told a b l m (replicate 64 32 ++ replicate (2 * (left - 32)) 32) text
-told_blanks a b l m left text more h =
+pub blanks_first : (left : ℕ) → 32 < left → replicate {A = ℕ} (2 * left) 32 ≡ replicate 64 32 ++ replicate (2 * (left - 32)) 32
+blanks_first left more =
     let e : 64 + 2 * (left - 32) ≡ 2 * left = omega (arith, more) in
-    subst (λ t. Told a b l m t text) (sym (replicate-append-replicate 64 (2 * (left - 32)) 32 ∙ ap (λ n. replicate n 32) e)) h
+    sym (replicate-append-replicate 64 (2 * (left - 32)) 32 ∙ ap (λ n. replicate n 32) e)
 
 -- the blanks of at most 32 levels
 pub few_blanks : (left : ℕ) → left ≤ 32 → take {A = ℕ} (2 * left) (replicate 64 32) ≡ replicate (2 * left) 32

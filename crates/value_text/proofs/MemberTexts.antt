@@ -1,13 +1,11 @@
 -- Laws of the texts of values with members.
-use Rattle.std.proofs.Common.{◌≡◌, ℕ, zero, suc, add-one, ◌+◌, ◌<◌, ◌≤◌, List, [], ◌++◌, Option, Some, None, Bool, false, codes, refl, sym, ◌∙◌, ap, subst, arith}
+use Rattle.std.proofs.Common.{◌≡◌, ℕ, zero, suc, add-one, ◌+◌, ◌<◌, ◌≤◌, [], ◌++◌, Option, Some, None, Bool, false, codes, refl, sym, ◌∙◌, ap, arith}
 use Rattle.std.proofs.lemmas.List.{append_assoc}
-use Rattle.value_text.specs.Gathered.{Gathers}
 use Rattle.value_store.specs.declared.value.Kind.TheVariants as kind
 use Rattle.pickle_meaning.specs.Values.{Value, Mapped, Label, IntegerLabel, OffsetLabel, TextLabel, ArrayLabel, StructLabel, UnionLabel, Members, NoMembers, MemberThen, AbsentThen, label_of, member_count, member_at}
 use Rattle.value_store.specs.Labels.{kind_of, number_of, unit_of, bytes_of, member_name}
 use Rattle.value_text.specs.ValueText.{value_text, members_text, name_text, comma, integer_text, offset_text, string_text}
 use Rattle.value_text.specs.PartText.{type_of, array_text, titled_text, member_text}
-use Rattle.value_text.proofs.Gathered.{Told, told_all}
 
 -- the members from a place on
 abbrev pub members_from : ℕ → Members → Members
@@ -55,21 +53,6 @@ text_absent label all i first lt is =
 
 pub text_end : (label : Label) (all : Members) (i : ℕ) (first : Bool) → member_count all ≤ i → members_text label i first (members_from i all) ≡ []
 text_end label all i first h = ap (members_text label i first) (from_end all i h)
-
--- what is left of the members' text before a member that is there, before one that isn't, and at the end
-pub told_present : (a b : Option (List ℕ)) (l m : List ℕ) (label : Label) (all : Members) (u : Value) (first : Bool) (i : ℕ) (text : List ℕ) → i < member_count all → Some u ≡ member_at all i
-    → Told a b l m (members_text label i first (members_from i all)) text
-    → Told a b l m (member_text first (member_name label i) u ++ members_text label (i + 1) false (members_from (i + 1) all)) text
-told_present a b l m label all u first i text lt is h = subst (λ t. Told a b l m t text) (text_present label all i first u lt is) h
-
-pub told_absent : (a b : Option (List ℕ)) (l m : List ℕ) (label : Label) (all : Members) (first : Bool) (i : ℕ) (text : List ℕ) → i < member_count all → None ≡ member_at all i
-    → Told a b l m (members_text label i first (members_from i all)) text
-    → Told a b l m (members_text label (i + 1) first (members_from (i + 1) all)) text
-told_absent a b l m label all first i text lt is h = subst (λ t. Told a b l m t text) (text_absent label all i first lt is) h
-
-pub told_end : (a b : Option (List ℕ)) (l m : List ℕ) (label : Label) (all : Members) (first : Bool) (i : ℕ) (text : List ℕ) → member_count all ≤ i
-    → Told a b l m (members_text label i first (members_from i all)) text → Gathers a b l m text
-told_end a b l m label all first i text le h = told_all a b l m _ text h (text_end label all i first le)
 
 -- the text of a value, by its kind
 pub text_of_integer : (v : Value) → kind.Integer ≡ kind_of (label_of v) → value_text v ≡ integer_text (type_of (label_of v)) (number_of (label_of v))

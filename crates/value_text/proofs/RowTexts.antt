@@ -1,5 +1,5 @@
 -- The texts of rows of integers.
-use Rattle.std.proofs.Common.{◌≡◌, ℕ, suc, ℤ, ◌+◌, ◌<◌, List, [], ◌∷◌, ◌++◌, length, drop, get_or, Bool, true, false, Option, None, refl, sym, ap, ◌∙◌, subst}
+use Rattle.std.proofs.Common.{◌≡◌, ℕ, suc, ℤ, ◌+◌, ◌<◌, List, [], ◌∷◌, ◌++◌, length, drop, get_or, Bool, true, false, None, refl, sym, ap, ◌∙◌}
 use Rattle.std.proofs.lemmas.List.{append-nil, drop_more}
 use Rattle.pickle_types.specs.declared.integer.IntegerType.{IntegerType}
 use Rattle.pickle_meaning.specs.Arithmetic.{with_sign}
@@ -8,7 +8,6 @@ use Rattle.value_store.specs.Labels.{number_of}
 use Rattle.value_store.specs.Integers.{IsIntegerOf, AreBytesOf, byte_members}
 use Rattle.value_text.specs.ValueText.{members_text, integer_text, comma}
 use Rattle.value_text.specs.PartText.{type_of, member_text, elements_text, byte_row_text}
-use Rattle.value_text.proofs.Gathered.{Told}
 
 -- an integer as a member without a name
 pub row_text : (first : Bool) (v : Value) (type : IntegerType) → IsIntegerOf type v → member_text first None v ≡ comma first ++ integer_text type (number_of (label_of v))
@@ -29,12 +28,9 @@ bytes_text type first place start (byte ∷ bytes) =
 pub byte_row : (type : IntegerType) (bytes : List ℕ) (value : Value) → AreBytesOf type bytes value → byte_row_text type true bytes ≡ elements_text value
 byte_row type bytes value are = sym (ap (λ all. members_text ArrayLabel 0 true all) are.members ∙ bytes_text type true 0 (start_of value) bytes)
 
--- what is left of their text before one
-pub told_byte : (a b : Option (List ℕ)) (l m : List ℕ) (type : IntegerType) (bytes : List ℕ) (first : Bool) (i : ℕ) (number : ℤ) (text : List ℕ) → i < length bytes
-    → number ≡ with_sign type (get_or bytes i 0)
-    → Told a b l m (byte_row_text type first (drop i bytes)) text
-    → Told a b l m ((comma first ++ integer_text type number) ++ byte_row_text type false (drop (i + 1) bytes)) text
-told_byte a b l m type bytes first i number text lt is h =
-    let left = ap (λ bytes. byte_row_text type first bytes) (drop_more bytes i 0 lt) in
-    let own = ap (λ n. (comma first ++ integer_text type n) ++ byte_row_text type false (drop (i + 1) bytes)) (sym is) in
-    subst (λ s. Told a b l m s text) (left ∙ own) h
+-- their text from one on
+pub byte_first : (type : IntegerType) (bytes : List ℕ) (first : Bool) (i : ℕ) (number : ℤ) → i < length bytes → number ≡ with_sign type (get_or bytes i 0)
+    → byte_row_text type first (drop i bytes) ≡ (comma first ++ integer_text type number) ++ byte_row_text type false (drop (i + 1) bytes)
+byte_first type bytes first i number lt is =
+    ap (λ bytes. byte_row_text type first bytes) (drop_more bytes i 0 lt)
+    ∙ ap (λ n. (comma first ++ integer_text type n) ++ byte_row_text type false (drop (i + 1) bytes)) (sym is)

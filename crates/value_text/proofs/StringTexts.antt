@@ -1,14 +1,11 @@
 -- Laws of the texts of strings.
-use Rattle.std.proofs.Common.{◌≡◌, ℕ, suc, true, ◌+◌, ◌-◌, ◌<◌, ◌≤◌, Option, List, [], ◌∷◌, ◌++◌, take, drop, length, refl, sym, ◌∙◌, ap, subst, arith, inl, inr}
+use Rattle.std.proofs.Common.{◌≡◌, ℕ, suc, true, ◌+◌, ◌-◌, ◌<◌, ◌≤◌, List, [], ◌∷◌, ◌++◌, take, drop, length, refl, sym, ◌∙◌, ap, arith, inl, inr}
 use Rattle.std.specs.Prelude.{slice_index}
 use Rattle.std.specs.List.{list_all, prefix_len, slice_range}
 use Rattle.std.proofs.lemmas.Bool.{cases_Bool, false≢true}
-use Rattle.std.proofs.lemmas.List.{append_assoc, take-append-drop, drop-drop, take_rest, length-take, length-drop}
+use Rattle.std.proofs.lemmas.List.{append_assoc, take-append-drop, drop-drop, length-take, length-drop}
 use Rattle.std.proofs.lemmas.List.Folds.{drop_split}
-use Rattle.text_forms.specs.Written.{AppendsPart}
-use Rattle.value_text.specs.Gathered.{Gathers}
 use Rattle.value_text.specs.ValueText.{spelled, spelled_byte, is_plain}
-use Rattle.value_text.proofs.Gathered.{Told, told_more, told_part}
 
 one_more : (n : ℕ) → 1 + n ≡ suc n
 one_more n = omega arith
@@ -55,17 +52,6 @@ escape_then escape (b ∷ bytes) e lt = elim (cases_Bool (is_plain b)) [
   | inr miss ↦ rw miss refl
 ]
 
--- one turn of writing what is left
-pub bytes_step : (escape : ℕ → List ℕ) (a b c : Option (List ℕ)) (l m o : List ℕ) (k n : ℕ) (bytes : List ℕ) → k ≤ length bytes → Told a b l m (spelled escape (drop k bytes)) (spelled escape bytes) → n ≤ length (take (length bytes - k) (drop k bytes)) → Gathers b c m o (spelled escape (take n (take (length bytes - k) (drop k bytes)))) → (k + n ≤ length bytes) × Told a c l o (spelled escape (drop (k + n) bytes)) (spelled escape bytes)
-bytes_step escape a b c l m o k n bytes le told low g =
-    let e : take (length bytes - k) (drop k bytes) ≡ drop k bytes = take_rest bytes k in
-    let low' : n ≤ length (drop k bytes) = subst (λ s. n ≤ length s) e low in
-    let g' : Gathers b c m o (spelled escape (take n (drop k bytes))) = subst (λ s. Gathers b c m o (spelled escape (take n s))) e g in
-    let split : spelled escape (drop k bytes) ≡ spelled escape (take n (drop k bytes)) ++ spelled escape (drop (k + n) bytes) =
-    bytes_split escape n (drop k bytes) ∙ ap (λ s. spelled escape (take n (drop k bytes)) ++ spelled escape s) (drop-drop n k bytes) in
-    (omega (arith, length-drop k bytes, le, low'), told_more a b c l m o _ _ _ (subst (λ t. Told a b l m t (spelled escape bytes)) split told) g')
-
--- a part of what is left
-pub bytes_cut : (escape : ℕ → List ℕ) (a b c : Option (List ℕ)) (l m : List ℕ) (k : ℕ) (bytes : List ℕ) → Told a b l m (spelled escape (drop k bytes)) (spelled escape bytes) → AppendsPart b c (m ++ spelled escape (take (length bytes - k) (drop k bytes))) → AppendsPart a c (l ++ spelled escape bytes)
-bytes_cut escape a b c l m k bytes told g =
-    told_part a b c l m _ _ told (subst (λ s. AppendsPart b c (m ++ spelled escape s)) (take_rest bytes k) g)
+-- what is left after some first bytes of what was left
+pub bytes_next : (escape : ℕ → List ℕ) (k n : ℕ) (bytes : List ℕ) → spelled escape (drop k bytes) ≡ spelled escape (take n (drop k bytes)) ++ spelled escape (drop (k + n) bytes)
+bytes_next escape k n bytes = bytes_split escape n (drop k bytes) ∙ ap (λ s. spelled escape (take n (drop k bytes)) ++ spelled escape s) (drop-drop n k bytes)

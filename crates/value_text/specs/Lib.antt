@@ -12,7 +12,7 @@ pub mod Printed
 pub mod Suffixes
 pub mod PartText
 pub use Rattle.text_forms.specs.Written
-pub mod Gathered
+pub mod Puts
 pub mod Json
 pub mod JsonValue
 pub mod SmallParts

@@ -1,4 +1,4 @@
-//! A file that is there, one that is cut short, and paths that are no files.
+//! A file that exists, a file that is cut short, and paths that name no file.
 
 use crate::spaces::reads;
 use crate::{BitFault, FileSpace, Meter, OpenFault, Order, Space};
@@ -7,7 +7,7 @@ use std::fs::{self, OpenOptions};
 use std::process;
 use std::test::Fail;
 
-/// A path of a file of this test's own.
+/// The path of a file that belongs to this test.
 fn own_path(rt: &HostRuntime, name: &str) -> Result<String, Fail> {
     let mut path = temp_dir(rt)?;
     let id = process::id(rt.process());

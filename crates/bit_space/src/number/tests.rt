@@ -1,10 +1,10 @@
-//! Values from outside, refusals, and one read for a number.
+//! Values that were computed elsewhere, refusals, and one read for a number.
 
 use crate::spaces::{Counted, Shifting, memory, reads};
 use crate::{BitFault, Meter, Order, Space};
 use std::test::Fail;
 
-/// Bit position, width, and the number in big and in little order, worked out from the groups.
+/// Bit position, width, and the big-endian and the little-endian number, worked out from the groups.
 const NUMBERS: [(u64, u8, u64, u64); 44] = [
     (0, 1, 0x0, 0x0),
     (3, 1, 0x1, 0x1),

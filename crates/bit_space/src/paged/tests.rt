@@ -1,11 +1,11 @@
-//! The bytes and the reads of pages, refused memory, and reads that fail.
+//! The bytes and the reads of pages, allocation failures, and reads that fail.
 
 use crate::spaces::{Counted, Failing, numbered, reads};
 use crate::{BitFault, MemSpace, Meter, Order, Paged, Space, read_number};
 use std::alloc::Global;
 use std::test::Fail;
 
-/// Pages over the bytes 0 to 250, again and again, that count the reads.
+/// Pages over the bytes 0 to 250, repeated, that count the reads.
 fn counted_pages(alloc: Global, length: usize) -> Option<Paged<Counted<MemSpace>>> {
     Paged::new(alloc, Counted::new(numbered(alloc, length)?)).ok()
 }
@@ -88,7 +88,7 @@ fn pages_across(rt: HostRuntime) -> Result<(), Fail> {
     Ok(())
 }
 
-/// Where an allocation is refused meanwhile the numbers are the same.
+/// The numbers are the same where an allocation fails meanwhile.
 #[test]
 fn pages_without_memory(rt: HostRuntime) -> Result<(), Fail> {
     let Some(mut paged) = counted_pages(rt.alloc(), 9000) else {

@@ -18,7 +18,7 @@ fn ends_block(bytes: &[u8], at: usize) -> bool
     byte_at(bytes, at) == b'*' && byte_at(bytes, at + 1) == b'/'
 }
 
-/// How many bytes there are up to and with the first `*/`.
+/// The number of bytes up to the end of the first `*/`.
 #[tactic(auto, using(crate::proofs::Blanks::block_steps))]
 fn block_len(bytes: &[u8]) -> Option<usize>
     requires { length bytes.now < 2 ^ 32 }
@@ -50,7 +50,7 @@ fn block_piece(at: usize, rest: &[u8]) -> Result<Piece<'_>, LexFault>
     }
 }
 
-/// The comment that begins with a slash at `at` and goes on in `rest`, or the sign.
+/// The comment that begins with a slash at `at` and continues in `rest`, or the sign.
 #[tactic(auto, unfolding(crate::specs::Blanks::slash_piece))]
 pub fn slash_piece(at: usize, rest: &[u8]) -> Result<Piece<'_>, LexFault>
     requires { length rest.now < 2 ^ 32 }

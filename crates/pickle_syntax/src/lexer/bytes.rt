@@ -9,13 +9,13 @@ ghost use Rattle.pickle_syntax.specs.Bytes.{digit_of, is_in, starts};
 #[derive(Clone, Copy, Debug)]
 pub enum Class {
     Blank,
-    /// What a word begins with.
+    /// The first byte of a word.
     Letter,
-    /// What a word goes on with.
+    /// A later byte of a word.
     Word,
     /// The digits of a base, and `_`.
     Digit(u8),
-    /// What doesn't end a line.
+    /// A byte that doesn't end a line.
     Line,
 }
 
@@ -33,7 +33,7 @@ pub enum Start {
     Sign,
 }
 
-/// The digit that a byte writes, or 99.
+/// The digit that a byte stands for, or 99.
 pub fn digit_of(b: u8) -> u8
     ensures { result ≡ digit_of b }
 {
@@ -79,7 +79,7 @@ pub fn starts(b: u8) -> Start
     }
 }
 
-/// How many bytes at the front are of the class.
+/// The number of bytes at the front that are of the class.
 pub fn run_len(class: Class, bytes: &[u8]) -> usize
     ensures len { result ≡ prefix_len (is_in class) bytes.now }
     ensures within { result ≤ length bytes.now }
@@ -96,7 +96,7 @@ pub fn byte_at(bytes: &[u8], at: usize) -> u8
     if at < bytes.len() { bytes[at] } else { 0 }
 }
 
-/// What follows the first `n` bytes.
+/// The bytes after the first `n`.
 pub fn skip(bytes: &[u8], n: usize) -> &[u8]
     requires { n ≤ length bytes.now }
     ensures { result.now ≡ drop n bytes.now }

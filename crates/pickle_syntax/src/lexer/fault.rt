@@ -12,20 +12,20 @@ use thiserror::Error;
 #[derive(Clone, Copy, Debug, PartialEq, Eq, Error)]
 #[error("{}", self.name())]
 pub enum LexFaultKind {
-    /// A byte begins no token, or may not stand in its text or character.
+    /// A byte begins no token, or isn't allowed in its text or character.
     BadByte,
     /// A comment or a text has no end.
     Unclosed,
-    /// A number has no type that holds it, or runs into a letter, a digit or `_`.
+    /// A number has no type that holds it, or is directly followed by a letter, a digit or `_`.
     BadNumber,
     /// There are more than 1,048,576 bytes.
     TooLong,
-    /// Memory ran out.
+    /// An allocation failed.
     Memory,
 }
 
 impl LexFaultKind {
-    /// The name by which lines tell it: that of its variant.
+    /// Its name in the printed line: that of its variant.
     pub fn name(self) -> &'static str
         ensures { result.now ≡ lex_kind self }
     {
@@ -39,7 +39,8 @@ impl LexFaultKind {
     }
 }
 
-/// What is wrong, and the byte at which it is, counted from 0; 0 where memory ran out. It displays the line that tells it.
+/// What is wrong, and the byte at which it is, counted from 0. After an allocation failure the byte is 0. It displays the
+/// line that reports it.
 #[derive(Clone, Copy, Debug, PartialEq, Eq, Error)]
 #[error(fmt = show)]
 pub struct LexFault {
@@ -47,7 +48,7 @@ pub struct LexFault {
     pub at: usize,
 }
 
-// Shows the line of a fault: want of memory is at no byte.
+// Displays the line of a fault. An allocation failure is at no byte.
 fn show<W: fmt::Write>(kind: &LexFaultKind, at: &usize, f: &mut Formatter<W>) -> fmt::Result {
     match kind {
         LexFaultKind::Memory => write!(f, "fault {kind}"),

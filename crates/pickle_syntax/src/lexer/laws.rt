@@ -7,14 +7,14 @@ ghost use Rattle.pickle_syntax.specs.Lexing.{Span, lexed};
 ghost use Rattle.pickle_syntax.specs.Pieces.{IsLexed, IsLexFault};
 ghost use Rattle.pickle_syntax.specs.Laws.{CutsTheLongest, FaultsWhereNoPiece};
 
-/// What is cut at a place is the longest piece there by the rules of the tokens, and the only one so long; nothing is
-/// cut just where no front of the bytes is a piece, and then the fault is the one that the rules name.
+/// The piece that is cut at a place is the longest one there by the rules of the tokens, and the only one of that length.
+/// No piece is cut exactly where no prefix of the bytes is a piece, and then the fault is the one that the rules name.
 pub fn cuts_the_longest()
     ensures piece { CutsTheLongest }
     ensures fault { FaultsWhereNoPiece }
 {}
 
-/// The rules of the tokens leave one answer for each pickle: its tokens and spans where no place is faulty, and else its
+/// The rules of the tokens allow one answer for each pickle: its tokens and spans where no place is faulty, otherwise its
 /// first fault.
 pub fn rules_decide()
     ensures tokens { (bytes : List ℕ) (x : List Token × List Span) → (lexed bytes ≡ Ok x) ↔ IsLexed bytes x }

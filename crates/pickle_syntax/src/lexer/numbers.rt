@@ -8,7 +8,7 @@ use crate::lexer::bytes::{Class, byte_at, digit_of, is_in, run_len, skip};
 use crate::lexer::fault::{LexFault, LexFaultKind};
 use crate::token::Number;
 
-/// What stands behind the digits. The width is 0 where none is written.
+/// The suffix after the digits. The width is 0 where none is written.
 #[derive(Clone, Copy, Debug)]
 pub struct Suffix {
     signed: bool,
@@ -132,7 +132,7 @@ fn suffix_at(after: &[u8]) -> Suffix
     suffix_of(byte_at(after, 0), byte_at(after, 1))
 }
 
-/// Whether the type has the value.
+/// Whether the type can hold the value.
 fn has_value(signed: bool, width: u8, value: u64) -> bool
     requires { width ≤ 64 }
     ensures { result ≡ has_value signed width value }
@@ -198,7 +198,7 @@ fn checked(at: usize, value: u64, suffix: Suffix, end: usize, next: u8) -> Resul
     })
 }
 
-/// The number at the front, which stands at `at`.
+/// The number at the front, whose place is `at`.
 #[tactic(auto, using(crate::proofs::Numbers::number_steps), unfolding(crate::specs::Numbers::number_at))]
 pub fn number_at(at: usize, bytes: &[u8]) -> Result<Found, LexFault>
     requires len { length bytes.now < 2 ^ 32 }

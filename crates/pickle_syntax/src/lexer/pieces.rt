@@ -22,7 +22,7 @@ pub struct Piece<'t> {
     pub len: usize,
 }
 
-/// The longest piece at the front, which stands at `at`; or the fault there.
+/// The longest piece at the front, whose place is `at`, or the fault there.
 #[tactic(auto, unfolding(crate::specs::Lexing::piece_at))]
 pub fn piece_at(alloc: Global, at: usize, bytes: &[u8]) -> Result<Piece<'_>, LexFault>
     requires { at + length bytes.now < 2 ^ 31 }

@@ -63,7 +63,7 @@ fn single_sign(b: u8) -> Option<Sign>
     }
 }
 
-/// The longest sign that begins with the byte `b`, which stands at `at`, and goes on in `rest`.
+/// The longest sign that begins with the byte `b`, whose place is `at`, and continues in `rest`.
 #[tactic(auto, unfolding(crate::specs::Signs::sign_piece))]
 pub fn sign_piece(at: usize, b: u8, rest: &[u8]) -> Result<Piece<'_>, LexFault>
     ensures value { Gives seen result (sign_piece at b rest.now) }

@@ -12,14 +12,14 @@ use crate::lexer::words::attribute_at;
 use crate::token::Kind;
 use std::alloc::Global;
 
-/// What stands at a place between two quotes.
+/// What is at a place between two quotes.
 #[derive(Clone, Copy, Debug)]
 pub enum Part {
     /// The closing quote.
     Closes,
-    /// A byte, and how many bytes write it.
+    /// A byte, and the number of bytes in which it is written.
     Byte(u8, usize),
-    /// What may not stand there.
+    /// What isn't allowed there.
     Bad,
     /// A line feed, or the end of the pickle.
     Breaks,
@@ -87,7 +87,7 @@ fn part_at(quote: u8, bytes: &[u8]) -> Part
     }
 }
 
-/// The text whose first byte stands at `start`, behind its opening quote, and the place after its closing quote.
+/// The text whose first byte is at `start`, after its opening quote, and the place after its closing quote.
 #[tactic(auto, using(crate::proofs::Texts::text_steps))]
 pub fn text_from(
     alloc: Global,
@@ -126,7 +126,7 @@ pub fn text_from(
     })
 }
 
-/// The byte of the character behind an apostrophe, and the length up to and with the closing apostrophe.
+/// The byte of the character after an apostrophe, and the length with the closing apostrophe.
 fn character_at(bytes: &[u8]) -> Option<(u8, usize)>
     requires { length bytes.now < 2 ^ 32 }
     ensures value { result ≡ character_of (part_at 39 bytes.now) bytes.now }
@@ -144,7 +144,7 @@ fn character_at(bytes: &[u8]) -> Option<(u8, usize)>
     }
 }
 
-/// The character or the attribute that begins with an apostrophe at `at` and goes on in `rest`.
+/// The character or the attribute that begins with an apostrophe at `at` and continues in `rest`.
 #[tactic(auto, unfolding(crate::specs::Texts::apostrophe_piece))]
 pub fn apostrophe_piece(at: usize, rest: &[u8]) -> Result<Piece<'_>, LexFault>
     requires { length rest.now < 2 ^ 32 }

@@ -53,7 +53,7 @@ fn opener_at(bytes: &[u8]) -> Option<(Opener, usize)>
     }
 }
 
-/// The attribute behind an apostrophe, and the length of its name.
+/// The attribute after an apostrophe, and the length of its name.
 #[tactic(auto, unfolding(crate::specs::Words::attribute_at))]
 pub fn attribute_at(bytes: &[u8]) -> Option<(Attribute, usize)>
     ensures value { result ≡ attribute_at bytes.now }

@@ -17,7 +17,7 @@ use crate::token::{Kind, Sign};
 use crate::tree::{Element, Expression, Infix, Operation, Prefix, Selection, Suffix, Suffixed};
 use std::alloc::Global;
 
-/// The least level of what an operator before its operand takes.
+/// The least level of the operand of a prefix.
 const PREFIX_LEVEL: u8 = 13;
 
 /// What follows `(`.
@@ -38,7 +38,7 @@ fn bracketed<'a, 't>(
     Ok((FoundExpression { expression, depth }, rest))
 }
 
-/// What follows an operator before its operand.
+/// What follows a prefix.
 #[cycle(expressions)]
 fn prefixed<'a, 't>(
     alloc: Global,
@@ -119,7 +119,7 @@ fn after_first<'a, 't>(tokens: &'a [Kind<'t>]) -> &'a [Kind<'t>]
     }
 }
 
-/// A suffix over what was read.
+/// A suffix over the operand that was read.
 fn with_suffix<'t>(
     alloc: Global,
     left: FoundExpression<'t>,
@@ -139,7 +139,7 @@ fn with_suffix<'t>(
     Ok(FoundExpression { expression, depth })
 }
 
-/// What follows an operator between two operands.
+/// What follows an operator between two operands: the right one.
 #[cycle(expressions)]
 #[tactic(auto, unfolding(crate::specs::ReadExpressions::step_at))]
 fn infix<'a, 't>(
@@ -259,7 +259,7 @@ fn step<'a, 't>(
     }
 }
 
-/// At most so many operators after an operand, each over those before it.
+/// At most that many operators after an operand, each over those before it.
 #[cycle(expressions)]
 #[tactic(auto, using(crate::proofs::Chain::chain_steps))]
 fn chain<'a, 't>(

@@ -7,24 +7,24 @@ ghost use Rattle.pickle_syntax.specs.declared.parser.fault.Stop.TheVariants.{Mem
 use std::alloc::{AllocError, AllocFailed};
 use thiserror::Error;
 
-/// Why tokens were refused. It displays the line that tells it, with a token in the place of its byte.
+/// Why tokens were refused. It displays the line that reports it, with a token instead of its byte.
 #[derive(Clone, Copy, PartialEq, Eq, Debug, Error)]
 #[error("refused {}", self.name())]
 pub enum ParseFault {
-    /// No pickle goes on with this token, counted from 0; where it is their number, the tokens end too early.
+    /// No pickle goes on with this token, counted from 0. Where this is the number of tokens, they end too early.
     #[error("refused {} at token {}", self.name(), .0)]
     Syntax(usize),
     /// An expression, or the types inside a type, are nested more than 64 deep.
     TooDeep,
     /// More than 1,024 fields in a struct or union, or more than 4,096 declarations.
     TooMany,
-    /// There was no memory for the tree.
+    /// The allocation of the tree failed.
     #[error("fault {}", self.name())]
     Memory,
 }
 
 impl ParseFault {
-    /// The name by which lines tell it: that of its variant.
+    /// Its name in the printed line: that of its variant.
     pub fn name(self) -> &'static str
         ensures { result.now ≡ parse_kind self }
     {
@@ -40,7 +40,7 @@ impl ParseFault {
 /// Why the reading stopped.
 #[derive(Clone, Copy, PartialEq, Eq, Debug)]
 pub enum Stop {
-    /// At the token with which so many are left.
+    /// At the token with which that many are left.
     Syntax(usize),
     TooDeep,
     TooMany,

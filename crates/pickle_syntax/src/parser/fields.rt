@@ -17,10 +17,10 @@ use crate::token::{Kind, Sign, Word};
 use crate::tree::{ByteOrder, Clauses, Expression, Field, SeveralClauses};
 use std::alloc::Global;
 
-/// How deep an expression may be.
+/// The most levels of an expression.
 const EXPRESSION_DEPTH: u8 = 64;
 
-/// How many fields a struct or a union may have.
+/// The most fields of a struct or union.
 const FIELDS: usize = 1024;
 
 /// An expression that is there.
@@ -35,7 +35,7 @@ pub fn present_at<'a, 't>(
     Ok((Some(Box::new(alloc, found.expression)?), rest))
 }
 
-/// An expression behind this sign, or nothing.
+/// An expression after this sign, or nothing.
 #[tactic(auto, unfolding(crate::specs::ReadForms::part_at))]
 fn part_at<'a, 't>(
     alloc: Global,
@@ -50,7 +50,7 @@ fn part_at<'a, 't>(
     }
 }
 
-/// An expression behind `if`, or nothing.
+/// An expression after `if`, or nothing.
 #[tactic(auto, unfolding(crate::specs::ReadForms::condition_at))]
 fn condition_at<'a, 't>(
     alloc: Global,
@@ -88,7 +88,7 @@ fn optional_name_at<'a, 't>(tokens: &'a [Kind<'t>]) -> (Option<&'t [u8]>, &'a [K
     }
 }
 
-/// What stands behind a name, kept together.
+/// The clauses after a name, in one record.
 fn clauses_of<'t>(
     alloc: Global,
     constraint: Option<Box<Expression<'t>>>,

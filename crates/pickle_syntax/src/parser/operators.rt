@@ -110,7 +110,7 @@ pub fn level(op: Infix) -> u8
     }
 }
 
-/// The level of what the operator makes.
+/// The level of the expression that the operator makes.
 fn own_of(next: Next) -> u8
     ensures { result ≡ own_of next }
 {
@@ -133,7 +133,7 @@ fn left_of(next: Next) -> u8
     }
 }
 
-/// Whether an operator takes the operand before it, for a place of this level.
+/// Whether an operator accepts the operand before it, at a place of this level.
 pub fn goes_on(least: u8, next: Next, level: u8) -> bool
     ensures { result ≡ (nat_le least (own_of next) && nat_le (left_of next) level) }
 {

@@ -15,10 +15,10 @@ use crate::token::{Kind, Sign, Word};
 use crate::tree::{Declaration, Pickle};
 use std::alloc::Global;
 
-/// How deep the types in a declaration may stand in one another.
+/// The most levels of types inside one another in a declaration.
 const FORM_DEPTH: u8 = 64;
 
-/// How many declarations a pickle may have.
+/// The most declarations of a pickle.
 const DECLARATIONS: usize = 4096;
 
 #[tactic(auto, unfolding(crate::specs::ReadForms::declaration_at))]

@@ -1,4 +1,4 @@
-//! What stands at the front of the tokens: signs, words, names, units and types without parts.
+//! What is at the front of the tokens: signs, words, names, units and types without parts.
 
 ghost use Rattle.std.specs.Prelude.{◌≡◌};
 ghost use Rattle.pickle_syntax.specs.Tokens.{tokens_of};
@@ -9,7 +9,7 @@ use crate::parser::fault::Stop;
 use crate::token::{Kind, Number, Opener, Sign, Word};
 use crate::tree::{Reference, Target, Unit};
 
-/// The same tokens. A loop goes on with what a call gives, not with a part of it.
+/// The same tokens. A loop goes on with the result of a call, not with a part of it.
 #[inline]
 pub fn onward<'a, 't>(tokens: &'a [Kind<'t>]) -> &'a [Kind<'t>]
     ensures { result.now ≡ tokens.now }
@@ -45,7 +45,7 @@ pub fn after_word<'a, 't>(tokens: &'a [Kind<'t>], word: Word) -> Option<&'a [Kin
     }
 }
 
-/// The tokens after this sign, with which they have to begin.
+/// The tokens after this sign, with which they must begin.
 #[tactic(auto, unfolding(crate::specs::Reading::expect))]
 pub fn expect<'a, 't>(tokens: &'a [Kind<'t>], sign: Sign) -> Result<&'a [Kind<'t>], Stop>
     ensures { Gives (λ x. tokens_of x.now) result (expect sign (tokens_of tokens.now)) }
@@ -56,7 +56,7 @@ pub fn expect<'a, 't>(tokens: &'a [Kind<'t>], sign: Sign) -> Result<&'a [Kind<'t
     }
 }
 
-/// The tokens after this word, with which they have to begin.
+/// The tokens after this word, with which they must begin.
 pub fn expect_word<'a, 't>(tokens: &'a [Kind<'t>], word: Word) -> Result<&'a [Kind<'t>], Stop>
     ensures { Gives (λ x. tokens_of x.now) result (needed (after_word word (tokens_of tokens.now)) (tokens_of tokens.now)) }
 {

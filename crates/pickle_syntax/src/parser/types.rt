@@ -16,7 +16,7 @@ use crate::token::{Kind, Sign, Word};
 use crate::tree::{Expression, Form, Target};
 use std::alloc::Global;
 
-/// What may stand in the brackets of an array, and the closing one.
+/// What is in the brackets of an array, and the closing bracket.
 #[tactic(auto, unfolding(crate::specs::ReadForms::bound_at))]
 fn bound_at<'a, 't>(
     alloc: Global,
@@ -125,7 +125,7 @@ fn base_at<'a, 't>(
     }
 }
 
-/// The array suffix, if there is one, where the element may be so deep.
+/// The array suffix, if there is one, after an element that may be that deep.
 #[tactic(auto, unfolding(crate::specs::ReadForms::suffix_at))]
 fn suffix_at<'a, 't>(
     alloc: Global,

@@ -10,13 +10,14 @@ ghost use Rattle.pickle_types.specs.Wrong.{first_wrong, TellsPlace};
 ghost use Rattle.pickle_types.specs.Sound.{IsSoundClause, IsSoundBound};
 ghost use Rattle.pickle_types.specs.Table.{optional_term, bound_of, type_of, open_shape, IsTable, NamesBelow, IsSoundField, IsSoundShape, IsWidth};
 ghost use Rattle.pickle_types.specs.Meaning.{declared, fresh, integer_expression, offset_expression, bound_expression, integer_type, called, plain, offset_type};
-ghost use Rattle.pickle_types.specs.Built.{Fails, Gives, AreNamed, AreBelow, names_in};
-ghost use Rattle.pickle_types.specs.FieldNames.{shape_names, ArePlaced};
+ghost use Rattle.pickle_types.specs.Built.{Fails, Gives, AreNamed, AreBelow, names_in, words_in};
+ghost use Rattle.pickle_types.specs.FieldNames.{shape_names, AreDistinct};
+ghost use Rattle.pickle_types.specs.FieldLists.{IsFieldList};
 ghost use Rattle.pickle_types.specs.Building.{known_types, visible_in, after_itself, IsReady, named_types, may_add, Builds, HasRoom, AddsAtMost};
 ghost use Rattle.pickle_types.specs.Calls.{constraint_meaning, BuildsForm, AddsField, BuildsField, BuildsFields, AddsDeclaration};
 
 use crate::check::expressions::{integer, typed};
-use crate::check::field_list::FieldList;
+use crate::check::field_list::{FieldList, FieldPlaces};
 use crate::check::fields::{
     condition_in, constraint_in, copied, form_in, fresh, label_in, name_in, order_in, parts_from,
     place_in, stand, struct_place, total_width,
@@ -30,7 +31,6 @@ use crate::fault::{FaultKind, TypeFault};
 use crate::integer::IntegerType;
 use crate::names::{Declared, Names, find_name};
 use crate::node::{Extent, Field, Node, Resolved, Shape};
-use crate::places_by_name::PlacesByName;
 use crate::scopes::{Scopes, Seen};
 use pickle_tree::tree;
 use pickle_tree::tree::{Declaration, Expression, Form, Reference, Unit};
@@ -55,7 +55,7 @@ pub struct Title<'n> {
 pub struct Builder<'n> {
     pub alloc: Global,
     pub names: Names<'n>,
-    pub nodes: Nodes<'n>,
+    pub nodes: Nodes,
     pub seen: Scopes<'n>,
 }
 
@@ -282,16 +282,17 @@ impl<'n> Builder<'n> {
         requires seen { AreBelow (length self.old.nodes) (levels + 1) self.old.seen }
         requires few { levels < 64 }
         requires inside { found.node < length self.old.nodes }
-        ensures gives { AddsField self.old self.new place levels before.now (field_tree written.now).parts (type_of self.old.nodes found.node) result }
+        requires list { IsFieldList (words_in self.old.names) before.now }
+        ensures gives { AddsField self.old self.new place levels before.now.fields.items (field_tree written.now).parts (type_of self.old.nodes found.node) result }
         ensures sound { IfOk result IsSoundField }
-        ensures fresh { IfOk result (λ _. fresh (field_tree written.now).parts.name (names_in before.now) ≡ Ok tt) }
+        ensures fresh { IfOk result (λ _. fresh (field_tree written.now).parts.name (names_in before.now.fields.items) ≡ Ok tt) }
         ensures node { IfOk result (λ field. field.node ≡ found.node) }
         ensures nodes { self.new.nodes ≡ self.old.nodes }
     {
         let bits = has_width(&self.nodes, found.node);
         stand(place, bits, written)?;
         let word = name_in(written);
-        fresh(word, before)?;
+        fresh(&self.names, word, before)?;
         let label = self.offset_expression(levels + 1, label_in(written))?;
         let condition = self.integer_expression(levels + 1, condition_in(written))?;
         let itself = Seen {
@@ -312,15 +313,15 @@ impl<'n> Builder<'n> {
         })
     }
 
-    /// A new node, with the names of its fields where they are many, and the depth of its type.
+    /// A new node, with the places of its fields where they are many, and the depth of its type.
     pub fn push(
         &mut self,
         slot: Option<u16>,
         shape: Shape,
-        names: Option<PlacesByName<'n>>,
+        places: Option<FieldPlaces>,
         depth: u8,
     ) -> Result<Found, FaultKind>
-        requires named { IfSome names (ArePlaced (shape_names shape)) }
+        requires distinct { IfSome places (λ _. AreDistinct (shape_names shape)) }
         requires table { IsTable self.old.nodes }
         requires names { AreNamed self.old.nodes self.old.names }
         requires below { NamesBelow (length self.old.nodes) shape }
@@ -334,7 +335,7 @@ impl<'n> Builder<'n> {
         ensures memory { IfErr result (λ e. e ≡ FaultKind.Memory) }
     {
         let node = self.nodes.len();
-        self.nodes.push(Node { shape, slot }, names)?;
+        self.nodes.push(Node { shape, slot }, places)?;
         Ok(Found { node, depth })
     }
 
@@ -452,6 +453,7 @@ impl<'n> Builder<'n> {
         }
     }
 
+    #[inline(never)]
     #[cycle(types)]
     fn array_at(
         &mut self,
@@ -490,6 +492,7 @@ impl<'n> Builder<'n> {
         )
     }
 
+    #[inline(never)]
     #[cycle(types)]
     fn struct_at(
         &mut self,
@@ -511,7 +514,7 @@ impl<'n> Builder<'n> {
         ensures low { IfOk result (λ found. found.depth ≤ room) }
     {
         let (fields, depth) = self.fields_at(struct_place(pinned), levels, room - 1, written)?;
-        let (fields, names) = fields.into_parts();
+        let (fields, places) = fields.into_parts();
         let name = copied(self.alloc, title.name)?;
         self.push(
             title.slot,
@@ -520,11 +523,12 @@ impl<'n> Builder<'n> {
                 pinned,
                 fields,
             },
-            names,
+            places,
             depth + 1,
         )
     }
 
+    #[inline(never)]
     #[cycle(types)]
     fn integral_at(
         &mut self,
@@ -547,7 +551,7 @@ impl<'n> Builder<'n> {
     {
         let number = integer_referred(&self.names, &self.nodes, reference)?;
         let (fields, depth) = self.fields_at(Place::Integral, levels, room - 1, written)?;
-        let (fields, names) = fields.into_parts();
+        let (fields, places) = fields.into_parts();
         if total_width(&self.nodes, &fields) != u128::from(number.width) {
             return Err(FaultKind::IntegralWidths);
         }
@@ -560,11 +564,12 @@ impl<'n> Builder<'n> {
                 number,
                 fields,
             },
-            names,
+            places,
             depth + 1,
         )
     }
 
+    #[inline(never)]
     #[cycle(types)]
     fn union_at(
         &mut self,
@@ -588,13 +593,13 @@ impl<'n> Builder<'n> {
             return Err(FaultKind::NotHere);
         }
         let (fields, depth) = self.fields_at(Place::Union, levels, room - 1, written)?;
-        let (fields, names) = fields.into_parts();
+        let (fields, places) = fields.into_parts();
         let alternatives = parts_from(self.alloc, fields)?;
         let name = copied(self.alloc, title.name)?;
         self.push(
             title.slot,
             Shape::Union { name, alternatives },
-            names,
+            places,
             depth + 1,
         )
     }
@@ -613,12 +618,13 @@ impl<'n> Builder<'n> {
         requires names { AreNamed self.old.nodes self.old.names }
         requires seen { AreBelow (length self.old.nodes) (levels + 1) self.old.seen }
         requires few { levels + 1 + room ≤ 64 }
+        requires list { IsFieldList (words_in self.old.names) before.now }
         requires within { IsFormWithin standard (field_tree written.now).form }
         requires space { HasRoom self.old (form_count (field_tree written.now).form) }
-        ensures builds { BuildsField self.old self.new place levels room before.now (field_tree written.now) result }
+        ensures builds { BuildsField self.old self.new place levels room before.now.fields.items (field_tree written.now) result }
         ensures few { OnOk result (AddsAtMost self.old self.new (form_count (field_tree written.now).form)) }
         ensures sound { IfOk result (λ x. IsSoundField x.0) }
-        ensures fresh { IfOk result (λ _. fresh (field_tree written.now).parts.name (names_in before.now) ≡ Ok tt) }
+        ensures fresh { IfOk result (λ _. fresh (field_tree written.now).parts.name (names_in before.now.fields.items) ≡ Ok tt) }
         ensures low { IfOk result (λ x. x.1 ≤ room) }
     {
         let found = self.type_at(
@@ -643,7 +649,7 @@ impl<'n> Builder<'n> {
         levels: u8,
         room: u8,
         written: &[tree::Field<'n>],
-    ) -> Result<(FieldList<'n>, u8), FaultKind>
+    ) -> Result<(FieldList, u8), FaultKind>
         requires table { IsTable self.old.nodes }
         requires names { AreNamed self.old.nodes self.old.names }
         requires seen { AreBelow (length self.old.nodes) levels self.old.seen }
@@ -652,8 +658,9 @@ impl<'n> Builder<'n> {
         requires space { HasRoom self.old (fields_form_count (fields_tree written.now)) }
         ensures builds { BuildsFields self.old self.new place levels room (fields_tree written.now) result }
         ensures few { OnOk result (AddsAtMost self.old self.new (fields_form_count (fields_tree written.now))) }
-        ensures count { IfOk result (λ x. length x.0 ≡ length written.now) }
-        ensures sound { IfOk result (λ x. All IsSoundField x.0) }
+        ensures count { IfOk result (λ x. length x.0.fields.items ≡ length written.now) }
+        ensures sound { IfOk result (λ x. All IsSoundField x.0.fields.items) }
+        ensures distinct { IfOk result (λ x. AreDistinct (names_in x.0.fields.items)) }
         ensures low { IfOk result (λ x. x.1 ≤ room) }
     {
         let mark = self.seen.len();
@@ -661,7 +668,7 @@ impl<'n> Builder<'n> {
         let mut deepest: u8 = 0;
         for f in written {
             let (field, depth) = self.field_at(place, levels, room, &fields, f)?;
-            fields.push(name_in(f), field)?;
+            fields.push(&mut self.names, name_in(f), field)?;
             deepest = deepest.max(depth);
         }
         self.seen.truncate(mark);

@@ -191,13 +191,19 @@ fn index(
     })
 }
 
-fn select_field(alloc: Global, nodes: &Nodes, x: Meant, word: &[u8]) -> Result<Meant, FaultKind>
+fn select_field(
+    alloc: Global,
+    names: &Names,
+    nodes: &Nodes,
+    x: Meant,
+    word: &[u8],
+) -> Result<Meant, FaultKind>
     requires table { IsTable nodes.now }
     requires sound { IsSoundMeant nodes.now x }
     ensures gives { Gives (meant_of nodes.now) result (selection word.now (meant_of nodes.now x)) }
     ensures sound { IfOk result (IsSoundMeant nodes.now) }
 {
-    let (place, node) = field_of(nodes, x.sort, word)?;
+    let (place, node) = field_of(names, nodes, x.sort, word)?;
     Ok(Meant {
         term: Resolved::Select(Box::new(alloc, x.term)?, place),
         sort: Sort::Node(node),
@@ -309,7 +315,7 @@ fn suffix(
     ensures sound { IfOk result (IsSoundMeant nodes.now) }
 {
     match suffix {
-        Suffix::Select(word) => select_field(alloc, nodes, x, word),
+        Suffix::Select(word) => select_field(alloc, names, nodes, x, word),
         Suffix::Attribute(Attribute::Length) => length(alloc, nodes, x),
         Suffix::Attribute(Attribute::Size) => size(alloc, path, x),
         Suffix::Unit(unit) => in_unit(alloc, nodes, x, *unit),

@@ -1,102 +1,110 @@
-//! The fields of one type, found by their names.
+//! The fields of one type, found by the numbers of their names.
 
-ghost use Rattle.std.specs.Prelude.{◌≡◌, ◌++◌, ◌∷◌, [], List, length, Ok, IfOk, IfErr, IfSome, OnOk, OnErr};
-ghost use Rattle.std.specs.Coded.{codes};
+ghost use Rattle.std.specs.Prelude.{◌≡◌, ◌++◌, ◌∷◌, [], ℕ, List, length, Ok, IfOk, IfErr, IfSome, OnOk};
 ghost use Rattle.pickle_types.specs.Table.{name_of};
 ghost use Rattle.pickle_types.specs.Meaning.{has_name, fresh};
-ghost use Rattle.pickle_types.specs.Built.{bytes_now, names_in};
-ghost use Rattle.pickle_types.specs.FieldNames.{ArePlaced};
-ghost use Rattle.pickle_types.specs.declared.node.Field.{Field};
-ghost use Rattle.pickle_types.specs.contracts.node.Resolved as resolved;
+ghost use Rattle.pickle_types.specs.Built.{bytes_now, names_in, words_in, types_in};
+ghost use Rattle.pickle_types.specs.Numbers.{Extends};
+ghost use Rattle.pickle_types.specs.FieldNames.{AreDistinct};
+ghost use Rattle.pickle_types.specs.FieldLists.{IsFieldList};
 
 use crate::check::field_names::field_place;
 use crate::fault::FaultKind;
+use crate::names::{NameId, Names};
 use crate::node::Field;
-use crate::places_by_name::PlacesByName;
+use crate::number_hasher::ByNumber;
+use indexmap::IndexMap;
 use std::alloc::Global;
-use std::marker::Model;
 
 /// The most fields of a list whose names are found one by one. It is faster up to there, and takes no memory.
 const FEW: usize = 32;
 
+/// The places of fields, by the numbers of their names, in the order of the fields.
+pub type FieldPlaces = IndexMap<NameId, usize, ByNumber>;
+
 /// Fields of a struct or alternatives of a union, no two of one name.
 #[derive(Drop)]
-pub struct FieldList<'n> {
+pub struct FieldList {
     fields: Vec<Field>,
-    /// The names of many fields.
-    names: Option<PlacesByName<'n>>,
+    /// The places of many fields.
+    places: Option<FieldPlaces>,
 }
 
-impl<'n> Model for FieldList<'n> {
-    ghost Value = { List Field };
+impl FieldList {
+    // What lists and their places take of the stack stays out of the frames of types in types: these calls are never inlined.
 
-    ghost coded = { Prim.hlevel (codes, resolved.the_row.coded) };
-
-    ghost view = { λ l. l.fields.items };
-
-    ghost invariant = { λ l. IfSome l.names (ArePlaced (names_in l.fields.items)) };
-}
-
-impl<'n> FieldList<'n> {
     /// No fields, and room for so many.
-    pub fn with_capacity(alloc: Global, count: usize) -> Result<FieldList<'n>, FaultKind>
-        ensures ok { IfOk result (λ l. l ≡ []) }
+    #[inline(never)]
+    pub fn with_capacity(alloc: Global, count: usize) -> Result<FieldList, FaultKind>
+        ensures none { IfOk result (λ l. l.fields.items ≡ []) }
+        ensures list { IfOk result (λ l. (words : List (List ℕ)) → IsFieldList words l) }
         ensures kind { IfErr result (λ e. e ≡ FaultKind.Memory) }
     {
         let fields = Vec::with_capacity(alloc, count)?;
-        let names = if count > FEW {
-            Some(PlacesByName::with_capacity(alloc, count)?)
+        let places = if count > FEW {
+            Some(IndexMap::with_capacity_and_hasher(alloc, count, ByNumber)?)
         } else {
             None
         };
-        Ok(FieldList { fields, names })
+        Ok(FieldList { fields, places })
     }
 
     /// How many fields there are.
     pub fn len(&self) -> usize
-        ensures { result ≡ length self.now }
+        ensures { result ≡ length self.now.fields.items }
     {
         self.fields.len()
     }
 
     /// Whether a field has this name.
-    pub fn has_name(&self, word: &[u8]) -> bool
-        ensures { result ≡ has_name word.now (names_in self.now) }
+    pub fn has_name(&self, names: &Names, word: &[u8]) -> bool
+        requires { IsFieldList (words_in names.now) self.now }
+        ensures { result ≡ has_name word.now (names_in self.now.fields.items) }
     {
-        let Some(names) = &self.names else {
+        let Some(places) = &self.places else {
             return field_place(&self.fields, word).is_some();
         };
-        names.find(word).is_some()
+        match names.number_of(word) {
+            None => false,
+            Some(number) => places.contains_key(&number),
+        }
     }
 
     /// One more field. No other has its name.
-    pub fn push(&mut self, name: Option<&'n [u8]>, field: Field) -> Result<(), FaultKind>
+    #[inline(never)]
+    pub fn push<'n>(
+        &mut self,
+        names: &mut Names<'n>,
+        name: Option<&'n [u8]>,
+        field: Field,
+    ) -> Result<(), FaultKind>
+        requires list { IsFieldList (words_in names.old) self.old }
         requires name { name_of field.name ≡ bytes_now name }
-        requires fresh { fresh (bytes_now name) (names_in self.old) ≡ Ok tt }
-        ensures ok { OnOk result (self.new ≡ self.old ++ field ∷ []) }
-        ensures err { OnErr result (self.new ≡ self.old) }
+        requires fresh { fresh (bytes_now name) (names_in self.old.fields.items) ≡ Ok tt }
+        ensures ok { OnOk result (self.new.fields.items ≡ self.old.fields.items ++ field ∷ []) }
+        ensures list { OnOk result (IsFieldList (words_in names.new) self.new) }
+        ensures kept { Extends (words_in names.old) (words_in names.new) }
+        ensures types { types_in names.new ≡ types_in names.old }
         ensures kind { IfErr result (λ e. e ≡ FaultKind.Memory) }
     {
         let place = self.fields.len();
         self.fields.push(field)?;
-        let Some(names) = &mut self.names else {
+        let Some(places) = &mut self.places else {
             return Ok(());
         };
-        match names.add(name, place) {
-            Ok(_) => Ok(()),
-            Err(kind) => {
-                self.fields.truncate(place);
-                Err(kind)
-            }
-        }
+        let Some(name) = name else {
+            return Ok(());
+        };
+        let number = names.number(name)?;
+        places.insert(number, place)?;
+        Ok(())
     }
 
-    /// The fields, and the names of many.
-    pub fn into_parts(self) -> (Vec<Field>, Option<PlacesByName<'n>>)
-        ensures fields { result.0.items ≡ self.entry }
-        ensures names { IfSome result.1 (ArePlaced (names_in self.entry)) }
+    /// The fields, and the places of many.
+    pub fn into_parts(self) -> (Vec<Field>, Option<FieldPlaces>)
+        ensures fields { result.0.items ≡ self.fields.items }
     {
-        let FieldList { fields, names } = self;
-        (fields, names)
+        let FieldList { fields, places } = self;
+        (fields, places)
     }
 }

@@ -1,6 +1,6 @@
 //! The names of a type's fields.
 
-ghost use Rattle.std.specs.Prelude.{◌≡◌};
+ghost use Rattle.std.specs.Prelude.{◌≡◌, Some, true, slice_get};
 ghost use Rattle.pickle_types.specs.Table.{name_of};
 ghost use Rattle.pickle_types.specs.Scopes.{is_named};
 ghost use Rattle.pickle_types.specs.Built.{names_in};
@@ -50,5 +50,35 @@ pub fn shape_place(shape: &Shape, word: &[u8]) -> Option<usize>
         Shape::Integral { fields, .. } => part_place(fields, word),
         Shape::Union { alternatives, .. } => part_place(alternatives, word),
         Shape::Integer(_) | Shape::Offset(_, _) | Shape::String | Shape::Array(_, _) => None,
+    }
+}
+
+/// Whether the field or alternative at a place of a type has that name.
+pub fn is_called_at(shape: &Shape, place: usize, word: &[u8]) -> bool
+    ensures { result ≡ true → slice_get (shape_names shape.now) place ≡ Some (Some word.now) }
+{
+    match shape {
+        Shape::Struct { fields, .. } => is_field_called(fields, place, word),
+        Shape::Integral { fields, .. } => is_part_called(fields, place, word),
+        Shape::Union { alternatives, .. } => is_part_called(alternatives, place, word),
+        Shape::Integer(_) | Shape::Offset(_, _) | Shape::String | Shape::Array(_, _) => false,
+    }
+}
+
+fn is_field_called(fields: &[Field], place: usize, word: &[u8]) -> bool
+    ensures { result ≡ true → slice_get (names_in fields.now) place ≡ Some (Some word.now) }
+{
+    match fields.get(place) {
+        Some(field) => is_called(&field.name, word),
+        None => false,
+    }
+}
+
+fn is_part_called(parts: &[Part], place: usize, word: &[u8]) -> bool
+    ensures { result ≡ true → slice_get (part_names parts.now) place ≡ Some (Some word.now) }
+{
+    match parts.get(place) {
+        Some(part) => is_called(&part.name, word),
+        None => false,
     }
 }

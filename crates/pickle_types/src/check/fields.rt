@@ -4,8 +4,9 @@ ghost use Rattle.std.specs.Prelude.{◌≡◌, ◌+◌, ◌*◌, ◌<◌, ◌≤
 ghost use Rattle.pickle_tree.specs.Tree.{optional_bytes, boxed_tree, borrowed_tree, field_tree, form_tree};
 ghost use Rattle.pickle_types.specs.Types.{PokeType};
 ghost use Rattle.pickle_types.specs.Table.{name_of, optional_term, open_fields, open_parts, type_of, FieldsBelow, PartsBelow, IsTable};
+ghost use Rattle.pickle_types.specs.FieldLists.{IsFieldList};
 ghost use Rattle.pickle_types.specs.Meaning.{has_name, fresh, may_stand, if_here, struct_place, place_in, parts_of, total_width};
-ghost use Rattle.pickle_types.specs.Built.{Gives, bytes_now, names_in, part_of};
+ghost use Rattle.pickle_types.specs.Built.{Gives, bytes_now, words_in, names_in, part_of};
 
 use crate::check::field_list::FieldList;
 use crate::check::nodes::Nodes;
@@ -13,6 +14,7 @@ use crate::check::places::Place;
 use crate::check::sorts::width_of;
 use crate::fault::FaultKind;
 use crate::name::Name;
+use crate::names::Names;
 use crate::node::{Field, Part};
 use pickle_tree::tree;
 use pickle_tree::tree::{ByteOrder, Clauses, Expression, Form};
@@ -111,13 +113,14 @@ pub fn stand(place: Place, bits: bool, field: &tree::Field<'_>) -> Result<(), Fa
 
 /// That no earlier field has this name.
 #[tactic(auto, unfolding(crate::specs::Meaning::fresh))]
-pub fn fresh(name: Option<&[u8]>, fields: &FieldList) -> Result<(), FaultKind>
-    ensures { Gives (λ u. u) result (fresh (bytes_now name.entry) (names_in fields.now)) }
+pub fn fresh(names: &Names, name: Option<&[u8]>, fields: &FieldList) -> Result<(), FaultKind>
+    requires { IsFieldList (words_in names.now) fields.now }
+    ensures { Gives (λ u. u) result (fresh (bytes_now name.entry) (names_in fields.now.fields.items)) }
 {
     match name {
         None => Ok(()),
         Some(word) => {
-            if fields.has_name(word) {
+            if fields.has_name(names, word) {
                 return Err(FaultKind::DuplicateField);
             }
             Ok(())

@@ -2,44 +2,45 @@
 
 ghost use Rattle.std.specs.Prelude.{◌≡◌, ◌<◌, ◌++◌, ◌∷◌, [], List, length, Some, slice_get, IfErr, IfSome, OnOk, OnErr};
 ghost use Rattle.std.specs.Coded.{codes};
-ghost use Rattle.pickle_types.specs.FieldNames.{place_named, shape_names, ArePlaced, AreIndexed};
+ghost use Rattle.pickle_types.specs.FieldNames.{place_named, shape_names, AreDistinct, AreIndexed};
 ghost use Rattle.pickle_types.specs.declared.node.Node.{Node};
 ghost use Rattle.pickle_types.specs.contracts.node.Resolved as resolved;
 
-use crate::check::field_names::shape_place;
+use crate::check::field_list::FieldPlaces;
+use crate::check::field_names::{is_called_at, shape_place};
 use crate::fault::FaultKind;
+use crate::names::Names;
 use crate::node::Node;
-use crate::places_by_name::PlacesByName;
 use std::alloc::Global;
 use std::collections::BTreeMap;
 use std::marker::Model;
 
 /// Nodes, each found by its index, and their fields by their names.
 #[derive(Drop)]
-pub struct Nodes<'n> {
+pub struct Nodes {
     nodes: Vec<Node>,
-    /// The names of a node's fields, where it has many.
-    names: BTreeMap<usize, PlacesByName<'n>>,
+    /// The places of a node's fields by the numbers of their names, where it has many.
+    places: BTreeMap<usize, FieldPlaces>,
 }
 
-impl<'n> Model for Nodes<'n> {
+impl Model for Nodes {
     ghost Value = { List Node };
 
     ghost coded = { Prim.hlevel (codes, resolved.the_row.coded) };
 
     ghost view = { λ t. t.nodes.items };
 
-    ghost invariant = { λ t. AreIndexed t.nodes.items t.names.entries };
+    ghost invariant = { λ t. AreIndexed t.nodes.items t.places.entries };
 }
 
-impl<'n> Nodes<'n> {
+impl Nodes {
     /// No nodes yet.
-    pub fn new(alloc: Global) -> Nodes<'n>
+    pub fn new(alloc: Global) -> Nodes
         ensures { result ≡ [] }
     {
         Nodes {
             nodes: Vec::new(alloc),
-            names: BTreeMap::new(alloc),
+            places: BTreeMap::new(alloc),
         }
     }
 
@@ -58,29 +59,41 @@ impl<'n> Nodes<'n> {
         &self.nodes[i]
     }
 
-    /// The place of a node's field of that name.
-    pub fn place_of(&self, i: usize, word: &[u8]) -> Option<usize>
-        ensures { (node : Node) → slice_get self.now i ≡ Some node → result ≡ place_named word.now (shape_names node.shape) }
+    /// The place that is kept for a node's field of that name.
+    fn kept_place(&self, names: &Names, i: usize, word: &[u8]) -> Option<usize>
+        ensures { IfSome result (λ _. (node : Node) → slice_get self.now i ≡ Some node → AreDistinct (shape_names node.shape)) }
     {
-        match self.names.get(&i) {
-            Some(names) => names.find(word),
-            None => shape_place(&self.nodes.get(i)?.shape, word),
-        }
+        let places = self.places.get(&i)?;
+        let number = names.number_of(word)?;
+        places.get(&number).copied()
     }
 
-    /// One more node, with the names of its fields where they are many.
-    pub fn push(&mut self, node: Node, names: Option<PlacesByName<'n>>) -> Result<(), FaultKind>
-        requires { IfSome names (ArePlaced (shape_names node.shape)) }
+    /// The place of a node's field of that name.
+    pub fn place_of(&self, names: &Names, i: usize, word: &[u8]) -> Option<usize>
+        ensures { (node : Node) → slice_get self.now i ≡ Some node → result ≡ place_named word.now (shape_names node.shape) }
+    {
+        let shape = &self.nodes.get(i)?.shape;
+        if let Some(place) = self.kept_place(names, i, word) {
+            if is_called_at(shape, place, word) {
+                return Some(place);
+            }
+        }
+        shape_place(shape, word)
+    }
+
+    /// One more node, with the places of its fields where they are many.
+    pub fn push(&mut self, node: Node, places: Option<FieldPlaces>) -> Result<(), FaultKind>
+        requires { IfSome places (λ _. AreDistinct (shape_names node.shape)) }
         ensures ok { OnOk result (self.new ≡ self.old ++ node ∷ []) }
         ensures err { OnErr result (self.new ≡ self.old) }
         ensures kind { IfErr result (λ e. e ≡ FaultKind.Memory) }
     {
         let place = self.nodes.len();
         self.nodes.push(node)?;
-        let Some(names) = names else {
+        let Some(places) = places else {
             return Ok(());
         };
-        match self.names.insert(place, names) {
+        match self.places.insert(place, places) {
             Ok(_) => Ok(()),
             Err(_) => {
                 self.nodes.truncate(place);
@@ -89,11 +102,11 @@ impl<'n> Nodes<'n> {
         }
     }
 
-    /// The nodes, without the names of their fields.
+    /// The nodes, without the places of their fields.
     pub fn into_nodes(self) -> Vec<Node>
-        ensures { result.items ≡ self.entry }
+        ensures { result.items ≡ self }
     {
-        let Nodes { nodes, names: _ } = self;
+        let Nodes { nodes, places: _ } = self;
         nodes
     }
 }

@@ -14,6 +14,7 @@ use crate::check::nodes::Nodes;
 use crate::check::operators::{Operand, Scalar};
 use crate::fault::FaultKind;
 use crate::integer::IntegerType;
+use crate::names::Names;
 use crate::node::{Field, Part, Resolved, Shape};
 use crate::predeclared::PREDECLARED;
 
@@ -35,7 +36,7 @@ pub struct Meant {
 }
 
 /// The shape of a node.
-pub fn shape_at<'a>(nodes: &'a Nodes<'_>, i: usize) -> &'a Shape
+pub fn shape_at<'a>(nodes: &'a Nodes, i: usize) -> &'a Shape
     requires table { IsTable nodes.now }
     requires inside { i < length nodes.now }
     ensures is { (node : Node) × (slice_get nodes.now i ≡ Some node) × (node.shape ≡ result.now) }
@@ -167,7 +168,12 @@ fn shape_field(shape: &Shape, place: Option<usize>) -> Result<(usize, usize), Fa
 }
 
 /// The place and the node of a field of that name.
-pub fn field_of(nodes: &Nodes, sort: Sort, word: &[u8]) -> Result<(usize, usize), FaultKind>
+pub fn field_of(
+    names: &Names,
+    nodes: &Nodes,
+    sort: Sort,
+    word: &[u8],
+) -> Result<(usize, usize), FaultKind>
     requires table { IsTable nodes.now }
     requires inside { IsInside nodes.now sort }
     ensures gives { Gives (λ x. (x.0, type_of nodes.now x.1)) result (sort_field word.now (sort_of nodes.now sort)) }
@@ -176,7 +182,7 @@ pub fn field_of(nodes: &Nodes, sort: Sort, word: &[u8]) -> Result<(usize, usize)
     match sort {
         Sort::Text => Err(FaultKind::Mismatch),
         Sort::Scalar(_) => Err(FaultKind::Mismatch),
-        Sort::Node(i) => shape_field(shape_at(nodes, i), nodes.place_of(i, word)),
+        Sort::Node(i) => shape_field(shape_at(nodes, i), nodes.place_of(names, i, word)),
     }
 }
 

@@ -5,19 +5,20 @@ ghost use Rattle.text_forms.specs.HexDigits.{hex_digit};
 
 use text_forms::hex::hex_digit;
 
-/// Room for the longest line: a place of 16 digits, 16 columns of up to 3 bytes, 16 bytes as text, and 4 bytes between and after them.
+/// The bytes of the longest line: a place of 16 digits, 16 columns of up to 3 bytes, 16 bytes as text, and 4 bytes between
+/// and after them.
 pub const LINE_ROOM: usize = 84;
 
-/// Each byte as text. It is looked up, since no processor foresees a test of unknown bytes.
+/// Each byte as text. It is looked up, because a processor can't predict a test of unknown bytes.
 static SHOWN: [u8; 256] = *b"................................ !\"#$%&'()*+,-./0123456789:;<=>?\
 @ABCDEFGHIJKLMNOPQRSTUVWXYZ[\\]^_`abcdefghijklmnopqrstuvwxyz{|}~.\
 ................................................................\
 ................................................................";
 
-/// Bytes that are laid out from the front. How many there are is passed on by value, as a register is faster than a field.
+/// Bytes that are laid out from the front. Their number is passed by value, because a register is faster than a field.
 pub type Line = [u8; LINE_ROOM];
 
-/// Lays out the line of up to 16 bytes that begin at a place, and tells its length.
+/// Lays out the line of up to 16 bytes that begin at a place, and returns its length.
 #[inline(always)]
 pub fn lay_out(place: u64, bytes: &[u8], line: &mut Line) -> usize
     requires { length bytes.now ≤ 16 }

@@ -1,16 +1,14 @@
 //! Prints the paths of parts.
-ghost use Rattle.std.specs.Prelude.{◌≡◌, ◌≢◌, ◌++◌, [], OnOk, OnErr, codes};
+ghost use Rattle.std.specs.Prelude.{◌≡◌, ◌≢◌, ◌++◌, [], codes};
 ghost use Rattle.pickle_meaning.specs.Values.{label_of};
 ghost use Rattle.value_store.specs.Labels.{member_name};
 ghost use Rattle.value_store.specs.Refs.{value_shown};
-ghost use Rattle.text_forms.specs.Written.{AppendsPart};
-ghost use Rattle.value_text.specs.Gathered.{Gathers};
+ghost use Rattle.value_text.specs.Puts.{Puts};
 ghost use Rattle.value_text.specs.PathText.{field_step, step_text, path_text};
 ghost use Rattle.value_text.specs.Steps.{text_of, steps_of, steps_with};
 
-use super::line::Line;
+use super::printer::Printer;
 use std::io::Write;
-use text_forms::write::WriteFault;
 use value_store::{Kind, ValueRef};
 
 /// A step from a value to one of its parts.
@@ -52,80 +50,64 @@ fn step_to_field(value: ValueRef<'_>, place: usize) -> Step<'_>
     }
 }
 
-/// Writes the path of these steps.
-pub fn put_path<W: Write>(w: &mut W, line: &mut Line, steps: &Steps<'_>) -> Result<(), WriteFault>
-    ensures ok { OnOk result (Gathers (W.contents w.old) (W.contents w.new) line.old line.new (path_text (steps_of steps.now))) }
-    ensures err { OnErr result (AppendsPart (W.contents w.old) (W.contents w.new) (line.old ++ path_text (steps_of steps.now))) }
-{
-    match steps {
-        Steps::Start => line.put(w, b"."),
-        Steps::Then(above, step) => put_further(w, line, above, *step),
+impl<W: Write> Printer<'_, W> {
+    /// Writes the path of these steps.
+    pub fn put_path(&mut self, steps: &Steps<'_>)
+        ensures { Puts W.contents self.old self.new (path_text (steps_of steps.now)) }
+    {
+        match steps {
+            Steps::Start => self.put(b"."),
+            Steps::Then(above, step) => self.put_further(above, *step),
+        }
     }
-}
 
-// Writes the path of a step after others.
-#[inline(always)]
-fn put_further<W: Write>(
-    w: &mut W,
-    line: &mut Line,
-    above: &Steps<'_>,
-    step: Step<'_>,
-) -> Result<(), WriteFault>
-    ensures ok { OnOk result (Gathers (W.contents w.old) (W.contents w.new) line.old line.new (path_text (steps_with above.now step.entry))) }
-    ensures err { OnErr result (AppendsPart (W.contents w.old) (W.contents w.new) (line.old ++ path_text (steps_with above.now step.entry))) }
-{
-    put_last(w, line, above, step)
-}
-
-// Writes a step after others.
-#[tactic(auto, using(crate::proofs::Gathered::gathered))]
-#[inline(always)]
-#[cycle(steps)]
-fn put_last<W: Write>(
-    w: &mut W,
-    line: &mut Line,
-    above: &Steps<'_>,
-    step: Step<'_>,
-) -> Result<(), WriteFault>
-    ensures ok { OnOk result (Gathers (W.contents w.old) (W.contents w.new) line.old line.new (steps_with above.now step.entry)) }
-    ensures err { OnErr result (AppendsPart (W.contents w.old) (W.contents w.new) (line.old ++ steps_with above.now step.entry)) }
-{
-    put_steps(w, line, above)?;
-    put_step(w, line, step)?;
-    Ok(())
-}
-
-#[tactic(auto, using(crate::proofs::Gathered::gathered))]
-#[cycle(steps)]
-fn put_steps<W: Write>(w: &mut W, line: &mut Line, steps: &Steps<'_>) -> Result<(), WriteFault>
-    ensures ok { OnOk result (Gathers (W.contents w.old) (W.contents w.new) line.old line.new (steps_of steps.now)) }
-    ensures err { OnErr result (AppendsPart (W.contents w.old) (W.contents w.new) (line.old ++ steps_of steps.now)) }
-{
-    match steps {
-        Steps::Start => Ok(()),
-        Steps::Then(above, step) => put_last(w, line, above, *step),
+    // Writes the path of a step after others.
+    #[inline(always)]
+    fn put_further(&mut self, above: &Steps<'_>, step: Step<'_>)
+        ensures { Puts W.contents self.old self.new (path_text (steps_with above.now step.entry)) }
+    {
+        self.put_last(above, step)
     }
-}
 
-#[inline(always)]
-fn put_step<W: Write>(w: &mut W, line: &mut Line, step: Step<'_>) -> Result<(), WriteFault>
-    ensures ok { OnOk result (Gathers (W.contents w.old) (W.contents w.new) line.old line.new (text_of step.entry)) }
-    ensures err { OnErr result (AppendsPart (W.contents w.old) (W.contents w.new) (line.old ++ text_of step.entry)) }
-{
-    match step {
-        Step::Element(place) => line.put_in_brackets(w, place),
-        Step::Field(name) => put_field(w, line, name),
-        Step::Nameless(place) => line.put_place(w, place),
+    // Writes a step after others.
+    #[tactic(auto, using(crate::proofs::Puts::puts))]
+    #[inline(always)]
+    #[cycle(steps)]
+    fn put_last(&mut self, above: &Steps<'_>, step: Step<'_>)
+        ensures { Puts W.contents self.old self.new (steps_with above.now step.entry) }
+    {
+        self.put_steps(above);
+        self.put_step(step);
     }
-}
 
-#[tactic(auto, using(crate::proofs::Gathered::gathered))]
-#[inline(always)]
-fn put_field<W: Write>(w: &mut W, line: &mut Line, name: &[u8]) -> Result<(), WriteFault>
-    ensures ok { OnOk result (Gathers (W.contents w.old) (W.contents w.new) line.old line.new (codes "." ++ name.now)) }
-    ensures err { OnErr result (AppendsPart (W.contents w.old) (W.contents w.new) (line.old ++ (codes "." ++ name.now))) }
-{
-    line.put_word(w, b".")?;
-    line.put_word(w, name)?;
-    Ok(())
+    #[tactic(auto, using(crate::proofs::Puts::puts))]
+    #[cycle(steps)]
+    fn put_steps(&mut self, steps: &Steps<'_>)
+        ensures { Puts W.contents self.old self.new (steps_of steps.now) }
+    {
+        match steps {
+            Steps::Start => {}
+            Steps::Then(above, step) => self.put_last(above, *step),
+        }
+    }
+
+    #[inline(always)]
+    fn put_step(&mut self, step: Step<'_>)
+        ensures { Puts W.contents self.old self.new (text_of step.entry) }
+    {
+        match step {
+            Step::Element(place) => self.put_in_brackets(place),
+            Step::Field(name) => self.put_field_step(name),
+            Step::Nameless(place) => self.put_place_step(place),
+        }
+    }
+
+    #[tactic(auto, using(crate::proofs::Puts::puts))]
+    #[inline(always)]
+    fn put_field_step(&mut self, name: &[u8])
+        ensures { Puts W.contents self.old self.new (codes "." ++ name.now) }
+    {
+        self.put_word(b".");
+        self.put_word(name);
+    }
 }

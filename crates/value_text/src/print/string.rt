@@ -1,78 +1,65 @@
 //! Prints strings.
-ghost use Rattle.std.specs.Prelude.{◌≡◌, ◌+◌, ◌<◌, ◌≤◌, ◌++◌, false, take, drop, length, slice_index, IfOk, OnErr, OnOk};
+ghost use Rattle.std.specs.Prelude.{◌≡◌, ◌+◌, ◌<◌, ◌≤◌, ◌++◌, false, take, drop, length, slice_index};
 ghost use Rattle.std.specs.List.{list_all, prefix_len};
-ghost use Rattle.text_forms.specs.Written.{AppendsPart};
-ghost use Rattle.value_text.specs.Gathered.{Gathers};
+ghost use Rattle.value_text.specs.Puts.{Puts};
 ghost use Rattle.value_text.specs.ValueText.{string_text, is_plain};
 ghost use Rattle.value_text.specs.JsonText.{json_string};
 ghost use Rattle.value_text.specs.Escaped.{spelled_by};
 
-use super::escape::{Escapes, put_escape};
-use super::line::Line;
+use super::escape::Escapes;
+use super::printer::Printer;
 use std::io::Write;
-use text_forms::write::WriteFault;
 
-/// Writes a string in double quotes.
-#[tactic(auto, using(crate::proofs::Gathered::gathered), unfolding(crate::specs::ValueText::string_text))]
-#[inline(never)]
-pub fn put_string<W: Write>(w: &mut W, line: &mut Line, bytes: &[u8]) -> Result<(), WriteFault>
-    ensures ok { OnOk result (Gathers (W.contents w.old) (W.contents w.new) line.old line.new (string_text bytes.now)) }
-    ensures err { OnErr result (AppendsPart (W.contents w.old) (W.contents w.new) (line.old ++ string_text bytes.now)) }
-{
-    line.put(w, b"\"")?;
-    put_bytes(w, line, Escapes::Poke, bytes)?;
-    line.put(w, b"\"")?;
-    Ok(())
-}
-
-/// Writes a string of JSON.
-#[tactic(auto, using(crate::proofs::Gathered::gathered), unfolding(crate::specs::JsonText::json_string))]
-#[inline(never)]
-pub fn put_json_string<W: Write>(w: &mut W, line: &mut Line, bytes: &[u8]) -> Result<(), WriteFault>
-    ensures ok { OnOk result (Gathers (W.contents w.old) (W.contents w.new) line.old line.new (json_string bytes.now)) }
-    ensures err { OnErr result (AppendsPart (W.contents w.old) (W.contents w.new) (line.old ++ json_string bytes.now)) }
-{
-    line.put(w, b"\"")?;
-    put_bytes(w, line, Escapes::Json, bytes)?;
-    line.put(w, b"\"")?;
-    Ok(())
-}
-
-fn put_bytes<W: Write>(
-    w: &mut W,
-    line: &mut Line,
-    escapes: Escapes,
-    bytes: &[u8],
-) -> Result<(), WriteFault>
-    ensures ok { OnOk result (Gathers (W.contents w.old) (W.contents w.new) line.old line.new (spelled_by escapes bytes.now)) }
-    ensures err { OnErr result (AppendsPart (W.contents w.old) (W.contents w.new) (line.old ++ spelled_by escapes bytes.now)) }
-{
-    let mut done = 0;
-    while done < bytes.len() {
-        done += put_next(w, line, escapes, &bytes[done..])?;
+impl<W: Write> Printer<'_, W> {
+    /// Writes a string in double quotes.
+    #[tactic(auto, using(crate::proofs::Puts::puts), unfolding(crate::specs::ValueText::string_text))]
+    #[inline(never)]
+    pub fn put_string(&mut self, bytes: &[u8])
+        ensures { Puts W.contents self.old self.new (string_text bytes.now) }
+    {
+        self.put(b"\"");
+        self.put_bytes(Escapes::Poke, bytes);
+        self.put(b"\"");
     }
-    Ok(())
-}
 
-// Writes all the plain bytes that come first, or else the first byte as an escape, and tells how many bytes that were.
-fn put_next<W: Write>(
-    w: &mut W,
-    line: &mut Line,
-    escapes: Escapes,
-    bytes: &[u8],
-) -> Result<usize, WriteFault>
-    requires { 0 < length bytes.now }
-    ensures some { IfOk result (λ n. (0 < n) × (n ≤ length bytes.now)) }
-    ensures ok { IfOk result (λ n. Gathers (W.contents w.old) (W.contents w.new) line.old line.new (spelled_by escapes (take n bytes.now))) }
-    ensures err { OnErr result (AppendsPart (W.contents w.old) (W.contents w.new) (line.old ++ spelled_by escapes bytes.now)) }
-{
-    let run = plain_len(bytes);
-    if run == 0 {
-        put_escape(w, line, escapes, bytes[0])?;
-        Ok(1)
-    } else {
-        line.put(w, &bytes[..run])?;
-        Ok(run)
+    /// Writes a string of JSON.
+    #[tactic(auto, using(crate::proofs::Puts::puts), unfolding(crate::specs::JsonText::json_string))]
+    #[inline(never)]
+    pub fn put_json_string(&mut self, bytes: &[u8])
+        ensures { Puts W.contents self.old self.new (json_string bytes.now) }
+    {
+        self.put(b"\"");
+        self.put_bytes(Escapes::Json, bytes);
+        self.put(b"\"");
+    }
+
+    fn put_bytes(&mut self, escapes: Escapes, bytes: &[u8])
+        ensures { Puts W.contents self.old self.new (spelled_by escapes bytes.now) }
+    {
+        let mut done = 0;
+        while done < bytes.len() {
+            if self.failed {
+                return;
+            }
+            done += self.put_next(escapes, &bytes[done..]);
+        }
+    }
+
+    // Writes all the plain bytes that come first, or else the first byte as an escape, and tells how many bytes that were.
+    fn put_next(&mut self, escapes: Escapes, bytes: &[u8]) -> usize
+        requires { 0 < length bytes.now }
+        ensures some { 0 < result }
+        ensures within { result ≤ length bytes.now }
+        ensures puts { Puts W.contents self.old self.new (spelled_by escapes (take result bytes.now)) }
+    {
+        let run = plain_len(bytes);
+        if run == 0 {
+            self.put_escape(escapes, bytes[0]);
+            1
+        } else {
+            self.put(&bytes[..run]);
+            run
+        }
     }
 }
 

@@ -1,35 +1,50 @@
-use Rattle.std.proofs.Common.{◌≡◌, Some, None, sym, ap, ◌∙◌, arith}
-use Rattle.pickle_types.specs.declared.names.Named.{Named}
-use Rattle.pickle_types.specs.FieldNames.{place_named}
-use Rattle.pickle_types.specs.Built.{IsNamed, words_of, declared_as}
-use Rattle.pickle_types.proofs.Looks.{found_is, found_named, declared_at, declared_none, placed_within}
+use Rattle.std.proofs.Common.{◌≡◌, ℕ, List, Some, None, map, sym, ap, ◌∙◌}
+use denote.Bor.{Bor}
+use Rattle.std.specs.Option.{option_copied}
+use Rattle.indexmap.specs.IndexMap.{values}
+use Rattle.pickle_types.specs.Built.{IsNamed, declared_as}
+use Rattle.pickle_types.specs.Numbers.{number_in, in_map}
+use Rattle.pickle_types.proofs.Looks.{found_is, found_named}
+use Rattle.pickle_types.proofs.Named.{named_none, named_some}
 use Rattle.pickle_types.proofs.names.find_name.Goals as goal
 
-pub index-requires : goal.index-requires
-index-requires c =
-    let ds = c.names.inside.list.items in
-    let at : place_named c.args.word.now (words_of ds) ≡ Some c.in-Some.place = sym (c.names.invariant.kept c.args.word.now) ∙ sym c.find.ensures ∙ c.in-Some.is in
-    let within = rw at at (placed_within c.args.word.now ds) in
-    omega arith
+pub returns-in_err-number-clause-found : goal.returns-in_err-number-clause-found
+returns-in_err-number-clause-found c nodes =
+    let types = c.names.inside.types in
+    let words = map (λ (w : Bor (List ℕ)). w.now) c.names.inside.words.items in
+    let word = c.args.word.now in
+    let none : number_in words word ≡ None = rw (← c.names.view_is) at (sym c.number_of.ensures ∙ c.in_err-number.was) in
+    rw (c.from_residual.ensures, ← c.names.view_is) (found_is word nodes None (values types) (sym (named_none words c.names.inside.numbers types c.names.invariant word none)))
 
-pub returns-in-None-clause-found : goal.returns-in-None-clause-found
-returns-in-None-clause-found c nodes =
-    let ds = c.names.inside.list.items in
-    let at : place_named c.args.word.now (words_of ds) ≡ None = sym (c.names.invariant.kept c.args.word.now) ∙ sym c.find.ensures ∙ c.in-None.is in
-    rw (← c.names.view_is) (found_is c.args.word.now nodes None ds (sym (declared_none c.args.word.now ds at)))
+pub returns-in_err-named-clause-found : goal.returns-in_err-named-clause-found
+returns-in_err-named-clause-found c nodes =
+    let types = c.names.inside.types in
+    let words = map (λ (w : Bor (List ℕ)). w.now) c.names.inside.words.items in
+    let word = c.args.word.now in
+    let number = c.in_ok-number.number in
+    let is : number_in words word ≡ Some number = rw (← c.names.view_is) at (sym c.number_of.ensures ∙ c.in_ok-number.was) in
+    let kept : in_map types number ≡ None = sym c.get.ensures.value ∙ ap option_copied c.in_err-named.was in
+    rw (c.from_residual-in_err-named.ensures, ← c.names.view_is) (found_is word nodes None (values types) (sym (named_some words c.names.inside.numbers types c.names.invariant word number None is kept)))
 
-pub returns-in-Some-clause-found : goal.returns-in-Some-clause-found
-returns-in-Some-clause-found c nodes =
-    let ds = c.names.inside.list.items in
-    let d = c.index.result.now in
-    let at : place_named c.args.word.now (words_of ds) ≡ Some c.in-Some.place = sym (c.names.invariant.kept c.args.word.now) ∙ sym c.find.ensures ∙ c.in-Some.is in
-    let is : declared_as c.args.word.now ds ≡ Some d.declared = declared_at c.args.word.now d ds ∙ rw at (ap (λ (x : Named). Some x.declared) (sym c.index.ensures)) in
-    rw (← c.names.view_is) (found_is c.args.word.now nodes (Some d.declared) ds (sym is))
+pub returns-clause-found : goal.returns-clause-found
+returns-clause-found c nodes =
+    let types = c.names.inside.types in
+    let words = map (λ (w : Bor (List ℕ)). w.now) c.names.inside.words.items in
+    let word = c.args.word.now in
+    let number = c.in_ok-number.number in
+    let d = c.in_ok-named.named.now in
+    let is : number_in words word ≡ Some number = rw (← c.names.view_is) at (sym c.number_of.ensures ∙ c.in_ok-number.was) in
+    let kept : in_map types number ≡ Some d = sym c.get.ensures.value ∙ ap option_copied c.in_ok-named.was in
+    rw (← c.names.view_is) (found_is word nodes (Some d.declared) (values types) (sym (named_some words c.names.inside.numbers types c.names.invariant word number (Some d) is kept)))
 
-pub returns-in-Some-clause-named : goal.returns-in-Some-clause-named
-returns-in-Some-clause-named c nodes named =
-    let ds = c.names.inside.list.items in
-    let d = c.index.result.now in
-    let at : place_named c.args.word.now (words_of ds) ≡ Some c.in-Some.place = sym (c.names.invariant.kept c.args.word.now) ∙ sym c.find.ensures ∙ c.in-Some.is in
-    let is : declared_as c.args.word.now ds ≡ Some d.declared = declared_at c.args.word.now d ds ∙ rw at (ap (λ (x : Named). Some x.declared) (sym c.index.ensures)) in
-    rw is at (found_named c.args.word.now (IsNamed nodes) ds (rw (← c.names.view_is) at named))
+pub returns-clause-named : goal.returns-clause-named
+returns-clause-named c nodes named =
+    let types = c.names.inside.types in
+    let words = map (λ (w : Bor (List ℕ)). w.now) c.names.inside.words.items in
+    let word = c.args.word.now in
+    let number = c.in_ok-number.number in
+    let d = c.in_ok-named.named.now in
+    let is : number_in words word ≡ Some number = rw (← c.names.view_is) at (sym c.number_of.ensures ∙ c.in_ok-number.was) in
+    let kept : in_map types number ≡ Some d = sym c.get.ensures.value ∙ ap option_copied c.in_ok-named.was in
+    let found : declared_as word (values types) ≡ Some d.declared = named_some words c.names.inside.numbers types c.names.invariant word number (Some d) is kept in
+    rw found at (found_named word (IsNamed nodes) (values types) (rw (← c.names.view_is) at named))

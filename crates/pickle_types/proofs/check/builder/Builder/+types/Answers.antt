@@ -8,13 +8,14 @@ use Rattle.pickle_types.specs.declared.check.builder.Builder.{Builder}
 use Rattle.pickle_types.specs.Types.{depth}
 use Rattle.pickle_types.specs.Table.{type_of, IsSoundField}
 use Rattle.pickle_types.specs.Meaning.{meaning}
-use Rattle.pickle_types.specs.Built.{bytes_now}
+use Rattle.pickle_types.specs.Built.{bytes_now, words_in}
 use Rattle.pickle_types.specs.Building.{known_types, visible_in}
 use Rattle.pickle_types.proofs.Forms.{reference_form, string_form, offset_form}
 use Rattle.pickle_types.proofs.Growth.{type_kept}
 use Rattle.pickle_types.proofs.Steps.{fails_bind}
-use Rattle.pickle_types.proofs.Buildings.{meaning_plain, meaning_string, meaning_offset, meaning_array, meaning_struct, meaning_integral, meaning_union, built_then, visible_kept, array_depth, struct_depth, integral_depth, union_depth, parts_opened, parts_below, parts_sound, parts_few, some_alternative, integral_fits, integral_wrong, so_far_more, so_far_none, fields_next, drop_item, kept_on, builds_as, no_alternative, field_on, fields_end, all_built}
+use Rattle.pickle_types.proofs.Buildings.{meaning_plain, meaning_string, meaning_offset, meaning_array, meaning_struct, meaning_integral, meaning_union, built_then, visible_kept, array_depth, struct_depth, integral_depth, union_depth, parts_opened, parts_below, parts_sound, parts_few, some_alternative, integral_fits, integral_wrong, so_far_more, so_far_none, so_far_numbered, fields_next, drop_item, kept_on, builds_as, no_alternative, field_on, fields_end, all_built}
 use Rattle.pickle_types.proofs.Selections.{names_of_parts}
+use Rattle.pickle_types.proofs.Lists.{for_any, list_on}
 use Rattle.pickle_types.proofs.check.builder.Builder.+types.Goals as goal
 
 pub type_at-returns-then-room-eq0-clause-builds : goal.type_at-returns-then-room-eq0-clause-builds
@@ -127,16 +128,16 @@ integral_at-returns-then-total_width-from-clause-builds t c =
     rw (m, n, e.1) wrong
 
 pub integral_at-push-requires-clause-below : goal.integral_at-push-requires-clause-below
-integral_at-push-requires-clause-below t c = (c.in_ok-number.ensures.wide, rw (c.in_ok-fields-2.ensures.ok, c.into_parts-fields.ensures.fields) (parts_below _ c.in_ok-fields.fields c.in_ok-fields.ensures.builds.2.below))
+integral_at-push-requires-clause-below t c = (c.in_ok-number.ensures.wide, rw (c.in_ok-fields-2.ensures.ok, c.into_parts-fields.ensures.fields) (parts_below _ c.in_ok-fields.fields.fields.items c.in_ok-fields.ensures.builds.2.below))
 
 pub integral_at-push-requires-clause-sound : goal.integral_at-push-requires-clause-sound
-integral_at-push-requires-clause-sound t c = rw (c.in_ok-fields-2.ensures.ok, c.into_parts-fields.ensures.fields) (parts_sound c.in_ok-fields.fields c.in_ok-fields.ensures.sound)
+integral_at-push-requires-clause-sound t c = rw (c.in_ok-fields-2.ensures.ok, c.into_parts-fields.ensures.fields) (parts_sound c.in_ok-fields.fields.fields.items c.in_ok-fields.ensures.sound)
 
 pub integral_at-push-requires-clause-depth : goal.integral_at-push-requires-clause-depth
 integral_at-push-requires-clause-depth t c =
     let e = c.in_ok-fields.ensures.builds in
     let d = e.2.deep in
-    rw (c.in_ok-fields-2.ensures.ok, c.into_parts-fields.ensures.fields, parts_opened _ c.in_ok-fields.fields, e.2.opened, integral_depth _ _ _) (omega arith)
+    rw (c.in_ok-fields-2.ensures.ok, c.into_parts-fields.ensures.fields, parts_opened _ c.in_ok-fields.fields.fields.items, e.2.opened, integral_depth _ _ _) (omega arith)
 
 pub integral_at-returns-clause-builds : goal.integral_at-returns-clause-builds
 integral_at-returns-clause-builds t c =
@@ -146,7 +147,7 @@ integral_at-returns-clause-builds t c =
     let e = c.in_ok-fields.ensures.builds in
     let w = rw (c.deref.ensures.value, c.into_parts-fields.ensures.fields, e.2.opened) at c.total_width.ensures in
     let fits = integral_fits (bytes_now c.args.title.name) c.in_ok-number.number e.0 (sym w ∙ c.if-total_width-from.false ∙ c.from.ensures) in
-    let parts = parts_opened (type_of c.fields_at.new.self.nodes) c.in_ok-fields.fields in
+    let parts = parts_opened (type_of c.fields_at.new.self.nodes) c.in_ok-fields.fields.fields.items in
     built_then _ _ _ c.push.result _ _ e.2.keeps e.2.seen (rw (m, n, e.1, fits, c.in_ok-fields-2.ensures.ok, c.into_parts-fields.ensures.fields, parts, e.2.opened, c.in_ok-name.ensures.ok) refl) c.push.ensures.builds
 
 pub union_at-returns-then-is_empty-clause-builds : goal.union_at-returns-then-is_empty-clause-builds
@@ -166,19 +167,19 @@ union_at-returns-in_err-fields-clause-builds t c =
     rw (p.1, p.2, m, some) (fails_bind _ _ _ c.in_err-fields.ensures.builds)
 
 pub union_at-push-requires-clause-below : goal.union_at-push-requires-clause-below
-union_at-push-requires-clause-below t c = rw (c.in_ok-alternatives.ensures.ok, c.into_parts-fields.ensures.fields) (parts_below _ c.in_ok-fields.fields c.in_ok-fields.ensures.builds.2.below)
+union_at-push-requires-clause-below t c = rw (c.in_ok-alternatives.ensures.ok, c.into_parts-fields.ensures.fields) (parts_below _ c.in_ok-fields.fields.fields.items c.in_ok-fields.ensures.builds.2.below)
 
 pub union_at-push-requires-clause-sound : goal.union_at-push-requires-clause-sound
 union_at-push-requires-clause-sound t c = rw (c.in_ok-alternatives.ensures.ok, c.into_parts-fields.ensures.fields) (
-  parts_sound c.in_ok-fields.fields c.in_ok-fields.ensures.sound,
-  parts_few c.in_ok-fields.fields c.args.written.now c.in_ok-fields.ensures.count c.requires.within.0,
+  parts_sound c.in_ok-fields.fields.fields.items c.in_ok-fields.ensures.sound,
+  parts_few c.in_ok-fields.fields.fields.items c.args.written.now c.in_ok-fields.ensures.count c.requires.within.0,
 )
 
 pub union_at-push-requires-clause-depth : goal.union_at-push-requires-clause-depth
 union_at-push-requires-clause-depth t c =
     let e = c.in_ok-fields.ensures.builds in
     let d = e.2.deep in
-    rw (c.in_ok-alternatives.ensures.ok, c.into_parts-fields.ensures.fields, parts_opened _ c.in_ok-fields.fields, e.2.opened, union_depth _ _) (omega arith)
+    rw (c.in_ok-alternatives.ensures.ok, c.into_parts-fields.ensures.fields, parts_opened _ c.in_ok-fields.fields.fields.items, e.2.opened, union_depth _ _) (omega arith)
 
 pub union_at-returns-clause-builds : goal.union_at-returns-clause-builds
 union_at-returns-clause-builds t c =
@@ -187,7 +188,7 @@ union_at-returns-clause-builds t c =
     let nonzero : length c.args.written.now ≡ 0 → ⊥ = eqb-false _ _ (sym c.if-is_empty.ensures) in
     let some = some_alternative c.args.written.now (omega arith) in
     let e = c.in_ok-fields.ensures.builds in
-    let parts = parts_opened (type_of c.fields_at.new.self.nodes) c.in_ok-fields.fields in
+    let parts = parts_opened (type_of c.fields_at.new.self.nodes) c.in_ok-fields.fields.fields.items in
     built_then _ _ _ c.push.result _ _ e.2.keeps e.2.seen (rw (m, some, e.1, c.in_ok-alternatives.ensures.ok, c.into_parts-fields.ensures.fields, parts, e.2.opened, c.in_ok-name.ensures.ok) refl) c.push.ensures.builds
 
 pub field_at-returns-clause-builds : goal.field_at-returns-clause-builds
@@ -205,13 +206,14 @@ field_at-returns-clause-builds t c =
 pub fields_at-loop-f-init : goal.fields_at-loop-f-init
 fields_at-loop-f-init t c = record {
   low = omega arith;
-  count = rw c.in_ok-fields.ensures.ok refl;
+  count = rw c.in_ok-fields.ensures.none refl;
   within = c.requires.within;
   few = omega arith;
   kept = take_all _ _ (omega arith);
   below = λ k d lt. let b = c.requires.seen k d lt in record { node = b.node; level = omega arith };
-  sound = rw c.in_ok-fields.ensures.ok (λ k d lt. absurd (omega arith));
-  so_far = rw c.in_ok-fields.ensures.ok (so_far_none c.args.self.now [] _ c.requires.table c.requires.names refl);
+  list = c.in_ok-fields.ensures.list (words_in c.args.self.now.names);
+  sound = rw c.in_ok-fields.ensures.none (λ k d lt. absurd (omega arith));
+  so_far = rw c.in_ok-fields.ensures.none (so_far_none c.args.self.now [] _ c.requires.table c.requires.names refl);
 }
 
 pub fields_at-field_at-requires : goal.fields_at-field_at-requires
@@ -220,13 +222,15 @@ fields_at-field_at-requires t c =
     let e = drop_item c.args.written.now c.loop-f.f-index c.f-item.result (omega arith) c.f-item.is in
     let before = rw e at i.few in
     -- the measure falls; then what is required
-    (omega arith, (i.so_far.keeps.table, (i.so_far.keeps.named, (i.below, (c.requires.few, ((rw e at i.within).0, omega arith))))))
+    (omega arith, (i.so_far.keeps.table, (i.so_far.keeps.named, (i.below, (c.requires.few, (i.list, ((rw e at i.within).0, omega arith)))))))
 
 pub fields_at-loop-f-preserved : goal.fields_at-loop-f-preserved
 fields_at-loop-f-preserved t c =
     let a = c.args.self.now in
     let b = c.loop-f.self in
     let n = c.field_at.new.self in
+    let m : Builder = record { alloc = n.alloc; names = c.push.new.names; nodes = n.nodes; seen = n.seen } in
+    let fields = c.loop-f.fields.fields.items in
     let i = c.loop-f.invariant in
     let h = c.in_ok-field.ensures.builds in
     let low = c.in_ok-field.ensures.low in
@@ -234,17 +238,18 @@ fields_at-loop-f-preserved t c =
     let given = rw i.so_far.keeps.known at h.1 in
     let before = rw e at i.few in
     let added = c.in_ok-field.ensures.few in
-    let next = fields_next (known_types a) c.args.place (visible_in b) (visible_in n) c.args.levels c.args.room c.loop-f.fields c.in_ok-field.field c.f-item.result (drop (c.loop-f.f-index + 1) c.args.written.now) h.0 given h.2.name h.2.seen in
+    let next = fields_next (known_types a) c.args.place (visible_in b) (visible_in n) c.args.levels c.args.room fields c.in_ok-field.field c.f-item.result (drop (c.loop-f.f-index + 1) c.args.written.now) h.0 given h.2.name h.2.seen in
     record {
       low = rw c.max-deepest.ensures (omega arith);
-      count = rw c.in_ok-push.ensures.ok (length-append c.loop-f.fields (c.in_ok-field.field ∷ []) ∙ ap (λ k. k + 1) i.count);
+      count = rw c.in_ok-push.ensures.ok (length-append fields (c.in_ok-field.field ∷ []) ∙ ap (λ k. k + 1) i.count);
       within = (rw e at i.within).2;
       few = omega arith;
       kept = kept_on c.len-mark.result a.seen b.seen n.seen i.kept (omega arith) h.2.kept;
       below = h.2.below;
-      sound = rw c.in_ok-push.ensures.ok (All-append IsSoundField c.loop-f.fields (c.in_ok-field.field ∷ []) i.sound (λ k d lt. let z : k ≡ 0 = omega arith in rw z c.in_ok-field.ensures.sound));
+      sound = rw c.in_ok-push.ensures.ok (All-append IsSoundField fields (c.in_ok-field.field ∷ []) i.sound (λ k d lt. let z : k ≡ 0 = omega arith in rw z c.in_ok-field.ensures.sound));
+      list = c.in_ok-push.ensures.list;
       so_far = rw (c.in_ok-push.ensures.ok, c.max-deepest.ensures)
-          (so_far_more a b n c.loop-f.fields c.in_ok-field.field c.loop-f.deepest c.in_ok-field.depth c.args.place c.args.levels _ _ h.0 _ _ _ i.so_far h.2 h.3 (rw e next));
+          (so_far_numbered a n m _ _ _ _ (so_far_more a b n fields c.in_ok-field.field c.loop-f.deepest c.in_ok-field.depth c.args.place c.args.levels _ _ h.0 _ _ _ i.so_far h.2 h.3 (rw e next)) refl c.in_ok-push.ensures.types c.in_ok-push.ensures.kept);
     }
 
 pub field_at-returns-in_err-field-clause-builds : goal.field_at-returns-in_err-field-clause-builds
@@ -265,10 +270,19 @@ fields_at-returns-clause-builds t c =
     let i = c.loop-f.invariant in
     let none = drop_all c.loop-f.f-index c.args.written.now (omega arith) in
     let end = fields_end (known_types a) c.args.place (visible_in b) c.args.levels c.args.room _ _ none in
-    all_built a b n c.loop-f.fields c.loop-f.deepest _ _ i.so_far end refl refl (c.truncate.ensures ∙ i.kept)
+    all_built a b n c.loop-f.fields.fields.items c.loop-f.deepest _ _ i.so_far end refl refl (c.truncate.ensures ∙ i.kept)
 
-pub integral_at-push-requires-clause-named : goal.integral_at-push-requires-clause-named
-integral_at-push-requires-clause-named t c = rw (c.in_ok-fields-2.ensures.ok, c.into_parts-fields.ensures.fields, names_of_parts c.in_ok-fields.fields) c.into_parts-fields.ensures.names
+pub integral_at-push-requires-clause-distinct : goal.integral_at-push-requires-clause-distinct
+integral_at-push-requires-clause-distinct t c = rw (c.in_ok-fields-2.ensures.ok, c.into_parts-fields.ensures.fields, names_of_parts c.in_ok-fields.fields.fields.items) (for_any c.into_parts-fields.result.1 c.in_ok-fields.ensures.distinct)
 
-pub union_at-push-requires-clause-named : goal.union_at-push-requires-clause-named
-union_at-push-requires-clause-named t c = rw (c.in_ok-alternatives.ensures.ok, c.into_parts-fields.ensures.fields, names_of_parts c.in_ok-fields.fields) c.into_parts-fields.ensures.names
+pub union_at-push-requires-clause-distinct : goal.union_at-push-requires-clause-distinct
+union_at-push-requires-clause-distinct t c = rw (c.in_ok-alternatives.ensures.ok, c.into_parts-fields.ensures.fields, names_of_parts c.in_ok-fields.fields.fields.items) (for_any c.into_parts-fields.result.1 c.in_ok-fields.ensures.distinct)
+
+pub struct_at-push-requires-clause-distinct : goal.struct_at-push-requires-clause-distinct
+struct_at-push-requires-clause-distinct t c = rw c.into_parts-fields.ensures.fields (for_any c.into_parts-fields.result.1 c.in_ok-fields.ensures.distinct)
+
+pub field_at-field_of-requires-clause-list : goal.field_at-field_of-requires-clause-list
+field_at-field_of-requires-clause-list t c = list_on _ _ c.args.before.now c.requires.list c.in_ok-found.ensures.builds.2.keeps.numbers
+
+pub fields_at-push-requires-clause-list : goal.fields_at-push-requires-clause-list
+fields_at-push-requires-clause-list t c = list_on _ _ c.loop-f.fields c.loop-f.invariant.list c.in_ok-field.ensures.builds.2.keeps.numbers

@@ -1,11 +1,12 @@
 use Rattle.std.proofs.Common.{refl}
 use Rattle.pickle_types.specs.declared.check.builder.Builder.{Builder}
+use Rattle.pickle_types.specs.Built.{types_in}
 use Rattle.pickle_types.proofs.Looks.{absent}
 use Rattle.pickle_types.proofs.Declarations.{added}
 use Rattle.pickle_types.proofs.check.builder.Builder.add.Goals as goal
 
 pub insert-requires : goal.insert-requires
-insert-requires c = record { new = absent c.args.word.now c.args.self.now.nodes c.args.self.now.names c.requires.new }
+insert-requires c = record { new = absent c.args.word.now c.args.self.now.nodes (types_in c.args.self.now.names) c.requires.new }
 
 pub returns-clause-ready : goal.returns-clause-ready
 returns-clause-ready c =

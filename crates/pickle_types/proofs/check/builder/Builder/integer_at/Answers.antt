@@ -1,5 +1,7 @@
 use Rattle.std.proofs.Common.{[], sym, refl}
 use Rattle.std.proofs.lemmas.List.{append-nil}
+use Rattle.pickle_types.specs.Built.{words_in}
+use Rattle.pickle_types.proofs.Numbered.{extends_none}
 use Rattle.pickle_types.specs.Types.{depth, IntegerOf}
 use Rattle.pickle_types.proofs.check.builder.Builder.integer_at.Goals as goal
 
@@ -18,6 +20,7 @@ returns-in-Some-clause-builds c = (
       table = c.requires.table;
       named = c.requires.names;
       known = refl;
+      numbers = extends_none (words_in c.args.self.now.names);
     };
     seen = refl;
     inside = c.in-Some.ensures.0;

@@ -1,16 +1,28 @@
-use Rattle.std.proofs.Common.{◌≡◌, length, arith}
-use Rattle.pickle_types.specs.Table.{name_of}
-use Rattle.pickle_types.specs.Built.{names_in}
-use Rattle.pickle_types.proofs.Buildings.{names_more, names_count}
-use Rattle.pickle_types.proofs.Placed.{placed_more}
+use Rattle.std.proofs.Common.{◌≡◌, length, Some, refl, sym, ap, ◌∙◌, arith}
+use Rattle.pickle_types.specs.declared.check.field_list.FieldList.{FieldList}
+use Rattle.pickle_types.specs.Built.{bytes_now, words_in}
+use Rattle.pickle_types.proofs.Listed.{list_few, list_nameless, list_named}
 use Rattle.pickle_types.proofs.check.field_list.FieldList.push.Goals as goal
 
-pub invariant_of-self-in-Ok : goal.invariant_of-self-in-Ok
-invariant_of-self-in-Ok c =
-    let fields = c.self.inside.fields.items in
-    let n : c.len-place.result ≡ length fields = omega arith in
-    let count = names_count fields in
-    let fresh = rw (← c.requires.name, ← c.self.view_is) at c.requires.fresh in
-    let placed = rw c.in-Some.is at c.self.invariant in
-    rw (c.in_ok-push.ensures.items, names_more fields c.args.field)
-    (placed_more (names_in fields) (name_of c.args.field.name) c.in-Some.names c.add.new.self placed fresh (λ word. rw (c.requires.name, count, ← n) (c.in-Ok.ensures.put word)))
+pub returns-in_default-clause-list : goal.returns-in_default-clause-list
+returns-in_default-clause-list c =
+    let l = c.args.self.now in
+    let new : FieldList = record { fields = c.push.new.self; places = l.places } in
+    list_few (words_in c.args.names.now) l new c.args.field c.requires.list (rw c.requires.name c.requires.fresh) c.in_ok-push.ensures.items c.in_default.is
+
+pub returns-in_default-name-clause-list : goal.returns-in_default-name-clause-list
+returns-in_default-name-clause-list c =
+    let l = c.args.self.now in
+    let new : FieldList = record { fields = c.push.new.self; places = Some c.in-Some.places } in
+    let none = c.requires.name ∙ ap bytes_now c.in_default-name.is in
+    list_nameless (words_in c.args.names.now) l new c.args.field c.requires.list (rw c.requires.name c.requires.fresh) c.in_ok-push.ensures.items none (sym c.in-Some.is)
+
+pub returns-clause-list : goal.returns-clause-list
+returns-clause-list c =
+    let l = c.args.self.now in
+    let new : FieldList = record { fields = c.push.new.self; places = Some c.insert.new.self } in
+    let name = c.requires.name ∙ ap bytes_now c.in-Some-name.is in
+    let count : c.len-place.result ≡ length l.fields.items = omega arith in
+    list_named (words_in c.args.names.now) l new c.args.field c.requires.list (rw c.requires.name c.requires.fresh) c.in_ok-push.ensures.items
+    (words_in c.number.new.self) c.in-Some-name.name.now c.in_ok-number.number c.in-Some.places c.insert.new.self name c.in-Some.is refl c.in_ok-number.ensures.kept c.in_ok-number.ensures.numbered
+    (λ n. rw (← count) (c.in_ok-insert.ensures.updates.0 n))

@@ -1,0 +1,1 @@
+map --endian little btrfs.pk Btrfs btrfs.img

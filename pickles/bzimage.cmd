@@ -1,0 +1,1 @@
+map --endian little bzimage.pk Kernel bzimage.img

@@ -1,0 +1,1 @@
+map edid.pk Edid edid.edid

@@ -1,0 +1,1 @@
+map --endian little firmware_volume.pk WholeVolume firmware_variables.fv

@@ -1,0 +1,1 @@
+map ines.pk Ines ines.nes

@@ -1,0 +1,1 @@
+map --endian little ntfs.pk Ntfs ntfs.img

@@ -1,0 +1,1 @@
+map --endian little psf.pk Psf psf.psf

@@ -1,0 +1,1 @@
+map vhd.pk Empty vhd.vhd

@@ -1,0 +1,1 @@
+map vhd.pk Vhd vhd.vhd

@@ -1,0 +1,1 @@
+map woff.pk Woff woff.woff

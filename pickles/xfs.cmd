@@ -1,0 +1,1 @@
+map xfs.pk Xfs xfs.img
