@@ -1,0 +1,1 @@
+map --endian little microcode.pk Updates microcode.bin
