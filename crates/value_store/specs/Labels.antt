@@ -1,4 +1,4 @@
--- What the label of a value tells of it.
+-- What the label of a value says about it.
 use Rattle.std.specs.Prelude.{ℕ, zero, suc, ℤ, pos, Bool, false, List, [], Option, Some, None, slice_get, unwrap_or}
 use Rattle.value_store.specs.declared.value.Kind.{Kind}
 use Rattle.value_store.specs.declared.value.Kind.TheVariants.{Integer, Offset, Text, Array, Struct, Union}
@@ -12,7 +12,7 @@ kind_of ArrayLabel = Array
 kind_of (StructLabel name fields) = Struct
 kind_of (UnionLabel name index alternative) = Union
 
--- the number of an integer, the magnitude of an offset
+-- the number of an integer, or the magnitude of an offset
 abbrev pub number_of : Label → ℤ
 number_of (IntegerLabel number type) = number
 number_of (OffsetLabel magnitude type unit) = magnitude
