@@ -1,4 +1,4 @@
--- The laws of where a fault arises.
+-- The laws of the part in which a fault arises.
 use Rattle.std.specs.Prelude.{◌≡◌, ℕ, List, Err}
 use Rattle.bit_space.specs.declared.order.Order.{Order}
 use Rattle.pickle_types.specs.Types.{PokeType}
@@ -21,6 +21,6 @@ FaultsArise = (bits : List ℕ) (ty : PokeType) (order : Order) (levels : Levels
 abbrev pub ArisingIsMeant : Type 0
 ArisingIsMeant = (bits : List ℕ) (ty : PokeType) (order : Order) (levels : Levels) (s : ℕ) (f : FaultAt) (path : Path) → Arises bits ty order levels s f path → Somehow (Means bits ty order levels s (Err f))
 
--- it arises in one part alone
+-- it arises in only one part
 abbrev pub ArisesOnce : Type 0
 ArisesOnce = (bits : List ℕ) (ty : PokeType) (order : Order) (levels : Levels) (s : ℕ) (f f' : FaultAt) (path path' : Path) → Arises bits ty order levels s f path → Arises bits ty order levels s f' path' → (f ≡ f') × (path ≡ path')
