@@ -61,7 +61,7 @@ fn is_comparison(op: Infix) -> bool
     )
 }
 
-/// The integer that a literal is or a name means; None for any other expression.
+/// The integer that a literal is or a name means. None for any other expression, and where the named integer is absent.
 #[inline(always)]
 pub fn leaf(e: &Resolved, store: &Store) -> Option<Typed>
     requires { IsSoundTerm (term_of e.now) }

@@ -28,8 +28,8 @@ use value_store::store::Store;
 use watch::{Unwatched, Watch};
 
 /// Maps a type from the bit `start` on. After a success the store holds the value of the type there. After a fault the
-/// store is empty; the fault is that of the type there, or one that ended the run. The store's capacity and the meter's
-/// counts stay.
+/// store is empty; the fault is that of the type there, or one that ended the run. The store's capacity never gets
+/// less, and the meter still has its counts.
 ///
 /// The meter counts each value and each byte of a string, and each takes a slot of each kind that it needs. A mapping
 /// takes at most the steps of the table's `step_bound` and the slots of its `slot_bound`.

@@ -105,7 +105,7 @@ is_equality _ = false
 abbrev pub between_texts : Infix → Option Scalar
 between_texts op = if is_equality op then Some (Integer truth) else None
 
--- the type of an operator's result; none where the operands mayn't have these types
+-- the type of an operator's result; none where the operands may not have these types
 abbrev pub between : Infix → Operand → Operand → Option Scalar
 between op (operand.Number a) (operand.Number b) = between_numbers op a b
 between op (operand.Number a) operand.String = None

@@ -20,7 +20,7 @@ pub struct Seen<'n> {
     pub node: usize,
 }
 
-/// Up to so many fields are searched one by one, which is faster for few.
+/// Up to this many fields are searched one by one, which is faster for few.
 const FEW: usize = 32;
 
 /// The fields that an expression sees, outermost first. A name means the last field of that name.

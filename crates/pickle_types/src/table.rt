@@ -82,7 +82,7 @@ impl Table {
         }
     }
 
-    /// A bound on the steps of a mapping of a type over so many bits, abandoned attempts included; None from 2^128 on.
+    /// A bound on the steps of a mapping of a type over so many bits, discarded attempts included; None from 2^128 on.
     pub fn step_bound(&self, id: TypeId, bits: u64) -> Option<u128>
         requires known { IsInTable self.now id }
         ensures { IsBound result (cost (type_named self.now id) bits) }

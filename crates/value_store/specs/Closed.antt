@@ -8,7 +8,7 @@ use Rattle.value_store.specs.Names.{Names, title_at, names_at, name_at}
 abbrev pub struct_label : Names → (of : ℕ) → Label
 struct_label names of = StructLabel (title_at names of) (names_at names of)
 
--- the label of a union of the type at an index, which took the alternative `taken`
+-- the label of a union of the type at an index, whose alternative number `taken` matched
 abbrev pub union_label : Names → (of taken : ℕ) → Label
 union_label names of taken = UnionLabel (title_at names of) taken (name_at names of taken)
 

@@ -62,7 +62,7 @@ name_of ArrayLabel = None
 name_of (StructLabel name fields) = name
 name_of (UnionLabel name index alternative) = name
 
--- the alternative that a union took
+-- the number of the alternative of a union that matched
 abbrev pub taken_of : Label → Option ℕ
 taken_of (IntegerLabel number type) = None
 taken_of (OffsetLabel magnitude type unit) = None
@@ -71,7 +71,7 @@ taken_of ArrayLabel = None
 taken_of (StructLabel name fields) = None
 taken_of (UnionLabel name index alternative) = Some index
 
--- the name of a union's only member, which is the alternative taken
+-- the name of a union's only member, which is the alternative that matched
 abbrev pub only_name : Naming → ℕ → Naming
 only_name name zero = name
 only_name name (suc i) = None

@@ -61,7 +61,7 @@ abbrev pub title_found : Names → (of : Option ℕ) → Naming
 title_found names None = None
 title_found names (Some of) = title_at names of
 
--- the name of the member at a place: of the alternative taken at the place 0, else of the field
+-- the name of the member at a place: for a union that of its alternative at the place 0, else that of the field
 abbrev pub member_found : Names → (of taken : Option ℕ) → ℕ → Naming
 member_found names None taken i = None
 member_found names (Some of) None i = name_at names of i

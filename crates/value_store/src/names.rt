@@ -24,7 +24,7 @@ pub enum MemberNames<'a> {
     Nameless,
     Fields(&'a [Field]),
     Parts(&'a [Part]),
-    /// The name of the alternative that a union took.
+    /// The name of the alternative of a union that matched.
     Only(Option<&'a [u8]>),
 }
 

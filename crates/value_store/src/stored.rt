@@ -340,7 +340,7 @@ impl<'a> StoredValue<'a> {
         }
     }
 
-    /// The number of the alternative that a union took, counted from 0; None for other values.
+    /// The number of the alternative of a union that matched, counted from 0; None for other values.
     pub fn taken(&self) -> Option<u16>
         ensures { (names : Names) → result ≡ taken_of (label_of (value_of names self.now)) }
     {

@@ -169,7 +169,7 @@ pub fn integer(nodes: &Nodes, sort: Sort) -> Result<IntegerType, FaultKind>
     }
 }
 
-/// The element of an array x at y. `node` is the element's type.
+/// The element of an array x at y. `element` is the node of its type.
 fn index(
     alloc: Global,
     nodes: &Nodes,

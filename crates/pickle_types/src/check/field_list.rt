@@ -16,7 +16,7 @@ use crate::number_hasher::ByNumber;
 use indexmap::IndexMap;
 use std::alloc::Global;
 
-/// Up to so many fields are searched one by one. That is faster for few, and takes no memory.
+/// Up to this many fields are searched one by one. That is faster for few, and takes no memory.
 const FEW: usize = 32;
 
 /// The places of fields, by the numbers of their names, in the order of the fields.

@@ -142,7 +142,7 @@ fn between_numbers(op: Infix, a: Scalar, b: Scalar) -> Option<Scalar>
     }
 }
 
-/// The type of an infix operator's result; None where its operands mayn't have these types.
+/// The type of an infix operator's result; None where its operands may not have these types.
 pub fn between(op: Infix, a: Operand, b: Operand) -> Option<Scalar>
     ensures { result ≡ between op a b }
 {
@@ -156,7 +156,7 @@ pub fn between(op: Infix, a: Operand, b: Operand) -> Option<Scalar>
     }
 }
 
-/// The type of a prefix operator's result; None where its operand mayn't have this type.
+/// The type of a prefix operator's result; None where its operand may not have this type.
 pub fn before(op: Prefix, operand: Operand) -> Option<Scalar>
     ensures { result ≡ before op operand }
 {
@@ -168,7 +168,7 @@ pub fn before(op: Prefix, operand: Operand) -> Option<Scalar>
     }
 }
 
-/// The type of a choice between two values; None where they mayn't have these types.
+/// The type of a choice between two values; None where they may not have these types.
 pub fn choice(a: Operand, b: Operand) -> Option<Scalar>
     ensures { result ≡ choice a b }
 {

@@ -4,7 +4,7 @@ ghost use Rattle.value_store.specs.declared.store.room.Growth.TheVariants.{Never
 
 use crate::store::room::{Growth, Room};
 
-/// Up to so many items are appended one by one, which is faster than the call that appends many.
+/// Up to this many items are appended one by one, which is faster than the call that appends many.
 const FEW: usize = 8;
 
 /// Appends items that the vector has the capacity for. The call that appends many promises only that a vector doesn't

@@ -264,7 +264,7 @@ impl Store {
     }
 
     /// Closes the innermost open value as a union of the type at the index `of`, from the bit `start` to the bit `end`.
-    /// Its part is the alternative taken, number `taken`, counted from 0.
+    /// Its part is the alternative that matched, number `taken`, counted from 0.
     pub fn close_union(&mut self, of: u32, taken: u16, start: u64, end: u64) -> Result<(), Memory>
         requires order { start ≤ end }
         ensures ok { OnOk result (IsClosed self.old self.new (λ names. union_label names of taken) start end) }

@@ -21,7 +21,7 @@ pub enum Shape {
     Array,
     /// A struct of the type at the index `of`.
     Struct { of: u32 },
-    /// A union of the type at the index `of`, which took the alternative number `taken`, counted from 0.
+    /// A union of the type at the index `of`, whose alternative number `taken`, counted from 0, matched.
     Union { taken: u16, of: u32 },
 }
 

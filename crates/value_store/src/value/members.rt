@@ -10,7 +10,7 @@ use crate::store::slots::Link;
 use crate::value::ValueRef;
 use pickle_types::integer::IntegerType;
 
-/// The elements of an array, the declared fields of a struct, or the alternative that a union took.
+/// The elements of an array, the declared fields of a struct, or the alternative of a union that matched.
 #[derive(Clone, Copy)]
 pub struct Members<'a> {
     value: ValueRef<'a>,
