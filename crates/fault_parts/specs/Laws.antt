@@ -17,7 +17,8 @@ pub record ArisesSomewhere (bits : List ℕ) (ty : PokeType) (order : Order) (le
 abbrev pub FaultsArise : Type 0
 FaultsArise = (bits : List ℕ) (ty : PokeType) (order : Order) (levels : Levels) (s : ℕ) (f : FaultAt) (k j : ℕ) → Means bits ty order levels s (Err f) k j → ArisesSomewhere bits ty order levels s f
 
--- a fault that arises in a part of a type, or in itself, is the one that the type means, in some steps and with some values made
+-- a fault that arises in a type, or in a part of it, is the one that the type means, in some steps and with some values
+-- made
 abbrev pub ArisingIsMeant : Type 0
 ArisingIsMeant = (bits : List ℕ) (ty : PokeType) (order : Order) (levels : Levels) (s : ℕ) (f : FaultAt) (path : Path) → Arises bits ty order levels s f path → Somehow (Means bits ty order levels s (Err f))
 

@@ -197,7 +197,7 @@ text_fits m (suc n) bytes levels s place h e = after_tick (chosen (λ more. text
     chosen next true le = after_read (read next (leb-true (place + 8) m le))
     chosen next false le = result tt
 
--- elements that fit from here on, the first of number i, and as many as the array is to have if it is an array at their end
+-- elements that fit from here on, the first of number i; an array at their end has as many as it is to have
 abbrev Goes : (Levels → ℕ → Value → Type 0) → (m : ℕ) → Extent → (s i : ℕ) → Levels → ℕ → Opened → Type 0
 Goes Fit m extent s i levels at r = (n : ℕ) × ElementsFit Fit r.0 r.1 n levels at i × IsWhole extent s n r.1 × (r.1 ≤ m)
 

@@ -123,7 +123,8 @@ IsSoundShape (shape.Struct name pinned fields) = All IsSoundField fields.items
 IsSoundShape (shape.Integral name number fields) = All IsSoundPart fields.items
 IsSoundShape (shape.Union name alternatives) = All IsSoundPart alternatives.items × (length alternatives.items ≤ 2 ^ 16)
 
--- each node names only nodes before it, its expressions are sound and its type no deeper than 64; and there are no more than 2^32 nodes
+-- each node names only nodes before it, its expressions are sound, and its type is no deeper than 64; there are at most
+-- 2^32 nodes
 pub record IsTable (nodes : List Node) : Type 0 where
   pub below : (i : ℕ) (node : Node) → slice_get nodes i ≡ Some node → NamesBelow i node.shape
   pub sound : (i : ℕ) (node : Node) → slice_get nodes i ≡ Some node → IsSoundShape node.shape
