@@ -1,4 +1,4 @@
--- The names by which faults of opening a file are told.
+-- The names of the faults of opening a file, as messages print them.
 use Rattle.std.specs.Prelude.{ℕ, List, codes}
 use Rattle.bit_space.specs.declared.file.OpenFault.{OpenFault}
 use Rattle.bit_space.specs.declared.file.OpenFault.TheVariants as fault

@@ -1,4 +1,4 @@
--- What a read of a number comes to.
+-- The result of reading a number.
 use Rattle.std.specs.Prelude.{◌≡◌, ℕ, ◌+◌, ◌*◌, ◌^◌, ◌<◌, ◌≤◌, List, Option, Some, slice_range}
 use Rattle.bit_space.specs.declared.meter.Meter.{Meter}
 use Rattle.bit_space.specs.declared.order.Order.{Order}
@@ -7,8 +7,8 @@ use Rattle.bit_space.specs.declared.number.BitFault.TheVariants.{End, Device, Li
 use Rattle.bit_space.specs.Bits.{number}
 use Rattle.bit_space.specs.SpaceView.{SpaceView, HasRisen}
 
--- what a read of `width` bits from bit `position` on may give: a number of that width, and the
--- number of those bits where the bits of the space are known
+-- the number that a read of `width` bits from the bit `position` on may give: one of that width, and the number of
+-- those bits where the bits of the space are known
 pub record MayRead (known : Option (List ℕ)) (order : Order) (position width n : ℕ) : Type 0 where
   pub fits : n < 2 ^ width
   pub exact : (bits : List ℕ) → known ≡ Some bits → n ≡ number order (slice_range bits position (position + width))
@@ -19,11 +19,11 @@ IsRefused Limit end before after limit steps steps' = (steps ≡ limit) × (step
 IsRefused End end before after limit steps steps' = (steps' ≡ steps + 1) × (steps < limit) × (8 * before.len < end)
 IsRefused Device end before after limit steps steps' = (steps' ≡ steps + 1) × (steps < limit) × (end ≤ 8 * before.len) × HasRisen before.failures after.failures
 
--- the same between two states of the meter
+-- the same, between two states of the meter
 abbrev pub RefusesReading : (end : ℕ) → (before after : SpaceView) → (meter meter' : Meter) → BitFault → Type 0
 RefusesReading end before after meter meter' fault = IsRefused fault end before after meter.limit meter.steps meter'.steps
 
--- what holds of each refusal but that of a device
+-- a fact about each refusal that isn't a device's
 abbrev pub UnlessDevice : BitFault → Type 0 → Type 0
 UnlessDevice Limit P = P
 UnlessDevice End P = P

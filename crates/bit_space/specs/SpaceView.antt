@@ -1,10 +1,10 @@
--- What a caller can know of a space.
+-- What callers know of a space.
 use Rattle.std.specs.Prelude.{◌≡◌, ℕ, ◌+◌, ◌-◌, ◌^◌, ◌<◌, ◌≤◌, List, Option, Some, None, [], length, slice_range, option_map, unwrap_or, MatchOption}
 use Rattle.std.proofs.Common.{ap, sym, subst}
 use Rattle.bit_space.specs.Bits.{bits_of}
 
--- A space as its callers see it: its length in bytes, its bytes where they are known, and how
--- often it failed. The bytes are known where the space is honest.
+-- A space as its callers see it: its length in bytes, its bytes where they are known, and how often it failed. The
+-- bytes are known where the space is honest.
 pub record SpaceView : Type 0 where
   pub len : ℕ
   pub bytes : Option (List ℕ)
@@ -18,7 +18,7 @@ honest bytes = record { len = length bytes; bytes = Some bytes; failures = 0 }
 abbrev pub known_bits : SpaceView → Option (List ℕ)
 known_bits view = option_map bits_of view.bytes
 
--- where the bytes of a space are known, they are as many as its length says
+-- where the bytes of a space are known, there are as many as its length says
 abbrev pub IsWhole : SpaceView → Type 0
 IsWhole view = (bytes : List ℕ) → view.bytes ≡ Some bytes → length bytes ≡ view.len
 
@@ -29,11 +29,11 @@ honest_whole bytes found e = ap (λ (o : Option (List ℕ)). length (unwrap_or o
 abbrev pub GivesRange : SpaceView → (at count : ℕ) → (part : List ℕ) → Type 0
 GivesRange view at count part = (bytes : List ℕ) → view.bytes ≡ Some bytes → part ≡ slice_range bytes at (at + count)
 
--- a count of failures rose; one that stood at its last value is read as having risen
+-- a count of failures rose; a count at its greatest value is read as having risen
 abbrev pub HasRisen : ℕ → ℕ → Type 0
 HasRisen before after = before < 2 ^ 64 - 1 → before < after
 
--- what a call leaves of a space: its length and bytes, and a count of failures that never falls
+-- what a call leaves of a space: its length and bytes; its count of failures never falls
 pub record Keeps (before after : SpaceView) : Type 0 where
   pub len : after.len ≡ before.len
   pub bytes : after.bytes ≡ before.bytes

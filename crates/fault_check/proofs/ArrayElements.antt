@@ -1,4 +1,4 @@
--- Ways through the elements of arrays, step by step.
+-- Paths through the elements of arrays, step by step.
 use Rattle.std.proofs.Common.{◌≡◌, ℕ, ◌+◌, ◌*◌, ◌<◌, ◌≤◌, List, length, Bool, true, false, Option, Some, None, Ok, refl, sym, ap, ◌∙◌, arith}
 use Rattle.bit_space.specs.declared.order.Order.{Order}
 use Rattle.bit_space.specs.Bits.{bits_of}
@@ -70,7 +70,7 @@ same_fault kind place f e =
     let ea : f.at ≡ place = cc in
     rw (ek, ea) refl
 
--- the element behind those that are values is entered
+-- the element after those that are values is entered
 module _ (bits : List ℕ) (nodes : List Node) (element : ℕ) (order : Order) (s : ℕ) (extent : Extent) (levels inside : Levels) (n p : ℕ) (f : FaultAt)
     (before : ElementsTo bits (type_of nodes element) order s extent levels inside n p) (due : is_due extent (length bits) s n p ≡ true) (goes : ends_before extent f.0 ≡ false) where
   pub enters_element : (next : Part) → IsElement element order p next → Enters bits nodes inside n f (ElementsArise bits (type_of nodes element) order s extent levels f) (entered.Part next)
@@ -86,7 +86,7 @@ module _ (bits : List ℕ) (nodes : List Node) (element : ℕ) (order : Order) (
   enters_empty inside' ef entered.There h = rw ef (of_no_bits before.holds due h.means.holds h.ends)
   enters_empty inside' ef entered.Nowhere h = tt
 
--- an array is entered by way of its elements
+-- an array is entered through its elements
 module _ (bits : List ℕ) (nodes : List Node) (ty : PokeType) (bound : Bound) (order : Order) (s : ℕ) (extent : Extent) (levels inside : Levels) (n : ℕ) (f : FaultAt) (here : s ≤ length bits) (bounded : extent_of bound levels s ≡ Ok extent) where
   pub enters_array : (result : Entered) → Enters bits nodes inside n f (ElementsArise bits ty order s extent (opened levels) f) result → Enters bits nodes inside n f (Arises bits (ArrayOf ty bound) order levels s f) result
   enters_array (entered.Part next) h = λ path arises. in_array here bounded (h path arises)

@@ -1,4 +1,4 @@
--- Ways through the fields of integral structs, step by step.
+-- Paths through the fields of integral structs, step by step.
 use Rattle.std.proofs.Common.{◌≡◌, ℕ, ◌+◌, ◌-◌, ◌≤◌, true, List, [], ◌∷◌, length, get_or, take, drop, refl, sym, ap, ◌∙◌, arith}
 use Rattle.std.specs.Prelude.{◌==◌}
 use Rattle.std.proofs.lemmas.List.{take_all}
@@ -38,7 +38,7 @@ module _ (nodes : List Node) (fields : List Part) (n s width place left cut w : 
       let h = rw (ec, ew) at h in
       digits_inside before h
 
--- a path with a place, by that and the places behind it
+-- a path with a place, by that place and those after it
 pub path_is : (path : List ℕ) → 1 ≤ length path → path ≡ get_or path 0 0 ∷ take (length path - 1) (drop 1 path)
 path_is [] some = absurd (omega arith)
 path_is (place ∷ rest) some = ap (λ (r : List ℕ). place ∷ r) (sym (take_all (length (place ∷ rest) - 1) rest (omega arith)))

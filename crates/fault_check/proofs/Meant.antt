@@ -56,7 +56,7 @@ settled limit before after steps (Err Limit) o h = tt
 settled limit before after steps (Err Device) o h = tt
 settled limit before after steps (Err Memory) o h = tt
 
--- the levels around the innermost one, behind a mapping
+-- the frames around the innermost one, after a mapping
 pub outer_mapped : (nodes : List Node) (space : SpaceView) (meter meter' : Meter) (store store' : Held) (planned : Planned Value) (result : Result ℕ Stop) → Maps nodes space meter meter' store store' planned result →
     OnErr result (levels nodes store' ≡ levels nodes store) → outer_of (levels nodes store') ≡ outer_of (levels nodes store)
 outer_mapped nodes space meter meter' store store' planned (Ok end) h same = ap outer_of h.kept ∙ outer_pushed (levels nodes store) (Some h.value)

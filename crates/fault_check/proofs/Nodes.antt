@@ -1,4 +1,4 @@
--- What a table says of its nodes.
+-- What a table says about its nodes.
 use Rattle.std.proofs.Common.{◌≡◌, ℕ, ◌+◌, ◌≤◌, ◌<◌, length, get_or, Bool, List, Option, refl, arith}
 use Rattle.std.specs.Prelude.{All, Vec}
 use Rattle.std.specs.declared.alloc.Global.{Global}
@@ -16,7 +16,7 @@ use Rattle.pickle_map.specs.Mappable.{IsFieldOf, IsPartOf}
 use Rattle.pickle_map.proofs.Shapes.{below_as, sound_as, opened_as, struct_opened, integral_opened, union_opened, fields_within, parts_within}
 use Rattle.value_store.specs.Names.{title_at}
 
--- an integral struct in a table, where so many levels are open
+-- an integral struct in a table, where so many frames are open
 pub record IntegralNode (nodes : List Node) (at levels : ℕ) (number : IntegerType) (fields : List Part) : Type 0 where
   pub type_is : type_of nodes at ≡ IntegralOf (title_at nodes at) number (open_parts (type_of nodes) fields)
   pub fields_are : All (IsPartOf nodes (levels + 1)) fields

@@ -1,4 +1,4 @@
--- What the plan of a number comes to is what the number means.
+-- The result of a number's plan is what the number means.
 use Rattle.std.proofs.Common.{◌≡◌, ℕ, ◌+◌, ◌-◌, zero, suc, List, [], Option, Some, Result, Ok, Err, refl, ap, ◌∙◌}
 use Rattle.pickle_tree.specs.declared.tree.ByteOrder.{ByteOrder}
 use Rattle.pickle_types.specs.declared.integer.IntegerType.{IntegerType}
@@ -29,7 +29,7 @@ module _ (bits : List ℕ) where
   result_after zero a = refl
   result_after (suc n) a = result_after n a
 
-  -- what a plan's result leads to
+  -- what the result of a plan gives
   pub goes_on : {A B F : Type 0} (p : Plan (Result A F)) (f : A → Plan (Result B F)) (a : A) → result_of bits p ≡ Ok a → result_of bits (then_ok p f) ≡ result_of bits (f a)
   unfolding then_ok
   goes_on p f a e = result_then p (on_value f) ∙ ap (λ r. result_of bits (on_value f r)) e
@@ -52,7 +52,7 @@ module _ (bits : List ℕ) where
   abbrev Digits : Parts → (n left : ℕ) → Levels → ℕ → Result Levels FaultAt → Type 0
   Digits parts n left levels s r = Somehow (DigitsMean parts n left levels s r)
 
-  -- an integral struct, by what its fields come to
+  -- an integral struct, by the result of its fields
   of_fields : (name : Naming) (type : IntegerType) (fields : Parts) (n : ℕ) (levels : Levels) (s : ℕ) (r : Result Levels FaultAt) → result_of bits (digits_plan fields n type.width (opened levels) s) ≡ r →
       Digits fields n type.width (opened levels) s r → Number (IntegralOf name type fields) n levels s (result_of bits (number_plan (IntegralOf name type fields) n levels s))
   unfolding number_plan
@@ -63,7 +63,7 @@ module _ (bits : List ℕ) where
       let is = goes_wrong (digits_plan fields n type.width (opened levels) s) (closes (struct_value name (part_names fields) s (s + type.width))) f e in
       rw is (record { steps = _; made = _; holds = integral_fault m.holds })
 
-  -- the fields of an integral struct, by what the first one comes to
+  -- the fields of an integral struct, by the result of the first one
   module _ (name : Naming) (order : Option ByteOrder) (ty : PokeType) (c : Option Term) (rest : Parts) (n left : ℕ) (levels : Levels) (s : ℕ) where
     abbrev cut : ℕ
     cut = first_digits n left (width_in (number_type ty))
@@ -113,7 +113,7 @@ module _ (bits : List ℕ) where
         of_first name order ty c rest n left levels s _ refl (number_planned ty (first_digits n left (width_in (number_type ty))) levels s)
         (λ v. digits_planned rest n (left - width_in (number_type ty)) (pushed levels (Some v)) s)
 
--- a number that was placed is kept as it means
+-- a number that was placed is stored as it means
 pub number_kept : (nodes : List Node) (meter meter' : Meter) (store store' : Held) (ty : PokeType) (n s : ℕ) (result : Result (Unit {0}) Stop) → Places nodes meter meter' store store' ty n s result →
     IfOk result (λ u. KeepsNumber ty n s (levels nodes store) (levels nodes store'))
 number_kept nodes meter meter' store store' ty n s (Ok u) h =

@@ -1,4 +1,4 @@
--- Steps on a way by parts that were mapped.
+-- Steps of a path through parts that were mapped.
 use Rattle.std.proofs.Common.{◌≡◌, ℕ, ◌+◌, ◌-◌, ◌≤◌, length, length-drop, take, drop, get_or, [], ◌∷◌, subst, arith, Bool, true, false, List, Option, None, Result, Ok, Err, IfOk, sym, ap, ◌∙◌}
 use Rattle.std.proofs.lemmas.Bool.{false≢true}
 use Rattle.std.proofs.lemmas.List.{take_all, drop_more, drop_all}
@@ -83,7 +83,7 @@ alternative_misses bits nodes p order order' levels levels' s s' Memory eo es mi
 
 -- ---- types
 
--- a struct is entered by way of its fields, and a union by way of its alternatives
+-- a struct is entered through its fields, and a union through its alternatives
 module _ (bits : List ℕ) (nodes : List Node) (order : Order) (s : ℕ) (levels inside : Levels) (n : ℕ) (f : FaultAt) (here : s ≤ length bits) where
   pub enters_struct : (name : Naming) (pinned : Bool) (all : Fields) (result : Entered) → Enters bits nodes inside n f (FieldsArise bits pinned s order all (opened levels) f) result →
       Enters bits nodes inside n f (Arises bits (StructOf name pinned all) order levels s f) result

@@ -1,4 +1,4 @@
--- What calls on a way say of a table's types, on bits: by the store before the call and the one after it.
+-- What the calls on a path say of a table's types, on bits, from the store before the call and the store after it.
 use Rattle.std.specs.Prelude.{◌≡◌, ℕ, Bool, List, Option, Box, Result, Err}
 use Rattle.std.specs.declared.alloc.Global.{Global}
 use Rattle.bit_space.specs.declared.order.Order.{Order}
@@ -37,7 +37,7 @@ module _ (nodes : List Node) where
   abbrev pub MeansFault : Part → MapFault → Held → (bits : List ℕ) → Type 0
   MeansFault part fault store bits = HasFault bits nodes (levels nodes store) part (fault_of fault)
 
-  -- the constraint beside a part refuses it with the fault
+  -- the constraint of a part refuses it with the fault
   abbrev pub Refuses : Part → MapFault → Held → Type 0
   Refuses part fault store = constraint (constraint_of part) (levels nodes store) part.start ≡ Err (fault_of fault)
 
@@ -63,7 +63,7 @@ module _ (nodes : List Node) where
   Passes pinned start order field store store' behind end bits =
       PassesField bits nodes pinned start order field (levels nodes store) (levels nodes store') behind end
 
-  -- an alternative of a union misses
+  -- an alternative of a union doesn't match
   abbrev pub MissesOne : Alternative → Order → Held → (start : ℕ) → (bits : List ℕ) → Type 0
   MissesOne alternative order store start bits = Misses bits nodes alternative order (levels nodes store) start
 
@@ -72,12 +72,12 @@ module _ (nodes : List Node) where
   MapsType at order start store store' result bits =
       Comes (Means bits (type_of nodes at) order (levels nodes store) start) (levels nodes store) (levels nodes store') result
 
-  -- so it was, with the constraint that stands beside it
+  -- the same, and its constraint holds
   abbrev pub MapsChecked : (at : ℕ) → Option (Box Resolved Global) → Order → (start : ℕ) → (store store' : Held) → Result ℕ Stop → (bits : List ℕ) → Type 0
   MapsChecked at clause order start store store' result bits =
       Comes (PartMeans bits (type_of nodes at) (optional_term clause) order (levels nodes store) start) (levels nodes store) (levels nodes store') result
 
-  -- the fields of a number before a place were kept, and so many binary digits are left
+  -- the fields of a number before a place were stored, and so many binary digits are left
   abbrev pub Reaches : (digits start : ℕ) → List Alternative → (width place : ℕ) → (store store' : Held) → (left : ℕ) → Type 0
   Reaches digits start fields width place store store' left = ReachesNumber nodes digits start fields width (levels nodes store) place (levels nodes store') left
 

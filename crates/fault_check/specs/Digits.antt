@@ -1,4 +1,4 @@
--- What is found on a way through the fields of integral structs.
+-- What is found on a path through the fields of integral structs.
 use Rattle.bit_space.specs.declared.order.Order.{Order}
 use Rattle.std.specs.Prelude.{◌≡◌, ℕ, ◌<◌, ◌≤◌, length, drop, List, Some, Ok, Err}
 use Rattle.pickle_types.specs.declared.node.Node.{Node}
@@ -14,13 +14,13 @@ use Rattle.fault_check.specs.Ways.{fault_of}
 use Rattle.fault_parts.specs.Arises.{Path, DigitsBefore, Arises}
 use Rattle.fault_parts.specs.Somehow.{Somehow}
 
--- one more value was kept, which the number means
+-- one more value was stored, which the number means
 pub record KeepsNumber (ty : PokeType) (number s : ℕ) (levels levels' : Levels) : Type 0 where
   pub value : Value
   pub means : Somehow (NumberMeans ty number levels s (Ok value))
   pub keeps : levels' ≡ pushed levels (Some value)
 
--- one more field was kept, whose constraint holds
+-- one more field was stored, whose constraint holds
 pub record PassesNumber (nodes : List Node) (number s : ℕ) (p : Part) (levels levels' : Levels) : Type 0 where
   pub value : Value
   pub means : Somehow (NumberMeans (type_of nodes p.node) number levels s (Ok value))
@@ -33,7 +33,7 @@ pub record RefusesNumber (nodes : List Node) (number s : ℕ) (p : Part) (levels
   pub means : Somehow (NumberMeans (type_of nodes p.node) number levels s (Ok value))
   pub refused : constraint (optional_term p.constraint) (pushed levels (Some value)) s ≡ Err f
 
--- the fields before a place were kept, and so many binary digits are left of the number
+-- the fields before a place were stored, and so many binary digits of the number are left
 pub record ReachesNumber (nodes : List Node) (n s : ℕ) (fields : List Part) (width : ℕ) (levels : Levels) (place : ℕ) (levels' : Levels) (left : ℕ) : Type 0 where
   pub inside : place < length fields
   pub few : left ≤ 64

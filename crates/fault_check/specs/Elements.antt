@@ -1,4 +1,4 @@
--- What is found on a way through the elements of an array.
+-- What is found on a path through the elements of an array.
 use Rattle.std.specs.Prelude.{◌≡◌, ℕ, false, List, Option, None, Ok, length, IfSome}
 use Rattle.bit_space.specs.declared.order.Order.{Order}
 use Rattle.pickle_types.specs.declared.node.Extent.{Extent as Bound}
@@ -35,7 +35,7 @@ pub record HasNoBits (bits : List ℕ) (ty : PokeType) (order : Order) (levels :
   pub means : Somehow (Means bits ty order levels at (Ok value))
   pub ends : end_of value ≡ at
 
--- an element is a value without bits, or nothing was kept of it
+-- an element is a value without bits, or nothing of it was stored
 abbrev pub IsEmpty : List ℕ → PokeType → (element : ℕ) → Order → (levels levels' : Levels) → (at : ℕ) → Entered → Type 0
 IsEmpty bits ty element order levels levels' at (entered.Part next) = IsElement element order at next × (levels' ≡ levels)
 IsEmpty bits ty element order levels levels' at entered.There = HasNoBits bits ty order levels at
@@ -50,7 +50,7 @@ pub record Outgrows (bits : List ℕ) (ty : PokeType) (order : Order) (s : ℕ) 
   pub over : is_due extent (length bits) s count end ≡ false
   pub unmet : is_met extent s end ≡ false
 
--- What calls on the way through an array of a table say, on bits: by the store before the call and the one after it.
+-- What the calls on a path through an array say, on bits, from the store before the call and the store after it.
 module _ (nodes : List Node) (element : ℕ) where
   -- the fault arises in the array at the end of a path
   abbrev pub ArrayArises : Bound → Order → (start : ℕ) → MapFault → Held → Path → (bits : List ℕ) → Type 0
@@ -66,7 +66,7 @@ module _ (nodes : List Node) (element : ℕ) where
   EntersElements extent order start place fault store store' entered bits =
       Enters bits nodes (levels nodes store') place (fault_of fault) (ElementsArise bits (type_of nodes element) order start extent (levels nodes store) (fault_of fault)) entered
 
-  -- so many elements were kept, where the call gives their end
+  -- so many elements were stored, if the call returns their end
   abbrev pub KeepsElements : Extent → Order → (start count : ℕ) → (store store' : Held) → Option ℕ → (bits : List ℕ) → Type 0
   KeepsElements extent order start count store store' end bits =
       IfSome end (ElementsTo bits (type_of nodes element) order start extent (levels nodes store) (levels nodes store') count)

@@ -1,4 +1,4 @@
--- What is found on a way from a type to the part of it in which a fault arises.
+-- What is found on a path from a type to the part of it in which a fault arises.
 use Rattle.std.specs.Prelude.{◌≡◌, ℕ, ◌+◌, ◌<◌, ◌≤◌, length, Bool, List, [], ◌∷◌, Option, Some, None, Box, Result, Ok, Err, option_copied}
 use Rattle.std.specs.declared.alloc.Global.{Global}
 use Rattle.bit_space.specs.Bits.{bits_of}
@@ -24,11 +24,11 @@ use Rattle.fault_check.specs.declared.part.Part.{Part}
 use Rattle.fault_check.specs.declared.part.Entered.{Entered}
 use Rattle.fault_check.specs.declared.part.Entered.TheVariants as entered
 
--- a fact of the bits of a space, where its bytes are known
+-- a fact about the bits of a space, where its bytes are known
 abbrev pub OnBits : SpaceView → (List ℕ → Type 0) → Type 0
 OnBits space P = (bytes : List ℕ) → space.bytes ≡ Some bytes → P (bits_of bytes)
 
--- what each call leaves of the space and of the meter
+-- what each call leaves of the space and of the meter as it was
 pub record Leaves (space space' : SpaceView) (meter meter' : Meter) : Type 0 where
   pub limit : meter'.limit ≡ meter.limit
   pub len : space'.len ≡ space.len
@@ -39,14 +39,14 @@ pub record Leaves (space space' : SpaceView) (meter meter' : Meter) : Type 0 whe
 abbrev pub Meaning : Type 1
 Meaning = Result Value FaultAt → (steps made : ℕ) → Type 0
 
--- one more value was kept, which is meant and ends at a bit
+-- one more value was stored, which is meant and ends at a bit
 pub record KeepsMeant (Says : Meaning) (levels levels' : Levels) (end : ℕ) : Type 0 where
   pub value : Value
   pub keeps : levels' ≡ pushed levels (Some value)
   pub ends : end_of value ≡ end
   pub means : Somehow (Says (Ok value))
 
--- a call kept the value that is meant, or stopped with the fault that is meant, or was ended by the run
+-- a call stored the value that is meant, or stopped with the fault that is meant, or was ended by the run
 abbrev pub Comes : Meaning → (levels levels' : Levels) → Result ℕ Stop → Type 0
 Comes Says levels levels' (Ok end) = KeepsMeant Says levels levels' end
 Comes Says levels levels' (Err (Fault kind place)) = Somehow (Says (Err (kind, place)))
@@ -54,7 +54,7 @@ Comes Says levels levels' (Err Limit) = Unit {0}
 Comes Says levels levels' (Err Device) = Unit {0}
 Comes Says levels levels' (Err Memory) = Unit {0}
 
--- a clause comes to its outcome, or is ended by the run
+-- a clause has its outcome, or is ended by the run
 abbrev pub Settled : {A : Type 0} → Result A Stop → Result A FaultAt → Type 0
 Settled (Ok x) o = o ≡ Ok x
 Settled (Err (Fault kind place)) o = o ≡ Err (kind, place)
@@ -65,7 +65,7 @@ Settled (Err Memory) o = Unit {0}
 abbrev pub fault_of : MapFault → FaultAt
 fault_of told = (told.kind, told.at)
 
--- what stands beside a part, as a term
+-- the constraint of a part, as a term
 abbrev pub beside : Option (Option (Box Resolved Global)) → Option Term
 beside None = None
 beside (Some clause) = optional_term clause
@@ -73,18 +73,18 @@ beside (Some clause) = optional_term clause
 abbrev pub constraint_of : Part → Option Term
 constraint_of part = beside (option_copied part.constraint)
 
--- a part of a type in a table, where so many levels are open
+-- a part of a type in a table, where so many frames are open
 pub record IsPart (nodes : List Node) (levels : ℕ) (part : Part) : Type 0 where
   pub inside : part.node < length nodes
   pub deep : levels + depth (type_of nodes part.node) ≤ 65
   pub sound : IsSoundClause (constraint_of part)
 
--- a field of a table, and fields behind it
+-- a field of a table, and fields after it
 abbrev pub field_then : List Node → Field → Fields → Fields
 field_then nodes f rest =
     FieldThen (name_of f.name) f.order (type_of nodes f.node) (optional_term f.constraint) (optional_term f.label) (optional_term f.condition) rest
 
--- an alternative of a table, or a field of an integral struct, and others behind it
+-- an alternative of a table, or a field of an integral struct, and others after it
 abbrev pub part_then : List Node → Alternative → Parts → Parts
 part_then nodes p rest = PartThen (name_of p.name) p.order (type_of nodes p.node) (optional_term p.constraint) rest
 
@@ -106,32 +106,32 @@ InType bits nodes levels part f path = Arises bits (type_of nodes part.node) par
 abbrev pub HasFault : List ℕ → List Node → Levels → Part → FaultAt → Type 0
 HasFault bits nodes levels part f = Somehow (Means bits (type_of nodes part.node) part.order levels part.start (Err f))
 
--- Where a way went by a place: a goal follows for paths through that place where the fault arises in the part that the way goes on in; or
--- for the place alone.
+-- What one step of a path found: the goal follows for each path on from here where the fault arises in the entered
+-- part, or for this place alone.
 abbrev pub Enters : List ℕ → List Node → Levels → (place : ℕ) → FaultAt → (Path → Type 0) → Entered → Type 0
 Enters bits nodes levels place f Goal (entered.Part next) = (path : Path) → InPart bits nodes levels next f path → Goal (place ∷ path)
 Enters bits nodes levels place f Goal entered.There = Goal (place ∷ [])
 Enters bits nodes levels place f Goal entered.Nowhere = Unit {0}
 
--- the part that a way goes on in may be mapped
+-- the entered part may be mapped
 abbrev pub GoesOn : List Node → (levels : ℕ) → Entered → Type 0
 GoesOn nodes levels (entered.Part next) = IsPart nodes levels next
 GoesOn nodes levels entered.There = Unit {0}
 GoesOn nodes levels entered.Nowhere = Unit {0}
 
--- a field was entered, behind i that are absent or values
+-- a field was entered, after i fields that are absent or values
 abbrev pub EntersField : List Node → (pinned : Bool) → (s : ℕ) → Order → Field → Levels → (behind : ℕ) → FaultAt → Entered → Type 0
 EntersField nodes pinned s order f levels behind fault entered =
     (bits : List ℕ) (fields rest : Fields) (first : Levels) (i : ℕ) → FieldsBefore bits pinned s order fields first i (field_then nodes f rest) levels behind
     → Enters bits nodes levels i fault (FieldsArise bits pinned s order fields first fault) entered
 
--- an alternative misses
+-- an alternative doesn't match
 abbrev pub Misses : List ℕ → List Node → Alternative → Order → Levels → (s : ℕ) → Type 0
 Misses bits nodes p order levels s =
     (alternatives rest : Parts) (i : ℕ) → MissesBefore bits order alternatives levels s i (part_then nodes p rest)
     → MissesBefore bits order alternatives levels s (i + 1) rest
 
--- an alternative was entered, behind i that miss
+-- an alternative was entered, after i that don't match
 abbrev pub EntersAlternative : Order → Alternative → (s : ℕ) → FaultAt → Entered → Type 0
 EntersAlternative order p s fault entered =
     (bits : List ℕ) (nodes : List Node) (levels : Levels) (alternatives rest : Parts) (i : ℕ) → MissesBefore bits order alternatives levels s i (part_then nodes p rest)
@@ -141,7 +141,7 @@ EntersAlternative order p s fault entered =
 abbrev pub IsFault : Stop → MapFault → Type 0
 IsFault stop fault = stop ≡ Fault fault.kind fault.at
 
--- a stop is the fault, where this says that it arises there
+-- a stop is the fault, where the result says that the fault arises there
 abbrev pub IsThere : Stop → MapFault → Entered → Type 0
 IsThere stop fault (entered.Part next) = ⊥
 IsThere stop fault entered.There = IsFault stop fault

@@ -1,4 +1,4 @@
-//! Alternatives of a union, on a way into one of them.
+//! Alternatives of a union, on the path to one of them.
 
 ghost use Rattle.std.specs.Prelude.{◌≡◌, ℕ, ◌∷◌, [], List, All, IsTrue};
 ghost use Rattle.pickle_types.specs.declared.node.Node.{Node};
@@ -18,7 +18,7 @@ use pickle_meaning::faults::MapFault;
 use pickle_types::view::{Node, Part as Alternative};
 use value_store::store::Store;
 
-/// Goes by the alternatives of a union, which starts at the bit `start`, into the one at a place.
+/// Enters the alternative at a place of a union, which starts at the bit `start`, after those before it don't match.
 pub fn enter_alternatives<'a, S: Space>(
     nodes: &[Node],
     alternatives: &'a [Alternative],
@@ -48,7 +48,7 @@ pub fn enter_alternatives<'a, S: Space>(
     Entered::Nowhere
 }
 
-/// Whether an alternative misses. Its level is empty behind it where it does.
+/// Whether an alternative doesn't match. If so, its frame is empty afterwards.
 fn misses<S: Space>(
     nodes: &[Node],
     alternative: &Alternative,
@@ -84,7 +84,7 @@ fn misses<S: Space>(
     }
 }
 
-/// Goes into an alternative, where the fault is no miss.
+/// Enters an alternative, unless the fault means that it doesn't match.
 fn enter_alternative<'a>(
     alternative: &'a Alternative,
     order: Order,

@@ -1,4 +1,4 @@
-//! The check of a whole way.
+//! Checks a whole path.
 
 ghost use Rattle.std.specs.Prelude.{◌≡◌, ◌<◌, [], length, IsTrue};
 ghost use Rattle.pickle_types.specs.Table.{IsTable};
@@ -21,11 +21,12 @@ use pickle_types::table::{Table, TypeId};
 use pickle_types::view::{Node, Shape};
 use value_store::store::Store;
 
-/// Whether the fault of a type, which is mapped from the bit `start` on, arises in the part to which a path leads: a place
-/// at each step, from 0, of an element, or of a field or an alternative among those that are declared.
+/// Whether the fault of a type, which is mapped from the bit `start` on, arises in the part to which a path leads. A
+/// path has a place for each step, from 0: the number of an element, or of a field or an alternative among the declared
+/// ones.
 ///
-/// It maps again what stands before that part. Where the answer is no, the fault may arise there all the same: a run may
-/// have ended before that was found.
+/// It maps again what is before that part. After `false` the fault may still arise there: the run may have ended before
+/// that was found.
 pub fn arises<S: Space>(
     table: &Table,
     id: TypeId,
@@ -54,7 +55,7 @@ pub fn arises<S: Space>(
     found
 }
 
-/// Whether the fault arises in the part of a part to which a path leads.
+/// Whether the fault arises in the part of `whole` to which a path leads.
 fn follow<S: Space>(
     nodes: &[Node],
     whole: Part<'_>,
@@ -93,7 +94,7 @@ fn follow<S: Space>(
     is_own(nodes, part, fault, space, meter, store)
 }
 
-/// Goes into the part of a part at a place.
+/// Enters the part of a part at a place.
 fn enter<'a, S: Space>(
     nodes: &'a [Node],
     part: Part<'_>,
@@ -176,7 +177,7 @@ fn is_own<S: Space>(
     }
 }
 
-/// Whether the constraint that stands beside a part stops with the fault, where the part's value stands last.
+/// Whether the constraint of a part stops with the fault, where the part's value is the last one.
 fn is_refused(
     nodes: &[Node],
     part: Part<'_>,
@@ -197,7 +198,7 @@ fn is_refused(
     }
 }
 
-/// Whether a fault that the type of a part means arises in that type itself, and in no part of it.
+/// Whether a fault that the type of a part means arises in that type itself, and in none of its parts.
 fn is_own_fault<S: Space>(
     nodes: &[Node],
     part: Part<'_>,

@@ -1,4 +1,4 @@
-//! Integral structs, on the way to the field in which a fault arises.
+//! Integral structs, on the path to the field in which a fault arises.
 
 ghost use Rattle.std.specs.Prelude.{◌≡◌, ◌+◌, ◌<◌, ◌≤◌, ◌^◌, length, All, IfOk, IfSome, IsTrue};
 ghost use Rattle.pickle_types.specs.Types.{depth};
@@ -113,7 +113,7 @@ fn number_arises(
     }
 }
 
-/// Keeps the fields before a place, and gives how many binary digits of the number are left then.
+/// Stores the fields before a place, and returns how many binary digits of the number are left after them.
 fn reach_field(
     nodes: &[Node],
     fields: &[Field],
@@ -147,7 +147,7 @@ fn reach_field(
     None
 }
 
-/// Keeps a field of an integral struct, whose constraint holds.
+/// Stores a field of an integral struct, whose constraint holds.
 fn pass_field(
     nodes: &[Node],
     field: &Field,
@@ -194,7 +194,7 @@ fn is_refused(
     }
 }
 
-/// Keeps a number as the type at a place of the table.
+/// Stores a number as the type at a place of the table.
 fn keep_number(
     nodes: &[Node],
     at: usize,

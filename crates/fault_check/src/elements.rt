@@ -1,4 +1,4 @@
-//! Arrays, on the way to the element in which a fault arises.
+//! Arrays, on the path to the element in which a fault arises.
 
 ghost use Rattle.std.specs.Prelude.{◌≡◌, ◌+◌, ◌*◌, ◌<◌, ◌≤◌, [], length, IfOk, IfSome, IsTrue};
 ghost use Rattle.pickle_types.specs.Types.{depth};
@@ -19,7 +19,7 @@ use pickle_meaning::faults::{MapFault, MapFaultKind};
 use pickle_types::view::{Extent as Bound, Node};
 use value_store::store::Store;
 
-/// Goes into the element of an array at a place, behind those before it.
+/// Enters the element of an array at a place, after those before it.
 pub fn enter_array<'a, S: Space>(
     nodes: &[Node],
     element: usize,
@@ -61,7 +61,7 @@ pub fn enter_array<'a, S: Space>(
     )
 }
 
-/// Goes into an element of an array whose level is open, behind those before it.
+/// Enters an element of an array whose frame is open, after those before it.
 fn enter_elements<'a, S: Space>(
     nodes: &[Node],
     element: usize,
@@ -98,7 +98,8 @@ fn enter_elements<'a, S: Space>(
     Entered::Part(element_part(element, order, behind))
 }
 
-/// Keeps so many elements of an array, which are all due and have bits, and gives the bit behind them.
+/// Stores the first `place` elements of an array, which all have to be due and take bits, and returns the bit after
+/// them.
 fn elements_before<S: Space>(
     nodes: &[Node],
     element: usize,
@@ -134,7 +135,8 @@ fn elements_before<S: Space>(
     Some(behind)
 }
 
-/// An element that takes no bits, or else the way into it.
+/// Enters an element for the fault NoBits. The fault is the element's own where it takes no bits, and may arise inside
+/// where the element stops.
 fn empty_element<'a, S: Space>(
     nodes: &[Node],
     element: usize,
@@ -158,7 +160,7 @@ fn empty_element<'a, S: Space>(
     }
 }
 
-/// An element of an array that starts at a bit.
+/// An element of an array, which starts at the bit `at`.
 fn element_part<'a>(element: usize, order: Order, at: u64) -> Part<'a>
     ensures { IsElement element order at result }
 {
@@ -170,7 +172,7 @@ fn element_part<'a>(element: usize, order: Order, at: u64) -> Part<'a>
     }
 }
 
-/// Whether a fault arises in an array itself: in its bound, or behind elements that end past its size.
+/// Whether a fault arises in an array itself: in its bound, or after elements that end past its size.
 pub fn is_own_array<S: Space>(
     nodes: &[Node],
     element: usize,
@@ -211,7 +213,7 @@ pub fn is_own_array<S: Space>(
     }
 }
 
-/// Whether the elements of an array whose level is open end past its size.
+/// Whether the elements of an array whose frame is open end past its size.
 fn outgrows<S: Space>(
     nodes: &[Node],
     element: usize,

@@ -1,4 +1,4 @@
-//! Fields of a struct, on a way into one of them.
+//! Fields of a struct, on the path to one of them.
 
 ghost use Rattle.std.specs.Prelude.{◌≡◌, All, IfOk};
 ghost use Rattle.pickle_types.specs.Table.{IsTable};
@@ -16,7 +16,7 @@ use pickle_meaning::faults::MapFault;
 use pickle_types::view::{Field, Node};
 use value_store::store::Store;
 
-/// Goes by the fields of a struct, which starts at the bit `start`, into the one at a place.
+/// Enters the field at a place of a struct, which starts at the bit `start`, after those before it.
 pub fn enter_fields<'a, S: Space>(
     nodes: &[Node],
     pinned: bool,
@@ -52,7 +52,7 @@ pub fn enter_fields<'a, S: Space>(
     Entered::Nowhere
 }
 
-/// Maps a field, or keeps its place where it isn't there, and gives the end of the last one that is there.
+/// Maps a field, or stores an absent one, and returns the end of the last present field.
 fn pass_field<S: Space>(
     nodes: &[Node],
     pinned: bool,
@@ -87,7 +87,7 @@ fn pass_field<S: Space>(
     )
 }
 
-/// Goes into a field: where its condition or its label stops with the fault, it arises there.
+/// Enters a field. Where its condition or its label stops with the fault, the fault arises there.
 fn enter_field<'a>(
     nodes: &[Node],
     pinned: bool,

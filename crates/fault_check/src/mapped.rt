@@ -1,4 +1,4 @@
-//! Parts that are mapped on a way, with what they mean.
+//! Maps parts on a path, and says what they mean.
 
 ghost use Rattle.std.specs.Prelude.{◌≡◌, ◌+◌, ◌≤◌, ◌<◌, length, IfOk, IsTrue, List};
 ghost use Rattle.pickle_types.specs.declared.node.Node.{Node as TableNode};
@@ -22,7 +22,7 @@ use pickle_meaning::faults::MapFault;
 use pickle_types::view::{Node, Resolved};
 use value_store::store::Store;
 
-/// Maps the type at a place of the table from the bit `start` on into the innermost level, and gives the bit behind it.
+/// Maps the type at a place of the table from the bit `start` on into the innermost frame. Returns the bit after it.
 pub fn map_part<S: Space>(
     nodes: &[Node],
     node: usize,
@@ -50,7 +50,7 @@ pub fn map_part<S: Space>(
     mapper.map_type(node, order, start, space)
 }
 
-/// Checks a constraint of the value that stands last in the innermost level and began at the bit `place`.
+/// Checks a constraint on the last value of the innermost frame, which began at the bit `place`.
 pub fn check_constraint(
     clause: &Option<Box<Resolved>>,
     place: u128,
@@ -64,7 +64,7 @@ pub fn check_constraint(
     clauses::check(clause, store, place, meter)
 }
 
-/// Whether a field of a struct is there that starts at the bit `start`, by its condition.
+/// Whether a field of a struct that starts at the bit `start` is present, by its condition.
 pub fn is_there(
     clause: &Option<Box<Resolved>>,
     start: u64,
@@ -78,7 +78,7 @@ pub fn is_there(
     clauses::is_there(clause, store, u128::from(start), meter)
 }
 
-/// The bit where a field starts of a struct that starts at the bit `start`, by its label.
+/// The bit where a field starts in a struct that starts at the bit `start`, by its label.
 pub fn find_start(
     pinned: bool,
     label: &Option<Box<Resolved>>,
@@ -94,7 +94,7 @@ pub fn find_start(
     clauses::find_start(pinned, label, store, start, behind, meter)
 }
 
-/// Maps the type at a place of the table, and checks the constraint that stands beside it.
+/// Maps the type at a place of the table, and checks its constraint.
 pub fn map_checked<S: Space>(
     nodes: &[Node],
     node: usize,
@@ -129,7 +129,7 @@ pub fn is_fault(stop: Stop, fault: MapFault) -> bool
     }
 }
 
-/// The way's end, where a stop is the fault.
+/// The end of the path, where a stop is the fault.
 pub fn there_if<'a>(stop: Stop, fault: MapFault) -> Entered<'a>
     ensures { IsThere stop fault result }
 {

@@ -1,9 +1,9 @@
-//! Parts of a type, on the way to the one in which a fault arises.
+//! Parts of a type, on the path to the one in which a fault arises.
 
 use bit_space::Order;
 use pickle_types::view::Resolved;
 
-/// A type at a place of the table, which starts at a bit, with the constraint that stands beside it, if any.
+/// A type at a place of the table, which starts at a bit, and its constraint, if any.
 #[derive(Clone, Copy)]
 pub struct Part<'a> {
     pub node: usize,
@@ -12,12 +12,12 @@ pub struct Part<'a> {
     pub constraint: Option<&'a Option<Box<Resolved>>>,
 }
 
-/// Where a way has come by one place of a path.
+/// The result of one step of a path.
 pub enum Entered<'a> {
-    /// The fault arises in this part, if anywhere behind that place.
+    /// If the fault arises after this step, it arises in this part.
     Part(Part<'a>),
-    /// The fault arises there itself.
+    /// The fault arises at this step itself.
     There,
-    /// It doesn't arise behind that place, or what stands before it could not be mapped.
+    /// The fault doesn't arise after this step, or what is before it could not be mapped.
     Nowhere,
 }

@@ -9,12 +9,12 @@ use Rattle.pickle_meaning.specs.Means.{Means, past_end, number_read, number_end,
 use Rattle.fault_parts.specs.Arises.{Path, DigitsBefore, no_digits_before, digits_before, NumberArises, is_no_number, in_digits, DigitsArise, digits_constraint, digits_inside, FieldsBefore, no_field_before, absent_before, value_before, MissesBefore, no_miss_before, miss_before, Arises, starts_past_end, number_past_end, string_past_end, bound_of_array, in_array, ElementsArise, past_size, of_no_bits, in_element, in_struct, in_number, in_union, PartArises, constraint_of_part, in_part, FieldsArise, condition_of_field, label_of_field, in_field, AlternativesArise, none_fits, in_alternative}
 use Rattle.fault_parts.specs.Laws.{FaultsArise}
 
--- a fault has a part from which it arises; of a value nothing is said
+-- a fault has a part in which it arises; nothing is said of a value
 abbrev OfFault : {A : Type 0} → (FaultAt → Path → Type 0) → Result A FaultAt → Type 0
 OfFault P (Ok a) = Unit {0}
 OfFault P (Err f) = (path : Path) × P f path
 
--- a fault of a part of what is told of
+-- a fact about a fault and its part, carried over to another fact
 onward : {A : Type 0} {P Q : FaultAt → Path → Type 0} (r : Result A FaultAt) → ((f : FaultAt) (path : Path) → P f path → Q f path) → OfFault P r → OfFault Q r
 onward (Ok a) g h = tt
 onward (Err f) g h = (h.0, g f h.0 h.1)

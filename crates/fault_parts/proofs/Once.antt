@@ -1,4 +1,4 @@
--- A fault arises in one part alone.
+-- A fault arises in only one part.
 use Rattle.std.proofs.Common.{◌≡◌, ℕ, zero, suc, ◌+◌, ◌-◌, ◌<◌, ◌≤◌, length, Bool, true, false, List, [], ◌∷◌, Option, Some, None, Result, Ok, Err, refl, sym, ap, ◌∙◌, arith}
 use Rattle.std.specs.Prelude.{nat_eq, if◌then◌else◌}
 use Rattle.std.proofs.lemmas.Bool.{le-leb, lt-leb, eq-eqb, ne_eqb}
@@ -71,7 +71,7 @@ mutual
 
 -- ---- paths among parts
 
--- the path among parts behind i others
+-- the path among parts after i others
 abbrev nexts : ℕ → Path → Path
 nexts i [] = []
 nexts i (k ∷ path) = (i + k) ∷ path
@@ -146,7 +146,7 @@ short_path bits (IntegralOf name t fields) type order levels s e lt =
     rw (lt-leb (s + t.width) (length bits) further) refl
 short_path bits (UnionOf name alternatives) type order levels s e lt = absurd (none-some type e)
 
--- a number whose bits are all there
+-- a number whose bits are all in the file
 whole_path : (bits : List ℕ) (ty : PokeType) (type : IntegerType) (order : Order) (levels : Levels) (s : ℕ) → number_type ty ≡ Some type → s + type.width ≤ length bits → path_of bits ty order levels s ≡ number_path ty (number_at bits order s type.width) levels s
 whole_path bits (IntegerOf t) type order levels s e le = refl
 whole_path bits (OffsetOf t unit) type order levels s e le = refl
@@ -159,7 +159,7 @@ whole_path bits (IntegralOf name t fields) type order levels s e le =
     rw (le-leb (s + t.width) (length bits) inside) (ap (λ n. digits_path fields (number_at bits order s n) t.width (opened levels) s) w)
 whole_path bits (UnionOf name alternatives) type order levels s e le = absurd (none-some type e)
 
--- what a value as a field or an alternative is
+-- the result of a field or an alternative that is a value
 abbrev PartIs : List ℕ → PokeType → Option Term → Order → Levels → (s : ℕ) → Result Value FaultAt → Type 0
 PartIs bits ty c order levels s (Ok v) = Somehow (Means bits ty order levels s (Ok v)) × (constraint c (pushed levels (Some v)) s ≡ Ok tt)
 PartIs bits ty c order levels s (Err f) = Unit {0}
@@ -197,7 +197,7 @@ module _ (one : HasOneOutcome) (planned : PlanIsMeant) (wide : ValuesAreWide) (b
   abbrev along : PokeType → Order → (s : ℕ) → Extent → (tries i : ℕ) → Levels → (place : ℕ) → Path
   along ty order s extent tries i levels place = elements_path (λ inside p. result_of bits (plan (length bits) ty order inside p)) (path_of bits ty order) (length bits) s extent tries i levels place
 
-  -- elements that are values lead on, with a try left
+  -- elements that are values continue, with a try left
   elements_along : {ty : PokeType} {order : Order} {s : ℕ} {extent : Extent} {i : ℕ} {levels : Levels} {p n : ℕ} {inside : Levels} {pn k j : ℕ} → Elements bits ty order s extent i levels p n inside pn k j → (tries : ℕ) → length bits < p + tries → p ≤ length bits →
       (left : ℕ) × (along ty order s extent tries i levels p ≡ along ty order s extent (suc left) n inside pn)
   elements_along no_more zero lt le = absurd (omega arith)
@@ -254,7 +254,7 @@ module _ (one : HasOneOutcome) (planned : PlanIsMeant) (wide : ValuesAreWide) (b
     part_once rest (constraint_of_part m e) = rw (result_is m, e) refl
     part_once rest (in_part h) = let m = means_fault h in rw (result_is m.holds) (ap (λ p. 0 ∷ p) (type_once h))
 
-    -- the same of an alternative, whatever follows where it misses
+    -- the same for an alternative, whatever follows where it doesn't match
     alternative_once : {ty : PokeType} {c : Option Term} {order : Order} {levels : Levels} {s : ℕ} {f : FaultAt} {path : Path} (other : Path) → misses f.0 ≡ false → PartArises bits ty c order levels s f path →
         by_outcome (result_of bits (plan (length bits) ty order levels s)) (λ v. checked_path c levels s v (λ f. if misses f.0 then other else 0 ∷ []) []) (λ f. if misses f.0 then other else 0 ∷ path_of bits ty order levels s) ≡ 0 ∷ path
     alternative_once other other_fault (constraint_of_part m e) = rw (result_is m, e, other_fault) refl
@@ -264,7 +264,7 @@ module _ (one : HasOneOutcome) (planned : PlanIsMeant) (wide : ValuesAreWide) (b
     alternatives_once (none_fits before) = alternatives_along before
     alternatives_once (in_alternative {i} {path} before other_fault h) = alternatives_along before ∙ ap (nexts i) (alternative_once _ other_fault h) ∙ nexts_here i path
 
--- of two places where a fault of a type arises, each is the other
+-- two places where a fault of a type arises are the same
 pub arises_once : HasOneOutcome → PlanIsMeant → ValuesAreWide → ArisesOnce
 arises_once one planned wide bits ty order levels s f f' path path' h h' =
     let o = one bits ty order levels s in

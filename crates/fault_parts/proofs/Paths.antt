@@ -17,12 +17,12 @@ abbrev pub by_outcome : {A : Type 0} → Result A FaultAt → (A → Path) → (
 by_outcome (Ok a) f g = f a
 by_outcome (Err e) f g = g e
 
--- the path among parts of which one more stands in front
+-- the path among parts, with one more part before them
 abbrev pub next : Path → Path
 next [] = []
 next (i ∷ path) = suc i ∷ path
 
--- the path of a part with its constraint, which is a value: to the part, or to those behind it
+-- the path of a part with its constraint, which is a value: to the part, or to those after it
 abbrev pub checked_path : Option Term → Levels → (s : ℕ) → Value → (FaultAt → Path) → Path → Path
 checked_path c levels s v refused rest = by_outcome (constraint c (pushed levels (Some v)) s) (λ u. rest) refused
 

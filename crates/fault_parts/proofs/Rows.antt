@@ -1,4 +1,5 @@
--- Worked rows: the part of a type in which its fault on the bits of some bytes arises, one for each way that a fault comes up.
+-- Worked rows: the part in which the fault of a type arises on the bits of some bytes. There is one row for each way
+-- that a fault arises.
 use Rattle.std.proofs.Common.{◌≡◌, ℕ, ◌≤◌, false, List, [], ◌∷◌, Some, None, refl, arith}
 use Rattle.std.proofs.lemmas.Option.{none-some}
 use Rattle.bit_space.specs.declared.order.Order.{Order}
@@ -74,12 +75,12 @@ condition_divides : Arises (bits_of []) (StructOf None false (FieldThen None Non
 unfolding bits_of condition evaluation and_operand combined on_integers on_common on_bits on_scaled brought prefixed to_integer to_offset in_unit converted is_signed_in modulo with_sign
 condition_divides = in_struct (omega arith) (condition_of_field no_field_before refl)
 
--- struct { byte a if 0; byte b @ (1 / 0)#b; }: behind a field that is absent
+-- struct { byte a if 0; byte b @ (1 / 0)#b; }: after a field that is absent
 label_divides : Arises (bits_of []) (StructOf None false (FieldThen None None byte None None (Some (Number (signed_type 32) 0)) (FieldThen None None byte None (Some (InUnit 1 (Between Divide (Number (signed_type 32) 1) (Number (signed_type 32) 0)))) None NoFields))) Big no_values 0 (fault.Zero, 0) (1 ∷ [])
 unfolding bits_of condition field_start evaluation and_operand combined on_integers on_common on_bits on_scaled brought prefixed to_integer to_offset in_unit converted is_signed_in modulo with_sign
 label_divides = in_struct (omega arith) (label_of_field (absent_before no_field_before refl) refl refl)
 
--- union { byte a : a < 5; byte b : b < 5; } on the byte 7: no alternative fits
+-- union { byte a : a < 5; byte b : b < 5; } on the byte 7: no alternative matches
 misfit : Arises (bits_of (7 ∷ [])) (UnionOf None (PartThen None None byte (Some (Between Less (Name 0 0) (Number (signed_type 32) 5))) NoParts)) Big no_values 0 (fault.Constraint, 0) []
 unfolding bits_of binary number digits numeral_onto groups_from constraint evaluation and_operand combined on_integers on_common converted is_signed_in modulo with_sign
 misfit = in_union (omega arith) (none_fits (miss_before no_miss_before (part_refused (number_read (omega arith) refl (omega arith) integer) refl) refl))
@@ -101,7 +102,7 @@ elements_later : {bits : List ℕ} {ty : PokeType} {order : Order} {s : ℕ} {ex
 elements_later no_more = (omega arith, λ e. refl)
 elements_later (next_element due m lt es) = let h = elements_later es in let up = h.0 in (omega arith, λ e. absurd (omega arith))
 
--- a number's fault is told where it starts
+-- a number's fault is at its start
 number_start : {bits : List ℕ} {order : Order} {levels : Levels} {s : ℕ} {f : FaultAt} → Arises bits pair order levels s f [] → f.1 ≡ s
 number_start (starts_past_end lt) = refl
 number_start (number_past_end le e lt) = refl

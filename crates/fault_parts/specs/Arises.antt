@@ -1,4 +1,5 @@
--- Where the fault arises that a type means on a file's bits: in the type itself, or in a part of it to which a path leads.
+-- The part in which the fault arises that a type means on a file's bits: the type itself, or a part of it to which a
+-- path leads.
 use Rattle.std.specs.Prelude.{◌≡◌, ℕ, ◌+◌, ◌-◌, ◌<◌, ◌≤◌, length, Bool, true, false, List, [], ◌∷◌, Option, Some, None, Ok, Err}
 use Rattle.pickle_tree.specs.declared.tree.ByteOrder.{ByteOrder}
 use Rattle.pickle_types.specs.declared.integer.IntegerType.{IntegerType}
@@ -11,13 +12,13 @@ use Rattle.pickle_meaning.specs.Values.{Naming, Value, end_of, Levels, pushed, o
 use Rattle.pickle_meaning.specs.Clauses.{FaultAt, constraint, condition, field_start, extent_of, is_due, is_met, ends_before, misses}
 use Rattle.pickle_meaning.specs.Means.{ordered, number_type, width_in, first_digits, NumberMeans, Run, Means, Elements, PartMeans}
 
--- A path from a type to a part of it: the place of the part at each step, from 0. That of an element is its number, that of a field or
--- an alternative the one among those that are declared.
+-- A path from a type to a part of it: the place of the part at each step, from 0. The place of an element is its
+-- number, that of a field or an alternative its number among the declared ones.
 abbrev pub Path : Type 0
 Path = List ℕ
 
--- The first i fields of an integral struct at s are values whose constraints hold. They lead from all its fields, so many binary digits
--- and these levels to the fields, the digits and the levels behind them.
+-- The first i fields of an integral struct at s are values whose constraints hold. They lead from all its fields,
+-- `width` binary digits and these frames to the fields, digits and frames after them.
 pub data DigitsBefore (n s : ℕ) (fields : Parts) (width : ℕ) (levels : Levels) : (i : ℕ) → Parts → (left : ℕ) → Levels → Type 0 where
   no_digits_before : DigitsBefore n s fields width levels 0 fields width levels
   digits_before : {name : Naming} {order : Option ByteOrder} {ty : PokeType} {c : Option Term} {rest : Parts} {i left k j : ℕ} {inside : Levels} {v : Value}
@@ -27,7 +28,8 @@ pub data DigitsBefore (n s : ℕ) (fields : Parts) (width : ℕ) (levels : Level
       → DigitsBefore n s fields width levels (i + 1) rest (left - width_in (number_type ty)) (pushed inside (Some v))
 
 mutual
-  -- The fault that a number without a sign means, as a type that starts at s, arises in the part of it to which the path leads.
+  -- The fault that an unsigned number means, as a type that starts at s, arises in the part of it to which the path
+  -- leads.
   pub data NumberArises : PokeType → (n : ℕ) → Levels → (s : ℕ) → FaultAt → Path → Type 0 where
     -- the type isn't read as a number
     is_no_number : {ty : PokeType} {n : ℕ} {levels : Levels} {s : ℕ}
@@ -38,7 +40,7 @@ mutual
         → DigitsArise fields n type.width (opened levels) s f path
         → NumberArises (IntegralOf name type fields) n levels s f path
 
-  -- The fault of the fields of an integral struct arises in one of them, behind i fields that are values.
+  -- The fault of the fields of an integral struct arises in one of them, after i fields that are values.
   pub data DigitsArise : Parts → (n width : ℕ) → Levels → (s : ℕ) → FaultAt → Path → Type 0 where
     -- its constraint is 0 or has a fault
     digits_constraint : {name : Naming} {order : Option ByteOrder} {ty : PokeType} {c : Option Term} {fields rest : Parts} {n width s i left k j : ℕ} {levels inside : Levels} {v : Value} {f : FaultAt}
@@ -52,8 +54,8 @@ mutual
         → NumberArises ty (first_digits n left (width_in (number_type ty))) inside s f path
         → DigitsArise fields n width levels s f (i ∷ path)
 
--- The first i fields of a struct at s are absent, or values whose constraints hold. They lead from all its fields and these levels to the
--- fields and the levels behind them; the last one that is there ended at `behind`.
+-- The first i fields of a struct at s are absent, or values whose constraints hold. They lead from all its fields and
+-- these frames to the fields and frames after them; the last present field ended at `behind`.
 pub data FieldsBefore (bits : List ℕ) (pinned : Bool) (s : ℕ) (order : Order) (fields : Fields) (levels : Levels) : (i : ℕ) → Fields → Levels → (behind : ℕ) → Type 0 where
   no_field_before : FieldsBefore bits pinned s order fields levels 0 fields levels s
   absent_before : {name : Naming} {set : Option ByteOrder} {ty : PokeType} {c label when : Option Term} {rest : Fields} {i behind : ℕ} {inside : Levels}
@@ -67,7 +69,7 @@ pub data FieldsBefore (bits : List ℕ) (pinned : Bool) (s : ℕ) (order : Order
       → PartMeans bits ty c (ordered set order) inside p (Ok v) k j
       → FieldsBefore bits pinned s order fields levels (i + 1) rest (pushed inside (Some v)) (end_of v)
 
--- The first i alternatives of a union at s miss. They lead from all its alternatives to those behind them.
+-- The first i alternatives of a union at s don't match. They lead from all its alternatives to those after them.
 pub data MissesBefore (bits : List ℕ) (order : Order) (alternatives : Parts) (levels : Levels) (s : ℕ) : (i : ℕ) → Parts → Type 0 where
   no_miss_before : MissesBefore bits order alternatives levels s 0 alternatives
   miss_before : {name : Naming} {set : Option ByteOrder} {ty : PokeType} {c : Option Term} {rest : Parts} {i k j : ℕ} {f : FaultAt}
@@ -77,7 +79,7 @@ pub data MissesBefore (bits : List ℕ) (order : Order) (alternatives : Parts) (
       → MissesBefore bits order alternatives levels s (i + 1) rest
 
 mutual
-  -- The fault that a type means at bit s, in an order of bytes, arises in the part of it to which the path leads.
+  -- The fault that a type means at bit s, in a byte order, arises in the part of it to which the path leads.
   pub data Arises (bits : List ℕ) : PokeType → Order → Levels → (s : ℕ) → FaultAt → Path → Type 0 where
     -- the type itself: it starts past the last bit
     starts_past_end : {ty : PokeType} {order : Order} {levels : Levels} {s : ℕ}
@@ -111,7 +113,7 @@ mutual
         → s ≤ length bits
         → FieldsArise bits pinned s order fields (opened levels) f path
         → Arises bits (StructOf name pinned fields) order levels s f path
-    -- a field of an integral struct, all of whose bits are there
+    -- a field of an integral struct, all of whose bits are in the file
     in_number : {ty : PokeType} {type : IntegerType} {order : Order} {levels : Levels} {s : ℕ} {f : FaultAt} {path : Path}
         → s ≤ length bits
         → number_type ty ≡ Some type
@@ -132,14 +134,14 @@ mutual
         → is_due extent (length bits) s n pn ≡ false
         → is_met extent s pn ≡ false
         → ElementsArise bits ty order s extent levels (fault.Bounds, s) []
-    -- an element is due and takes no bits, behind n that are values
+    -- an element is due and takes no bits, after n that are values
     of_no_bits : {ty : PokeType} {order : Order} {extent : Extent} {levels inside : Levels} {s n pn k j k' j' : ℕ} {v : Value}
         → Elements bits ty order s extent 0 levels s n inside pn k j
         → is_due extent (length bits) s n pn ≡ true
         → Means bits ty order inside pn (Ok v) k' j'
         → end_of v ≡ pn
         → ElementsArise bits ty order s extent levels (fault.NoBits, pn) (n ∷ [])
-    -- one is due and has a fault before which the array doesn't end, behind n that are values
+    -- one is due and has a fault before which the array doesn't end, after n that are values
     in_element : {ty : PokeType} {order : Order} {extent : Extent} {levels inside : Levels} {s n pn k j : ℕ} {f : FaultAt} {path : Path}
         → Elements bits ty order s extent 0 levels s n inside pn k j
         → is_due extent (length bits) s n pn ≡ true
@@ -159,7 +161,7 @@ mutual
         → Arises bits ty order levels s f path
         → PartArises bits ty c order levels s f path
 
-  -- The fault of the fields of a struct at s arises in one of them, behind i fields that are absent or values.
+  -- The fault of the fields of a struct at s arises in one of them, after i fields that are absent or values.
   pub data FieldsArise (bits : List ℕ) : (pinned : Bool) → (s : ℕ) → Order → Fields → Levels → FaultAt → Path → Type 0 where
     -- its condition has a fault
     condition_of_field : {pinned : Bool} {name : Naming} {set : Option ByteOrder} {ty : PokeType} {c label when : Option Term} {fields rest : Fields} {order : Order} {s i behind : ℕ} {levels inside : Levels} {f : FaultAt}
@@ -182,11 +184,11 @@ mutual
 
   -- The fault of a union arises in the union itself, or in one of its alternatives.
   pub data AlternativesArise (bits : List ℕ) : Order → Parts → Levels → (s : ℕ) → FaultAt → Path → Type 0 where
-    -- all alternatives miss
+    -- no alternative matches
     none_fits : {alternatives : Parts} {order : Order} {levels : Levels} {s i : ℕ}
         → MissesBefore bits order alternatives levels s i NoParts
         → AlternativesArise bits order alternatives levels s (fault.Constraint, s) []
-    -- one has a fault that is no miss, behind i that miss
+    -- one has a fault that ends the union, after i that don't match
     in_alternative : {name : Naming} {set : Option ByteOrder} {ty : PokeType} {c : Option Term} {alternatives rest : Parts} {order : Order} {levels : Levels} {s i : ℕ} {f : FaultAt} {path : Path}
         → MissesBefore bits order alternatives levels s i (PartThen name set ty c rest)
         → misses f.0 ≡ false

@@ -1,4 +1,4 @@
-//! The laws of where a fault arises. These functions do nothing: the contract of each is a law.
+//! The laws of the part in which a fault arises. These functions do nothing: their contracts are the laws.
 
 ghost use Rattle.fault_parts.specs.Laws.{FaultsArise, ArisingIsMeant, ArisesOnce};
 
@@ -14,7 +14,7 @@ pub fn arising_is_meant()
     ensures law { ArisingIsMeant }
 {}
 
-/// A fault arises in one part alone.
+/// A fault arises in only one part.
 pub fn arises_once()
     ensures law { ArisesOnce }
 {

@@ -9,7 +9,7 @@ use Rattle.pickle_meaning.specs.Clauses.{FaultAt}
 use Rattle.mapping_plans.specs.Plan.{Plan, Ended, Tick, Made, Read, and_then, after, on_value, then_ok, Always, result, after_tick, after_made, after_read}
 use Rattle.mapping_plans.specs.Mapping.{from_inside}
 
--- a fact of a value, and nothing of a fault
+-- a fact about a value; nothing is said of a fault
 abbrev pub OfValue : {A F : Type 0} → (A → Type 0) → Result A F → Type 0
 OfValue P (Ok a) = P a
 OfValue P (Err e) = Unit {0}

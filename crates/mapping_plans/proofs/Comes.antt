@@ -1,4 +1,4 @@
--- What plans come to on a file's bits.
+-- The results of plans on a file's bits.
 use Rattle.std.proofs.Common.{◌≡◌, ℕ, zero, suc, ◌+◌, ◌<◌, ◌≤◌, Bool, List, Result, Ok, Err, refl, sym, ap, ◌∙◌, subst, arith}
 use Rattle.std.proofs.lemmas.Bool.{le-leb, lt-leb}
 use Rattle.bit_space.specs.declared.order.Order.{Order}

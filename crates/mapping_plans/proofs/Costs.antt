@@ -54,7 +54,7 @@ between_steps op literal x y =
     let g = gives_steps (combined op x y) in
     omega arith
 
--- with the bytes of a text literal, which a comparison counts on top
+-- with the bytes of a text literal, which a comparison counts too
 evaluation_steps : (e : Term) (levels : Levels) → (evaluation e levels).steps + literal_length e ≤ weight e
 unfolding evaluation
 evaluation_steps (Number type value) levels = omega arith
@@ -166,7 +166,7 @@ inside_at_most : {A : Type 0} (m s : ℕ) {p : Plan (Result A FaultAt)} {c : ℕ
 unfolding from_inside
 inside_at_most m s h = one_of (nat_le s m) h ended
 
--- a number takes its type's bound but for the first step
+-- a number takes its type's bound without the first step
 mutual
   unfolding number_plan cost
 

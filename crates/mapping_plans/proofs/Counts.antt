@@ -16,7 +16,7 @@ use Rattle.pickle_meaning.specs.Laws.{value_size}
 use Rattle.mapping_plans.proofs.Fitting.{longer}
 use Rattle.mapping_plans.proofs.InRow.{row_counts}
 
--- of a value, with what was made before it
+-- for a value, with what was made before it
 abbrev SizeOn : {A F : Type 0} → (A → ℕ) → ℕ → Result A F → ℕ
 SizeOn size c (Ok x) = c + size x
 SizeOn size c (Err e) = c
@@ -24,7 +24,7 @@ SizeOn size c (Err e) = c
 abbrev of_value : Value → ℕ
 of_value v = value_slots NodeSlot v + value_slots ByteSlot v
 
--- the values of a level
+-- the values of a frame
 abbrev of_level : List (Option Value) → ℕ
 of_level [] = 0
 of_level (None ∷ rest) = of_level rest

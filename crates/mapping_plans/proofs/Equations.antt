@@ -1,4 +1,4 @@
--- Results, steps and values made of one plan after another: the sums that the definition of mapping speaks of.
+-- Results, steps and values made of one plan after another: the sums in the definition of mapping.
 use Rattle.std.proofs.Common.{◌≡◌, ℕ, ◌+◌, List, refl, arith}
 use Rattle.pickle_meaning.specs.Numbers.{number_at}
 use Rattle.mapping_plans.specs.Plan.{Plan, Ended, Tick, Made, Read, and_then, result_of, steps_of, made_of}

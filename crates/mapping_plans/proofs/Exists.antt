@@ -24,7 +24,7 @@ pub record HasOutcome {A : Type 0} (M : Result A FaultAt → ℕ → ℕ → Typ
   pub j : ℕ
   pub means : M r k j
 
--- an equation with a result, told by its cases
+-- an equation with a result, by its cases
 by_result : {A B : Type 0} (r : Result A FaultAt) → ((a : A) → r ≡ Ok a → B) → ((f : FaultAt) → r ≡ Err f → B) → B
 by_result (Ok a) f g = f a refl
 by_result (Err e) f g = g e refl
@@ -79,12 +79,12 @@ read_exists bits ty {type} order levels s le e =
     (λ inside. let o = number_exists ty (number_at bits order s type.width) levels s in record { r = _; k = _; j = _; means = number_read le e inside o.means })
     (λ lt. record { r = _; k = _; j = _; means = number_end le e lt })
 
--- behind a run there is a byte 0, or no whole byte
+-- after a run there is a byte 0, or no whole byte
 abbrev InsideOrNot : (bits : List ℕ) (q : ℕ) → Option (number_at bits Big q 8 ≡ 0) → Type 0
 InsideOrNot bits q (Some e) = q + 8 ≤ length bits
 InsideOrNot bits q None = length bits < q + 8
 
--- the longest run of bytes other than 0, and what is behind it
+-- the longest run of bytes other than 0, and what is after it
 record HasRun (bits : List ℕ) (p : ℕ) : Type 0 where
   bytes : List ℕ
   q : ℕ
@@ -230,7 +230,7 @@ mutual
       let q = part_exists c o.r o.means in
       attempt_exists (alternatives_exist bits rest (index + 1) order levels s) q.r q.means
 
--- what the plan comes to stands in the relation
+-- the result of the plan is in the relation
 pub plan_means : (bits : List ℕ) (ty : PokeType) (order : Order) (levels : Levels) (s : ℕ) → Means bits ty order levels s (result_of bits (plan (length bits) ty order levels s)) (steps_of bits (plan (length bits) ty order levels s)) (made_of bits (plan (length bits) ty order levels s))
 plan_means bits ty order levels s =
     let o = means_exists bits ty order levels s in

@@ -122,11 +122,11 @@ mutual
 
 -- ---- what a plan gives fits
 
--- nothing is asked of what is kept
+-- nothing is required of what is stored
 abbrev AnyLevels : Levels → Type 0
 AnyLevels levels = Unit {0}
 
--- a value and its constraint, with the value in its level
+-- a value and its constraint, with the value in its frame
 abbrev WithConstraint : (Value → Type 0) → Option Term → Levels → ℕ → Value → Type 0
 WithConstraint Fit c levels at v = Fit v × (constraint c (pushed levels (Some v)) at ≡ Ok tt)
 
@@ -197,7 +197,7 @@ text_fits m (suc n) bytes levels s place h e = after_tick (chosen (λ more. text
     chosen next true le = after_read (read next (leb-true (place + 8) m le))
     chosen next false le = result tt
 
--- elements that fit from here on, the first of number i, and as many as the array is to have if it is an array at their end
+-- elements that fit from here on, the first of number i; an array at their end has as many as it is to have
 abbrev Goes : (Levels → ℕ → Value → Type 0) → (m : ℕ) → Extent → (s i : ℕ) → Levels → ℕ → Opened → Type 0
 Goes Fit m extent s i levels at r = (n : ℕ) × ElementsFit Fit r.0 r.1 n levels at i × IsWhole extent s n r.1 × (r.1 ≤ m)
 
@@ -227,7 +227,7 @@ none_counted Open = tt
 none_counted (Count n) = omega arith
 none_counted (Size z) = tt
 
--- the elements so far can go on
+-- the elements so far can continue
 after_fits : (Fit : Levels → ℕ → Value → Type 0) (m : ℕ) (extent : Extent) (s i : ℕ) (next : Levels → ℕ → Plan (Result Opened FaultAt)) → ((levels : Levels) (at : ℕ) → at ≤ m → Always AnyLevels (OfValue (Goes Fit m extent s (i + 1) levels at)) (next levels at)) → ((levels : Levels) (at : ℕ) (v : Value) → Fit levels at v → (at ≤ end_of v) × (end_of v ≤ m)) → (levels : Levels) (at : ℕ) → at ≤ m → (r : Result Value FaultAt) → OfValue (Fit levels at) r → Always AnyLevels (OfValue (Goes Fit m extent s i levels at)) (after_element extent next levels at r)
 unfolding after_element
 after_fits Fit m extent s i next g ends levels at le (Ok v) fit = chosen (nat_eq (end_of v) at) refl

@@ -1,4 +1,4 @@
--- What holds of a plan holds of it as that of an element of an array of numbers.
+-- What holds of a plan also holds of it as the plan of an element of an array of numbers.
 use Rattle.std.proofs.Common.{ℕ, Bool, true, false, List, ◌∙◌}
 use Rattle.pickle_meaning.specs.Numbers.{number_at}
 use Rattle.pickle_meaning.specs.Values.{Levels}

@@ -1,4 +1,4 @@
--- What is kept meets a weaker fact too, and within fewer steps.
+-- What is stored also meets a weaker fact, and within fewer steps.
 use Rattle.std.proofs.Common.{ℕ, zero, suc, ◌≤◌, List, Bool, arith}
 use Rattle.pickle_meaning.specs.Numbers.{number_at}
 use Rattle.pickle_meaning.specs.Values.{Levels}

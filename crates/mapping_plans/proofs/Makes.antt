@@ -13,7 +13,7 @@ use Rattle.mapping_plans.specs.Plan.{Plan, Ended, Made, and_then, after, on_valu
 use Rattle.mapping_plans.specs.Mapping.{from_inside, constrained, number_plan, digits_plan, read_plan, after_byte, text_plan, after_element, element_plan, makes_row, elements_plan, after_attempt, plan, fields_plan, alternatives_plan}
 use Rattle.mapping_plans.proofs.InRow.{row_within}
 
--- with more steps taken before, and fewer wanted at the end
+-- with more steps taken before, and fewer required at the end
 pub within_more : {A : Type 0} {p : Plan A} {a b : ℕ} (c d : ℕ) → a ≤ c → d ≤ b → MadeWithin p a b → MadeWithin p c d
 within_more c d le ge (made_ended h) = made_ended (omega arith)
 within_more c d le ge (made_tick h) = made_tick (within_more (c + 1) d (omega arith) ge h)

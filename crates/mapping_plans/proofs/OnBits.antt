@@ -1,4 +1,4 @@
--- What holds of a plan, whatever it reads, holds of what it comes to on a file's bits, and so of what a type means there.
+-- What holds of a plan, whatever it reads, holds of its result on a file's bits, and so of what a type means there.
 use Rattle.std.proofs.Common.{ℕ, ◌+◌, ◌-◌, ◌<◌, ◌≤◌, ◌^◌, List, length, drop, arith, length-take}
 use Rattle.std.specs.Prelude.{slice_range}
 use Rattle.std.proofs.Math.Nat.{pow-le-pow_right}

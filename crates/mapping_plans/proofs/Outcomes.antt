@@ -74,7 +74,7 @@ means_starts (union_fault le fs) = tt
 pub values_start : ValuesStartThere
 values_start bits ty order levels s v k j m = means_starts m
 
--- so many elements as there are cut points have room between the first and the last
+-- as many elements as there are cut points fit between the first and the last
 record Spread (d i p n pn : ℕ) : Type 0 where
   count : ℕ
   number : n ≡ i + count

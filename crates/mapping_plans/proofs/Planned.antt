@@ -1,4 +1,4 @@
--- Whatever a type means on a file's bits is what its plan comes to.
+-- What a type means on a file's bits is the result of its plan.
 use Rattle.std.proofs.Common.{◌≡◌, ℕ, zero, suc, ◌+◌, ◌*◌, ◌/◌, ◌<◌, ◌≤◌, max, Bool, true, false, List, [], ◌∷◌, ◌++◌, length, Option, Some, None, Result, Ok, Err, refl, sym, ap, ◌∙◌, subst, arith}
 use Rattle.std.proofs.lemmas.Bool.{le-leb, lt-leb, eq-eqb, ne_eqb}
 use Rattle.std.proofs.lemmas.List.{append_assoc, append-nil}
@@ -85,7 +85,7 @@ read_past : {bits : List ℕ} (ty : PokeType) (type : IntegerType) (order : Orde
 unfolding read_plan
 read_past {bits} ty type order levels s lt = rw (lt-leb (s + type.width) (length bits) lt) (comes_tick comes_ended)
 
--- what a plan of elements comes to, with enough left to try, whatever is left beyond that
+-- the result of a plan of elements with enough left to try, whatever is left beyond that
 record EndsWith (bits : List ℕ) (ty : PokeType) (order : Order) (s : ℕ) (extent : Extent) (i : ℕ) (inside : Levels) (p : ℕ) (r : Result Opened FaultAt) (k j : ℕ) : Type 0 where
   with_left : (n : ℕ) → length bits < p + n * max 1 (least_width ty) → Comes bits (elements_plan (element_plan ty (plan (length bits) ty order)) (length bits) s extent n i inside p) r k j
 
@@ -146,7 +146,7 @@ attempt_fits : {bits : List ℕ} (rest : Plan (Result Taken FaultAt)) (index : �
 unfolding after_attempt
 attempt_fits rest index name v = comes_ended
 
--- what an array's elements come to behind its last cut point, and what is made of that
+-- the result of an array's elements after its last cut point, and of the array
 record Closes (bits : List ℕ) (ty : PokeType) (order : Order) (s : ℕ) (extent : Extent) (i : ℕ) (inside : Levels) (pn : ℕ) (r : Result Value FaultAt) (k j : ℕ) : Type 0 where
   ended : Result Opened FaultAt
   made_in : ℕ
@@ -155,7 +155,7 @@ record Closes (bits : List ℕ) (ty : PokeType) (order : Order) (s : ℕ) (exten
   closing : Comes bits (on_value (array_closes s) ended) r 0 made_on
   sum : j ≡ made_in + made_on
 
--- what the bytes of a text from here on come to, with enough left to try
+-- the result of the bytes of a text from here on, with enough left to try
 record TextWith (bits bytes : List ℕ) (levels : Levels) (s p : ℕ) (r : Result Value FaultAt) (k j : ℕ) : Type 0 where
   with_left : (n : ℕ) → length bits < p + n * 8 → Comes bits (text_plan (length bits) n bytes levels s p) r k j
 
@@ -186,12 +186,12 @@ run_comes {bits} (next_byte {p} {q} {b} {bytes} le e run) so_far levels s {r} {k
     tries rest zero left = absurd (omega arith)
     tries rest (suc n) left = rw (le-leb (p + 8) (length bits) le) (comes_as (omega arith) (omega arith) (comes_tick {k = length bytes + k} (comes_read {j = 1 + (length bytes + j)} (rw e (comes_made (rest.with_left n (omega arith)))))))
 
--- behind a run in the file there is no bit past its end
+-- after a run in the file there is no bit past its end
 run_inside : {bits : List ℕ} {p q : ℕ} {bytes : List ℕ} → Run bits p bytes q → p ≤ length bits → q ≤ length bits
 run_inside no_bytes le = le
 run_inside (next_byte le e run) h = run_inside run le
 
--- one plan, and what is done with its result, a fault included
+-- one plan, and then what is done with its result, also with a fault
 comes_on : {A B F : Type 0} {bits : List ℕ} (p : Plan (Result A F)) (f : A → Plan (Result B F)) {a : Result A F} {b : Result B F} {k j k' j' : ℕ} → Comes bits p a k j → Comes bits (on_value f a) b k' j' → Comes bits (then_ok p f) b (k + k') (j + j')
 unfolding then_ok
 comes_on p f h g = comes_then p (on_value f) h g

@@ -1,4 +1,5 @@
--- What the definitions refuse: another value, more or fewer steps or values made, a fault at another place, and values that don't fit.
+-- What the definitions refuse: another value, more or fewer steps or values made, a fault at another place, values that
+-- don't fit.
 use Rattle.std.proofs.Common.{◌≡◌, ℕ, ◌+◌, ◌<◌, List, [], ◌∷◌, Result, Ok, Err, sym, ap, subst, arith}
 use Rattle.std.specs.Prelude.{pos}
 use Rattle.bit_space.specs.declared.order.Order.TheVariants.{Big}
@@ -64,7 +65,7 @@ no_value h = absurd (is_ok (means_one no_byte h).0)
 no_answer : {k j : ℕ} → Answer (bits_of (5 ∷ [])) (IntegerOf (unsigned_type 8)) Big 0 0 (Ok (Mapped (IntegerLabel (pos 5) (unsigned_type 8)) 0 8 NoMembers)) k j → ⊥
 no_answer (in_time m le) = let e = (means_one m byte).1 in absurd (omega (arith, e, le))
 
--- a number that its width doesn't hold, one that reaches over the end, and a text with a zero in it don't fit
+-- a number that its width doesn't hold, a number that ends past the last bit, and a text with a 0 in it don't fit
 too_great : Fits 8 (IntegerOf (unsigned_type 8)) no_values 0 (Mapped (IntegerLabel (pos 256) (unsigned_type 8)) 0 8 NoMembers) → ⊥
 unfolding Fits FitsNumber with_sign
 too_great ((n, less, e), inside) = let same : 257 ≡ n + 1 = ap (λ v. told (Ok v)) e in absurd (omega arith)

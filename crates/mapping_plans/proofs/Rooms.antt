@@ -1,4 +1,4 @@
--- While a type is mapped, at most its room is filled above what was filled before, whatever is read.
+-- While a type is mapped, at most `room` slots are filled above what was filled before, whatever is read.
 use Rattle.std.proofs.Common.{◌≡◌, ℕ, zero, suc, ◌+◌, ◌-◌, ◌*◌, ◌/◌, ◌≤◌, max, length, Bool, true, false, List, [], ◌∷◌, ◌++◌, Option, Some, None, Result, Ok, Err, refl, ap, ◌∙◌, arith}
 use Rattle.std.specs.Prelude.{if◌then◌else◌, nat_le, nat_eq}
 use Rattle.bit_space.specs.declared.order.Order.{Order}
@@ -16,7 +16,7 @@ use Rattle.mapping_plans.proofs.Always.{OfValue, weaker, then_always, ok_always,
 use Rattle.mapping_plans.proofs.Fitting.{longer}
 use Rattle.mapping_plans.proofs.InRow.{row_always}
 
--- the link that a member takes once its level is closed
+-- the link that a member takes once its frame is closed
 abbrev charge : Slot → ℕ
 charge NodeSlot = 0
 charge LinkSlot = 1
@@ -27,7 +27,7 @@ abbrev level_links : Slot → List (Option Value) → ℕ
 level_links kind [] = 0
 level_links kind (m ∷ rest) = charge kind + level_links kind rest
 
--- what is filled, and the links that the innermost level is to take
+-- the filled slots, and the links that the innermost frame will take
 abbrev laden : Slot → Levels → ℕ
 laden kind r = slots kind r + level_links kind (top_of r)
 
@@ -65,7 +65,7 @@ top_slots : (kind : Slot) (r : Levels) → level_slots kind (top_of r) + slots k
 top_slots kind [] = refl
 top_slots kind (top ∷ outer) = refl
 
--- a level that is closed fills one slot more
+-- a frame that is closed fills one more slot
 closed_slots : (kind : Slot) (label : Label) (start end : ℕ) (level : List (Option Value)) → text_length label ≡ 0 → member_slots kind (Some (Mapped label start end (gathered level))) ≤ 1 + (level_slots kind level + level_links kind level)
 closed_slots NodeSlot label start end level e = let h = gathered_slots NodeSlot level in omega arith
 closed_slots LinkSlot label start end level e = let h = gathered_slots LinkSlot level in let g = gathered_count level in omega arith
@@ -115,14 +115,14 @@ module _ (kind : Slot) (b : ℕ) where
 abbrev Light : Slot → ℕ → Value → Type 0
 Light kind n v = member_slots kind (Some v) ≤ n
 
--- a level that grew by at most n slots, with the links that it is to take
+-- a frame that grew by at most n slots, with the links that it will take
 abbrev Grown : Slot → Levels → ℕ → Levels → Type 0
 Grown kind levels n r = (outer_of r ≡ outer_of levels) × (laden kind r ≤ laden kind levels + n)
 
 makes_room : (kind : Slot) (b n : ℕ) (levels : Levels) (v : Value) → Light kind n v → slots kind levels + n ≤ b → Always (UpTo kind b) (OfValue (Light kind n)) (makes levels v)
 makes_room kind b n levels v light le = after_made (let p = push_slots kind levels (Some v) in omega arith) (result light)
 
--- a level is closed
+-- a frame is closed
 closes_room : (kind : Slot) (b n : ℕ) (label : Label) (start end : ℕ) (levels r : Levels) → text_length label ≡ 0 → Grown kind (opened levels) n r → slots kind levels + (1 + n) ≤ b → Always (UpTo kind b) (OfValue (Light kind (1 + n))) (closes (value_of label start end) r)
 closes_room kind b n label start end levels r e grown le =
     let c = closed_slots kind label start end (top_of r) e in
@@ -180,7 +180,7 @@ read_room : (kind : Slot) (b m : ℕ) (ty : PokeType) (type : IntegerType) (orde
 unfolding read_plan
 read_room kind b m ty type order levels s le = after_tick (one_up (nat_le (s + type.width) m) (after_read (λ n lt. number_room kind b m ty n levels s le)) (result tt))
 
--- a text of at most as many bytes as there are and are tried
+-- a text of at most as many bytes as there are, and as are tried
 text_room : (kind : Slot) (b q m n : ℕ) (bytes : List ℕ) (levels : Levels) (s place : ℕ) → length bytes + n ≤ q → slots kind levels + (1 + q) ≤ b → Always (UpTo kind b) (OfValue (Light kind (1 + q))) (text_plan m n bytes levels s place)
 unfolding text_plan after_byte
 text_room kind b q m zero bytes levels s place few le = result tt
@@ -193,7 +193,7 @@ text_room kind b q m (suc n) bytes levels s place few le = after_tick (one_up (n
         let t = text_slots kind (bytes ++ suc x ∷ []) s (s + 8 * (length (bytes ++ suc x ∷ []) + 1)) in
         after_made (omega arith) (next (bytes ++ suc x ∷ []) (omega arith) le)
 
--- what is open of an array or struct
+-- the open part of an array or struct
 abbrev GrownOpen : Slot → Levels → ℕ → Opened → Type 0
 GrownOpen kind levels n r = Grown kind levels n r.0
 
@@ -222,7 +222,7 @@ elements_room kind b c m s extent element g (suc n) i levels at le =
     less (Ok u) h = (h.0, let l = h.1 in omega arith)
     less (Err f) h = tt
 
--- the alternative that is taken, with its link
+-- the alternative that matched, with its link
 abbrev TakenLight : Slot → ℕ → Taken → Type 0
 TakenLight kind n t = charge kind + member_slots kind (Some t.value) ≤ n
 

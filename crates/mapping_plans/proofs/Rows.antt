@@ -222,7 +222,7 @@ past_end_start : Means (bits_of (18 ∷ 52 ∷ [])) (IntegerOf (unsigned_type 8)
 unfolding bits_of binary number digits numeral_onto groups_from modulo with_sign converted is_signed_in brought prefixed shifted_left shifted_right on_common on_integers on_bits on_scaled on_texts combined to_integer to_offset in_unit divisor_in greatest_divisor and_operand evaluation constraint condition field_start extent_of then_ok from_inside constrained number_plan read_plan after_byte text_plan after_element elements_plan after_attempt plan least_width
 past_end_start = plan_means (bits_of (18 ∷ 52 ∷ [])) _ Big no_values 17
 
--- ushort in little order
+-- ushort in little-endian
 little_short : Means (bits_of (18 ∷ 52 ∷ [])) (IntegerOf (unsigned_type 16)) Little no_values 0 (Ok (Mapped (IntegerLabel (pos 13330) (unsigned_type 16)) 0 16 NoMembers)) 1 1
 unfolding bits_of binary number digits numeral_onto groups_from modulo with_sign converted is_signed_in brought prefixed shifted_left shifted_right on_common on_integers on_bits on_scaled on_texts combined to_integer to_offset in_unit divisor_in greatest_divisor and_operand evaluation constraint condition field_start extent_of then_ok from_inside constrained number_plan read_plan after_byte text_plan after_element elements_plan after_attempt plan least_width
 little_short = plan_means (bits_of (18 ∷ 52 ∷ [])) _ Little no_values 0
@@ -320,7 +320,7 @@ integral_in_integral : Means (bits_of (31 ∷ 254 ∷ [])) (IntegralOf (Some (84
 unfolding bits_of binary number digits numeral_onto groups_from modulo with_sign converted is_signed_in brought prefixed shifted_left shifted_right on_common on_integers on_bits on_scaled on_texts combined to_integer to_offset in_unit divisor_in greatest_divisor and_operand evaluation constraint condition field_start extent_of then_ok from_inside constrained number_plan read_plan after_byte text_plan after_element elements_plan after_attempt plan least_width
 integral_in_integral = plan_means (bits_of (31 ∷ 254 ∷ [])) _ Big no_values 0
 
--- in little order
+-- in little-endian
 integral_in_integral_little : Means (bits_of (254 ∷ 31 ∷ [])) (IntegralOf (Some (84 ∷ [])) (signed_type 16) (PartThen (Some (105 ∷ [])) None (IntegralOf (Some (73 ∷ [])) (unsigned_type 8) (PartThen (Some (97 ∷ [])) None (IntegerOf (unsigned_type 4)) None (PartThen (Some (98 ∷ [])) None (IntegerOf (signed_type 4)) (Some (Between Less (Name 0 1) (Number (signed_type 32) 0))) NoParts))) None (PartThen (Some (99 ∷ [])) None (IntegerOf (signed_type 8)) None NoParts))) Little no_values 0 (Ok (Mapped (StructLabel (Some (84 ∷ [])) ((Some (105 ∷ [])) ∷ (Some (99 ∷ [])) ∷ [])) 0 16 (MemberThen (Mapped (StructLabel (Some (73 ∷ [])) ((Some (97 ∷ [])) ∷ (Some (98 ∷ [])) ∷ [])) 0 8 (MemberThen (Mapped (IntegerLabel (pos 1) (unsigned_type 4)) 0 4 NoMembers) (MemberThen (Mapped (IntegerLabel (negsuc 0) (signed_type 4)) 0 4 NoMembers) NoMembers))) (MemberThen (Mapped (IntegerLabel (negsuc 1) (signed_type 8)) 0 8 NoMembers) NoMembers)))) 12 5
 unfolding bits_of binary number digits numeral_onto groups_from modulo with_sign converted is_signed_in brought prefixed shifted_left shifted_right on_common on_integers on_bits on_scaled on_texts combined to_integer to_offset in_unit divisor_in greatest_divisor and_operand evaluation constraint condition field_start extent_of then_ok from_inside constrained number_plan read_plan after_byte text_plan after_element elements_plan after_attempt plan least_width
 integral_in_integral_little = plan_means (bits_of (254 ∷ 31 ∷ [])) _ Little no_values 0
@@ -509,12 +509,12 @@ offset_of_new_unit : Means (bits_of (0 ∷ [])) (StructOf (Some (84 ∷ [])) fal
 unfolding bits_of binary number digits numeral_onto groups_from modulo with_sign converted is_signed_in brought prefixed shifted_left shifted_right on_common on_integers on_bits on_scaled on_texts combined to_integer to_offset in_unit divisor_in greatest_divisor and_operand evaluation constraint condition field_start extent_of then_ok from_inside constrained number_plan read_plan after_byte text_plan after_element elements_plan after_attempt plan least_width
 offset_of_new_unit = plan_means (bits_of (0 ∷ [])) _ Big no_values 0
 
--- struct { uint<16> a; } in little order
+-- struct { uint<16> a; } in little-endian
 order_of_run : Means (bits_of (52 ∷ 18 ∷ [])) (StructOf (Some (84 ∷ [])) false (FieldThen (Some (97 ∷ [])) None (IntegerOf (unsigned_type 16)) None None None NoFields)) Little no_values 0 (Ok (Mapped (StructLabel (Some (84 ∷ [])) ((Some (97 ∷ [])) ∷ [])) 0 16 (MemberThen (Mapped (IntegerLabel (pos 4660) (unsigned_type 16)) 0 16 NoMembers) NoMembers))) 3 2
 unfolding bits_of binary number digits numeral_onto groups_from modulo with_sign converted is_signed_in brought prefixed shifted_left shifted_right on_common on_integers on_bits on_scaled on_texts combined to_integer to_offset in_unit divisor_in greatest_divisor and_operand evaluation constraint condition field_start extent_of then_ok from_inside constrained number_plan read_plan after_byte text_plan after_element elements_plan after_attempt plan least_width
 order_of_run = plan_means (bits_of (52 ∷ 18 ∷ [])) _ Little no_values 0
 
--- struct { big uint<16> a; } in little order
+-- struct { big uint<16> a; } in little-endian
 big_in_little_run : Means (bits_of (52 ∷ 18 ∷ [])) (StructOf (Some (84 ∷ [])) false (FieldThen (Some (97 ∷ [])) (Some prefix.Big) (IntegerOf (unsigned_type 16)) None None None NoFields)) Little no_values 0 (Ok (Mapped (StructLabel (Some (84 ∷ [])) ((Some (97 ∷ [])) ∷ [])) 0 16 (MemberThen (Mapped (IntegerLabel (pos 13330) (unsigned_type 16)) 0 16 NoMembers) NoMembers))) 3 2
 unfolding bits_of binary number digits numeral_onto groups_from modulo with_sign converted is_signed_in brought prefixed shifted_left shifted_right on_common on_integers on_bits on_scaled on_texts combined to_integer to_offset in_unit divisor_in greatest_divisor and_operand evaluation constraint condition field_start extent_of then_ok from_inside constrained number_plan read_plan after_byte text_plan after_element elements_plan after_attempt plan least_width
 big_in_little_run = plan_means (bits_of (52 ∷ 18 ∷ [])) _ Little no_values 0

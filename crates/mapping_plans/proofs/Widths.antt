@@ -1,4 +1,4 @@
--- A value ends in the file, and at least as many bits behind its start as its type's least width.
+-- A value ends in the file, and its size is at least its type's least width.
 use Rattle.std.proofs.Common.{◌≡◌, ℕ, ◌+◌, ◌≤◌, max, length, Bool, true, false, List, Option, Some, None, Result, Ok, Err, refl, sym, ap, subst, arith}
 use Rattle.std.specs.Prelude.{◌||◌, if◌then◌else◌, ℤ, pos, negsuc}
 use Rattle.bit_space.specs.declared.order.Order.{Order}

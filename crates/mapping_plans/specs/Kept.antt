@@ -1,10 +1,11 @@
--- What a mapping keeps on a file's bits.
+-- What a mapping stores on a file's bits.
 use Rattle.std.specs.Prelude.{ℕ, zero, suc, List, Bool}
 use Rattle.pickle_meaning.specs.Numbers.{number_at}
 use Rattle.pickle_meaning.specs.Values.{Levels}
 use Rattle.mapping_plans.specs.Plan.{Plan, Ended, Tick, Made, Read}
 
--- on these bits, within so many steps: all the levels that the plan keeps meet M, which is told whether the innermost is an array of numbers
+-- on these bits, within `limit` steps: M holds of all frames that the plan stores; its first argument says whether the
+-- innermost is an array of numbers
 abbrev pub KeepsBy : {A : Type 0} → (M : Bool → Levels → Type 0) → List ℕ → Plan A → (limit : ℕ) → Type 0
 KeepsBy M bits (Ended a) n = Unit {0}
 KeepsBy M bits (Tick p) zero = Unit {0}

@@ -1,4 +1,4 @@
--- The plan of a mapping: what is done at a place for a type, step by step.
+-- The plan of a mapping: its steps, values and reads at a place for a type.
 use Rattle.std.specs.Prelude.{ℕ, zero, suc, ◌+◌, ◌-◌, ◌/◌, max, List, [], ◌∷◌, ◌++◌, Option, Some, None, Result, Ok, Err, Bool, true, false, nat_eq, nat_le, if◌then◌else◌}
 use Rattle.bit_space.specs.declared.order.Order.{Order}
 use Rattle.bit_space.specs.declared.order.Order.TheVariants.{Big}
@@ -16,21 +16,21 @@ use Rattle.mapping_plans.specs.Plan.{Plan, Ended, Tick, Made, Read, and_then, af
 unfoldable pub from_inside : {A : Type 0} → (m s : ℕ) → Plan (Result A FaultAt) → Plan (Result A FaultAt)
 from_inside m s p = if nat_le s m then p else Ended (Err (fault.End, s))
 
--- a value is made, and goes into these levels
+-- a value is made, and is added to the innermost of these frames
 abbrev pub makes : Levels → Value → Plan (Result Value FaultAt)
 makes levels v = Made 1 false (pushed levels (Some v)) (Ended (Ok v))
 
--- the innermost level is closed, and a value is made of it
+-- the innermost frame is closed, and a value is made of it
 abbrev pub closes : (Levels → Value) → Levels → Plan (Result Value FaultAt)
 closes make inside = makes (outer_of inside) (make inside)
 
--- the constraint of a value, which has gone into its level
+-- the constraint of a value, which is in its frame already
 unfoldable pub constrained : Option Term → Levels → (place : ℕ) → Value → Plan (Result Value FaultAt)
 constrained c levels place v =
     then_ok (after (clause_steps c (pushed levels (Some v))) (constraint c (pushed levels (Some v)) place)) (λ u. Ended (Ok v))
 
 unfoldable mutual
-  -- a number without a sign, as an integer, an offset or an integral struct that starts at s, after its own first step
+  -- an unsigned number, as an integer, an offset or an integral struct that starts at s, after its own first step
   pub number_plan : PokeType → (n : ℕ) → Levels → (s : ℕ) → Plan (Result Value FaultAt)
   number_plan (IntegerOf type) n levels s = makes levels (integer_value type n s)
   number_plan (OffsetOf type unit) n levels s = makes levels (offset_value type unit n s)
@@ -57,14 +57,14 @@ unfoldable pub after_byte : (List ℕ → Plan (Result Value FaultAt)) → List 
 after_byte next bytes levels s end zero = makes levels (text_value bytes s end)
 after_byte next bytes levels s end (suc b) = Made 1 false (text_level (bytes ++ suc b ∷ []) s levels) (next (bytes ++ suc b ∷ []))
 
--- The bytes of a string that began at s, from `place` on; at most n are tried. That is enough for all, so that the first
--- line is never reached where n is m / 8 + 1.
+-- The bytes of a string that began at s, from `place` on; at most n are tried. With n as m / 8 + 1 that is enough for
+-- all, and the first line is never reached.
 unfoldable pub text_plan : (m n : ℕ) → List ℕ → Levels → (s place : ℕ) → Plan (Result Value FaultAt)
 text_plan m zero bytes levels s place = Ended (Err (fault.End, s))
 text_plan m (suc n) bytes levels s place =
     Tick (if nat_le (place + 8) m then Read place 8 Big (after_byte (λ more. text_plan m n more levels s (place + 8)) bytes levels s (place + 8)) else Ended (Err (fault.End, s)))
 
--- elements of these types are numbers, which a store may keep as one row
+-- elements of these types are numbers, which a store may pack
 abbrev pub makes_row : PokeType → Bool
 makes_row (IntegerOf type) = true
 makes_row (OffsetOf type unit) = true
@@ -78,13 +78,14 @@ makes_row (UnionOf name alternatives) = false
 abbrev pub element_plan : PokeType → (Levels → ℕ → Plan (Result Value FaultAt)) → Levels → ℕ → Plan (Result Value FaultAt)
 element_plan ty p levels place = in_row (makes_row ty) (p levels place)
 
--- what comes after an element: the array goes on behind it, or ends before it
+-- what comes after an element: the array continues after it, or ends before it
 unfoldable pub after_element : Extent → (Levels → ℕ → Plan (Result Opened FaultAt)) → Levels → (place : ℕ) → Result Value FaultAt → Plan (Result Opened FaultAt)
 after_element extent next levels place (Ok v) = if nat_eq (end_of v) place then Ended (Err (fault.NoBits, place)) else next (pushed levels (Some v)) (end_of v)
 after_element extent next levels place (Err f) = if ends_before extent f.0 then Ended (Ok (levels, place)) else Ended (Err f)
 
--- The elements of an array from s, after the first i; at most n are tried. Each is as wide as its type is at least, and a bit
--- or more, so that the first line is never reached where n is one more than so many of them have room in m bits.
+-- The elements of an array from s, after the first i; at most n are tried. Each takes at least its type's least width,
+-- and at least one bit. With n as one more than the number of such elements that fit in m bits, the first line is never
+-- reached.
 unfoldable pub elements_plan : (element : Levels → ℕ → Plan (Result Value FaultAt)) → (m s : ℕ) → Extent → (n i : ℕ) → Levels → (place : ℕ) → Plan (Result Opened FaultAt)
 elements_plan element m s extent zero i levels place = Ended (Err (fault.NoBits, place))
 elements_plan element m s extent (suc n) i levels place =
@@ -99,7 +100,7 @@ struct_closes name names s r = closes (struct_value name names s r.1) r.0
 abbrev pub union_closes : Naming → Levels → (s : ℕ) → Taken → Plan (Result Value FaultAt)
 union_closes name levels s t = makes levels (union_value name s t)
 
--- what comes after an attempt: the union takes that alternative, or the next one is tried
+-- what comes after an attempt: the union has that alternative, or the next one is tried
 unfoldable pub after_attempt : Plan (Result Taken FaultAt) → (index : ℕ) → Naming → Result Value FaultAt → Plan (Result Taken FaultAt)
 after_attempt next index name (Ok v) = Ended (Ok (record { index = index; name = name; value = v }))
 after_attempt next index name (Err f) = if misses f.0 then next else Ended (Err f)

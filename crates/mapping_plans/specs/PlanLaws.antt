@@ -10,7 +10,7 @@ use Rattle.mapping_plans.specs.Plan.{result_of, steps_of, made_of, AtMost, MadeW
 use Rattle.mapping_plans.specs.Mapping.{plan}
 use Rattle.pickle_meaning.specs.Laws.{ValueFits, value_size}
 
--- what the plan comes to is the outcome, with its steps and values made
+-- the plan gives the outcome, with its steps and values made
 abbrev pub PlanIsMeant : Type 0
 PlanIsMeant = (bits : List ℕ) (ty : PokeType) (order : Order) (levels : Levels) (s : ℕ) → Means bits ty order levels s (result_of bits (plan (length bits) ty order levels s)) (steps_of bits (plan (length bits) ty order levels s)) (made_of bits (plan (length bits) ty order levels s))
 
@@ -18,11 +18,11 @@ PlanIsMeant = (bits : List ℕ) (ty : PokeType) (order : Order) (levels : Levels
 abbrev pub StepsAreBounded : Type 0
 StepsAreBounded = (m : ℕ) (ty : PokeType) (order : Order) (levels : Levels) (s : ℕ) → AtMost (plan m ty order levels s) (cost ty m)
 
--- whatever is read, a mapping makes at no time more values than it has taken steps
+-- whatever is read, a mapping has at no time made more values than it has taken steps
 abbrev pub MadeIsBounded : Type 0
 MadeIsBounded = (m : ℕ) (ty : PokeType) (order : Order) (levels : Levels) (s : ℕ) → MadeWithin (plan m ty order levels s) 0 0
 
--- whatever is read, each node and each byte of a text of the value that is given was made
+-- whatever is read, each node and each byte of a text of the resulting value was made
 abbrev pub ValuesAreMade : Type 0
 ValuesAreMade = (m : ℕ) (ty : PokeType) (order : Order) (levels : Levels) (s : ℕ) → Counts value_size (plan m ty order levels s) 0
 
@@ -30,6 +30,6 @@ ValuesAreMade = (m : ℕ) (ty : PokeType) (order : Order) (levels : Levels) (s :
 abbrev pub ValuesFit : Type 0
 ValuesFit = (m : ℕ) (ty : PokeType) (order : Order) (levels : Levels) (s : ℕ) → Always (λ kept. Unit {0}) (ValueFits m ty levels s) (plan m ty order levels s)
 
--- Whatever is read, what is kept at any time fills at most `room` slots of each kind above what was kept before.
+-- Whatever is read, at any time at most `room` slots of each kind are filled above those that were filled before.
 abbrev pub RoomIsEnough : Type 0
 RoomIsEnough = (m : ℕ) (ty : PokeType) (order : Order) (levels : Levels) (s : ℕ) (kind : Slot) → Always (λ kept. slots kind kept ≤ slots kind levels + room ty m) (λ r. Unit {0}) (plan m ty order levels s)

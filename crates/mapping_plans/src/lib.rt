@@ -1,4 +1,4 @@
-//! What is done for a type at a place, as a plan, and the laws that tie plans to what a mapping means.
+//! Mappings as plans of steps, values and reads, and the laws that tie plans to what types mean.
 #![tactic(auto)]
 
 pub mod laws;

@@ -1,4 +1,4 @@
--- Evaluations of an expression's kinds, as their operands come to an end.
+-- Evaluations of each kind of expression, as their operands end.
 use Rattle.std.proofs.Common.{◌≡◌, ℕ, ◌+◌, List, Option, Some, None, Result, Ok, Err, Bool, true, false, refl, subst, arith}
 use Rattle.pickle_types.specs.declared.node.Node.{Node}
 use Rattle.value_store.specs.declared.scalar.Scalar.{Scalar}
@@ -44,7 +44,7 @@ module _ (nodes : List Node) (limit : ℕ) where
       Evaluated nodes l mid after (Err u) a → Evaluated nodes limit before after (Err u) (with_steps 1 (and_operand a f))
   arm_stops l b m z u a f el em h = stepped nodes limit b m z (Err u) (and_operand a f) em (first_stops nodes limit m z u a f (at_limit nodes l limit m z (Err u) a el h))
 
-  -- the operand has a value, and the rest takes no steps
+  -- the operand has a value, and the remainder takes no steps
   pub arm_goes_on : (l before mid after : ℕ) (x : Computing) (r : Result Computing Unvalued) (a : Evaluation) (f : Operand → Evaluation) → l ≡ limit → mid ≡ before + 1 →
       Evaluated nodes l mid after (Ok x) a → Evaluated nodes limit after after r (f (operand_of nodes x)) → Evaluated nodes limit before after r (with_steps 1 (and_operand a f))
   arm_goes_on l b m z x r a f el em h g = stepped nodes limit b m z r (and_operand a f) em (goes_on nodes limit m z z x r a f (at_limit nodes l limit m z (Ok x) a el h) g)
@@ -69,7 +69,7 @@ module _ (nodes : List Node) (limit : ℕ) where
       Evaluated nodes limit before after (Err (Fault kind)) (with_steps 1 (and_operand a (λ p. leads_to (f p))))
   arm_leads_not l b m z x kind a f el em h g = arm_goes_on l b m z x (Err (Fault kind)) a (λ p. leads_to (f p)) el em h (leads_not z kind (f (operand_of nodes x)) g)
 
-  -- what a step is taken before
+  -- an evaluation after its own step
   pub arm_is : (l before mid after : ℕ) (r : Result Computing Unvalued) (a : Evaluation) → l ≡ limit → mid ≡ before + 1 →
       Evaluated nodes l mid after r a → Evaluated nodes limit before after r (with_steps 1 a)
   arm_is l b m z r a el em h = stepped nodes limit b m z r a em (at_limit nodes l limit m z r a el h)
@@ -94,7 +94,7 @@ module _ (nodes : List Node) (limit : ℕ) where
       Evaluated nodes limit before after r (and_operand y f) → Evaluated nodes limit before after r (and_operand (chosen t x y) f)
   right_chosen before after r t x y f e h = rw e h
 
-  -- the same, of what operators see of an operand
+  -- the same for what matters to an operator about an operand
   pub seen_stops : (before after : ℕ) (u : Unvalued) (a : Evaluation) (f : Operand → Evaluation) → Seen limit before after (Err u) a → Evaluated nodes limit before after (Err u) (and_operand a f)
   seen_stops before after (Fault kind) a f h = first_stops nodes limit before after (Fault kind) a f h
   seen_stops before after Limit a f h = first_stops nodes limit before after Limit a f h
@@ -127,7 +127,7 @@ module _ (nodes : List Node) (limit : ℕ) where
       stepped nodes limit b m z (Err (Fault kind)) (and_operand a (λ y. gives (g (operand_label y)))) em
       (seen_goes_on m z z c (Err (Fault kind)) a (λ y. gives (g (operand_label y))) h (λ x held. faults nodes limit z z kind (g (operand_label x)) refl (k (operand_label x) held)))
 
-  -- a computed number is seen as itself
+  -- a computed number is its own content
   pub computed_seen : (before mid after : ℕ) (s : Scalar) (a : Evaluation) → mid ≡ before + 1 → Evaluated nodes limit mid after (Ok (computing.Scalar s)) a → Seen limit before after (Ok (content.Scalar s)) (with_steps 1 a)
   computed_seen b m z s a em h = (Plain (scalar_label s), h.0, refl, omega (arith, em, h.1))
 

@@ -1,4 +1,4 @@
--- Comparisons of integers, as the parts of an expression come to them.
+-- Comparisons of integers, by the values of their sides.
 use Rattle.std.proofs.Common.{◌≡◌, ℕ, ◌+◌, if◌then◌else◌, Bool, true, Some, None, Result, Ok, Err, ℤ, pos, refl}
 use Rattle.pickle_tree.specs.declared.tree.Infix.{Infix}
 use Rattle.pickle_tree.specs.declared.tree.Infix.TheVariants.{LogicalOr, LogicalAnd, BitOr, BitXor, BitAnd, Equal, NotEqual, Less, LessEqual, Greater, GreaterEqual, ShiftLeft, ShiftRight, Add, Subtract, Multiply, Divide, Remainder}
@@ -75,7 +75,7 @@ last_comparison Multiply e n1 n2 n3 n4 n5 = cc
 last_comparison Divide e n1 n2 n3 n4 n5 = cc
 last_comparison Remainder e n1 n2 n3 n4 n5 = cc
 
--- an operand that comes to a label, and what is made of that
+-- an operand that has a label, and the result for that label
 pub and_comes : (a : Evaluation) (f : Operand → Evaluation) (g : Evaluation) (l : Label) (n : ℕ) → ComesTo a l n → ((x : Operand) → operand_label x ≡ l → f x ≡ g) → and_operand a f ≡ with_steps n g
 unfolding and_operand
 and_comes a f g l n h k = rw (h.1, h.3, k h.0 h.2) refl
@@ -102,7 +102,7 @@ pub names_integer : (levels : Levels) (level place : ℕ) (v : Value) (n : ℤ) 
 unfolding evaluation
 names_integer levels level place v n t e l = rw e (AtPath v, refl, label_integer (label_of v) n t l, refl)
 
--- a comparison of two integers that are there at once
+-- a comparison of two integers that are known at once
 pub compares : (op : Infix) (a b : Term) (levels : Levels) (x : ℤ) (t : IntegerType) (y : ℤ) (u : IntegerType) (holds : Bool) → is_comparison op ≡ true →
     ComesTo (evaluation a levels) (IntegerLabel x t) 1 → ComesTo (evaluation b levels) (IntegerLabel y u) 1 → truth holds ≡ on_integers op x t y u →
     ComesTo (evaluation (Between op a b) levels) (IntegerLabel (if holds then pos 1 else pos 0) (signed_type 32)) 3

@@ -1,4 +1,4 @@
--- Operations bit by bit stay below a power of two.
+-- The results of operations bit by bit are less than a power of two.
 use Rattle.std.proofs.Common.{ℕ, ◌<◌, ◌^◌, arith}
 use Rattle.std.specs.Prelude.{bit_and, bit_or, bit_xor}
 use Rattle.std.proofs.lemmas.Nat.{or_lt, xor_lt, and_le_l}

@@ -1,4 +1,4 @@
--- How many elements an array has.
+-- The number of elements of an array.
 use Rattle.std.proofs.Common.{◌≡◌, pos, Ok, refl}
 use Rattle.pickle_tree.specs.declared.tree.Attribute.TheVariants.{Length}
 use Rattle.pickle_meaning.specs.Arithmetic.{unsigned_type}

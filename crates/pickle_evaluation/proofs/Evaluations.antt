@@ -1,4 +1,4 @@
--- Evaluations made of evaluations, as their parts come to an end.
+-- Evaluations made of evaluations, as their parts end.
 use Rattle.std.proofs.Common.{◌≡◌, ℕ, ◌+◌, ◌≤◌, List, Result, Ok, Err, refl, arith}
 use Rattle.pickle_types.specs.declared.node.Node.{Node}
 use Rattle.value_store.specs.declared.scalar.Scalar.{Scalar}
@@ -21,13 +21,13 @@ unfolding and_operand
 grows a f = grows_by a.outcome a.steps f
 
 module _ (nodes : List Node) (limit : ℕ) where
-  -- the first operand has no value, and so the whole has none
+  -- the first operand has no value, so the whole has none
   pub first_stops : (before after : ℕ) (u : Unvalued) (a : Evaluation) (f : Operand → Evaluation) → Evaluated nodes limit before after (Err u) a → Evaluated nodes limit before after (Err u) (and_operand a f)
   unfolding and_operand
   first_stops b a' (Fault kind) a f h = rw h.0 (refl, h.1)
   first_stops b a' Limit a f h = let g = grows a f in (h.0, omega (arith, h.1, g))
 
-  -- the first operand has a value, and so it goes on with the next
+  -- the first operand has a value, so the evaluation continues with the next
   pub goes_on : (before between after : ℕ) (x : Computing) (r : Result Computing Unvalued) (a : Evaluation) (f : Operand → Evaluation) →
       Evaluated nodes limit before between (Ok x) a → Evaluated nodes limit between after r (f (operand_of nodes x)) → Evaluated nodes limit before after r (and_operand a f)
   unfolding and_operand
@@ -35,7 +35,7 @@ module _ (nodes : List Node) (limit : ℕ) where
   goes_on b m a' x (Err (Fault kind)) a f h g = rw h.0 (g.0, omega (arith, h.1, g.1))
   goes_on b m a' x (Err Limit) a f h g = rw h.0 (g.0, omega (arith, h.1, g.1))
 
-  -- a step that was had, and one that was not
+  -- a step that was left, and one that was not
   pub stepped : (before between after : ℕ) (r : Result Computing Unvalued) (a : Evaluation) → between ≡ before + 1 → Evaluated nodes limit between after r a → Evaluated nodes limit before after r (with_steps 1 a)
   stepped b m a' (Ok x) a e h = (h.0, omega (arith, e, h.1))
   stepped b m a' (Err (Fault kind)) a e h = (h.0, omega (arith, e, h.1))

@@ -14,7 +14,7 @@ use Rattle.pickle_types.specs.Sound.{IsSmall}
 use Rattle.pickle_meaning.specs.Values.{IntegerLabel, OffsetLabel}
 use Rattle.pickle_meaning.specs.Arithmetic.{Computed, is_zero, brought, modulo, brought_integer, brought_offset}
 
--- what was said of an argument that was passed
+-- what holds of an argument that was passed
 pub passed : {A : Type 0} (f : ℤ → A) (z : ℤ) (r : A) → SFits w128 z → r ≡ f (to_z w128 (of_z w128 z)) → r ≡ f z
 passed f z r fits e = e ∙ ap f (to_z-of_z w128 z fits)
 
@@ -59,7 +59,7 @@ remainder_fits s x y h = fits_signed_from_abs w128 (int_rem x y) (let a = remain
 pub quotient_fits : (s : Bool) (x y : ℤ) → IsSmall s x → SFits w128 (int_div x y)
 quotient_fits s x y h = fits_signed_from_abs w128 (int_div x y) (let a = quotient_abs x y in let b = small_abs s x h in let c : 2 ^ 64 < 2 ^ 127 = lit< tt in omega (arith, a, b, c))
 
--- what was said of a product that was passed
+-- what holds of a product that was passed
 pub passed_product : {A : Type 0} (f : ℤ → A) (x y : ℤ) (r : A) → SFits w128 x → SFits w128 y → SFits w128 (x *ℤ y) →
     r ≡ f (to_z w128 (of_z w128 (to_z w128 (of_z w128 x) *ℤ to_z w128 (of_z w128 y)))) → r ≡ f (x *ℤ y)
 passed_product f x y r fx fy fits e =

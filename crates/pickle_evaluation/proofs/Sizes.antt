@@ -1,4 +1,4 @@
--- How many nodes an expression has.
+-- The number of nodes of an expression.
 use Rattle.std.proofs.Common.{ℕ, ◌+◌}
 use Rattle.pickle_types.specs.Types.{Term, Number, Text, Name, Bracket, Before, Between, Choice, Index, Select, AttributeOf, ToInteger, ToOffset, InUnit}
 

@@ -1,4 +1,4 @@
--- What an evaluation comes to, or a part of one in no steps.
+-- The value that an evaluation gives, or a part of one that takes no steps.
 use Rattle.std.specs.Prelude.{◌≡◌, ℕ, ◌+◌, ◌<◌, Bool, true, false, List, Option, Result, Ok, Err}
 use Rattle.pickle_types.specs.declared.node.Node.{Node}
 use Rattle.pickle_evaluation.specs.declared.operand.Operand.{Operand as Computing}
@@ -21,7 +21,7 @@ abbrev pub Comes : List Node → Result Computing MapFaultKind → Result Operan
 Comes nodes (Ok x) o = o ≡ Ok (operand_of nodes x)
 Comes nodes (Err kind) o = o ≡ Err kind
 
--- what the operands of an operator come to, after the operator's own step
+-- the evaluation of an operator's operands, after the operator's own step
 abbrev pub infix_part : Infix → (a b : Term) → Levels → Evaluation
 infix_part op a b levels =
     and_operand (evaluation a levels) (λ x.
@@ -37,7 +37,7 @@ choice_part common c x y levels =
 abbrev pub index_part : (e i : Term) → Levels → Evaluation
 index_part e i levels = and_operand (evaluation e levels) (λ p. and_operand (evaluation i levels) (λ n. leads_to (element p (operand_label n))))
 
--- an evaluation that comes to a value of this label, in so many steps
+-- an evaluation gives a value of this label, in so many steps
 abbrev pub ComesTo : Evaluation → Label → ℕ → Type 0
 ComesTo a label steps = (x : Operand) × (a.outcome ≡ Ok x) × (operand_label x ≡ label) × (a.steps ≡ steps)
 
@@ -46,7 +46,7 @@ abbrev pub computed_operand : Result Scalar Unvalued → Result Computing Unvalu
 computed_operand (Ok s) = Ok (computing.Scalar s)
 computed_operand (Err u) = Err u
 
--- what operators see of an evaluation's value, once it came to an end
+-- what matters to an operator about an evaluation's value, once it has ended
 abbrev pub Seen : (limit before after : ℕ) → Result Content Unvalued → Evaluation → Type 0
 Seen limit before after (Ok content) a = (x : Operand) × (a.outcome ≡ Ok x) × IsHeld content (operand_label x) × (after ≡ before + a.steps)
 Seen limit before after (Err (Fault kind)) a = (a.outcome ≡ Err kind) × (after ≡ before + a.steps)

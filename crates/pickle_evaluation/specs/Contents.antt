@@ -1,4 +1,4 @@
--- What operators see of an operand.
+-- What matters to an operator about its operand.
 use Rattle.std.specs.Prelude.{◌≡◌}
 use Rattle.pickle_evaluation.specs.declared.content.Content.{Content}
 use Rattle.pickle_evaluation.specs.declared.content.Content.TheVariants as content

@@ -1,4 +1,4 @@
--- What the calls of an evaluation did on the open values of a store, by whatever names these are told.
+-- What the calls of an evaluation did over the frames of a store, whatever table gives the names.
 use Rattle.std.specs.Prelude.{◌≡◌, ℕ, ◌+◌, ℤ, pos, Bool, List, Option, Result, IfSome, if◌then◌else◌}
 use Rattle.bit_space.specs.declared.meter.Meter.{Meter}
 use Rattle.pickle_types.specs.declared.integer.IntegerType.{IntegerType}
@@ -25,32 +25,32 @@ use Rattle.value_store.specs.Slots.{Held, levels}
 abbrev pub truth_label : Bool → Label
 truth_label holds = IntegerLabel (if holds then pos 1 else pos 0) (signed_type 32)
 
--- what levels evaluate to was computed
+-- the evaluation over the frames was computed
 abbrev pub Evaluates : (meter meter' : Meter) → Held → Result Computing Unvalued → (Levels → Evaluation) → Type 0
 Evaluates meter meter' store result of = (nodes : List Node) → Evaluated nodes meter.limit meter.steps meter'.steps result (of (levels nodes store))
 
--- the same, whose first step was taken before
+-- the same, after its first step was taken
 abbrev pub EvaluatesOn : (meter meter' : Meter) → Held → Result Computing Unvalued → (Levels → Evaluation) → Type 0
 EvaluatesOn meter meter' store result of =
     (nodes : List Node) (before : ℕ) → meter.steps ≡ before + 1 → Evaluated nodes meter.limit before meter'.steps result (of (levels nodes store))
 
--- what operators see of it was computed
+-- what matters to an operator about the evaluation was computed
 abbrev pub Looks : (meter meter' : Meter) → Held → Result Content Unvalued → (Levels → Evaluation) → Type 0
 Looks meter meter' store result of = (nodes : List Node) → Seen meter.limit meter.steps meter'.steps result (of (levels nodes store))
 
--- a side that was evaluated is taken over, as a type
+-- an evaluated side becomes the result, converted to a type
 abbrev pub Chooses : Option IntegerType → (side result : Result Computing Unvalued) → Type 0
 Chooses common side result =
     (nodes : List Node) (limit before after : ℕ) (a : Evaluation) → Evaluated nodes limit before after side a →
     Evaluated nodes limit before after result (and_operand a (λ z. gives (as_common common (operand_label z))))
 
--- an operator computes on two operands that are seen
+-- an operator computes on two contents
 abbrev pub Combines : (meter meter' : Meter) → Infix → (literal : ℕ) → (x y : Content) → Result Scalar Unvalued → Type 0
 Combines meter meter' op literal x y result =
     (nodes : List Node) (a b : Label) → IsHeld x a → IsHeld y b →
     Evaluated nodes meter.limit meter.steps meter'.steps (computed_operand result) (between op literal a b)
 
--- the element of an operand at an index that is seen
+-- the element of an operand at an index of this content
 abbrev pub Indexes : (p : Computing) → (n : Content) → Result Computing MapFaultKind → Type 0
 Indexes p n result = (nodes : List Node) (x : Label) → IsHeld n x → Comes nodes result (leads_to (element (operand_of nodes p) x)).outcome
 

@@ -1,4 +1,4 @@
--- What an expression comes to, as it is lent to those who tell of a mapping.
+-- The value of an expression, as it is borrowed for messages about a mapping.
 use Rattle.std.specs.Prelude.{◌≡◌, ◌<◌, ◌-◌, ◌^◌, Option, Some, None, Ok, Err}
 use Rattle.pickle_meaning.specs.declared.faults.MapFaultKind.{MapFaultKind}
 use Rattle.pickle_evaluation.specs.declared.known.Known.{Known}
@@ -13,7 +13,7 @@ known_operand (known.Offset magnitude type unit) = Plain (OffsetLabel magnitude 
 known_operand (known.Text bytes) = Plain (TextLabel bytes.now)
 known_operand (known.Value value) = AtPath (value_shown value)
 
--- nothing is lent where there is a fault, or where the evaluation takes 2^64 steps and more
+-- there is no value where there is a fault, or where the evaluation takes 2^64 steps or more
 pub data IsUnknown (e : Evaluation) : Type 0 where
   faulty : (kind : MapFaultKind) → e.outcome ≡ Err kind → IsUnknown e
   endless : 2 ^ 64 - 1 < e.steps → IsUnknown e

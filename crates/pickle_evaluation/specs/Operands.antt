@@ -1,4 +1,4 @@
--- What an expression's operands are, while they are computed.
+-- The operands of an expression, while they are computed.
 use Rattle.std.specs.Prelude.{◌≡◌, ℕ, ◌+◌, ◌<◌, List, Result, Ok, Err}
 use Rattle.pickle_types.specs.declared.node.Node.{Node}
 use Rattle.pickle_evaluation.specs.declared.operand.Operand.{Operand as Computing}
@@ -27,7 +27,7 @@ abbrev pub found_value : List Node → Result StoredValue MapFaultKind → Resul
 found_value nodes (Ok r) = Ok (value_of nodes r)
 found_value nodes (Err kind) = Err kind
 
--- an evaluation that came to an end: with its value or fault after all its steps, or for want of steps
+-- an evaluation that ended: with its value or fault after all its steps, or without a step left
 abbrev pub Evaluated : List Node → (limit before after : ℕ) → Result Computing Unvalued → Evaluation → Type 0
 Evaluated nodes limit before after (Ok x) e = (e.outcome ≡ Ok (operand_of nodes x)) × (after ≡ before + e.steps)
 Evaluated nodes limit before after (Err (Fault kind)) e = (e.outcome ≡ Err kind) × (after ≡ before + e.steps)

@@ -1,7 +1,7 @@
 -- How great a number of bits may be.
 use Rattle.std.specs.Prelude.{◌<◌, ◌≤◌, ◌^◌, ℤ, unsigned_abs}
 
--- a number of bits that fits well into 128 bits
+-- a number of bits that fits 128 bits with room to spare
 abbrev pub IsWide : ℤ → Type 0
 IsWide z = unsigned_abs z < 2 ^ 98
 

@@ -1,5 +1,5 @@
-//! Comparisons of integers that are named or written down. Most constraints and conditions are such, so they are met at
-//! a glance, and not as two operands of an operator.
+//! A fast path for comparisons of two integers, each a literal or a name. Most constraints and conditions are such
+//! comparisons.
 
 ghost use Rattle.std.specs.Prelude.{◌≡◌, IfSome, true};
 ghost use Rattle.pickle_types.specs.Table.{term_of, IsWidth};
@@ -26,9 +26,9 @@ pub struct Typed {
     pub of: IntegerType,
 }
 
-/// The truth of a comparison between two integers, each a literal or a name, which takes 3 steps; nothing for all else, and
-/// where an integer isn't there.
-// It stands apart, and what it calls doesn't: so no number goes through memory.
+/// The truth of a comparison of two integers, each a literal or a name, which takes 3 steps. None for any other
+/// expression, and where an integer is absent.
+// This isn't inlined, and what it calls is, so that no number goes through memory.
 #[inline(never)]
 pub fn comparison(e: &Resolved, store: &Store) -> Option<bool>
     requires { IsSoundTerm (term_of e.now) }
@@ -61,7 +61,7 @@ fn is_comparison(op: Infix) -> bool
     )
 }
 
-/// The integer that a literal or a name stands for.
+/// The integer that a literal is or a name means. None for any other expression, and where the named integer is absent.
 #[inline(always)]
 pub fn leaf(e: &Resolved, store: &Store) -> Option<Typed>
     requires { IsSoundTerm (term_of e.now) }
@@ -78,7 +78,7 @@ pub fn leaf(e: &Resolved, store: &Store) -> Option<Typed>
     }
 }
 
-/// The integer that a name stands for.
+/// The integer that a name means; None where it is absent or no integer.
 #[inline(always)]
 fn named(level: usize, place: usize, store: &Store) -> Option<Typed>
     ensures is { FindsInteger store.now (Name level place) result }

@@ -1,4 +1,4 @@
-//! What operators see of an operand.
+//! What matters to an operator about its operand.
 
 ghost use Rattle.std.specs.Prelude.{◌≡◌, ℕ, ◌<◌, List, Ok, Err, IfOk, IfSome};
 ghost use Rattle.pickle_types.specs.declared.node.Node.{Node};
@@ -20,18 +20,18 @@ use pickle_types::integer::IntegerType;
 use value_store::scalar::Scalar;
 use value_store::value::Kind;
 
-/// What operators see of an operand: an integer or offset, a text, or none of these.
+/// What matters to an operator about its operand: an integer or offset, or a text. Any other operand is `Other`.
 #[derive(Clone, Copy)]
 pub enum Content<'a> {
     /// An integer or an offset.
     Scalar(Scalar),
     /// The bytes of a text, without its final 0.
     Text(&'a [u8]),
-    /// None of these.
+    /// Any other operand.
     Other,
 }
 
-/// What operators see of an operand.
+/// What matters to an operator about an operand.
 pub fn seen(operand: Operand<'_>) -> Content<'_>
     requires { IsOperand operand }
     ensures held { (nodes : List Node) → IsHeld result (operand_label (operand_of nodes operand.entry)) }
@@ -60,7 +60,7 @@ pub fn truth_of(content: Content<'_>) -> Result<bool, MapFaultKind>
     }
 }
 
-/// A prefix before an operand.
+/// The result of a prefix before an operand.
 #[tactic(auto, unfolding(pickle_meaning::specs::Arithmetic::prefixed))]
 pub fn prefixed(op: Prefix, content: Content<'_>) -> Result<Scalar, MapFaultKind>
     requires { IsSoundContent content }
@@ -73,7 +73,7 @@ pub fn prefixed(op: Prefix, content: Content<'_>) -> Result<Scalar, MapFaultKind
     }
 }
 
-/// An operator between two operands; shortened truths don't come here.
+/// The result of an operator between two operands. `&&` and `||` that their left side settles aren't computed here.
 #[tactic(auto, unfolding(pickle_meaning::specs::Arithmetic::combined, pickle_meaning::specs::Arithmetic::on_texts))]
 pub fn combined(op: Infix, a: Content<'_>, b: Content<'_>) -> Result<Scalar, MapFaultKind>
     requires left { IsSoundContent a }
@@ -88,7 +88,7 @@ pub fn combined(op: Infix, a: Content<'_>, b: Content<'_>) -> Result<Scalar, Map
     }
 }
 
-/// A comparison of two texts.
+/// The result of a comparison of two texts.
 #[tactic(auto, unfolding(pickle_meaning::specs::Arithmetic::on_texts))]
 fn compared(op: Infix, x: &[u8], y: &[u8]) -> Result<Scalar, MapFaultKind>
     ensures is { computed_of result ≡ on_texts op x.now y.now }
@@ -101,7 +101,7 @@ fn compared(op: Infix, x: &[u8], y: &[u8]) -> Result<Scalar, MapFaultKind>
     }
 }
 
-/// `e as T` where T is an integer's type.
+/// `e as T` where T is an integer type.
 #[tactic(auto, unfolding(pickle_meaning::specs::Arithmetic::to_integer))]
 pub fn to_integer(number: IntegerType, content: Content<'_>) -> Result<Scalar, MapFaultKind>
     requires width { IsWidth number }
@@ -115,7 +115,7 @@ pub fn to_integer(number: IntegerType, content: Content<'_>) -> Result<Scalar, M
     }
 }
 
-/// `e as T` where T is an offset's type.
+/// `e as T` where T is an offset type.
 #[tactic(auto, unfolding(pickle_meaning::specs::Arithmetic::to_offset))]
 pub fn to_offset(
     number: IntegerType,

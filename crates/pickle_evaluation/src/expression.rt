@@ -1,6 +1,7 @@
-//! The value of an expression on the open levels.
+//! The value of an expression over the open frames.
 //!
-//! What is rare stands in functions of its own, which aren't inlined: each call pays for the locals of all that is.
+//! Rare cases are functions of their own, which aren't inlined: a call pays for the locals of everything that is
+//! inlined.
 
 ghost use Rattle.std.specs.Prelude.{◌≡◌, ◌+◌, ◌<◌, ◌≤◌, ◌^◌, IfOk, OnOk, OnErr, List};
 ghost use Rattle.pickle_types.specs.Table.{term_of};
@@ -29,7 +30,7 @@ use value_store::scalar::Scalar;
 use value_store::store::Store;
 use value_store::value::Kind;
 
-/// Evaluates an expression on the open values of the store. Each node of it takes a step, before its operands.
+/// Evaluates an expression over the frames of the store. Each node of the expression takes a step, before its operands.
 #[cycle(evaluate)]
 #[inline(never)]
 pub fn evaluate<'a>(
@@ -63,7 +64,7 @@ pub fn evaluate<'a>(
     }
 }
 
-/// What a prefix or a suffix makes of its operand, after its own step.
+/// The result of a prefix or a suffix, from its operand, after its own step.
 #[cycle(evaluate)]
 #[inline(never)]
 fn applied<'a>(
@@ -104,12 +105,12 @@ fn applied<'a>(
             let x = look(e, store, meter)?;
             Ok(Operand::Scalar(in_unit(*unit, x)?))
         }
-        // No other expression comes here.
+        // No other expression is passed here.
         _ => Err(Unvalued::Fault(MapFaultKind::Absent)),
     }
 }
 
-/// What operators see of an operand. An integer that is named or written down is seen at a glance.
+/// What matters to an operator about an operand. A literal or named integer takes the fast path.
 #[cycle(evaluate)]
 #[inline(never)]
 pub fn look<'a>(
@@ -137,7 +138,8 @@ pub fn look<'a>(
     }
 }
 
-/// An operator between two operands; the right one is evaluated only where the left one doesn't settle the truth.
+/// The result of an operator between two operands. The right one is evaluated only where the left one doesn't settle
+/// the truth.
 #[cycle(evaluate)]
 #[inline(never)]
 fn infix(
@@ -164,7 +166,7 @@ fn infix(
     between(op, literal, left, right, meter)
 }
 
-/// A choice, of which only the side that is chosen is evaluated.
+/// The result of a choice. Only the chosen side is evaluated.
 #[cycle(evaluate)]
 #[inline(never)]
 fn choice<'a>(
@@ -193,7 +195,7 @@ fn choice<'a>(
     }
 }
 
-/// The side of a choice that was evaluated, as the type of the choice.
+/// The evaluated side of a choice, converted to the type of the choice.
 fn chosen<'a>(
     common: &Option<IntegerType>,
     side: Result<Operand<'a>, Unvalued>,
@@ -206,7 +208,7 @@ fn chosen<'a>(
     Ok(Operand::Scalar(as_common(common, seen(side?))?))
 }
 
-/// An element of an array.
+/// The element of an array at an index.
 #[cycle(evaluate)]
 #[inline(never)]
 fn index<'a>(
@@ -228,7 +230,7 @@ fn index<'a>(
     Ok(element(p, n)?)
 }
 
-/// An operator on two operands; a comparison of two texts takes a step for each byte of the literal.
+/// The result of an operator on two operands. A comparison of two texts takes a step for each byte of the literal.
 fn between(
     op: Infix,
     literal: u64,
@@ -250,7 +252,7 @@ fn between(
     Ok(combined(op, x, y)?)
 }
 
-/// Takes so many steps, or as many as are left.
+/// Takes `count` steps. Where fewer are left it takes those, and fails.
 fn take_steps(count: u64, meter: &mut Meter) -> Result<(), LimitPassed>
     ensures limit { meter.new.limit ≡ meter.old.limit }
     ensures made { meter.new.made ≡ meter.old.made }
@@ -264,7 +266,7 @@ fn take_steps(count: u64, meter: &mut Meter) -> Result<(), LimitPassed>
     Ok(())
 }
 
-/// The truth that `&&` and `||` have by their left side alone.
+/// The truth of `&&` or `||` where the left side settles it; None otherwise.
 fn settled(op: Infix, left: Result<bool, MapFaultKind>) -> Option<bool>
     ensures { result ≡ settled op left }
 {
@@ -275,7 +277,7 @@ fn settled(op: Infix, left: Result<bool, MapFaultKind>) -> Option<bool>
     }
 }
 
-/// The bytes of a text literal.
+/// The number of bytes of a text literal; 0 for other expressions.
 fn literal_length(e: &Resolved) -> u64
     ensures is { result ≡ literal_length (term_of e.now) }
     ensures few { result < 2 ^ 63 }
@@ -286,7 +288,7 @@ fn literal_length(e: &Resolved) -> u64
     }
 }
 
-/// The field or alternative at a path.
+/// The field or alternative of the value at a path.
 fn selected(x: Operand<'_>, place: usize) -> Result<Operand<'_>, MapFaultKind>
     ensures is { (nodes : List TableNode) → Comes nodes result (leads_to (present (selected (operand_of nodes x.entry) place))).outcome }
     ensures operand { IfOk result IsOperand }
@@ -313,7 +315,7 @@ fn element<'a>(p: Operand<'a>, n: Content<'_>) -> Result<Operand<'a>, MapFaultKi
     }
 }
 
-/// How many elements an array has, and how many bits a value.
+/// The number of elements of an array, or the size of a value in bits.
 fn attribute_of(attribute: Attribute, x: Operand<'_>) -> Result<Scalar, MapFaultKind>
     ensures is { (nodes : List TableNode) → computed_of result ≡ attribute_of attribute (operand_of nodes x.entry) }
     ensures scalar { IfOk result IsScalar }
@@ -337,7 +339,7 @@ const UNSIGNED: IntegerType = IntegerType {
     signed: false,
 };
 
-/// A number that was chosen, as the type of the choice.
+/// A chosen number, converted to the type of the choice.
 #[tactic(auto, unfolding(pickle_meaning::specs::Arithmetic::to_integer))]
 fn as_common(common: &Option<IntegerType>, x: Content<'_>) -> Result<Scalar, MapFaultKind>
     requires common { IsOptionalWidth common.now }

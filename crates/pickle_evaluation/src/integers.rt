@@ -19,7 +19,7 @@ const TRUTH: IntegerType = IntegerType {
     signed: true,
 };
 
-/// A truth, as an integer of 32 bits with a sign.
+/// A truth as an integer of type int<32>: 1 or 0.
 pub fn truth(holds: bool) -> Scalar
     ensures is { Ok (scalar_label result) ≡ truth holds }
     ensures scalar { IsScalar result }
@@ -51,7 +51,7 @@ fn product(number: IntegerType, x: i128, y: i128) -> Result<Scalar, MapFaultKind
     Ok(Scalar::Integer(i128::from(low_digits(number.width, all)), number))
 }
 
-/// The quotient of two numbers of a type toward 0, brought to it.
+/// The quotient of two numbers of a type, rounded toward 0 and brought to the type.
 fn quotient(number: IntegerType, x: i128, y: i128) -> Result<Scalar, MapFaultKind>
     requires width { IsWidth number }
     requires left { IsSmall number.signed x }
@@ -79,7 +79,7 @@ fn remainder(number: IntegerType, x: i128, y: i128) -> Result<Scalar, MapFaultKi
     brought_integer(number, x % y)
 }
 
-/// The numbers of two numbers' binary digits, to be worked on bit by bit.
+/// The binary digits of two numbers, as unsigned numbers for operations bit by bit.
 fn digits_of(number: IntegerType, x: i128, y: i128) -> (u64, u64)
     requires width { IsWidth number }
     ensures first { result.0 ≡ modulo number.width x }
@@ -129,7 +129,7 @@ fn bits_xor(number: IntegerType, x: i128, y: i128) -> Scalar
     from_digits(number, a ^ b)
 }
 
-/// A count to shift by: from 0 on and below the width.
+/// A number to shift by: None unless it is from 0 up to the width less 1.
 fn shift_count(number: IntegerType, count: i128) -> Option<u32>
     ensures { IsShift number.width count result }
 {
@@ -139,7 +139,7 @@ fn shift_count(number: IntegerType, count: i128) -> Option<u32>
     }
 }
 
-/// An operator on two integers that were converted to their common type.
+/// The result of an operator on two integers that were converted to their common type.
 #[tactic(auto, unfolding(pickle_meaning::specs::Arithmetic::on_common))]
 fn on_common(op: Infix, number: IntegerType, x: i128, y: i128) -> Result<Scalar, MapFaultKind>
     requires width { IsWidth number }
@@ -208,7 +208,7 @@ fn shifted_right(x: i128, number: IntegerType, count: i128) -> Result<Scalar, Ma
     }
 }
 
-/// The common type of two integers: the greater width, unsigned if either is.
+/// The common type of two integers: it has the greater width, and is unsigned if either is.
 pub fn common(t: IntegerType, u: IntegerType) -> IntegerType
     requires left { IsWidth t }
     requires right { IsWidth u }
@@ -221,7 +221,7 @@ pub fn common(t: IntegerType, u: IntegerType) -> IntegerType
     }
 }
 
-/// An operator on two integers, converted to their common type.
+/// The result of an operator on two integers, converted to their common type.
 #[tactic(auto, unfolding(pickle_meaning::specs::Arithmetic::on_integers))]
 fn on_both(
     op: Infix,
@@ -241,7 +241,7 @@ fn on_both(
     on_common(op, number, a, b)
 }
 
-/// An operator on two integers.
+/// The result of an operator on two integers.
 #[tactic(auto, unfolding(pickle_meaning::specs::Arithmetic::on_integers))]
 pub fn on_integers(
     op: Infix,
@@ -277,7 +277,7 @@ pub fn on_integers(
     }
 }
 
-/// Any integer but 0 is true.
+/// Whether an integer is true: any integer but 0 is.
 pub fn is_true(x: i128) -> bool
     ensures { result ≡ not (is_zero x) }
 {

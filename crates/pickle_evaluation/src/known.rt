@@ -1,4 +1,4 @@
-//! The values of expressions, for those who tell of a mapping.
+//! The values of expressions, for messages about a mapping.
 
 ghost use Rattle.pickle_types.specs.Sound.{IsSoundTerm};
 ghost use Rattle.pickle_types.specs.Table.{term_of};
@@ -15,7 +15,7 @@ use value_store::scalar::Scalar;
 use value_store::store::Store;
 use value_store::value::ValueRef;
 
-/// What an expression comes to, with the names of a table.
+/// The value of an expression, with the names of a table.
 #[derive(Clone, Copy)]
 pub enum Known<'a> {
     /// An integer with its type.
@@ -28,7 +28,7 @@ pub enum Known<'a> {
     Value(ValueRef<'a>),
 }
 
-/// What an expression comes to on the open values of a store; nothing where it has a fault.
+/// The value of an expression over the frames of a store; None where it has a fault, or takes 2^64 steps or more.
 pub fn known_value<'a>(table: &'a [Node], e: &'a Resolved, store: &'a Store) -> Option<Known<'a>>
     requires { IsSoundTerm (term_of e.now) }
     ensures { KnownOf result (evaluation (term_of e.now) (levels table.now store.now)) }

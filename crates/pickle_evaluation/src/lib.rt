@@ -1,4 +1,4 @@
-//! The values of expressions over the open values of a store.
+//! Evaluates expressions over the frames of a store.
 #![tactic(auto)]
 
 pub mod comparison;

@@ -26,7 +26,7 @@ fn brought_offset(number: IntegerType, unit: u32, z: i128) -> Result<Scalar, Map
     Ok(Scalar::Offset(brought(number, z)?, number, unit))
 }
 
-/// A prefix before an integer or an offset.
+/// The result of a prefix before an integer or an offset.
 #[tactic(auto, unfolding(pickle_meaning::specs::Arithmetic::prefixed))]
 pub fn prefixed(op: Prefix, operand: Scalar) -> Result<Scalar, MapFaultKind>
     requires { IsScalar operand }
@@ -46,7 +46,7 @@ pub fn prefixed(op: Prefix, operand: Scalar) -> Result<Scalar, MapFaultKind>
     }
 }
 
-/// `e as T` where T is an integer's type.
+/// `e as T` where T is an integer type.
 #[tactic(auto, unfolding(pickle_meaning::specs::Arithmetic::to_integer))]
 pub fn to_integer(number: IntegerType, operand: Scalar) -> Result<Scalar, MapFaultKind>
     requires width { IsWidth number }
@@ -60,7 +60,7 @@ pub fn to_integer(number: IntegerType, operand: Scalar) -> Result<Scalar, MapFau
     }
 }
 
-/// The exact bits of an offset.
+/// The exact size of an offset, in bits.
 pub fn bits_in(magnitude: i128, signed: bool, unit: u32) -> i128
     requires { IsSmall signed magnitude }
     ensures is { result ≡ bits_in magnitude unit }
@@ -69,7 +69,7 @@ pub fn bits_in(magnitude: i128, signed: bool, unit: u32) -> i128
     magnitude * i128::from(unit)
 }
 
-/// `e as T` where T is an offset's type.
+/// `e as T` where T is an offset type.
 #[tactic(auto, unfolding(pickle_meaning::specs::Arithmetic::to_offset))]
 pub fn to_offset(number: IntegerType, unit: u32, operand: Scalar) -> Result<Scalar, MapFaultKind>
     requires width { IsWidth number }
@@ -102,7 +102,7 @@ pub fn in_unit(unit: u32, operand: Scalar) -> Result<Scalar, MapFaultKind>
     }
 }
 
-/// A quotient of bits, toward 0.
+/// The quotient of two numbers of bits, rounded toward 0.
 fn divided(x: i128, y: i128) -> i128
     requires some { is_zero y ≡ false }
     requires left { IsWide x }
@@ -112,7 +112,7 @@ fn divided(x: i128, y: i128) -> i128
     x / y
 }
 
-/// What is left of a division of bits, with the sign of the first.
+/// The remainder of a division of two numbers of bits, with the sign of the first.
 fn left_over(x: i128, y: i128) -> i128
     requires some { is_zero y ≡ false }
     requires left { IsWide x }
@@ -122,7 +122,7 @@ fn left_over(x: i128, y: i128) -> i128
     x % y
 }
 
-/// An operator on the exact bits of two offsets.
+/// The result of an operator on the exact bits of two offsets.
 #[tactic(auto, unfolding(pickle_meaning::specs::Arithmetic::on_bits))]
 fn on_bits(
     op: Infix,
@@ -160,7 +160,7 @@ fn on_bits(
     }
 }
 
-/// Bits counted in units.
+/// A number of bits as an offset in units.
 fn units_of(number: IntegerType, unit: u32, bits: i128) -> Result<Scalar, MapFaultKind>
     requires width { IsWidth number }
     requires unit { 0 < unit }
@@ -230,7 +230,7 @@ fn scaled(
     Ok(Scalar::Offset(i128::from(low_digits(number.width, all)), number, unit))
 }
 
-/// An operator on two integers or offsets.
+/// The result of an operator on two integers or offsets.
 #[tactic(auto, unfolding(pickle_meaning::specs::Arithmetic::combined, pickle_meaning::specs::Arithmetic::on_scaled))]
 pub fn combined(op: Infix, a: Scalar, b: Scalar) -> Result<Scalar, MapFaultKind>
     requires left { IsScalar a }
@@ -255,7 +255,7 @@ pub fn combined(op: Infix, a: Scalar, b: Scalar) -> Result<Scalar, MapFaultKind>
     }
 }
 
-/// An operator on a number and an offset, in either order.
+/// The result of an operator on a number and an offset, in either order.
 #[tactic(auto, unfolding(pickle_meaning::specs::Arithmetic::on_scaled))]
 fn on_scaled(
     op: Infix,

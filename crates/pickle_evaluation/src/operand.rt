@@ -1,4 +1,4 @@
-//! What an expression comes to.
+//! The value of an expression.
 
 ghost use Rattle.std.specs.Prelude.{◌≡◌};
 ghost use Rattle.pickle_evaluation.specs.declared.operand.Unvalued.TheVariants.{Fault, Limit};
@@ -8,18 +8,18 @@ use pickle_meaning::faults::MapFaultKind;
 use value_store::scalar::Scalar;
 use value_store::stored::StoredValue;
 
-/// What an expression comes to: a computed number, a text, or the value at a path, as the store lends it.
+/// The value of an expression: a computed number, a text, or the value at a path, borrowed from the store.
 #[derive(Clone, Copy)]
 pub enum Operand<'a> {
     /// A computed integer or offset.
     Scalar(Scalar),
-    /// The bytes of a text that the expression writes down, without its final 0.
+    /// The bytes of a text literal, without its final 0.
     Text(&'a [u8]),
     /// The value at a path.
     Value(StoredValue<'a>),
 }
 
-/// Why an expression has no value: its first fault, or no step was left.
+/// Why an expression has no value: its first fault, or the limit of steps.
 #[derive(Clone, Copy, Debug, PartialEq, Eq)]
 pub enum Unvalued {
     /// The first fault.

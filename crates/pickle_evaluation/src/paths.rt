@@ -12,7 +12,7 @@ use value_store::scalar::Scalar;
 use value_store::stored::StoredValue;
 use value_store::value::Kind;
 
-/// The field of a struct, or the alternative of a union if it was taken.
+/// The field of a struct, or the alternative of a union if it matched. None for an absent field and for other values.
 pub fn selected(value: StoredValue<'_>, place: usize) -> Option<StoredValue<'_>>
     ensures { (nodes : List Node) → option_map (value_of nodes) result ≡ selected (AtPath (value_of nodes value.entry)) place }
 {
@@ -26,7 +26,7 @@ pub fn selected(value: StoredValue<'_>, place: usize) -> Option<StoredValue<'_>>
     }
 }
 
-/// The element of an array, by an index that is not negative and below the count.
+/// The element of an array at an index. An index that is negative or not less than the count is Index.
 pub fn element(value: StoredValue<'_>, index: i128) -> Result<StoredValue<'_>, MapFaultKind>
     ensures { FindsElement value.entry index result }
 {

@@ -17,7 +17,7 @@ module _ {world : World} {limit limit' k j k' j' : ℕ} where
   pub settles_ok : {A : Type 0} (n : ℕ) (o : Result A FaultAt) (x : A) → limit' ≡ limit → Settles limit' k k' (Ok x) o n → j' ≡ j → Follows world limit (after n o) k j k' j' (Done (Ok x))
   settles_ok n o x el h ej = rw h.0 (follow_after n (Ok x) h.1 ej)
 
-  -- a clause with a fault, or for want of steps
+  -- a clause with a fault, or without a step left
   pub settles_stop : {A : Type 0} (n : ℕ) (o : Result A FaultAt) (stop : Stop) → limit' ≡ limit → k ≤ limit → Settles limit' k k' (Err stop) o n → j' ≡ j → Follows world limit (after n o) k j k' j' (stop_finish stop)
   settles_stop n o (Fault kind place) el le h ej = rw h.0 (follow_after n (Err (kind, place)) h.1 ej)
   settles_stop n o Limit el le h ej = follow_after_some n o le (subst (λ l. l < k + n) el h.1) (h.0 ∙ el) ej

@@ -1,4 +1,4 @@
--- The elements of an array, where they don't stand in a row that is packed.
+-- The elements of an array, where they aren't packed.
 use Rattle.std.proofs.Common.{◌≡◌, ℕ, Bool, true, false, List, [], ◌∷◌, ◌++◌, Option, Some, None, Result, refl, sym, ap, subst, ◌∙◌}
 use Rattle.std.proofs.lemmas.Bool.{false≢true}
 use Rattle.pickle_types.specs.Types.{PokeType, IntegerOf, OffsetOf, StringOf, ArrayOf, StructOf, IntegralOf, UnionOf}
@@ -20,7 +20,7 @@ use Rattle.pickle_map.specs.Stops.{stop_finish}
 
 -- ---- a plan as that of an element
 
--- where nothing is packed it is all the same whether levels end in an array of numbers
+-- where nothing is packed it doesn't matter whether frames end in an array of numbers
 same_takes : (row : Bool) (vector : Vector) (levels : Levels) → kept_takes false row vector levels ≡ levels_take false vector levels
 same_takes true vector levels = refl
 same_takes false vector levels = refl
@@ -97,7 +97,7 @@ apart_shape types (shape.Struct name pinned fields) no_integer no_offset = refl
 apart_shape types (shape.Integral name number fields) no_integer no_offset = refl
 apart_shape types (shape.Union name alternatives) no_integer no_offset = refl
 
--- their values are none
+-- they have no numbers as values
 apart_value : (m : ℕ) (ty : PokeType) (levels : Levels) (s : ℕ) (v : Value) → makes_row ty ≡ false → Fits m ty levels s v → number_width (label_of v) ≡ None
 unfolding Fits FitsNumber
 apart_value m (IntegerOf type) levels s v e h = absurd (false≢true (sym e))
@@ -108,7 +108,7 @@ apart_value m (StructOf name pinned _) levels s v e h = ap (λ v. number_width (
 apart_value m (IntegralOf name type _) levels s v e h = ap (λ v. number_width (label_of v)) h.0.2
 apart_value m (UnionOf name alternatives) levels s v e h = ap (λ v. number_width (label_of v)) h.2
 
--- a level that begins with no number goes on so
+-- a frame that begins with no number stays so
 still_apart : (top : List (Option Value)) (v : Value) → row_width (gathered top) ≡ None → number_width (label_of v) ≡ None → row_width (gathered (top ++ Some v ∷ [])) ≡ None
 still_apart [] v h e = e
 still_apart (None ∷ rest) v h e = refl

@@ -1,4 +1,4 @@
--- What a type means never has one of the faults that are a run's own.
+-- What a type means never has one of the faults of a run.
 use Rattle.std.proofs.Common.{◌≡◌, ℕ, zero, suc, ◌+◌, ◌-◌, ◌/◌, max, Bool, true, false, List, [], ◌∷◌, ◌++◌, ℤ, pos, negsuc, Option, Some, None, Result, Ok, Err}
 use Rattle.std.specs.Prelude.{if◌then◌else◌, nat_lt, nat_le, nat_eq, ◌+ℤ◌, ◌-ℤ◌, ◌*ℤ◌, neg_ℤ, int_div, int_rem}
 use Rattle.bit_space.specs.declared.order.Order.{Order}
@@ -213,7 +213,7 @@ evaluation_kind (ToInteger type e) levels = operand_kind (evaluation e levels) _
 evaluation_kind (ToOffset type unit e) levels = operand_kind (evaluation e levels) _ (evaluation_kind e levels) (λ x. gives_kind _ (to_offset_kind type unit (operand_label x)))
 evaluation_kind (InUnit unit e) levels = operand_kind (evaluation e levels) _ (evaluation_kind e levels) (λ x. gives_kind _ (in_unit_kind unit (operand_label x)))
 
--- the same of a fault by itself
+-- the same for a fault alone
 pub evaluation_fault : (e : Term) (levels : Levels) {kind : MapFaultKind} → (evaluation e levels).outcome ≡ Err kind → IsMeant kind
 evaluation_fault e levels h = let k = evaluation_kind e levels in let k = rw h at k in k
 
@@ -280,7 +280,7 @@ plan_if : {A : Type 0} (b : Bool) (p q : Plan (Result A FaultAt)) → FaultsMean
 plan_if true p q h g = h
 plan_if false p q h g = g
 
--- a fault of one plan and then another comes from the one or the other
+-- a fault of one plan and then another is from the one or the other
 then_fault : {A B : Type 0} (p : Plan (Result A FaultAt)) (f : A → Plan (Result B FaultAt)) → FaultsMeant p → ((a : A) → FaultsMeant (f a)) → FaultsMeant (then_ok p f)
 unfolding then_ok
 then_fault {A} {B} p f h g = then_always {P = OfFault {A = A} IsMeant} {Q = OfFault {A = B} IsMeant} (on_value f) goes h

@@ -44,7 +44,7 @@ walk_rises (stepped w) = let r = walk_rises w in (omega (arith, r.0), r.1)
 walk_rises (kept has w) = let r = walk_rises w in (r.0, omega (arith, r.1))
 walk_rises (read n m w) = walk_rises w
 
--- a walk keeps what always holds
+-- an invariant holds along a walk
 pub walk_keeps : {world : World} {A : Type 0} {M : Levels → Type 0} {Q : A → Type 0} {q : Plan A} {k' j' : ℕ} {p : Plan A} {k j : ℕ} → Walk world q k' j' p k j → Always M Q p → Always M Q q
 walk_keeps arrived h = h
 walk_keeps (stepped w) h = walk_keeps w (of_tick h)
@@ -70,7 +70,7 @@ walk_uses c (read n m w) h = walk_uses c w (inside_read h n)
 within_tick : {A : Type 0} {p : Plan A} {a b : ℕ} → MadeWithin (Tick p) a b → MadeWithin p (a + 1) b
 within_tick (made_tick h) = h
 
--- what a note of values leaves
+-- what noted values leave
 record Noted {A : Type 0} (p : Plan A) (count a b : ℕ) : Type 0 where
   rest : ℕ
   few : count + rest ≤ a
@@ -82,7 +82,7 @@ within_made (made_more rest up h) = record { rest = rest; few = up; within = h }
 within_read : {A : Type 0} {place width : ℕ} {order : Order} {ps : ℕ → Plan A} {a b : ℕ} → MadeWithin (Read place width order ps) a b → (n : ℕ) → MadeWithin (ps n) a b
 within_read (made_read h) = h
 
--- no more values are made on a walk than steps are taken, but for those that were ahead
+-- a walk makes no more values than it takes steps, but for those that were ahead
 pub walk_makes : {world : World} {A : Type 0} {q : Plan A} {k' j' : ℕ} {p : Plan A} {k j : ℕ} (a b : ℕ) → Walk world q k' j' p k j → MadeWithin p a b → j' + k ≤ j + k' + a
 walk_makes a b arrived h = omega arith
 walk_makes a b (stepped w) h = let r = walk_makes (a + 1) b w (within_tick h) in omega arith
@@ -124,7 +124,7 @@ needs_one (Tick p) d h (ticked c le b) = omega arith
 needs_one (Made count row levels p) d h b = absurd h
 needs_one (Read place width order rest) d h b = absurd h
 
--- ---- what follows of a call that followed a type's plan
+-- ---- consequences for a call that followed a type's plan
 
 module _ {world : World} {limit : ℕ} (m : ℕ) (ty : PokeType) (order : Order) (levels : Levels) (s : ℕ) {k j k' j' : ℕ} where
   -- over any space: its steps
@@ -151,7 +151,7 @@ module _ {world : World} {limit : ℕ} (m : ℕ) (ty : PokeType) (order : Order)
       let low : value_slots NodeSlot v + value_slots ByteSlot v ≤ u.0 = of_counted last in
       omega arith
 
-  -- a limit was reached, which is below the bound
+  -- a limit was reached, which is less than the bound
   pub followed_limit : Follows world limit (plan m ty order levels s) k j k' j' NoSteps → (k' ≡ limit) × (limit < k + cost ty m)
   followed_limit h =
       let u = walk_uses (cost ty m) h.walk (plan_at_most m ty order levels s) in
@@ -159,7 +159,7 @@ module _ {world : World} {limit : ℕ} (m : ℕ) (ty : PokeType) (order : Order)
       let e = h.ends.1 in
       (e, omega (arith, u.1))
 
-  -- room was wanted only where there is less than the type's
+  -- a request for capacity fails only where there is less than the type's bound
   pub followed_room : Follows world limit (plan m ty order levels s) k j k' j' NoRoom → (kind : Slot) × (world.room.least < slots kind levels + room ty m)
   followed_room h = wanted h.rest h.ends (λ kind. walk_keeps h.walk (room_enough m ty order levels s kind))
     where
@@ -203,7 +203,7 @@ module _ {world : World} {limit : ℕ} (bits : List ℕ) (ty : PokeType) (order 
       let y = l.made in
       broken_off (plan_means bits ty order no_values s) (omega arith) (omega arith) (omega arith)
 
--- over any space: how far a value reaches
+-- over any space: the end of a value
 pub followed_wide : {world : World} {limit : ℕ} (m : ℕ) (ty : PokeType) (order : Order) (levels : Levels) (s : ℕ) {k j k' j' : ℕ} {v : Value} → Follows world limit (plan m ty order levels s) k j k' j' (Done (Ok v)) → s + least_width ty ≤ end_of v
 followed_wide m ty order levels s {v} h =
     let a = walk_keeps h.walk (plan_wide m ty order levels s) in

@@ -1,4 +1,5 @@
--- What a mapping keeps, computed by the definitions: an array of two bytes, in a store that packs it and in one that doesn't.
+-- What a mapping stores, computed by the definitions: an array of two bytes, in a store that packs it and in one that
+-- doesn't.
 use Rattle.std.proofs.Common.{ℕ, ◌≤◌, Bool, true, false, [], ◌∷◌, arith}
 use Rattle.bit_space.specs.declared.order.Order.TheVariants.{Big}
 use Rattle.bit_space.specs.Bits.{bits_of, binary, number, digits, numeral_onto, groups_from}
@@ -16,7 +17,7 @@ use Rattle.value_store.specs.Takes.{Vector, NodesOf, FamiliesOf, LinksOf, Pendin
 abbrev room_for : (nodes families links pending texts bytes : ℕ) → Marks
 room_for nodes families links pending texts bytes = record { nodes = nodes; families = families; links = links; pending = pending; texts = texts; bytes = bytes }
 
--- all that is kept of the two bytes has room in such vectors
+-- vectors of this capacity hold all that is stored of the two bytes
 abbrev HaveRoom : (packing : Bool) → Marks → Type 0
 HaveRoom packing capacity = KeepsBy (λ row levels. AreWithin packing row levels capacity) (bits_of (1 ∷ 2 ∷ [])) (plan 16 (ArrayOf (IntegerOf (unsigned_type 8)) Unbounded) Big no_values 0) 100
 

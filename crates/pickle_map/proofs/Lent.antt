@@ -1,4 +1,4 @@
--- What a mapping did, told of the meter and the store that were lent to a mapper, once they are given back.
+-- What a mapping did with the meter and the store that a mapper borrowed, once they are given back.
 use Rattle.std.proofs.Common.{◌≡◌, ℕ, List, Result, subst}
 use Rattle.bit_space.specs.declared.meter.Meter.{Meter}
 use Rattle.bit_space.specs.declared.order.Order.{Order}

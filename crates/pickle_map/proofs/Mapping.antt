@@ -33,7 +33,7 @@ module _ {world : World} {limit : ℕ} {A : Type 0} (m s : ℕ) (p : Plan (Resul
   pub inside_ticks : {limit1 k' j' : ℕ} {finish : Finish (Result A FaultAt)} → limit1 ≡ limit → k1 ≡ k + 1 → j1 ≡ j → Follows world limit1 p k1 j1 k' j' finish → Follows world limit (from_inside m s (Tick p)) k j k' j' finish
   inside_ticks el ek ej h = follow_inside m s (Tick p) inside (follow_tick el ek ej h)
 
--- a start past the last bit
+-- a start after the last bit
 pub plan_past : {world : World} {limit : ℕ} (m : ℕ) (ty : PokeType) (order : Order) (levels : Levels) (s : ℕ) {k j : ℕ} → m < s → Follows world limit (plan m ty order levels s) k j k j (Done (Err (End, s)))
 unfolding plan
 plan_past m (IntegerOf type) order levels s past = follow_past m s _ past
@@ -206,7 +206,7 @@ module _ {world : World} {limit : ℕ} (element : Levels → ℕ → Plan (Resul
           further : (x : ℕ) → m < place + suc x * d → m < end + x * d
           further x lt = let more = suc-mul x d in omega (arith, lt, more, wide)
 
-      -- an element that stops, and the array before it
+      -- an element that stops, and the end of the array before it
       pub elements_over : (stop : Stop) → stop_ends extent stop ≡ true → Follows world limit1 (element levels place) k1 j1 k' j' (stop_finish stop) → Follows world limit (elements_plan element m s extent n i levels place) k j k' j' (Done (Ok (levels, place)))
       unfolding after_element
       elements_over (Fault kind at) ends h = tried (Done (Ok (levels, place))) (λ x is. follow_then _ _ h (rw ends follow_done))

@@ -23,7 +23,7 @@ use Rattle.pickle_meaning.specs.Means.{first_digits, number_type, width_in}
 use Rattle.pickle_map.specs.Stops.{stop_finish}
 use Rattle.pickle_map.proofs.Walks.{follow_done, follow_here, follow_tick, follow_no_tick, follow_read, follow_broken, follow_then_ok, follow_stop}
 
--- a refused read, whose fault is told at `place`
+-- a refused read, with its fault at `place`
 pub refusal_stops : (fault : BitFault) (place end : ℕ) (before after : SpaceView) (limit steps steps' : ℕ) → IsRefused fault end before after limit steps steps' → ReadStops (refusal_at fault place) place end before after limit steps steps'
 refusal_stops refused.End place end before after limit steps steps' h = (refl, refl, h.0, h.2)
 refusal_stops refused.Device place end before after limit steps steps' h = (h.0, h.2, h.3)

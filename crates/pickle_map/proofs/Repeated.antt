@@ -1,4 +1,4 @@
--- What calls that followed a plan kept, and that the same again has room.
+-- What calls that followed a plan stored, and that the same again fits.
 use Rattle.std.proofs.Common.{◌≡◌, ℕ, zero, suc, ◌+◌, ◌-◌, ◌*◌, ◌≤◌, Bool, List, Some, Result, Ok, Err, refl, sym, subst, arith}
 use Rattle.std.specs.Prelude.{IfErr}
 use Rattle.bit_space.specs.Bits.{bits_of}
@@ -43,14 +43,14 @@ no_room_left world bits (Made count row these p) n h g = not_within (packs world
 no_room_left world bits (Read place width order rest) n h g = absurd h
 
 module _ {world : World} (bits : List ℕ) (limit : ℕ) (known : world.known ≡ Some bits) {A : Type 0} where
-  -- there was room for all that was kept on the way
+  -- all that was stored on the way fitted
   walk_has_room : {q : Plan A} {k' j' : ℕ} {p : Plan A} {k j : ℕ} → Walk world q k' j' p k j → KeepsBy (HasRoom world) bits q (limit - k') → KeepsBy (HasRoom world) bits p (limit - k)
   walk_has_room arrived h = h
   walk_has_room (stepped {p} {k} w) h = tick_kept (HasRoom world) bits p (limit - k) (limit - (k + 1)) (omega arith) (walk_has_room w h)
   walk_has_room (kept has w) h = (has, walk_has_room w h)
   walk_has_room (read {ps} {k} n m w) h = subst (λ x. KeepsBy (HasRoom world) bits (ps x) (limit - k)) (m.exact bits known) (walk_has_room w h)
 
-  -- what all that is kept meets, is met at the end of the way too
+  -- what holds of all that is stored, holds at the end of the way too
   walk_still : (M : Bool → Levels → Type 0) {q : Plan A} {k' j' : ℕ} {p : Plan A} {k j : ℕ} → k' ≤ limit → Walk world q k' j' p k j → KeepsBy M bits p (limit - k) → KeepsBy M bits q (limit - k')
   walk_still M within arrived h = h
   walk_still M within (stepped {p} {k} w) h =
@@ -59,7 +59,7 @@ module _ {world : World} (bits : List ℕ) (limit : ℕ) (known : world.known �
   walk_still M within (kept has w) h = walk_still M within w h.1
   walk_still M within (read {ps} {k} n m w) h = walk_still M within w (subst (λ x. KeepsBy M bits (ps x) (limit - k)) (sym (m.exact bits known)) h)
 
-  -- ---- what follows of a call that followed a plan
+  -- ---- consequences for a call that followed a plan
 
   pub room_when_done : {p : Plan A} {k j k' j' : ℕ} {a : A} → Follows world limit p k j k' j' (Done a) → KeepsBy (HasRoom world) bits p (limit - k)
   room_when_done {k'} h = walk_has_room h.walk (subst (λ q. KeepsBy (HasRoom world) bits q (limit - k')) (sym h.ends) tt)

@@ -27,7 +27,7 @@ use Rattle.value_store.proofs.PackedRows.{packing-fresh, packing-stale}
 use Rattle.pickle_map.proofs.Placing.{reading, read_stops, read_goes}
 use Rattle.pickle_map.proofs.Walks.{follow_done, follow_made, follow_no_room}
 
--- packed numbers have bits
+-- packed numbers have at least one bit
 pub some_bits : (shape : Shape) → IsPacked shape → (1 ≤ element_width shape) × (element_width shape ≤ 64)
 some_bits (Integer w g) h = absurd h
 some_bits (Offset w g u) h = absurd h
@@ -74,7 +74,7 @@ element_is Array m ty order levels s h inside = absurd h
 element_is (Struct t) m ty order levels s h inside = absurd h
 element_is (Union t i) m ty order levels s h inside = absurd h
 
--- where an element ends
+-- the end of an element
 pub element_end : (shape : Shape) (s n : ℕ) → IsPacked shape → end_of (element_value shape s n) ≡ s + element_width shape
 element_end (Integer w g) s n h = absurd h
 element_end (Offset w g u) s n h = absurd h
@@ -85,7 +85,7 @@ element_end Array s n h = absurd h
 element_end (Struct t) s n h = absurd h
 element_end (Union t i) s n h = absurd h
 
--- one element more
+-- one more element
 elements_more : (shape : Shape) (s : ℕ) (ns : List ℕ) (n place : ℕ) → place ≡ s + element_width shape * length ns →
     elements shape s (ns ++ n ∷ []) ≡ elements shape s ns ++ Some (element_value shape place n) ∷ []
 elements_more shape s [] n place e = let same : place ≡ s = omega (arith, e) in rw same refl
@@ -101,7 +101,7 @@ pub row_closed : (shape : Shape) (ns : List ℕ) (start end : ℕ) (outer : Leve
     row_value shape ns start ≡ array_value start end (row_levels shape ns start outer)
 row_closed shape ns start end outer e = ap (λ x. Mapped ArrayLabel start x (gathered (elements shape start ns))) (sym e)
 
--- an element that is read and kept, or not
+-- an element that is read and stored, or not
 module _ {world : World} {limit : ℕ} (shape : Shape) (m : ℕ) (ty : PokeType) (order : Order) (levels : Levels) (s : ℕ) (are : IsArrayOf shape ty) (inside : s ≤ m) {k j k1 j1 : ℕ} where
   pub element_stops : (before after : SpaceView) {limit' : ℕ} (stop : Stop) → limit' ≡ limit → m ≡ 8 * before.len → ReadStops stop s (s + element_width shape) before after limit' k k1 → j1 ≡ j →
       Follows world limit (element_plan ty (plan m ty order) levels s) k j k1 j1 (stop_finish stop)

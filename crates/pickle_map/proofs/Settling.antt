@@ -1,4 +1,4 @@
--- Clauses, as the expressions in them come to an end.
+-- Clauses, as their expressions end.
 use Rattle.std.proofs.Common.{◌≡◌, ℕ, ◌+◌, ◌<◌, Bool, true, false, ℤ, pos, negsuc, Some, None, Result, Ok, Err, if◌then◌else◌, refl, sym, ap, ◌∙◌}
 use Rattle.pickle_map.specs.declared.mapper.stop.Stop.{Stop}
 use Rattle.pickle_map.specs.declared.mapper.stop.Stop.TheVariants as stop
@@ -60,7 +60,7 @@ module _ (limit before after place : ℕ) where
   truth_stops stop.Device a h = h
   truth_stops stop.Memory a h = h
 
-  -- an expression whose truth is known with the steps that it takes: they are taken, or some are not left
+  -- an expression whose truth is known with its steps: they are taken, or some are missing
   pub known_truth : (holds : Bool) (n : ℕ) (a : Evaluation) → ComesTo a (IntegerLabel (if holds then pos 1 else pos 0) (signed_type 32)) n → after ≡ before + n →
       Settles limit before after (Ok holds) (told_at place (λ x. kind_at place (truth_of x)) a.outcome) a.steps
   known_truth holds n a h e = rw (h.1, h.2, h.3) (truth_is place holds, e)

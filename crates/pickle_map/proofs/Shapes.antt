@@ -1,4 +1,4 @@
--- What a table says of the shape of its node at a place.
+-- What a table says about the shape of its node at a place.
 use Rattle.std.proofs.Common.{◌≡◌, ℕ, zero, suc, ◌+◌, ◌<◌, ◌≤◌, max, List, [], ◌∷◌, map, Option, Some, None, length, get_or, refl, sym, ap, subst, ◌∙◌, arith}
 use Rattle.std.specs.Prelude.{slice_get, unwrap_or, All, Vec, Bool}
 use Rattle.std.specs.declared.alloc.Global.{Global}
@@ -62,7 +62,7 @@ module _ (nodes : List Node) (table : IsTable nodes) (at : ℕ) (inside : at < l
       ∙ ap (λ fs. UnionOf (title_at nodes at) (open_parts (type_of nodes) fs)) (sym e)
 
 module _ (nodes : List Node) (at : ℕ) (inside : at < length nodes) (levels : ℕ) where
-  -- the fields of a node that is no deeper than there are levels left
+  -- the fields of a node that is no deeper than the frames that are left
   pub fields_within : (fs : List Field) → FieldsBelow at fs → All IsSoundField fs → levels + fields_depth (open_fields (type_of nodes) fs) ≤ 65 → All (IsFieldOf nodes levels) fs
   unfolding fields_depth
   fields_within [] below sound deep i d lt = absurd (omega arith)
@@ -124,7 +124,7 @@ part_bounded (q ∷ ps) (suc i) p lt e = let below = part_bounded ps i p (omega 
 pub of_one : {A : Type 0} (P : A → Type 0) (xs : List A) (i : ℕ) (x : A) → All P xs → i < length xs → x ≡ get_or xs i x → P x
 of_one P xs i x all lt e = subst P (sym e) (all i x lt)
 
--- the names of fields, as the type and as its shape tell them
+-- the names of fields, by the type and by its shape
 pub fields_named : (types : ℕ → PokeType) (fs : List Field) → field_names (open_fields types fs) ≡ map field_name fs
 fields_named types [] = refl
 fields_named types (f ∷ fs) = ap (λ rest. field_name f ∷ rest) (fields_named types fs)

@@ -70,21 +70,21 @@ meant_counts space meter meter' store store' p fault.Device m = absurd m
 meant_counts space meter meter' store store' p fault.Memory m = absurd m
 
 module _ {world : World} {limit : ℕ} (m : ℕ) (ty : PokeType) (order : Order) (s : ℕ) {k j k' j' : ℕ} where
-  -- what ends a run is told where the mapping began
+  -- a fault that ends a run has the mapping's start as its place
   pub told_there : (stop : Stop) → Follows world limit (plan m ty order no_values s) k j k' j' (stop_finish stop) → EndsRun (told stop s).kind → (told stop s).at ≡ s
   told_there (Fault kind place) h r = absurd (no_run kind (followed_kind m ty order no_values s h) r)
   told_there Limit h r = refl
   told_there Device h r = refl
   told_there Memory h r = refl
 
-  -- a limit that was reached is below the bound
+  -- a limit that was reached is less than the bound
   pub told_limit : (stop : Stop) → Follows world limit (plan m ty order no_values s) k j k' j' (stop_finish stop) → (told stop s).kind ≡ fault.Limit → (k' ≡ limit) × (limit < k + cost ty m)
   told_limit (Fault kind place) h e = absurd (no_run kind (followed_kind m ty order no_values s h) (rw e tt))
   told_limit Limit h e = followed_limit m ty order no_values s h
   told_limit Device h e = cc
   told_limit Memory h e = cc
 
-  -- room was wanted only where there is less than the type's
+  -- a request for capacity fails only where there is less than the type's bound
   pub told_memory : (stop : Stop) → Follows world limit (plan m ty order no_values s) k j k' j' (stop_finish stop) → (told stop s).kind ≡ fault.Memory → world.room.least < room ty m
   told_memory (Fault kind place) h e = absurd (no_run kind (followed_kind m ty order no_values s h) (rw e tt))
   told_memory Limit h e = cc
@@ -112,7 +112,7 @@ module _ {world : World} {limit : ℕ} (bits : List ℕ) (ty : PokeType) (order 
   told_means Device h = followed_part bits ty order s known within h
   told_means Memory h = followed_part bits ty order s known within h
 
--- a fact of a fault, whatever its kind
+-- a fact about a fault, whatever its kind
 unless : (kind : MapFaultKind) {P : Type 0} → P → UnlessBreaks kind P
 unless fault.End h = h
 unless fault.Constraint h = h
@@ -126,7 +126,7 @@ unless fault.Limit h = h
 unless fault.Device h = tt
 unless fault.Memory h = tt
 
--- what was kept, and that there was no room for more
+-- what was stored, and that no more fitted
 module _ {world : World} {limit : ℕ} (bits : List ℕ) (m : ℕ) (ty : PokeType) (order : Order) (s : ℕ) {k j k' j' : ℕ} (known : world.known ≡ Some bits) where
   pub told_kept : (stop : Stop) → Follows world limit (plan m ty order no_values s) k j k' j' (stop_finish stop) → UnlessBreaks (told stop s).kind (KeepsBy (HasRoom world) bits (plan m ty order no_values s) (limit - k))
   told_kept (Fault kind place) h = unless kind (room_when_done bits limit known h)
@@ -141,10 +141,10 @@ module _ {world : World} {limit : ℕ} (bits : List ℕ) (m : ℕ) (ty : PokeTyp
   told_wanted within Device h e = cc
   told_wanted within Memory h e = no_room_before bits limit known within h
 
--- an empty store keeps no values
+-- an empty store has no values
 pub none_kept : (nodes : List Node) (store : Held) → store ≡ emptied store → levels nodes store ≡ no_values
 none_kept nodes store e = ap (levels nodes) e ∙ none-open nodes store.room store.capacity
 
--- a plan on so many bits as known bytes have
+-- a plan on as many bits as known bytes have
 pub in_bits : {A : Type 0} (P : ℕ → A → Type 0) (a : A) (space : SpaceView) (bytes : List ℕ) → IsWhole space → space.bytes ≡ Some bytes → P (8 * space.len) a → P (length (bits_of bytes)) a
 in_bits P a space bytes whole e h = subst (λ m. P m a) (ap (λ n. 8 * n) (sym (whole bytes e)) ∙ sym (length-bits_of bytes)) h

@@ -24,7 +24,7 @@ module _ {world : World} {limit : ℕ} (m n : ℕ) (bytes : List ℕ) (outer : L
   ] left
 
   module _ {limit1 : ℕ} (b : ℕ) (el : limit1 ≡ limit) (ek : k1 ≡ k + 1) (ej : j1 ≡ j) (fits : place + 8 ≤ m) (may : MayRead world.known Big place 8 b) where
-    -- no room for the text that ends here
+    -- the text that ends here doesn't fit
     pub text_not_closed : b ≡ 0 → LacksRoom world false (pushed outer (Some (text_value bytes s (place + 8)))) → Follows world limit (text_plan m n bytes outer s place) k j k1 j1 NoRoom
     unfolding text_plan after_byte
     text_not_closed e full =
@@ -40,7 +40,7 @@ module _ {world : World} {limit : ℕ} (m n : ℕ) (bytes : List ℕ) (outer : L
       | suc x ↦ λ some. read_goes m s place 8 Big _ b el ek ej fits may (rw e (follow_made {limit' = limit1} has refl ek2 ej2 follow_done))
     ] left
 
-  -- a byte more
+  -- one more byte
   module _ {limit1 : ℕ} (b : ℕ) (el : limit1 ≡ limit) (ek : k1 ≡ k + 1) (ej : j1 ≡ j) (fits : place + 8 ≤ m) (may : MayRead world.known Big place 8 b) (some : b ≡ 0 → ⊥) where
     pub text_no_room : LacksRoom world false (text_level (bytes ++ b ∷ []) s outer) → Follows world limit (text_plan m n bytes outer s place) k j k1 j1 NoRoom
     unfolding text_plan after_byte
@@ -64,6 +64,6 @@ module _ {world : World} {limit : ℕ} (m n : ℕ) (bytes : List ℕ) (outer : L
 pub may_same : (bytes bytes' : Option (List ℕ)) (place n : ℕ) → bytes' ≡ bytes → MayRead (option_map bits_of bytes') Big place 8 n → MayRead (option_map bits_of bytes) Big place 8 n
 may_same bytes bytes' place n e h = subst (λ b. MayRead (option_map bits_of b) Big place 8 n) e h
 
--- a count that rose after it had not fallen
+-- a count that rose, after it had not fallen
 pub risen_before : (f g h : ℕ) → f ≤ g → g ≤ h → HasRisen g h → HasRisen f h
 risen_before f g h le up risen lt = elim (cases_lt g (2 ^ 64 - 1)) [ inl low ↦ let r = risen low in omega (arith, le, r) | inr high ↦ omega (arith, lt, high, up) ]

@@ -45,7 +45,7 @@ wants_in f world (Tick p) h = absurd h
 wants_in f world (Made count row levels p) h = h
 wants_in f world (Read place width order rest) h = absurd h
 
--- no room for what is to be kept
+-- what is to be stored doesn't fit
 pub follow_no_room : {world : World} {limit : ℕ} {A : Type 0} {count : ℕ} {row : Bool} {levels : Levels} {p : Plan A} {k j : ℕ} → LacksRoom world row levels → Follows world limit (Made count row levels p) k j k j NoRoom
 follow_no_room {count} {row} {levels} {p} h = record { rest = Made count row levels p; walk = arrived; ends = h }
 
@@ -53,19 +53,19 @@ follow_no_room {count} {row} {levels} {p} h = record { rest = Made count row lev
 pub follow_done : {world : World} {limit : ℕ} {A : Type 0} {a : A} {k j : ℕ} → Follows world limit (Ended a) k j k j (Done a)
 follow_done {a} = record { rest = Ended a; walk = arrived; ends = refl }
 
--- a tick that was had
+-- a step that was left
 pub follow_tick : {world : World} {limit limit' : ℕ} {A : Type 0} {p : Plan A} {k j k1 j1 k' j' : ℕ} {finish : Finish A} → limit' ≡ limit → k1 ≡ k + 1 → j1 ≡ j → Follows world limit' p k1 j1 k' j' finish → Follows world limit (Tick p) k j k' j' finish
 follow_tick {world} {limit} {p} {k} {j} {k'} {j'} {finish} el ek ej h =
     let g : Follows world limit p (k + 1) j k' j' finish = rw (← el, ← ek, ← ej) h in
     record { rest = g.rest; walk = stepped g.walk; ends = g.ends }
 
--- a tick that was not
+-- a step that was not left
 pub follow_no_tick : {world : World} {limit : ℕ} {A : Type 0} {p : Plan A} {k j k' j' : ℕ} → k' ≡ k → k' ≡ limit → j' ≡ j → Follows world limit (Tick p) k j k' j' NoSteps
 follow_no_tick {world} {limit} {p} {k} {j} ek el ej =
     let here_at : Follows world limit (Tick p) k j k j NoSteps = record { rest = Tick p; walk = arrived; ends = (tt, sym ek ∙ el) } in
     rw (ek, ej) here_at
 
--- values made, and kept
+-- values made, and stored
 pub follow_made : {world : World} {limit limit' : ℕ} {A : Type 0} {count : ℕ} {row : Bool} {levels : Levels} {p : Plan A} {k j k1 j1 k' j' : ℕ} {finish : Finish A} → HasRoom world row levels → limit' ≡ limit → k1 ≡ k → j1 ≡ j + count → Follows world limit' p k1 j1 k' j' finish →
     Follows world limit (Made count row levels p) k j k' j' finish
 follow_made {world} {limit} {count} {p} {k} {j} {k'} {j'} {finish} has el ek ej h =
@@ -111,11 +111,11 @@ follow_stop p f Limit v = record {
 follow_stop p f Device v = record { rest = and_then v.rest (on_value f); walk = walk_in (on_value f) v.walk; ends = reads_in (on_value f) v.rest v.ends }
 follow_stop {world} p f Memory v = record { rest = and_then v.rest (on_value f); walk = walk_in (on_value f) v.walk; ends = wants_in (on_value f) world v.rest v.ends }
 
--- where a loop stands
+-- the state of a loop
 pub follow_here : {world : World} {limit : ℕ} {A : Type 0} {p : Plan A} {k j : ℕ} → Follows world limit p k j k j (Partly p)
 follow_here {p} = record { rest = p; walk = arrived; ends = refl }
 
--- from where a loop stands
+-- from the state of a loop
 pub follow_on : {world : World} {limit : ℕ} {A : Type 0} {p q : Plan A} {k j k' j' k'' j'' : ℕ} {finish : Finish A} → Follows world limit p k j k' j' (Partly q) → Follows world limit q k' j' k'' j'' finish → Follows world limit p k j k'' j'' finish
 follow_on {world} {p} {k} {j} {k'} {j'} v w =
     let there = subst (λ r. Walk world r k' j' p k j) v.ends v.walk in
@@ -135,12 +135,12 @@ follow_and_broken p f v = record { rest = and_then v.rest f; walk = walk_in f v.
 pub follow_and_no_room : {world : World} {limit : ℕ} {A B : Type 0} (p : Plan A) (f : A → Plan B) {k j k' j' : ℕ} → Follows world limit p k j k' j' NoRoom → Follows world limit (and_then p f) k j k' j' NoRoom
 follow_and_no_room {world} p f v = record { rest = and_then v.rest f; walk = walk_in f v.walk; ends = wants_in f world v.rest v.ends }
 
--- so many steps, all of them had
+-- so many steps, all of them left
 pub follow_after : {world : World} {limit : ℕ} {A : Type 0} (n : ℕ) (a : A) {k j k' j' : ℕ} → k' ≡ k + n → j' ≡ j → Follows world limit (after n a) k j k' j' (Done a)
 follow_after zero a {k} {k'} e ej = follow_at refl (let same : k' ≡ k = omega (arith, e) in same) ej follow_done
 follow_after {limit} (suc n) a {k} {j} {k'} e ej = follow_tick {k1 = k + 1} {j1 = j} refl refl refl (follow_after n a (let same : k' ≡ k + 1 + n = omega (arith, e) in same) ej)
 
--- so many steps, one of them not had
+-- so many steps, one of them missing
 pub follow_after_some : {world : World} {limit : ℕ} {A : Type 0} (n : ℕ) (a : A) {k j k' j' : ℕ} → k ≤ limit → limit < k + n → k' ≡ limit → j' ≡ j → Follows world limit (after n a) k j k' j' NoSteps
 follow_after_some zero a le lt ek ej = absurd (omega (arith, le, lt))
 follow_after_some {limit} (suc n) a {k} {j} le lt ek ej =
@@ -158,7 +158,7 @@ pub follow_past : {world : World} {limit : ℕ} {A : Type 0} (m s : ℕ) (p : Pl
 unfolding from_inside
 follow_past m s p past = rw (lt-leb s m past) follow_done
 
--- a plan's result, made a value of
+-- a plan's result, turned to a value
 module _ {world : World} {limit : ℕ} {A : Type 0} (p : Plan (Result A FaultAt)) (f : A → Plan (Result Value FaultAt)) (a : A) (levels : Levels) (v : Value) (is : f a ≡ makes levels v) {k j k1 j1 : ℕ}
     (h : Follows world limit p k j k1 j1 (Done (Ok a))) where
   pub ends_no_room : LacksRoom world false (pushed levels (Some v)) → Follows world limit (then_ok p f) k j k1 j1 NoRoom
@@ -167,12 +167,12 @@ module _ {world : World} {limit : ℕ} {A : Type 0} (p : Plan (Result A FaultAt)
   pub ends_made : {limit1 k2 j2 : ℕ} → HasRoom world false (pushed levels (Some v)) → limit1 ≡ limit → k2 ≡ k1 → j2 ≡ j1 + 1 → Follows world limit (then_ok p f) k j k2 j2 (Done (Ok v))
   ends_made has el ek ej = follow_then_ok p f h (rw is (follow_made has el ek ej follow_done))
 
--- no step was left for the first of two plans
+-- the first of two plans without a step left
 pub first_no_tick : {world : World} {limit : ℕ} {A B : Type 0} (p : Plan (Result A FaultAt)) (f : A → Plan (Result B FaultAt)) {k j k1 j1 : ℕ} → k1 ≡ k → k1 ≡ limit → j1 ≡ j → Follows world limit (then_ok (Tick p) f) k j k1 j1 NoSteps
 unfolding then_ok
 first_no_tick p f ek el ej = follow_no_tick ek el ej
 
--- a level closed, after what was done in it
+-- a closed frame, after what was done in it
 module _ {world : World} {limit : ℕ} (p : Plan (Result Levels FaultAt)) (make : Levels → Value) (inside : Levels) {k j k1 j1 : ℕ} (h : Follows world limit p k j k1 j1 (Done (Ok inside))) where
   pub closes_no_room : LacksRoom world false (pushed (outer_of inside) (Some (make inside))) → Follows world limit (then_ok p (closes make)) k j k1 j1 NoRoom
   closes_no_room lacks = ends_no_room p (closes make) inside (outer_of inside) (make inside) refl h lacks

@@ -1,4 +1,4 @@
--- Which members of a level are numbers, and of which width, doesn't depend on the names of a table.
+-- Which members of a frame are numbers, and of which width, doesn't depend on the names of a table.
 use Rattle.std.proofs.Common.{◌≡◌, ℕ, List, [], ◌∷◌, ◌++◌, map, drop, Option, Some, None, refl, ap, ◌∙◌, sym}
 use Rattle.std.specs.Prelude.{slice_get}
 use Rattle.std.specs.Option.{option_map}
@@ -57,7 +57,7 @@ is_row_by ts (Some i ∷ ls) = first (slice_get ts i) ∙ sym (ap optional_width
     first None = refl
     first (Some v) = refl
 
--- the innermost level's first member is as wide a number under any names
+-- the innermost frame's first member is as wide a number under any names
 module _ (names names' : Names) where
   same_level : (k : Marks) (s : Slots) → row_width (gathered (level_of names k s)) ≡ row_width (gathered (level_of names' k s))
   unfolding stack

@@ -1,4 +1,4 @@
--- Worlds of calls one inside the other: what vectors have room for never gets less.
+-- Worlds of nested calls: the capacity of vectors never gets less.
 use Rattle.std.proofs.Common.{◌≡◌, ℕ, ◌≤◌, Bool, false, Option, List, option_map, refl, subst, ◌∙◌, arith}
 use Rattle.bit_space.specs.Bits.{bits_of}
 use Rattle.bit_space.specs.SpaceView.{SpaceView}
@@ -14,9 +14,9 @@ use Rattle.mapping_plans.specs.Plan.{Plan, Ended, Tick, Made, Read}
 use Rattle.pickle_map.specs.Follows.{World, LacksRoom, Walk, arrived, stepped, kept, read, Finish, Done, NoSteps, Broken, NoRoom, Partly, NeedsRoom, EndsAs, Follows}
 use Rattle.pickle_map.specs.Framed.{world_between, world_of}
 
--- ---- rooms
+-- ---- capacities
 
--- vectors with room for no less
+-- vectors with no less capacity
 abbrev pub Reaches : (before after : Marks) → Type 0
 Reaches before after = (vector : Vector) → of_vector vector before ≤ of_vector vector after
 
@@ -28,7 +28,7 @@ reaches before after k PendingOf = k.pending
 reaches before after k TextsOf = k.texts
 reaches before after k BytesOf = k.bytes
 
--- a store keeps its room
+-- a store's capacity stays
 pub same_room : (h : Held) → KeepsRoom h h
 same_room h = record { room = refl; nodes = omega arith; families = omega arith; links = omega arith; pending = omega arith; texts = omega arith; bytes = omega arith }
 
@@ -49,13 +49,13 @@ within_more packing row these capacity capacity' more h vector = let low = h vec
 passes_less : (packing row : Bool) (these : Levels) (capacity capacity' : Marks) → Reaches capacity' capacity → Passes packing row these capacity → Passes packing row these capacity'
 passes_less packing row these capacity capacity' less h = let up = less h.0 in let over = h.1 in (h.0, omega (arith, up, over))
 
--- what there is no room for isn't within
+-- what doesn't fit isn't within
 pub not_within : (packing row : Bool) (these : Levels) (capacity : Marks) → Passes packing row these capacity → AreWithin packing row these capacity → ⊥
 not_within packing row these capacity over h = let low = h over.0 in let up = over.1 in omega (arith, low, up)
 
 -- ---- worlds
 
--- a world that began with no more room, and ends with no less
+-- a world that began with no more capacity, and ends with no less
 module _ (known : Option (List ℕ)) (room : Room) (before before' filled filled' : Marks) (less : Reaches before' before) (more : Reaches filled filled') where
   abbrev inner : World
   inner = record { known = known; room = room; before = before; filled = filled }
@@ -85,7 +85,7 @@ module _ (known : Option (List ℕ)) (room : Room) (before before' filled filled
   follow_wider : {limit : ℕ} {A : Type 0} {p : Plan A} {k j k' j' : ℕ} {finish : Finish A} → Follows inner limit p k j k' j' finish → Follows around limit p k j k' j' finish
   follow_wider {limit} {k'} {finish} h = record { rest = h.rest; walk = walk_wider h.walk; ends = ends_wider finish h.rest limit k' h.ends }
 
--- a call inside another: between two states of the store that stand between the other's
+-- a call inside another: between two states of the store that are between the other's
 pub in_store : {known : Option (List ℕ)} {first before after last : Held} {limit : ℕ} {A : Type 0} {p : Plan A} {k j k' j' : ℕ} {finish : Finish A} → KeepsRoom first before → KeepsRoom before after → KeepsRoom after last →
     Follows (world_between known before after) limit p k j k' j' finish → Follows (world_between known first last) limit p k j k' j' finish
 in_store {known} {first} {before} {after} {last} {limit} {p} {k} {j} {k'} {j'} {finish} earlier call later h =
@@ -108,13 +108,13 @@ pub in_world : {A : Type 0} (space space' : SpaceView) {first before after : Hel
 in_world space space' {before} {after} {limit} {p} {k} {j} {k'} {j'} {finish} same earlier call h =
     in_call earlier call (subst (λ b. Follows (world_between (option_map bits_of b) before after) limit p k j k' j' finish) same h)
 
--- there is room for what a store holds in the end
+-- there is capacity for what a store holds in the end
 pub holds_these : (nodes : List Node) {first last : Held} {these : Levels} → KeepsRoom first last → HoldsLevels last → levels nodes last ≡ these → AreWithin (packs first.room) false these last.capacity
 holds_these nodes {first} {last} k h e =
     let now : AreWithin (packs first.room) false (levels nodes last) last.capacity = subst (λ (r : Room). AreWithin (packs r) false (levels nodes last) last.capacity) k.room (h nodes) in
     subst (λ l. AreWithin (packs first.room) false l last.capacity) e now
 
--- there was none for what a store cannot hold
+-- there was none for what a store can't hold
 pub lacks_these : {known : Option (List ℕ)} {first before : Held} {filled : Marks} {row : Bool} {these : Levels} → KeepsRoom first before → Overfills before row these →
     LacksRoom (record { known = known; room = first.room; before = first.capacity; filled = filled }) row these
 lacks_these {first} {before} {row} {these} k h =

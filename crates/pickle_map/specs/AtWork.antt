@@ -1,4 +1,4 @@
--- What the calls of a mapper did between two of its states: frames, levels and plans, by the meter and the store that it has.
+-- What the calls of a mapper did between two of its states: frames and plans, by its meter and its store.
 use Rattle.std.specs.Prelude.{◌≡◌, ℕ, List, Result}
 use Rattle.bit_space.specs.SpaceView.{SpaceView}
 use Rattle.bit_space.specs.declared.order.Order.{Order}
@@ -16,15 +16,15 @@ use Rattle.pickle_map.specs.Framed as framed
 use Rattle.value_store.specs.declared.store.slots.Shape.{Shape}
 
 module _ {W : Type 0} where
-  -- it goes on with the table, the meter and the store that were lent to it
+  -- the mapper still has the table, the meter and the store that it borrowed
   pub record StaysLent (old new : Mapper W) : Type 0 where
     pub nodes : new.nodes.now ≡ old.nodes.now
     pub meter : new.meter.ghost_name ≡ old.meter.ghost_name
     pub store : new.store.ghost_name ≡ old.store.ghost_name
 
-  -- ---- frames
+  -- ---- what stays
 
-  -- what a call leaves that reads, and one that doesn't
+  -- what stays in a call that reads, and in one that doesn't
   pub record Frame {A : Type 0} (space space' : SpaceView) (old new : Mapper W) (ahead : ℕ) (result : Result A Stop) : Type 0 where
     pub lent : StaysLent old new
     pub left : framed.Frame space space' old.meter.now new.meter.now old.store.now new.store.now ahead result
@@ -33,7 +33,7 @@ module _ {W : Type 0} where
     pub lent : StaysLent old new
     pub left : framed.WorkFrame old.meter.now new.meter.now old.store.now new.store.now ahead result
 
-  -- ---- levels
+  -- ---- the frames of the store
 
   abbrev pub AddsToLevel : {A : Type 0} → (old new : Mapper W) → Result A Stop → Type 0
   AddsToLevel old new result = framed.AddsToLevel old.nodes.now old.store.now new.store.now result
@@ -63,7 +63,7 @@ module _ {W : Type 0} where
   PacksRow space old new shape element extent order start result =
       calls.PacksRow old.nodes.now space old.meter.now new.meter.now old.store.now new.store.now shape element extent order start result
 
-  -- ---- plans of calls that keep a number which was read
+  -- ---- plans of calls that store a number that was read
 
   abbrev pub Places : (old new : Mapper W) → PokeType → (digits start : ℕ) → Result (Unit {0}) Stop → Type 0
   Places old new ty digits start result = calls.Places old.nodes.now old.meter.now new.meter.now old.store.now new.store.now ty digits start result

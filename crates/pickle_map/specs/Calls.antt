@@ -1,4 +1,4 @@
--- The calls of a mapping: what each is to do, as a plan by name, and what it did by it.
+-- The calls of a mapping: the plan of each call by name, and what the call did by it.
 use Rattle.std.specs.Prelude.{◌≡◌, ℕ, ◌+◌, ◌*◌, ◌/◌, List, [], Option, Some, None, Box, Bool, Result, Ok, Err, map, slice_get, unwrap_or}
 use Rattle.std.specs.declared.alloc.Global.{Global}
 use Rattle.bit_space.specs.declared.meter.Meter.{Meter}
@@ -28,9 +28,9 @@ use Rattle.value_store.specs.Slots.{Held, levels}
 use Rattle.value_store.specs.Names.{title_at, part_name}
 use Rattle.pickle_map.specs.Stops.{stop_finish}
 
--- ---- what a call is to do
+-- ---- the plans of calls
 
--- a plan, by the table, the number of the file's bits and the levels that are kept
+-- a plan, by the table, the number of the file's bits and the stored frames
 abbrev pub Planned : Type 0 → Type 0
 Planned A = List Node → (m : ℕ) → Levels → Plan (Result A FaultAt)
 
@@ -50,14 +50,14 @@ as_number at number order start = λ nodes m levels. read_plan m (type_of nodes 
 abbrev pub as_integer : IntegerType → Order → (start : ℕ) → Planned Value
 as_integer number order start = λ nodes m levels. read_plan m (IntegerOf number) number order levels start
 
--- a string, and its bytes in a level of their own
+-- a string, and its bytes in their own frame
 abbrev pub as_text : (start : ℕ) → Planned Value
 as_text start = λ nodes m levels. Tick (text_plan m (m / 8 + 1) [] levels start start)
 
 abbrev pub as_text_level : (start : ℕ) → Planned Value
 as_text_level start = λ nodes m levels. text_plan m (m / 8 + 1) [] (outer_of levels) start start
 
--- an array, its elements, and its level with them
+-- an array, its elements, and its frame with them
 abbrev pub as_array : (element : ℕ) → Bound → Order → (start : ℕ) → Planned Value
 as_array element bound order start = λ nodes m levels. plan m (ArrayOf (type_of nodes element) (bound_of bound)) order levels start
 
@@ -68,7 +68,7 @@ as_elements element extent order start = λ nodes m levels.
 abbrev pub as_array_level : (element : ℕ) → Extent → Order → (start : ℕ) → Planned Value
 as_array_level element extent order start = λ nodes m levels. then_ok (as_elements element extent order start nodes m levels) (array_closes start)
 
--- a struct, its fields, and its level with them
+-- a struct, its fields, and its frame with them
 abbrev pub as_struct : (at : ℕ) → (pinned : Bool) → List Field → Order → (start : ℕ) → Planned Value
 as_struct at pinned fields order start = λ nodes m levels.
     plan m (StructOf (title_at nodes at) pinned (open_fields (type_of nodes) fields)) order levels start
@@ -80,7 +80,7 @@ abbrev pub as_struct_level : (at : ℕ) → (pinned : Bool) → List Field → O
 as_struct_level at pinned fields order start = λ nodes m levels.
     then_ok (as_fields pinned fields order start nodes m levels) (struct_closes (title_at nodes at) (field_names (open_fields (type_of nodes) fields)) start)
 
--- a union, its alternatives, and its level with them
+-- a union, its alternatives, and its frame with them
 abbrev pub as_union : (at : ℕ) → List Part → Order → (start : ℕ) → Planned Value
 as_union at alternatives order start = λ nodes m levels.
     plan m (UnionOf (title_at nodes at) (open_parts (type_of nodes) alternatives)) order levels start
@@ -92,22 +92,22 @@ abbrev pub as_union_level : (at : ℕ) → List Part → Order → (start : ℕ)
 as_union_level at alternatives order start = λ nodes m levels.
     then_ok (as_alternatives alternatives order start nodes m levels) (union_closes (title_at nodes at) (outer_of levels) start)
 
--- ---- what a call did that read the space
+-- ---- what a call that reads the space did
 
 module _ (nodes : List Node) (space : SpaceView) (meter meter' : Meter) (store store' : Held) where
-  -- it kept one more value in these levels, or stopped
+  -- it stored one more value in these frames, or stopped
   abbrev pub MapsIn : Levels → Plan (Result Value FaultAt) → Result ℕ Stop → Type 0
   MapsIn before p result = KeepsOrStops (world_of space store store') meter.limit p meter.steps meter.made meter'.steps meter'.made before (levels nodes store') (λ end. end) result
 
-  -- it kept one more value in the innermost level
+  -- it stored one more value in the innermost frame
   abbrev pub Maps : Planned Value → Result ℕ Stop → Type 0
   Maps planned result = MapsIn (levels nodes store) (planned nodes (8 * space.len) (levels nodes store)) result
 
-  -- it closed the innermost level as a value
+  -- it closed the innermost frame as a value
   abbrev pub Closes : Planned Value → Result ℕ Stop → Type 0
   Closes planned result = MapsIn (outer_of (levels nodes store)) (planned nodes (8 * space.len) (levels nodes store)) result
 
-  -- it kept parts of the innermost level, which end at a bit
+  -- it stored parts of the innermost frame, which end at a bit
   abbrev pub FillsBy : Plan (Result Opened FaultAt) → Result ℕ Stop → Type 0
   FillsBy p (Ok end) = Runs space meter meter' store store' p (Done (Ok (levels nodes store', end)))
   FillsBy p (Err stop) = Runs space meter meter' store store' p (stop_finish stop)
@@ -115,7 +115,7 @@ module _ (nodes : List Node) (space : SpaceView) (meter meter' : Meter) (store s
   abbrev pub Fills : Planned Opened → Result ℕ Stop → Type 0
   Fills planned result = FillsBy (planned nodes (8 * space.len) (levels nodes store)) result
 
-  -- it kept the alternative of that number, which ends at `end`, of those with these names
+  -- it stored the alternative of that number, which ends at `end`, of those with these names
   pub record TakesOne (names : List Naming) (p : Plan (Result Taken FaultAt)) (index end : ℕ) : Type 0 where
     pub value : Value
     pub keeps : levels nodes store' ≡ pushed (levels nodes store) (Some value)
@@ -126,12 +126,12 @@ module _ (nodes : List Node) (space : SpaceView) (meter meter' : Meter) (store s
   TakesBy names p (Ok r) = TakesOne names p r.0 r.1
   TakesBy names p (Err stop) = Runs space meter meter' store store' p (stop_finish stop)
 
-  -- it kept one of these alternatives
+  -- it stored one of these alternatives
   abbrev pub Takes : List Part → Order → (start : ℕ) → Result (ℕ × ℕ) Stop → Type 0
   Takes alternatives order start result =
       TakesBy (map part_name alternatives) (as_alternatives alternatives order start nodes (8 * space.len) (levels nodes store)) result
 
-  -- it packed the elements of an array in the innermost level, which end at a bit
+  -- it packed the elements of an array in the innermost frame, which end at a bit
   abbrev pub PacksBy : Shape → (start : ℕ) → Plan (Result Opened FaultAt) → Result ℕ Stop → Type 0
   PacksBy shape start p (Ok end) = Packs nodes space meter meter' store store' shape start (outer_of (levels nodes store)) p end
   PacksBy shape start p (Err stop) = Runs space meter meter' store store' p (stop_finish stop)
@@ -147,17 +147,17 @@ abbrev pub integral_at : List Node → (at : ℕ) → IntegerType → List Part 
 integral_at nodes at number fields = IntegralOf (title_at nodes at) number (open_parts (type_of nodes) fields)
 
 module _ (nodes : List Node) (meter meter' : Meter) (store store' : Held) where
-  -- it kept one more value in these levels, which ends at `end`, or stopped
+  -- it stored one more value in these frames, which ends at `end`, or stopped
   abbrev pub PlacesIn : Levels → Plan (Result Value FaultAt) → (end : ℕ) → Result (Unit {0}) Stop → Type 0
   PlacesIn before p end result =
       (known : Option (List ℕ)) → KeepsOrStops (world_between known store store') meter.limit p meter.steps meter.made meter'.steps meter'.made before (levels nodes store') (λ u. end) result
 
-  -- it kept the number as a value of a type, after its own first step
+  -- it stored the number as a value of a type, after its own first step
   abbrev pub Places : PokeType → (digits start : ℕ) → Result (Unit {0}) Stop → Type 0
   Places ty digits start result =
       PlacesIn (levels nodes store) (number_plan ty digits (levels nodes store) start) (start + width_in (number_type ty)) result
 
-  -- it kept the fields of an integral struct in the innermost level, and closed that
+  -- it stored the fields of an integral struct in the innermost frame, and closed that frame
   abbrev pub PlacesLevel : (at : ℕ) → IntegerType → List Part → (digits start : ℕ) → Result (Unit {0}) Stop → Type 0
   PlacesLevel at number fields digits start result =
       PlacesIn (outer_of (levels nodes store))
@@ -165,14 +165,14 @@ module _ (nodes : List Node) (meter meter' : Meter) (store store' : Held) where
       (closes (struct_value (title_at nodes at) (part_names (open_parts (type_of nodes) fields)) start (start + number.width))))
       (start + number.width) result
 
-  -- it kept a field of an integral struct, whose constraint holds
+  -- it stored a field of an integral struct, whose constraint holds
   abbrev pub PlacesPart : Part → (digits start : ℕ) → Result (Unit {0}) Stop → Type 0
   PlacesPart part digits start result =
       PlacesIn (levels nodes store)
       (then_ok (Tick (number_plan (type_of nodes part.node) digits (levels nodes store) start)) (constrained (optional_term part.constraint) (levels nodes store) start))
       (start + width_in (number_type (type_of nodes part.node))) result
 
-  -- it kept the fields that a number of that width is cut into
+  -- it stored the fields that a number of that width is cut into
   abbrev pub PlacesBy : Plan (Result Levels FaultAt) → Result (Unit {0}) Stop → Type 0
   PlacesBy p (Ok u) = Works meter meter' store store' p (Done (Ok (levels nodes store')))
   PlacesBy p (Err stop) = Works meter meter' store store' p (stop_finish stop)

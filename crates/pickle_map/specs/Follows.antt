@@ -1,4 +1,4 @@
--- What it is for a call to follow a plan.
+-- What it means that a call follows a plan.
 use Rattle.std.specs.Prelude.{◌≡◌, ℕ, ◌+◌, Bool, List, Option}
 use Rattle.bit_space.specs.declared.order.Order.{Order}
 use Rattle.bit_space.specs.Reading.{MayRead}
@@ -10,30 +10,33 @@ use Rattle.value_store.specs.Slots.{packs}
 use Rattle.value_store.specs.Takes.{AreWithin, Passes}
 use Rattle.mapping_plans.specs.Plan.{Plan, Ended, Tick, Made, Read}
 
--- the bits of the file, where they are known, the store's room, and how much its vectors have room for before a call and after it
+-- the bits of the file, where they are known, the slots that the store was made with, and its capacity before a call
+-- and after it
 pub record World : Type 0 where
   pub known : Option (List ℕ)
   pub room : Room
   pub before : Marks
   pub filled : Marks
 
--- the store has room for such levels in the end
+-- in the end the store has capacity for such frames
 abbrev pub HasRoom : World → (row : Bool) → Levels → Type 0
 HasRoom world row levels = AreWithin (packs world.room) row levels world.filled
 
--- there was no room for such levels: neither in what the store was made with, nor in what its vectors had room for
+-- such frames didn't fit: neither in the slots that the store was made with, nor in the capacity of its vectors
 pub record LacksRoom (world : World) (row : Bool) (levels : Levels) : Type 0 where
   pub least : Exceeds world.room levels
   pub before : Passes (packs world.room) row levels world.before
 
--- the way from a plan, after k steps with j values made, to its rest, after k' steps with j' values made; there was room for all that was kept
+-- a walk along a plan, after k steps with j values made, to its rest, after k' steps with j' values made; all that was
+-- stored fitted
 pub data Walk (world : World) {A : Type 0} (rest : Plan A) (k' j' : ℕ) : Plan A → ℕ → ℕ → Type 0 where
   arrived : Walk world rest k' j' rest k' j'
   stepped : {p : Plan A} {k j : ℕ} → Walk world rest k' j' p (k + 1) j → Walk world rest k' j' (Tick p) k j
   kept : {count : ℕ} {row : Bool} {levels : Levels} {p : Plan A} {k j : ℕ} → HasRoom world row levels → Walk world rest k' j' p k (j + count) → Walk world rest k' j' (Made count row levels p) k j
   read : {place width : ℕ} {order : Order} {ps : ℕ → Plan A} {k j : ℕ} (n : ℕ) → MayRead world.known order place width n → Walk world rest k' j' (ps n) k j → Walk world rest k' j' (Read place width order ps) k j
 
--- how a call ends: with the plan's result, for want of steps, by a device, or for want of memory; and where a loop stands
+-- how a call ends: with the plan's result, without a step left, by a device, or by an allocation failure; and the state
+-- of a loop
 pub data Finish (A : Type 0) : Type 0 where
   Done : (result : A) → Finish A
   NoSteps : Finish A
@@ -55,7 +58,7 @@ NeedsRead (Tick p) = ⊥
 NeedsRead (Made count row levels p) = ⊥
 NeedsRead (Read place width order rest) = Unit {0}
 
--- more is to be kept than there is room for
+-- the next thing to store doesn't fit
 abbrev pub NeedsRoom : {A : Type 0} → World → Plan A → Type 0
 NeedsRoom world (Ended a) = ⊥
 NeedsRoom world (Tick p) = ⊥

@@ -1,4 +1,4 @@
--- What each call of a mapping leaves as it was, what may only rise, and what it is to have followed a plan.
+-- What each call of a mapping leaves as it was, what may only rise, and what it means to have followed a plan.
 use Rattle.std.specs.Prelude.{◌≡◌, ◌≢◌, ℕ, ◌+◌, ◌*◌, ◌<◌, ◌≤◌, List, Option, Some, Result, Ok, Err, IfErr, OnErr}
 use Rattle.bit_space.specs.declared.meter.Meter.{Meter}
 use Rattle.bit_space.specs.declared.number.BitFault.{BitFault}
@@ -16,8 +16,9 @@ use Rattle.pickle_map.specs.Follows.{World, Finish, Done, Follows}
 use Rattle.pickle_map.specs.Stops.{stop_finish}
 use Rattle.value_store.specs.Slots.{Held, KeepsRoom, levels, level_count}
 
--- What every call leaves, whatever it gives: the meter's limit, the room that the store has, the bytes of the space, and a count of failures that never falls.
--- It makes no more values than it takes steps, with those taken ahead of it for which no value is made yet. Where a device stopped it, the space has failed.
+-- What every call leaves, whatever its result: the meter's limit, the store's capacity, which may only rise, and the
+-- bytes of the space. A count of failures never falls. A call makes no more values than it takes steps, counting the
+-- steps taken before it for which no value is made yet. Where a device stopped it, the space has failed.
 pub record Frame {A : Type 0} (space space' : SpaceView) (meter meter' : Meter) (store store' : Held) (ahead : ℕ) (result : Result A Stop) : Type 0 where
   pub limit : meter'.limit ≡ meter.limit
   pub len : space'.len ≡ space.len
@@ -27,14 +28,14 @@ pub record Frame {A : Type 0} (space space' : SpaceView) (meter meter' : Meter) 
   pub made : meter'.made + meter.steps ≤ meter.made + meter'.steps + ahead
   pub device : IfErr result (λ stop. stop ≡ Device → HasRisen space.failures space'.failures)
 
--- the same of a call that reads nothing, which no device stops
+-- the same for a call that reads nothing, which no device stops
 pub record WorkFrame {A : Type 0} (meter meter' : Meter) (store store' : Held) (ahead : ℕ) (result : Result A Stop) : Type 0 where
   pub limit : meter'.limit ≡ meter.limit
   pub room : KeepsRoom store store'
   pub made : meter'.made + meter.steps ≤ meter.made + meter'.steps + ahead
   pub device : IfErr result (λ stop. stop ≢ Device)
 
--- what a call under way would give that nothing has stopped so far
+-- the result so far of a call that nothing has stopped
 abbrev pub under_way : Result (Unit {0}) Stop
 under_way = Ok tt
 
@@ -42,22 +43,22 @@ under_way = Ok tt
 abbrev pub IsEnd : (start : ℕ) → SpaceView → (end : ℕ) → Type 0
 IsEnd start space end = (start ≤ end) × (end ≤ 8 * space.len)
 
--- a call adds to the innermost level, or stops, and then leaves the levels as they were
+-- a call adds to the innermost frame, or stops and leaves the frames as they were
 pub record AddsToLevel {A : Type 0} (nodes : List Node) (store store' : Held) (result : Result A Stop) : Type 0 where
   pub same : OnErr result (levels nodes store' ≡ levels nodes store)
   pub depth : level_count store' ≡ level_count store
 
--- a call leaves the levels as many, and those around the innermost one as they were
+-- a call leaves the number of frames, and those around the innermost one, as they were
 pub record LevelStays (nodes : List Node) (store store' : Held) : Type 0 where
   pub outer : outer_of (levels nodes store') ≡ outer_of (levels nodes store)
   pub depth : level_count store' ≡ level_count store
 
--- a call closes the innermost level, or stops in it
+-- a call closes the innermost frame, or stops in it
 abbrev pub LeavesLevel : {A : Type 0} → List Node → (store store' : Held) → Result A Stop → Type 0
 LeavesLevel nodes store store' (Ok x) = level_count store' + 1 ≡ level_count store
 LeavesLevel nodes store store' (Err stop) = LevelStays nodes store store'
 
--- a level in which a call stopped was given up with all that it held, and else the store is as it was
+-- a frame in which a call stopped was rolled back; otherwise the store is as it was
 abbrev pub DropsStopped : {A : Type 0} → (store store' : Held) → Result A Stop → Type 0
 DropsStopped store store' (Ok x) = store' ≡ store
 DropsStopped store store' (Err stop) = ((nodes : List Node) → levels nodes store' ≡ outer_of (levels nodes store)) × (level_count store' + 1 ≡ level_count store)
@@ -66,18 +67,18 @@ DropsStopped store store' (Err stop) = ((nodes : List Node) → levels nodes sto
 abbrev pub world_between : Option (List ℕ) → (store store' : Held) → World
 world_between known store store' = record { known = known; room = store.room; before = store.capacity; filled = store'.capacity }
 
--- the same over a space
+-- the world of a call over a space
 abbrev pub world_of : SpaceView → (store store' : Held) → World
 world_of space store store' = world_between (known_bits space) store store'
 
--- a call that kept one more value in these levels, which ends at `end`, and followed the plan to it
+-- a call that stored one more value in these frames, which ends at `end`, and followed the plan to it
 pub record KeepsOne (world : World) (limit : ℕ) (p : Plan (Result Value FaultAt)) (k j k' j' : ℕ) (levels levels' : Levels) (end : ℕ) : Type 0 where
   pub value : Value
   pub kept : levels' ≡ pushed levels (Some value)
   pub ends : end_of value ≡ end
   pub follows : Follows world limit p k j k' j' (Done (Ok value))
 
--- a call that kept one more value so, which ends where `ends` tells of its result, or stopped
+-- a call that stored one more value in that way, ending where `ends` says for its result, or stopped
 abbrev pub KeepsOrStops : {A : Type 0} → World → (limit : ℕ) → Plan (Result Value FaultAt) → (k j k' j' : ℕ) → (levels levels' : Levels) → (ends : A → ℕ) → Result A Stop → Type 0
 KeepsOrStops world limit p k j k' j' levels levels' ends (Ok x) = KeepsOne world limit p k j k' j' levels levels' (ends x)
 KeepsOrStops world limit p k j k' j' levels levels' ends (Err stop) = Follows world limit p k j k' j' (stop_finish stop)
@@ -90,7 +91,7 @@ Runs space meter meter' store store' p finish = Follows (world_of space store st
 abbrev pub Works : {A : Type 0} → (meter meter' : Meter) → (store store' : Held) → Plan A → Finish A → Type 0
 Works meter meter' store store' p finish = (known : Option (List ℕ)) → Follows (world_between known store store') meter.limit p meter.steps meter.made meter'.steps meter'.made finish
 
--- why a refused read stops, with its fault at `place`
+-- the stop of a refused read, with its fault at `place`
 abbrev pub refusal_at : BitFault → (place : ℕ) → Stop
 refusal_at refused.End place = Fault End place
 refusal_at refused.Device place = Device

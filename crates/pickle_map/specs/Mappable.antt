@@ -1,4 +1,4 @@
--- The fields of a table's types, as a mapping may follow them.
+-- The fields of a table's types, as a mapping may use them.
 use Rattle.std.specs.Prelude.{ℕ, ◌+◌, ◌<◌, ◌≤◌, length, List}
 use Rattle.pickle_types.specs.declared.node.Field.{Field}
 use Rattle.pickle_types.specs.declared.node.Part.{Part}
@@ -6,7 +6,7 @@ use Rattle.pickle_types.specs.declared.node.Node.{Node}
 use Rattle.pickle_types.specs.Types.{depth}
 use Rattle.pickle_types.specs.Table.{type_of, IsSoundField, IsSoundPart}
 
--- a field of a type in a table, where so many levels are open
+-- a field of a type in a table, where so many frames are open
 pub record IsFieldOf (nodes : List Node) (levels : ℕ) (f : Field) : Type 0 where
   pub inside : f.node < length nodes
   pub deep : levels + depth (type_of nodes f.node) ≤ 65

@@ -1,4 +1,4 @@
--- What a mapping gives and answers.
+-- What a mapping returns, and what the definitions say about it.
 use Rattle.std.specs.Prelude.{◌≡◌, ℕ, ◌+◌, ◌-◌, ◌*◌, ◌<◌, ◌≤◌, List, Some, Result, Ok, Err, IfErr, OnOk, OnErr}
 use Rattle.bit_space.specs.declared.meter.Meter.{Meter}
 use Rattle.bit_space.specs.declared.order.Order.{Order}
@@ -31,39 +31,39 @@ use Rattle.value_store.specs.Slots.{Held, packs, emptied, HoldsInRoom, KeepsRoom
 use Rattle.value_store.specs.Takes.{AreWithin}
 use Rattle.pickle_meaning.specs.Values.{Value, no_values, pushed}
 
--- a store that holds one value, with the names of a table, and a fact of that value
+-- a store that holds one value, with the names of a table, and a fact about that value
 pub record Gives (nodes : List Node) (store : Held) (P : Value → Type 0) : Type 0 where
   pub value : Value
   pub keeps : levels nodes store ≡ pushed no_values (Some value)
   pub holds : P value
 
--- a stop, as the fault of a mapping that began at s: what ends a run is told there
+-- a stop, as the fault of a mapping that began at s; a fault that ends a run has s as its place
 abbrev pub told : Stop → (s : ℕ) → MapFault
 told (Fault kind place) s = record { kind = kind; at = place }
 told Limit s = record { kind = faults.Limit; at = s }
 told Device s = record { kind = faults.Device; at = s }
 told Memory s = record { kind = faults.Memory; at = s }
 
--- What a fault says on these bits: it is the answer under the limit of steps, and the steps and the values made are the
--- answer's; or, where a device or want of memory broke the mapping off, these are at most the answer's.
+-- What a fault says on these bits: it is the answer under the limit of steps, with the answer's steps and values made.
+-- Where a device or an allocation failure broke the mapping off, the steps and values made are at most the answer's.
 abbrev pub FaultMeans : List ℕ → PokeType → Order → (s limit : ℕ) → MapFaultKind → (at steps made : ℕ) → Type 0
 FaultMeans bits ty order s limit faults.Device at k j = BrokenOff bits ty order s limit k j
 FaultMeans bits ty order s limit faults.Memory at k j = BrokenOff bits ty order s limit k j
 FaultMeans bits ty order s limit kind at k j = Answer bits ty order s limit (Err (kind, at)) k j
 
--- Where a device or want of memory broke a mapping off, its calls counted the steps and the values of its plan up to the read that
--- failed, or up to what was to be kept and had no room.
+-- Where a device or an allocation failure broke a mapping off, its calls counted the steps and the values of its plan
+-- up to the read that failed, or up to what didn't fit.
 abbrev pub CountsToThere : MapFaultKind → SpaceView → (meter meter' : Meter) → (store store' : Held) → Plan (Result Value FaultAt) → Type 0
 CountsToThere faults.Device space meter meter' store store' p = Runs space meter meter' store store' p Broken
 CountsToThere faults.Memory space meter meter' store store' p = Runs space meter meter' store store' p NoRoom
 CountsToThere kind space meter meter' store store' p = Unit {0}
 
--- on these bytes, within the steps that are left: all that the mapping of a type keeps has room in vectors of such a capacity
+-- on these bytes, within the steps that are left: vectors of this capacity hold all that the mapping of a type stores
 abbrev pub HasRoomFor : Room → (capacity : Marks) → PokeType → Order → (start : ℕ) → SpaceView → Meter → (bytes : List ℕ) → Type 0
 HasRoomFor room capacity type order start space meter bytes =
     KeepsBy (λ row levels. AreWithin (packs room) row levels capacity) (bits_of bytes) (plan (8 * space.len) type order no_values start) (meter.limit - meter.steps)
 
--- a fact of a mapping that neither a device nor want of memory broke off
+-- a fact about a mapping that neither a device nor an allocation failure broke off
 abbrev pub UnlessBreaks : MapFaultKind → Type 0 → Type 0
 UnlessBreaks faults.Device P = Unit {0}
 UnlessBreaks faults.Memory P = Unit {0}
@@ -73,17 +73,19 @@ abbrev pub UnlessBroken : Result (Unit {0}) MapFault → Type 0 → Type 0
 UnlessBroken (Ok u) P = P
 UnlessBroken (Err f) P = UnlessBreaks f.kind P
 
--- Where the bytes are known, and the mapping wasn't broken off: in the end the store has room for all that it keeps.
+-- Where the bytes are known, and the mapping wasn't broken off: in the end the store has capacity for all that it
+-- stores.
 abbrev pub KeptInRoom : PokeType → Order → (start : ℕ) → SpaceView → Meter → (store store' : Held) → Result (Unit {0}) MapFault → Type 0
 KeptInRoom type order start space meter store store' result =
     (bytes : List ℕ) → space.bytes ≡ Some bytes → UnlessBroken result (HasRoomFor store.room store'.capacity type order start space meter bytes)
 
--- Where they are known, and memory was wanted: before, the store had no room for all that the mapping keeps.
+-- Where they are known, and `Memory` was returned: before, the store lacked the capacity for all that the mapping
+-- stores.
 abbrev pub WantedMore : PokeType → Order → (start : ℕ) → SpaceView → Meter → (store : Held) → Result (Unit {0}) MapFault → Type 0
 WantedMore type order start space meter store result =
     (bytes : List ℕ) → space.bytes ≡ Some bytes → IfErr result (λ f. f.kind ≡ faults.Memory → HasRoomFor store.room store.capacity type order start space meter bytes → ⊥)
 
--- faults that a run ends with, which no type means
+-- faults that end a run, which no type means
 abbrev pub EndsRun : MapFaultKind → Type 0
 EndsRun faults.Limit = Unit {0}
 EndsRun faults.Device = Unit {0}
@@ -103,29 +105,29 @@ module _ (type : PokeType) (order : Order) (start : ℕ) (space : SpaceView) (me
       (bytes : List ℕ) → space.bytes ≡ Some bytes →
       IfErr result (λ f. FaultMeans (bits_of bytes) type order start (meter.limit - meter.steps) f.kind f.at (meter'.steps - meter.steps) (meter'.made - meter.made))
 
-  -- a mapping that was broken off counted its steps and values up to the read that failed, or to what had no room
+  -- a mapping that was broken off counted its steps and values up to the read that failed, or to what didn't fit
   abbrev pub CountsThere : (store store' : Held) → Result (Unit {0}) MapFault → Type 0
   CountsThere store store' result = IfErr result (λ f. CountsToThere f.kind space meter meter' store store' (plan (8 * space.len) type order no_values start))
 
 module _ (nodes : List Node) (store' : Held) where
-  -- a value fits its type by the parts that are kept
+  -- a value fits its type by the stored parts
   abbrev pub FitsType : PokeType → (start : ℕ) → SpaceView → Result (Unit {0}) MapFault → Type 0
   FitsType type start space result = OnOk result (Gives nodes store' (λ v. Fits (8 * space.len) type no_values start v))
 
-  -- each of them was counted
+  -- each part was counted
   abbrev pub CountsParts : (meter meter' : Meter) → Result (Unit {0}) MapFault → Type 0
   CountsParts meter meter' result = OnOk result (Gives nodes store' (λ v. meter.made + (value_slots NodeSlot v + value_slots ByteSlot v) ≤ meter'.made))
 
-  -- what a store that never grows holds at most
+  -- the most that a store holds which never grows
   abbrev pub HoldsAtMost : (store : Held) → Result (Unit {0}) MapFault → Type 0
   HoldsAtMost store result = OnOk result (store.room.growth ≡ Never → (kind : Slot) → slots kind (levels nodes store') ≤ store.room.least)
 
--- Limit, only where all steps were taken, which are fewer than the type's bound
+-- Limit is returned only where all steps were taken, which are fewer than the type's bound
 abbrev pub ReachesLimit : PokeType → SpaceView → (meter meter' : Meter) → Result (Unit {0}) MapFault → Type 0
 ReachesLimit type space meter meter' result =
     IfErr result (λ f. f.kind ≡ faults.Limit → (meter'.steps ≡ meter.limit) × (meter.limit < meter.steps + cost type (8 * space.len)))
 
--- want of memory, only where the store was made with less room than the type's bound
+-- `Memory` is returned only where the store was made with fewer slots than the type's bound
 abbrev pub LacksBound : PokeType → SpaceView → (store : Held) → Result (Unit {0}) MapFault → Type 0
 LacksBound type space store result = IfErr result (λ f. f.kind ≡ faults.Memory → store.room.least < room_of type (8 * space.len))
 
@@ -135,7 +137,7 @@ pub record IsMapped (nodes : List Node) (type : PokeType) (order : Order) (start
   pub value : MeansValue type order start space meter meter' nodes store' result
   -- Where they are known: the fault that the type means there, or Limit where that takes more steps than are left.
   pub fault : MeansFault type order start space meter meter' result
-  -- Whatever the space gives: a value fits its type by the parts that are kept, and each of them was counted.
+  -- Whatever the space gives: a value fits its type by the stored parts, and each part was counted.
   pub fits : FitsType nodes store' type start space result
   pub size : CountsParts nodes store' meter meter' result
   pub rise : meter.steps ≤ meter'.steps
@@ -144,25 +146,26 @@ pub record IsMapped (nodes : List Node) (type : PokeType) (order : Order) (start
   pub limit : ReachesLimit type space meter meter' result
   pub memory : LacksBound type space store result
   pub device : IfErr result (λ f. f.kind ≡ faults.Device → HasRisen space.failures space'.failures)
-  -- A mapping that was broken off counted its steps and values up to the read that failed, or to what had no room.
+  -- A mapping that was broken off counted its steps and values up to the read that failed, or to what didn't fit.
   pub counts : CountsThere type order start space meter meter' store store' result
-  -- There is room in the end for all that was to be kept; memory was wanted only where there was none before.
+  -- In the end there is capacity for all that was to be stored. `Memory` is returned only where there was too little
+  -- before.
   pub kept : KeptInRoom type order start space meter store store' result
   pub asked : WantedMore type order start space meter store result
-  -- What ends a run is told at the mapping's start.
+  -- A fault that ends a run has the mapping's start as its place.
   pub place : IfErr result (λ f. EndsRun f.kind → f.at ≡ start)
   pub emptied : OnErr result (store' ≡ emptied store')
-  -- Of each kind the store holds no more than it has room for, which never gets less.
+  -- Each vector of the store has at most as many entries as its capacity, which never gets less.
   pub holds : HoldsInRoom store'
   pub room : KeepsRoom store store'
-  -- What a store that never grows holds at most.
+  -- The most that a store holds which never grows.
   pub held : HoldsAtMost nodes store' store result
   pub most : meter'.limit ≡ meter.limit
   pub len : space'.len ≡ space.len
   pub bytes : space'.bytes ≡ space.bytes
   pub failures : space.failures ≤ space'.failures
 
--- the same of a type of a table
+-- the same for a type of a table
 abbrev pub MapsNamed : Table → TypeId → Order → (start : ℕ) → (space space' : SpaceView) → (meter meter' : Meter) → (store store' : Held) → Result (Unit {0}) MapFault → Type 0
 MapsNamed table id order start space space' meter meter' store store' result =
     IsMapped (nodes_of table) (type_named table id) order start space space' meter meter' store store' result

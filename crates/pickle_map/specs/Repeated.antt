@@ -1,4 +1,4 @@
--- The law that the same mapping again asks for no memory.
+-- The law that repeating a mapping needs no more memory.
 use Rattle.std.specs.Prelude.{◌≡◌, ℕ, ◌-◌, ◌≤◌, List, Some, Result, IfErr}
 use Rattle.bit_space.specs.declared.meter.Meter.{Meter}
 use Rattle.bit_space.specs.declared.order.Order.{Order}
@@ -28,8 +28,8 @@ pub record IsUnbroken (result : Result (Unit {0}) MapFault) : Type 0 where
   pub device : IfErr result (λ f. f.kind ≡ faults.Device → ⊥)
   pub memory : IfErr result (λ f. f.kind ≡ faults.Memory → ⊥)
 
--- A second one over the same bytes, with no more steps left, into a store that packs as the first one's does and whose vectors have at
--- least the room that those of the first one's had in the end.
+-- A second mapping over the same bytes, with no more steps left than the first one had, into a store that packs as the
+-- first one's does and has at least the capacity that the first one's had in the end.
 pub record IsAgain {type : PokeType} {order : Order} {start : ℕ} (first second : OneMapping type order start) : Type 0 where
   pub bytes : List ℕ
   pub known : first.space.bytes ≡ Some bytes
@@ -39,6 +39,6 @@ pub record IsAgain {type : PokeType} {order : Order} {start : ℕ} (first second
   pub packing : packs second.store.room ≡ packs first.store.room
   pub room : (vector : Vector) → of_vector vector first.store'.capacity ≤ of_vector vector second.store.capacity
 
--- after a mapping that was not broken off, the same again wants no memory
+-- after a mapping that was not broken off, the same mapping again returns no `Memory`
 abbrev pub WantsNoMore : Type 0
 WantsNoMore = (type : PokeType) (order : Order) (start : ℕ) (first second : OneMapping type order start) → IsUnbroken first.result → IsAgain first second → IfErr second.result (λ f. f.kind ≡ faults.Memory → ⊥)

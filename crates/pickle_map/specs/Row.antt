@@ -17,7 +17,7 @@ use Rattle.value_store.specs.Slots.{Held, levels, IsPacked, IsPacking, elements,
 use Rattle.value_store.specs.Takes.{row_width}
 use Rattle.pickle_meaning.specs.Values.{Levels, top_of, gathered}
 
--- what an array of elements of a type is packed as
+-- the packed shape of an array whose elements have a type
 abbrev pub IsArrayOf : Shape → PokeType → Type 0
 IsArrayOf (Integer w g) ty = ⊥
 IsArrayOf (Offset w g u) ty = ⊥
@@ -28,26 +28,26 @@ IsArrayOf Array ty = ⊥
 IsArrayOf (Struct t) ty = ⊥
 IsArrayOf (Union t i) ty = ⊥
 
--- a store packs the elements of an array of that type so
+-- a store packs the elements of an array of that type in this shape
 pub record PacksAs (shape : Shape) (ty : PokeType) (room : Room) : Type 0 where
   pub packed : IsPacked shape
   pub is : IsArrayOf shape ty
   pub packs : packs room ≡ true
 
--- elements of that type don't stand in a row that is packed: the store packs none, or they are no numbers
+-- elements of that type aren't packed: the store packs none, or they are no numbers
 abbrev pub StandApart : PokeType → Room → Type 0
 StandApart ty room = packs room ≡ true → makes_row ty ≡ false
 
--- what a store packs the elements of an array of that type as, if it does
+-- the packed shape of an array of that type, if the store packs it
 abbrev pub PacksOrNot : Option Shape → PokeType → Room → Type 0
 PacksOrNot (Some shape) ty room = PacksAs shape ty room
 PacksOrNot None ty room = StandApart ty room
 
--- where arrays of numbers are packed, the innermost level begins with none
+-- where arrays of numbers are packed, the innermost frame begins with no number
 abbrev pub BeginsApart : List Node → Held → Type 0
 BeginsApart nodes store = packs store.room ≡ true → row_width (gathered (top_of (levels nodes store))) ≡ None
 
--- the levels in which these elements stand, from the bit `start` on, inside others
+-- the frames that hold these elements, from the bit `start` on, inside others
 abbrev pub row_levels : Shape → List ℕ → (start : ℕ) → Levels → Levels
 row_levels shape numbers start outer = elements shape start numbers ∷ outer
 

@@ -1,4 +1,4 @@
--- How a clause of a run ends: with its outcome after all its steps, or for want of steps.
+-- How a clause of a run ends: with its outcome after all its steps, or without a step left.
 use Rattle.std.specs.Prelude.{◌≡◌, ℕ, ◌+◌, ◌<◌, ℤ, pos, negsuc, Result, Ok, Err}
 use Rattle.pickle_map.specs.declared.mapper.stop.Stop.{Stop}
 use Rattle.pickle_map.specs.declared.mapper.stop.Stop.TheVariants as stop
@@ -28,7 +28,7 @@ Settles limit before after (Err stop.Limit) o steps = (after ≡ limit) × (limi
 Settles limit before after (Err stop.Device) o steps = ⊥
 Settles limit before after (Err stop.Memory) o steps = ⊥
 
--- what operators see of an expression's value, or its fault, told at a place
+-- what matters to an operator about an expression's value, or its fault at `place`
 abbrev pub Sees : (limit before after place : ℕ) → Result Content Stop → Evaluation → Type 0
 Sees limit before after place (Ok content) a = (x : Operand) × (a.outcome ≡ Ok x) × IsHeld content (operand_label x) × (after ≡ before + a.steps)
 Sees limit before after place (Err (stop.Fault kind at)) a = (a.outcome ≡ Err kind) × (at ≡ place) × (after ≡ before + a.steps)

@@ -1,4 +1,4 @@
--- Why a mapping under way stops, as the end of a plan.
+-- Why a mapping stops, as the end of a plan.
 use Rattle.std.specs.Prelude.{Bool, false, Result, Err}
 use Rattle.pickle_meaning.specs.declared.extent.Extent.{Extent}
 use Rattle.pickle_map.specs.declared.mapper.stop.Stop.{Stop}

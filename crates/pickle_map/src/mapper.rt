@@ -1,4 +1,4 @@
-//! Mapping of types over the bits of a space.
+//! Maps types over the bits of a space.
 
 ghost use Rattle.std.specs.Prelude.{◌≡◌, ◌+◌, ◌*◌, ◌≤◌, IfErr, OnErr};
 ghost use Rattle.bit_space.specs.SpaceView.{HasRisen};
@@ -27,11 +27,12 @@ use stop::Stop;
 use value_store::store::Store;
 use watch::{Unwatched, Watch};
 
-/// Maps a type from the bit `start` on: the store then holds the value that it has there, or is empty, with the fault
-/// that the type has there or that ended the run. A store keeps all its room, and a meter its counts.
+/// Maps a type from the bit `start` on. After a success the store holds the value of the type there. After a fault the
+/// store is empty; the fault is that of the type there, or one that ended the run. The store's capacity never gets
+/// less, and the meter still has its counts.
 ///
-/// Each value and each byte of a string is counted by the meter, and kept in a slot of each kind that it needs. The steps
-/// of a mapping are those of the table's `step_bound` at most; its slots those of `slot_bound`.
+/// The meter counts each value and each byte of a string, and each takes a slot of each kind that it needs. A mapping
+/// takes at most the steps of the table's `step_bound` and the slots of its `slot_bound`.
 pub fn map<S: Space>(
     table: &Table,
     id: TypeId,
@@ -47,7 +48,7 @@ pub fn map<S: Space>(
     ensures value { MeansValue (type_named table.now id) order start (S.view space.old) meter.old meter.new (nodes_of table.now) store.new result }
     // Where they are known: the fault that the type means there, or Limit where that takes more steps than are left.
     ensures fault { MeansFault (type_named table.now id) order start (S.view space.old) meter.old meter.new result }
-    // Whatever the space gives: a value fits its type by the parts that are kept, and each of them was counted.
+    // Whatever the space gives: a value fits its type by the stored parts, and each part was counted.
     ensures fits { FitsType (nodes_of table.now) store.new (type_named table.now id) start (S.view space.old) result }
     ensures size { CountsParts (nodes_of table.now) store.new meter.old meter.new result }
     ensures rise { meter.old.steps ≤ meter.new.steps }
@@ -56,18 +57,19 @@ pub fn map<S: Space>(
     ensures limit { ReachesLimit (type_named table.now id) (S.view space.old) meter.old meter.new result }
     ensures memory { LacksBound (type_named table.now id) (S.view space.old) store.old result }
     ensures device { IfErr result (λ f. f.kind ≡ MapFaultKind.Device → HasRisen (S.view space.old).failures (S.view space.new).failures) }
-    // A mapping that was broken off counted its steps and values up to the read that failed, or to what had no room.
+    // A mapping that was broken off counted its steps and values up to the read that failed, or to what didn't fit.
     ensures counts { CountsThere (type_named table.now id) order start (S.view space.old) meter.old meter.new store.old store.new result }
-    // There is room in the end for all that was to be kept; memory was wanted only where there was none before.
+    // In the end there is capacity for all that was to be stored. `Memory` is returned only where there was too little
+    // before.
     ensures kept { KeptInRoom (type_named table.now id) order start (S.view space.old) meter.old store.old store.new result }
     ensures asked { WantedMore (type_named table.now id) order start (S.view space.old) meter.old store.old result }
-    // What ends a run is told at the mapping's start.
+    // A fault that ends a run has the mapping's start as its place.
     ensures place { IfErr result (λ f. EndsRun f.kind → f.at ≡ start) }
     ensures emptied { OnErr result (store.new ≡ emptied store.new) }
-    // Of each kind the store holds no more than it has room for, which never gets less.
+    // Each vector of the store has at most as many entries as its capacity, which never gets less.
     ensures holds { HoldsInRoom store.new }
     ensures room { KeepsRoom store.old store.new }
-    // What a store that never grows holds at most.
+    // The most that a store holds which never grows.
     ensures held { HoldsAtMost (nodes_of table.now) store.new store.old result }
     ensures most { meter.new.limit ≡ meter.old.limit }
     ensures len { (S.view space.new).len ≡ (S.view space.old).len }
@@ -77,7 +79,7 @@ pub fn map<S: Space>(
     map_watched(table, id, order, start, space, meter, store, &mut Unwatched)
 }
 
-/// What [`map`] does, under a watcher.
+/// Maps as [`map`] does, and reports to a watcher.
 #[inline(always)]
 pub fn map_watched<S: Space, W: Watch>(
     table: &Table,
@@ -111,7 +113,7 @@ pub fn map_watched<S: Space, W: Watch>(
     }
 }
 
-/// A stop, as the fault of a mapping that began at `start`.
+/// A stop, as the fault of a mapping that began at the bit `start`.
 pub fn told(stop: Stop, start: u64) -> MapFault
     ensures { result ≡ told stop start }
 {

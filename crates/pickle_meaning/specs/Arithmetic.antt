@@ -1,4 +1,4 @@
--- What operators compute, on integers of a type, on offsets and on texts.
+-- The results of operators, on integers of a type, on offsets and on texts.
 use Rattle.std.specs.Prelude.{ℕ, zero, suc, ◌-◌, ◌%◌, ◌^◌, Bool, true, false, not, ◌&&◌, ◌||◌, if◌then◌else◌, nat_lt, List, Result, Ok, Err, ℤ, pos, negsuc, ◌+ℤ◌, ◌-ℤ◌, ◌*ℤ◌, neg_ℤ, int_lt, int_le, int_div, int_rem, bit_and, bit_or, bit_xor, bytes_eq}
 use lib.Signed.{shr_z}
 use Rattle.bit_space.specs.Bits.{twos_complement}
@@ -22,16 +22,16 @@ signed_type width = record { width = width; signed = true }
 abbrev pub unsigned_type : ℕ → IntegerType
 unsigned_type width = record { width = width; signed = false }
 
--- z modulo 2 ^ width, from 0 on
+-- z modulo 2 ^ width, which isn't negative
 unfoldable pub modulo : ℕ → ℤ → ℕ
 modulo width (pos n) = n % 2 ^ width
 modulo width (negsuc n) = 2 ^ width - 1 - n % 2 ^ width
 
--- the number of a type whose binary digits are those of n, which is below 2 ^ width
+-- the number of a type whose binary digits are those of n, which is less than 2 ^ width
 unfoldable pub with_sign : IntegerType → ℕ → ℤ
 with_sign type n = if type.signed then twos_complement type.width n else pos n
 
--- z modulo 2 ^ width into the range of the type
+-- z converted: taken modulo 2 ^ width into the range of the type
 unfoldable pub converted : IntegerType → ℤ → ℤ
 converted type z = with_sign type (modulo type.width z)
 
@@ -40,7 +40,7 @@ unfoldable pub is_signed_in : ℕ → ℤ → Bool
 is_signed_in width (pos n) = nat_lt n (2 ^ (width - 1))
 is_signed_in width (negsuc n) = nat_lt n (2 ^ (width - 1))
 
--- z brought to a type: modulo 2 ^ width where that is unsigned; z itself where it is signed, if it is in range
+-- z brought to a type: modulo 2 ^ width for an unsigned type; z itself for a signed type, if it is in range
 unfoldable pub brought : IntegerType → ℤ → Result ℤ MapFaultKind
 brought type z = if type.signed then (if is_signed_in type.width z then Ok z else Err fault.Overflow) else Ok (pos (modulo type.width z))
 
@@ -74,11 +74,11 @@ int_eq x y = int_le x y && int_le y x
 abbrev pub bits_in : ℤ → ℕ → ℤ
 bits_in magnitude unit = magnitude *ℤ pos unit
 
--- no well typed expression comes to this
+-- no well typed expression gives this
 abbrev pub wrong_sort : Computed
 wrong_sort = Err fault.Absent
 
--- a prefix
+-- the result of a prefix
 unfoldable pub prefixed : Prefix → Label → Computed
 prefixed Plus (IntegerLabel x type) = brought_integer type x
 prefixed Plus (OffsetLabel x type unit) = brought_offset type unit x
@@ -88,7 +88,7 @@ prefixed Complement (IntegerLabel x type) = Ok (IntegerLabel (converted type (ne
 prefixed Not (IntegerLabel x type) = truth (is_zero x)
 prefixed op x = wrong_sort
 
--- x shifted by a count: to the left it is brought to its type, to the right it is rounded down
+-- x shifted: to the left it is brought to its type, to the right it is rounded down
 unfoldable pub shifted_left : ℤ → IntegerType → ℤ → Computed
 shifted_left x type (pos n) = if nat_lt n type.width then brought_integer type (x *ℤ pos (2 ^ n)) else Err fault.Index
 shifted_left x type (negsuc n) = Err fault.Index
@@ -101,7 +101,7 @@ shifted_right x type (negsuc n) = Err fault.Index
 abbrev pub bit_by_bit : (ℕ → ℕ → ℕ) → IntegerType → ℤ → ℤ → Computed
 bit_by_bit f type x y = Ok (IntegerLabel (with_sign type (f (modulo type.width x) (modulo type.width y))) type)
 
--- an operator on two integers that were converted to their common type; shifts and truths don't come here
+-- an operator on two integers that were converted to their common type; shifts, `&&` and `||` aren't computed here
 unfoldable pub on_common : Infix → IntegerType → ℤ → ℤ → Computed
 on_common LogicalOr type x y = wrong_sort
 on_common LogicalAnd type x y = wrong_sort
@@ -130,7 +130,8 @@ on_integers ShiftLeft x t y u = shifted_left x t y
 on_integers ShiftRight x t y u = shifted_right x t y
 on_integers op x t y u = on_common op (common t u) (converted (common t u) x) (converted (common t u) y)
 
--- an operator on the exact bits of two offsets, with their common integer type and the greatest common unit
+-- an operator on the exact bits of two offsets, with their common integer type and the greatest common divisor of their
+-- units
 unfoldable pub on_bits : Infix → IntegerType → (unit : ℕ) → ℤ → ℤ → Computed
 on_bits Equal type unit x y = truth (int_eq x y)
 on_bits NotEqual type unit x y = truth (not (int_eq x y))

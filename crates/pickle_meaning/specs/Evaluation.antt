@@ -1,4 +1,4 @@
--- What an expression comes to on the open levels: its value or its first fault, and in how many steps.
+-- The evaluation of an expression over the open frames: its value or its first fault, and its steps.
 use Rattle.std.specs.Prelude.{ℕ, ◌+◌, ◌-◌, length, Bool, true, false, not, ◌&&◌, if◌then◌else◌, nat_eq, nat_lt, Option, Some, None, Result, Ok, Err, pos, negsuc}
 use Rattle.pickle_tree.specs.declared.tree.Attribute.{Attribute}
 use Rattle.pickle_tree.specs.declared.tree.Attribute.TheVariants.{Length, Size}
@@ -11,7 +11,7 @@ use Rattle.pickle_meaning.specs.declared.faults.MapFaultKind.TheVariants as faul
 use Rattle.pickle_meaning.specs.Values.{Label, IntegerLabel, OffsetLabel, TextLabel, ArrayLabel, StructLabel, UnionLabel, Value, Mapped, label_of, member_count, member_at, Levels, value_at}
 use Rattle.pickle_meaning.specs.Arithmetic.{Computed, unsigned_type, truth, is_zero, prefixed, combined, to_integer, to_offset, in_unit}
 
--- what an expression comes to: the value at a path, or a computed integer, offset or text
+-- the value of an expression: the value at a path, or a computed integer, offset or text
 pub data Operand : Type 0 where
   AtPath : (value : Value) → Operand
   Plain : (label : Label) → Operand
@@ -20,12 +20,12 @@ abbrev pub operand_label : Operand → Label
 operand_label (AtPath value) = label_of value
 operand_label (Plain label) = label
 
--- a value or the first fault, which is told where the expression stands, and the steps that were taken to it
+-- a value or the first fault, whose place is that of the clause, and the steps up to it
 pub record Evaluation : Type 0 where
   pub outcome : Result Operand MapFaultKind
   pub steps : ℕ
 
--- a result in no steps of its own
+-- a result that takes no steps of its own
 abbrev pub gives : Computed → Evaluation
 gives (Ok label) = record { outcome = Ok (Plain label); steps = 0 }
 gives (Err f) = record { outcome = Err f; steps = 0 }
@@ -35,12 +35,12 @@ abbrev pub present : Option Value → Result Value MapFaultKind
 present None = Err fault.Absent
 present (Some value) = Ok value
 
--- the value at a path, in no steps of its own
+-- the value at a path, which takes no steps of its own
 abbrev pub leads_to : Result Value MapFaultKind → Evaluation
 leads_to (Ok value) = record { outcome = Ok (AtPath value); steps = 0 }
 leads_to (Err f) = record { outcome = Err f; steps = 0 }
 
--- so many steps more
+-- an evaluation with n more steps
 abbrev pub with_steps : ℕ → Evaluation → Evaluation
 with_steps n a = record { outcome = a.outcome; steps = n + a.steps }
 
@@ -48,7 +48,7 @@ abbrev pub on_outcome : Result Operand MapFaultKind → ℕ → (Operand → Eva
 on_outcome (Ok x) steps f = with_steps steps (f x)
 on_outcome (Err e) steps f = record { outcome = Err e; steps = steps }
 
--- an operand, and then what is done with its value; its fault is the whole's
+-- an operand, and then what is done with its value; a fault of the operand is the fault of the whole
 unfoldable pub and_operand : Evaluation → (Operand → Evaluation) → Evaluation
 and_operand a f = on_outcome a.outcome a.steps f
 
@@ -61,7 +61,7 @@ truth_of ArrayLabel = Err fault.Absent
 truth_of (StructLabel name fields) = Err fault.Absent
 truth_of (UnionLabel name index alternative) = Err fault.Absent
 
--- the truth that `&&` and `||` have by their left side alone
+-- the truth of `&&` or `||` where the left side settles it
 abbrev pub settled : Infix → Result Bool MapFaultKind → Option Bool
 settled LogicalAnd (Ok false) = Some false
 settled LogicalOr (Ok true) = Some true
@@ -72,7 +72,7 @@ abbrev pub unless_settled : Option Bool → Evaluation → Evaluation
 unless_settled None rest = rest
 unless_settled (Some b) rest = gives (truth b)
 
--- the bytes of a text literal
+-- the number of bytes of a text literal
 abbrev pub literal_length : Term → ℕ
 literal_length (Text bytes) = length bytes
 literal_length e = 0
@@ -85,13 +85,13 @@ is_text x = false
 abbrev pub between : Infix → (literal : ℕ) → Label → Label → Evaluation
 between op literal x y = with_steps (if is_text x && is_text y then literal else 0) (gives (combined op x y))
 
--- of a choice, only the side that is chosen is evaluated
+-- only the chosen side of a choice is evaluated
 abbrev pub chosen : Result Bool MapFaultKind → Evaluation → Evaluation → Evaluation
 chosen (Ok true) x y = x
 chosen (Ok false) x y = y
 chosen (Err f) x y = record { outcome = Err f; steps = 0 }
 
--- an integer or an offset as it is
+-- an integer or an offset, unchanged
 abbrev pub number_only : Label → Computed
 number_only (IntegerLabel x type) = Ok (IntegerLabel x type)
 number_only (OffsetLabel x type unit) = Ok (OffsetLabel x type unit)
@@ -100,31 +100,31 @@ number_only ArrayLabel = Err fault.Absent
 number_only (StructLabel name fields) = Err fault.Absent
 number_only (UnionLabel name index alternative) = Err fault.Absent
 
--- an integer that was chosen is converted to the common type; an offset stays as it is
+-- a chosen integer is converted to the common type; an offset stays as it is
 abbrev pub as_common : Option IntegerType → Label → Computed
 as_common None x = number_only x
 as_common (Some type) x = to_integer type x
 
--- the field of a struct, or the alternative of a union if it was taken
+-- the field of a struct, or the alternative of a union if it matched
 abbrev pub selected : Operand → ℕ → Option Value
 selected (Plain label) place = None
 selected (AtPath (Mapped (StructLabel name fields) start end members)) place = member_at members place
 selected (AtPath (Mapped (UnionLabel name index alternative) start end members)) place = if nat_eq index place then member_at members 0 else None
 selected (AtPath value) place = None
 
--- the element of an array; an index that is negative or not below the count is Index
+-- the element of an array; an index that is negative or not less than the count is Index
 abbrev pub element : Operand → Label → Result Value MapFaultKind
 element (AtPath (Mapped ArrayLabel start end members)) (IntegerLabel (pos i) type) = if nat_lt i (member_count members) then present (member_at members i) else Err fault.Index
 element (AtPath (Mapped ArrayLabel start end _)) (IntegerLabel (negsuc i) type) = Err fault.Index
 element p i = Err fault.Absent
 
--- how many elements an array has, and how many bits a value
+-- the number of elements of an array, or the size of a value in bits
 abbrev pub attribute_of : Attribute → Operand → Computed
 attribute_of Length (AtPath (Mapped ArrayLabel start end members)) = Ok (IntegerLabel (pos (member_count members)) (unsigned_type 64))
 attribute_of Size (AtPath (Mapped label start end _)) = Ok (OffsetLabel (pos (end - start)) (unsigned_type 64) 1)
 attribute_of attribute x = Err fault.Absent
 
--- each node that is begun takes a step, before its operands; operands are evaluated from left to right
+-- each node takes a step, before its operands; operands are evaluated from left to right
 unfoldable pub evaluation : Term → Levels → Evaluation
 evaluation (Number type value) levels = with_steps 1 (gives (Ok (IntegerLabel (pos value) type)))
 evaluation (Text bytes) levels = with_steps 1 (gives (Ok (TextLabel bytes)))

@@ -1,4 +1,4 @@
--- The names by which faults of a mapping are told.
+-- The names of the faults of a mapping, as messages print them.
 use Rattle.std.specs.Prelude.{ℕ, List, codes}
 use Rattle.pickle_meaning.specs.declared.faults.MapFaultKind.{MapFaultKind}
 use Rattle.pickle_meaning.specs.declared.faults.MapFaultKind.TheVariants as fault

@@ -44,20 +44,21 @@ value_size (Err f) = 0
 abbrev pub ValuesStartThere : Type 0
 ValuesStartThere = (bits : List ℕ) (ty : PokeType) (order : Order) (levels : Levels) (s : ℕ) (v : Value) (k j : ℕ) → Means bits ty order levels s (Ok v) k j → start_of v ≡ s
 
--- a value ends in the file, at least as many bits behind its start as its type's least width
+-- a value ends in the file; its size is at least its type's least width
 abbrev pub ValuesAreWide : Type 0
 ValuesAreWide = (bits : List ℕ) (ty : PokeType) (order : Order) (levels : Levels) (s : ℕ) (v : Value) (k j : ℕ) → Means bits ty order levels s (Ok v) k j → (s + least_width ty ≤ end_of v) × (end_of v ≤ length bits)
 
--- of the elements of an array at most as many are values as have room in the file; one more may be tried
+-- at most as many elements of an array are values as fit in the file; one more may be tried
 abbrev pub TriesAreFew : Type 0
 TriesAreFew = (bits : List ℕ) (ty : PokeType) (order : Order) (s : ℕ) (extent : Extent) (levels : Levels) (n : ℕ) (inside : Levels) (pn k j : ℕ) → s ≤ length bits → Elements bits ty order s extent 0 levels s n inside pn k j → n ≤ length bits / max 1 (least_width ty)
 
--- a value that fits; nothing is said of a fault
+-- a value fits; nothing is said of a fault
 abbrev pub ValueFits : (m : ℕ) → PokeType → Levels → (s : ℕ) → Result Value FaultAt → Type 0
 ValueFits m ty levels s (Ok v) = Fits m ty levels s v
 ValueFits m ty levels s (Err f) = Unit {0}
 
--- what bounds an outcome: its steps the type's bound, the values made the steps, the parts of a value the values made
+-- the bounds of an outcome: its steps are at most the type's bound, its values made at most its steps, and the parts of
+-- a value at most the values made
 pub record IsBounded (bits : List ℕ) (ty : PokeType) (r : Result Value FaultAt) (k j : ℕ) : Type 0 where
   pub steps : k ≤ cost ty (length bits)
   pub made : j ≤ k

@@ -1,4 +1,4 @@
--- What a type means on a file's bits: its outcome at each place, in how many steps, and with how many values made.
+-- What a type means on a file's bits: its outcome at each place, with its steps and its values made.
 use Rattle.std.specs.Prelude.{◌≡◌, ℕ, suc, ◌+◌, ◌-◌, ◌/◌, ◌%◌, ◌^◌, ◌<◌, ◌≤◌, max, length, Bool, true, false, List, [], ◌∷◌, Option, Some, None, Result, Ok, Err}
 use Rattle.pickle_tree.specs.declared.tree.ByteOrder.{ByteOrder}
 use Rattle.pickle_tree.specs.declared.tree.ByteOrder.TheVariants as prefix
@@ -13,13 +13,13 @@ use Rattle.pickle_meaning.specs.Values.{Naming, Label, IntegerLabel, OffsetLabel
 use Rattle.pickle_meaning.specs.Arithmetic.{with_sign}
 use Rattle.pickle_meaning.specs.Clauses.{FaultAt, constraint, clause_steps, condition, field_start, label_steps, extent_of, bound_steps, is_due, is_met, ends_before, misses}
 
--- the order of a field: its prefix's, or the one around it
+-- the byte order of a field: its prefix's, or the one around it
 abbrev pub ordered : Option ByteOrder → Order → Order
 ordered None order = order
 ordered (Some prefix.Big) order = Big
 ordered (Some prefix.Little) order = Little
 
--- the type of the number that a type is read as, where it is read as one
+-- the integer type of a type that is read as one number
 abbrev pub number_type : PokeType → Option IntegerType
 number_type (IntegerOf type) = Some type
 number_type (OffsetOf type unit) = Some type
@@ -29,12 +29,12 @@ number_type (StructOf name pinned _) = None
 number_type (IntegralOf name type _) = Some type
 number_type (UnionOf name alternatives) = None
 
--- how many bits a field of an integral struct has
+-- the width of a field of an integral struct, in bits
 abbrev pub width_in : Option IntegerType → ℕ
 width_in None = 0
 width_in (Some type) = type.width
 
--- of a number with so many binary digits left, the first ones
+-- the first `width` of the last `left` binary digits of n
 abbrev pub first_digits : (n left width : ℕ) → ℕ
 first_digits n left width = n / 2 ^ (left - width) % 2 ^ width
 
@@ -46,7 +46,7 @@ abbrev pub part_names : Parts → List Naming
 part_names NoParts = []
 part_names (PartThen name order type c rest) = name ∷ part_names rest
 
--- the value that ends at a place, of the members that its level has gathered
+-- the value that ends at a place, of the members of its frame
 abbrev pub value_of : Label → (start end : ℕ) → Levels → Value
 value_of label start end inside = Mapped label start end (gathered (top_of inside))
 
@@ -62,7 +62,7 @@ array_value start end inside = value_of ArrayLabel start end inside
 abbrev pub struct_value : Naming → List Naming → (start end : ℕ) → Levels → Value
 struct_value name names start end inside = value_of (StructLabel name names) start end inside
 
--- the alternative that a union takes
+-- the alternative of a union that matched
 pub record Taken : Type 0 where
   pub index : ℕ
   pub name : Naming
@@ -76,8 +76,8 @@ abbrev pub Opened : Type 0
 Opened = Levels × ℕ
 
 mutual
-  -- What a number without a sign means as an integer, an offset or an integral struct that starts at s: its outcome, the
-  -- steps and the values made. No other type is a field of an integral struct in a well typed pickle.
+  -- What an unsigned number means as an integer, an offset or an integral struct that starts at s: its outcome, its
+  -- steps and its values made. No other type is a field of an integral struct in a well typed pickle.
   pub data NumberMeans : PokeType → (n : ℕ) → Levels → (s : ℕ) → Result Value FaultAt → (steps made : ℕ) → Type 0 where
     integer : {type : IntegerType} {n : ℕ} {levels : Levels} {s : ℕ}
         → NumberMeans (IntegerOf type) n levels s (Ok (integer_value type n s)) 1 1
@@ -91,17 +91,17 @@ mutual
     integral_fault : {name : Naming} {type : IntegerType} {fields : Parts} {n : ℕ} {levels : Levels} {s k j : ℕ} {f : FaultAt}
         → DigitsMean fields n type.width (opened levels) s (Err f) k j
         → NumberMeans (IntegralOf name type fields) n levels s (Err f) (1 + k) j
-    -- the other types are not read as one number
+    -- the other types aren't read as one number
     no_number : {ty : PokeType} {n : ℕ} {levels : Levels} {s : ℕ}
         → number_type ty ≡ None
         → NumberMeans ty n levels s (Err (fault.Absent, s)) 1 0
 
-  -- The fields of an integral struct from here on: each is cut from the front of the binary digits that are left, and all
+  -- The fields of an integral struct from here on. Each is cut from the front of the remaining binary digits, and all
   -- start at s, where the outermost integral struct starts.
   pub data DigitsMean : Parts → (n left : ℕ) → Levels → (s : ℕ) → Result Levels FaultAt → (steps made : ℕ) → Type 0 where
     -- no field is left
     no_digits : {n left : ℕ} {levels : Levels} {s : ℕ} → DigitsMean NoParts n left levels s (Ok levels) 0 0
-    -- the next field is a value whose constraint holds, and the fields behind it have the outcome r
+    -- the next field is a value whose constraint holds, and the fields after it have the outcome r
     next_digits : {name : Naming} {order : Option ByteOrder} {ty : PokeType} {c : Option Term} {rest : Parts} {n left : ℕ} {levels : Levels} {s k j k' j' : ℕ} {v : Value} {r : Result Levels FaultAt}
         → NumberMeans ty (first_digits n left (width_in (number_type ty))) levels s (Ok v) k j
         → constraint c (pushed levels (Some v)) s ≡ Ok tt
@@ -127,20 +127,20 @@ pub data Run (bits : List ℕ) : (p : ℕ) → List ℕ → (q : ℕ) → Type 0
       → Run bits p (suc b ∷ bytes) q
 
 mutual
-  -- at bit s, in an order of bytes, the type has the outcome r in `steps` steps, with `made` values made
+  -- at bit s, in a byte order, the type has the outcome r in `steps` steps, with `made` values made
   pub data Means (bits : List ℕ) : PokeType → Order → Levels → (s : ℕ) → Result Value FaultAt → (steps made : ℕ) → Type 0 where
     -- a start past the last bit
     past_end : {ty : PokeType} {order : Order} {levels : Levels} {s : ℕ}
         → length bits < s
         → Means bits ty order levels s (Err (fault.End, s)) 0 0
-    -- an integer, an offset or an integral struct, all of whose bits are there
+    -- an integer, an offset or an integral struct, all of whose bits are in the file
     number_read : {ty : PokeType} {type : IntegerType} {order : Order} {levels : Levels} {s k j : ℕ} {r : Result Value FaultAt}
         → s ≤ length bits
         → number_type ty ≡ Some type
         → s + type.width ≤ length bits
         → NumberMeans ty (number_at bits order s type.width) levels s r k j
         → Means bits ty order levels s r k j
-    -- one of these that ends past the last bit
+    -- an integer, an offset or an integral struct that ends past the last bit
     number_end : {ty : PokeType} {type : IntegerType} {order : Order} {levels : Levels} {s : ℕ}
         → s ≤ length bits
         → number_type ty ≡ Some type
@@ -153,13 +153,13 @@ mutual
         → q + 8 ≤ length bits
         → number_at bits Big q 8 ≡ 0
         → Means bits StringOf order levels s (Ok (text_value bytes s (q + 8))) (1 + length bytes + 1) (length bytes + 1)
-    -- a run of bytes and no whole byte behind it; the try that finds none is a step
+    -- a run of bytes with no whole byte after it; the try that finds none is a step
     string_end : {order : Order} {levels : Levels} {s q : ℕ} {bytes : List ℕ}
         → s ≤ length bits
         → Run bits s bytes q
         → length bits < q + 8
         → Means bits StringOf order levels s (Err (fault.End, s)) (1 + length bytes + 1) (length bytes)
-    -- the elements between the cut points, and how the array ends behind them
+    -- the elements between the cut points, and how the array ends after them
     array : {ty : PokeType} {bound : Bound} {order : Order} {extent : Extent} {levels inside : Levels} {s n pn k j k' j' : ℕ} {r : Result Value FaultAt}
         → s ≤ length bits
         → extent_of bound levels s ≡ Ok extent
@@ -181,19 +181,19 @@ mutual
         → s ≤ length bits
         → FieldsMean bits pinned s fields order (opened levels) s s (Err f) k j
         → Means bits (StructOf name pinned fields) order levels s (Err f) (1 + k) j
-    -- an alternative is taken
+    -- an alternative matches
     union : {name : Naming} {alternatives : Parts} {order : Order} {levels : Levels} {s k j : ℕ} {t : Taken}
         → s ≤ length bits
         → AlternativesMean bits alternatives 0 order (opened levels) s (Ok t) k j
         → Means bits (UnionOf name alternatives) order levels s (Ok (union_value name s t)) (1 + k) (j + 1)
-    -- an alternative has a fault other than Constraint, or none fits
+    -- an alternative has a fault that ends the union, or none matches
     union_fault : {name : Naming} {alternatives : Parts} {order : Order} {levels : Levels} {s k j : ℕ} {f : FaultAt}
         → s ≤ length bits
         → AlternativesMean bits alternatives 0 order (opened levels) s (Err f) k j
         → Means bits (UnionOf name alternatives) order levels s (Err f) (1 + k) j
 
-  -- The elements of an array from s between its cut points of number i, at p, and of number n, at pn: each is due and is a
-  -- value from one cut point to the next, which is behind it.
+  -- The elements of an array from s between its cut points of number i, at p, and of number n, at pn. Each is due, and
+  -- is a value from one cut point to the next, which is greater.
   pub data Elements (bits : List ℕ) : PokeType → Order → (s : ℕ) → Extent → (i : ℕ) → Levels → (p : ℕ) → (n : ℕ) → Levels → (pn : ℕ) → (steps made : ℕ) → Type 0 where
     no_more : {ty : PokeType} {order : Order} {extent : Extent} {inside : Levels} {s i p : ℕ}
         → Elements bits ty order s extent i inside p i inside p 0 0
@@ -222,7 +222,7 @@ mutual
         → Means bits ty order inside pn (Ok v) k j
         → end_of v ≡ pn
         → Closing bits ty order s extent n inside pn (Err (fault.NoBits, pn)) (1 + k) j
-    -- one is due and has a fault that ends an unbounded array; it is dropped
+    -- one is due and has a fault that ends an unbounded array; the element is dropped
     ends_without : {ty : PokeType} {order : Order} {extent : Extent} {inside : Levels} {s n pn k j : ℕ} {f : FaultAt}
         → is_due extent (length bits) s n pn ≡ true
         → Means bits ty order inside pn (Err f) k j
@@ -253,7 +253,7 @@ mutual
         → PartMeans bits ty c order levels s (Err f) k j
 
   -- The fields of a struct at s from here on, in order: each is absent, or a value, or the first fault, which is the
-  -- struct's. The last one that is there ended at `behind`, and the greatest end is `top`.
+  -- struct's. The last present field ended at `behind`, and the greatest end is `top`.
   pub data FieldsMean (bits : List ℕ) : (pinned : Bool) → (s : ℕ) → Fields → Order → Levels → (behind top : ℕ) → Result Opened FaultAt → (steps made : ℕ) → Type 0 where
     -- no field is left
     all_fields : {pinned : Bool} {order : Order} {levels : Levels} {s behind top : ℕ}
@@ -263,7 +263,7 @@ mutual
         → condition when levels s ≡ Ok false
         → FieldsMean bits pinned s rest order (pushed levels None) behind top r k j
         → FieldsMean bits pinned s (FieldThen name set ty c label when rest) order levels behind top r (1 + clause_steps when levels + k) j
-    -- it is a value whose constraint holds, and the fields behind it have the outcome r
+    -- it is a value whose constraint holds, and the fields after it have the outcome r
     field : {pinned : Bool} {name : Naming} {set : Option ByteOrder} {ty : PokeType} {c label when : Option Term} {rest : Fields} {order : Order} {levels : Levels} {s behind top p k j k' j' : ℕ} {v : Value} {r : Result Opened FaultAt}
         → condition when levels s ≡ Ok true
         → field_start pinned label levels s behind ≡ Ok p
@@ -286,22 +286,23 @@ mutual
         → PartMeans bits ty c (ordered set order) levels p (Err f) k j
         → FieldsMean bits pinned s (FieldThen name set ty c label when rest) order levels behind top (Err f) (1 + clause_steps when levels + label_steps pinned label levels + k) j
 
-  -- the alternatives from here on: some of the first miss, and the next fits, has any other fault, or is not there
+  -- the alternatives from here on: some don't match, and the next one matches, has a fault that ends the union, or
+  -- doesn't exist
   pub data AlternativesMean (bits : List ℕ) : Parts → (index : ℕ) → Order → Levels → (s : ℕ) → Result Taken FaultAt → (steps made : ℕ) → Type 0 where
-    -- none fits
+    -- none matches
     none_left : {index s : ℕ} {order : Order} {levels : Levels}
         → AlternativesMean bits NoParts index order levels s (Err (fault.Constraint, s)) 0 0
-    -- the next one fits
+    -- the next one matches
     fits : {name : Naming} {set : Option ByteOrder} {ty : PokeType} {c : Option Term} {rest : Parts} {index s k j : ℕ} {order : Order} {levels : Levels} {v : Value}
         → PartMeans bits ty c (ordered set order) levels s (Ok v) k j
         → AlternativesMean bits (PartThen name set ty c rest) index order levels s (Ok (record { index = index; name = name; value = v })) (1 + k) j
-    -- it misses, and the alternatives behind it have the outcome r
+    -- it doesn't match, and the alternatives after it have the outcome r
     misses_it : {name : Naming} {set : Option ByteOrder} {ty : PokeType} {c : Option Term} {rest : Parts} {index s k j k' j' : ℕ} {order : Order} {levels : Levels} {f : FaultAt} {r : Result Taken FaultAt}
         → PartMeans bits ty c (ordered set order) levels s (Err f) k j
         → misses f.0 ≡ true
         → AlternativesMean bits rest (index + 1) order levels s r k' j'
         → AlternativesMean bits (PartThen name set ty c rest) index order levels s r (1 + k + k') (j + j')
-    -- it has a fault that is no miss
+    -- it has a fault that ends the union
     other_fault : {name : Naming} {set : Option ByteOrder} {ty : PokeType} {c : Option Term} {rest : Parts} {index s k j : ℕ} {order : Order} {levels : Levels} {f : FaultAt}
         → PartMeans bits ty c (ordered set order) levels s (Err f) k j
         → misses f.0 ≡ false

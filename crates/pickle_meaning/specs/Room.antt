@@ -1,9 +1,9 @@
--- How many slots of each kind a mapping under way fills.
+-- The number of slots of each kind that a mapping fills at a moment.
 use Rattle.std.specs.Prelude.{ℕ, ◌+◌, length, List, [], ◌∷◌, Option, Some, None}
 use Rattle.pickle_meaning.specs.Values.{Label, IntegerLabel, OffsetLabel, TextLabel, ArrayLabel, StructLabel, UnionLabel, Value, Mapped, Members, NoMembers, MemberThen, AbsentThen, member_count, Levels}
 
--- The kinds of slots: a node for each value, a link for each member of a value, a pending child for each member of a level
--- (absent ones too), and a byte for each byte of a text.
+-- The kinds of slots: a node for each value, a link for each member of a value, a pending child for each member of a
+-- frame (absent ones too), and a byte for each byte of a text.
 pub data Slot : Type 0 where
   NodeSlot : Slot
   LinkSlot : Slot
@@ -18,7 +18,7 @@ text_length ArrayLabel = 0
 text_length (StructLabel name fields) = 0
 text_length (UnionLabel name index alternative) = 0
 
--- the slots of a value, its members left out
+-- the slots of a value without its members
 abbrev pub own_slots : Slot → Label → Members → ℕ
 own_slots NodeSlot label _ = 1
 own_slots LinkSlot label members = member_count members
@@ -34,7 +34,7 @@ abbrev mutual
   members_slots kind (MemberThen v rest) = value_slots kind v + members_slots kind rest
   members_slots kind (AbsentThen rest) = members_slots kind rest
 
--- the slots of a member of a level, its value left out
+-- the slots of a member of a frame without its value
 abbrev pub place_slots : Slot → ℕ
 place_slots NodeSlot = 0
 place_slots LinkSlot = 0
@@ -49,7 +49,7 @@ abbrev pub level_slots : Slot → List (Option Value) → ℕ
 level_slots kind [] = 0
 level_slots kind (m ∷ rest) = member_slots kind m + level_slots kind rest
 
--- the slots of one kind that these levels fill
+-- the slots of one kind that these frames fill
 abbrev pub slots : Slot → Levels → ℕ
 slots kind [] = 0
 slots kind (top ∷ outer) = level_slots kind top + slots kind outer

@@ -1,21 +1,22 @@
-//! How far an array goes.
+//! The extent of an array.
 
 ghost use Rattle.std.specs.Prelude.{◌≡◌, ◌≤◌};
 ghost use Rattle.pickle_meaning.specs.Clauses.{is_due, is_met};
 
-/// How far an array goes, once its bound is evaluated.
+/// The extent of an array, once its bound is evaluated.
 #[derive(Clone, Copy, Debug, PartialEq, Eq)]
 pub enum Extent {
-    /// As long as elements fit.
+    /// As many elements as fit.
     Open,
-    /// So many elements.
+    /// A number of elements.
     Count(u128),
-    /// So many bits.
+    /// A number of bits.
     Size(u128),
 }
 
 impl Extent {
-    /// Whether an array in `bits` bits of file, which began at `start` and has `count` elements up to `place`, is to have one more.
+    /// Whether an array is to have one more element. The file has `bits` bits; the array began at the bit `start` and
+    /// has `count` elements up to the bit `place`.
     pub fn is_due(self, bits: u64, start: u64, count: u64, place: u64) -> bool
         requires { start ≤ place }
         ensures { result ≡ is_due self bits start count place }
@@ -27,7 +28,8 @@ impl Extent {
         }
     }
 
-    /// Whether an array that began at `start` may end at `place`, where no element is due.
+    /// Whether an array that began at the bit `start` may end at the bit `place`, where no element is due. A size has
+    /// to be met exactly.
     pub fn is_met(self, start: u64, place: u64) -> bool
         requires { start ≤ place }
         ensures { result ≡ is_met self start place }

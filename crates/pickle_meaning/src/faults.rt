@@ -1,4 +1,4 @@
-//! Why a mapping gives no value.
+//! The faults of a mapping.
 
 ghost use Rattle.std.specs.Prelude.{◌≡◌};
 ghost use Rattle.pickle_meaning.specs.FaultNames.{fault_kind};
@@ -6,13 +6,13 @@ ghost use Rattle.pickle_meaning.specs.FaultNames.{fault_kind};
 use std::fmt::{self, Formatter};
 use thiserror::Error;
 
-/// Why a mapping gives no value. It displays its name.
+/// Why a mapping gives no value. Display prints the variant's name.
 #[derive(Clone, Copy, Debug, PartialEq, Eq, Error)]
 #[error("{}", self.name())]
 pub enum MapFaultKind {
     /// The bits of the file end too early.
     End,
-    /// A constraint is 0, or no alternative of a union fits.
+    /// A constraint is 0, or no alternative of a union matches.
     Constraint,
     /// A bound or label is negative, or an element ends past its array's size.
     Bounds,
@@ -22,20 +22,21 @@ pub enum MapFaultKind {
     Zero,
     /// A result is out of the range of its signed type.
     Overflow,
-    /// An expression names a field that is absent, or an alternative that was not taken.
+    /// An expression names a field that is absent, or an alternative that didn't match.
     Absent,
-    /// An index is outside its array, or the count of a shift is negative or not below the width of its operand.
+    /// An index is outside its array; or a number to shift by is negative, or not less than the width of the shifted
+    /// number.
     Index,
     /// The limit of steps is reached.
     Limit,
-    /// The space failed.
+    /// The space failed to read.
     Device,
-    /// There is no memory for the value.
+    /// The allocator refused memory for the value, or the store never grows and is full.
     Memory,
 }
 
 impl MapFaultKind {
-    /// The name by which lines tell it: that of its variant.
+    /// The name that messages print: that of the variant.
     pub fn name(self) -> &'static str
         ensures { result.now ≡ fault_kind self }
     {
@@ -55,7 +56,7 @@ impl MapFaultKind {
     }
 }
 
-/// A fault, with the bit position that it is told of. It displays the line that tells it.
+/// A fault and its place, a bit of the space. Display prints the message.
 #[derive(Clone, Copy, Debug, PartialEq, Eq, Error)]
 #[error(fmt = show)]
 pub struct MapFault {
@@ -63,7 +64,7 @@ pub struct MapFault {
     pub at: u128,
 }
 
-// Shows the line of a fault: what failed outside the mapping is at no bit.
+// Prints the message of a fault. Device and Memory have no place.
 fn show<W: fmt::Write>(kind: &MapFaultKind, at: &u128, f: &mut Formatter<W>) -> fmt::Result {
     match kind {
         MapFaultKind::Device | MapFaultKind::Memory => write!(f, "fault {kind}"),

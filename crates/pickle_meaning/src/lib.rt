@@ -1,4 +1,4 @@
-//! What a mapping means: values, expressions, types over the bits of a file, and the statements of its laws.
+//! The meaning of a mapping: values, expressions, types over the bits of a file, and the statements of its laws.
 #![tactic(auto)]
 
 pub mod extent;

@@ -1,4 +1,4 @@
--- Classes of bytes, and answers of the lexer.
+-- Classes of bytes, and results of the lexer.
 use Rattle.std.specs.Prelude.{◌≡◌, ℕ, ◌-◌, Bool, not, ◌&&◌, ◌||◌, if◌then◌else◌, ◌==◌, nat_lt, nat_le, Result, Ok, Err}
 use Rattle.std.specs.Char.{is_ascii_alphabetic, is_ascii_alphanumeric}
 use Rattle.pickle_syntax.specs.declared.lexer.bytes.Class.{Class}
@@ -9,7 +9,7 @@ use Rattle.pickle_syntax.specs.declared.lexer.fault.LexFaultKind.{LexFaultKind}
 use Rattle.pickle_syntax.specs.declared.lexer.fault.LexFaultKind.TheVariants.{BadByte, Unclosed, BadNumber, TooLong, Memory}
 use Rattle.pickle_syntax.specs.declared.lexer.fault.LexFault.{LexFault}
 
--- the digit that a byte writes, or 99
+-- the digit that a byte is, or 99
 abbrev pub digit_of : ℕ → ℕ
 digit_of b =
     if nat_le 48 b && nat_le b 57 then b - 48
@@ -24,7 +24,7 @@ is_in class.Word b = is_ascii_alphanumeric b || b == 95
 is_in (class.Digit base) b = nat_lt (digit_of b) base || b == 95
 is_in class.Line b = not (b == 10)
 
--- what a byte begins
+-- the class of token that a byte begins
 abbrev pub starts : ℕ → Start
 starts b =
     if is_in class.Blank b then start.Blank
@@ -44,7 +44,7 @@ abbrev pub ◌>>=◌ : {A B : Type 0} → Result A Fault → (A → Result B Fau
 (Ok x) >>= f = f x
 (Err e) >>= f = Err e
 
--- want of memory is told at place 0, whatever was to be read; any other fault is the one that was read
+-- an allocation failure has place 0, whatever was to be read; any other fault is the definition's
 abbrev pub Fails : {Y : Type 0} → LexFaultKind → ℕ → Result Y Fault → Type 0
 Fails Memory at read = at ≡ 0
 Fails BadByte at read = read ≡ Err (BadByte, at)
@@ -52,7 +52,7 @@ Fails Unclosed at read = read ≡ Err (Unclosed, at)
 Fails BadNumber at read = read ≡ Err (BadNumber, at)
 Fails TooLong at read = read ≡ Err (TooLong, at)
 
--- what a function returned, seen by view, is what the definition gives, unless memory ran out
+-- the result of a function, seen by view, is what the definition gives, unless memory ran out
 abbrev pub Gives : {X Y : Type 0} → (X → Y) → Result X LexFault → Result Y Fault → Type 0
 Gives view (Ok x) read = read ≡ Ok (view x)
 Gives view (Err e) read = Fails e.kind e.at read

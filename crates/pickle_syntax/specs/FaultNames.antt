@@ -1,4 +1,4 @@
--- The names by which faults of tokens and of their grammar are told.
+-- The names of the faults of tokens and of their grammar, as messages print them.
 use Rattle.std.specs.Prelude.{ℕ, List, codes}
 use Rattle.pickle_syntax.specs.declared.lexer.fault.LexFaultKind.{LexFaultKind}
 use Rattle.pickle_syntax.specs.declared.lexer.fault.LexFaultKind.TheVariants as lex

@@ -1,4 +1,4 @@
--- How tightly each operator binds, and the trees in which each operand binds as tightly as its place asks.
+-- How tightly each operator binds, and the trees in which each operand binds as tightly as its place requires.
 use Rattle.std.specs.Prelude.{ℕ, ◌+◌, ◌≤◌, ⊤, Option, Some, None, List, [], ◌∷◌}
 use Rattle.pickle_tree.specs.declared.tree.Infix.{Infix}
 use Rattle.pickle_tree.specs.declared.tree.Infix.TheVariants as infix_op
@@ -44,7 +44,7 @@ level_of (Choice c x y) = 1
 level_of (Index e i) = 14
 level_of (After e s) = level_of_suffix s
 
--- each operand has at least the level that its place asks
+-- each operand has at least the level that its place requires
 abbrev pub IsWellBracketed : Tree → Type 0
 IsWellBracketed (Literal n) = ⊤
 IsWellBracketed (tree.Character b) = ⊤

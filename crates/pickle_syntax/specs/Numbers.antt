@@ -20,11 +20,11 @@ base_of bytes =
 abbrev pub next_value : ℕ → ℕ → ℕ → ℕ
 next_value base before d = if d == 95 then before else before * base + digit_of d
 
--- a value that 64 bits hold
+-- a value that fits 64 bits
 abbrev pub in_64 : ℕ → Option ℕ
 in_64 value = if nat_lt value (2 ^ 64) then Some value else None
 
--- the value of digits after others of the value `before`; a `_` has none
+-- the value of digits after others of the value `before`; a `_` has no value
 unfoldable pub value_after : ℕ → ℕ → List ℕ → ℕ
 value_after base before [] = before
 value_after base before (d ∷ digits) = value_after base (next_value base before d) digits
@@ -41,7 +41,8 @@ width_of c =
 abbrev pub is_sign : ℕ → Bool
 is_sign c = c == 85 || c == 117
 
--- a sign letter, a width letter, or one of each in either order: whether it is signed, the width or 0, the length
+-- a sign letter, a width letter, or one of each in either order: whether the number is signed, the width or 0, the
+-- length
 unfoldable pub suffix_of : ℕ → ℕ → Suffix
 suffix_of c d =
     if is_sign c then record { signed = false; width = width_of d; len = if width_of d == 0 then 1 else 2 }
@@ -53,7 +54,7 @@ suffix_of c d =
 abbrev pub suffix_at : List ℕ → Suffix
 suffix_at after = suffix_of (slice_index after 0) (slice_index after 1)
 
--- whether the type has the value
+-- whether the type holds the value
 abbrev pub has_value : Bool → ℕ → ℕ → Bool
 has_value signed width value = nat_lt value (2 ^ (if signed then width - 1 else width))
 
@@ -76,7 +77,7 @@ checked at value s end next =
 abbrev pub start_of : ℕ → ℕ
 start_of base = if base == 10 then 0 else 2
 
--- what stands behind a prefix of this length in digits of this base
+-- the number after a prefix of this length, in digits of this base
 abbrev pub digits_at : ℕ → ℕ → ℕ → List ℕ → Result Read Fault
 digits_at at base start digits =
     let len = prefix_len (is_in (class.Digit base)) digits in

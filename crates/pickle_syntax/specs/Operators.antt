@@ -1,4 +1,4 @@
--- What a token means before and after an operand.
+-- The meaning of a token before and after an operand.
 use Rattle.std.specs.Prelude.{ℕ, ◌&&◌, Bool, nat_le, List, [], ◌∷◌}
 use Rattle.pickle_syntax.specs.declared.token.Word.{Word}
 use Rattle.pickle_syntax.specs.declared.token.Word.TheVariants as word
@@ -51,7 +51,7 @@ abbrev pub word_next : Word → Next
 word_next word.As = next.Convert
 word_next _ = next.Nothing
 
--- the operator that the tokens begin with
+-- the operator at the front of the tokens
 abbrev pub next_of : List Token → Next
 next_of [] = next.Nothing
 next_of (Mark s ∷ rest) = sign_next s
@@ -59,7 +59,7 @@ next_of (AttributeOf a ∷ rest) = next.Attribute a
 next_of (Reserved w ∷ rest) = word_next w
 next_of (_ ∷ rest) = next.Nothing
 
--- the level of what an operator makes
+-- the level of an operator's result
 abbrev pub own_of : Next → ℕ
 own_of (next.Infix op) = level op
 own_of next.Choice = 1
@@ -81,6 +81,6 @@ left_of (next.Attribute a) = 14
 left_of next.Convert = 12
 left_of next.Nothing = 0
 
--- whether the operator at the front takes this operand, for a place of this level
+-- whether the operator at the front accepts this operand, for a place of this level
 abbrev pub goes_on : ℕ → Tree → Next → Bool
 goes_on least left n = nat_le least (own_of n) && nat_le (left_of n) (level_of left)

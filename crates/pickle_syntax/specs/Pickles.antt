@@ -20,20 +20,20 @@ pub record IsPickleOf (tokens : List Token) (ds : List DeclarationTree) : Type 0
 abbrev pub IsPickle : List Token → Type 0
 IsPickle tokens = (ds : List DeclarationTree) × IsPickleOf tokens ds
 
--- how many of the tokens are `;`
+-- the number of `;` among the tokens
 abbrev pub semicolons : List Token → ℕ
 semicolons [] = 0
 semicolons (Mark sign.Semicolon ∷ rest) = 1 + semicolons rest
 semicolons (_ ∷ rest) = semicolons rest
 
--- the fault of a reading that stopped, over so many tokens
+-- the fault of a reading that stopped, over `count` tokens
 abbrev pub fault_of : Stop → ℕ → ParseFault
 fault_of (stop.Syntax left) count = fault.Syntax (count - left)
 fault_of stop.TooDeep count = fault.TooDeep
 fault_of stop.TooMany count = fault.TooMany
 fault_of stop.Memory count = fault.Memory
 
--- a place is one of so many tokens, or their end
+-- a place is that of one of so many tokens, or their end
 abbrev pub IsPlaceWithin : ℕ → ParseFault → Type 0
 IsPlaceWithin count (fault.Syntax token) = token ≤ count
 IsPlaceWithin count fault.TooDeep = ⊤

@@ -32,11 +32,11 @@ begins c (b ∷ bytes) = is_in c b
 abbrev pub IsBlank : List ℕ → Type 0
 IsBlank bytes = (b : ℕ) × (bytes ≡ b ∷ []) × (is_in class.Blank b ≡ true)
 
--- `//` and what follows it on its line
+-- `//` and the bytes after it on its line
 abbrev pub IsLineComment : List ℕ → Type 0
 IsLineComment bytes = (line : List ℕ) × (bytes ≡ codes "//" ++ line) × AllIn class.Line line
 
--- `/*` and what follows it up to the first `*/`
+-- `/*` and the bytes after it up to the first `*/`
 abbrev pub IsBlockComment : List ℕ → Type 0
 IsBlockComment bytes = (inner : List ℕ) × (bytes ≡ codes "/*" ++ inner ++ codes "*/") × ((before after : List ℕ) → inner ++ codes "*/" ≡ before ++ codes "*/" ++ after → after ≡ [])
 
@@ -145,7 +145,7 @@ suffix_width (WidthLetter w) = Some (width_of w)
 suffix_width (SignAndWidth u w) = Some (width_of w)
 suffix_width (WidthAndSign w u) = Some (width_of w)
 
--- without a width in its suffix a number has 32 bits where they hold it, and else 64
+-- without a width in its suffix a number has 32 bits if they hold it, otherwise 64
 abbrev pub width_for : Option ℕ → Bool → ℕ → ℕ
 width_for (Some width) signed value = width
 width_for None signed value = if has_value signed 32 value then 32 else 64
@@ -176,7 +176,7 @@ pub record IsNumber (n : Number) (bytes : List ℕ) : Type 0 where
   pub width : n.width ≡ width_for (suffix_width suffix) n.signed n.value
   pub held : has_value n.signed n.width n.value ≡ true
 
--- an escape, and the byte that it stands for
+-- an escape, and the byte that it means
 pub data IsEscape (value : ℕ) (bytes : List ℕ) : Type 0 where
   Itself : (value ≡ 92) ⊎ ((value ≡ 39) ⊎ (value ≡ 34)) → bytes ≡ 92 ∷ value ∷ [] → IsEscape value bytes
   LineFeed : value ≡ 10 → bytes ≡ codes "\\n" → IsEscape value bytes
@@ -216,12 +216,12 @@ MayPrecede (Numeral n) rest = begins class.Word rest ≡ false
 MayPrecede (Mark sign.Slash) rest = (more : List ℕ) → rest ≢ 42 ∷ more
 MayPrecede _ rest = Unit {0}
 
--- the bytes are a blank or a comment, or the token; and they may stand before the rest
+-- the bytes are a blank or a comment, or the token; and they may be before the rest
 abbrev pub IsPiece : Option Token → List ℕ → List ℕ → Type 0
 IsPiece None bytes rest = IsBlank bytes ⊎ (IsLineComment bytes ⊎ IsBlockComment bytes)
 IsPiece (Some t) bytes rest = Spells t bytes × MayPrecede t rest
 
--- a piece than which none that begins with it is longer; and none other is as long
+-- the longest piece at the front: no piece there is longer, and no other is as long
 pub record IsLongest (piece : Option Token) (bytes rest : List ℕ) : Type 0 where
   pub is : IsPiece piece bytes rest
   pub longest : (other : Option Token) (front after : List ℕ) → front ++ after ≡ bytes ++ rest → IsPiece other front after → length front ≤ length bytes
@@ -231,15 +231,15 @@ pub record IsLongest (piece : Option Token) (bytes rest : List ℕ) : Type 0 whe
 abbrev pub HasNoPiece : List ℕ → Type 0
 HasNoPiece bytes = (piece : Option Token) (front after : List ℕ) → front ++ after ≡ bytes → IsPiece piece front after → ⊥
 
--- Reading on from the opening quote, what comes after the last part: a line feed or the end of the pickle, or what
--- begins no part, a backslash of no whole escape among it.
+-- Read on from the opening quote: the next thing after the last part is a line feed, the end of the pickle, or a byte
+-- that begins no part, such as a backslash that begins no whole escape.
 abbrev pub EndsBadly : ℕ → ℕ → List ℕ → Fault → Type 0
 EndsBadly quote at [] fault = fault ≡ (Unclosed, quote)
 EndsBadly quote at (b ∷ rest) fault =
     ((b ≡ 10) × (fault ≡ (Unclosed, quote)))
     ⊎ ((b ≢ 10) × (b ≢ 34) × (fault ≡ (BadByte, at)) × ((value : ℕ) (front after : List ℕ) → front ++ after ≡ b ∷ rest → IsPart 34 value front → ⊥))
 
--- what is wrong with bytes at whose front, which stands at `at`, no piece is
+-- the fault of bytes that begin with no piece; their place is `at`
 pub data IsFaultAt (at : ℕ) (bytes : List ℕ) (fault : Fault) : Type 0 where
   InNumber : (b : ℕ) (rest : List ℕ) → bytes ≡ b ∷ rest → digit_of b < 10 → fault ≡ (BadNumber, at) → IsFaultAt at bytes fault
   InComment : (rest : List ℕ) → bytes ≡ codes "/*" ++ rest → fault ≡ (Unclosed, at) → IsFaultAt at bytes fault
@@ -251,7 +251,7 @@ pub record Piece : Type 0 where
   pub token : Option Token
   pub bytes : List ℕ
 
--- the pieces stand one after the other from the front, each the longest at its place, and leave the rest
+-- the pieces follow one another from the front, each the longest at its place, and leave the rest
 abbrev pub pieces : List Piece → List ℕ → List ℕ → Type 0
 pieces [] bytes rest = bytes ≡ rest
 pieces (p ∷ ps) bytes rest = (after : List ℕ) × (bytes ≡ p.bytes ++ after) × IsLongest p.token p.bytes after × pieces ps after rest
@@ -260,7 +260,7 @@ abbrev pub tokens_in : List Piece → List Token
 tokens_in [] = []
 tokens_in (p ∷ ps) = token_list p.token ++ tokens_in ps
 
--- the spans of the tokens, where the first piece stands at `at`
+-- the spans of the tokens; the place of the first piece is `at`
 abbrev pub spans_in : ℕ → List Piece → List Span
 spans_in at [] = []
 spans_in at (p ∷ ps) = span_list p.token at (length p.bytes) ++ spans_in (at + length p.bytes) ps
@@ -282,6 +282,6 @@ IsFirstFault at bytes fault = (ps : List Piece) × (rest : List ℕ) × pieces p
 abbrev pub IsLexed : List ℕ → List Token × List Span → Type 0
 IsLexed bytes x = (length bytes ≤ 1048576) × AreTokens 0 bytes x
 
--- the fault of a pickle: it is too long, or the first place where no piece is says it
+-- the fault of a pickle: it is too long, or has the fault of the first place without a piece
 abbrev pub IsLexFault : List ℕ → Fault → Type 0
 IsLexFault bytes fault = ((1048576 < length bytes) × (fault ≡ (TooLong, 1048576))) ⊎ ((length bytes ≤ 1048576) × IsFirstFault 0 bytes fault)

@@ -40,7 +40,7 @@ operand_at sub (Named n ∷ rest) = Ok (Name n, rest)
 operand_at sub (Mark s ∷ rest) = operand_by sub rest (start_of s)
 operand_at sub tokens = Err (Wrong (length tokens))
 
--- an operator after an operand, with what follows it
+-- an operator after an operand, and what comes after the operator
 unfoldable pub step_at : Reader → Tree → List Token → Next → Read Tree
 step_at sub left rest (next.Infix op) = do
   right ← sub (level op + 1) rest
@@ -66,7 +66,7 @@ step_at sub left rest next.Convert = do
   Ok (After left (Convert t.0), t.1)
 step_at sub left rest next.Nothing = Err (Wrong (length rest))
 
--- at most so many operators after an operand, each over those before it
+-- at most so many operators after an operand, each applied to the result of those before it
 unfoldable pub chain : Reader → ℕ → ℕ → ℕ → Tree → List Token → Read Tree
 chain sub room zero least left tokens = if goes_on least left (next_of tokens) then Err Deep else Ok (left, tokens)
 chain sub room (suc n) least left tokens =
@@ -80,6 +80,6 @@ expression_at zero least [] = Err (Wrong 0)
 expression_at zero least (t ∷ rest) = Err Deep
 expression_at (suc room) least tokens = operand_at (expression_at room) tokens >>= λ x. chain (expression_at room) room room least x.0 x.1
 
--- the expression that a function found, and the tokens that it left, are what the reading gives
+-- the reading gives the expression that a function found, and the tokens that it left
 abbrev pub ReadsExpression : Result (FoundExpression × Bor (List Kind)) Stop → Read Tree → Type 0
 ReadsExpression result read = Reads (λ found. expression_tree found.expression) result read

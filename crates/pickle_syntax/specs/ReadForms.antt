@@ -20,7 +20,7 @@ use Rattle.pickle_syntax.specs.ReadExpressions.{expression_at}
 
 -- ---- expressions that may be absent
 
--- an expression no deeper than this, as one that is there
+-- an expression no deeper than this, which has to be present
 unfoldable pub present_at : ℕ → List Token → Read (Option Tree)
 present_at most tokens = expression_at most 1 tokens >>= λ e. Ok (Some e.0, e.1)
 
@@ -28,11 +28,11 @@ abbrev pub present_if : ℕ → Option (List Token) → List Token → Read (Opt
 present_if most None tokens = Ok (None, tokens)
 present_if most (Some rest) tokens = present_at most rest
 
--- an expression behind this sign, or nothing
+-- an expression after this sign, or nothing
 unfoldable pub part_at : ℕ → Sign → List Token → Read (Option Tree)
 part_at most s tokens = present_if most (after_sign s tokens) tokens
 
--- an expression behind `if`, or nothing
+-- an expression after `if`, or nothing
 unfoldable pub condition_at : ℕ → List Token → Read (Option Tree)
 condition_at most tokens = present_if most (after_word word.If tokens) tokens
 
@@ -43,7 +43,7 @@ bound_by most None tokens = do
   after ← expect sign.CloseBracket e.1
   Ok (e.0, after)
 
--- what may stand in the brackets of an array, and the closing one
+-- what may be in the brackets of an array, and the closing one
 unfoldable pub bound_at : ℕ → List Token → Read (Option Tree)
 bound_at most tokens = bound_by most (after_sign sign.CloseBracket tokens) tokens
 
@@ -103,11 +103,11 @@ struct_by limits sub None tokens = do
   fs ← braced_at limits sub r.1
   Ok (IntegralForm r.0 fs.0, fs.1)
 
--- what follows `struct`
+-- what comes after `struct`
 unfoldable pub struct_at : Limits → FormReader → List Token → Read FormTree
 struct_at limits sub tokens = struct_by limits sub (after_sign sign.OpenBrace tokens) tokens
 
--- what follows `pinned`
+-- what comes after `pinned`
 unfoldable pub pinned_at : Limits → FormReader → List Token → Read FormTree
 pinned_at limits sub tokens = do
   after ← needed (after_word word.Struct tokens) tokens
@@ -135,7 +135,7 @@ suffix_by limits room f (Some rest) tokens =
     then Err Deep
     else bound_at limits.expression_depth rest >>= λ b. Ok (ArrayForm f b.0, b.1)
 
--- the array suffix, if there is one, where the element may be so deep
+-- the array suffix, if there is one; the element may be no deeper than the number
 unfoldable pub suffix_at : Limits → ℕ → FormTree → List Token → Read FormTree
 suffix_at limits room f tokens = suffix_by limits room f (after_sign sign.OpenBracket tokens) tokens
 
@@ -147,7 +147,7 @@ form_at limits (suc room) tokens = base_at limits (form_at limits room) tokens >
 
 -- ---- what a function read
 
--- the field that a function found, and the tokens that it left, are what the reading gives
+-- the reading gives the field that a function found, and the tokens that it left
 abbrev pub ReadsField : Result (FoundField × Bor (List Kind)) Stop → Read FieldTree → Type 0
 ReadsField result read = Reads (λ found. field_tree found.field) result read
 

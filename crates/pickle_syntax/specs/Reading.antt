@@ -18,8 +18,8 @@ use Rattle.pickle_syntax.specs.declared.parser.fault.Stop.TheVariants as stop
 use Rattle.pickle_syntax.specs.Tokens.{Token, Reserved, Named, Opens, Numeral, Mark, tokens_of}
 use Rattle.pickle_tree.specs.Tree.{TreeReference, Int, Uint, Called, TreeTarget, ToReference, ToOffset}
 
--- why nothing is read: no tree goes on with the token with which so many are left (0: the tokens end too early), it is too deep,
--- or it has too many parts
+-- Why nothing is read: no tree continues with the next token, where so many tokens are left (0: the tokens end too
+-- early); a tree is too deep; or it has too many parts.
 pub data Fault : Type 0 where
   Wrong : (left : ℕ) → Fault
   Deep : Fault
@@ -30,7 +30,7 @@ abbrev pub ◌>>=◌ : {A B : Type 0} → Result A Fault → (A → Result B Fau
 (Ok x) >>= f = f x
 (Err e) >>= f = Err e
 
--- what was read, and the tokens after it
+-- the result of reading, and the tokens after it
 abbrev pub Read : Type 0 → Type 0
 Read A = Result (A × List Token) Fault
 
@@ -40,16 +40,16 @@ Fails (stop.Syntax left) read = read ≡ Err (Wrong left)
 Fails stop.TooDeep read = read ≡ Err Deep
 Fails stop.TooMany read = read ≡ Err Many
 
--- what a function returned, seen by view, is what the reading gives, unless memory ran out
+-- the result of a function, seen by view, is what the reading gives, unless memory ran out
 abbrev pub Gives : {X Y : Type 0} → (X → Y) → Result X Stop → Result Y Fault → Type 0
 Gives view (Ok x) read = read ≡ Ok (view x)
 Gives view (Err e) read = Fails e read
 
--- what a function read, seen by view, and the tokens that it left, are what the reading gives, unless memory ran out
+-- the result of a function, seen by view, and the tokens that it left are what the reading gives, unless memory ran out
 abbrev pub Reads : {X Y : Type 0} → (X → Y) → Result (X × Bor (List Kind)) Stop → Read Y → Type 0
 Reads view result read = Gives (λ x. (view x.0, tokens_of x.1.now)) result read
 
--- the tokens that a function lends are these
+-- the tokens that a function returns are these
 abbrev pub IsRest : Option (Bor (List Kind)) → Option (List Token) → Type 0
 IsRest None rest = rest ≡ None
 IsRest (Some lent) rest = rest ≡ Some (tokens_of lent.now)
@@ -58,7 +58,7 @@ abbrev pub rest_if : Bool → List Token → Option (List Token)
 rest_if true rest = Some rest
 rest_if false rest = None
 
--- the tokens after this sign, where they begin with it
+-- the tokens after this sign, if they begin with it
 unfoldable pub after_sign : Sign → List Token → Option (List Token)
 after_sign s (Mark t ∷ rest) = rest_if (sameb sign_contract.the_type t s) rest
 after_sign s _ = None
@@ -67,7 +67,7 @@ unfoldable pub after_word : Word → List Token → Option (List Token)
 after_word w (Reserved v ∷ rest) = rest_if (sameb word_contract.the_type v w) rest
 after_word w _ = None
 
--- what follows, where these tokens begin as they have to
+-- what comes after, if these tokens begin as they have to
 abbrev pub needed : Option (List Token) → List Token → Result (List Token) Fault
 needed None tokens = Err (Wrong (length tokens))
 needed (Some rest) tokens = Ok rest
@@ -108,7 +108,7 @@ unit_at (Named n ∷ rest) = named_unit (unit_named n) rest
 unit_at (Numeral n ∷ rest) = Ok (unit.Bits n, rest)
 unit_at tokens = Err (Wrong (length tokens))
 
--- what follows `offset<`
+-- what comes after `offset<`
 unfoldable pub offset_at : List Token → Read TreeTarget
 offset_at tokens = do
   r ← reference_at tokens

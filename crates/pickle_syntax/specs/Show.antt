@@ -85,7 +85,7 @@ abbrev pub show_optional : Option Tree → List Token
 show_optional None = []
 show_optional (Some e) = show e
 
--- an expression behind a token, or neither
+-- an expression after a token, or neither
 abbrev pub show_part : Token → Option Tree → List Token
 show_part lead None = []
 show_part lead (Some e) = lead ∷ show e
@@ -103,7 +103,7 @@ abbrev pub show_pinned : Bool → List Token
 show_pinned true = Reserved word.Pinned ∷ []
 show_pinned false = []
 
--- what stands behind the type of a field
+-- the name and the clauses after the type of a field, and the `;` at its end
 abbrev pub show_parts : FieldParts → List Token
 show_parts p = show_name p.name ++ show_part (Mark sign.Colon) p.constraint ++ show_part (Mark sign.At) p.label ++ show_part (Reserved word.If) p.condition ++ Mark sign.Semicolon ∷ []
 

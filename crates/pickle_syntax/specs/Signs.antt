@@ -57,6 +57,6 @@ sign_cut at (Some s) single = Ok (Some (Mark s), 2)
 sign_cut at None (Some s) = Ok (Some (Mark s), 1)
 sign_cut at None None = Err (BadByte, at)
 
--- the longest sign at the front, whose first byte stands at `at`
+-- the longest sign at the front, whose first byte is at the place `at`
 unfoldable pub sign_piece : ℕ → ℕ → List ℕ → Result Cut Fault
 sign_piece at b rest = sign_cut at (double_sign b (slice_index rest 0)) (single_sign b)

@@ -9,13 +9,13 @@ use Rattle.pickle_syntax.specs.declared.lexer.texts.Part.{Part}
 use Rattle.pickle_syntax.specs.declared.lexer.texts.Part.TheVariants.{Closes, Byte, Bad, Breaks}
 use Rattle.pickle_tree.specs.declared.tree.Attribute.{Attribute}
 
--- two hexadecimal digits: the byte that they write
+-- the byte that two hexadecimal digits are
 abbrev pub hex_pair : List ℕ → Part
 hex_pair [] = Bad
 hex_pair (h ∷ []) = Bad
 hex_pair (h ∷ l ∷ rest) = if nat_lt (digit_of h) 16 && nat_lt (digit_of l) 16 then Byte (digit_of h * 16 + digit_of l) 4 else Bad
 
--- what follows a backslash: the byte that the escape stands for, and its length with the backslash
+-- the escape after a backslash: the byte that it means, and its length with the backslash
 abbrev pub escape : List ℕ → Part
 escape [] = Bad
 escape (c ∷ rest) =
@@ -25,7 +25,7 @@ escape (c ∷ rest) =
     else if c == 120 then hex_pair rest
     else Bad
 
--- what stands at a place between two quotes
+-- the part at a place between two quotes
 unfoldable pub part_at : ℕ → List ℕ → Part
 part_at quote [] = Breaks
 part_at quote (b ∷ rest) =
@@ -49,21 +49,21 @@ text_part quote at (Byte b n) more = with_byte b (more (n - 1))
 text_part quote at Bad more = Err (BadByte, at)
 text_part quote at Breaks more = Err (Unclosed, quote)
 
--- The bytes of a text and the place after its closing quote, where `at` is the place of the first byte, `quote` that
--- of the opening quote, and the first `left` bytes belong to a part that was read.
+-- The bytes of a text and the place after its closing quote. `at` is the place of the first byte, `quote` that of the
+-- opening quote, and the first `left` bytes belong to a part that was read already.
 unfoldable pub text_from : ℕ → ℕ → ℕ → List ℕ → Result Read Fault
 text_from quote left at [] = Err (Unclosed, quote)
 text_from quote (suc left) at (b ∷ rest) = text_from quote left (at + 1) rest
 text_from quote zero at (b ∷ rest) = text_part quote at (part_at 34 (b ∷ rest)) (λ left. text_from quote left (at + 1) rest)
 
--- a part lies within the k bytes that are left
+-- a part is within the k bytes that are left
 abbrev pub FitsPart : Part → ℕ → Type 0
 FitsPart (Byte b n) k = (1 ≤ n) × (n ≤ k)
 FitsPart Closes k = 1 ≤ k
 FitsPart Bad k = Unit {0}
 FitsPart Breaks k = Unit {0}
 
--- the byte of a character and its length, where it is followed by the closing apostrophe
+-- the byte of a character and its length, if the closing apostrophe comes next
 abbrev pub character_of : Part → List ℕ → Option (ℕ × ℕ)
 character_of (Byte b n) bytes = if slice_index bytes n == 39 then Some (b, n + 1) else None
 character_of Closes bytes = None

@@ -1,4 +1,4 @@
--- Tokens, without where they lie in memory.
+-- Tokens, without their places in memory.
 use Rattle.std.specs.Prelude.{ℕ, List, map}
 use Rattle.pickle_syntax.specs.declared.token.Word.{Word}
 use Rattle.pickle_syntax.specs.declared.token.Opener.{Opener}
@@ -19,7 +19,7 @@ pub data Token : Type 0 where
   AttributeOf : (attribute : Attribute) → Token
   Mark : (sign : Sign) → Token
 
--- the token that the lexer's kind stands for
+-- the token of a lexer's kind
 abbrev pub token_of : Kind → Token
 token_of (kind.Word w) = Reserved w
 token_of (kind.Name n) = Named n.now

@@ -1,4 +1,4 @@
--- What a refusal of tokens tells.
+-- What the refusal of tokens says.
 use Rattle.std.specs.Prelude.{◌-◌, ◌≡◌, ⊤, List, ◌∷◌, ◌++◌, length, Err}
 use Rattle.pickle_syntax.specs.declared.parser.fault.ParseFault.{ParseFault}
 use Rattle.pickle_syntax.specs.declared.parser.fault.ParseFault.TheVariants as fault
@@ -7,13 +7,13 @@ use Rattle.pickle_tree.specs.Limits.{standard}
 use Rattle.pickle_syntax.specs.Reading.{Wrong, Deep, Many}
 use Rattle.pickle_syntax.specs.ReadForms.{pickle_at}
 
--- the reading of the tokens stops with this fault, and at its token; nothing is said of want of memory
+-- the reading of the tokens stops with this fault, at its token; nothing is said of an allocation failure
 abbrev pub Tells : List Token → ParseFault → Type 0
 Tells tokens fault.Memory = ⊤
 Tells tokens (fault.Syntax token) = pickle_at standard tokens ≡ Err (Wrong (length tokens - token))
 Tells tokens fault.TooDeep = pickle_at standard tokens ≡ Err Deep
 Tells tokens fault.TooMany = pickle_at standard tokens ≡ Err Many
 
--- the token behind these is named as the one at which the reading stops
+-- the fault names the token after these as the one at which the reading stops
 abbrev pub TellsToken : (front : List Token) → (token : Token) → (rest : List Token) → Type 0
 TellsToken front token rest = Tells (front ++ token ∷ rest) (fault.Syntax (length front))

@@ -1,4 +1,4 @@
--- Words, and the openers and attributes that are spelled out.
+-- Words, and the openers and attributes that have a fixed spelling.
 use Rattle.std.specs.Prelude.{ℕ, if◌then◌else◌, ◌==◌, List, codes, Option, Some, None, option_map}
 use Rattle.std.specs.List.{prefix_len, take_while, starts_with}
 use Rattle.std.specs.Str.{bytes_eq}
@@ -42,7 +42,7 @@ opener_at bytes =
     else if starts_with ◌==◌ bytes (codes "offset<") then Some (opener.Offset, 7)
     else None
 
--- the attribute behind an apostrophe, and the length of its name
+-- the attribute after an apostrophe, and the length of its name
 unfoldable pub attribute_at : List ℕ → Option (Attribute × ℕ)
 attribute_at bytes =
     if starts_with ◌==◌ bytes (codes "length") then Some (attribute.Length, 6)

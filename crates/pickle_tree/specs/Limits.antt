@@ -1,12 +1,12 @@
--- How deep and how long the parts of a pickle may be.
+-- The limits of a pickle: the depths and the lengths of its parts.
 use Rattle.std.specs.Prelude.{ℕ, ◌+◌, ◌≤◌, ⊤, max, Option, Some, None, List, [], ◌∷◌, length}
 use Rattle.pickle_tree.specs.Tree.{Tree, Literal, Name, Bracket, Before, Between, Choice, Index, After, FormTree, Plain, StringForm, OffsetForm, ArrayForm, StructForm, IntegralForm, UnionForm, FieldTrees, NoFields, FieldThen, FieldParts, DeclarationTree}
 use Rattle.pickle_tree.specs.Tree as tree
 
 pub record Limits : Type 0 where
-  -- how deep an expression may be, its brackets counted
+  -- how deep an expression may be; brackets count
   pub expression_depth : ℕ
-  -- how deep types may stand in one another
+  -- how deep types may be nested
   pub form_depth : ℕ
   -- how many fields a struct or a union may have
   pub fields : ℕ
@@ -17,7 +17,7 @@ pub record Limits : Type 0 where
 abbrev pub standard : Limits
 standard = record { expression_depth = 64; form_depth = 64; fields = 1024; declarations = 4096 }
 
--- a literal or a name is 1 deep, every other node one more than its deepest operand
+-- the depth of an expression: 1 for a literal or a name, else one more than the deepest operand
 abbrev pub depth : Tree → ℕ
 depth (Literal n) = 1
 depth (tree.Character b) = 1
@@ -30,7 +30,7 @@ depth (Choice c x y) = max (depth c) (max (depth x) (depth y)) + 1
 depth (Index e i) = max (depth e) (depth i) + 1
 depth (After e s) = depth e + 1
 
--- a name or a scalar is 1 deep, an array one more than its element, a struct or union one more than its deepest field
+-- the depth of a type: 1 for a name or a scalar, else one more than its element or its deepest field
 abbrev mutual
   pub form_depth : FormTree → ℕ
   form_depth (Plain r) = 1
@@ -71,7 +71,7 @@ abbrev mutual
   AreFieldsWithin limits NoFields = ⊤
   AreFieldsWithin limits (FieldThen f p rest) = IsFormWithin limits f × ArePartsWithin limits.expression_depth p × AreFieldsWithin limits rest
 
--- each declared type keeps the limits, and its own depth too
+-- each declared type is within the limits, and so is its own depth
 abbrev pub AreDeclarationsWithin : Limits → List DeclarationTree → Type 0
 AreDeclarationsWithin limits [] = ⊤
 AreDeclarationsWithin limits (d ∷ ds) = IsFormWithin limits d.form × (form_depth d.form ≤ limits.form_depth) × AreDeclarationsWithin limits ds
@@ -79,7 +79,7 @@ AreDeclarationsWithin limits (d ∷ ds) = IsFormWithin limits d.form × (form_de
 abbrev pub IsPickleWithin : Limits → List DeclarationTree → Type 0
 IsPickleWithin limits ds = (length ds ≤ limits.declarations) × AreDeclarationsWithin limits ds
 
--- how many types are written in a type, itself among them
+-- how many types are written in a type, itself included
 abbrev mutual
   pub form_count : FormTree → ℕ
   form_count (Plain r) = 1
@@ -98,6 +98,6 @@ abbrev pub pickle_form_count : List DeclarationTree → ℕ
 pickle_form_count [] = 0
 pickle_form_count (d ∷ ds) = form_count d.form + pickle_form_count ds
 
--- the most types that are written in a pickle, which has as many bytes at most
+-- the most types in a pickle, which has at most as many bytes
 abbrev pub MOST_FORMS : ℕ
 MOST_FORMS = 1048576

@@ -1,4 +1,4 @@
--- A pickle without where it lies in memory.
+-- A pickle without its place in memory.
 use Rattle.std.specs.Prelude.{List, map}
 use Rattle.pickle_tree.specs.declared.tree.Pickle.{Pickle}
 use Rattle.pickle_tree.specs.Tree.{DeclarationTree, declaration_tree}

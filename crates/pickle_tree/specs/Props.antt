@@ -1,4 +1,4 @@
--- That a pickle keeps the limits has one proof at most.
+-- The fact that a pickle is within the limits has one proof at most.
 use Rattle.std.specs.Prelude.{ℕ, Option, Some, None, List, [], ◌∷◌}
 use Rattle.std.specs.Coded.{Unit-prop, ×_prop, le_prop}
 use Rattle.pickle_tree.specs.Tree.{Tree, FormTree, Plain, StringForm, OffsetForm, ArrayForm, StructForm, IntegralForm, UnionForm, FieldTrees, NoFields, FieldThen, FieldParts, DeclarationTree}

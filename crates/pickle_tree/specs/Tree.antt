@@ -1,4 +1,4 @@
--- The syntax tree of a pickle, without where it lies in memory.
+-- The syntax tree of a pickle, without its place in memory.
 use Rattle.std.specs.Prelude.{ℕ, Bool, List, [], ◌∷◌, map, Option, Some, None, Box}
 use Rattle.std.specs.declared.alloc.Global.{Global}
 use denote.Bor.{Bor}
@@ -23,7 +23,7 @@ use Rattle.pickle_tree.specs.declared.tree.Form.TheOpen.{Form-F, Field-F}
 use Rattle.pickle_tree.specs.declared.tree.Field.{Field, fold-Field}
 use Rattle.pickle_tree.specs.declared.tree.Declaration.{Declaration}
 
--- an integer type as it is written, or a name
+-- an integer type as it is written, or the name of a type
 pub data TreeReference : Type 0 where
   Int : (width : Number) → TreeReference
   Uint : (width : Number) → TreeReference
@@ -34,7 +34,7 @@ pub data TreeTarget : Type 0 where
   ToReference : (reference : TreeReference) → TreeTarget
   ToOffset : (reference : TreeReference) (unit : Unit) → TreeTarget
 
--- what follows an operand and has no operand of its own
+-- a suffix: it comes after an operand
 pub data TreeSuffix : Type 0 where
   Select : (name : List ℕ) → TreeSuffix
   AttributeOf : (attribute : Attribute) → TreeSuffix
@@ -108,7 +108,7 @@ abbrev pub optional_bytes : Option (Bor (List ℕ)) → Option (List ℕ)
 optional_bytes None = None
 optional_bytes (Some n) = Some n.now
 
--- what stands beside the type of a field: its prefix, name, constraint, label and condition
+-- the parts of a field beside its type: its prefix, name, constraint, label and condition
 pub record FieldParts : Type 0 where
   pub order : Option ByteOrder
   pub name : Option (List ℕ)
@@ -132,7 +132,7 @@ mutual
     NoFields : FieldTrees
     FieldThen : (form : FormTree) (parts : FieldParts) (rest : FieldTrees) → FieldTrees
 
--- a field without where it lies in memory
+-- a field without its place in memory
 pub record FieldTree : Type 0 where
   pub form : FormTree
   pub parts : FieldParts

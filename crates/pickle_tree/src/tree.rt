@@ -14,7 +14,7 @@ pub enum Attribute {
     Size,
 }
 
-/// The value of a number, and its type: a width in bits and whether it has a sign.
+/// The value of a number literal and its type: a width in bits, and whether it is signed.
 #[derive(Clone, Copy, PartialEq, Eq, Debug)]
 pub struct Number {
     pub value: u64,
@@ -67,7 +67,7 @@ pub enum Unit {
     Bits(Number),
 }
 
-/// An integer type as it is written, or a name.
+/// An integer type as it is written, or the name of a type.
 #[derive(Drop)]
 pub enum Reference<'t> {
     /// `int<N>`
@@ -84,7 +84,7 @@ pub enum Target<'t> {
     Offset(Reference<'t>, Unit),
 }
 
-/// What follows an operand and has no operand of its own.
+/// A suffix after an operand. It has no operand of its own, as the `[index]` of an element has.
 #[derive(Drop)]
 pub enum Suffix<'t> {
     /// `.NAME`
@@ -97,7 +97,7 @@ pub enum Suffix<'t> {
     Convert(Target<'t>),
 }
 
-/// An expression. What has several parts is kept behind one pointer, so that an expression is small.
+/// An expression. The parts of a larger one are in one box, so that an expression is small.
 #[cycle(expressions)]
 #[derive(Drop)]
 pub enum Expression<'t> {
@@ -113,7 +113,7 @@ pub enum Expression<'t> {
     After(Box<Suffixed<'t>>),
 }
 
-/// An operator between its operands.
+/// An operator and its two operands.
 #[cycle(expressions)]
 #[derive(Drop)]
 pub struct Operation<'t> {
@@ -139,7 +139,7 @@ pub struct Element<'t> {
     pub index: Expression<'t>,
 }
 
-/// An operand, and what follows it.
+/// An operand and its suffix.
 #[cycle(expressions)]
 #[derive(Drop)]
 pub struct Suffixed<'t> {
@@ -147,7 +147,7 @@ pub struct Suffixed<'t> {
     pub suffix: Suffix<'t>,
 }
 
-/// The order of bytes that a prefix sets.
+/// The byte order that a prefix sets.
 #[derive(Clone, Copy, PartialEq, Eq, Debug)]
 pub enum ByteOrder {
     Big,
@@ -161,16 +161,16 @@ pub enum Form<'t> {
     Reference(Reference<'t>),
     String,
     Offset(Box<Reference<'t>>, Unit),
-    /// A type with an array suffix, and the bound in it.
+    /// An array type: the type of its elements, and the bound in its brackets, if there is one.
     Array(Box<Form<'t>>, Option<Box<Expression<'t>>>),
-    /// Whether it is pinned, and its fields.
+    /// A struct: whether it is pinned, and its fields.
     Struct(bool, Vec<Field<'t>>),
-    /// A struct that is read as one integer of a type.
+    /// An integral struct: its integer type, and its fields.
     Integral(Box<Reference<'t>>, Vec<Field<'t>>),
     Union(Vec<Field<'t>>),
 }
 
-/// What a field has behind its name. Most fields have nothing there, or a constraint alone.
+/// The clauses after a field's name. Most fields have none, or only a constraint.
 #[derive(Drop)]
 pub enum Clauses<'t> {
     Nothing,
@@ -178,7 +178,7 @@ pub enum Clauses<'t> {
     Several(Box<SeveralClauses<'t>>),
 }
 
-/// What a field has behind its name, where a label or a condition is among it.
+/// The clauses after a field's name, where a label or a condition is one of them.
 #[derive(Drop)]
 pub struct SeveralClauses<'t> {
     pub constraint: Option<Box<Expression<'t>>>,
@@ -203,8 +203,8 @@ pub struct Declaration<'t> {
     pub form: Form<'t>,
 }
 
-/// The declarations of a pickle, in order. They keep the language's limits, and as a pickle has at most 1,048,576 bytes, no more
-/// types are written in it.
+/// The declarations of a pickle, in order. They are within the language's limits. A pickle has at most 1,048,576 bytes,
+/// so it has no more types than that.
 #[derive(Drop)]
 pub struct Pickle<'t> {
     pub declarations: Vec<Declaration<'t>>,

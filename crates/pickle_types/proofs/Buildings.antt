@@ -57,7 +57,7 @@ pushed old new node table named below sound is same seen d at deep low last few 
       deep = deep;
     }
 
--- the steps of a meaning where there is room
+-- the steps of a meaning where `room` allows it
 module _ (names : Names) (seen : List Visible) (levels : ℕ) (title : Option (List ℕ)) where
   pub meaning_plain : (room : ℕ) (r : TreeReference) → 0 < room → meaning names seen levels title room (Plain r) ≡ plain room names r
   unfolding meaning
@@ -110,7 +110,7 @@ built_then a b c (Ok found) given whole g s e h = (h.0, e ∙ h.1, built_on a b 
 built_then a b c (Err Memory) given whole g s e h = tt
 built_then a b c (Err _) given whole g s e h = e ∙ h
 
--- what is seen is the same over a table that grew
+-- what is visible stays the same over a table that grew
 pub visible_kept : (old new : Builder) → IsTable old.nodes → Keeps old new → new.seen ≡ old.seen → (levels : ℕ) → AreBelow (length old.nodes) levels old.seen → visible_in new ≡ visible_in old
 visible_kept old new table keeps same levels below = rw same (views_kept old.nodes new.nodes table keeps.grows levels old.seen below)
 
@@ -149,7 +149,7 @@ field_count_is : (fs : List tree.Field) → field_count (fields_tree fs) ≡ len
 field_count_is [] = refl
 field_count_is (f ∷ fs) = let rest = field_count_is fs in omega arith
 
--- a union that keeps the limits has few alternatives
+-- a union within the limits has few alternatives
 pub parts_few : (fs : List Field) (written : List tree.Field) → length fs ≡ length written → field_count (fields_tree written) ≤ standard.fields → length (map part_of fs) ≤ 2 ^ 16
 parts_few fs written same few =
     let count = field_count_is written in
@@ -228,7 +228,7 @@ pub names_more : (fs : List Field) (f : Field) → names_in (fs ++ f ∷ []) ≡
 names_more [] f = refl
 names_more (g ∷ fs) f = rw (names_more fs f) refl
 
--- a field that is seen besides
+-- one more visible field
 pub itself_seen : (nodes : List Node) (seen : List Seen) (s : Seen) (here : Place) (index : ℕ) (parts : FieldParts) → bytes_now s.name ≡ parts.name → s.place ≡ place_in here index →
     views_of nodes (seen ++ s ∷ []) ≡ with_itself here (views_of nodes seen) s.level index parts (type_of nodes s.node)
 itself_seen nodes seen s here index parts en ep = map_push (view_of nodes) seen s ∙ rw (en, ep) refl
@@ -257,7 +257,7 @@ after_below n levels seen s place.Pinned below h = push_below n levels seen s be
 after_below n levels seen s place.Integral below h = push_below n levels seen s below h
 after_below n levels seen s place.Union below h = below
 
--- a field that is built on a table that stays as it is
+-- a field that is built on a table that stays the same
 pub field_built : (old new : Builder) (s : Seen) (here : Place) (index : ℕ) (parts : FieldParts) (field : Field) →
     IsTable old.nodes → AreNamed old.nodes old.names → AreBelow (length old.nodes) (s.level + 1) old.seen → s.node < length old.nodes →
     new.names ≡ old.names → new.nodes ≡ old.nodes → new.seen ≡ after_itself here old.seen s →

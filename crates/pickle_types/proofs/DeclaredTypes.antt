@@ -1,4 +1,4 @@
--- Laws of what is told of declared types.
+-- Laws of the reported types.
 use Rattle.std.proofs.Common.{◌≡◌, ℕ, ◌+◌, ◌<◌, ◌≤◌, List, [], ◌∷◌, ◌++◌, Option, length, drop, map, get_or, refl, sym, ap, subst, ◌∙◌, arith}
 use Rattle.std.proofs.lemmas.List.{drop_more, drop_all, drop-map, map-append, append_assoc, append-nil, get_or-map, length-map}
 use Rattle.std.proofs.lemmas.List.Elements.{All-get_or}
@@ -42,7 +42,7 @@ named_inside nodes names i named all lt e =
     let is = subst (IsNamed nodes) e' (All-get_or (IsNamed nodes) (map (λ (d : Named). d.declared) names) i named.declared (omega (arith, within)) all) in
     is.inside
 
--- what was told, one element more
+-- what was reported, and one more element
 module _ {X Y Z : Type 0} (f : X → Z) (g : Y → Z) where
   pub one_more : (xs : List X) (x : X) (ys : List Y) (i : ℕ) (y : Y) → i < length ys → y ≡ get_or ys i y → f x ≡ g y → map f (xs ++ x ∷ []) ++ map g (drop (i + 1) ys) ≡ map f xs ++ map g (drop i ys)
   one_more xs x ys i y lt e same =

@@ -1,4 +1,4 @@
--- What a fault of the definitions says of the rules.
+-- What a fault of the definitions means for the rules.
 use Rattle.std.proofs.Common.{List, refl}
 use Rattle.std.specs.Prelude.{◌≢◌}
 use Rattle.pickle_tree.specs.Tree.{DeclarationTree}

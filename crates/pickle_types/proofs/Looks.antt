@@ -1,4 +1,4 @@
--- Looking for the name of a type.
+-- Looking up the name of a type.
 use Rattle.std.proofs.Common.{◌≡◌, ℕ, suc, ◌+◌, ◌<◌, List, [], ◌∷◌, ◌++◌, map, drop, get_or, length, Option, Some, None, Bool, true, false, refl, sym, ap, ◌∙◌, arith}
 use Rattle.std.specs.Prelude.{option_map, if◌then◌else◌, All, IfSome}
 use Rattle.std.specs.Str.{bytes_eq}
@@ -28,7 +28,7 @@ module _ (word : List ℕ) where
   named_or P true d o h rest = h
   named_or P false d o h rest = rest
 
-  -- what holds of all that names were given to holds of what is found
+  -- what holds of all that have names holds of what is found
   pub found_named : (P : Declared → Type 0) (ds : List Named) → All P (map (λ (d : Named). d.declared) ds) → IfSome (declared_as word ds) P
   found_named P [] h = tt
   found_named P (d ∷ ds) h = named_or P (bytes_eq word d.word.items) d.declared (declared_as word ds) (h 0 d.declared (omega arith)) (found_named P ds (λ k x lt. h (suc k) x (omega arith)))
@@ -37,7 +37,7 @@ module _ (word : List ℕ) where
   not_found f None e = refl
   not_found f (Some x) e = cc
 
-  -- a name that no type has was given to nothing
+  -- a name that no type has belongs to nothing
   pub absent : (nodes : List Node) (ds : List Named) → find_type word (map (named_of nodes) ds) ≡ None → declared_as word ds ≡ None
   absent nodes ds e = not_found (λ (d : Declared). type_of nodes d.node) _ (sym (find_maps nodes ds) ∙ e)
 
@@ -47,7 +47,7 @@ module _ (word : List ℕ) where
   push_step true false d e o o' none rest = refl
   push_step false q d e o o' none rest = rest none
 
-  -- one more name, which was given to nothing
+  -- one more name, which belonged to nothing
   pub declared_push : (ds : List Named) (d : Named) → (bytes_eq word d.word.items ≡ true → declared_as word ds ≡ None) →
       declared_as word (ds ++ d ∷ []) ≡ (if bytes_eq word d.word.items then Some d.declared else declared_as word ds)
   declared_push [] d none = refl

@@ -73,7 +73,7 @@ module _ (words : List (List ℕ)) (numbers : PlacesByName) (types : IndexMap �
           ∙ declared_push w (values types) d (λ e. let one = (bytes_decides w d.word.items).0 e in rw (one, same) none)
           ∙ ap (λ b. if b then Some d.declared else declared_as w (values types)) turn
 
--- what is kept under the number of a name is what the name was given to
+-- the type stored under the number of a name is the type of that name
 module _ (words : List (List ℕ)) (numbers : PlacesByName) (types : IndexMap ℕ Named ByNumber) (h : IsNaming words numbers types) (word : List ℕ) where
   pub named_none : number_in words word ≡ None → declared_as word (values types) ≡ None
   named_none none = sym (h.type.kept word) ∙ ap (at_number (declared_in types)) none

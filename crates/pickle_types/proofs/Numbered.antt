@@ -22,7 +22,7 @@ within_more n true o h = omega arith
 within_more n false None h = tt
 within_more n false (Some i) h = omega arith
 
--- a number is below that of all names
+-- a number is less than the count of all names
 pub number_within : (words : List (List ℕ)) (word : List ℕ) → IfSome (number_in words word) (λ n. n < length words)
 number_within [] word = tt
 number_within (w ∷ words) word = within_more (length words) (bytes_eq w word) (number_in words word) (number_within words word)
@@ -41,7 +41,7 @@ same_step w a b (Some i) (Some j) n false false ea eb rest h k =
     let same : j ≡ i = omega arith in
     rest i refl (ap Some same)
 
--- names of one number are one name
+-- names of the same number are the same name
 pub number_of_same : (words : List (List ℕ)) (a b : List ℕ) (n : ℕ) → number_in words a ≡ Some n → number_in words b ≡ Some n → a ≡ b
 number_of_same [] a b n h k = cc
 number_of_same (w ∷ words) a b n h k =
@@ -52,7 +52,7 @@ more_step true o o' n rest h = h
 more_step false None o' n rest h = cc
 more_step false (Some m) o' n rest h = ap (option_map suc) (rest m refl) ∙ h
 
--- a name keeps its number
+-- a name has the number that it had
 pub number_kept : (words more : List (List ℕ)) (word : List ℕ) (n : ℕ) → number_in words word ≡ Some n → number_in (words ++ more) word ≡ Some n
 number_kept [] more word n h = cc
 number_kept (w ∷ words) more word n h = more_step (bytes_eq w word) (number_in words word) (number_in (words ++ more) word) n (number_kept words more word) h
@@ -77,7 +77,7 @@ module _ {X : Type 0} (words : List (List ℕ)) (at : ℕ → Option X) (look : 
   nothing None le = refl
   nothing (Some i) le = h.unused i le
 
-  -- what is kept stays so where more names have numbers
+  -- what is stored stays so where more names have numbers
   pub numbered_more : (more : List (List ℕ)) → IsNumbered (words ++ more) at look
   numbered_more more = record {
     kept = λ word. by word (number_in words word) refl;
@@ -88,7 +88,7 @@ module _ {X : Type 0} (words : List (List ℕ)) (at : ℕ → Option X) (look : 
       by word (Some n) e = ap (at_number at) (number_kept words more word n e ∙ sym e) ∙ h.kept word
       by word None e = nothing (number_in (words ++ more) word) (number_late words more word e) ∙ ap (at_number at) (sym e) ∙ h.kept word
 
-  -- one more name that something is kept for
+  -- one more name that something is stored for
   module _ (name : List ℕ) (number : ℕ) (x : X) (at' : ℕ → Option X) (look' : List ℕ → Option X) (is : number_in words name ≡ Some number)
       (put : (n : ℕ) → at' n ≡ (if nat_eq number n then Some x else at n)) (found : (word : List ℕ) → look' word ≡ (if bytes_eq name word then Some x else look word)) where
     same_number : (word : List ℕ) (n : ℕ) → number_in words word ≡ Some n → bytes_eq name word ≡ true → number ≡ n
@@ -115,6 +115,6 @@ module _ {X : Type 0} (words : List (List ℕ)) (at : ℕ → Option X) (look : 
           put n ∙ rw (ne_eqb number n (λ same. absurd (omega arith))) (h.unused n le);
     }
 
--- what is kept stays so in whatever extends the names
+-- what is stored stays so in whatever extends the names
 pub numbered_on : {X : Type 0} (old new : List (List ℕ)) (at : ℕ → Option X) (look : List ℕ → Option X) → IsNumbered old at look → Extends old new → IsNumbered new at look
 numbered_on old new at look h e = rw e.is (numbered_more old at look h e.more)

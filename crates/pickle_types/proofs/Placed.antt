@@ -46,7 +46,7 @@ pub apart : (n : Option (List ℕ)) (names : List (Option (List ℕ))) → fresh
 apart None names e word same = cc
 apart (Some name) names e word same = fresh_apart name names e word same
 
--- one more name, which is none of the others
+-- one more name, different from the others
 pub placed_new : (names : List (Option (List ℕ))) (n : Option (List ℕ)) (old new : PlacesByName) → ArePlaced names old → ((word : List ℕ) → is_named n word ≡ true → has_name word names ≡ false) →
     ((word : List ℕ) → place_at new word ≡ (if is_named n word then Some (length names) else place_at old word)) → ArePlaced (names ++ n ∷ []) new
 placed_new names n old new h other put = record { kept = λ word. put word ∙ by word (is_named n word) refl }
@@ -55,7 +55,7 @@ placed_new names n old new h other put = record { kept = λ word. put word ∙ b
     by word true e = sym (place_new word names n e (other word e))
     by word false e = h.kept word ∙ sym (place_other word names n e)
 
--- the place of a name among names, of which the last is none of the others
+-- the place of a name among names, the last of which differs from the others
 pub placed_last : (names : List (Option (List ℕ))) (n : Option (List ℕ)) → ((word : List ℕ) → is_named n word ≡ true → has_name word names ≡ false) →
     (word : List ℕ) → place_named word (names ++ n ∷ []) ≡ (if is_named n word then Some (length names) else place_named word names)
 placed_last names n other word = by (is_named n word) refl
@@ -64,7 +64,7 @@ placed_last names n other word = by (is_named n word) refl
     by true e = place_new word names n e (other word e)
     by false e = place_other word names n e
 
--- a place among the names behind the first i
+-- a place among the names after the first i
 abbrev pub behind : ℕ → Option ℕ → Option ℕ
 behind i None = None
 behind i (Some place) = Some (i + place)

@@ -1,4 +1,4 @@
--- Where the innermost field of each name stands.
+-- The place of the innermost field of each name.
 use Rattle.std.proofs.Common.{◌≡◌, ℕ, suc, ◌+◌, ◌-◌, ◌<◌, ◌≤◌, List, [], ◌∷◌, ◌++◌, take, get_or, length, Option, Some, None, Bool, true, false, refl, sym, ap, subst, ◌∙◌, arith, inl, inr}
 use denote.Bor.{Bor}
 use Rattle.std.specs.Prelude.{if◌then◌else◌, slice_get, option_map, IfSome, IsSome}
@@ -107,7 +107,7 @@ module _ (es : List Entry) (e : Entry) where
                 h.hidden (length es) e name (get_last es e) is ∙ before name.now ∙ ap (λ w. last_place w (fields_of es)) equal
             cases false apart = other word (rw is apart)
 
-  -- the last field is kept for its name
+  -- the last field is stored for its name
   pub last_kept : (places : PlacesByName) → IsIndexed (es ++ e ∷ []) places → IfSome e.field.name (λ n. IsSome (place_at places n.now))
   last_kept places h = by e.field.name refl
     where
@@ -119,7 +119,7 @@ module _ (es : List Entry) (e : Entry) where
           let there : place_at places name.now ≡ Some (length (fields_of es)) = kept ∙ rw (is, yes) refl in
           rw there refl
 
--- what is found where the places are kept
+-- what is found where the places are stored
 module _ (es : List Entry) (places : PlacesByName) (h : IsIndexed es places) (word : List ℕ) where
   pub meant_none : (nodes : List Node) → place_at places word ≡ None → resolve word (views_of nodes (fields_of es)) ≡ None
   meant_none nodes none = by es (sym (h.innermost word) ∙ none)
@@ -144,7 +144,7 @@ module _ (es : List Entry) (places : PlacesByName) (h : IsIndexed es places) (wo
   pub field_at : (i : ℕ) (e : Entry) → place_at places word ≡ Some i → e ≡ get_or es i e → e.field ≡ get_or (fields_of es) i e.field
   field_at i e some is = ap (λ x. x.field) is ∙ sym (get_or-map (λ x. x.field) es i e e.field (meant_within i some))
 
--- looking for a name among fields and others behind them
+-- looking for a name among fields and others after them
 module _ (word : List ℕ) where
   pub resolve_some : (xs ys : List Visible) (v : Visible) → resolve word ys ≡ Some v → resolve word (xs ++ ys) ≡ Some v
   resolve_some [] ys v some = some
@@ -154,7 +154,7 @@ module _ (word : List ℕ) where
   resolve_none [] ys none = none
   resolve_none (x ∷ xs) ys none = ap (or_this word x) (resolve_none xs ys none)
 
--- fields and others behind them
+-- fields and others after them
 module _ (nodes : List Node) (word : List ℕ) (few many : List Seen) where
   pub seen_behind : (s : Seen) → resolve word (views_of nodes many) ≡ Some (view_of nodes s) → resolve word (views_of nodes (few ++ many)) ≡ Some (view_of nodes s)
   seen_behind s some = ap (resolve word) (map-append (view_of nodes) few many) ∙ resolve_some word (views_of nodes few) (views_of nodes many) (view_of nodes s) some
@@ -171,7 +171,7 @@ module _ (n levels : ℕ) (few many : List Seen) (below : AreBelow n levels (few
       let long = length-append few many in
       subst (IsInLevel n levels) (get_or-append-add few many k d) (below (length few + k) d (omega arith))
 
--- the first of fields and others behind them
+-- the first of fields and others after them
 pub taken_both : (few many : List Seen) (count : ℕ) → take count (few ++ many) ≡ take count few ++ take (count - length few) many
 taken_both few many count = elim (cases_lt count (length few)) [
   | inl lt ↦ let none : count - length few ≡ 0 = omega arith in take-append-le count few many (omega arith) ∙ rw none (sym (append-nil (take count few)))

@@ -1,4 +1,4 @@
--- What the definitions say of small pickles.
+-- The types that the definitions give small pickles.
 use Rattle.std.proofs.Common.{◌≡◌, ℕ, ◌^◌, List, [], ◌∷◌, Option, Some, None, Result, Ok, Err, true, false, refl, sym, ap, ◌∙◌, ◌+◌, ◌<◌, length, arith}
 use Rattle.std.specs.Prelude.{codes}
 use Rattle.pickle_tree.specs.declared.tree.Number.{Number}
@@ -156,7 +156,7 @@ constrained : fault (type (codes "E") (StructForm false (one byte (record (calle
 unfolding declared declared_type meaning fields_meaning integer_expression offset_expression bound_expression fresh typed depth
 constrained = refl
 
--- no types are declared where one is unknown, nor other types than those that are written
+-- no types are declared where one is unknown, and no other types than the written ones
 abbrev count_in : Result Names FaultKind → ℕ
 count_in (Ok names) = length names + 1
 count_in (Err e) = 0

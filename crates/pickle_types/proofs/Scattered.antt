@@ -1,4 +1,4 @@
--- Places that are found by names, in the trees that the names are scattered to.
+-- Places that are found by names, in the trees that the names are scattered over.
 use Rattle.std.proofs.Common.{◌≡◌, ℕ, ◌<◌, List, [], length, Option, Some, None, Bool, true, false, All, cond, refl, sym, ap, ◌∙◌, arith, inl, inr}
 use Rattle.std.specs.Prelude.{if◌then◌else◌, slice_get, slice_set, slice_index_or}
 use Rattle.std.specs.Ordering.{nat_cmp, is_eq}
@@ -11,7 +11,7 @@ use Rattle.std.proofs.lemmas.List.{get_or-set_same, get_or-set_other, length-set
 use denote.Bor.{Bor}
 use Rattle.pickle_types.specs.PlacesByName.{Tree, IsBare, bucket_of, place_in, place_among}
 
--- what a tree has at a name, after another was given a place or lost it
+-- what a tree has at a name, after another name got a place or lost it
 pub place_updated : (old new : Tree) (name : List ℕ) (w : Option ℕ) →
     ((q : Bor (List ℕ)) → get_by (λ (k : Bor (List ℕ)). slice_cmp nat_cmp q.now k.now) new ≡ cond (is_eq (slice_cmp nat_cmp name q.now)) w (get_by (λ (k : Bor (List ℕ)). slice_cmp nat_cmp q.now k.now) old)) →
     (word : List ℕ) → place_in word (Some new) ≡ (if bytes_eq name word then w else place_in word (Some old))
@@ -49,7 +49,7 @@ module _ (trees : List Tree) (name : List ℕ) (i : ℕ) (is : i ≡ bucket_of (
         other apart true equal = absurd (apart (ap (bucket_of (length trees)) (sym ((bytes_decides name word).0 equal)) ∙ sym is))
         other apart false unequal = refl
 
-    -- where the tree says the same, so do all
+    -- where the trees agree, so do all places
     pub place_same : new.entries ≡ tree.entries → (word : List ℕ) → place_among (slice_set trees i new) word ≡ place_among trees word
     place_same e word = rw (length-set trees i new) (elim (cases_eq (bucket_of (length trees) word) i) [
       | inl same ↦ rw (same, tree_put, tree_there, e) refl

@@ -1,4 +1,4 @@
--- A table that grows keeps what names and fields mean.
+-- A table that grows leaves the meanings of names and fields.
 use Rattle.std.proofs.Common.{◌≡◌, ℕ, suc, List, [], ◌∷◌, ◌++◌, map, Option, Result, length, refl, ap, ◌∙◌, arith}
 use Rattle.std.specs.Prelude.{All}
 use Rattle.std.proofs.lemmas.List.{map_push, append_assoc}
@@ -44,12 +44,12 @@ module _ (old new : List Node) (table : IsTable old) (grows : Grows old new) whe
   pub named_kept : (ds : List Declared) → All (IsNamed old) ds → All (IsNamed new) ds
   named_kept ds h k d lt = let b = h k d lt in let l = longer old new table grows in record { inside = omega arith; deep = rw (type_kept old new table grows _ b.inside) b.deep }
 
-  -- one more field that is seen
+  -- one more visible field
   pub seen_more : (levels : ℕ) (seen : List Seen) → AreBelow (length old) levels seen → (s : Seen) (t : PokeType) (name : Option (List ℕ)) →
       type_of new s.node ≡ t → bytes_now s.name ≡ name → views_of new (seen ++ s ∷ []) ≡ sees (views_of old seen) s.level s.place name t
   seen_more levels seen below s t name et en =
       map_push (view_of new) seen s ∙ rw (views_kept levels seen below, et, en) refl
 
-  -- what is seen keeps to the table that grew, one more field included
+  -- what is visible is of the table that grew, one more field included
   pub below_more : (levels : ℕ) (seen : List Seen) → AreBelow (length old) levels seen → (s : Seen) → IsInLevel (length new) levels s → AreBelow (length new) levels (seen ++ s ∷ [])
   below_more levels seen below s h = All-append (IsInLevel (length new) levels) seen (s ∷ []) (below_kept levels seen below) (λ k d lt. let e : k ≡ 0 = omega arith in rw e h)

@@ -1,4 +1,4 @@
--- The types that operators make have widths, and their units are some bits.
+-- The types that operators give have widths, and their units at least one bit.
 use Rattle.std.proofs.Common.{◌≡◌, ℕ, zero, suc, ◌≤◌, ◌%◌, Some, Bool, true, false, refl, sym, subst, arith}
 use Rattle.std.specs.Prelude.{IfSome}
 use Rattle.pickle_tree.specs.declared.tree.Infix.{Infix}

@@ -1,4 +1,4 @@
--- The least width of a type's values, and bounds on the steps and slots that a mapping of it takes on m bits.
+-- The least width of a type's values in bits, and bounds on the steps and slots that a mapping of it takes on m bits.
 use Rattle.std.specs.Prelude.{◌≡◌, ℕ, ◌+◌, ◌*◌, ◌/◌, ◌≤◌, ◌^◌, min, max, Bool, true, false, ◌||◌, if◌then◌else◌, Option, Some, None}
 use Rattle.pickle_types.specs.Types.{Term, PokeType, IntegerOf, OffsetOf, StringOf, ArrayOf, StructOf, IntegralOf, UnionOf, Fields, NoFields, FieldThen, Parts, NoParts, PartThen, optional_weight, bound_weight}
 
@@ -11,7 +11,7 @@ abbrev pub has_label : Fields → Bool
 has_label NoFields = false
 has_label (FieldThen name order type constraint label condition rest) = is_some label || has_label rest
 
--- of a field that has a condition, which may leave it absent, 0
+-- the least width of a field in bits: 0 if it has a condition, which may leave it absent
 abbrev pub where_present : Option Term → ℕ → ℕ
 where_present None w = w
 where_present (Some condition) w = 0
@@ -27,12 +27,12 @@ unfoldable mutual
   least_width (IntegralOf name type fields) = type.width
   least_width (UnionOf name alternatives) = least_of_widths alternatives
 
-  -- of fields that follow one another
+  -- the widths of fields that follow one another, in bits
   pub sum_of_widths : Fields → ℕ
   sum_of_widths NoFields = 0
   sum_of_widths (FieldThen name order type constraint label condition rest) = where_present condition (least_width type) + sum_of_widths rest
 
-  -- of fields that may lie over one another
+  -- the greatest width of fields that may overlap, in bits
   pub greatest_width : Fields → ℕ
   greatest_width NoFields = 0
   greatest_width (FieldThen name order type constraint label condition rest) = max (where_present condition (least_width type)) (greatest_width rest)
@@ -43,12 +43,12 @@ unfoldable mutual
   least_of_widths (PartThen name order type constraint (PartThen name' order' type' constraint' rest)) =
       min (least_width type) (least_of_widths (PartThen name' order' type' constraint' rest))
 
--- how many elements of a least width are tried on m bits
+-- how many elements of a least width a mapping tries on m bits
 abbrev pub count_of : ℕ → ℕ → ℕ
 count_of m w = m / max 1 w + 1
 
 unfoldable mutual
-  -- a bound on the steps on m bits: no mapping takes more, and there need be none that takes as many
+  -- a bound on the steps on m bits: no mapping takes more, and perhaps none takes as many
   pub cost : PokeType → ℕ → ℕ
   cost (IntegerOf type) m = 1
   cost (OffsetOf type unit) m = 1
@@ -90,7 +90,7 @@ unfoldable mutual
   greatest_room NoParts m = 0
   greatest_room (PartThen name order type constraint rest) m = max (1 + room type m) (greatest_room rest m)
 
--- a number as it is answered: None from 2^128 on
+-- a number as it is returned: None from 2^128 on
 abbrev pub IsBound : Option ℕ → ℕ → Type 0
 IsBound None n = 2 ^ 128 ≤ n
 IsBound (Some x) n = x ≡ n

@@ -1,4 +1,4 @@
--- What a builder of types has built.
+-- What the builder of a table has built.
 use Rattle.std.specs.Prelude.{◌≡◌, ℕ, ◌+◌, ◌^◌, ◌<◌, ◌≤◌, length, List, [], ◌∷◌, ◌++◌, take, Option, Some, None, Result, Ok, Err, Bool, true, false, ◌&&◌, nat_le}
 use denote.Bor.{Bor}
 use Rattle.pickle_tree.specs.Tree.{FieldParts}
@@ -19,30 +19,30 @@ use Rattle.pickle_types.specs.Meaning.{after_field, with_itself, FieldMeaning, f
 use Rattle.pickle_types.specs.Built.{Fails, names_of, words_in, views_of, AreNamed, AreBelow}
 use Rattle.pickle_types.specs.Numbers.{Extends}
 
--- the types that have names
+-- the named types
 abbrev pub known_types : Builder → Names
 known_types b = names_of b.nodes b.names
 
--- the fields that are seen
+-- the visible fields
 abbrev pub visible_in : Builder → List Visible
 visible_in b = views_of b.nodes b.seen
 
--- what the parts after a field see besides: in a union nothing
+-- what comes after a field sees the field too, except in a union
 abbrev pub after_itself : Place → List Seen → Seen → List Seen
 after_itself place.Struct seen itself = seen ++ itself ∷ []
 after_itself place.Pinned seen itself = seen ++ itself ∷ []
 after_itself place.Integral seen itself = seen ++ itself ∷ []
 after_itself place.Union seen itself = seen
 
--- a table has room for so many nodes more
+-- the table has capacity for `count` more nodes
 abbrev pub HasRoom : Builder → ℕ → Type 0
 HasRoom b count = length b.nodes + count ≤ 2 ^ 32
 
--- a table has at most so many nodes more than it had
+-- the table has at most `count` more nodes than it had
 abbrev pub AddsAtMost : Builder → Builder → ℕ → Type 0
 AddsAtMost old new count = length new.nodes ≤ length old.nodes + count
 
--- a builder whose table grew, and that knows the same types by their names
+-- the table of a builder grew, and the builder knows the same types by their names
 pub record Keeps (old new : Builder) : Type 0 where
   pub grows : Grows old.nodes new.nodes
   pub table : IsTable new.nodes
@@ -58,12 +58,12 @@ pub record IsBuilt (old new : Builder) (found : Found) (t : PokeType) : Type 0 w
   pub type : type_of new.nodes found.node ≡ t
   pub deep : found.depth ≡ depth t
 
--- what a function built is what the definition gives, unless memory ran out
+-- a function built what the definition gives, unless memory ran out
 abbrev pub Builds : Builder → Builder → Result Found FaultKind → Result PokeType FaultKind → Type 0
 Builds old new (Ok found) given = (t : PokeType) × (given ≡ Ok t) × IsBuilt old new found t
 Builds old new (Err e) given = Fails e given
 
--- one field is built, after others, and what comes after it sees it where it may
+-- one field is built, after others; what comes after it sees it, except in a union
 pub record IsFieldBuilt (old new : Builder) (place : Place) (levels index : ℕ) (parts : FieldParts) (field : Field) (f : FieldMeaning) : Type 0 where
   pub keeps : Keeps old new
   pub inside : field.node < length new.nodes
@@ -78,7 +78,7 @@ abbrev pub FieldGives : Builder → Builder → Place → ℕ → ℕ → FieldP
 FieldGives old new place levels index parts (Ok field) given = (f : FieldMeaning) × (given ≡ Ok f) × IsFieldBuilt old new place levels index parts field f
 FieldGives old new place levels index parts (Err e) given = Fails e given
 
--- a field and how deep its type is
+-- a field and the depth of its type
 abbrev pub FieldBuilds : Builder → Builder → Place → ℕ → ℕ → FieldParts → Result (Field × ℕ) FaultKind → Result FieldMeaning FaultKind → Type 0
 FieldBuilds old new place levels index parts (Ok x) given = (f : FieldMeaning) × (given ≡ Ok f) × IsFieldBuilt old new place levels index parts x.0 f × (x.1 ≡ depth f.type)
 FieldBuilds old new place levels index parts (Err e) given = Fails e given
@@ -98,7 +98,7 @@ abbrev pub with_front : (Fields → Fields) → Result Fields FaultKind → Resu
 with_front f (Ok fs) = Ok (f fs)
 with_front f (Err e) = Err e
 
--- some fields are built, and the rest of the definition gives the others
+-- some fields are built; the definition gives the others as `rest`
 pub record FieldsSoFar (old new : Builder) (fields : List Field) (deepest : ℕ) (whole rest : Result Fields FaultKind) : Type 0 where
   pub keeps : Keeps old new
   pub below : FieldsBelow (length new.nodes) fields
@@ -111,7 +111,7 @@ pub record IsReady (b : Builder) : Type 0 where
   pub named : AreNamed b.nodes b.names
   pub none : b.seen ≡ []
 
--- what a declaration added
+-- the type and the name that a declaration added
 abbrev pub AddsType : Builder → Builder → List ℕ → Result ℕ FaultKind → Result PokeType FaultKind → Type 0
 AddsType old new name (Ok node) given = (t : PokeType) × (given ≡ Ok t) × (known_types new ≡ known_types old ++ (name, t) ∷ []) × IsReady new
 AddsType old new name (Err e) given = Fails e given
@@ -125,7 +125,7 @@ abbrev pub is_unknown : Option PokeType → Bool
 is_unknown None = true
 is_unknown (Some t) = false
 
--- whether these names are new, each after the ones before it, and their widths from 1 to 64
+-- whether these names are new, each after those before it, with widths from 1 to 64
 abbrev pub may_add : Names → List (Bor (List ℕ) × IntegerType) → Bool
 may_add names [] = true
 may_add names (p ∷ ps) = is_unknown (find_type p.0.now names) && nat_le 1 p.1.width && nat_le p.1.width 64 && may_add (names ++ (p.0.now, IntegerOf p.1) ∷ []) ps

@@ -1,4 +1,4 @@
--- What the checker holds, as the trees that it stands for.
+-- The data of the checker, as the trees of the definitions.
 use Rattle.std.specs.Prelude.{◌≡◌, ℕ, ◌<◌, length, List, [], ◌∷◌, ◌++◌, map, Option, Some, None, Result, Ok, Err, Vec, All, if◌then◌else◌}
 use Rattle.std.specs.declared.alloc.Global.{Global}
 use Rattle.std.specs.Str.{bytes_eq}
@@ -21,12 +21,12 @@ use Rattle.pickle_types.specs.Scopes.{Visible}
 use Rattle.pickle_types.specs.Names.{Names}
 use Rattle.pickle_types.specs.Expressions.{Sort, TextLiteral, Typed, scalar_sort, Meant}
 
--- a fault that was returned is the definition's, or want of memory
+-- the fault that was returned is the definition's, or an allocation failure
 abbrev pub Fails : {Y : Type 0} → FaultKind → Result Y FaultKind → Type 0
 Fails Memory given = Unit {0}
 Fails k given = given ≡ Err k
 
--- what a function returned, seen by a view, is what the definition gives, unless memory ran out
+-- the result of a function, seen by a view, is what the definition gives, unless memory ran out
 abbrev pub Gives : {X Y : Type 0} → (X → Y) → Result X FaultKind → Result Y FaultKind → Type 0
 Gives view (Ok x) given = given ≡ Ok (view x)
 Gives view (Err e) given = Fails e given
@@ -45,7 +45,7 @@ abbrev pub IsResolved : List Node → Option Seen → Option Visible → Type 0
 IsResolved nodes None found = found ≡ None
 IsResolved nodes (Some s) found = found ≡ Some (view_of nodes s)
 
--- its node is below a place, and its level below the number of open ones
+-- the node of a field is less than n, and its frame is one of the open frames
 pub record IsInLevel (n levels : ℕ) (s : Seen) : Type 0 where
   pub node : s.node < n
   pub level : s.level < levels
@@ -59,7 +59,7 @@ named_of nodes d = (d.word.items, type_of nodes d.declared.node)
 abbrev pub listed_of : List Node → List Named → Names
 listed_of nodes list = map (named_of nodes) list
 
--- the types that have names, and the names that have numbers
+-- the named types, and the names that have numbers
 abbrev pub Known : Type 0
 Known = List Named × List (List ℕ)
 
@@ -72,12 +72,12 @@ words_in known = known.1
 abbrev pub names_of : List Node → Known → Names
 names_of nodes known = listed_of nodes (types_in known)
 
--- what the first of some names that is the word was given to
+-- the node and the depth that the first entry of that name has
 abbrev pub declared_as : List ℕ → List Named → Option Declared
 declared_as word [] = None
 declared_as word (d ∷ ds) = if bytes_eq word d.word.items then Some d.declared else declared_as word ds
 
--- the node of a name is one of the table, and its depth is its type's
+-- the node of a name is one of the table, and its depth is that of its type
 pub record IsNamed (nodes : List Node) (d : Declared) : Type 0 where
   pub inside : d.node < length nodes
   pub deep : d.depth ≡ depth (type_of nodes d.node)
@@ -123,7 +123,7 @@ names_in (f ∷ fs) = name_of f.name ∷ names_in fs
 abbrev pub part_of : Field → Part
 part_of f = record { name = f.name; order = f.order; node = f.node; constraint = f.constraint }
 
--- one more name, behind the others
+-- one more name, after the others
 pub record AddsName (old new : List Named) (word : List ℕ) (d : Declared) : Type 0 where
   pub name : Vec ℕ Global
   pub bytes : name.items ≡ word

@@ -1,4 +1,4 @@
--- What the calls of the checker find, mean and build.
+-- What the calls of the checker return and build.
 use Rattle.std.specs.Prelude.{◌≡◌, ℕ, ◌+◌, length, List, [], ◌∷◌, ◌++◌, Option, None, Result, Ok}
 use Rattle.pickle_tree.specs.Tree.{Tree, FieldParts, FieldTree, FieldTrees, FormTree, DeclarationTree}
 use Rattle.pickle_types.specs.declared.fault.FaultKind.{FaultKind}
@@ -22,7 +22,7 @@ use Rattle.pickle_types.specs.Building.{known_types, visible_in, Builds, FieldGi
 
 -- ---- fields by their names
 
--- what is found at the place of a name is the field of that name, whatever the nodes' types are
+-- the field found at the place of a name is the field of that name, whatever types the nodes have
 abbrev pub FindsField : List Field → (place : Option ℕ) → Option (ℕ × ℕ) → Type 0
 FindsField fields place found =
     (at : ℕ → PokeType) (word : List ℕ) → place ≡ place_named word (names_in fields) → IsFoundField at found (find_field 0 word (open_fields at fields))
@@ -31,25 +31,25 @@ abbrev pub FindsPart : List Part → (place : Option ℕ) → Option (ℕ × ℕ
 FindsPart parts place found =
     (at : ℕ → PokeType) (word : List ℕ) → place ≡ place_named word (part_names parts) → IsFoundField at found (find_part 0 word (open_parts at parts))
 
--- the same of a shape, which may have no such field, or none at all
+-- the same for a shape, which may have no such field, or no fields
 abbrev pub SelectsField : Shape → (place : Option ℕ) → Result (ℕ × ℕ) FaultKind → Type 0
 SelectsField shape place result =
     (at : ℕ → PokeType) (word : List ℕ) → place ≡ place_named word (shape_names shape) → Gives (λ x. (x.0, at x.1)) result (field_in word (open_shape at shape))
 
 -- ---- expressions
 
--- what an expression means, where these types have names and these fields are seen
+-- what an expression means among these types, where these fields are visible
 abbrev pub typed_among : List Node → Known → List Seen → (levels : ℕ) → Tree → Result Meant FaultKind
 typed_among nodes names seen levels e = typed (names_of nodes names) (views_of nodes seen) levels e
 
--- what a field's constraint means, which sees the field itself
+-- what a field's constraint means; it sees the field itself
 abbrev pub constraint_meaning : Builder → (itself : Seen) → Option Tree → Result (Option Term) FaultKind
 constraint_meaning b itself e = integer_expression (known_types b) (views_of b.nodes (b.seen ++ itself ∷ [])) (itself.level + 1) e
 
 -- ---- types, fields and declarations
 
 module _ (old new : Builder) where
-  -- the type that a form means, printed with a title and no deeper than the room
+  -- the type that a form means, printed with a title and no deeper than `room`
   abbrev pub BuildsForm : (levels : ℕ) → Title → (room : ℕ) → FormTree → Result Found FaultKind → Type 0
   BuildsForm levels title room form result = Builds old new result (meaning (known_types old) (visible_in old) levels (bytes_now title.name) room form)
 
@@ -58,7 +58,7 @@ module _ (old new : Builder) where
   AddsField place levels before parts type result =
       FieldGives old new place levels (length before) parts result (field_meaning (known_types old) place (visible_in old) levels (names_in before) parts (Ok type))
 
-  -- a field, after others, whose type is no deeper than the room
+  -- a field, after others, whose type is no deeper than `room`
   abbrev pub BuildsField : Place → (levels room : ℕ) → (before : List Field) → FieldTree → Result (Field × ℕ) FaultKind → Type 0
   BuildsField place levels room before f result =
       FieldBuilds old new place levels (length before) f.parts result

@@ -1,4 +1,4 @@
--- What is told of declared types.
+-- The name, the kind and the least width of each declared type.
 use Rattle.std.specs.Prelude.{ℕ, ◌^◌, nat_le, if◌then◌else◌, List, Option, Some, None, drop}
 use Rattle.pickle_types.specs.declared.declared_types.TypeKind.{TypeKind}
 use Rattle.pickle_types.specs.declared.declared_types.TypeKind.TheVariants as kind
@@ -9,7 +9,7 @@ use Rattle.pickle_types.specs.Types.{PokeType, IntegerOf, OffsetOf, StringOf, Ar
 use Rattle.pickle_types.specs.Bounds.{least_width}
 use Rattle.pickle_types.specs.Names.{Names}
 
--- the kind of a type; a struct that is read as one integer is a struct
+-- the kind of a type; an integral struct is a struct
 abbrev pub kind_of : PokeType → TypeKind
 kind_of (IntegerOf type) = kind.Integer
 kind_of (OffsetOf type unit) = kind.Offset
@@ -29,15 +29,15 @@ shape_kind (shape.Struct name pinned fields) = kind.Struct
 shape_kind (shape.Integral name number fields) = kind.Struct
 shape_kind (shape.Union name alternatives) = kind.Union
 
--- the declared types, which stand behind the 18 predeclared ones
+-- the declared types, which come after the 18 predeclared ones
 abbrev pub declared_in : Names → Names
 declared_in types = drop 18 types
 
--- a width as it is told: None from 2^64 on
+-- a width as it is reported: None from 2^64 on
 abbrev pub held_width : ℕ → Option ℕ
 held_width width = if nat_le (2 ^ 64) width then None else Some width
 
--- the name, the kind and the least width of a type, as they are told
+-- the name, the kind and the least width of a type, as they are reported
 abbrev pub Told : Type 0
 Told = List ℕ × TypeKind × Option ℕ
 

@@ -1,4 +1,4 @@
--- The type of an expression, with its names resolved; or what is wrong with it.
+-- The type of an expression, with its names resolved; or the rule that it breaks.
 use Rattle.std.specs.Prelude.{ℕ, ◌+◌, ◌-◌, ◌^◌, List, Option, Some, None, Result, Ok, Err, Bool, true, false, ◌&&◌, nat_le, nat_lt, if◌then◌else◌}
 use Rattle.pickle_tree.specs.declared.tree.Number.{Number as Numeral}
 use Rattle.pickle_tree.specs.declared.tree.Attribute.TheVariants.{Length, Size}
@@ -30,7 +30,7 @@ abbrev pub or_wrong : {A : Type 0} → FaultKind → Option A → Result A Fault
 or_wrong kind None = Err kind
 or_wrong kind (Some x) = Ok x
 
--- what an expression is: a text literal, or of a type
+-- the sort of an expression: a text literal, or a value of a type
 pub data Sort : Type 0 where
   TextLiteral : Sort
   Typed : (type : PokeType) → Sort
@@ -42,7 +42,7 @@ scalar_type (Offset t u) = OffsetOf t u
 abbrev pub scalar_sort : Scalar → Sort
 scalar_sort s = Typed (scalar_type s)
 
--- what an operator sees of a type
+-- what matters to an operator about a type
 abbrev pub type_operand : PokeType → Operand
 type_operand (IntegerOf t) = operand.Number (Integer t)
 type_operand (OffsetOf t u) = operand.Number (Offset t u)
@@ -109,7 +109,7 @@ referred names (Int n) = in_range true n.value >>= λ t. Ok (IntegerOf t)
 referred names (Uint n) = in_range false n.value >>= λ t. Ok (IntegerOf t)
 referred names (Called word) = or_wrong UnknownType (find_type word names)
 
--- what an operator sees of it
+-- what matters to an operator about the type that a reference names
 abbrev pub operand_referred : Names → TreeReference → Result Operand FaultKind
 operand_referred names r = referred names r >>= λ t. Ok (type_operand t)
 
@@ -166,7 +166,7 @@ if_path false = Err Mismatch
 abbrev pub Meant : Type 0
 Meant = Term × Sort
 
--- what each suffix makes of its operand
+-- the result of each suffix, from its operand
 abbrev pub selection : List ℕ → Meant → Result Meant FaultKind
 selection word x = sort_field word x.1 >>= λ f. Ok (types.Select x.0 f.0, Typed f.1)
 
@@ -183,7 +183,7 @@ abbrev pub conversion : Names → TreeTarget → Meant → Result Meant FaultKin
 conversion names target x =
     or_wrong Mismatch (number_in (operand_of x.1)) >>= λ a. target_type names target >>= λ t. or_wrong Mismatch (converted t a x.0) >>= λ y. Ok (y, scalar_sort t)
 
--- what a suffix makes of its operand, which is a path or not
+-- the result of a suffix, from its operand, which is a path or not
 abbrev pub suffixed : Names → Bool → TreeSuffix → Meant → Result Meant FaultKind
 suffixed names path (tree.Select word) x = selection word x
 suffixed names path (tree.AttributeOf Length) x = length_of x
@@ -194,7 +194,7 @@ suffixed names path (tree.Convert target) x = conversion names target x
 abbrev pub text_meant : List ℕ → Meant
 text_meant bytes = (types.Text bytes, TextLiteral)
 
--- how many bits of a type are for the value of a number, which has no minus
+-- how many bits of a type are for the value of a number; a literal has no sign
 abbrev pub value_bits : Bool → ℕ → ℕ
 value_bits true width = width - 1
 value_bits false width = width
@@ -215,7 +215,7 @@ name_meant levels v = (types.Name (levels - 1 - v.level) v.place, Typed v.type)
 abbrev pub resolved : List Visible → ℕ → List ℕ → Result Meant FaultKind
 resolved seen levels word = or_wrong UnknownName (resolve word seen) >>= λ v. Ok (name_meant levels v)
 
--- what a bracket or an operator makes of its operands
+-- the result of a bracket or an operator, from its operands
 abbrev pub bracketed : Meant → Result Meant FaultKind
 bracketed x = or_wrong Mismatch (type_in x.1) >>= λ t. Ok (types.Bracket x.0, Typed t)
 
@@ -231,7 +231,7 @@ selected z x y = or_wrong Mismatch (choice (operand_of x.1) (operand_of y.1)) >>
 abbrev pub indexed : Meant → PokeType → Meant → Result Meant FaultKind
 indexed x t y = integer_or_wrong y.1 >>= λ w. Ok (types.Index x.0 y.0, Typed t)
 
--- an expression with its names resolved, and its sort, where these fields are seen and so many levels are open
+-- an expression with its names resolved, and its sort, where these fields are visible and so many frames are open
 unfoldable pub typed : Names → List Visible → ℕ → Tree → Result Meant FaultKind
 typed names seen levels (tree.Literal n) = number_meant n
 typed names seen levels (tree.Character b) = Ok (character_meant b)

@@ -1,4 +1,4 @@
--- The names by which faults of types are told.
+-- The names of the faults of types, as messages print them.
 use Rattle.std.specs.Prelude.{ℕ, List, codes}
 use Rattle.pickle_types.specs.declared.fault.FaultKind.{FaultKind}
 use Rattle.pickle_types.specs.declared.fault.FaultKind.TheVariants as types

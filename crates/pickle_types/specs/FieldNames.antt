@@ -18,7 +18,7 @@ abbrev pub place_named : List ℕ → List (Option (List ℕ)) → Option ℕ
 place_named word [] = None
 place_named word (n ∷ ns) = if is_named n word then Some 0 else option_map suc (place_named word ns)
 
--- the place of each name is kept
+-- the place of each name is stored
 pub record ArePlaced (names : List (Option (List ℕ))) (places : PlacesByName) : Type 0 where
   pub kept : (word : List ℕ) → place_at places word ≡ place_named word names
 
@@ -36,11 +36,11 @@ shape_names (shape.Struct name pinned fields) = names_in fields.items
 shape_names (shape.Integral name number fields) = part_names fields.items
 shape_names (shape.Union name alternatives) = part_names alternatives.items
 
--- no two fields have one name: the place of each is that of its name
+-- no two fields have the same name: the place of each field is that of its name
 pub record AreDistinct (names : List (Option (List ℕ))) : Type 0 where
   pub first : (i : ℕ) (word : List ℕ) → slice_get names i ≡ Some (Some word) → place_named word names ≡ Some i
 
--- where the places of a node's fields are kept, no two of them have one name
+-- where the places of a node's fields are stored, no two of the fields have the same name
 pub record AreIndexed {P : Type 0} (nodes : List Node) (places : List (ℕ × P)) : Type 0 where
   pub some : (i : ℕ) (node : Node) (kept : P) → slice_get nodes i ≡ Some node → lookup (is_at (nat_cmp i)) places ≡ Some kept → AreDistinct (shape_names node.shape)
   pub past : (i : ℕ) → length nodes ≤ i → lookup (is_at (nat_cmp i)) places ≡ None

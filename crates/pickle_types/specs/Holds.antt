@@ -1,4 +1,4 @@
--- What the bounds of a type hold, as they are computed.
+-- The bounds that a computed record of bounds has.
 use Rattle.std.specs.Prelude.{◌≡◌, ℕ, ◌≤◌, ◌^◌, Bool, true, false, List, [], ◌∷◌, Option, Some, None, slice_get}
 use Rattle.pickle_types.specs.declared.bounds.Bounds.{Bounds}
 use Rattle.pickle_types.specs.declared.bounds.FieldBounds.{FieldBounds}
@@ -10,7 +10,7 @@ use Rattle.pickle_types.specs.Types.{PokeType, Fields, Parts, NoParts, PartThen}
 use Rattle.pickle_types.specs.Table.{type_of, fields_onto, parts_onto}
 use Rattle.pickle_types.specs.Bounds.{least_width, sum_of_widths, greatest_width, has_label, least_of_widths, cost, fields_cost, parts_cost, room, fields_room, parts_room, greatest_room, IsBound}
 
--- a width as it is held: None from 2^64 on
+-- a width as it is stored: None from 2^64 on
 abbrev pub HoldsWidth : Option ℕ → ℕ → Type 0
 HoldsWidth None w = 2 ^ 64 ≤ w
 HoldsWidth (Some n) w = n ≡ w
@@ -39,7 +39,7 @@ pub record ArePartBounds (b : PartBounds) (parts : Parts) (m : ℕ) : Type 0 whe
   pub slots : IsBound b.slots (parts_room parts m)
   pub greatest_slots : IsBound b.greatest_slots (greatest_room parts m)
 
--- these are the bounds of a field and of those behind it, by those of its type and theirs
+-- the bounds of a field and of those after it, from those of its type and of the fields after it
 abbrev pub BoundsFieldThen : Field → (own : Bounds) → (rest all : FieldBounds) → Type 0
 BoundsFieldThen field own rest all =
     (type : PokeType) (fields : Fields) (m : ℕ) → AreBounds own type m → AreFieldBounds rest fields m → AreFieldBounds all (fields_onto (λ _. type) (field ∷ []) fields) m
@@ -48,7 +48,7 @@ abbrev pub BoundsPartThen : Part → (own : Bounds) → (rest all : PartBounds) 
 BoundsPartThen part own rest all =
     (type : PokeType) (parts : Parts) (m : ℕ) → AreBounds own type m → ArePartBounds rest parts m → ArePartBounds all (parts_onto (λ _. type) (part ∷ []) parts) m
 
--- these are the bounds of the type that any parts with those bounds make
+-- the bounds of the type that is made of any parts with those bounds
 abbrev pub BoundsMade : PartBounds → (Parts → PokeType) → Bounds → Type 0
 BoundsMade parts made b = (all : Parts) (m : ℕ) → ArePartBounds parts all m → AreBounds b (made all) m
 

@@ -1,4 +1,4 @@
--- Where the innermost field of each name stands.
+-- The place of the innermost field of each name.
 use Rattle.std.specs.Prelude.{◌≡◌, ℕ, suc, List, [], ◌∷◌, map, take, slice_get, Option, Some, None, Bool, if◌then◌else◌}
 use denote.Bor.{Bor}
 use Rattle.pickle_types.specs.declared.scopes.Seen.{Seen}
@@ -20,7 +20,8 @@ abbrev pub last_place : List ℕ → List Seen → Option ℕ
 last_place word [] = None
 last_place word (s ∷ seen) = or_here (last_place word seen) (is_named (bytes_now s.name) word)
 
--- the place of the last field is kept for each name, and with each field that of the last one of its name before it
+-- the place of the last field is stored for each name, and with each field the place of the last one of its name before
+-- it
 pub record IsIndexed (entries : List Entry) (places : PlacesByName) : Type 0 where
   pub innermost : (word : List ℕ) → place_at places word ≡ last_place word (fields_of entries)
   pub hidden : (i : ℕ) (e : Entry) (name : Bor (List ℕ)) → slice_get entries i ≡ Some e → e.field.name ≡ Some name → e.hidden ≡ last_place name.now (take i (fields_of entries))

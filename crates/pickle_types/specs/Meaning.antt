@@ -1,4 +1,4 @@
--- The type that a form means, and the types that a pickle declares; or what is wrong with them.
+-- The type that a form means, and the types that a pickle declares; or the rule that they break.
 use Rattle.std.specs.Prelude.{ℕ, zero, suc, ◌+◌, length, List, [], ◌∷◌, ◌++◌, Option, Some, None, Result, Ok, Err, Bool, true, false, ◌&&◌, ◌||◌, nat_le, nat_eq, if◌then◌else◌}
 use Rattle.pickle_tree.specs.declared.tree.Unit.{Unit as PokeUnit}
 use Rattle.pickle_tree.specs.Tree.{Tree, TreeReference, Int, Uint, Called, FieldParts, FormTree, Plain, StringForm, OffsetForm, ArrayForm, StructForm, IntegralForm, UnionForm, FieldTrees, DeclarationTree}
@@ -33,7 +33,7 @@ plain room names (Int n) = integer_type true n.value
 plain room names (Uint n) = integer_type false n.value
 plain room names (Called word) = called room word names
 
--- an expression that is an integer, where there is one
+-- an expression that has to be an integer, if there is one
 unfoldable pub integer_expression : Names → List Visible → ℕ → Option Tree → Result (Option Term) FaultKind
 integer_expression names seen levels None = Ok None
 integer_expression names seen levels (Some e) = do
@@ -45,7 +45,7 @@ abbrev pub offset_in : Scalar → Result (Unit {0}) FaultKind
 offset_in (Integer t) = Err Mismatch
 offset_in (Offset t u) = Ok tt
 
--- an expression that is an offset, where there is one
+-- an expression that has to be an offset, if there is one
 unfoldable pub offset_expression : Names → List Visible → ℕ → Option Tree → Result (Option Term) FaultKind
 offset_expression names seen levels None = Ok None
 offset_expression names seen levels (Some e) = do
@@ -58,7 +58,7 @@ abbrev pub bound_by : Scalar → Term → Bound
 bound_by (Integer t) x = ByCount x
 bound_by (Offset t u) x = BySize x
 
--- the bound of an array: a count or a size, where there is one
+-- the bound of an array: a count or a size, if there is one
 unfoldable pub bound_expression : Names → List Visible → ℕ → Option Tree → Result Bound FaultKind
 bound_expression names seen levels None = Ok Unbounded
 bound_expression names seen levels (Some e) = do
@@ -70,7 +70,7 @@ abbrev pub unless_found : Bool → Result (Unit {0}) FaultKind
 unless_found false = Ok tt
 unless_found true = Err DuplicateField
 
--- whether one of these names is that word
+-- whether one of these names is that name
 abbrev pub has_name : List ℕ → List (Option (List ℕ)) → Bool
 has_name word [] = false
 has_name word (n ∷ ns) = is_named n word || has_name word ns
@@ -80,7 +80,7 @@ unfoldable pub fresh : Option (List ℕ) → List (Option (List ℕ)) → Result
 fresh None names = Ok tt
 fresh (Some word) names = unless_found (has_name word names)
 
--- the width of a field that an integral struct may have, and that a prefix may stand before
+-- the width in bits of a type that an integral struct may have as a field, and that a prefix may come before
 abbrev pub bit_width : PokeType → Option ℕ
 bit_width (IntegerOf t) = Some t.width
 bit_width (OffsetOf t u) = Some t.width
@@ -98,7 +98,7 @@ abbrev pub has_none : {A : Type 0} → Option A → Bool
 has_none None = true
 has_none (Some x) = false
 
--- whether a field with these parts may stand here, which has a width of bits or not
+-- whether a place allows a field with these parts, whose type has a width in bits or not
 abbrev pub may_stand : Place → Bool → FieldParts → Bool
 may_stand place.Struct bits parts = has_none parts.order || bits
 may_stand place.Pinned bits parts = (has_none parts.order || bits) && has_none parts.label
@@ -109,32 +109,32 @@ abbrev pub if_here : Bool → Result (Unit {0}) FaultKind
 if_here true = Ok tt
 if_here false = Err NotHere
 
--- what the parts after a field see besides: in a union nothing
+-- what comes after a field sees the field too, except in a union
 abbrev pub after_field : Place → List Visible → List Visible → List Visible
 after_field place.Struct before after = after
 after_field place.Pinned before after = after
 after_field place.Integral before after = after
 after_field place.Union before after = before
 
--- the place of a field in its level: an alternative is alone in it
+-- the place of a field in its frame; an alternative is alone in its frame
 abbrev pub place_in : Place → ℕ → ℕ
 place_in place.Struct n = n
 place_in place.Pinned n = n
 place_in place.Integral n = n
 place_in place.Union n = 0
 
--- what a field's constraint sees
+-- what a field's constraint sees: also the field itself
 abbrev pub with_itself : Place → List Visible → ℕ → ℕ → FieldParts → PokeType → List Visible
 with_itself place seen levels n parts t = sees seen levels (place_in place n) parts.name t
 
--- a field and what its parts mean
+-- a field: its type, and what its parts mean
 pub record FieldMeaning : Type 0 where
   pub type : PokeType
   pub constraint : Option Term
   pub label : Option Term
   pub condition : Option Term
 
--- a field, of which the type means this, after those of these names
+-- a field of a type, after fields of these names
 abbrev pub field_meaning : Names → Place → List Visible → ℕ → List (Option (List ℕ)) → FieldParts → Result PokeType FaultKind → Result FieldMeaning FaultKind
 field_meaning names place seen levels before parts type = do
   t ← type
@@ -148,7 +148,7 @@ field_meaning names place seen levels before parts type = do
 abbrev pub field_then : FieldParts → FieldMeaning → Fields → Fields
 field_then parts f fs = FieldThen parts.name parts.order f.type f.constraint f.label f.condition fs
 
--- fields that have neither labels nor conditions
+-- the parts of fields that have neither labels nor conditions
 abbrev pub parts_of : Fields → Parts
 parts_of NoFields = NoParts
 parts_of (FieldThen name order type constraint label condition rest) = PartThen name order type constraint (parts_of rest)
@@ -191,7 +191,7 @@ unfoldable mutual
   meaning names seen levels title (suc room) (UnionForm alternatives) =
       if_some_alternative alternatives >>= λ u. fields_meaning names place.Union seen levels room [] alternatives >>= λ fs. Ok (UnionOf title (parts_of fs))
 
-  -- fields, after those of these names
+  -- fields, after fields of these names
   pub fields_meaning : Names → Place → List Visible → ℕ → ℕ → List (Option (List ℕ)) → FieldTrees → Result Fields FaultKind
   fields_meaning names place seen levels room before tree.NoFields = Ok NoFields
   fields_meaning names place seen levels room before (tree.FieldThen form parts rest) =
@@ -207,7 +207,7 @@ unless_declared (Some t) = Err DuplicateType
 unfoldable pub declared_type : Names → DeclarationTree → Result PokeType FaultKind
 declared_type names d = unless_declared (find_type d.name names) >>= λ u. meaning names [] 0 (Some d.name) 64 d.form
 
--- these names, and those that the declarations add
+-- these names, and those of the declarations
 unfoldable pub declared : Names → List DeclarationTree → Result Names FaultKind
 declared names [] = Ok names
 declared names (d ∷ ds) = declared_type names d >>= λ t. declared (names ++ (d.name, t) ∷ []) ds

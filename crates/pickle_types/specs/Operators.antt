@@ -1,4 +1,4 @@
--- What operators make of the types of their operands.
+-- The types that operators give, from the types of their operands.
 use Rattle.std.specs.Prelude.{ℕ, zero, suc, ◌%◌, max, Bool, true, false, ◌&&◌, nat_eq, if◌then◌else◌, Option, Some, None}
 use Rattle.pickle_tree.specs.declared.tree.Prefix.{Prefix}
 use Rattle.pickle_tree.specs.declared.tree.Prefix.TheVariants as prefix
@@ -10,7 +10,7 @@ use Rattle.pickle_types.specs.declared.check.operators.Scalar.TheVariants.{Integ
 use Rattle.pickle_types.specs.declared.check.operators.Operand.{Operand}
 use Rattle.pickle_types.specs.declared.check.operators.Operand.TheVariants as operand
 
--- the type of what is true or false
+-- the type of a truth value
 abbrev pub truth : IntegerType
 truth = record { width = 32; signed = true }
 
@@ -36,7 +36,7 @@ arithmetic (Integer a) (Integer b) = Some (Integer (common a b))
 arithmetic (Integer a) (Offset b v) = None
 arithmetic (Offset a u) s = None
 
--- of integers, or of offsets to their greatest common unit
+-- of integers, or of offsets to the greatest common divisor of their units
 abbrev pub sum : Scalar → Scalar → Option Scalar
 sum (Integer a) (Integer b) = Some (Integer (common a b))
 sum (Integer a) (Offset b v) = None
@@ -96,7 +96,7 @@ between_numbers operator.Multiply = product
 between_numbers operator.Divide = quotient
 between_numbers operator.Remainder = sum
 
--- whether the operator takes a string and a text literal
+-- whether the operator accepts a string and a text literal
 abbrev pub is_equality : Infix → Bool
 is_equality operator.Equal = true
 is_equality operator.NotEqual = true
@@ -105,7 +105,7 @@ is_equality _ = false
 abbrev pub between_texts : Infix → Option Scalar
 between_texts op = if is_equality op then Some (Integer truth) else None
 
--- the type of an operator's result, where its operands may have these types
+-- the type of an operator's result; none where the operands may not have these types
 abbrev pub between : Infix → Operand → Operand → Option Scalar
 between op (operand.Number a) (operand.Number b) = between_numbers op a b
 between op (operand.Number a) operand.String = None
@@ -154,11 +154,11 @@ same_sign true s = s
 same_sign false true = false
 same_sign false false = true
 
--- whether two integer types are one
+-- whether two integer types are the same
 abbrev pub same_type : IntegerType → IntegerType → Bool
 same_type a b = nat_eq a.width b.width && same_sign a.signed b.signed
 
--- how a choice is typed: the type that both sides are converted to, where they are integers, and the type of the whole
+-- the type of a choice between two numbers: the common type of integers, or the type that both offsets have
 abbrev pub chosen : Scalar → Scalar → Option Scalar
 chosen (Integer a) (Integer b) = Some (Integer (common a b))
 chosen (Integer a) (Offset b v) = None

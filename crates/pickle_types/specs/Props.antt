@@ -1,4 +1,4 @@
--- What a table keeps has one proof at most.
+-- What a table proves of itself has one proof at most.
 use Rattle.std.specs.Prelude.{ℕ, List, Bool, true, false, ℤ, pos, negsuc, Option, Some, None}
 use Rattle.std.specs.Coded.{Unit-prop, ×_prop, Π_prop, le_prop, Coded-set, coded_ℕ}
 use Rattle.pickle_types.specs.declared.integer.IntegerType.{IntegerType}

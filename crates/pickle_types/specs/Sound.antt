@@ -1,4 +1,5 @@
--- Types that have widths, units of some bits, numbers that their types hold; and expressions of such.
+-- Sound types have widths and units of at least one bit; numbers are in the ranges of their types; expressions have
+-- such types.
 use Rattle.std.specs.Prelude.{◌<◌, ◌≤◌, ◌^◌, Bool, true, false, ℤ, pos, negsuc, Option, Some, None}
 use Rattle.pickle_types.specs.declared.integer.IntegerType.{IntegerType}
 use Rattle.pickle_types.specs.declared.check.operators.Scalar.{Scalar}
@@ -23,12 +24,12 @@ IsSmall true (negsuc n) = n < 2 ^ 63
 IsSmall false (pos n) = n < 2 ^ 64
 IsSmall false (negsuc n) = ⊥
 
--- an integer that has a width, or an offset that has one in a unit of some bits
+-- an integer that has a width, or an offset that has one and a unit of at least one bit
 abbrev pub IsSoundScalar : Scalar → Type 0
 IsSoundScalar (Integer type) = IsWidth type
 IsSoundScalar (Offset type unit) = IsWidth type × (1 ≤ unit)
 
--- what an operator sees of it has a width, where it is a number
+-- an operand that is a number has a width
 abbrev pub IsSoundOperand : Operand → Type 0
 IsSoundOperand (operand.Number s) = IsSoundScalar s
 IsSoundOperand operand.String = Unit {0}
@@ -50,7 +51,7 @@ IsSoundTerm (ToInteger type e) = IsWidth type × IsSoundTerm e
 IsSoundTerm (ToOffset type unit e) = IsWidth type × (1 ≤ unit) × IsSoundTerm e
 IsSoundTerm (InUnit unit e) = (1 ≤ unit) × IsSoundTerm e
 
--- a constraint, a label or a condition, where there is one
+-- a sound constraint, label or condition, if there is one
 abbrev pub IsSoundClause : Option Term → Type 0
 IsSoundClause None = Unit {0}
 IsSoundClause (Some e) = IsSoundTerm e

@@ -16,7 +16,7 @@ use Rattle.pickle_types.specs.Types.{Term, Number, Text, Name, Bracket, Before, 
 pub use Rattle.pickle_types.specs.Sound.{IsWidth}
 use Rattle.pickle_types.specs.Sound.{IsSoundClause, IsSoundBound}
 
--- the expression that a resolved one stands for, without where it lies in memory
+-- the expression that a resolved one means, without its place in memory
 abbrev pub term_of : Resolved → Term
 term_of (resolved.Number type value) = Number type value
 term_of (resolved.Text t) = Text t.items
@@ -79,7 +79,7 @@ abbrev pub open_found : (ℕ → PokeType) → Option Node → PokeType
 open_found at None = StructOf None false NoFields
 open_found at (Some node) = open_shape at node.shape
 
--- the type of the node at i, where no more than d names are opened inside one another
+-- the type of the node at i, with at most d names opened inside one another
 unfoldable pub type_at : List Node → ℕ → ℕ → PokeType
 type_at nodes zero i = StructOf None false NoFields
 type_at nodes (suc d) i = open_found (type_at nodes d) (slice_get nodes i)
@@ -123,14 +123,15 @@ IsSoundShape (shape.Struct name pinned fields) = All IsSoundField fields.items
 IsSoundShape (shape.Integral name number fields) = All IsSoundPart fields.items
 IsSoundShape (shape.Union name alternatives) = All IsSoundPart alternatives.items × (length alternatives.items ≤ 2 ^ 16)
 
--- each node names only nodes before it, its expressions are sound and its type no deeper than 64; and there are no more than 2^32 nodes
+-- each node names only nodes before it, its expressions are sound, and its type is no deeper than 64; there are at most
+-- 2^32 nodes
 pub record IsTable (nodes : List Node) : Type 0 where
   pub below : (i : ℕ) (node : Node) → slice_get nodes i ≡ Some node → NamesBelow i node.shape
   pub sound : (i : ℕ) (node : Node) → slice_get nodes i ≡ Some node → IsSoundShape node.shape
   pub deep : (i : ℕ) → i < length nodes → depth (type_of nodes i) ≤ 64
   pub few : length nodes ≤ 2 ^ 32
 
--- the nodes of an older table stand in front
+-- the nodes of the older table come first
 pub record Grows (old new : List Node) : Type 0 where
   pub more : List Node
   pub is : new ≡ old ++ more

@@ -1,4 +1,4 @@
--- What a table of types holds.
+-- The types in a table.
 use Rattle.std.specs.Prelude.{◌≡◌, ℕ, ◌<◌, length, List, Option, Some, None}
 use Rattle.pickle_tree.specs.Tree.{DeclarationTree}
 use Rattle.pickle_types.specs.declared.node.Node.{Node}
@@ -13,7 +13,7 @@ use Rattle.pickle_types.specs.Built.{listed_of}
 abbrev pub nodes_of : Table → List Node
 nodes_of t = t.nodes.items
 
--- the nodes of the declared types that are no other names of earlier ones
+-- the nodes of the declared types; a declaration whose type has a node already adds none
 abbrev pub roots_of : Table → List ℕ
 roots_of t = t.roots.items
 
@@ -33,7 +33,7 @@ type_named t id = type_of t.nodes.items id.node
 abbrev pub IsInTable : Table → TypeId → Type 0
 IsInTable t id = id.node < length t.nodes.items
 
--- what was found is the type of that name, where there is one
+-- the result is the type of that name, if there is one
 abbrev pub IsTypeFound : Table → Option TypeId → Option PokeType → Type 0
 IsTypeFound t None found = found ≡ None
 IsTypeFound t (Some id) found = found ≡ Some (type_named t id)

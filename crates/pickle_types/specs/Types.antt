@@ -1,4 +1,4 @@
--- Types as finite trees: named types are opened, and each name in an expression is replaced by what it means.
+-- Types as finite trees. Named types are opened, and each name in an expression is replaced by what it means.
 use Rattle.std.specs.Prelude.{ℕ, ◌+◌, max, length, Bool, List, Option, Some, None}
 use Rattle.pickle_tree.specs.declared.tree.Attribute.{Attribute}
 use Rattle.pickle_tree.specs.declared.tree.Prefix.{Prefix}
@@ -6,8 +6,8 @@ use Rattle.pickle_tree.specs.declared.tree.Infix.{Infix}
 use Rattle.pickle_tree.specs.declared.tree.ByteOrder.{ByteOrder}
 use Rattle.pickle_types.specs.declared.integer.IntegerType.{IntegerType}
 
--- An expression with its names resolved. A name is an open level, counted from the innermost, and a place in it;
--- each array, struct, integral struct or union that is being mapped is one level.
+-- An expression with its names resolved. A name is a frame, counted from the innermost, and a place in it. Each array,
+-- struct, integral struct or union that is being mapped has one frame.
 pub data Term : Type 0 where
   -- a number or character, and its type
   Number : (type : IntegerType) (value : ℕ) → Term
@@ -16,7 +16,7 @@ pub data Term : Type 0 where
   Bracket : (e : Term) → Term
   Before : (op : Prefix) (e : Term) → Term
   Between : (op : Infix) (a b : Term) → Term
-  -- the type that the choice is converted to, where it is one between integers
+  -- the type that both sides are converted to, where the choice is between integers
   Choice : (common : Option IntegerType) (c x y : Term) → Term
   Index : (e i : Term) → Term
   Select : (e : Term) (place : ℕ) → Term
@@ -32,7 +32,7 @@ pub data Bound : Type 0 where
   BySize : (e : Term) → Bound
 
 mutual
-  -- a type, with the types that it names in their places
+  -- a type, with the types that it names opened
   pub data PokeType : Type 0 where
     IntegerOf : (type : IntegerType) → PokeType
     -- an offset: its magnitude's type, and its unit in bits
@@ -56,7 +56,7 @@ mutual
     PartThen : (name : Option (List ℕ)) (order : Option ByteOrder) (type : PokeType) (constraint : Option Term) (rest : Parts) → Parts
 
 unfoldable mutual
-  -- how deep a type is: a scalar or a struct of no fields has 1, all else one more than its deepest part
+  -- the depth of a type: 1 for a scalar or a struct of no fields, else one more than its deepest part
   pub depth : PokeType → ℕ
   depth (IntegerOf type) = 1
   depth (OffsetOf type unit) = 1

@@ -54,7 +54,7 @@ pub data IsComparison : Infix → Type 0 where
   greater : IsComparison Greater
   at_least : IsComparison GreaterEqual
 
--- operators on two offsets, whose result is an offset in their greatest common unit
+-- operators on two offsets, whose result has the greatest common divisor of their units
 pub data IsOffsetSum : Infix → Type 0 where
   add : IsOffsetSum Add
   subtract : IsOffsetSum Subtract
@@ -102,7 +102,7 @@ pub data HasBits : PokeUnit → ℕ → Type 0 where
   byte : HasBits unit.Byte 8
   number : {n : Numeral} → 1 ≤ n.value → n.value ≤ 4294967295 → HasBits (unit.Bits n) n.value
 
--- what `as` converts to, and what it makes of an expression of a type
+-- the type that `as` converts to, and the converted expression
 pub data Converts (names : Names) : TreeTarget → Term → PokeType → Term → PokeType → Type 0 where
   to_integer : {r : TreeReference} {x : Term} {v t : IntegerType} → Refers names r (IntegerOf t) →
       Converts names (ToReference r) x (IntegerOf v) (types.ToInteger t x) (IntegerOf t)
@@ -127,13 +127,13 @@ pub data HasField : PokeType → List ℕ → ℕ → PokeType → Type 0 where
   of_union : {title : Option (List ℕ)} {ps : Parts} {word : List ℕ} {n : ℕ} {t : PokeType} →
       find_part 0 word ps ≡ Some (n, t) → HasField (UnionOf title ps) word n t
 
--- a number, of a type that has a width and holds it
+-- a number whose type has a width and holds its value
 pub record IsHeld (n : Numeral) : Type 0 where
   pub some : 1 ≤ n.width
   pub most : n.width ≤ 64
   pub small : n.value < 2 ^ value_bits n.signed n.width
 
--- where these fields are seen and so many levels are open, the expression, with its names resolved, is of the sort
+-- the expression, with its names resolved, has the sort, where these fields are visible and so many frames are open
 pub data HasSort (names : Names) (seen : List Visible) (levels : ℕ) : Tree → Term → Sort → Type 0 where
   literal : {n : Numeral} → IsHeld n → HasSort names seen levels (tree.Literal n) (types.Number (whole n.width n.signed) n.value) (Typed (IntegerOf (whole n.width n.signed)))
   character : {b : ℕ} → HasSort names seen levels (tree.Character b) (types.Number (whole 8 false) b) (Typed (IntegerOf (whole 8 false)))
@@ -163,17 +163,17 @@ pub data HasSort (names : Names) (seen : List Visible) (levels : ℕ) : Tree →
   convert : {e : Tree} {x y : Term} {target : TreeTarget} {r : PokeType} (t : PokeType) → HasSort names seen levels e x (Typed t) → Converts names target x t y r →
       HasSort names seen levels (tree.After e (tree.Convert target)) y (Typed r)
 
--- a constraint or condition: an integer, where there is one
+-- a constraint or condition: an integer, if there is one
 pub data IsTruth (names : Names) (seen : List Visible) (levels : ℕ) : Option Tree → Option Term → Type 0 where
   without : IsTruth names seen levels None None
   of_integer : {e : Tree} {x : Term} (w : IntegerType) → HasSort names seen levels e x (Typed (IntegerOf w)) → IsTruth names seen levels (Some e) (Some x)
 
--- a label: an offset, where there is one
+-- a label: an offset, if there is one
 pub data IsLabel (names : Names) (seen : List Visible) (levels : ℕ) : Option Tree → Option Term → Type 0 where
   without : IsLabel names seen levels None None
   of_offset : {e : Tree} {x : Term} (w : IntegerType) (n : ℕ) → HasSort names seen levels e x (Typed (OffsetOf w n)) → IsLabel names seen levels (Some e) (Some x)
 
--- the bound of an array: a count or a size, where there is one
+-- the bound of an array: a count or a size, if there is one
 pub data IsBound (names : Names) (seen : List Visible) (levels : ℕ) : Option Tree → Bound → Type 0 where
   without : IsBound names seen levels None Unbounded
   by_count : {e : Tree} {x : Term} (w : IntegerType) → HasSort names seen levels e x (Typed (IntegerOf w)) → IsBound names seen levels (Some e) (ByCount x)
@@ -184,18 +184,18 @@ abbrev pub IsFresh : Option (List ℕ) → List (Option (List ℕ)) → Type 0
 IsFresh None names = Unit {0}
 IsFresh (Some word) names = has_name word names ≡ false
 
--- integers, offsets and integral structs: what an integral struct may have for fields, and what a prefix may stand before
+-- integers, offsets and integral structs: an integral struct may have them as fields, and a prefix may come before them
 pub data HasWidth : PokeType → Type 0 where
   of_integer : {t : IntegerType} → HasWidth (IntegerOf t)
   of_offset : {t : IntegerType} {n : ℕ} → HasWidth (OffsetOf t n)
   of_integral : {title : Option (List ℕ)} {t : IntegerType} {ps : Parts} → HasWidth (IntegralOf title t ps)
 
--- a prefix stands only before what has a width
+-- a prefix comes only before a type that has a width
 pub data IsPrefixed : Option ByteOrder → PokeType → Type 0 where
   plain : {t : PokeType} → IsPrefixed None t
   ordered : {order : ByteOrder} {t : PokeType} → HasWidth t → IsPrefixed (Some order) t
 
--- a field with these parts and of this type may stand here
+-- the place allows a field with these parts and of this type
 pub data MayStand : Place → PokeType → FieldParts → Type 0 where
   in_struct : {t : PokeType} {parts : FieldParts} → IsPrefixed parts.order t → MayStand place.Struct t parts
   in_pinned : {t : PokeType} {parts : FieldParts} → IsPrefixed parts.order t → parts.label ≡ None → MayStand place.Pinned t parts
@@ -203,7 +203,8 @@ pub data MayStand : Place → PokeType → FieldParts → Type 0 where
   in_union : {t : PokeType} {parts : FieldParts} (word : List ℕ) → IsPrefixed parts.order t → parts.name ≡ Some word → parts.label ≡ None → parts.condition ≡ None → MayStand place.Union t parts
 
 mutual
-  -- among these names, where these fields are seen and so many levels are open, the form with this title means the type
+  -- the form with this title means the type, among these names, where these fields are visible and so many frames are
+  -- open
   pub data Means (names : Names) : List Visible → ℕ → Option (List ℕ) → FormTree → PokeType → Type 0 where
     plain : {seen : List Visible} {levels : ℕ} {title : Option (List ℕ)} {r : TreeReference} {t : PokeType} → Refers names r t → Means names seen levels title (Plain r) t
     string : {seen : List Visible} {levels : ℕ} {title : Option (List ℕ)} → Means names seen levels title StringForm StringOf
@@ -220,7 +221,7 @@ mutual
         FieldsMean names place.Union seen levels [] (tree.FieldThen form parts rest) fs →
         Means names seen levels title (UnionForm (tree.FieldThen form parts rest)) (UnionOf title (parts_of fs))
 
-  -- fields, after those of these names
+  -- fields, after fields of these names
   pub data FieldsMean (names : Names) : Place → List Visible → ℕ → List (Option (List ℕ)) → FieldTrees → Fields → Type 0 where
     done : {here : Place} {seen : List Visible} {levels : ℕ} {before : List (Option (List ℕ))} → FieldsMean names here seen levels before tree.NoFields NoFields
     field : {here : Place} {seen : List Visible} {levels : ℕ} {before : List (Option (List ℕ))} {form : FormTree} {parts : FieldParts} {rest : FieldTrees}

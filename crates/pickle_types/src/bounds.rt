@@ -10,8 +10,8 @@ ghost use Rattle.pickle_types.specs.Holds.{HoldsWidth, AreBounds, AreFieldBounds
 use crate::node::{Extent, Field, Node, Part, Resolved, Shape};
 use arrayvec::ArrayVec;
 
-/// What is known of a type: its least width in bits, None from 2^64 on, and bounds on the steps and slots of a mapping,
-/// None from 2^128 on.
+/// The bounds of one type. `least` is the least width of a value, in bits; None from 2^64 on. `steps` and `slots` bound
+/// those of one mapping; None from 2^128 on.
 #[derive(Clone, Copy, Default)]
 pub struct Bounds {
     pub least: Option<u64>,
@@ -19,27 +19,27 @@ pub struct Bounds {
     pub slots: Option<u128>,
 }
 
-/// What is known of some fields of a struct.
+/// The bounds of some fields of a struct.
 #[derive(Clone, Copy)]
 pub struct FieldBounds {
-    /// The least width where the fields follow one another.
+    /// The least width in bits, where each field begins after the one before it.
     pub sum: Option<u64>,
-    /// The least width where they may lie over one another.
+    /// The least width in bits, where fields may overlap.
     pub greatest: Option<u64>,
     pub has_label: bool,
     pub steps: Option<u128>,
     pub slots: Option<u128>,
 }
 
-/// What is known of some alternatives of a union, or fields of an integral struct.
+/// The bounds of some alternatives of a union, or of some fields of an integral struct.
 #[derive(Clone, Copy)]
 pub struct PartBounds {
     pub is_empty: bool,
     pub least: Option<u64>,
     pub steps: Option<u128>,
-    /// Where all parts are kept.
+    /// The slots of all parts together, as an integral struct takes them.
     pub slots: Option<u128>,
-    /// Where one part is kept.
+    /// The slots of the part that takes most, as a union takes them.
     pub greatest_slots: Option<u128>,
 }
 
@@ -63,7 +63,7 @@ pub fn greater_of(a: Option<u128>, b: Option<u128>) -> Option<u128>
     }
 }
 
-/// So many times as much.
+/// `count` times a bound; None from 2^128 on.
 fn times(count: u128, each: Option<u128>) -> Option<u128>
     requires { 0 < count }
     ensures { (x : ℕ) → IsBound each x → IsBound result (count * x) }
@@ -84,7 +84,7 @@ pub fn width_sum(a: Option<u64>, b: Option<u64>) -> Option<u64>
     }
 }
 
-/// The greater of two widths in bits.
+/// The greater of two widths in bits; None from 2^64 on.
 pub fn greater_width(a: Option<u64>, b: Option<u64>) -> Option<u64>
     ensures { (v w : ℕ) → HoldsWidth a v → HoldsWidth b w → HoldsWidth result (max v w) }
 {
@@ -94,7 +94,7 @@ pub fn greater_width(a: Option<u64>, b: Option<u64>) -> Option<u64>
     }
 }
 
-/// The lesser of two widths in bits.
+/// The lesser of two widths in bits; None means 2^64 or more.
 pub fn lesser_width(a: Option<u64>, b: Option<u64>) -> Option<u64>
     ensures { (v w : ℕ) → HoldsWidth a v → HoldsWidth b w → HoldsWidth result (min v w) }
 {
@@ -105,7 +105,7 @@ pub fn lesser_width(a: Option<u64>, b: Option<u64>) -> Option<u64>
     }
 }
 
-/// How many elements of a least width are tried on so many bits.
+/// How many elements of a least width, in bits, a mapping tries on so many bits.
 pub fn elements(bits: u64, least: Option<u64>) -> u128
     ensures count { (w : ℕ) → HoldsWidth least w → result ≡ count_of bits w }
     ensures some { 0 < result }
@@ -116,7 +116,7 @@ pub fn elements(bits: u64, least: Option<u64>) -> u128
     }
 }
 
-/// How many nodes an expression has, and bytes the texts in it.
+/// The weight of an expression: its nodes, and the bytes of its text literals.
 fn weight(e: &Resolved) -> Option<u128>
     ensures { IsBound result (weight (term_of e.now)) }
 {
@@ -158,7 +158,7 @@ fn bound_weight(extent: &Extent) -> Option<u128>
     }
 }
 
-/// The least width of a field, which is 0 where a condition may leave it absent.
+/// The least width of a field in bits. It is 0 where a condition may leave the field absent.
 pub fn least_present(least: Option<u64>, condition: &Option<Box<Resolved>>) -> Option<u64>
     ensures { (w : ℕ) → HoldsWidth least w → HoldsWidth result (where_present (optional_term condition.now) w) }
 {
@@ -168,7 +168,7 @@ pub fn least_present(least: Option<u64>, condition: &Option<Box<Resolved>>) -> O
     }
 }
 
-/// The bounds of a field and of those behind it.
+/// The bounds of a field and of those after it.
 #[tactic(auto, unfolding(crate::specs::Bounds::least_width, crate::specs::Bounds::cost, crate::specs::Bounds::room))]
 fn field_before(field: &Field, own: Bounds, rest: FieldBounds) -> FieldBounds
     ensures { BoundsFieldThen field.now own rest result }
@@ -195,7 +195,7 @@ fn field_before(field: &Field, own: Bounds, rest: FieldBounds) -> FieldBounds
     }
 }
 
-/// The least width of a part, and of those behind it if there are any.
+/// The lesser of a part's least width and that of the parts after it, in bits. The last part has its own.
 pub fn least_before(own: Option<u64>, rest: Option<u64>, is_last: bool) -> Option<u64>
     ensures last { (w : ℕ) → HoldsWidth own w → IsTrue is_last → HoldsWidth result w }
     ensures more { (w v : ℕ) → HoldsWidth own w → HoldsWidth rest v → is_last ≡ false → HoldsWidth result (min w v) }
@@ -207,7 +207,7 @@ pub fn least_before(own: Option<u64>, rest: Option<u64>, is_last: bool) -> Optio
     }
 }
 
-/// The bounds of a part and of those behind it.
+/// The bounds of a part and of those after it.
 #[tactic(auto, unfolding(crate::specs::Bounds::least_width, crate::specs::Bounds::cost, crate::specs::Bounds::room))]
 fn part_before(part: &Part, own: Bounds, rest: PartBounds) -> PartBounds
     ensures { BoundsPartThen part.now own rest result }
@@ -227,7 +227,7 @@ fn part_before(part: &Part, own: Bounds, rest: PartBounds) -> PartBounds
     }
 }
 
-/// One step and one slot, and those of the parts.
+/// Adds one step and one slot to those of the parts.
 fn with_own(least: Option<u64>, steps: Option<u128>, slots: Option<u128>) -> Bounds
     ensures least { result.least ≡ least }
     ensures steps { (x : ℕ) → IsBound steps x → IsBound result.steps (1 + x) }
@@ -386,7 +386,7 @@ fn parts_bounds(
     all
 }
 
-/// The bounds of a node, from those that are known or anew.
+/// The bounds of a node, taken from the known ones or computed anew.
 #[cycle(bounds)]
 pub(crate) fn node_bounds(
     nodes: &[Node],
@@ -409,7 +409,7 @@ pub(crate) fn node_bounds(
     shape_bounds(nodes, roots, known, bits, at)
 }
 
-/// The bounds of a node, from those of the nodes that it names.
+/// The bounds of a node, computed from those of the nodes that it names.
 #[cycle(bounds)]
 pub(crate) fn shape_bounds(
     nodes: &[Node],
@@ -449,8 +449,9 @@ pub(crate) fn shape_bounds(
     }
 }
 
-/// The bounds of a node on so many bits. `roots` are the nodes of the declared types, in rising order: each is looked at once.
-// Not inlined: what is known takes 320 KiB of stack, which no other run is to have.
+/// The bounds of a node on so many bits. `roots` are the nodes of the declared types, in rising order; each is computed
+/// at most once.
+// Not inlined: the known bounds take 320 KiB of stack, and no other call should pay for them.
 #[inline(never)]
 pub fn type_bounds(nodes: &[Node], roots: &[usize], bits: u64, at: usize) -> Bounds
     requires table { IsTable nodes.now }

@@ -1,4 +1,4 @@
-//! What is told of the declared types of a table.
+//! Lists the declared types of a table.
 
 ghost use Rattle.std.specs.Prelude.{◌≡◌, ℕ, ◌<◌, length, map, IfOk};
 ghost use Rattle.pickle_types.specs.Table.{IsTable};
@@ -15,19 +15,19 @@ use crate::predeclared::PREDECLARED;
 use crate::table::Table;
 use std::alloc::{AllocError, Global};
 
-/// What a type is. A type that is declared as another's name is what that one is.
+/// The kind of a type. A declared name of another type has that type's kind.
 #[derive(Clone, Copy, Debug, PartialEq, Eq)]
 pub enum TypeKind {
     Integer,
     Offset,
     String,
     Array,
-    /// A struct, pinned or not, or one that is read as one integer.
+    /// A struct, pinned or not, or an integral struct.
     Struct,
     Union,
 }
 
-/// What is told of a declared type.
+/// The name, the kind and the least width of a declared type.
 #[derive(Clone, Copy)]
 pub struct DeclaredType<'t> {
     pub name: &'t [u8],
@@ -37,7 +37,8 @@ pub struct DeclaredType<'t> {
 }
 
 impl Table {
-    /// What is told of each declared type, in the order of the declarations. While it runs it takes 80 bytes of memory more for each.
+    /// The declared types, in the order of their declarations. While the call runs it takes 80 bytes of memory more for
+    /// each.
     pub fn declared_types(&self, alloc: Global) -> Result<Vec<DeclaredType<'_>>, AllocError>
         ensures { IfOk result (λ told. map told_of told.items ≡ map told_as (declared_in (types_of self.now))) }
     {
@@ -53,7 +54,7 @@ impl Table {
     }
 }
 
-// What is told of a type that has a name.
+// The name, the kind and the least width of a named type.
 fn tell<'t>(nodes: &[Node], roots: &[usize], known: &[Bounds], named: &'t Named) -> DeclaredType<'t>
     requires table { IsTable nodes.now }
     requires known { AreKnown nodes.now roots.now known.now 0 }
@@ -69,7 +70,7 @@ fn tell<'t>(nodes: &[Node], roots: &[usize], known: &[Bounds], named: &'t Named)
     }
 }
 
-// A width that is held is told as it is.
+// A width is reported as it is stored.
 fn held(least: Option<u64>) -> Option<u64>
     ensures { (width : ℕ) → HoldsWidth least width → result ≡ held_width width }
 {

@@ -8,36 +8,37 @@ use std::alloc::{AllocError, AllocFailed};
 use std::fmt::{self, Formatter};
 use thiserror::Error;
 
-/// Which rule a declaration breaks, or that there was no memory. The rules are this project's profile. It displays its name.
+/// The rule that a declaration breaks, or `Memory`. The rules are this project's profile. Display prints the variant's
+/// name.
 #[derive(Clone, Copy, PartialEq, Eq, Debug, Error)]
 #[error("{}", self.name())]
 pub enum FaultKind {
     /// A name of a type that is neither predeclared nor declared before.
     UnknownType,
-    /// A declared name that is predeclared or declared before.
+    /// A declaration of a name that is predeclared or declared before.
     DuplicateType,
-    /// A name that no visible field has, or a selected field that the type hasn't.
+    /// A name that no visible field has, or a selected field that the type doesn't have.
     UnknownName,
-    /// Two fields of one struct, or alternatives of one union, with one name.
+    /// Two fields of one struct, or two alternatives of one union, that have the same name.
     DuplicateField,
-    /// Operands, a constraint, condition, label, bound or conversion of a wrong type, or an
-    /// `offset<..>` or integral struct of something other than an integer type.
+    /// An operand, constraint, condition, label, bound or conversion of a wrong type, or an `offset<..>` or integral
+    /// struct of something other than an integer type.
     Mismatch,
     /// A width outside 1 to 64 bits, a unit outside 1 to 4,294,967,295 bits, or a number that its type doesn't hold;
     /// the parser gives each number a type that holds it.
     Width,
-    /// The widths of an integral struct's fields don't add up to its own.
+    /// The widths of an integral struct's fields don't add up to the width of the struct.
     IntegralWidths,
-    /// A prefix, label, condition, nameless alternative, empty union or kind of field where it may not stand.
+    /// A prefix, label, condition, nameless alternative, empty union or kind of field in a place that doesn't allow it.
     NotHere,
-    /// A type deeper than 64, with the types that it names opened.
+    /// A type deeper than 64. The types that it names count with their own depth.
     TooDeep,
-    /// A growth of the table was refused.
+    /// The allocator refused memory for the table.
     Memory,
 }
 
 impl FaultKind {
-    /// The name by which lines tell it: that of its variant.
+    /// The name that messages print: that of the variant.
     pub fn name(self) -> &'static str
         ensures { result.now ≡ type_kind self }
     {
@@ -56,16 +57,16 @@ impl FaultKind {
     }
 }
 
-/// Why a pickle has no table of types. It displays the line that tells it.
+/// Why a pickle has no table of types. Display prints the message.
 #[derive(Clone, Copy, PartialEq, Eq, Debug, Error)]
 #[error(fmt = show)]
 pub struct TypeFault {
     pub kind: FaultKind,
-    /// The declaration, counted from 1; 0 with `Memory`.
+    /// The number of the declaration, counted from 1; 0 with `Memory`.
     pub decl: usize,
 }
 
-// Shows the line of a fault: want of memory is in no declaration.
+// Prints the message of a fault. `Memory` names no declaration.
 fn show<W: fmt::Write>(kind: &FaultKind, decl: &usize, f: &mut Formatter<W>) -> fmt::Result {
     match kind {
         FaultKind::Memory => write!(f, "fault {kind}"),

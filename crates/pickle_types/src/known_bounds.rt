@@ -1,4 +1,4 @@
-//! Bounds by those of the declared types before, which are kept in memory that is taken for them.
+//! Bounds of a type from those of the declared types before it, which are stored in memory that the caller pays for.
 
 ghost use Rattle.std.specs.Prelude.{◌≤◌, length, IfOk};
 ghost use Rattle.pickle_types.specs.Table.{IsTable};
@@ -10,7 +10,7 @@ use crate::node::Node;
 use crate::table::{Table, TypeId};
 use std::alloc::{AllocError, Global};
 
-/// The bounds on so many bits of the declared types before a node. `roots` are their nodes, in rising order.
+/// The bounds on so many bits of the declared types before the node at `end`. `roots` are their nodes, in rising order.
 pub fn known_bounds(
     alloc: Global,
     nodes: &[Node],
@@ -34,8 +34,9 @@ pub fn known_bounds(
 }
 
 impl Table {
-    /// The least width of a type, in bits, and the bounds that `step_bound` and `slot_bound` tell for so many bits, all at once. It
-    /// takes 80 bytes of memory for each declared type before this one, and little stack where those calls take 320 KiB.
+    /// The least width of a type in bits, and what `step_bound` and `slot_bound` return for so many bits, in one call.
+    /// It takes 80 bytes of memory for each declared type before this one, and little stack; those calls take 320 KiB
+    /// of stack. It fails where the allocator refuses that memory.
     pub fn bounds(&self, alloc: Global, id: TypeId, bits: u64) -> Result<Bounds, AllocError>
         requires known { IsInTable self.now id }
         ensures { IfOk result (λ bounds. AreBounds bounds (type_named self.now id) bits) }

@@ -1,4 +1,4 @@
-//! Many fields that an expression sees.
+//! The fields that an expression sees, where they are many.
 
 ghost use Rattle.std.specs.Prelude.{◌≡◌, ◌-◌, ◌<◌, ◌^◌, ◌++◌, ◌∷◌, [], ℕ, List, length, take, IfSome, IfErr, OnOk, OnErr};
 ghost use Rattle.pickle_types.specs.Scopes.{resolve};
@@ -13,21 +13,21 @@ use crate::scopes::Seen;
 use std::alloc::Global;
 use std::marker::Model;
 
-/// How many fields are taken away all at once, if all are, rather than one by one.
+/// More fields than this are removed all at once; fewer, and some of them, one by one.
 const MANY: usize = 256;
 
-/// A field, and the place of the one that it hides.
+/// A field, and the place of the field that it hides, if any.
 #[derive(Clone, Copy)]
 struct Entry<'n> {
     field: Seen<'n>,
     hidden: Option<usize>,
 }
 
-/// Fields that an expression sees, outermost first. Of those with one name the last is meant.
+/// Fields that an expression sees, outermost first. A name means the last field of that name.
 #[derive(Drop)]
 pub struct ManyFields<'n> {
     entries: Vec<Entry<'n>>,
-    /// The place of the last entry of each name.
+    /// For each name, the place of the last entry that has it.
     places: PlacesByName<'n>,
 }
 
@@ -40,7 +40,7 @@ impl<'n> Model for ManyFields<'n> {
 }
 
 impl<'n> ManyFields<'n> {
-    /// No fields yet.
+    /// An empty list.
     pub fn new(alloc: Global) -> ManyFields<'n>
         ensures { result ≡ [] }
     {
@@ -69,7 +69,7 @@ impl<'n> ManyFields<'n> {
         }
     }
 
-    /// One more field, which hides those of its name.
+    /// Appends a field. It hides those of its name. Fails with `Memory` alone, and then changes nothing.
     pub fn push(&mut self, field: Seen<'n>) -> Result<(), FaultKind>
         ensures ok { OnOk result (self.new ≡ self.old ++ field.entry ∷ []) }
         ensures err { OnErr result (self.new ≡ self.old) }
@@ -82,7 +82,7 @@ impl<'n> ManyFields<'n> {
         Ok(())
     }
 
-    /// Takes away the last field, so that what it hides is seen again.
+    /// Removes the last field. The field that it hid is seen again.
     fn pop(&mut self)
         ensures { self.new ≡ take (length self.old - 1) self.old }
     {
@@ -91,7 +91,7 @@ impl<'n> ManyFields<'n> {
         }
     }
 
-    /// Takes away all fields.
+    /// Removes all fields.
     fn clear(&mut self)
         ensures { self.new ≡ [] }
     {
@@ -99,7 +99,7 @@ impl<'n> ManyFields<'n> {
         self.places.clear();
     }
 
-    /// Leaves the first fields, so many of them.
+    /// Removes all but the first `count` fields.
     pub fn truncate(&mut self, count: usize)
         ensures { self.new ≡ take count self.old }
     {

@@ -1,4 +1,4 @@
-//! The names that values are printed with.
+//! The names that a value is printed with.
 
 ghost use Rattle.std.specs.Prelude.{◌≡◌, IfOk, IfErr};
 ghost use Rattle.pickle_types.specs.Table.{letters_of};
@@ -7,7 +7,7 @@ use crate::fault::FaultKind;
 use arrayvec::ArrayVec;
 use std::alloc::Global;
 
-/// The letters of a name. Those of a short one need no memory beside it.
+/// The letters of a name. A short name is stored in place, with no memory of its own.
 #[derive(Drop)]
 pub enum Name {
     Short(ArrayVec<u8, 16>),
@@ -15,7 +15,7 @@ pub enum Name {
 }
 
 impl Name {
-    /// A copy of these letters.
+    /// Copies these letters. Fails with `Memory` alone.
     pub fn from_slice(alloc: Global, letters: &[u8]) -> Result<Name, FaultKind>
         ensures ok { IfOk result (λ name. letters_of name ≡ letters.now) }
         ensures err { IfErr result (λ e. e ≡ FaultKind.Memory) }

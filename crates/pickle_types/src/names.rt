@@ -1,4 +1,4 @@
-//! The numbers of names, and the types that have names.
+//! Numbers the names of a pickle, and finds the types that have names.
 
 ghost use Rattle.std.specs.Prelude.{◌≡◌, ℕ, List, [], None, Some, map, IfSome, IfOk, IfErr, OnOk, nat_eq};
 ghost use Rattle.std.specs.Str.{bytes_eq};
@@ -16,24 +16,24 @@ use indexmap::IndexMap;
 use std::alloc::Global;
 use std::marker::Model;
 
-/// The number of a name. It is as high as many names were met before.
+/// The number of a name: how many names were numbered before it.
 pub type NameId = usize;
 
-/// The node of a type that has a name, and how deep the type is.
+/// The node of a named type, and the depth of the type.
 #[derive(Clone, Copy)]
 pub struct Declared {
     pub node: usize,
     pub depth: u8,
 }
 
-/// A name, and the type that has it.
+/// A name and its type.
 #[derive(Drop)]
 pub struct Named {
     pub word: Vec<u8>,
     pub declared: Declared,
 }
 
-/// Names with their numbers, and the types that have names, in the order of their declarations.
+/// The names with their numbers, and the named types in the order of their declarations.
 #[derive(Drop)]
 pub struct Names<'n> {
     words: Vec<&'n [u8]>,
@@ -51,7 +51,7 @@ impl<'n> Model for Names<'n> {
 }
 
 impl<'n> Names<'n> {
-    /// No names yet.
+    /// No names.
     pub fn new(alloc: Global) -> Names<'n>
         ensures types { types_in result ≡ [] }
         ensures words { words_in result ≡ [] }
@@ -63,14 +63,14 @@ impl<'n> Names<'n> {
         }
     }
 
-    /// The number of a name, where it has one.
+    /// The number of a name; None where it has none yet.
     pub fn number_of(&self, word: &[u8]) -> Option<NameId>
         ensures { result ≡ number_in (words_in self.now) word.now }
     {
         self.numbers.find(word)
     }
 
-    /// The number of a name, which gets one where it has none.
+    /// The number of a name. A name without one gets the next number.
     pub fn number(&mut self, word: &'n [u8]) -> Result<NameId, FaultKind>
         ensures numbered { IfOk result (λ number. number_in (words_in self.new) word.now ≡ Some number) }
         ensures kept { Extends (words_in self.old) (words_in self.new) }
@@ -83,7 +83,7 @@ impl<'n> Names<'n> {
         }
     }
 
-    /// A number for a name that has none.
+    /// Numbers a name that has no number.
     fn add_name(&mut self, word: &'n [u8]) -> Result<NameId, FaultKind>
         requires new { number_in (words_in self.old) word.now ≡ None }
         ensures numbered { IfOk result (λ number. number_in (words_in self.new) word.now ≡ Some number) }
@@ -98,7 +98,7 @@ impl<'n> Names<'n> {
         Ok(number)
     }
 
-    /// Gives a type a name that no type has.
+    /// Gives a type a name that no other type has.
     pub fn insert(
         &mut self,
         alloc: Global,
@@ -121,7 +121,7 @@ impl<'n> Names<'n> {
         Ok(())
     }
 
-    /// The types, in the order of their declarations.
+    /// The named types, in the order of their declarations.
     pub fn into_list(self, alloc: Global) -> Result<Vec<Named>, FaultKind>
         ensures ok { IfOk result (λ list. list.items ≡ types_in self.entry) }
         ensures err { IfErr result (λ e. e ≡ FaultKind.Memory) }
@@ -152,7 +152,7 @@ fn is_named(named: &Named, word: &[u8]) -> bool
     word == named.word.as_slice()
 }
 
-/// The type of that name, where each of the names is looked at.
+/// The type of that name. It compares one name after another.
 pub fn find_listed(list: &[Named], word: &[u8]) -> Option<Declared>
     ensures found { (nodes : List Node) → IsFound nodes result (find_type word.now (listed_of nodes list.now)) }
     ensures named { (nodes : List Node) → AreListed nodes list.now → IfSome result (IsNamed nodes) }

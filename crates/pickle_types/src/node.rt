@@ -1,4 +1,4 @@
-//! Types as a table of nodes, each of which names only nodes before it.
+//! Types as a table of nodes. A node names only nodes before it.
 
 use crate::integer::IntegerType;
 use crate::name::Name;
@@ -10,24 +10,24 @@ pub enum Resolved {
     /// A number or character, with its type.
     Number(IntegerType, u64),
     Text(Vec<u8>),
-    /// An open level, counted from the innermost, and the place of a field in it.
+    /// A frame, counted from the innermost, and the place of a field in it.
     Name(usize, usize),
     Bracket(Box<Resolved>),
     Prefix(Prefix, Box<Resolved>),
     Infix(Infix, Box<Resolved>, Box<Resolved>),
-    /// The type that the choice is converted to, where it is one between integers.
+    /// The type that both sides are converted to, where the choice is between integers.
     Choice(Option<IntegerType>, Box<Resolved>, Box<Resolved>, Box<Resolved>),
     Index(Box<Resolved>, Box<Resolved>),
-    /// The place of the field in the struct or union before it.
+    /// The place of the selected field in its struct or union.
     Select(Box<Resolved>, usize),
     Attribute(Attribute, Box<Resolved>),
     ToInteger(IntegerType, Box<Resolved>),
-    /// The type of the magnitude, and the unit in bits.
+    /// The integer type of the magnitude, and the unit in bits.
     ToOffset(IntegerType, u32, Box<Resolved>),
     InUnit(u32, Box<Resolved>),
 }
 
-/// How many elements an array has: as many as fit, a count, or those of a size.
+/// The number of elements of an array: as many as fit, a count, or as many as fill a size.
 #[derive(Drop)]
 pub enum Extent {
     Unbounded,
@@ -55,11 +55,11 @@ pub struct Part {
     pub constraint: Option<Box<Resolved>>,
 }
 
-/// A type, with the nodes of the types that it is made of. A name is the one that a value is printed with.
+/// A type, as the nodes of the types that it is made of. `name` is the one that its values are printed with.
 #[derive(Drop)]
 pub enum Shape {
     Integer(IntegerType),
-    /// The type of the magnitude, and the unit in bits, from 1 to 4,294,967,295.
+    /// The integer type of the magnitude, and the unit in bits, from 1 to 4,294,967,295.
     Offset(IntegerType, u32),
     String,
     Array(usize, Extent),
@@ -68,7 +68,7 @@ pub enum Shape {
         pinned: bool,
         fields: Vec<Field>,
     },
-    /// A struct that is read as one integer.
+    /// An integral struct: it is read as one integer.
     Integral {
         name: Option<Name>,
         number: IntegerType,
@@ -84,6 +84,6 @@ pub enum Shape {
 #[derive(Drop)]
 pub struct Node {
     pub shape: Shape,
-    /// Its place among the declared types, where it is the type of a declaration.
+    /// The place of the node among the table's roots, where it is one of the first 65,536.
     pub slot: Option<u16>,
 }

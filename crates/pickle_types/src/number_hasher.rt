@@ -1,14 +1,14 @@
-//! What hashes the numbers of names.
+//! Hashes the numbers of names.
 
 ghost use Rattle.std.specs.Prelude.{◌*◌, ◌%◌};
 ghost use Rattle.pickle_types.specs.Hashes.{number_of};
 
 use std::hash::{BuildHasher, Hasher};
 
-/// An odd number, so that no two numbers below 2^32 have one multiple of it modulo 2^32.
+/// An odd number, so that two different numbers below 2^32 have different multiples of it modulo 2^32.
 const ODD: u64 = 2_654_435_761;
 
-/// Makes the hash of a number from its bytes: a multiple of the number, modulo 2^32.
+/// Computes the hash of a number from its bytes: a multiple of the number, modulo 2^32.
 #[derive(Clone, Copy)]
 pub struct NumberHasher {
     number: u32,

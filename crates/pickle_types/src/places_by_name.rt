@@ -1,4 +1,4 @@
-//! Places that are found by names, in a time that no choice of names makes long.
+//! Finds places by names, quickly even where someone chose the names to slow it down.
 
 ghost use Rattle.std.specs.Prelude.{◌≡◌, ◌+◌, ◌<◌, ℕ, List, length, None, Some, All, IsSome, IfSome, IfOk, IfErr, OnOk, OnErr};
 ghost use Rattle.pickle_types.specs.Built.{bytes_now};
@@ -8,18 +8,18 @@ use crate::fault::FaultKind;
 use std::alloc::Global;
 use std::collections::BTreeMap;
 
-/// How many trees names are scattered to where it isn't known how many there will be.
+/// The number of trees, where the number of names isn't known in advance.
 const MANY: usize = 256;
 
-/// Names, each with a place. They are scattered to trees, so that a tree has few of them. Where names are chosen so that one tree
-/// has all, a name is found there by as many comparisons as the tree is deep.
+/// Names, each with a place. The names are scattered over trees, so that each tree has few. Where names are chosen so
+/// that one tree has them all, a look-up compares as many names as that tree is deep.
 #[derive(Drop)]
 pub struct PlacesByName<'n> {
     alloc: Global,
     trees: Vec<BTreeMap<&'n [u8], usize>>,
 }
 
-/// The tree of a name, of so many.
+/// The number of the tree that a name belongs to, of `count` trees.
 fn bucket_of(word: &[u8], count: usize) -> usize
     requires some { 0 < count }
     ensures tree { result ≡ bucket_of count word.now }
@@ -32,7 +32,7 @@ fn bucket_of(word: &[u8], count: usize) -> usize
     scattered % count
 }
 
-/// Adds so many trees without names.
+/// Adds `count` empty trees.
 fn add_trees<'n>(
     trees: &mut Vec<BTreeMap<&'n [u8], usize>>,
     alloc: Global,
@@ -61,7 +61,7 @@ impl<'n> PlacesByName<'n> {
         }
     }
 
-    /// No names, and trees for so many.
+    /// No names, and `count` trees. Fails with `Memory` alone.
     pub fn with_capacity(alloc: Global, count: usize) -> Result<PlacesByName<'n>, FaultKind>
         ensures ok { IfOk result (λ names. (word : List ℕ) → place_at names word ≡ None) }
         ensures kind { IfErr result (λ e. e ≡ FaultKind.Memory) }
@@ -71,7 +71,7 @@ impl<'n> PlacesByName<'n> {
         Ok(PlacesByName { alloc, trees })
     }
 
-    /// The place of a name.
+    /// The place of a name; None where it has none.
     pub fn find(&self, word: &[u8]) -> Option<usize>
         ensures { result ≡ place_at self.now word.now }
     {
@@ -82,7 +82,7 @@ impl<'n> PlacesByName<'n> {
         self.trees[bucket_of(word, count)].get(word).copied()
     }
 
-    /// Makes trees, where there are none yet.
+    /// Makes the trees, where there are none yet.
     fn open(&mut self) -> Result<(), FaultKind>
         ensures same { (word : List ℕ) → place_at self.new word ≡ place_at self.old word }
         ensures some { OnOk result (0 < length self.new.trees.items) }
@@ -95,7 +95,7 @@ impl<'n> PlacesByName<'n> {
         Ok(())
     }
 
-    /// Gives a name a place, and tells the one that it had. A name that has one needs no memory.
+    /// Gives a name a place, and returns the place that it had. A name that has one already needs no memory.
     pub fn put(&mut self, name: &'n [u8], place: usize) -> Result<Option<usize>, FaultKind>
         ensures put { OnOk result (Replaces self.old self.new (Some name.now) (Some place)) }
         ensures had { IfOk result (λ had. had ≡ place_at self.old name.now) }
@@ -108,7 +108,7 @@ impl<'n> PlacesByName<'n> {
         Ok(self.trees[tree].insert(name, place)?)
     }
 
-    /// Gives a name a place, where there is a name, and tells the one that it had.
+    /// Gives a name, where there is one, a place, and returns the place that it had.
     pub fn add(&mut self, name: Option<&'n [u8]>, place: usize) -> Result<Option<usize>, FaultKind>
         ensures put { OnOk result (Replaces self.old self.new (bytes_now name.entry) (Some place)) }
         ensures had { IfOk result (λ had. IfSome name.entry (λ n. had ≡ place_at self.old n.now)) }
@@ -121,7 +121,8 @@ impl<'n> PlacesByName<'n> {
         }
     }
 
-    /// Gives a name the place back that it had before, if any. The name has a place, so no memory is needed.
+    /// Gives a name back the place that it had before; None removes the name. The name has a place now, so no memory is
+    /// needed.
     pub fn restore(&mut self, name: Option<&'n [u8]>, had: Option<usize>)
         requires there { IfSome name (λ n. IsSome (place_at self.old n.now)) }
         ensures { Replaces self.old self.new (bytes_now name.entry) had }
@@ -137,7 +138,7 @@ impl<'n> PlacesByName<'n> {
         }
     }
 
-    /// Takes away the place of a name.
+    /// Removes a name and its place.
     pub fn remove(&mut self, name: &[u8])
         ensures { Replaces self.old self.new (Some name.now) None }
     {
@@ -148,7 +149,7 @@ impl<'n> PlacesByName<'n> {
         }
     }
 
-    /// Takes away all names.
+    /// Removes all names.
     pub fn clear(&mut self)
         ensures { (word : List ℕ) → place_at self.new word ≡ None }
     {

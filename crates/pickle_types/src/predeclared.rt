@@ -2,7 +2,7 @@
 
 use crate::integer::IntegerType;
 
-/// Each predeclared name, with its integer type.
+/// The predeclared names, each with its integer type.
 pub const PREDECLARED: [(&[u8], IntegerType); 18] = [
     (
         b"bit",

@@ -1,4 +1,4 @@
-//! What an expression sees.
+//! The fields that an expression sees.
 
 ghost use Rattle.std.specs.Prelude.{◌≡◌, ◌<◌, ◌≤◌, ◌++◌, ◌∷◌, [], ℕ, List, length, take, IfSome, IfErr, OnOk, OnErr};
 ghost use Rattle.pickle_types.specs.Scopes.{resolve, is_named};
@@ -11,7 +11,7 @@ use crate::many_fields::ManyFields;
 use std::alloc::Global;
 use std::marker::Model;
 
-/// A field that is seen by its name: its level, counted from the outermost, its place there, and its type's node.
+/// A visible field: its frame, counted from the outermost, its place in that frame, and the node of its type.
 #[derive(Clone, Copy)]
 pub struct Seen<'n> {
     pub name: Option<&'n [u8]>,
@@ -20,14 +20,14 @@ pub struct Seen<'n> {
     pub node: usize,
 }
 
-/// The most fields that are looked at one by one. It is faster up to there.
+/// Up to this many fields are searched one by one, which is faster for few.
 const FEW: usize = 32;
 
-/// The fields that an expression sees, outermost first. Of those with one name the last is meant.
+/// The fields that an expression sees, outermost first. A name means the last field of that name.
 #[derive(Drop)]
 pub struct Scopes<'n> {
     few: Vec<Seen<'n>>,
-    /// Those after the few.
+    /// The fields after the first `FEW`.
     many: ManyFields<'n>,
 }
 
@@ -64,7 +64,7 @@ fn is_called(field: &Seen<'_>, word: &[u8]) -> bool
 }
 
 impl<'n> Scopes<'n> {
-    /// No fields yet.
+    /// An empty list.
     pub fn new(alloc: Global) -> Scopes<'n>
         ensures { result ≡ [] }
     {
@@ -74,7 +74,7 @@ impl<'n> Scopes<'n> {
         }
     }
 
-    /// How many fields are seen.
+    /// The number of visible fields.
     pub fn len(&self) -> usize
         ensures { result ≡ length self.now }
     {
@@ -92,7 +92,7 @@ impl<'n> Scopes<'n> {
         }
     }
 
-    /// One more field, which hides those of its name.
+    /// Appends a field. It hides those of its name.
     pub fn push(&mut self, field: Seen<'n>) -> Result<(), FaultKind>
         ensures ok { OnOk result (self.new ≡ self.old ++ field.entry ∷ []) }
         ensures err { OnErr result (self.new ≡ self.old) }
@@ -106,7 +106,7 @@ impl<'n> Scopes<'n> {
         }
     }
 
-    /// Leaves the first fields, so many of them.
+    /// Removes all but the first `count` fields.
     pub fn truncate(&mut self, count: usize)
         ensures { self.new ≡ take count self.old }
     {

@@ -30,7 +30,7 @@ pub struct TypeId {
 #[derive(Drop)]
 pub struct Table {
     pub(crate) nodes: Vec<Node>,
-    /// The nodes of the declared types that are no other names of earlier ones, in rising order.
+    /// The nodes of the declared types, in rising order. A declaration whose type has a node already adds none.
     pub(crate) roots: Vec<usize>,
     pub(crate) names: Vec<Named>,
     declared: usize,
@@ -42,14 +42,14 @@ pub struct Table {
 impl Table {
     ghost use Rattle.pickle_types.specs.TypeTable.{type_named, types_of, count_of, IsInTable, IsTypeFound, IsWellTyped};
 
-    /// The types that a pickle declares, where it is well typed and no type is deeper than 64.
+    /// Builds the types that a pickle declares. The pickle has to be well typed, and no type deeper than 64.
     pub fn build(alloc: Global, pickle: &Pickle<'_>) -> Result<Table, TypeFault>
         ensures ok { IfOk result (λ table. Declares predeclared (pickle_tree pickle.now) (types_of table)) }
         ensures len { IfOk result (λ table. count_of table ≡ length (pickle_tree pickle.now)) }
-        // Memory is answered only where a growth was refused; any other kind only where the pickle isn't well typed.
+        // `Memory` is returned only where the allocator refused; any other kind only where the pickle isn't well typed.
         ensures wrong { IfErr result (λ e. e.kind ≢ FaultKind.Memory → ¬ IsWellTyped (pickle_tree pickle.now)) }
         ensures kind { IfErr result (λ e. Fails e.kind (declared predeclared (pickle_tree pickle.now))) }
-        // The first declaration that is wrong is told, counted from 1, and 0 with `Memory`.
+        // The fault has the number of the first wrong declaration, counted from 1; 0 with `Memory`.
         ensures place { IfErr result (λ e. TellsPlace e.kind e.decl (first_wrong 1 predeclared (pickle_tree pickle.now))) }
     {
         let mut builder = Builder::new(alloc);
@@ -69,7 +69,7 @@ impl Table {
         })
     }
 
-    /// The type of a declared or predeclared name, after a look at each name before it.
+    /// The type of a declared or predeclared name. It compares one name after another.
     pub fn find(&self, name: &[u8]) -> Option<TypeId>
         ensures found { IsTypeFound self.now result (find_type name.now (types_of self.now)) }
         ensures inside { IfSome result (IsInTable self.now) }
@@ -82,7 +82,7 @@ impl Table {
         }
     }
 
-    /// The most steps of a mapping of a type over so many bits, discarded attempts included; None from 2^128 on.
+    /// A bound on the steps of a mapping of a type over so many bits, discarded attempts included; None from 2^128 on.
     pub fn step_bound(&self, id: TypeId, bits: u64) -> Option<u128>
         requires known { IsInTable self.now id }
         ensures { IsBound result (cost (type_named self.now id) bits) }
@@ -90,7 +90,7 @@ impl Table {
         type_bounds(&self.nodes, &self.roots, bits, id.node).steps
     }
 
-    /// The most slots of each kind that a mapping of a type over so many bits takes; None from 2^128 on.
+    /// A bound on the slots of each kind that a mapping of a type over so many bits takes; None from 2^128 on.
     pub fn slot_bound(&self, id: TypeId, bits: u64) -> Option<u128>
         requires known { IsInTable self.now id }
         ensures { IsBound result (room (type_named self.now id) bits) }
@@ -98,7 +98,7 @@ impl Table {
         type_bounds(&self.nodes, &self.roots, bits, id.node).slots
     }
 
-    /// How many types are declared.
+    /// The number of declared types.
     pub fn len(&self) -> usize
         ensures { result ≡ count_of self.now }
     {

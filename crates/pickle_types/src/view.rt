@@ -1,5 +1,5 @@
-//! The types of a table, as nodes that it lends: each has its shape, and the types, names, orders and expressions of its
-//! parts, with names resolved to an open level and a place in it.
+//! The types of a table, borrowed as nodes. A node has its shape, and the types, names, orders and expressions of its
+//! parts. A name in an expression is resolved to a frame and a place in it.
 
 ghost use Rattle.std.specs.Prelude.{◌≡◌};
 ghost use Rattle.pickle_types.specs.TypeTable.{nodes_of, roots_of};
@@ -9,14 +9,14 @@ pub use crate::node::{Extent, Field, Node, Part, Resolved, Shape};
 use crate::table::Table;
 
 impl Table {
-    /// The nodes of the table. Each names only nodes before it, and a `TypeId` tells one by its place.
+    /// The nodes of the table. A node names only nodes before it. A `TypeId` is the place of a node.
     pub fn nodes(&self) -> &[Node]
         ensures { result.now ≡ nodes_of self.now }
     {
         &self.nodes
     }
 
-    /// The nodes of the declared types that are no other names of earlier ones, in rising order.
+    /// The nodes of the declared types, in rising order. A declaration whose type has a node already adds none.
     pub fn roots(&self) -> &[usize]
         ensures { result.now ≡ roots_of self.now }
     {

@@ -1,4 +1,4 @@
--- The faults that `map` gives of a type that was found in a table come by no fallback.
+-- The faults that `map` returns for a type that was found in a table are given by no fallback.
 use Rattle.std.proofs.Common.{ℕ, List, [], Result, Ok, Err}
 use Rattle.bit_space.specs.declared.order.Order.{Order}
 use Rattle.pickle_tree.specs.Tree.{Called, FormTree, Plain, DeclarationTree}

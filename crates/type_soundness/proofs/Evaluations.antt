@@ -80,7 +80,7 @@ module _ (declarations : List DeclarationTree) where
     evaluates_safe (in_alternatives {forms} {name} {alternatives} {scope} {levels} le os) seen count w fits =
         alternatives_safe os seen count (union_well declarations name alternatives forms seen count w) (opened_scope scope seen count levels fits) refl
 
-    -- a field or an alternative that is the member of number `at` of its level
+    -- a field or an alternative that is the member of number `at` of its frame
     part_safe : {bits : List ℕ} {form : FormTree} {written : Option Tree} {name : Naming} {ty : PokeType} {c : Option Term} {order : Order} {scope : Scope} {levels : Levels} {s : ℕ} {a : Evaluated} →
         PartEvaluates declarations bits form written name ty c order scope levels s a → (seen : List Visible) (count at : ℕ) → IsWell declarations ty form seen (count + 1) →
         TruthFits (sees seen count at name ty) (count + 1) written c → ScopeFits scope seen (count + 1) levels → length (top_of levels) ≡ at → IsSafelyEvaluated a

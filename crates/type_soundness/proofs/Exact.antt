@@ -1,4 +1,4 @@
--- What a derivation yields is what the evaluation comes to.
+-- The outcome that a derivation yields is that of the evaluation.
 use Rattle.std.proofs.Common.{◌≡◌, ℕ, zero, suc, ◌+◌, ◌<◌, Bool, true, false, Some, Result, Ok, Err, ℤ, pos, negsuc, refl, ap, ◌∙◌, arith}
 use Rattle.std.proofs.lemmas.Bool.{lt-ltb, le-ltb, eq-eqb, ne_eqb}
 use Rattle.std.proofs.lemmas.Option.{none-some}
@@ -34,7 +34,7 @@ then_err a f h = rw h.0 (refl, h.1)
 stepped : {a : Evaluation} {r : Result Operand MapFaultKind} {k : ℕ} → Comes a r k → Comes (with_steps 1 a) r (1 + k)
 stepped h = (h.0, ap (λ n. 1 + n) h.1)
 
--- with nothing to be done in steps of its own
+-- where the remainder takes no steps
 then_last : {x : Operand} {r : Result Operand MapFaultKind} {k : ℕ} (a : Evaluation) (f : Operand → Evaluation) → Comes a (Ok x) k → Comes (f x) r 0 → Comes (and_operand a f) r k
 then_last {k} a f h g = recount (omega arith) (then_ok {k = k} {j = 0} a f h g)
 

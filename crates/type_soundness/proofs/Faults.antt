@@ -1,4 +1,4 @@
--- A fault that a well typed type means comes by no fallback.
+-- A fault that a well typed type means is given by no fallback.
 use Rattle.std.proofs.Common.{◌≡◌, ℕ, ◌+◌, ◌≤◌, List, [], length, Bool, true, false, Option, Some, None, Result, Ok, Err, ℤ, pos, negsuc, refl, sym, ap, ◌∙◌, subst}
 use Rattle.std.proofs.lemmas.Option.{none-some}
 use Rattle.bit_space.specs.declared.order.Order.{Order}
@@ -68,13 +68,13 @@ module _ (Among : Evaluated → Type 0) (scope : Scope) (levels : Levels) (place
   by_fault : (A : Type 0) (g : FaultAt) → IsYielded Among g → failed A g ≡ failed A f → IsYielded Among f
   by_fault A g h is = subst (IsYielded Among) (same_fault A g f is) h
 
-  -- what is told of an expression whose value is of a type
+  -- what an expression gives whose value is of a type
   told : {A : Type 0} (purpose : Purpose) (type : PokeType) (make : Label → Result A FaultAt) (o : Result Operand MapFaultKind) (k : ℕ) → Among (for_purpose purpose written e scope levels place) →
       Yields levels e o k → IsOutcome (Typed type) o → ((x : Operand) → IsOutcome (Typed type) (Ok x) → make (operand_label x) ≡ Err f → IsYielded Among f) → told_at place make o ≡ Err f → IsYielded Among f
   told {A} purpose type make (Ok x) k among y h value is = value x h is
   told {A} purpose type make (Err kind) k among y h value is = by_fault A (kind, place) (of_expression (for_purpose purpose written e scope levels place) among y) is
 
-  -- the same of its evaluation
+  -- the same for its evaluation
   evaluated : {A : Type 0} (purpose : Purpose) (type : PokeType) (make : Label → Result A FaultAt) → Among (for_purpose purpose written e scope levels place) → IsSafe levels e (Typed type) (evaluation e levels) →
       ((x : Operand) → IsOutcome (Typed type) (Ok x) → make (operand_label x) ≡ Err f → IsYielded Among f) → told_at place make (evaluation e levels).outcome ≡ Err f → IsYielded Among f
   evaluated purpose type make among h value is = told purpose type make (evaluation e levels).outcome (evaluation e levels).steps among h.yields h.outcome value is
@@ -155,7 +155,7 @@ module _ (declarations : List DeclarationTree) where
   leads here scope d = d
   leads (by_name e l) scope d = in_named e (leads l [] d)
 
-  -- what may be named in a level that is opened where a form leads
+  -- what may be named in a frame that is opened where a form leads
   inside_scope : {form g : FormTree} {seen inner : List Visible} {count c : ℕ} (l : Leads declarations seen count form inner c g) (scope : Scope) (levels : Levels) → ScopeFits scope seen count levels →
       ScopeFits (scope_in l scope) inner (c + 1) (opened levels)
   inside_scope {inner} {c} l scope levels ok = opened_scope (scope_in l scope) inner c levels (leads_scope l scope levels ok)
@@ -233,7 +233,7 @@ module _ (declarations : List DeclarationTree) where
     closing_yields (ends_without due m e) form written bound levels k0 j0 le b es scope seen count w ok = tt
     closing_yields (element_fault due m e) form written bound levels k0 j0 le b es scope seen count w ok = lifted (λ a d. in_element le b es due d) (fault_yields m form scope seen count w ok)
 
-    -- a field or an alternative that is the member of number `at` of its level
+    -- a field or an alternative that is the member of number `at` of its frame
     part_yields : {bits : List ℕ} {ty : PokeType} {c : Option Term} {order : Order} {levels : Levels} {s k j : ℕ} {r : Result Value FaultAt} → PartMeans bits ty c order levels s r k j →
         (form : FormTree) (written : Option Tree) (name : Naming) (scope : Scope) (seen : List Visible) (count at : ℕ) → IsWell declarations ty form seen (count + 1) → TruthFits (sees seen count at name ty) (count + 1) written c →
         ScopeFits scope seen (count + 1) levels → length (top_of levels) ≡ at → YieldedOr (PartEvaluates declarations bits form written name ty c order scope levels s) r

@@ -1,4 +1,4 @@
--- What levels and scopes keep as they grow.
+-- What stays true of frames and scopes as they grow.
 use Rattle.std.proofs.Common.{◌≡◌, ℕ, zero, suc, ◌+◌, ◌-◌, ◌<◌, Bool, true, false, List, [], ◌∷◌, ◌++◌, length, Option, Some, refl, sym, ap, ◌∙◌, subst, arith, length-append, append_assoc}
 use Rattle.std.specs.Prelude.{if◌then◌else◌, slice_get}
 use Rattle.std.proofs.lemmas.Option.{none-some, slice_get_within}
@@ -21,7 +21,7 @@ get_last : {A : Type 0} (xs : List A) (x : A) → slice_get (xs ++ x ∷ []) (le
 get_last [] x = refl
 get_last (y ∷ xs) x = get_last xs x
 
--- ---- levels
+-- ---- frames
 
 pub pushed_kept : (levels : Levels) (m member : Option Value) (i place : ℕ) → slice_get (level_at levels i) place ≡ Some member → slice_get (level_at (pushed levels m) i) place ≡ Some member
 pushed_kept [] m member i place e = absurd (none-some member e)
@@ -40,14 +40,14 @@ pub top_pushed : (levels : Levels) (m : Option Value) (ms : List (Option Value))
 top_pushed [] m ms = refl
 top_pushed (top ∷ outer) m ms = append_assoc top (m ∷ []) ms
 
--- a level deeper, a level counted from the outermost is one further from the innermost
+-- one frame deeper, a frame counted from the outermost is one further from the innermost
 pub one_deeper : (count level : ℕ) → level < count → count + 1 - 1 - level ≡ suc (count - 1 - level)
 one_deeper count level lt = omega arith
 
 innermost : (count : ℕ) → count + 1 - 1 - count ≡ zero
 innermost count = omega arith
 
--- ---- levels that fit
+-- ---- frames that fit
 
 opened_holds : (count : ℕ) (levels : Levels) (f : Visible) → Holds count levels f → Holds (count + 1) (opened levels) f
 opened_holds count levels f h =
@@ -70,7 +70,7 @@ one_more : (seen : List Visible) (count : ℕ) (levels : Levels) (f : Visible) �
 one_more [] count levels f h g = (g, tt)
 one_more (u ∷ seen) count levels f h g = (h.0, one_more seen count levels f h.1 g)
 
--- a field that is mapped as the member of number n of the innermost level
+-- a field that is mapped as the member of number n of the innermost frame
 abbrev the_field : (count n : ℕ) → Naming → PokeType → Visible
 the_field count n name type = record { name = name; level = count; place = n; type = type }
 
@@ -117,7 +117,7 @@ pushed_scope scope seen count levels m h = record {
   named = λ word v e. let k = resolved_holds word seen h.fit e in pushed_kept levels m k.member (count - 1 - v.level) v.place k.kept ∙ sym k.kept ∙ h.named word v e;
 }
 
--- where a field is looked for, levels have the field of that name
+-- where a field is looked for, frames have the field of that name
 abbrev IsKept : Scope → (count : ℕ) → Levels → List ℕ → Visible → Type 0
 IsKept scope count levels word v = slice_get (level_at levels (count - 1 - v.level)) v.place ≡ field_named word scope
 
@@ -142,6 +142,6 @@ seen_scope scope seen count n levels name type m e h fits =
       named = λ word v r. last_or_before scope seen (count + 1) levels m word u v (is_named name word) refl (last_kept count n levels m e) (before.named word v) (sym (resolve_last word seen u) ∙ r);
     }
 
--- nothing that is seen fits any levels
+-- where nothing is visible, any frames fit
 pub unseen_scope : (scope : Scope) (levels : Levels) → ScopeFits scope [] 0 levels
 unseen_scope scope levels = record { fit = tt; named = λ word v e. absurd (none-some v e) }

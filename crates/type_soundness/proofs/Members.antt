@@ -1,4 +1,4 @@
--- Members of values that are of their types, and fields that are seen.
+-- Members of values that are of their types, and visible fields.
 use Rattle.std.proofs.Common.{◌≡◌, ℕ, zero, suc, ◌+◌, ◌<◌, ◌≤◌, Bool, true, false, List, [], ◌∷◌, Option, Some, None, ℤ, pos, negsuc, refl, ap, subst, arith, ◌⊎◌, inl, inr}
 use Rattle.std.specs.Prelude.{if◌then◌else◌}
 use Rattle.std.proofs.lemmas.Option.{none-some}
@@ -12,7 +12,7 @@ use Rattle.pickle_meaning.specs.Evaluation.{Operand, AtPath, Plain}
 use Rattle.type_soundness.specs.Sorts.{AllThere, IsOfType, AreFields, AreParts, IsAlternative, IsOfSort, IsMember, Holds, LevelsFit}
 use Rattle.type_soundness.specs.Derivations.{IsOutside}
 
--- ---- fields that are seen
+-- ---- visible fields
 
 named_holds : {count : ℕ} {levels : Levels} {u v : Visible} (b : Bool) → Holds count levels u → (if b then Some u else None) ≡ Some v → Holds count levels v
 named_holds {count} {levels} {u} {v} true h e = let same : u ≡ v = cc in subst (λ w. Holds count levels w) same h
@@ -136,7 +136,7 @@ taken_from at index taken (PartThen name order type c rest) ms (inr h) = let l =
 abbrev pub IsAlone : PokeType → Members → Type 0
 IsAlone type ms = (v : Value) × (member_at ms 0 ≡ Some v) × IsOfType type v
 
--- the alternative that was taken, where it is the one that is asked for
+-- the alternative that matched, where it is the requested one
 pub taken_there : (q : At) (at : ℕ) (word : List ℕ) (taken : Naming) (ps : Parts) (ms : Members) → find_part at word ps ≡ Some q → IsAlternative ps at q.0 taken ms → IsAlone q.1 ms
 unfolding IsOfType
 taken_there q at word taken NoParts ms e h = absurd h

@@ -1,4 +1,4 @@
--- What operators compute of operands of their sorts is of the sort that their rule tells, or Zero, Overflow or Index.
+-- What operators compute from operands of their sorts is of the sort that their rule gives, or Zero, Overflow or Index.
 use Rattle.std.proofs.Common.{◌≡◌, ℕ, Bool, true, false, List, Option, Some, Result, Ok, Err, ℤ, pos, negsuc, refl}
 use Rattle.std.specs.Prelude.{if◌then◌else◌, nat_lt}
 use Rattle.std.specs.Int.{IsGcd}

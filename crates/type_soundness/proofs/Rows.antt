@@ -1,4 +1,4 @@
--- A fault that is a fallback, of a type that no pickle declares: no rule yields it.
+-- A fault that a fallback gives, for a type that no pickle declares: no rule yields it.
 use Rattle.std.proofs.Common.{◌≡◌, ℕ, false, [], Some, Err, refl, sym, subst, arith}
 use Rattle.std.proofs.lemmas.Option.{none-some}
 use Rattle.bit_space.specs.declared.order.Order.TheVariants.{Big}

@@ -146,7 +146,7 @@ module _ (levels : Levels) where
   counted {element} {bound} d = with_first rule.attribute d (λ p k y is.
       let form = array_form element bound p is in record { outcome = _; steps = _; yields = rule.count (yields_as form.3 y); typed = (_, refl) })
 
-  -- what a path leads to is no computed value
+  -- the value at a path is no computed value
   abbrev OnPath : Result Operand MapFaultKind → Type 0
   OnPath (Ok (AtPath v)) = Unit {0}
   OnPath (Ok (Plain label)) = ⊥

@@ -33,13 +33,13 @@ BoundFits seen count written Unbounded = Unit {0}
 BoundFits seen count written (ByCount e) = (w : IntegerType) × HasTree seen count written e (Typed (IntegerOf w))
 BoundFits seen count written (BySize e) = (w : IntegerType) × (unit : ℕ) × HasTree seen count written e (Typed (OffsetOf w unit))
 
--- a form leads to another, which sees what is seen around it, or nothing where it is reached by a name
+-- a form leads to another, which sees what is visible around it, or nothing where it is reached by a name
 pub data Leads (declarations : List DeclarationTree) : List Visible → ℕ → FormTree → List Visible → ℕ → FormTree → Type 0 where
   here : {seen : List Visible} {count : ℕ} {form : FormTree} → Leads declarations seen count form seen count form
   by_name : {seen inner : List Visible} {count c : ℕ} {word : List ℕ} {form g : FormTree} → form_of word declarations ≡ Some form → Leads declarations [] 0 form inner c g → Leads declarations seen count (Plain (Called word)) inner c g
 
 unfoldable mutual
-  -- a type that a form means, where these fields are seen and so many levels are open
+  -- a type that a form means, where these fields are visible and so many frames are open
   pub IsWell : List DeclarationTree → PokeType → FormTree → List Visible → ℕ → Type 0
   IsWell declarations (IntegerOf type) form seen count = Unit {0}
   IsWell declarations (OffsetOf type unit) form seen count = Unit {0}
@@ -53,7 +53,7 @@ unfoldable mutual
   IsWell declarations (UnionOf name alternatives) form seen count =
       (inner : List Visible) × (c : ℕ) × (forms : FieldTrees) × Leads declarations seen count form inner c (UnionForm forms) × AlternativesWell declarations alternatives forms inner c
 
-  -- fields of a struct, behind n others
+  -- fields of a struct, after n others
   pub FieldsWell : List DeclarationTree → Fields → FieldTrees → List Visible → (count n : ℕ) → Type 0
   FieldsWell declarations NoFields forms seen count n = Unit {0}
   FieldsWell declarations (FieldThen name order type c l d rest) tree.NoFields seen count n = ⊥
@@ -61,7 +61,7 @@ unfoldable mutual
       IsWell declarations type form seen (count + 1) × LabelFits seen (count + 1) parts.label l × TruthFits seen (count + 1) parts.condition d
       × TruthFits (sees seen count n name type) (count + 1) parts.constraint c × FieldsWell declarations rest forms (sees seen count n name type) count (n + 1)
 
-  -- fields of an integral struct, behind n others
+  -- fields of an integral struct, after n others
   pub PartsWell : List DeclarationTree → Parts → FieldTrees → List Visible → (count n : ℕ) → Type 0
   PartsWell declarations NoParts forms seen count n = Unit {0}
   PartsWell declarations (PartThen name order type c rest) tree.NoFields seen count n = ⊥

@@ -1,4 +1,4 @@
--- What a type means is a value of the type.
+-- A value that a type means is of the type.
 use Rattle.std.proofs.Common.{◌≡◌, ℕ, ◌+◌, List, [], ◌∷◌, ◌++◌, Option, Some, None, Bool, Result, Ok, Err, refl, sym, ◌∙◌, subst, inl, inr, append-nil}
 use Rattle.bit_space.specs.declared.order.Order.{Order}
 use Rattle.pickle_tree.specs.declared.tree.ByteOrder.{ByteOrder}
@@ -15,7 +15,7 @@ abbrev pub ValueIs : PokeType → Result Value FaultAt → Type 0
 ValueIs ty (Ok v) = IsOfType ty v
 ValueIs ty (Err f) = Unit {0}
 
--- behind those of the levels before, the innermost level has the members of these fields
+-- after the members that it had, the innermost frame has the members of these fields
 abbrev pub PartsAre : Levels → Parts → Result Levels FaultAt → Type 0
 PartsAre levels ps (Ok inside) = (ms : List (Option Value)) × (top_of inside ≡ top_of levels ++ ms) × AreParts ps (gathered ms)
 PartsAre levels ps (Err f) = Unit {0}

@@ -38,7 +38,7 @@ module _ (declarations : List DeclarationTree) where
   abbrev pub AllWell : Names → Type 0
   AllWell names = (word : List ℕ) (t : PokeType) → find_type word names ≡ Some t → IsWell declarations t (Plain (Called word)) [] 0
 
-  -- fields of a place, behind n others
+  -- fields of a place, after n others
   abbrev FieldsAt : Place → Fields → FieldTrees → List Visible → (count n : ℕ) → Type 0
   FieldsAt place.Struct fs forms seen count n = FieldsWell declarations fs forms seen count n
   FieldsAt place.Pinned fs forms seen count n = FieldsWell declarations fs forms seen count n
@@ -56,7 +56,7 @@ module _ (declarations : List DeclarationTree) where
   in_struct true fs forms seen count n h = h
   in_struct false fs forms seen count n h = h
 
-  -- one more field is behind the others
+  -- one more field is after the others
   counted : (before : List (Option (List ℕ))) (name : Option (List ℕ)) (P : ℕ → Type 0) → P (length (before ++ name ∷ [])) → P (length before + 1)
   counted before name P h = subst P (length-append before (name ∷ [])) h
 
@@ -142,14 +142,14 @@ form_append : (word : List ℕ) (done more : List DeclarationTree) → form_of w
 form_append word [] more = refl
 form_append word (d ∷ ds) more = ap (λ o. if bytes_eq word d.name then Some d.form else o) (form_append word ds more) ∙ or_if (bytes_eq word d.name) d.form (form_of word ds) (form_of word more)
 
--- a word that no type has is no declaration's
+-- a name that no type has is the name of no declaration
 abbrev Knows : Names → List DeclarationTree → Type 0
 Knows names done = (word : List ℕ) → find_type word names ≡ None → form_of word done ≡ None
 
 own_form : (d : DeclarationTree) (ds : List DeclarationTree) → form_of d.name (d ∷ ds) ≡ Some d.form
 own_form d ds = rw ((bytes_eq-Decides d.name d.name).1 refl) refl
 
--- the first declaration of its name is the one that is found
+-- the look-up finds the first declaration of its name
 first_form : (d : DeclarationTree) (done ds declarations : List DeclarationTree) → done ++ d ∷ ds ≡ declarations → form_of d.name done ≡ None → form_of d.name declarations ≡ Some d.form
 first_form d done ds declarations same none =
     ap (form_of d.name) (sym same) ∙ form_append d.name done (d ∷ ds) ∙ ap (λ o. or_else o (form_of d.name (d ∷ ds))) none ∙ own_form d ds

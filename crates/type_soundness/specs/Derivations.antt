@@ -1,4 +1,5 @@
--- What expressions come to by rules that have no case for a value of a wrong sort, or for a place that isn't there.
+-- The outcomes of expressions by rules that have no case for a value of a wrong sort, or for a place that doesn't
+-- exist.
 use Rattle.std.specs.Prelude.{◌≡◌, ℕ, ◌+◌, ◌-◌, ◌<◌, ◌≤◌, Bool, true, false, ◌&&◌, if◌then◌else◌, List, Option, Some, None, Result, Ok, Err, ℤ, pos, negsuc, slice_get}
 use Rattle.pickle_tree.specs.declared.tree.Attribute.TheVariants.{Length, Size}
 use Rattle.pickle_tree.specs.declared.tree.Prefix.{Prefix}
@@ -12,7 +13,7 @@ use Rattle.pickle_meaning.specs.Values.{Naming, Label, IntegerLabel, OffsetLabel
 use Rattle.pickle_meaning.specs.Arithmetic.{Computed, unsigned_type, truth, prefixed, combined, to_integer, to_offset, in_unit}
 use Rattle.pickle_meaning.specs.Evaluation.{Operand, AtPath, Plain, operand_label, truth_of, settled, literal_length, is_text, as_common}
 
--- a computed value, or not the answer that operators give for values of wrong sorts, which is always Absent
+-- a computed value, or any fault but Absent, which is what operators give for values of wrong sorts
 abbrev pub IsProper : Computed → Type 0
 IsProper (Ok label) = Unit {0}
 IsProper (Err fault.Absent) = ⊥
@@ -48,16 +49,16 @@ side false x y = y
 abbrev pub text_steps : (a b : Term) → Label → Label → ℕ
 text_steps a b x y = if is_text x && is_text y then literal_length a + literal_length b else 0
 
--- an index that is negative, or not below the count
+-- an index that is negative, or not less than the count
 abbrev pub IsOutside : Members → ℤ → Type 0
 IsOutside ms (pos i) = member_count ms ≤ i
 IsOutside ms (negsuc i) = Unit {0}
 
--- over these levels the expression has an outcome, in so many steps
+-- over these frames the expression has an outcome, in so many steps
 pub data Yields (levels : Levels) : Term → Result Operand MapFaultKind → (steps : ℕ) → Type 0 where
   number : {type : IntegerType} {n : ℕ} → Yields levels (Number type n) (Ok (Plain (IntegerLabel (pos n) type))) 1
   text : {bytes : List ℕ} → Yields levels (Text bytes) (Ok (Plain (TextLabel bytes))) 1
-  -- the member at that place of that level, or Absent where the member that is there is absent
+  -- the member at that place of that frame, or Absent where that member is absent
   name : {level place : ℕ} {v : Value} → slice_get (level_at levels level) place ≡ Some (Some v) → Yields levels (Name level place) (Ok (AtPath v)) 1
   absent_name : {level place : ℕ} → slice_get (level_at levels level) place ≡ Some None → Yields levels (Name level place) (Err fault.Absent) 1
   bracket : {e : Term} {x : Operand} {k : ℕ} → Yields levels e (Ok x) k → Yields levels (Bracket e) (Ok x) (1 + k)
@@ -75,7 +76,7 @@ pub data Yields (levels : Levels) : Term → Result Operand MapFaultKind → (st
   both_sides : {op : Infix} {a b : Term} {x y : Operand} {k j : ℕ} →
       Yields levels a (Ok x) k → settled op (truth_of (operand_label x)) ≡ None → Yields levels b (Ok y) j → IsProper (combined op (operand_label x) (operand_label y)) →
       Yields levels (Between op a b) (computed (combined op (operand_label x) (operand_label y))) (1 + k + j + text_steps a b (operand_label x) (operand_label y))
-  -- of a choice, the side that is chosen
+  -- the chosen side of a choice
   side_fault : {common : Option IntegerType} {c x y : Term} {t : Operand} {u : Bool} {kind : MapFaultKind} {k j : ℕ} →
       Yields levels c (Ok t) k → truth_of (operand_label t) ≡ Ok u → Yields levels (side u x y) (Err kind) j →
       Yields levels (Choice common c x y) (Err kind) (1 + k + j)
@@ -98,7 +99,7 @@ pub data Yields (levels : Levels) : Term → Result Operand MapFaultKind → (st
   absent_field : {e : Term} {title : Naming} {names : List Naming} {s end place : ℕ} {members : Members} {k : ℕ} →
       Yields levels e (Ok (AtPath (Mapped (StructLabel title names) s end members))) k → place < member_count members → member_at members place ≡ None →
       Yields levels (Select e place) (Err fault.Absent) (1 + k)
-  -- the alternative that a union took, or Absent where it took another
+  -- the alternative of a union that matched, or Absent where another one matched
   alternative : {e : Term} {title taken : Naming} {s end place : ℕ} {members : Members} {v : Value} {k : ℕ} →
       Yields levels e (Ok (AtPath (Mapped (UnionLabel title place taken) s end members))) k → member_at members 0 ≡ Some v →
       Yields levels (Select e place) (Ok (AtPath v)) (1 + k)

@@ -24,15 +24,15 @@ use Rattle.type_soundness.specs.Laws.{IsSafe}
 use Rattle.type_soundness.specs.Evaluated.{Scope, field_named, Purpose, Truth, Start, Count, Size, Evaluated, Evaluates}
 use Rattle.type_soundness.specs.Yielded.{IsYielded, IsToldFault}
 
--- what any type means is of the type, where it is a value
+-- a value that any type means is of the type
 abbrev pub ValuesAreOfTheirTypes : Type 0
 ValuesAreOfTheirTypes = (t : PokeType) (bits : List ℕ) (order : Order) (levels : Levels) (s : ℕ) (v : Value) (k j : ℕ) → Means bits t order levels s (Ok v) k j → IsOfType t v
 
--- what fits a type is of the type, whatever was read
+-- a value that fits a type is of the type, whatever was read
 abbrev pub FittingValuesAreOfTheirTypes : Type 0
 FittingValuesAreOfTheirTypes = (t : PokeType) (m : ℕ) (levels : Levels) (s : ℕ) (v : Value) → Fits m t levels s v → IsOfType t v
 
--- a type that a form of a well typed pickle means, where these fields are seen and so many levels are open
+-- a type that a form of a well typed pickle means, where these fields are visible and so many frames are open
 pub record Stands (seen : List Visible) (count : ℕ) (t : PokeType) : Type 0 where
   pub declarations : List DeclarationTree
   pub names : Names
@@ -41,8 +41,8 @@ pub record Stands (seen : List Visible) (count : ℕ) (t : PokeType) : Type 0 wh
   pub form : FormTree
   pub means : rules.Means names seen count title form t
 
--- The levels hold what is seen, and each name means the innermost field of that name: the member at the level and the place that
--- the rules give the name is that field's.
+-- The frames hold what is visible, and each name means the innermost field of that name: the member at the frame and
+-- the place that the rules give the name is that field's.
 pub record ScopeFits (scope : Scope) (seen : List Visible) (count : ℕ) (levels : Levels) : Type 0 where
   pub fit : LevelsFit seen count levels
   pub named : (word : List ℕ) (v : Visible) → resolve word seen ≡ Some v → slice_get (level_at levels (count - 1 - v.level)) v.place ≡ field_named word scope
@@ -54,8 +54,8 @@ pub data Serves : Purpose → Sort → Type 0 where
   count : {w : IntegerType} → Serves Count (Typed (IntegerOf w))
   size : {w : IntegerType} {unit : ℕ} → Serves Size (Typed (OffsetOf w unit))
 
--- An expression that is written in the pickle, and has by the rules a sort that serves its purpose, over levels that hold what it
--- sees. Its evaluation is safe.
+-- An expression that is written in the pickle, and has by the rules a sort that serves its purpose, over frames that
+-- hold what it sees. Its evaluation is safe.
 pub record IsSafelyEvaluated (a : Evaluated) : Type 0 where
   pub names : Names
   pub seen : List Visible
@@ -73,7 +73,7 @@ abbrev pub MappingsAreSafe : Type 0
 MappingsAreSafe = (seen : List Visible) (count : ℕ) (t : PokeType) (bits : List ℕ) (order : Order) (scope : Scope) (levels : Levels) (s : ℕ) (a : Evaluated) →
     (h : Stands seen count t) → ScopeFits scope seen count levels → Evaluates h.declarations bits h.form t order scope levels s a → IsSafelyEvaluated a
 
--- the fault that a type means comes by no fallback
+-- the fault that a type means is given by no fallback
 abbrev pub FaultsAreYielded : Type 0
 FaultsAreYielded = (seen : List Visible) (count : ℕ) (t : PokeType) (bits : List ℕ) (order : Order) (scope : Scope) (levels : Levels) (s : ℕ) (f : FaultAt) (k j : ℕ) →
     (h : Stands seen count t) → ScopeFits scope seen count levels → Means bits t order levels s (Err f) k j → IsYielded (Evaluates h.declarations bits h.form t order scope levels s) f
@@ -85,7 +85,7 @@ pub record IsFound (table : Table) (id : TypeId) : Type 0 where
   pub word : List ℕ
   pub found : IsTypeFound table (Some id) (find_type word (types_of table))
 
--- the fault that `map` tells comes by no fallback
+-- the fault that `map` returns is given by no fallback
 abbrev pub FaultsOfMapAreYielded : Type 0
 FaultsOfMapAreYielded = (table : Table) (id : TypeId) (bits : List ℕ) (order : Order) (s limit : ℕ) (kind : MapFaultKind) (at k j : ℕ) →
     (h : IsFound table id) → FaultMeans bits (type_named table id) order s limit kind at k j →

@@ -1,4 +1,4 @@
--- Values of types, outcomes of sorts, and levels that hold what is seen.
+-- Values of types, outcomes of sorts, and frames that hold what is visible.
 use Rattle.std.specs.Prelude.{◌≡◌, ℕ, ◌+◌, ◌-◌, ◌<◌, List, [], ◌∷◌, Option, Some, None, Result, Ok, Err, ℤ, ◌⊎◌, slice_get}
 use Rattle.pickle_types.specs.Types.{PokeType, IntegerOf, OffsetOf, StringOf, ArrayOf, StructOf, IntegralOf, UnionOf, Fields, NoFields, FieldThen, Parts, NoParts, PartThen}
 use Rattle.pickle_types.specs.Scopes.{Visible}
@@ -9,7 +9,7 @@ use Rattle.pickle_meaning.specs.Values.{Naming, Label, IntegerLabel, OffsetLabel
 use Rattle.pickle_meaning.specs.Means.{field_names, part_names}
 use Rattle.pickle_meaning.specs.Evaluation.{Operand, AtPath, Plain}
 
--- members that are all there, each as it should be
+-- members that are all present and have the property
 abbrev pub AllThere : (Value → Type 0) → Members → Type 0
 AllThere P NoMembers = Unit {0}
 AllThere P (MemberThen v rest) = P v × AllThere P rest
@@ -61,7 +61,7 @@ IsNumberOf (StructOf _ _ _) label = ⊥
 IsNumberOf (IntegralOf _ _ _) label = ⊥
 IsNumberOf (UnionOf name alternatives) label = ⊥
 
--- what an expression of a sort comes to: a value at a path, or a computed integer, offset or text
+-- the value of an expression of a sort: a value at a path, or a computed integer, offset or text
 abbrev pub IsOfSort : Sort → Operand → Type 0
 IsOfSort TextLiteral (AtPath v) = ⊥
 IsOfSort TextLiteral (Plain label) = (bytes : List ℕ) × (label ≡ TextLabel bytes)
@@ -86,14 +86,14 @@ abbrev pub IsMember : PokeType → Option Value → Type 0
 IsMember type None = Unit {0}
 IsMember type (Some v) = IsOfType type v
 
--- of so many levels, counted from the outermost, that of a field has a member at the field's place, which is of its type or absent
+-- the frame of a field, counted from the outermost of so many, has a member at the field's place, of its type or absent
 pub record Holds (count : ℕ) (levels : Levels) (field : Visible) : Type 0 where
   pub inside : field.level < count
   pub member : Option Value
   pub kept : slice_get (level_at levels (count - 1 - field.level)) field.place ≡ Some member
   pub typed : IsMember field.type member
 
--- each field that is seen is kept where it is looked for
+-- each visible field has its member in the frames
 abbrev pub LevelsFit : List Visible → (count : ℕ) → Levels → Type 0
 LevelsFit [] count levels = Unit {0}
 LevelsFit (field ∷ seen) count levels = Holds count levels field × LevelsFit seen count levels

@@ -1,4 +1,4 @@
-//! The type rules and the meaning of a mapping belong together: what is well typed never meets a value of a wrong sort.
+//! The type rules fit the meaning of a mapping: what is well typed never meets a value of a wrong sort.
 #![tactic(auto)]
 
 pub mod laws;

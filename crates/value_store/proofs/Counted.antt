@@ -1,4 +1,4 @@
--- What a store's levels take, as values are added to them and open values closed.
+-- What a store's frames take, as values are added to them and open values closed.
 use Rattle.std.proofs.Common.{◌≡◌, ◌+◌, ◌≤◌, List, [], ◌∷◌, ◌++◌, Option, length, take, drop, refl, sym, ◌∙◌, ap, subst, arith}
 use Rattle.std.proofs.lemmas.List.{append-nil, length-take, drop-append-le, drop_at, take_all, take-take, take-append-drop}
 use Rattle.value_store.specs.declared.store.room.Room.{Room}
@@ -11,7 +11,7 @@ use Rattle.value_store.specs.Slots.{Slots, packs, stack, IsSound, cut_to, marks_
 use Rattle.value_store.proofs.Grown.{length-stack, stack-cut}
 use Rattle.value_store.proofs.Taken.{level_takes-append}
 
--- cutting below what is kept
+-- cutting below what stays
 pub cut-cut : (j k : Marks) (s : Slots) → IsWithin j (cut_to k s) → cut_to j (cut_to k s) ≡ cut_to j s
 cut-cut j k s w =
     let nodes = take-take j.nodes k.nodes s.nodes (omega (arith, w.nodes, length-take k.nodes s.nodes)) in
@@ -36,7 +36,7 @@ cut-all s =
 within-length : {A : Type 0} (xs ys : List A) → take (length xs) ys ≡ xs → length xs ≤ length ys
 within-length xs ys e = omega (arith, ap length e, length-take (length xs) ys)
 
--- what is kept is within what was added to
+-- what stays is within what was added to
 pub Adds-within : (room : Room) (s u : Slots) (vs : Names → List (Option Value)) → Adds room s u vs → IsWithin (marks_of s) u
 Adds-within room s u vs h = record {
   nodes = within-length s.nodes u.nodes (ap (λ (x : Slots). x.nodes) h.rest);
@@ -88,7 +88,7 @@ levels_at-more names room (k ∷ ks) s u vs h g =
     let r = cut-more room k s u vs h.1.0.within g in
     ap (λ top. top ∷ levels_at names ks (cut_to k u)) e ∙ ap (λ x. (level_of names k s ++ vs names) ∷ levels_at names ks x) r
 
--- a level above all that a store holds
+-- a frame above all that a store holds
 level-above : (names : Names) (room : Room) (s u : Slots) (vs : Names → List (Option Value)) → Adds room s u vs → level_of names (marks_of s) u ≡ vs names
 level-above names room s u vs h = ap (drop (length s.pending)) (h.stack names) ∙ drop_at (stack names s) (vs names) (length s.pending) (length-stack names s)
 

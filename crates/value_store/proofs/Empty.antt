@@ -28,7 +28,7 @@ no_slots-level room = record {
 pub no_slots-levels : (room : Room) → AreLevels room [] no_slots
 no_slots-levels room = (no_slots-sound, no_slots-level room)
 
--- where all is empty
+-- where all vectors are empty
 pub empty-levels : (room : Room) (frames : List Marks) (s : Slots) → frames ≡ [] → s.nodes ≡ [] → s.families ≡ [] → s.links ≡ [] → s.pending ≡ [] → s.texts ≡ [] → s.bytes ≡ [] → AreLevels room (reverse frames) s
 empty-levels room frames s e nodes families links pending texts bytes =
     let eta : record { nodes = s.nodes; families = s.families; links = s.links; pending = s.pending; texts = s.texts; bytes = s.bytes } ≡ s = refl in

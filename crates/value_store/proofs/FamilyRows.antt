@@ -26,7 +26,7 @@ part-append first count xs ys h =
 pub part-all : {A : Type 0} (n : ℕ) (xs ys : List A) → length ys ≡ n → part (length xs) n (xs ++ ys) ≡ ys
 part-all n xs ys e = ap (take n) (drop_at xs ys (length xs) refl) ∙ take_all n ys (omega arith)
 
--- u has the rows of s, and perhaps more behind them
+-- u has the rows of s, and perhaps more after them
 pub record Grows (s u : Slots) : Type 0 where
   pub more_families : List Family
   pub more_links : List (Option ℕ)

@@ -1,4 +1,4 @@
--- What the open values take, and when there is no room for more.
+-- What the open values take, and when they don't fit.
 use Rattle.std.proofs.Common.{◌≡◌, ℕ, zero, suc, ◌<◌, ◌≤◌, Bool, true, false, List, [], ◌∷◌, Option, refl, sym, ◌∙◌, ap, subst, arith}
 use Rattle.value_store.specs.declared.store.room.Growth.{Growth}
 use Rattle.value_store.specs.declared.store.room.Growth.TheVariants.{Free, Never}
@@ -21,11 +21,11 @@ least-packed Never least e = cc
 least-packed Free zero e = refl
 least-packed Free (suc least) e = cc
 
--- where arrays are packed no room is asked for beforehand, so nothing fits in it
+-- where arrays are packed no capacity is requested in advance, so nothing fits in it
 pub packs_no_more : (room : Room) (ls : Levels) → 1 ≤ slots PendingSlot ls → packs room ≡ true → Exceeds room ls
 packs_no_more room ls some e = (PendingSlot, omega (arith, some, least-packed room.growth room.least e))
 
--- of a vector levels take more than there is room for, which is no less than what the store was made with
+-- frames take more of a vector than its capacity, which is no less than what the store was made with
 module _ (h : Held) (ls : Levels) (some : 1 ≤ slots PendingSlot ls) where
   exceeds-by : (vector : Vector) (packed : Bool) → packs h.room ≡ packed → h.room.least < levels_take packed vector ls → Exceeds h.room ls
   exceeds-by vector true e more = packs_no_more h.room ls some e
@@ -47,12 +47,12 @@ totals_at names room [] s vector h = omega (arith, h.1.takes names vector, root-
 totals_at names room (k ∷ ks) s vector h =
     omega (arith, h.1.0.takes names vector, totals_at names room ks (cut_to k s) vector h.1.1, ap (of_vector vector) (marks-cut k s h.1.0.within))
 
--- a store holds just what its levels take
+-- a store holds just what its frames take
 pub totals : (names : Names) (h : Held) (vector : Vector) → AreLevels h.room h.frames h.slots → of_vector vector (marks_of h.slots) ≡ levels_take (packs h.room) vector (levels names h)
 unfolding levels
 totals names h vector all = totals_at names h.room h.frames h.slots vector all
 
--- so they fit where that has room
+-- the frames fit where the capacity is enough for that
 pub held-levels : (h : Held) → AreLevels h.room h.frames h.slots → HoldsInRoom h → HoldsLevels h
 held-levels h all in_room names NodesOf = omega (arith, totals names h NodesOf all, in_room.nodes)
 held-levels h all in_room names FamiliesOf = omega (arith, totals names h FamiliesOf all, in_room.families)
@@ -61,7 +61,7 @@ held-levels h all in_room names PendingOf = omega (arith, totals names h Pending
 held-levels h all in_room names TextsOf = omega (arith, totals names h TextsOf all, in_room.texts)
 held-levels h all in_room names BytesOf = omega (arith, totals names h BytesOf all, in_room.bytes)
 
--- and don't where slots with these levels have too little
+-- they don't fit where slots with these frames lack capacity
 pub overfilled : (names : Names) (h : Held) (s : Slots) (ls : Levels) → AreLevels h.room h.frames s → levels names (record h { slots = s }) ≡ ls → 1 ≤ slots PendingSlot ls → LacksRoom h s → Overfills h false ls
 overfilled names h s ls all e some (vector, (least, more)) =
     overfills h ls some vector least (omega (arith, more, totals names (record h { slots = s }) vector all, ap (levels_take (packs h.room) vector) e))
@@ -79,7 +79,7 @@ pub levels_at-replaced : (names : Names) (room : Room) (ks : List Marks) (s u : 
 levels_at-replaced names room [] s u vs h g = levels_at-more names room [] no_slots u vs (no_slots-levels room) g ∙ ap (λ ls. extended ls (vs names)) (empty-level names)
 levels_at-replaced names room (k ∷ ks) s u vs h g = ap (λ (j : Marks). levels_at names (j ∷ ks) u) (sym (marks-cut k s h.1.0.within)) ∙ levels_at-above names room ks (cut_to k s) u vs g
 
--- the innermost open value, with what is left without it
+-- the innermost open value, and the store without it
 pub record Innermost (room : Room) (k : Marks) (ks : List Marks) (s : Slots) : Type 0 where
   pub is : IsLevel room k s
   pub cut : IsSound (cut_to k s)

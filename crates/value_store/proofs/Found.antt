@@ -1,4 +1,4 @@
--- What is read of a sound store.
+-- Reading a sound store.
 use Rattle.std.proofs.Common.{◌≡◌, ℕ, zero, suc, ◌+◌, ◌<◌, ◌≤◌, List, [], ◌∷◌, Option, Some, None, length, map, refl, sym, ◌∙◌, ap, subst, arith, zero-add}
 use Rattle.std.specs.Prelude.{slice_get, unwrap_or, IfSome}
 use Rattle.std.specs.Option.{option_map}
@@ -42,7 +42,7 @@ LinksBelow-at k (Some j ∷ ls) zero l h g = let e : Some j ≡ l = cc in subst 
 LinksBelow-at k (None ∷ ls) (suc i) l h g = LinksBelow-at k ls i l h g
 LinksBelow-at k (Some j ∷ ls) (suc i) l h g = LinksBelow-at k ls i l h.1 g
 
--- what a link below the nodes stands for
+-- the value of a link to an earlier node
 opened-value : (names : Names) (s : Slots) (l : Option ℕ) → IfSome l (λ j. j < length s.nodes) → opened (trees names s) l ≡ option_map (value_at names s) l
 unfolding value_at
 opened-value names s None h = refl
@@ -69,12 +69,12 @@ read-node s i n h g =
       below = λ k. below-found i ls k (slice_get ls k) is.below refl;
     }
 
--- what a link below a node leads to
+-- the value that a link of a node refers to
 pub child-found : (names : Names) (s : Slots) (k : ℕ) (ls : List (Option ℕ)) (o : Option (Option ℕ)) → k ≤ length s.nodes → IfSome (unwrap_or o None) (λ j. j < k) → option_map (value_at names s) (unwrap_or o None) ≡ unwrap_or (option_map (opened (trees names s)) o) None
 child-found names s k ls None p h = refl
 child-found names s k ls (Some l) p h = sym (opened-value names s l (IfSome-weaker l k (length s.nodes) p h))
 
--- links that stand for values of the store
+-- links to values of the store
 pub links-read : (names : Names) (s : Slots) (ls : List (Option ℕ)) (i : ℕ) → LinksBelow (length s.nodes) ls → option_map (value_at names s) (unwrap_or (slice_get ls i) None) ≡ unwrap_or (slice_get (map (opened (trees names s)) ls) i) None
 links-read names s ls i h =
     child-found names s (length s.nodes) ls (slice_get ls i) (omega arith) (below-found (length s.nodes) ls i (slice_get ls i) h refl)

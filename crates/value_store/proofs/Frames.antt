@@ -1,4 +1,4 @@
--- The marks of the open values, which stand outermost first in the code.
+-- The marks of the open values. The code has the outermost first.
 use Rattle.std.proofs.Common.{◌≡◌, ◌-◌, List, [], ◌∷◌, ◌++◌, length, take, reverse, refl, ◌∙◌, ap, subst, arith}
 use Rattle.std.proofs.lemmas.List.{reverse-append, reverse-reverse, length_push, take_at}
 use Rattle.value_store.specs.declared.store.slots.Marks.{Marks}

@@ -161,7 +161,7 @@ stack-new names s u n mark h g e =
     ∙ ap (λ os. os ++ slice_get (ts ++ t ∷ []) (length s.nodes) ∷ []) (opened-grow ts (t ∷ []) (take mark s.pending) low ∙ sym (take-map (opened ts) mark s.pending))
     ∙ ap (λ o. take mark (map (opened ts) s.pending) ++ o ∷ []) (ap (slice_get (ts ++ t ∷ [])) (sym len) ∙ slice_get-push ts t [])
 
--- a store grew from what is left of it below some marks
+-- a store grew from its entries up to some marks
 pub Grows-cut : (k : Marks) (s : Slots) → Grows (cut_to k s) s
 Grows-cut k s = record {
   more_families = drop k.families s.families;

@@ -108,7 +108,7 @@ pub lift-levels : (names : Names) (h : Held) (capacity : Marks) → AreLevels h.
 unfolding levels
 lift-levels names h capacity all = lift-levels_at names h.room h.frames h.slots all
 
--- the innermost level given up
+-- the innermost frame rolled back
 pub dropped : (ls : Levels) → 1 < length ls → extended (outer_of ls) [] ≡ outer_of ls
 dropped [] more = absurd (omega arith)
 dropped (top ∷ []) more = absurd (omega arith)
@@ -128,7 +128,7 @@ pub absent-full : {T E : Type 0} (r : Result T E) (h : Held) → AreLevels h.roo
 absent-full r h all lacks = refused r (λ names.
     overfilled names h (with_absent h.slots) _ (absent-frames h all) (absent-levels names h h.capacity all) (pushed-some (levels names h) None) lacks)
 
--- what a store that never grows holds
+-- the entries of a store that never grows
 all-capacity : (vector : Vector) (n : ℕ) (capacity : Marks) → AreAll n capacity → of_vector vector capacity ≡ n
 all-capacity NodesOf n capacity h = h.nodes
 all-capacity FamiliesOf n capacity h = h.families
@@ -144,7 +144,7 @@ held-fits names h never all fixed in_room kind =
     let room = all-capacity (vector_of kind) h.room.least h.capacity fixed in
     omega (arith, within, room, slots-taken kind (levels names h), ap (λ b. levels_take b (vector_of kind) (levels names h)) counted)
 
--- how many values are open
+-- the number of open values
 length-around : (ks : List Marks) → 1 + length (around ks) ≡ max 1 ((1 + length ks) - 1)
 length-around [] = refl
 length-around (k ∷ ks) = omega arith
@@ -152,7 +152,7 @@ length-around (k ∷ ks) = omega arith
 pub depth-lift : (ks ms : List Marks) → ms ≡ around ks → 1 + length ms ≡ max 1 ((1 + length ks) - 1)
 depth-lift ks ms e = ap (λ (ks : List Marks). 1 + length ks) e ∙ length-around ks
 
--- each level is one of the depth
+-- each frame is one of the depth
 length-levels_at : (names : Names) (ks : List Marks) (s : Slots) → length (levels_at names ks s) ≡ 1 + length ks
 length-levels_at names [] s = refl
 length-levels_at names (k ∷ ks) s = omega (arith, length-levels_at names ks (cut_to k s))
@@ -161,14 +161,14 @@ pub length-levels : (names : Names) (h : Held) → length (levels names h) ≡ l
 unfolding levels
 length-levels names h = length-levels_at names h.frames h.slots
 
--- an empty store builds nothing
+-- an empty store has no values
 pub none-open : (names : Names) (room : Room) (capacity : Marks) → levels names (empty room capacity) ≡ no_values
 unfolding levels stack
 none-open names room capacity = refl
 
 pub ruleset none_open = (none-open)
 
--- a store that has grown builds the same
+-- a store that has grown has the same values
 pub regrown-levels : (names : Names) (before after : Held) → Regrown before after → levels names after ≡ levels names before
 unfolding levels
 regrown-levels names before after e = let f : Held → Levels = λ h. levels_at names h.frames h.slots in ap f e

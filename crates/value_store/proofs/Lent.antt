@@ -1,4 +1,4 @@
--- What nodes and arrays of packed numbers lend.
+-- The values borrowed from nodes and from arrays of packed numbers.
 use Rattle.std.proofs.Common.{◌≡◌, ℕ, Bool, zero, suc, ◌+◌, ◌-◌, ◌*◌, ◌/◌, ◌<◌, ◌≤◌, ◌^◌, List, [], ◌∷◌, Option, Some, length, take, drop, pow_mono, refl, sym, ◌∙◌, ap, subst, arith, rules}
 use Rattle.std.specs.Prelude.{◌%◌, slice_range, slice_get, slice_index, slice_index_or}
 use Rattle.std.proofs.lemmas.List.{drop-drop, get_or-drop, drop_more, length-drop}
@@ -40,7 +40,7 @@ elements-at shape start (n ∷ ns) (suc i) p =
     let e : (start + w) + w * i ≡ start + w * suc i = omega arith in
     elements-at shape (start + w) ns i (omega arith) ∙ ap (λ at. Some (Some (element_value shape at (slice_index ns i)))) e
 
--- bytes make a number below 256 to the power of how many they are
+-- n bytes make a number below 256 ^ n
 pub bytes_number-below : (bs : List ℕ) → ((i : ℕ) → slice_index_or bs i 0 < 256) → bytes_number bs < 2 ^ (8 * length bs)
 bytes_number-below [] h = omega arith
 bytes_number-below (b ∷ bs) h =
@@ -50,7 +50,7 @@ bytes_number-below (b ∷ bs) h =
     let e : 2 ^ (8 * suc (length bs)) ≡ 256 * 2 ^ (8 * length bs) = ap (λ m. 2 ^ m) n ∙ pow-add 2 8 (8 * length bs) in
     omega (arith, first, rest, e)
 
--- so do the last ones, with one more before them
+-- so do the last bytes, with one more before them
 pub last_bytes-below : (bs : List ℕ) (i : ℕ) → i < length bs → length bs ≤ 8 → ((k : ℕ) → slice_index_or bs k 0 < 256) →
     bytes_number (drop (length bs - i) bs) * 256 + slice_index_or bs (length bs - 1 - i) 0 < 2 ^ 64
 last_bytes-below bs i p most h =
@@ -65,7 +65,7 @@ last_bytes-below bs i p most h =
 pub length-numbers : (w : ℕ) (bs : List ℕ) → length (numbers_in w bs) ≡ length bs / bytes_for w
 length-numbers w bs = length-unpacked (bytes_for w) (length bs / bytes_for w) bs
 
--- numbers of a byte each are these bytes
+-- numbers of one byte each are these bytes
 pub byte_numbers : (w : ℕ) (bs : List ℕ) → 1 ≤ w → w ≤ 8 → numbers_in w bs ≡ bs
 byte_numbers w bs some most =
     let one : bytes_for w ≡ 1 = omega arith in
@@ -76,7 +76,7 @@ byte_numbers w bs some most =
     unpacked-bytes [] = refl
     unpacked-bytes (b ∷ bs) = let last : b + 256 * 0 ≡ b = omega arith in ap (λ n. n ∷ unpacked 1 (length bs) bs) last ∙ ap (λ ns. b ∷ ns) (unpacked-bytes bs)
 
--- a whole row of k lies below n
+-- a whole row of k is less than n
 row_within : (n k i : ℕ) → i < n / k → i * k + k ≤ n
 row_within n k i p =
     let whole : n / k * k + n % k ≡ n = div-add-mod' n k in

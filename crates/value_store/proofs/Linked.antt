@@ -1,4 +1,4 @@
--- What the parts of a node are.
+-- The parts of a node.
 use Rattle.std.proofs.Common.{◌≡◌, ℕ, ◌<◌, ◌≤◌, ◌⊎◌, inl, inr, Bool, List, [], Option, Some, None, length, map, refl, sym, ◌∙◌, ap, subst, arith}
 use Rattle.std.specs.Prelude.{slice_get, unwrap_or, IfSome}
 use Rattle.std.specs.Option.{option_map}
@@ -43,7 +43,7 @@ linked-parts s ts Array start c p = refl
 linked-parts s ts (Struct t) start c p = refl
 linked-parts s ts (Union t i) start c p = refl
 
--- what links tell of the parts of a node
+-- what links say about the parts of a node
 pub record AreLinks (s : Slots) (at : ℕ) (links : List (Option ℕ)) : Type 0 where
   pub count : (names : Names) → length links ≡ member_count (members_of (value_at names s at))
   pub part : (names : Names) (k : ℕ) → option_map (value_at names s) (unwrap_or (slice_get links k) None) ≡ member_at (members_of (value_at names s at)) k
@@ -64,7 +64,7 @@ are_links s at n links got r has is =
     } in
     subst (AreLinks s at) (sym is) (subst (λ o. AreLinks s at (node_links s o)) (sym got) are)
 
--- packed numbers of that many bits each
+-- packed numbers of `width` bits each
 pub record IsRowShape (s : Slots) (shape : Shape) (c w : ℕ) : Type 0 where
   pub packed : IsPacked shape
   pub width : element_width shape ≡ w
@@ -110,7 +110,7 @@ pub has_element : (s : Slots) (at : ℕ) (n : Node) (w i : ℕ) → slice_get s.
     IsPlace s (place.Element at i)
 has_element s at n w i got is p = subst (λ o. i < element_count s o) (sym got) (omega (arith, p, is.count))
 
--- what the parts of a value are that has a node, by its links and how many packed numbers it has
+-- the parts of a value that has a node, from its links and its number of packed numbers
 pub record AreParts (s : Slots) (p : Place) (at : ℕ) (links : List (Option ℕ)) (packed : ℕ) : Type 0 where
   pub packed_count : (names : Names) → 0 < packed → packed ≡ member_count (members_of (place_value names s p))
   pub link_count : (names : Names) → packed ≡ 0 → length links ≡ member_count (members_of (place_value names s p))

@@ -33,7 +33,7 @@ marks-fall room (k ∷ ks) s (suc (suc level)) h =
     let r = marks-fall room ks (cut_to k s) (suc level) h.1.1 in
     record { ordered = r.ordered; within = omega (arith, r.within, length-take k.pending s.pending, h.1.0.within.pending) }
 
--- the parts of an open value lie between two marks
+-- the parts of an open value are between two marks
 level-row : (names : Names) (room : Room) (ks : List Marks) (s : Slots) (level : ℕ) → AreLevels room ks s → level_at (levels_at names ks s) level ≡ drop (marks_at ks level).pending (take (level_end ks (length s.pending) level) (stack names s))
 level-row names room [] s zero h = ap (drop 0) (sym (take_all (length s.pending) (stack names s) (omega (arith, length-stack names s))))
 level-row names room [] s (suc zero) h = refl

@@ -18,7 +18,7 @@ unfolding modulo
 modulo_negative width (pos n) h = absurd (omega (arith, ints, h))
 modulo_negative width (negsuc n) h = let e : suc n - 1 ≡ n = omega arith in rw e refl
 
--- the last digits, as they are cut out by a mask
+-- the last digits, cut out with a mask
 pub low_mask : (n k w : ℕ) → k < w → bit_and n (1 * 2 ^ k % 2 ^ w - 1) ≡ n % 2 ^ k
 low_mask n k w h = rw (one_shl k w h) (and_mask n k)
 
@@ -27,7 +27,7 @@ unfolding with_sign
 no_sign true type n e h = rw (e, lt-leb _ _ h) refl
 no_sign false type n e h = rw e refl
 
--- a number in the lower half of a type's range is its own
+-- a number in the lower half of a type's range stays itself
 pub lower_half : (type : IntegerType) (z : ℤ) → 1 ≤ type.width → pos 0 ≤ℤ z → z <ℤ pos (2 ^ (type.width - 1)) → converted type z ≡ z
 unfolding converted modulo
 lower_half type (pos n) some from below =

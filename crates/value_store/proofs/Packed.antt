@@ -36,7 +36,7 @@ low_first-take (suc k) i (suc m) n h = ap (λ bs. byte_at i n ∷ bs) (low_first
 pub le_bytes-take : (k n : ℕ) → k ≤ 8 → take k (to_le_bytes w64 n) ≡ number_bytes k n
 le_bytes-take k n h = low_first-take k 0 8 n h ∙ low_first k n
 
--- a number that its bytes can hold comes back
+-- a number that its bytes can hold is read back
 pub bytes_number-bytes : (k n : ℕ) → n < 256 ^ k → bytes_number (number_bytes k n) ≡ n
 bytes_number-bytes zero n h = omega arith
 bytes_number-bytes (suc k) n h =
@@ -47,7 +47,7 @@ pow-bytes : (k : ℕ) → 2 ^ (8 * k) ≡ 256 ^ k
 pow-bytes zero = refl
 pow-bytes (suc k) = ap (λ m. 2 ^ m) (mul-suc 8 k) ∙ pow-add 2 (8 * k) 8 ∙ ap (λ m. m * 256) (pow-bytes k) ∙ sym (pow-suc 256 k)
 
--- enough bytes for so many bits
+-- enough bytes for the bits
 pub bits-below : (width k n : ℕ) → width ≤ 8 * k → n < 2 ^ width → n < 256 ^ k
 bits-below width k n h lt =
     let two-some : 0 < 2 = lit< tt in
@@ -72,7 +72,7 @@ unpacked-packed k width (n ∷ ns) h all =
     let rest = unpacked-packed k width ns h (λ i d lt. all (suc i) d (omega arith)) in
     cc
 
--- a width has bytes enough
+-- a width has enough bytes
 pub bytes_for-enough : (width : ℕ) → width ≤ 8 * bytes_for width
 bytes_for-enough width = omega arith
 
@@ -82,14 +82,14 @@ bytes_for-some width h = omega arith
 pub bytes_for-most : (width : ℕ) → width ≤ 64 → bytes_for width ≤ 8
 bytes_for-most width h = omega arith
 
--- numbers that are packed come back
+-- packed numbers are read back
 pub numbers_in-packed : (width : ℕ) (ns : List ℕ) → 1 ≤ width → All (λ n. n < 2 ^ width) ns → numbers_in width (packed (bytes_for width) ns) ≡ ns
 numbers_in-packed width ns some all =
     let k = bytes_for width in
     let count : length (packed k ns) / k ≡ length ns = ap (λ (m : ℕ). m / k) (length-packed k ns) ∙ mul-div_cancel_left (length ns) (bytes_for-some width some) in
     ap (λ m. unpacked k m (packed k ns)) count ∙ unpacked-packed k width ns (bytes_for-enough width) all
 
--- bytes of some numbers are some
+-- bytes of at least one number are at least one
 pub packed-none : (width : ℕ) (ns : List ℕ) → 1 ≤ width → packed (bytes_for width) ns ≡ [] → ns ≡ []
 packed-none width [] some e = refl
 packed-none width (n ∷ ns) some e =

@@ -1,4 +1,4 @@
--- Arrays of packed numbers under way.
+-- Open arrays of packed numbers.
 use Rattle.std.proofs.Common.{◌≡◌, ℕ, ◌+◌, ◌*◌, ◌%◌, ◌^◌, ◌<◌, ◌≤◌, pow_mono, Bool, true, false, List, [], ◌∷◌, ◌++◌, Option, Some, None, Result, Ok, Err, OnOk, OnErr, length, take, refl, sym, ◌∙◌, ap, subst, arith, add-one}
 use Rattle.std.specs.Prelude.{All}
 use Rattle.std.specs.Int.{to_le_bytes, w64}
@@ -86,14 +86,14 @@ row-opened names n shape start outer p e short fresh all is =
     let are : AreBytes shape [] start = row-are shape [] start p below (omega (arith, mul-zero (element_width shape))) in
     record { filling = opened-filling names n shape start outer are (row-may n.room shape e) fresh all is; below = below }
 
--- it stands inside the outer levels
+-- it is inside the outer frames
 pub packing-outer : (names : Names) (h : Held) (shape : Shape) (numbers : List ℕ) (start : ℕ) (outer : Levels) → IsPacking names h shape numbers start outer → outer_of (levels names h) ≡ outer
 packing-outer names h shape numbers start outer w = filling-outer names h shape (row_bytes shape numbers) start outer w.filling
 
 pub packing-empty : (names : Names) (h : Held) (shape : Shape) (start : ℕ) (outer : Levels) → IsPacking names h shape [] start outer → levels names h ≡ [] ∷ outer
 packing-empty names h shape start outer w = filling-empty names h shape start outer w.filling
 
--- it has a node just where it has numbers
+-- it has a node exactly where it has numbers
 pub packing-fresh : (names : Names) (h : Held) (shape : Shape) (numbers : List ℕ) (start : ℕ) (outer : Levels) → IsPacking names h shape numbers start outer → HasNoNode h → IsPacked shape → numbers ≡ []
 packing-fresh names h shape numbers start outer w e p = packed-none (element_width shape) numbers (row-width shape p).0 (fresh-empty names h shape (row_bytes shape numbers) start outer w.filling e)
 
@@ -101,7 +101,7 @@ pub packing-stale : (names : Names) (h : Held) (shape : Shape) (numbers : List �
 packing-stale names h shape numbers start outer w e =
     empty-fresh names h shape start outer (subst (λ ns. IsFilling names h shape (row_bytes shape ns) start outer) e w.filling)
 
--- a number more
+-- one more number
 module _ (names : Names) (h : Held) (shape : Shape) (digits : ℕ) (numbers : List ℕ) (start : ℕ) (outer : Levels) (w : IsPacking names h shape numbers start outer) (p : IsPacked shape)
     (small : digits < 2 ^ element_width shape) (short : start + element_width shape * (length numbers + 1) < 2 ^ 64) where
   more-below : All (λ n. n < 2 ^ element_width shape) (numbers ++ digits ∷ [])
@@ -184,7 +184,7 @@ module _ (h n : Held) (shape : Shape) (width digits start : ℕ) (own : List ℕ
   pub stale-packs : {T E : Type 0} (r : Result T E) → (HasNoNode h → ⊥) → OnOk r (Regrown (record h { slots = with_more own h.slots }) n) → OnOk r (Packs h n shape digits start)
   stale-packs r stale e = on_ok r (stale-takes stale) e
 
--- what is packed, and what there is no room for
+-- what is packed, and what doesn't fit
 row-packs : (room : Room) (shape : Shape) → IsPacked shape → MayKeep room shape → packs room ≡ true
 row-packs room (Integer w g) p may = absurd p
 row-packs room (Offset w g u) p may = absurd p
@@ -217,7 +217,7 @@ packs-within (Ok x) h n shape digits start p packing held = λ names numbers out
     omega (arith, held names vector, ap (levels_take (packs n.room) vector) is, kept)
 packs-within (Err x) h n shape digits start p packing held = tt
 
--- an array with a number more passes a vector
+-- an array with one more number exceeds a vector's capacity
 module _ (h : Held) (shape : Shape) (digits start : ℕ) (p : IsPacked shape) (numbers : List ℕ) (outer : Levels) (packing : packs h.room ≡ true) where
   row-overfills : (vector : Vector) → of_vector vector h.capacity < levels_take (packs h.room) vector ((Some (row_value shape (numbers ++ digits ∷ []) start) ∷ []) ∷ outer) →
       Overfills h true (elements shape start (numbers ++ digits ∷ []) ∷ outer)
@@ -233,7 +233,7 @@ module _ (h : Held) (shape : Shape) (digits start : ℕ) (p : IsPacked shape) (n
   row-bytes : (ns : List ℕ) → 0 < length ns → value_takes (packs h.room) BytesOf (row_value shape ns start) ≡ bytes_for (element_width shape) * length ns
   row-bytes ns some = ap (λ b. value_takes b BytesOf (row_value shape ns start)) packing ∙ row-taken BytesOf start shape ns p some
 
-  -- its bytes are all that it takes more
+  -- it takes only its bytes more
   stale-overfills : (names : Names) → IsPacking names h shape numbers start outer → (HasNoNode h → ⊥) → LacksBytes h (bytes_for (element_width shape)) →
       Overfills h true (elements shape start (numbers ++ digits ∷ []) ∷ outer)
   stale-overfills names w stale lacks =
@@ -267,7 +267,7 @@ stale-cannot (Err x) h shape digits start own p is stale e = λ names numbers ou
     let count : length own ≡ k = ap length is ∙ length-number_bytes k digits in
     stale-overfills h shape digits start p numbers outer (row-packs h.room shape p w.filling.may) names w stale (subst (λ m. LacksBytes h m) count e)
 
--- the array is closed
+-- the closed array
 
 -- an array that starts with no number isn't packed
 where_no_number : (packs : Bool) (width : Option ℕ) → (packs ≡ true → width ≡ None) → where_packed packs width ≡ None
@@ -286,7 +286,7 @@ fresh-members h all fresh names =
     let none = none-first (packs h.room) level (omega (arith, fresh, i.is.takes names NodesOf)) in
     ap (λ os. where_packed (packs h.room) (row_width (gathered os))) (i.top names) ∙ ap (where_packed (packs h.room)) none ∙ where_no_number (packs h.room) None (λ e. refl)
 
--- an array of no numbers is one without members
+-- an array of no numbers is an array without members
 no-numbers : (names : Names) (h : Held) (shape : Shape) (numbers : List ℕ) (start : ℕ) (outer : Levels) → IsPacking names h shape numbers start outer → IsPacked shape → HasNoNode h →
     (levels names h ≡ [] ∷ outer) × (Mapped ArrayLabel start (start + 0) NoMembers ≡ row_value shape numbers start)
 no-numbers names h shape numbers start outer w p fresh =
@@ -314,7 +314,7 @@ pub stale-row_levels : (names : Names) (h : Held) (shape : Shape) (numbers : Lis
 stale-row_levels names h shape numbers start outer w p stale =
     row-levels names h shape numbers start outer w p (stale-some names h shape (row_bytes shape numbers) start outer w.filling stale)
 
--- the levels of an array that is lifted
+-- the frames of an array that is lifted
 pub lifted-row : (shape : Shape) (numbers : List ℕ) (start : ℕ) (outer ls : Levels) → ls ≡ (Some (row_value shape numbers start) ∷ []) ∷ outer →
     extended (outer_of ls) (top_of ls) ≡ pushed outer (Some (row_value shape numbers start))
 lifted-row shape numbers start outer ls e = ap (λ l. extended (outer_of l) (top_of l)) e ∙ pushed-extended outer (Some (row_value shape numbers start))

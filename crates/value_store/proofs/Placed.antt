@@ -85,7 +85,7 @@ leaf-marks PendingOf shape start c s = length_push s.pending (Some (length s.nod
 leaf-marks TextsOf shape start c s = omega arith
 leaf-marks BytesOf shape start c s = omega arith
 
--- a node behind all pending ones
+-- a node after all pending ones
 pub pending-last : (s : Slots) → s.pending ++ Some (length s.nodes) ∷ [] ≡ take (length s.pending) s.pending ++ Some (length s.nodes) ∷ []
 pending-last s = ap (λ ps. ps ++ Some (length s.nodes) ∷ []) (sym (take_all (length s.pending) s.pending (omega arith)))
 
@@ -183,7 +183,7 @@ family-label names Array = (refl, (refl, refl))
 family-label names (Struct t) = (refl, (refl, refl))
 family-label names (Union i t) = (refl, (refl, refl))
 
--- a family takes what its members did, and a node, the family and a link for each of them
+-- a family takes what its members did, and also a node, the family and a link for each member
 family-marks : (packs : Bool) (vector : Vector) (names : Names) (shape : Shape) (start size : ℕ) (k : Marks) (s : Slots) (os : List (Option Value)) → k.pending ≤ length s.pending →
     length os ≡ length s.pending - k.pending → of_vector vector (marks_of s) ≡ of_vector vector k + level_takes packs vector os →
     of_vector vector (marks_of (with_family shape start size k.pending s)) ≡
@@ -268,7 +268,7 @@ module _ (shape : Shape) (start size mark : ℕ) (s : Slots) (composite : IsComp
       ∙ ap (λ os. Mapped (composite_label names shape) start (start + size) (gathered os)) (sym (drop-map (opened ts) mark s.pending)) in
       stack-new names s u n mark sound family-new refl ∙ ap (λ t. take mark (stack names s) ++ Some t ∷ []) is
 
--- the parts of an open value become one value in their place
+-- the parts of an open value become one value, which takes their place
 pub family-adds : (room : Room) (shape : Shape) (start size : ℕ) (k : Marks) (s : Slots) → IsComposite shape → IsSound s → IsLevel room k s → IsSound (cut_to k s) →
     ((names : Names) → packed_width (packs room) (composite_label names shape) (gathered (level_of names k s)) ≡ None) →
     Adds room (cut_to k s) (with_family shape start size k.pending s) (λ names. Some (Mapped (composite_label names shape) start (start + size) (gathered (level_of names k s))) ∷ [])
@@ -295,7 +295,7 @@ family-adds room shape start size k s composite sound is below unpacked =
           omega (arith, family-marks (packs room) vector names shape start size k s os w.pending count (is.takes names vector), ap (of_vector vector) m, kept);
     }
 
--- a field that is not there
+-- an absent field
 absent-same : (s : Slots) → Grows s (with_absent s)
 absent-same s = record {
   more_families = [];

@@ -57,7 +57,7 @@ bytes-rest shape bytes start s =
     let eta : record { nodes = s.nodes; families = s.families; links = s.links; pending = s.pending; texts = s.texts; bytes = s.bytes } ≡ s = refl in
     cc
 
--- what is made of bytes
+-- values made of bytes
 
 bytes-content : (shape : Shape) (bytes : List ℕ) (start : ℕ) (s : Slots) → IsSound s → AreBytes shape bytes start → IsContent (with_bytes shape bytes start s) shape start (length s.texts)
 bytes-content (Integer w g) bytes start s sound h = absurd h

@@ -1,4 +1,4 @@
--- What levels take of the vectors of a store, and what slots they fill.
+-- What frames take of the vectors of a store, and what slots they fill.
 use Rattle.std.proofs.Common.{◌≡◌, ℕ, ◌+◌, ◌*◌, ◌<◌, ◌≤◌, Bool, true, false, List, [], ◌∷◌, ◌++◌, Option, Some, None, length, refl, sym, ◌∙◌, ap, arith, zero-add}
 use Rattle.value_store.specs.declared.store.slots.Shape.{Shape}
 use Rattle.value_store.specs.declared.store.slots.Shape.TheVariants.{Integer, Offset, Text, Integers, Offsets, Array, Struct, Union}
@@ -17,7 +17,7 @@ pub levels_take-extended : (packs : Bool) (vector : Vector) (ls : Levels) (vs : 
 levels_take-extended packs vector [] vs = omega arith
 levels_take-extended packs vector (top ∷ outer) vs = omega (arith, level_takes-append packs vector top vs)
 
--- one member more
+-- one more member
 pub pushed-extended : (ls : Levels) (v : Option Value) → extended ls (v ∷ []) ≡ pushed ls v
 pushed-extended [] v = refl
 pushed-extended (top ∷ outer) v = refl
@@ -25,7 +25,7 @@ pushed-extended (top ∷ outer) v = refl
 pub levels_take-pushed : (packs : Bool) (vector : Vector) (ls : Levels) (v : Option Value) → levels_take packs vector (pushed ls v) ≡ levels_take packs vector ls + level_takes packs vector (v ∷ [])
 levels_take-pushed packs vector ls v = ap (levels_take packs vector) (sym (pushed-extended ls v)) ∙ levels_take-extended packs vector ls (v ∷ [])
 
--- what the members of a value take, where their places take none
+-- what the members of a value take, where their places take nothing
 pub members_take-of : (packs : Bool) (vector : Vector) (os : List (Option Value)) → place_takes vector ≡ 0 → members_take packs vector (gathered os) ≡ level_takes packs vector os
 members_take-of packs vector [] e = refl
 members_take-of packs vector (None ∷ os) e = omega (arith, e, members_take-of packs vector os e)
@@ -63,7 +63,7 @@ kept_some (Some width) label _ inside = omega arith
 pub value_some : (packs : Bool) (v : Value) → 1 ≤ value_takes packs NodesOf v
 value_some packs (Mapped label start end members) = kept_some (packed_width packs label members) label members (members_take packs NodesOf members)
 
--- so a level without nodes has no values
+-- so a frame without nodes has no values
 pub none-first : (packs : Bool) (os : List (Option Value)) → level_takes packs NodesOf os ≡ 0 → row_width (gathered os) ≡ None
 none-first packs [] e = refl
 none-first packs (None ∷ os) e = refl
@@ -116,7 +116,7 @@ level-slots kind [] = refl
 level-slots kind (None ∷ os) = omega (arith, place-slots kind, level-slots kind os)
 level-slots kind (Some v ∷ os) = omega (arith, place-slots kind, value-slots kind v, level-slots kind os)
 
--- levels take of the vector just the slots that they fill
+-- frames take of the vector just the slots that they fill
 pub slots-taken : (kind : Slot) (ls : Levels) → slots kind ls ≡ levels_take false (vector_of kind) ls
 slots-taken kind [] = refl
 slots-taken kind (top ∷ outer) = omega (arith, level-slots kind top, slots-taken kind outer)
@@ -124,7 +124,7 @@ slots-taken kind (top ∷ outer) = omega (arith, level-slots kind top, slots-tak
 pub slots-pushed : (kind : Slot) (ls : Levels) (v : Option Value) → slots kind (pushed ls v) ≡ slots kind ls + level_slots kind (v ∷ [])
 slots-pushed kind ls v = omega (arith, slots-taken kind (pushed ls v), levels_take-pushed false (vector_of kind) ls v, slots-taken kind ls, level-slots kind (v ∷ []))
 
--- families and texts are no more than the nodes
+-- there are no more families and texts than nodes
 abbrev pub IsOfNodes : Vector → Type 0
 IsOfNodes vector = ((label : Label) (members : Members) → own_takes vector label members ≤ 1) × (place_takes vector ≡ 0)
 
@@ -164,7 +164,7 @@ module _ (vector : Vector) (of_nodes : IsOfNodes vector) where
   levels-few [] = omega arith
   levels-few (top ∷ outer) = omega (arith, level-few top, levels-few outer)
 
--- the kind of slots of which levels fill as many
+-- a kind of slots that frames fill at least as many of
 pub taken-slots : (vector : Vector) (ls : Levels) → (kind : Slot) × (levels_take false vector ls ≤ slots kind ls)
 taken-slots NodesOf ls = (NodeSlot, omega (arith, slots-taken NodeSlot ls))
 taken-slots FamiliesOf ls = (NodeSlot, levels-few FamiliesOf (λ label _. families-few label, refl) ls)
@@ -173,7 +173,7 @@ taken-slots PendingOf ls = (PendingSlot, omega (arith, slots-taken PendingSlot l
 taken-slots TextsOf ls = (NodeSlot, levels-few TextsOf (λ label _. texts-few label, refl) ls)
 taken-slots BytesOf ls = (ByteSlot, omega (arith, slots-taken ByteSlot ls))
 
--- levels with a value more fill a place
+-- frames with one more value fill a place
 pub pushed-some : (ls : Levels) (v : Option Value) → 1 ≤ slots PendingSlot (pushed ls v)
 pushed-some ls v = omega (arith, slots-taken PendingSlot (pushed ls v), levels_take-pushed false PendingOf ls v, level_pending false (v ∷ []))
 
@@ -197,7 +197,7 @@ module _ (vector : Vector) (start : ℕ) where
       ap (λ w. kept_as w vector ArrayLabel members (members_take true vector members)) (row-label shape n ns p)
       ∙ ap (row_takes vector (element_width shape)) (member_count-of (elements shape start (n ∷ ns)) ∙ length-elements shape start (n ∷ ns))
 
--- an array under way takes what it does alone in its level
+-- an open array takes what it takes alone in its frame
 row-alone : (vector : Vector) (m : Option Value) (top : List (Option Value)) (outer : Levels) (start end : ℕ) →
     row_levels_take true vector ((m ∷ top) ∷ outer) ≡ levels_take true vector ((Some (Mapped ArrayLabel start end (gathered (m ∷ top))) ∷ []) ∷ outer)
 row-alone vector m top outer start end = omega (arith, levels_take-pushed true vector outer (Some (Mapped ArrayLabel 0 0 (gathered (m ∷ top)))))

@@ -33,6 +33,6 @@ text-members : (packs : Bool) → taken packs (alone (Mapped ArrayLabel 0 40 (Me
 text-members true = refl
 text-members false = refl
 
--- three bytes under way in a packing store stand as a member of the level around them
+-- three bytes of an open array in a packing store are a member of the frame around them
 row-under_way : kept_takes true true PendingOf ((Some (Mapped (IntegerLabel (pos 1) (record { width = 8; signed = false })) 0 8 NoMembers) ∷ Some (Mapped (IntegerLabel (pos 2) (record { width = 8; signed = false })) 8 16 NoMembers) ∷ []) ∷ [] ∷ []) ≡ 1
 row-under_way = refl

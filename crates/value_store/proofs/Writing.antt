@@ -1,4 +1,4 @@
--- Values that are made of bytes, under way: texts and arrays of packed numbers.
+-- Open values that are made of bytes: texts and arrays of packed numbers.
 use Rattle.std.proofs.Common.{◌≡◌, ℕ, ◌+◌, ◌-◌, ◌*◌, ◌<◌, Bool, false, List, [], ◌∷◌, ◌++◌, Some, Result, Ok, Err, OnOk, OnErr, length, take, refl, sym, ◌∙◌, ap, subst, arith, lit<}
 use Rattle.std.specs.Prelude.{slice_set}
 use Rattle.std.proofs.Math.Seq.{take-length}
@@ -39,7 +39,7 @@ module _ (h : Held) (shape : Shape) (bytes : List ℕ) (start : ℕ) (all : AreL
   bytes-full r lacks = refused r (λ names.
       overfilled names h (with_bytes shape bytes start h.slots) _ bytes-frames (bytes-levels names h.capacity) (pushed-some (levels names h) (Some (bytes_value shape bytes start))) lacks)
 
--- the end of the last bytes, written anew
+-- the end of the last bytes, written again
 last-set : (ends : List ℕ) (end : ℕ) → 0 < length ends → slice_set ends (length ends - 1) end ≡ take (length ends - 1) ends ++ end ∷ []
 last-set ends end some =
     let last : (length ends - 1) + 1 ≡ length ends = omega arith in
@@ -71,7 +71,7 @@ some-bytes Array bytes some = tt
 some-bytes (Struct t) bytes some = tt
 some-bytes (Union t i) bytes some = tt
 
--- what the slots of a value under way hold
+-- what the slots of an open value hold
 module _ (names : Names) (h : Held) (shape : Shape) (bytes : List ℕ) (start : ℕ) (outer : Levels) (w : IsFilling names h shape bytes start outer) (some : 0 < length bytes) where
   filling-slots : h.slots ≡ with_bytes shape bytes start w.before
   filling-slots = w.is ∙ written-some shape bytes start w.before some
@@ -105,7 +105,7 @@ module _ (names : Names) (h : Held) (shape : Shape) (bytes : List ℕ) (start : 
       (bytes-adds h.room shape longer start w.before (levels-sound h.room h.frames w.before w.own) are w.may
       (some-bytes shape longer (omega (arith, some, length-append bytes more)))))
 
--- more bytes of a value that has some, whose end is written anew
+-- more bytes of a value that has some, whose end is written again
 pub more-placed : (h : Held) (shape : Shape) (more : List ℕ) (count end : ℕ) (bytes : List ℕ) → GoesOn h shape more →
     count ≡ length h.slots.texts → bytes ≡ h.slots.bytes ++ more → end ≡ length bytes →
     record h.slots { texts = slice_set h.slots.texts (count - 1) end; bytes = bytes } ≡ with_more more h.slots
@@ -113,7 +113,7 @@ more-placed h shape more count end bytes g all is last =
     rw (last, is, all) (ap (λ ends. record h.slots { texts = ends; bytes = h.slots.bytes ++ more })
     (last-set h.slots.texts (length (h.slots.bytes ++ more)) (filling-some g.names h shape g.bytes g.start g.outer g.filling g.some)))
 
--- what is known of a value under way
+-- what is known of an open value
 pub filling-all : (names : Names) (h : Held) (shape : Shape) (bytes : List ℕ) (start : ℕ) (outer : Levels) → IsFilling names h shape bytes start outer → AreLevels h.room h.frames h.slots
 filling-all names h shape [] start outer w = subst (λ x. AreLevels h.room h.frames x) (sym w.is) w.own
 filling-all names h shape (b ∷ bytes) start outer w = filling-frames names h shape (b ∷ bytes) start outer w (omega arith)
@@ -122,7 +122,7 @@ pub filling-empty : (names : Names) (h : Held) (shape : Shape) (start : ℕ) (ou
 unfolding levels
 filling-empty names h shape start outer w = ap (levels_at names h.frames) w.is ∙ w.above
 
--- it stands inside the outer levels
+-- it is inside the outer frames
 pub filling-outer : (names : Names) (h : Held) (shape : Shape) (bytes : List ℕ) (start : ℕ) (outer : Levels) → IsFilling names h shape bytes start outer → outer_of (levels names h) ≡ outer
 filling-outer names h shape [] start outer w = ap outer_of (filling-empty names h shape start outer w)
 filling-outer names h shape (b ∷ bytes) start outer w = ap outer_of (filling-levels names h shape (b ∷ bytes) start outer w (omega arith))
@@ -141,7 +141,7 @@ pub stale-some : (names : Names) (h : Held) (shape : Shape) (bytes : List ℕ) (
 stale-some names h shape [] start outer w n = absurd (n (empty-fresh names h shape start outer w))
 stale-some names h shape (b ∷ bytes) start outer w n = omega arith
 
--- more bytes of a value that is fresh, or not
+-- more bytes of a new value, or of one with bytes
 module _ (names : Names) (h : Held) (shape : Shape) (more bytes : List ℕ) (start : ℕ) (outer : Levels) (w : IsFilling names h shape bytes start outer) where
   pub fresh-filling : (capacity : Marks) → HasNoNode h → 0 < length more → AreBytes shape more start →
       IsFilling names (record { slots = with_bytes shape more start h.slots; frames = h.frames; room = h.room; capacity = capacity }) shape (bytes ++ more) start outer
@@ -174,7 +174,7 @@ module _ (names : Names) (h : Held) (shape : Shape) (more bytes : List ℕ) (sta
         may = w.may;
       }
 
-  -- what the call for more bytes asks for
+  -- the capacity that the call for more bytes requests
   pub stale-goes_on : (HasNoNode h → ⊥) → AreBytes shape (bytes ++ more) start → GoesOn h shape more
   stale-goes_on n are = record { names = names; bytes = bytes; start = start; outer = outer; filling = w; some = stale-some names h shape bytes start outer w n; are = are }
 
@@ -198,7 +198,7 @@ opened-writing names h n start fresh all e = opened-filling names n Text start (
 short-push : (bytes : List ℕ) (byte : ℕ) → IsShort (length bytes + 1) → IsShort (length (bytes ++ byte ∷ []))
 short-push bytes byte short = subst (λ n. IsShort n) (sym (length_push bytes byte)) short
 
--- a byte more of a text
+-- one more byte of a text
 module _ (names : Names) (h : Held) (byte : ℕ) (bytes : List ℕ) (start : ℕ) (outer : Levels) (w : IsWriting names h bytes start outer) where
   pub fresh-levels : HasNoNode h → pushed (levels names h) (Some (text_value (byte ∷ []) start (start + 8 * (length (byte ∷ []) + 1)))) ≡ text_level (bytes ++ byte ∷ []) start outer
   fresh-levels e =
@@ -206,14 +206,14 @@ module _ (names : Names) (h : Held) (byte : ℕ) (bytes : List ℕ) (start : ℕ
       let w' : IsWriting names h [] start outer = subst (λ bs. IsFilling names h Text bs start outer) none w in
       ap (λ ls. pushed ls (Some (text_value (byte ∷ []) start (start + 8 * (length (byte ∷ []) + 1))))) (filling-empty names h Text start outer w') ∙ ap (λ bs. text_level (bs ++ byte ∷ []) start outer) (sym none)
 
-  -- more bytes are all that it takes more
+  -- it takes only the bytes more
   pub stale-overfills : (HasNoNode h → ⊥) → LacksBytes h 1 → Overfills h false (text_level (bytes ++ byte ∷ []) start outer)
   stale-overfills n lacks =
       let is = writing-levels names h bytes start outer w (stale-some names h Text bytes start outer w n) in
       let held = totals names h BytesOf (filling-all names h Text bytes start outer w) ∙ ap (levels_take (packs h.room) BytesOf) is in
       overfills h (text_level (bytes ++ byte ∷ []) start outer) (omega arith) BytesOf lacks.0 (omega (arith, lacks.1, held, length_push bytes byte))
 
--- the text is closed
+-- the closed text
 pub close-stale : (names : Names) (h : Held) (bytes : List ℕ) (start : ℕ) (outer : Levels) → IsWriting names h bytes start outer → (HasNoNode h → ⊥) → levels names h ≡ text_level bytes start outer
 close-stale names h bytes start outer w n = writing-levels names h bytes start outer w (stale-some names h Text bytes start outer w n)
 
@@ -223,7 +223,7 @@ close-fresh names h bytes start outer w e =
     let w' : IsWriting names h [] start outer = subst (λ bs. IsFilling names h Text bs start outer) none w in
     ap (λ ls. pushed ls (Some (text_value [] start (start + 8 * (0 + 1))))) (filling-empty names h Text start outer w') ∙ ap (λ bs. text_level bs start outer) (sym none)
 
--- a text takes the same in its own level and in the one around it
+-- a text takes the same in its own frame and in the one around it
 closed-slots : (kind : Slot) (bytes : List ℕ) (start : ℕ) (outer : Levels) → slots kind (closed_text bytes start outer) ≡ slots kind (text_level bytes start outer)
 closed-slots kind bytes start outer = let v = Some (text_value bytes start (start + 8 * (length bytes + 1))) in omega (arith, slots-pushed kind outer v)
 
@@ -281,7 +281,7 @@ module _ {T E : Type 0} (r : Result T E) (h n : Held) (byte start : ℕ) where
   settled-full fresh = on_err r (λ e names bytes outer w.
       overfills-closed h bytes start outer (subst (Overfills h false) (close-fresh names h bytes start outer w fresh) (e names)))
 
--- the levels of a text that is lifted
+-- the frames of a text that is lifted
 pub lifted-text : (bytes : List ℕ) (start : ℕ) (outer ls : Levels) → ls ≡ text_level bytes start outer → extended (outer_of ls) (top_of ls) ≡ closed_text bytes start outer
 lifted-text bytes start outer ls e =
     ap (λ l. extended (outer_of l) (top_of l)) e ∙ pushed-extended outer (Some (text_value bytes start (start + 8 * (length bytes + 1))))

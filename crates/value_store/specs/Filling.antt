@@ -1,4 +1,4 @@
--- What calls do to a text or an array of packed numbers that is under way.
+-- What calls do to an open text or an open array of packed numbers.
 use Rattle.std.specs.Prelude.{◌≡◌, ℕ, ◌+◌, ◌*◌, ◌<◌, ◌^◌, true, false, List, [], ◌∷◌, ◌++◌, Some, length}
 use Rattle.value_store.specs.declared.store.slots.Shape.{Shape}
 use Rattle.pickle_meaning.specs.Values.{Levels, pushed, text_value, text_level}
@@ -7,26 +7,26 @@ use Rattle.value_store.specs.Takes.{AreWithin}
 use Rattle.value_store.specs.Keeping.{Overfills}
 use Rattle.value_store.specs.Slots.{Held, levels, IsShort, packs, elements, row_value, element_width, IsWriting, IsPacking}
 
--- the levels around a text that is closed
+-- the frames around a text that is closed
 abbrev pub closed_text : List ℕ → (start : ℕ) → Levels → Levels
 closed_text bytes start outer = pushed outer (Some (text_value bytes start (start + 8 * (length bytes + 1))))
 
--- the text goes on with a byte more
+-- the text has one more byte
 abbrev pub Writes : (before after : Held) → (byte start : ℕ) → Type 0
 Writes before after byte start = (names : Names) (bytes : List ℕ) (outer : Levels) →
     IsWriting names before bytes start outer → IsShort (length bytes + 1) → IsWriting names after (bytes ++ byte ∷ []) start outer
 
--- its level has that byte
+-- the frame of the text has that byte
 abbrev pub ShowsByte : (before after : Held) → (byte start : ℕ) → Type 0
 ShowsByte before after byte start = (names : Names) (bytes : List ℕ) (outer : Levels) →
     IsWriting names before bytes start outer → IsShort (length bytes + 1) → levels names after ≡ text_level (bytes ++ byte ∷ []) start outer
 
--- there is no room for it
+-- the byte doesn't fit
 abbrev pub CannotWrite : Held → (byte start : ℕ) → Type 0
 CannotWrite before byte start = (names : Names) (bytes : List ℕ) (outer : Levels) →
     IsWriting names before bytes start outer → Overfills before false (text_level (bytes ++ byte ∷ []) start outer)
 
--- the text is alone in its level
+-- the text is alone in its frame
 abbrev pub Settles : (before after : Held) → (start : ℕ) → Type 0
 Settles before after start = (names : Names) (bytes : List ℕ) (outer : Levels) →
     IsWriting names before bytes start outer → levels names after ≡ text_level bytes start outer
@@ -36,28 +36,28 @@ abbrev pub ClosesText : (before after : Held) → (start : ℕ) → Type 0
 ClosesText before after start = (names : Names) (bytes : List ℕ) (outer : Levels) →
     IsWriting names before bytes start outer → levels names after ≡ closed_text bytes start outer
 
--- there is no room for that
+-- the closed text doesn't fit
 abbrev pub CannotCloseText : Held → (start : ℕ) → Type 0
 CannotCloseText before start = (names : Names) (bytes : List ℕ) (outer : Levels) →
     IsWriting names before bytes start outer → Overfills before false (closed_text bytes start outer)
 
--- the array goes on with a number more
+-- the array has one more number
 abbrev pub Packs : (before after : Held) → Shape → (digits start : ℕ) → Type 0
 Packs before after shape digits start = (names : Names) (numbers : List ℕ) (outer : Levels) → IsPacking names before shape numbers start outer →
     start + element_width shape * (length numbers + 1) < 2 ^ 64 → IsPacking names after shape (numbers ++ digits ∷ []) start outer
 
--- its numbers, that one with them, take no more than the vectors have room for
+-- its numbers, the new one included, take no more than the capacity
 abbrev pub PacksWithin : (before after : Held) → Shape → (digits start : ℕ) → Type 0
 PacksWithin before after shape digits start = (names : Names) (numbers : List ℕ) (outer : Levels) → IsPacking names before shape numbers start outer →
     start + element_width shape * (length numbers + 1) < 2 ^ 64 →
     AreWithin (packs after.room) true (elements shape start (numbers ++ digits ∷ []) ∷ outer) after.capacity
 
--- there is no room for that number
+-- the number doesn't fit
 abbrev pub CannotPack : Held → Shape → (digits start : ℕ) → Type 0
 CannotPack before shape digits start = (names : Names) (numbers : List ℕ) (outer : Levels) →
     IsPacking names before shape numbers start outer → Overfills before true (elements shape start (numbers ++ digits ∷ []) ∷ outer)
 
--- the array is alone in its level
+-- the array is alone in its frame
 abbrev pub SettlesRow : (before after : Held) → Shape → (start : ℕ) → Type 0
 SettlesRow before after shape start = (names : Names) (numbers : List ℕ) (outer : Levels) →
     IsPacking names before shape numbers start outer → levels names after ≡ (Some (row_value shape numbers start) ∷ []) ∷ outer
@@ -67,7 +67,7 @@ abbrev pub ClosesRow : (before after : Held) → Shape → (start : ℕ) → Typ
 ClosesRow before after shape start = (names : Names) (numbers : List ℕ) (outer : Levels) →
     IsPacking names before shape numbers start outer → levels names after ≡ pushed outer (Some (row_value shape numbers start))
 
--- there is no room for that
+-- the closed array doesn't fit
 abbrev pub CannotCloseRow : Held → Shape → (start : ℕ) → Type 0
 CannotCloseRow before shape start = (names : Names) (numbers : List ℕ) (outer : Levels) →
     IsPacking names before shape numbers start outer → Overfills before false (pushed outer (Some (row_value shape numbers start)))

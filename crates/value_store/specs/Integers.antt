@@ -10,17 +10,17 @@ use Rattle.value_store.specs.Labels.{number_of}
 abbrev pub IsIntegerOf : IntegerType → Value → Type 0
 IsIntegerOf type v = label_of v ≡ IntegerLabel (number_of (label_of v)) type
 
--- the members that are there are such
+-- the present members are such integers
 abbrev pub AreIntegersOf : IntegerType → Members → Type 0
 AreIntegersOf type members = (i : ℕ) → IfSome (member_at members i) (IsIntegerOf type)
 
--- integers of a type from the bit `start` on, each behind the one before it, whose binary digits are these bytes
+-- integers of a type from the bit `start` on, one after the other, whose binary digits are these bytes
 abbrev pub byte_members : IntegerType → (start : ℕ) → List ℕ → Members
 byte_members type start [] = NoMembers
 byte_members type start (byte ∷ bytes) =
     MemberThen (Mapped (IntegerLabel (with_sign type byte) type) start (start + type.width) NoMembers) (byte_members type (start + type.width) bytes)
 
--- an array has such members, and its type at most 8 bits
+-- an array has such members, and their type has at most 8 bits
 pub record AreBytesOf (type : IntegerType) (bytes : List ℕ) (array : Value) : Type 0 where
   pub width : IsWidth type
   pub most : type.width ≤ 8

@@ -1,4 +1,4 @@
--- What is kept in a store, and what it has no room for.
+-- The frames that a store holds, and those that don't fit in it.
 use Rattle.std.specs.Prelude.{◌≡◌, ℕ, ◌+◌, ◌<◌, ◌≤◌, Bool, true, false, Option, None, length}
 use Rattle.value_store.specs.declared.store.slots.Shape.{Shape}
 use Rattle.pickle_meaning.specs.Values.{Label, Value, Levels, top_of, gathered, pushed}
@@ -8,21 +8,21 @@ use Rattle.value_store.specs.Names.{Names}
 use Rattle.value_store.specs.Takes.{Vector, of_vector, row_width, packed_width, AreWithin, Passes}
 use Rattle.value_store.specs.Slots.{Slots, Held, packs, levels, marks_of, composite_label}
 
--- There is no room for levels: neither in what the store was made with, nor in what its vectors have room for. `row` tells that the
--- innermost level is an array of numbers under way.
+-- Frames don't fit: neither in the slots that the store was made with, nor in the capacity of its vectors. `row` says
+-- that the innermost frame is an open array of packed numbers.
 pub record Overfills (h : Held) (row : Bool) (levels : Levels) : Type 0 where
   pub least : Exceeds h.room levels
   pub capacity : Passes (packs h.room) row levels h.capacity
 
--- a store's levels take no more than its vectors have room for
+-- a store's frames take no more than the capacity of its vectors
 abbrev pub HoldsLevels : Held → Type 0
 HoldsLevels h = (names : Names) → AreWithin (packs h.room) false (levels names h) h.capacity
 
--- one of its vectors has no room for these slots
+-- these slots take more of some vector than its capacity
 abbrev pub LacksRoom : Held → Slots → Type 0
 LacksRoom h s = (vector : Vector) × ((h.room.least ≤ of_vector vector h.capacity) × (of_vector vector h.capacity < of_vector vector (marks_of s)))
 
--- nor has that of the bytes for so many more
+-- `count` more bytes take more than the capacity for bytes
 abbrev pub LacksBytes : Held → (count : ℕ) → Type 0
 LacksBytes h count = (h.room.least ≤ h.capacity.bytes) × (h.capacity.bytes < length h.slots.bytes + count)
 
@@ -30,11 +30,11 @@ LacksBytes h count = (h.room.least ≤ h.capacity.bytes) × (h.capacity.bytes < 
 abbrev pub IsPushed : (before after : Held) → Option Value → Type 0
 IsPushed before after v = (names : Names) → levels names after ≡ pushed (levels names before) v
 
--- there is no room for that
+-- that part doesn't fit
 abbrev pub CannotPush : Held → Option Value → Type 0
 CannotPush before v = (names : Names) → Overfills before false (pushed (levels names before) v)
 
--- the parts of the innermost open value are one value in their place
+-- the parts of the innermost open value became one value, which takes their place
 abbrev pub IsPlaced : (before after : Held) → (Names → Label) → (start end : ℕ) → Type 0
 IsPlaced before after label start end = (names : Names) → levels names after ≡ placed (label names) start end (levels names before)
 
@@ -42,14 +42,14 @@ IsPlaced before after label start end = (names : Names) → levels names after �
 abbrev pub IsClosed : (before after : Held) → (Names → Label) → (start end : ℕ) → Type 0
 IsClosed before after label start end = (names : Names) → levels names after ≡ closed (label names) start end (levels names before)
 
--- there is no room for that
+-- the closed value doesn't fit
 abbrev pub CannotClose : Held → (Names → Label) → (start end : ℕ) → Type 0
 CannotClose before label start end = (names : Names) → Overfills before false (closed (label names) start end (levels names before))
 
--- closed as such a value, the innermost one isn't kept as packed numbers
+-- the innermost value, closed as such a value, isn't stored as packed numbers
 abbrev pub KeepsMembers : Held → Shape → Type 0
 KeepsMembers h shape = (names : Names) → packed_width (packs h.room) (composite_label names shape) (gathered (top_of (levels names h))) ≡ None
 
--- closed as an array it isn't: where arrays of numbers are packed, its first member isn't a number
+-- closed as an array it isn't packed: where arrays of numbers are packed, its first member isn't a number
 abbrev pub StartsWithNoNumber : Held → Type 0
 StartsWithNoNumber h = packs h.room ≡ true → (names : Names) → row_width (gathered (top_of (levels names h))) ≡ None

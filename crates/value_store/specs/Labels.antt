@@ -1,4 +1,4 @@
--- What the label of a value tells of it.
+-- What the label of a value says about it.
 use Rattle.std.specs.Prelude.{ℕ, zero, suc, ℤ, pos, Bool, false, List, [], Option, Some, None, slice_get, unwrap_or}
 use Rattle.value_store.specs.declared.value.Kind.{Kind}
 use Rattle.value_store.specs.declared.value.Kind.TheVariants.{Integer, Offset, Text, Array, Struct, Union}
@@ -12,7 +12,7 @@ kind_of ArrayLabel = Array
 kind_of (StructLabel name fields) = Struct
 kind_of (UnionLabel name index alternative) = Union
 
--- the number of an integer, the magnitude of an offset
+-- the number of an integer, or the magnitude of an offset
 abbrev pub number_of : Label → ℤ
 number_of (IntegerLabel number type) = number
 number_of (OffsetLabel magnitude type unit) = magnitude
@@ -62,7 +62,7 @@ name_of ArrayLabel = None
 name_of (StructLabel name fields) = name
 name_of (UnionLabel name index alternative) = name
 
--- the alternative that a union took
+-- the number of the alternative of a union that matched
 abbrev pub taken_of : Label → Option ℕ
 taken_of (IntegerLabel number type) = None
 taken_of (OffsetLabel magnitude type unit) = None
@@ -71,7 +71,7 @@ taken_of ArrayLabel = None
 taken_of (StructLabel name fields) = None
 taken_of (UnionLabel name index alternative) = Some index
 
--- the name of a union's only member, which is the alternative taken
+-- the name of a union's only member, which is the alternative that matched
 abbrev pub only_name : Naming → ℕ → Naming
 only_name name zero = name
 only_name name (suc i) = None

@@ -1,4 +1,4 @@
--- What is done to the levels of values, and whether a store has room for them.
+-- What calls do to the frames, and whether the frames fit a store.
 use Rattle.std.specs.Prelude.{◌≤◌, List, [], ◌∷◌, ◌++◌, Option}
 use Rattle.value_store.specs.declared.store.room.Room.{Room}
 use Rattle.pickle_meaning.specs.Room.{Slot, slots}
@@ -9,6 +9,6 @@ abbrev pub extended : Levels → List (Option Value) → Levels
 extended [] vs = vs ∷ []
 extended (top ∷ outer) vs = (top ++ vs) ∷ outer
 
--- the levels fill no more slots of any kind than there is room for
+-- the frames fill no more slots of any kind than the store was made with
 abbrev pub FitsIn : (room : Room) → Levels → Type 0
 FitsIn room levels = (kind : Slot) → slots kind levels ≤ room.least

@@ -14,6 +14,6 @@ node_links s (Some n) = links_of s n.shape n.content
 abbrev pub links_from : Slots → ℕ → List (Option ℕ)
 links_from s i = node_links s (slice_get s.nodes i)
 
--- what links stand for are the parts of an open value
+-- the values of the links are the parts of an open value
 abbrev pub AreLinksAt : Held → (level : ℕ) → List (Option ℕ) → Type 0
 AreLinksAt h level links = (names : Names) (i : ℕ) → option_map (node_value names h.slots) (unwrap_or (slice_get links i) None) ≡ value_at (levels names h) level i

@@ -1,8 +1,8 @@
--- What a link stands for.
+-- The node that a link refers to.
 use Rattle.std.specs.Prelude.{◌≡◌, ℕ, Bool, true, false, Option, Some, None, ◌==◌, refl, if◌then◌else◌}
 use Rattle.std.proofs.Common.{sym, eqb-true}
 
--- the node of a link; the greatest number stands for an absent child
+-- the node of a link; the greatest number marks an absent child
 abbrev pub target : ℕ → Option ℕ
 target n = if n == 18446744073709551615 then None else Some n
 

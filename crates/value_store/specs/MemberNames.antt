@@ -1,4 +1,4 @@
--- The names of a value's members, as they are lent.
+-- The borrowed names of a value's members.
 use Rattle.std.specs.Prelude.{ℕ, zero, suc, None, slice_get, unwrap_or}
 use Rattle.std.specs.Option.{option_map}
 use Rattle.pickle_meaning.specs.Values.{Naming}

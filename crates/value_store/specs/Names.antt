@@ -9,7 +9,7 @@ use Rattle.pickle_types.specs.Table.{name_of}
 use Rattle.pickle_meaning.specs.Values.{Naming, Value, label_of}
 use Rattle.value_store.specs.Labels.{taken_of, member_name}
 
--- where names are looked up: the types of a table
+-- the types of a table, in which names are looked up
 abbrev pub Names : Type 0
 Names = List Node
 
@@ -29,7 +29,7 @@ shape_title (shape.Struct name pinned fields) = name_of name
 shape_title (shape.Integral name number fields) = name_of name
 shape_title (shape.Union name alternatives) = name_of name
 
--- the names of its fields or alternatives
+-- the names of a shape's fields or alternatives
 abbrev pub shape_names : Shape → List Naming
 shape_names (shape.Integer type) = []
 shape_names (shape.Offset type unit) = []
@@ -56,18 +56,18 @@ names_at names i = found_names (slice_get names i)
 abbrev pub name_at : Names → (of index : ℕ) → Naming
 name_at names of index = unwrap_or (slice_get (names_at names of) index) None
 
--- the name of the type at an index, where there is one
+-- the name of the type at an index, if there is one
 abbrev pub title_found : Names → (of : Option ℕ) → Naming
 title_found names None = None
 title_found names (Some of) = title_at names of
 
--- the name of the member at a place: of the alternative taken at the place 0, else of the field
+-- the name of the member at a place: for a union that of its alternative at the place 0, else that of the field
 abbrev pub member_found : Names → (of taken : Option ℕ) → ℕ → Naming
 member_found names None taken i = None
 member_found names (Some of) None i = name_at names of i
 member_found names (Some of) (Some taken) zero = name_at names of taken
 member_found names (Some of) (Some taken) (suc i) = None
 
--- the type at an index, where there is one, names the members of a value
+-- the type at an index, if there is one, names the members of a value
 abbrev pub NamesMembers : (of : Option ℕ) → (Names → Value) → Type 0
 NamesMembers of value = (names : Names) (i : ℕ) → let l = label_of (value names) in member_found names of (taken_of l) i ≡ member_name l i

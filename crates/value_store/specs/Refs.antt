@@ -1,4 +1,4 @@
--- The value that is lent.
+-- The borrowed value.
 use Rattle.std.specs.Prelude.{ℕ}
 use Rattle.value_store.specs.declared.stored.StoredValue.{StoredValue}
 use Rattle.value_store.specs.declared.value.ValueRef.{ValueRef}
@@ -13,7 +13,7 @@ value_of names r = place_value names r.store.now.slots r.place
 abbrev pub value_shown : ValueRef → Value
 value_shown r = value_of r.nodes.now r.stored
 
--- a number that falls from a value to each of its members
+-- a number that is smaller for each member of a value than for the value
 abbrev pub stored_rank : StoredValue → ℕ
 stored_rank r = place_rank r.place
 

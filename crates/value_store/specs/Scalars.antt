@@ -1,4 +1,4 @@
--- Computed integers and offsets, and the labels of values that they stand for.
+-- Computed integers and offsets, and the labels of their values.
 use Rattle.std.specs.Prelude.{◌≡◌, ℕ, ◌<◌, ◌≤◌, ℤ, pos, Option, Some, None, Result, Ok, Err}
 use Rattle.pickle_types.specs.Table.{IsWidth}
 use Rattle.pickle_types.specs.Sound.{IsSmall}
@@ -16,17 +16,17 @@ abbrev pub computed_of : Result Scalar MapFaultKind → Computed
 computed_of (Ok s) = Ok (scalar_label s)
 computed_of (Err kind) = Err kind
 
--- its type has a width, and holds it; a unit is some bits
+-- the type has a width and holds the number, and a unit is at least one bit
 abbrev pub IsScalar : Scalar → Type 0
 IsScalar (scalar.Integer number type) = IsWidth type × IsSmall type.signed number
 IsScalar (scalar.Offset magnitude type unit) = IsWidth type × IsSmall type.signed magnitude × (1 ≤ unit)
 
--- a count to shift by, where it is from 0 on and below a width
+-- a number to shift by, where it isn't negative and is less than a width
 abbrev pub IsShift : (width : ℕ) → ℤ → Option ℕ → Type 0
 IsShift width count (Some n) = (count ≡ pos n) × (n < width)
 IsShift width count None = (n : ℕ) → count ≡ pos n → width ≤ n
 
--- the number that a value is, where it is an integer or an offset
+-- the number of an integer or an offset
 abbrev pub scalar_in : Label → Option Label
 scalar_in (IntegerLabel number type) = Some (IntegerLabel number type)
 scalar_in (OffsetLabel magnitude type unit) = Some (OffsetLabel magnitude type unit)

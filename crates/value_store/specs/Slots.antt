@@ -1,4 +1,4 @@
--- What a store holds, and the values that it stands for.
+-- The entries of a store's vectors, and the values that they hold.
 use Rattle.std.specs.Prelude.{◌≡◌, ℕ, zero, suc, ◌+◌, ◌-◌, ◌*◌, ◌^◌, ◌<◌, ◌≤◌, ℤ, pos, Bool, true, false, List, [], ◌∷◌, ◌++◌, Option, Some, None, length, take, drop, map, slice_get, slice_index, slice_index_or, unwrap_or, IfSome, All, FitsSigned}
 use Rattle.std.specs.Int.{cast_signed, w64, FitsUnsigned}
 use Rattle.value_store.specs.declared.store.room.Growth.{Growth}
@@ -16,7 +16,7 @@ use Rattle.value_store.specs.Names.{Names, title_at, names_at, name_at}
 use Rattle.pickle_meaning.specs.Values.{Label, IntegerLabel, OffsetLabel, TextLabel, ArrayLabel, StructLabel, UnionLabel, Value, Mapped, NoMembers, Levels, label_of, start_of, end_of, members_of, gathered, text_value}
 use Rattle.value_store.specs.Takes.{Vector, of_vector, level_takes}
 
--- the slots of a store, each a list of its own
+-- the vectors of a store, each as a list
 pub record Slots : Type 0 where
   pub nodes : List Node
   pub families : List Family
@@ -29,23 +29,24 @@ pub record Slots : Type 0 where
 abbrev pub no_slots : Slots
 no_slots = record { nodes = []; families = []; links = []; pending = []; texts = []; bytes = [] }
 
--- a store: its slots, the marks of the values that are open, the innermost first, the room that it was made with, and how many slots of
--- each kind its vectors have room for
+-- a store: its slots, the marks of the open values, the innermost first, the slots that it was made with, and the
+-- capacity of its vectors
 pub record Held : Type 0 where
   pub slots : Slots
   pub frames : List Marks
   pub room : Room
   pub capacity : Marks
 
--- room for n slots of each kind at least, and for more where there is memory
+-- capacity for at least n slots of each kind; it grows where there is memory
 abbrev pub growing : ℕ → Room
 growing n = record { least = n; growth = Free }
 
--- room for n slots of each kind, and never for more
+-- capacity for exactly n slots of each kind; it never grows
 abbrev pub fixed : ℕ → Room
 fixed n = record { least = n; growth = Never }
 
--- Whether arrays of numbers are packed: where no room is asked for beforehand. Else each value takes slots that are counted.
+-- Whether arrays of numbers are packed: where no capacity was requested in advance. Otherwise each value takes slots
+-- that are counted.
 abbrev pub packs_as : Growth → (least : ℕ) → Bool
 packs_as Never least = false
 packs_as Free zero = true
@@ -57,15 +58,15 @@ packs room = packs_as room.growth room.least
 abbrev pub empty : Room → (capacity : Marks) → Held
 empty room capacity = record { slots = no_slots; frames = []; room = room; capacity = capacity }
 
--- a store without what it holds: all that its vectors have room for stays
+-- an emptied store, with the capacity that it had
 abbrev pub emptied : Held → Held
 emptied h = empty h.room h.capacity
 
--- the same store, but for what its vectors have room for
+-- the same store, perhaps with other capacities
 abbrev pub Regrown : (before after : Held) → Type 0
 Regrown before after = after ≡ record before { capacity = after.capacity }
 
--- the room that a store was made with is the same, and no vector has room for less than before
+-- the store was made with the same slots, and no vector has less capacity than before
 pub record KeepsRoom (before after : Held) : Type 0 where
   pub room : after.room ≡ before.room
   pub nodes : before.capacity.nodes ≤ after.capacity.nodes
@@ -75,7 +76,7 @@ pub record KeepsRoom (before after : Held) : Type 0 where
   pub texts : before.capacity.texts ≤ after.capacity.texts
   pub bytes : before.capacity.bytes ≤ after.capacity.bytes
 
--- of each kind a store holds no more than its vectors have room for
+-- each vector has at most as many entries as its capacity
 pub record HoldsInRoom (h : Held) : Type 0 where
   pub nodes : length h.slots.nodes ≤ h.capacity.nodes
   pub families : length h.slots.families ≤ h.capacity.families
@@ -107,11 +108,11 @@ first_byte es (suc k) = slice_index es k
 abbrev pub text_bytes : List ℕ → List ℕ → ℕ → List ℕ
 text_bytes es bs k = part (first_byte es k) (slice_index es k - first_byte es k) bs
 
--- the numbers of that many bits each among the bytes
+-- the numbers of `width` bits each among the bytes of a row
 abbrev pub row_numbers : Slots → (width : ℕ) → ℕ → List ℕ
 row_numbers s width c = numbers_in width (text_bytes s.texts s.bytes c)
 
--- an array whose elements are packed numbers, each behind the one before it
+-- an array of packed numbers, one after the other
 abbrev pub IsPacked : Shape → Type 0
 IsPacked (Integer w g) = ⊥
 IsPacked (Offset w g u) = ⊥
@@ -122,7 +123,7 @@ IsPacked Array = ⊥
 IsPacked (Struct t) = ⊥
 IsPacked (Union t i) = ⊥
 
--- how many bits an element takes
+-- the width of an element in bits
 abbrev pub element_width : Shape → ℕ
 element_width (Integer w g) = 0
 element_width (Offset w g u) = 0
@@ -133,11 +134,11 @@ element_width Array = 0
 element_width (Struct t) = 0
 element_width (Union t i) = 0
 
--- what stands where there is no value
+-- a value for places that have none
 abbrev pub no_value : Value
 no_value = Mapped ArrayLabel 0 0 NoMembers
 
--- the element of such binary digits
+-- an element of these binary digits
 abbrev pub element_value : Shape → (start digits : ℕ) → Value
 element_value (Integer w g) start n = no_value
 element_value (Offset w g u) start n = no_value
@@ -157,7 +158,7 @@ elements shape start (n ∷ ns) = Some (element_value shape start n) ∷ element
 abbrev pub row_value : Shape → List ℕ → (start : ℕ) → Value
 row_value shape numbers start = Mapped ArrayLabel start (start + element_width shape * length numbers) (gathered (elements shape start numbers))
 
--- the number that 64 bits stand for
+-- the number that 64 binary digits are, with a sign or without
 abbrev pub number_in : Bool → ℕ → ℤ
 number_in true n = cast_signed w64 n
 number_in false n = pos n
@@ -234,12 +235,12 @@ number_value Array start c = no_value
 number_value (Struct t) start c = no_value
 number_value (Union t i) start c = no_value
 
--- the value that a link stands for, among these
+-- the value that a link refers to, among these values
 abbrev pub opened : List Value → Option ℕ → Option Value
 opened ts None = None
 opened ts (Some i) = slice_get ts i
 
--- the parts of a value that starts there, among these: packed numbers, or what its links stand for
+-- the parts of a value from its start on, among these values: packed numbers, or the values that its links refer to
 abbrev pub parts_in : Slots → List Value → Shape → (start content : ℕ) → List (Option Value)
 parts_in s ts (Integer w g) start c = []
 parts_in s ts (Offset w g u) start c = []
@@ -271,13 +272,13 @@ value_at names s i = slice_index_or (trees names s) i no_value
 unfoldable pub stack : Names → Slots → List (Option Value)
 stack names s = map (opened (trees names s)) s.pending
 
--- each link refers to a node below
+-- each link refers to an earlier node
 abbrev pub LinksBelow : ℕ → List (Option ℕ) → Type 0
 LinksBelow k [] = Unit {0}
 LinksBelow k (None ∷ ls) = LinksBelow k ls
 LinksBelow k (Some i ∷ ls) = (i < k) × LinksBelow k ls
 
--- the row of a family or a text is there
+-- the entries of a family or a text are there
 pub record IsRow (first end count : ℕ) : Type 0 where
   pub ordered : first ≤ end
   pub within : end ≤ count
@@ -289,14 +290,14 @@ IsFamily s c = (c < length s.families) × IsRow (first_link s.families c) (famil
 abbrev pub IsShort : (count : ℕ) → Type 0
 IsShort count = 8 * (count + 1) < 2 ^ 64
 
--- bytes are there
+-- the bytes of a text are there
 abbrev pub IsByteRow : Slots → ℕ → Type 0
 IsByteRow s c = (c < length s.texts) × IsRow (first_byte s.texts c) (slice_index s.texts c) (length s.bytes)
 
 abbrev pub IsTextRow : Slots → ℕ → Type 0
 IsTextRow s c = IsByteRow s c × IsShort (slice_index s.texts c - first_byte s.texts c)
 
--- packed numbers of that many bits each from the bit `start` on, which end before the bit 2 ^ 64
+-- packed numbers of `width` bits each from the bit `start` on; they end before the bit 2 ^ 64
 pub record AreNumbers (width : ℕ) (numbers : List ℕ) (start : ℕ) : Type 0 where
   pub some : 1 ≤ width
   pub most : width ≤ 64
@@ -321,14 +322,14 @@ abbrev pub AreNodesFrom : Slots → ℕ → List Node → Type 0
 AreNodesFrom s i [] = Unit {0}
 AreNodesFrom s i (n ∷ ns) = IsNodeAt s i n × AreNodesFrom s (i + 1) ns
 
--- nodes refer to rows that are there, links to earlier nodes; rows cover all links and bytes
+-- nodes refer to rows that exist, and links to earlier nodes; the rows cover all links and bytes
 pub record IsSound (s : Slots) : Type 0 where
   pub nodes : AreNodesFrom s 0 s.nodes
   pub pending : LinksBelow (length s.nodes) s.pending
   pub links : first_link s.families (length s.families) ≡ length s.links
   pub bytes : first_byte s.texts (length s.texts) ≡ length s.bytes
 
--- what is left below some marks
+-- the slots up to some marks
 abbrev pub cut_to : Marks → Slots → Slots
 cut_to k s = record {
   nodes = take k.nodes s.nodes;
@@ -360,11 +361,11 @@ pub record IsWithin (k : Marks) (s : Slots) : Type 0 where
   pub texts : k.texts ≤ length s.texts
   pub bytes : k.bytes ≤ length s.bytes
 
--- the parts of the value that is open above some marks
+-- the parts of the value that was opened at some marks
 abbrev pub level_of : Names → Marks → Slots → List (Option Value)
 level_of names k s = drop k.pending (stack names s)
 
--- above some marks there is, in each vector, just what the parts of the open value take
+-- each vector has after some marks just what the parts of the open value take
 pub record IsLevel (room : Room) (k : Marks) (s : Slots) : Type 0 where
   pub within : IsWithin k s
   pub takes : (names : Names) (vector : Vector) → of_vector vector (marks_of s) ≡ of_vector vector k + level_takes (packs room) vector (level_of names k s)
@@ -381,15 +382,15 @@ abbrev pub levels_at : Names → List Marks → Slots → Levels
 levels_at names [] s = level_of names root_marks s ∷ []
 levels_at names (k ∷ ks) s = level_of names k s ∷ levels_at names ks (cut_to k s)
 
--- the values that a store is building, level by level, with the names of a table
+-- the frames of a store, with the names of a table
 unfoldable pub levels : Names → Held → Levels
 levels names h = levels_at names h.frames h.slots
 
--- how many levels there are: one for each open value, and the last for the whole
+-- how many frames there are: one for each open value, and one for the whole
 abbrev pub level_count : Held → ℕ
 level_count h = 1 + length h.frames
 
--- u is s with these values on its stack, and in each vector just what they take more
+-- u is s with these values pushed, and each vector has just what they take more
 pub record Adds (room : Room) (s u : Slots) (vs : Names → List (Option Value)) : Type 0 where
   pub sound : IsSound u
   pub rest : cut_to (marks_of s) u ≡ s
@@ -429,7 +430,7 @@ with_bytes shape bytes start s = record {
   bytes = s.bytes ++ bytes;
 }
 
--- a field that is not there
+-- an absent field
 abbrev pub with_absent : Slots → Slots
 with_absent s = record s { pending = s.pending ++ None ∷ [] }
 
@@ -459,7 +460,7 @@ AreBytes Array bytes start = ⊥
 AreBytes (Struct t) bytes start = ⊥
 AreBytes (Union t i) bytes start = ⊥
 
--- the value that they are
+-- the value of these bytes
 abbrev pub bytes_value : Shape → List ℕ → (start : ℕ) → Value
 bytes_value (Integer w g) bytes start = no_value
 bytes_value (Offset w g u) bytes start = no_value
@@ -470,7 +471,7 @@ bytes_value Array bytes start = no_value
 bytes_value (Struct t) bytes start = no_value
 bytes_value (Union t i) bytes start = no_value
 
--- an array of packed numbers has some: without any it is an array like others
+-- an array of packed numbers has some; without numbers it is stored like other arrays
 abbrev pub AreSome : Shape → List ℕ → Type 0
 AreSome (Integer w g) bytes = Unit {0}
 AreSome (Offset w g u) bytes = Unit {0}
@@ -487,12 +488,12 @@ MayKeep room (Integers w g) = packs room ≡ true
 MayKeep room (Offsets w g u) = packs room ≡ true
 MayKeep room shape = Unit {0}
 
--- a store whose innermost open value had no parts yet, after these bytes of a text or of packed numbers
+-- a store whose innermost open value had no parts, after these bytes of a text or of packed numbers
 abbrev pub written : Shape → List ℕ → ℕ → Slots → Slots
 written shape [] start s = s
 written shape (b ∷ bytes) start s = with_bytes shape (b ∷ bytes) start s
 
--- the innermost open value is made of bytes, these so far; there is no node for it before it has a byte
+-- the innermost open value has these bytes so far; it has no node before its first byte
 pub record IsFilling (names : Names) (h : Held) (shape : Shape) (bytes : List ℕ) (start : ℕ) (outer : Levels) : Type 0 where
   pub before : Slots
   pub is : h.slots ≡ written shape bytes start before
@@ -502,11 +503,11 @@ pub record IsFilling (names : Names) (h : Held) (shape : Shape) (bytes : List �
   pub are : AreBytes shape bytes start
   pub may : MayKeep h.room shape
 
--- the innermost open value is a text under way, of these bytes so far
+-- the innermost open value is a text with these bytes so far
 abbrev pub IsWriting : Names → Held → List ℕ → (start : ℕ) → Levels → Type 0
 IsWriting names h bytes start outer = IsFilling names h Text bytes start outer
 
--- the innermost open value is an array of packed numbers under way, of these so far
+-- the innermost open value is an array of packed numbers with these numbers so far
 pub record IsPacking (names : Names) (h : Held) (shape : Shape) (numbers : List ℕ) (start : ℕ) (outer : Levels) : Type 0 where
   pub filling : IsFilling names h shape (packed (bytes_for (element_width shape)) numbers) start outer
   pub below : All (λ n. n < 2 ^ element_width shape) numbers
@@ -515,21 +516,21 @@ pub record IsPacking (names : Names) (h : Held) (shape : Shape) (numbers : List 
 abbrev pub HasNoNode : Held → Type 0
 HasNoNode h = length h.slots.nodes ≡ (innermost h.frames).nodes
 
--- a text is under way that begins there
+-- a text that begins at `start` is open
 pub record IsText (h : Held) (start : ℕ) : Type 0 where
   pub names : Names
   pub bytes : List ℕ
   pub outer : Levels
   pub writing : IsWriting names h bytes start outer
 
--- an array of packed numbers is under way that begins there
+-- an array of packed numbers that begins at `start` is open
 pub record IsRowOf (h : Held) (shape : Shape) (start : ℕ) : Type 0 where
   pub names : Names
   pub numbers : List ℕ
   pub outer : Levels
   pub packing : IsPacking names h shape numbers start outer
 
--- more bytes go on with what is under way
+-- the open value may have these bytes next
 pub record GoesOn (h : Held) (shape : Shape) (more : List ℕ) : Type 0 where
   pub names : Names
   pub bytes : List ℕ
@@ -539,7 +540,7 @@ pub record GoesOn (h : Held) (shape : Shape) (more : List ℕ) : Type 0 where
   pub some : 0 < length bytes
   pub are : AreBytes shape (bytes ++ more) start
 
--- a text under way that takes a byte more
+-- the open text may have one more byte
 pub record TakesByte (h : Held) (start : ℕ) : Type 0 where
   pub names : Names
   pub bytes : List ℕ
@@ -547,7 +548,7 @@ pub record TakesByte (h : Held) (start : ℕ) : Type 0 where
   pub writing : IsWriting names h bytes start outer
   pub short : IsShort (length bytes + 1)
 
--- an array of packed numbers under way that takes one more
+-- the open array of packed numbers may have one more number
 pub record TakesNumber (h : Held) (shape : Shape) (start : ℕ) : Type 0 where
   pub names : Names
   pub numbers : List ℕ
@@ -555,12 +556,12 @@ pub record TakesNumber (h : Held) (shape : Shape) (start : ℕ) : Type 0 where
   pub packing : IsPacking names h shape numbers start outer
   pub short : start + element_width shape * (length numbers + 1) < 2 ^ 64
 
--- a number that 64 bits can stand for
+-- a number that 64 binary digits can be
 abbrev pub IsContentNumber : Bool → ℤ → Type 0
 IsContentNumber true z = FitsSigned w64 z
 IsContentNumber false z = FitsUnsigned w64 z
 
--- each vector has room for just n
+-- each vector has a capacity of exactly n
 pub record AreAll (n : ℕ) (capacity : Marks) : Type 0 where
   pub nodes : capacity.nodes ≡ n
   pub families : capacity.families ≡ n
@@ -569,7 +570,8 @@ pub record AreAll (n : ℕ) (capacity : Marks) : Type 0 where
   pub texts : capacity.texts ≡ n
   pub bytes : capacity.bytes ≡ n
 
--- What holds of a store: each vector has the room that the store was made with, and just that where it never grows.
+-- What holds of a store: each vector has at least the capacity that the store was made with, and exactly that where it
+-- never grows.
 pub record IsStore (h : Held) : Type 0 where
   pub levels : AreLevels h.room h.frames h.slots
   pub nodes : h.room.least ≤ h.capacity.nodes
@@ -580,12 +582,12 @@ pub record IsStore (h : Held) : Type 0 where
   pub bytes : h.room.least ≤ h.capacity.bytes
   pub fixed : h.room.growth ≡ Never → AreAll h.room.least h.capacity
 
--- the marks of the values around the innermost open one
+-- the marks of the values around the innermost open value
 abbrev pub around : List Marks → List Marks
 around [] = []
 around (k ∷ ks) = ks
 
--- what the value of a node has of it
+-- what a node says about its value
 pub record IsRead (s : Slots) (i : ℕ) (n : Node) : Type 0 where
   pub label : (names : Names) → label_of (value_at names s i) ≡ label_in names s n.shape n.content
   pub start : (names : Names) → start_of (value_at names s i) ≡ n.start
@@ -594,11 +596,11 @@ pub record IsRead (s : Slots) (i : ℕ) (n : Node) : Type 0 where
   pub content : IsContent s n.shape n.start n.content
   pub below : (k : ℕ) → IfSome (unwrap_or (slice_get (links_of s n.shape n.content) k) None) (λ j. j < i)
 
--- the marks of an open value, counted from the innermost; those of the whole stand below all
+-- the marks of a frame, counted from the innermost; those of the whole come last
 abbrev pub marks_at : List Marks → ℕ → Marks
 marks_at ks level = slice_index_or ks level root_marks
 
--- where the parts of an open value end among the pending children
+-- the end of a frame's parts among the pending children
 abbrev pub level_end : List Marks → (count : ℕ) → ℕ → ℕ
 level_end ks count zero = count
 level_end ks count (suc n) = (marks_at ks n).pending

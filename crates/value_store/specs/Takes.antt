@@ -1,4 +1,4 @@
--- How much of each vector of a store the levels of values take.
+-- How much of each vector of a store its frames take.
 use Rattle.std.specs.Prelude.{ℕ, ◌+◌, ◌*◌, ◌<◌, ◌≤◌, Bool, true, false, List, [], ◌∷◌, Option, Some, None}
 use Rattle.value_store.specs.declared.store.slots.Marks.{Marks}
 use Rattle.pickle_meaning.specs.Values.{Label, IntegerLabel, OffsetLabel, TextLabel, ArrayLabel, StructLabel, UnionLabel, Value, Mapped, Members, NoMembers, MemberThen, AbsentThen, Levels, label_of, member_count, gathered, pushed}
@@ -14,7 +14,7 @@ pub data Vector : Type 0 where
   TextsOf : Vector
   BytesOf : Vector
 
--- what marks count of a vector
+-- the entry of some marks for a vector
 abbrev pub of_vector : Vector → Marks → ℕ
 of_vector NodesOf k = k.nodes
 of_vector FamiliesOf k = k.families
@@ -23,7 +23,7 @@ of_vector PendingOf k = k.pending
 of_vector TextsOf k = k.texts
 of_vector BytesOf k = k.bytes
 
--- the width of the number that a value is, where it is an integer or an offset
+-- the width of an integer or an offset, in bits
 abbrev pub number_width : Label → Option ℕ
 number_width (IntegerLabel number type) = Some type.width
 number_width (OffsetLabel magnitude type unit) = Some type.width
@@ -32,7 +32,7 @@ number_width ArrayLabel = None
 number_width (StructLabel name fields) = None
 number_width (UnionLabel name index alternative) = None
 
--- the width of the numbers of an array that is packed where arrays are: its first member's
+-- the width of the numbers of a packed array: that of its first member
 abbrev pub row_width : Members → Option ℕ
 row_width NoMembers = None
 row_width (MemberThen v rest) = number_width (label_of v)
@@ -42,7 +42,7 @@ abbrev pub where_packed : (packs : Bool) → Option ℕ → Option ℕ
 where_packed true width = width
 where_packed false width = None
 
--- the width of the packed numbers of which a value of such a label and members is kept
+-- the width of the packed numbers that a value of such a label and members is stored as
 abbrev pub packed_width : (packs : Bool) → Label → Members → Option ℕ
 packed_width packs (IntegerLabel number type) _ = None
 packed_width packs (OffsetLabel magnitude type unit) _ = None
@@ -51,7 +51,7 @@ packed_width packs ArrayLabel members = where_packed packs (row_width members)
 packed_width packs (StructLabel name fields) _ = None
 packed_width packs (UnionLabel name index alternative) _ = None
 
--- how many families and texts a value of a label is
+-- how many families and texts a value of a label takes
 abbrev pub families_taken : Label → ℕ
 families_taken (IntegerLabel number type) = 0
 families_taken (OffsetLabel magnitude type unit) = 0
@@ -68,7 +68,7 @@ texts_taken ArrayLabel = 0
 texts_taken (StructLabel name fields) = 0
 texts_taken (UnionLabel name index alternative) = 0
 
--- what a value takes whose members are values of their own, these left out: a node, and a link for each member
+-- what a value takes without its members: a node, and a link for each member
 abbrev pub own_takes : Vector → Label → Members → ℕ
 own_takes NodesOf label _ = 1
 own_takes FamiliesOf label _ = families_taken label
@@ -77,7 +77,7 @@ own_takes PendingOf label _ = 0
 own_takes TextsOf label _ = texts_taken label
 own_takes BytesOf label _ = text_length label
 
--- what an array of packed numbers takes: their bytes, as those of one text
+-- what an array of packed numbers takes: their bytes, as one text
 abbrev pub row_takes : Vector → (width count : ℕ) → ℕ
 row_takes NodesOf width count = 1
 row_takes FamiliesOf width count = 0
@@ -86,7 +86,7 @@ row_takes PendingOf width count = 0
 row_takes TextsOf width count = 1
 row_takes BytesOf width count = bytes_for width * count
 
--- of the packed numbers, where it is made of these, else of its own and of its members, which take `inside`
+-- what a value takes: as packed numbers, or its own and that of its members, which take `inside`
 abbrev pub kept_as : Option ℕ → Vector → Label → Members → (inside : ℕ) → ℕ
 kept_as None vector label members inside = own_takes vector label members + inside
 kept_as (Some width) vector label members inside = row_takes vector width (member_count members)
@@ -100,7 +100,7 @@ abbrev mutual
   members_take packs vector (MemberThen v rest) = value_takes packs vector v + members_take packs vector rest
   members_take packs vector (AbsentThen rest) = members_take packs vector rest
 
--- what a member of a level takes, its value left out: its place among the pending children
+-- what a member of a frame takes without its value: a pending child
 abbrev pub place_takes : Vector → ℕ
 place_takes NodesOf = 0
 place_takes FamiliesOf = 0
@@ -117,28 +117,28 @@ abbrev pub level_takes : (packs : Bool) → Vector → List (Option Value) → �
 level_takes packs vector [] = 0
 level_takes packs vector (m ∷ rest) = member_takes packs vector m + level_takes packs vector rest
 
--- what levels take of a vector, in a store that packs arrays of numbers or in one that doesn't
+-- what frames take of a vector, in a store that packs arrays of numbers or in one that doesn't
 abbrev pub levels_take : (packs : Bool) → Vector → Levels → ℕ
 levels_take packs vector [] = 0
 levels_take packs vector (top ∷ outer) = level_takes packs vector top + levels_take packs vector outer
 
--- what they take where the innermost one is an array of numbers under way, which are packed as they come: it stands as a member of the
--- level around it once it has a number
+-- what frames take where the innermost one is an open array of packed numbers. Once the array has a number, it is a
+-- member of the frame around it
 abbrev pub row_levels_take : (packs : Bool) → Vector → Levels → ℕ
 row_levels_take false vector levels = levels_take false vector levels
 row_levels_take true vector [] = levels_take true vector []
 row_levels_take true vector ([] ∷ outer) = levels_take true vector ([] ∷ outer)
 row_levels_take true vector ((m ∷ top) ∷ outer) = levels_take true vector (pushed outer (Some (Mapped ArrayLabel 0 0 (gathered (m ∷ top)))))
 
--- what levels take of a vector, by whether the innermost one is such an array
+-- what frames take of a vector; `row` says whether the innermost one is an open array of packed numbers
 abbrev pub kept_takes : (packs row : Bool) → Vector → Levels → ℕ
 kept_takes packs false vector levels = levels_take packs vector levels
 kept_takes packs true vector levels = row_levels_take packs vector levels
 
--- vectors with room for so much hold such levels
+-- frames that these capacities are enough for
 abbrev pub AreWithin : (packs row : Bool) → Levels → (capacity : Marks) → Type 0
 AreWithin packs row levels capacity = (vector : Vector) → kept_takes packs row vector levels ≤ of_vector vector capacity
 
--- one of them doesn't
+-- frames that need more than one of the capacities
 abbrev pub Passes : (packs row : Bool) → Levels → (capacity : Marks) → Type 0
 Passes packs row levels capacity = (vector : Vector) × (of_vector vector capacity < kept_takes packs row vector levels)

@@ -1,4 +1,4 @@
-//! The values that a mapping makes: a store that keeps them, and references that lend them.
+//! Stores the values that a mapping makes. References borrow them from the store.
 #![tactic(auto)]
 
 pub mod names;

@@ -18,18 +18,18 @@ pub fn title(nodes: &[Node], of: u32) -> Option<&[u8]>
     }
 }
 
-/// The names of a value's members, which are looked up once for all of them.
+/// The names of a value's members. They are looked up once for all members.
 #[derive(Clone, Copy)]
 pub enum MemberNames<'a> {
     Nameless,
     Fields(&'a [Field]),
     Parts(&'a [Part]),
-    /// That of the alternative that a union took.
+    /// The name of the alternative of a union that matched.
     Only(Option<&'a [u8]>),
 }
 
 impl<'a> MemberNames<'a> {
-    /// The name of the member at a place, where it has one.
+    /// The name of the member at a place; None for a nameless member and past the end.
     #[inline(always)]
     pub fn get(&self, place: usize) -> Option<&'a [u8]>
         ensures { option_map (λ name. name.now) result ≡ name_among self.now place }

@@ -1,4 +1,4 @@
-//! Numbers brought into the range of a type.
+//! Brings numbers into the range of a type.
 
 ghost use Rattle.std.specs.Prelude.{◌≡◌, ℕ, ◌%◌, ◌<◌, ◌≤◌, ◌^◌, IfOk, Ok, Err};
 ghost use Rattle.pickle_types.specs.Table.{IsWidth};
@@ -18,7 +18,7 @@ pub fn low_digits(width: u8, n: u128) -> u64
     (n & mask) as u64
 }
 
-/// `z` modulo 2^`width`, from 0 on.
+/// `z` modulo 2^`width`, a number that isn't negative.
 #[tactic(auto, using(crate::proofs::Moduli::modulo_positive, crate::proofs::Moduli::modulo_negative))]
 pub fn modulo(width: u8, z: i128) -> u64
     requires some { 0 < width }
@@ -34,7 +34,7 @@ pub fn modulo(width: u8, z: i128) -> u64
     }
 }
 
-/// The number of a type whose binary digits are those of `n`: two's complement.
+/// The number that the binary digits of `n` are in a type: two's complement where the type is signed.
 #[tactic(auto, unfolding(pickle_meaning::specs::Arithmetic::with_sign))]
 pub fn with_sign(number: IntegerType, n: u64) -> i128
     requires width { IsWidth number }
@@ -49,7 +49,7 @@ pub fn with_sign(number: IntegerType, n: u64) -> i128
     }
 }
 
-/// `z` modulo 2^N into the range of a type of N bits.
+/// `z` converted to a type of N bits: modulo 2^N into the range of the type. A conversion never fails.
 #[tactic(auto, unfolding(pickle_meaning::specs::Arithmetic::converted))]
 pub fn converted(number: IntegerType, z: i128) -> i128
     requires width { IsWidth number }
@@ -62,7 +62,8 @@ pub fn converted(number: IntegerType, z: i128) -> i128
     with_sign(number, modulo(number.width, z))
 }
 
-/// `z` brought to a type of N bits: modulo 2^N where that is unsigned, and itself where it is signed, if it is in range.
+/// `z` brought to a type of N bits. For an unsigned type it is taken modulo 2^N. For a signed type it stays as it is,
+/// and is `Overflow` out of the range.
 #[tactic(auto, unfolding(pickle_meaning::specs::Arithmetic::brought, pickle_meaning::specs::Arithmetic::is_signed_in))]
 pub fn brought(number: IntegerType, z: i128) -> Result<i128, MapFaultKind>
     requires width { IsWidth number }

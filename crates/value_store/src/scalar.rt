@@ -1,4 +1,4 @@
-//! Integers and offsets, as they are computed.
+//! Integers and offsets, as expressions compute them.
 
 use pickle_types::integer::IntegerType;
 

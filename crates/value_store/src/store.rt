@@ -26,11 +26,12 @@ use slots::{Family, Link, Marks, Node};
 use std::alloc::Global;
 use std::marker::Model;
 
-/// How many values may be open inside one another, at most.
+/// The most values that may be open inside one another.
 pub(crate) const MOST_OPEN: usize = 64;
 
-/// The values of a mapping, in flat vectors that are filled from the innermost values outwards: a node for each value, a link to each part of
-/// a value that is closed, a pending child for each part of a value that is open, and the bytes of texts.
+/// The values of a mapping, in six flat vectors, filled from the innermost values outwards: a node for each value, a
+/// family for each array, struct or union, a link for each part of a closed value, a pending child for each part of an
+/// open value, and the ends and bytes of texts and packed numbers.
 #[derive(Drop)]
 pub struct Store {
     nodes: Vec<Node>,
@@ -66,7 +67,7 @@ impl Model for Store {
 
 #[tactic(auto, using(crate::proofs::Held::none_open))]
 impl Store {
-    /// An empty store without room.
+    /// An empty store without capacity. It grows as needed.
     pub fn new(alloc: Global) -> Store
         ensures empty { result ≡ empty (growing 0) result.capacity }
         ensures levels { (names : Names) → levels names result ≡ no_values }
@@ -86,7 +87,7 @@ impl Store {
         }
     }
 
-    /// An empty store with room for `room` nodes, links, pending children and bytes of texts, each.
+    /// An empty store with capacity for `room` entries in each of its six vectors. It grows where it needs more.
     pub fn with_room(alloc: Global, room: usize) -> Result<Store, Memory>
         ensures empty { IfOk result (λ s. s ≡ empty (growing room) s.capacity) }
         ensures levels { IfOk result (λ s. (names : Names) → levels names s ≡ no_values) }
@@ -100,8 +101,8 @@ impl Store {
         )
     }
 
-    /// An empty store with room for `most` nodes, links, pending children and bytes of texts, each, which never asks for more:
-    /// what doesn't fit is refused as want of memory.
+    /// An empty store with capacity for `most` entries in each of its six vectors. It never grows: a value that doesn't
+    /// fit is refused with `Memory`.
     pub fn with_most(alloc: Global, most: usize) -> Result<Store, Memory>
         ensures empty { IfOk result (λ s. s ≡ empty (fixed most) s.capacity) }
         ensures levels { IfOk result (λ s. (names : Names) → levels names s ≡ no_values) }
@@ -115,7 +116,7 @@ impl Store {
         )
     }
 
-    // An empty store that has all its room.
+    // An empty store that has reserved all its capacity.
     fn reserved(alloc: Global, room: Room) -> Result<Store, Memory>
         ensures empty { IfOk result (λ s. s ≡ empty room s.capacity) }
     {
@@ -137,7 +138,7 @@ impl Store {
         })
     }
 
-    /// Empties the store, and keeps all that its vectors have room for.
+    /// Empties the store. Its vectors stay as large as they are.
     pub fn clear(&mut self)
         ensures empty { self.new ≡ emptied self.old }
         ensures levels { (names : Names) → levels names self.new ≡ no_values }
@@ -151,8 +152,8 @@ impl Store {
         self.frames.clear();
     }
 
-    /// Whether the store never asks for more room than it was made with. What such a store holds fits in that, and what any store
-    /// holds in what its vectors have room for.
+    /// Whether the store never grows past the capacity that it was made with. The values of such a store fit in that
+    /// capacity, and the values of any store in that of its vectors.
     pub fn never_grows(&self) -> bool
         ensures is { IsTrue result ↔ (self.now.room.growth ≡ Never) }
         ensures fits { self.now.room.growth ≡ Never → (names : Names) → FitsIn self.now.room (levels names self.now) }
@@ -161,7 +162,7 @@ impl Store {
         matches!(self.room.growth, Growth::Never)
     }
 
-    // How much of each kind there is.
+    // The number of entries of each vector.
     fn marks(&self) -> Marks
         ensures { result ≡ marks_of self.now.slots }
     {
@@ -175,7 +176,7 @@ impl Store {
         }
     }
 
-    // The marks of the innermost open value.
+    // The marks of the innermost open value; zeros where none is open.
     fn innermost(&self) -> Marks
         ensures { result ≡ innermost self.now.frames }
     {

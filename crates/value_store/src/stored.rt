@@ -17,7 +17,7 @@ use crate::store::slots::{Link, Place, Shape};
 use crate::value::Kind;
 use pickle_types::integer::IntegerType;
 
-// The number that 64 bits stand for.
+// The number that 64 binary digits are, with a sign or without.
 fn number_from(signed: bool, content: u64) -> i128
     ensures is { result ≡ number_in signed content }
     ensures small { IsSmall signed result }
@@ -29,7 +29,7 @@ fn number_from(signed: bool, content: u64) -> i128
     }
 }
 
-/// A value that a store holds, without the names of its type. It copies nothing.
+/// A reference to a value of a store, without the names of its type. It copies nothing.
 #[derive(Clone, Copy)]
 pub struct StoredValue<'a> {
     store: &'a Store,
@@ -47,7 +47,8 @@ impl<'a> StoredValue<'a> {
         StoredValue { store, place }
     }
 
-    // What the value is: its node's shape, or of a packed number that of an integer or an offset. No number is read for it.
+    // The shape of the value: that of its node, or an integer or offset where it is a packed number. No number is read
+    // for it.
     #[inline(always)]
     fn shape(&self) -> Shape
         ensures { IsShapeOf result (λ names. value_of names self.now) }
@@ -84,7 +85,7 @@ impl<'a> StoredValue<'a> {
         }
     }
 
-    /// How many bits the value takes.
+    /// The size of the value in bits.
     pub fn size(&self) -> u64
         ensures { (names : Names) → start_of (value_of names self.now) + result ≡ end_of (value_of names self.now) }
     {
@@ -108,7 +109,7 @@ impl<'a> StoredValue<'a> {
         }
     }
 
-    // The number of an integer or an offset, whose type has a sign or not.
+    // The number of an integer or an offset, whose type is signed or not.
     #[inline(always)]
     fn number_as(&self, signed: bool) -> i128
         requires signed { (names : Names) → signed ≡ signed_of (label_of (value_of names self.now)) }
@@ -122,7 +123,7 @@ impl<'a> StoredValue<'a> {
         }
     }
 
-    /// The number of an integer, the magnitude of an offset, else 0.
+    /// The number of an integer, or the magnitude of an offset; 0 for other values.
     pub fn number(&self) -> i128
         ensures { (names : Names) → result ≡ number_of (label_of (value_of names self.now)) }
     {
@@ -133,7 +134,7 @@ impl<'a> StoredValue<'a> {
         }
     }
 
-    /// Whether the type of an integer or of an offset's magnitude has a sign, else false.
+    /// Whether the type of an integer or of an offset's magnitude is signed; false for other values.
     pub fn signed(&self) -> bool
         ensures { (names : Names) → result ≡ signed_of (label_of (value_of names self.now)) }
     {
@@ -144,7 +145,7 @@ impl<'a> StoredValue<'a> {
         }
     }
 
-    /// The number of an integer or an offset, with its type.
+    /// The number of an integer or an offset, with its type; None for other values.
     #[inline(always)]
     pub fn scalar(&self) -> Option<Scalar>
         ensures is { (names : Names) → option_map scalar_label result ≡ scalar_in (label_of (value_of names self.now)) }
@@ -165,7 +166,7 @@ impl<'a> StoredValue<'a> {
         }
     }
 
-    /// The width in bits of an integer or of an offset's magnitude, else 0.
+    /// The width in bits of an integer or of an offset's magnitude, 1 to 64; 0 for other values.
     pub fn width(&self) -> u8
         ensures { (names : Names) → result ≡ width_of (label_of (value_of names self.now)) }
     {
@@ -176,7 +177,7 @@ impl<'a> StoredValue<'a> {
         }
     }
 
-    /// The unit of an offset in bits, else 0.
+    /// The unit of an offset in bits; 0 for other values.
     pub fn unit(&self) -> u32
         ensures { (names : Names) → result ≡ unit_of (label_of (value_of names self.now)) }
     {
@@ -186,7 +187,7 @@ impl<'a> StoredValue<'a> {
         }
     }
 
-    /// The bytes of a text without its final 0, else none.
+    /// The bytes of a text without its final 0; empty for other values.
     pub fn bytes(&self) -> &'a [u8]
         ensures { (names : Names) → result.now ≡ bytes_of (label_of (value_of names self.now)) }
     {
@@ -200,14 +201,15 @@ impl<'a> StoredValue<'a> {
         }
     }
 
-    /// The number of elements of an array, of declared fields of a struct, absent ones too; 1 for a union, else 0.
+    /// The number of an array's elements or of a struct's declared fields, absent ones too; 1 for a union, 0 for other
+    /// values.
     pub fn len(&self) -> usize
         ensures { (names : Names) → result ≡ member_count (members_of (value_of names self.now)) }
     {
         self.count_linked(self.links(), self.packed())
     }
 
-    /// The element or field at a place, the alternative taken at place 0; nothing for an absent field and past the end.
+    /// The element or field at a place, or a union's alternative at place 0. None for an absent field and past the end.
     pub fn child(&self, i: usize) -> Option<StoredValue<'a>>
         ensures part { (names : Names) → option_map (value_of names) result ≡ member_at (members_of (value_of names self.now)) i }
         ensures below { IfSome result (λ c. place_rank c.place < place_rank self.now.place) }
@@ -215,7 +217,7 @@ impl<'a> StoredValue<'a> {
         self.linked(self.links(), self.packed(), i)
     }
 
-    /// The links to the parts, for a walk over them.
+    /// The links to the parts, to walk over them.
     pub(crate) fn links(&self) -> &'a [Link]
         ensures { result.now ≡ place_links self.now.store.now.slots self.now.place }
     {
@@ -244,7 +246,7 @@ impl<'a> StoredValue<'a> {
         }
     }
 
-    /// The type of the parts and the bytes that they are, where they are packed integers of a byte each.
+    /// The type of the parts and their bytes, where they are packed integers of one byte each.
     pub(crate) fn byte_row(&self) -> Option<(IntegerType, &'a [u8])>
         ensures { (names : Names) → IfSome result (λ row. AreBytesOf row.0 row.1.now (value_of names self.now)) }
     {
@@ -261,7 +263,7 @@ impl<'a> StoredValue<'a> {
         }
     }
 
-    /// How many packed numbers are the parts, for a walk over them.
+    /// The number of parts that are packed numbers, to walk over them.
     pub(crate) fn packed(&self) -> usize
         ensures { result ≡ place_packed self.now.store.now.slots self.now.place }
     {
@@ -277,7 +279,8 @@ impl<'a> StoredValue<'a> {
         }
     }
 
-    /// How many parts there are, as [`StoredValue::len`] tells it, by links and packed numbers that were found before.
+    /// The number of parts, as [`StoredValue::len`] returns it. The caller has found the links and packed numbers
+    /// already.
     pub(crate) fn count_linked(&self, links: &[Link], packed: usize) -> usize
         requires links { links.now ≡ place_links self.now.store.now.slots self.now.place }
         requires packed { packed ≡ place_packed self.now.store.now.slots self.now.place }
@@ -286,12 +289,13 @@ impl<'a> StoredValue<'a> {
         let Place::Node(at) = self.place else {
             return 0;
         };
-        // Nothing of the node is read when this runs: that its parts are these is all that is needed of it.
+        // Nothing of the node is read at run time. The call only proves that these are its parts.
         let _node = self.store.node_at(at);
         if packed > 0 { packed } else { links.len() }
     }
 
-    /// The part at a place, as [`StoredValue::child`] tells it, by links and packed numbers that were found before.
+    /// The part at a place, as [`StoredValue::child`] returns it. The caller has found the links and packed numbers
+    /// already.
     pub(crate) fn linked(&self, links: &[Link], packed: usize, i: usize) -> Option<StoredValue<'a>>
         requires links { links.now ≡ place_links self.now.store.now.slots self.now.place }
         requires packed { packed ≡ place_packed self.now.store.now.slots self.now.place }
@@ -336,7 +340,7 @@ impl<'a> StoredValue<'a> {
         }
     }
 
-    /// The alternative that a union took.
+    /// The number of the alternative of a union that matched, counted from 0; None for other values.
     pub fn taken(&self) -> Option<u16>
         ensures { (names : Names) → result ≡ taken_of (label_of (value_of names self.now)) }
     {

@@ -13,7 +13,7 @@ use crate::stored::StoredValue;
 pub use members::Members;
 use pickle_types::view::Node;
 
-/// What sort of value one is.
+/// The kind of a value.
 #[derive(Clone, Copy, Debug, PartialEq, Eq)]
 pub enum Kind {
     Integer,
@@ -24,7 +24,7 @@ pub enum Kind {
     Union,
 }
 
-/// A mapped value, as a store holds it and with the names of its table. It copies nothing.
+/// A reference to a mapped value of a store, with the names of its table. It copies nothing.
 #[derive(Clone, Copy)]
 pub struct ValueRef<'a> {
     stored: StoredValue<'a>,
@@ -54,63 +54,64 @@ impl<'a> ValueRef<'a> {
         self.stored.start()
     }
 
-    /// How many bits the value takes, from its start to its end.
+    /// The size of the value in bits, from its start to its end.
     pub fn size(&self) -> u64
         ensures { result ≡ end_of (value_shown self.now) - start_of (value_shown self.now) }
     {
         self.stored.size()
     }
 
-    /// The number of an integer, the magnitude of an offset, else 0.
+    /// The number of an integer, or the magnitude of an offset; 0 for other values.
     pub fn number(&self) -> i128
         ensures { result ≡ number_of (label_of (value_shown self.now)) }
     {
         self.stored.number()
     }
 
-    /// Whether the type of an integer or of an offset's magnitude has a sign, else false.
+    /// Whether the type of an integer or of an offset's magnitude is signed; false for other values.
     pub fn signed(&self) -> bool
         ensures { result ≡ signed_of (label_of (value_shown self.now)) }
     {
         self.stored.signed()
     }
 
-    /// The width in bits of an integer or of an offset's magnitude, 1 to 64, else 0.
+    /// The width in bits of an integer or of an offset's magnitude, 1 to 64; 0 for other values.
     pub fn width(&self) -> u8
         ensures { result ≡ width_of (label_of (value_shown self.now)) }
     {
         self.stored.width()
     }
 
-    /// The unit of an offset in bits, else 0.
+    /// The unit of an offset in bits; 0 for other values.
     pub fn unit(&self) -> u32
         ensures { result ≡ unit_of (label_of (value_shown self.now)) }
     {
         self.stored.unit()
     }
 
-    /// The bytes of a text without its final 0, else none.
+    /// The bytes of a text without its final 0; empty for other values.
     pub fn bytes(&self) -> &'a [u8]
         ensures { result.now ≡ bytes_of (label_of (value_shown self.now)) }
     {
         self.stored.bytes()
     }
 
-    /// The number of elements of an array, of declared fields of a struct, absent ones too; 1 for a union, else 0.
+    /// The number of an array's elements or of a struct's declared fields, absent ones too; 1 for a union, 0 for other
+    /// values.
     pub fn len(&self) -> usize
         ensures { result ≡ member_count (members_of (value_shown self.now)) }
     {
         self.stored.len()
     }
 
-    /// The members, for a walk over them: [`Members::get`] gives what [`ValueRef::child`] does.
+    /// The members, to walk over them: [`Members::get`] returns what [`ValueRef::child`] does.
     pub fn members(&self) -> Members<'a>
         ensures { owner_of result ≡ self.now }
     {
         Members::new(*self)
     }
 
-    /// The element or field at a place, the alternative taken at place 0; nothing for an absent field and past the end.
+    /// The element or field at a place, or a union's alternative at place 0. None for an absent field and past the end.
     pub fn child(&self, i: usize) -> Option<ValueRef<'a>>
         ensures member { option_map value_shown result ≡ member_at (members_of (value_shown self.now)) i }
         ensures below { IfSome result (λ c. rank_of c < rank_of self.now) }
@@ -124,7 +125,7 @@ impl<'a> ValueRef<'a> {
         }
     }
 
-    /// The name that a struct or a union is printed with; nothing where its type is nameless, and for all other values.
+    /// The name that a struct or a union is printed with; None where its type is nameless, and for other values.
     pub fn type_name(&self) -> Option<&'a [u8]>
         ensures { option_map (λ name. name.now) result ≡ name_of (label_of (value_shown self.now)) }
     {
@@ -134,7 +135,8 @@ impl<'a> ValueRef<'a> {
         }
     }
 
-    /// The names of the members, looked up once for all of them: [`MemberNames::get`] gives what [`ValueRef::field_name`] does.
+    /// The names of the members, looked up once for all of them: [`MemberNames::get`] returns what
+    /// [`ValueRef::field_name`] does.
     pub fn member_names(&self) -> MemberNames<'a>
         ensures { (place : ℕ) → name_among result place ≡ member_name (label_of (value_shown self.now)) place }
     {
@@ -148,8 +150,8 @@ impl<'a> ValueRef<'a> {
         }
     }
 
-    /// The name of the field at a place of a struct, of the alternative taken at place 0 of a union; nothing for nameless
-    /// fields, for elements and past the end.
+    /// The name of a struct's field at a place, or of a union's alternative at place 0. None for nameless fields, for
+    /// elements and past the end.
     #[inline(always)]
     pub fn field_name(&self, i: usize) -> Option<&'a [u8]>
         ensures { option_map (λ name. name.now) result ≡ member_name (label_of (value_shown self.now)) i }

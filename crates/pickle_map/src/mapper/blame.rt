@@ -1,4 +1,4 @@
-//! Clauses of the types under a watcher, which is told of each that stops the mapping.
+//! Evaluates clauses under a watcher, and reports each clause that stops the mapping.
 
 ghost use Rattle.std.specs.Prelude.{◌≡◌, ◌<◌, ◌≤◌, ◌^◌};
 ghost use Rattle.pickle_types.specs.Table.{optional_term, bound_of};
@@ -13,7 +13,7 @@ use pickle_meaning::extent::Extent;
 use pickle_types::view::{Extent as Bound, Node, Resolved};
 use value_store::store::Store;
 
-/// Checks a constraint, and blames it where it stops.
+/// Checks a constraint, and reports it where it stops.
 #[inline(always)]
 pub fn check<W: Watch>(
     table: &[Node],
@@ -36,7 +36,7 @@ pub fn check<W: Watch>(
     checked
 }
 
-/// Whether a field of a struct is there, by its condition, which is blamed where it stops.
+/// Whether a field of a struct is present, by its condition, which is reported where it stops.
 #[inline(always)]
 pub fn is_there<W: Watch>(
     table: &[Node],
@@ -59,7 +59,7 @@ pub fn is_there<W: Watch>(
     there
 }
 
-/// The bit where a field of a struct starts. Its label is blamed where it stops.
+/// The bit where a field of a struct starts. Its label is reported where it stops.
 #[inline(always)]
 pub fn find_start<W: Watch>(
     table: &[Node],
@@ -84,7 +84,7 @@ pub fn find_start<W: Watch>(
     found
 }
 
-/// How far the innermost array goes. Its bound is blamed where it stops, and the array stops with it.
+/// The extent of the innermost array. Its bound is reported where it stops, and then the array is reported as stopped.
 #[inline(always)]
 pub fn find_extent<W: Watch>(
     table: &[Node],
@@ -108,7 +108,7 @@ pub fn find_extent<W: Watch>(
     extent
 }
 
-/// Blames a clause of a type that may have one.
+/// Reports a clause of a type, if there is one.
 #[inline(always)]
 fn blame_clause<W: Watch>(
     table: &[Node],
@@ -126,7 +126,7 @@ fn blame_clause<W: Watch>(
     }
 }
 
-/// Blames the bound of an array.
+/// Reports the bound of an array.
 #[inline(always)]
 fn blame_bound<W: Watch>(table: &[Node], bound: &Bound, store: &Store, stop: Stop, watch: &mut W)
     requires { IsSoundBound (bound_of bound.now) }

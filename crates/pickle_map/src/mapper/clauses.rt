@@ -1,4 +1,4 @@
-//! What stands beside the types in a pickle: constraints, conditions, labels and bounds.
+//! Evaluates the expressions beside types: constraints, conditions, labels and bounds.
 
 ghost use Rattle.std.specs.Prelude.{◌≡◌, List, ◌<◌, ◌≤◌, ◌^◌, Ok, IfOk};
 ghost use Rattle.pickle_types.specs.declared.node.Node.{Node as TableNode};
@@ -24,8 +24,8 @@ use pickle_types::view::{Extent as Bound, Resolved};
 use value_store::scalar::Scalar;
 use value_store::store::Store;
 
-/// Checks a constraint on the last value of the innermost level; one that is 0 is a Constraint fault. All its faults are
-/// told at `place`, the bit where that value starts.
+/// Checks a constraint on the last value of the innermost frame. A constraint that is 0 is a Constraint fault. All
+/// faults are at `place`, the bit where that value starts.
 pub fn check(
     clause: &Option<Box<Resolved>>,
     store: &Store,
@@ -44,7 +44,7 @@ pub fn check(
     }
 }
 
-/// Whether a field of a struct is there: its condition isn't 0. Faults are told at `start`, the struct's first bit.
+/// Whether a field of a struct is present: its condition isn't 0. Faults are at `start`, the struct's first bit.
 pub fn is_there(
     clause: &Option<Box<Resolved>>,
     store: &Store,
@@ -63,9 +63,9 @@ pub fn is_there(
     }
 }
 
-/// The bit where a field of a struct starts: at `start`, the struct's first bit, in a pinned struct; so many bits behind
-/// `start` as its label says; or at `behind`, where the last field before it that is there ended. A negative label is a
-/// Bounds fault. A label's faults are told at `start`.
+/// The bit where a field of a struct starts. In a pinned struct that is `start`, the struct's first bit. A label counts
+/// its bits from `start`. Otherwise the field starts at `behind`, where the last present field before it ended. A
+/// negative label is a Bounds fault. A label's faults are at `start`.
 #[inline(always)]
 pub fn find_start(
     pinned: bool,
@@ -90,7 +90,7 @@ pub fn find_start(
     }
 }
 
-/// How far an array goes, by its bound. A negative one is a Bounds fault. A bound's faults are told at `start`, the
+/// The extent of an array, by its bound. A negative bound is a Bounds fault. A bound's faults are at `start`, the
 /// array's first bit.
 pub fn find_extent(
     bound: &Bound,
@@ -111,7 +111,7 @@ pub fn find_extent(
     }
 }
 
-/// The bit that a label leads to; its fault is told at `start`.
+/// The bit that a label means. Its fault is at `start`.
 #[inline(never)]
 fn labelled_start(e: &Resolved, store: &Store, start: u128, meter: &mut Meter) -> Result<u128, Stop>
     requires sound { IsSoundTerm (term_of e.now) }
@@ -124,7 +124,7 @@ fn labelled_start(e: &Resolved, store: &Store, start: u128, meter: &mut Meter) -
     behind_start(told(e, store, start, meter)?, start)
 }
 
-/// The number of elements that a bound comes to; its fault is told at `start`.
+/// The number of elements that a bound is. Its fault is at `start`.
 #[inline(never)]
 fn evaluated_count(
     e: &Resolved,
@@ -141,7 +141,7 @@ fn evaluated_count(
     count_of(told(e, store, start, meter)?, start)
 }
 
-/// The number of bits that a bound comes to; its fault is told at `start`.
+/// The number of bits that a bound is. Its fault is at `start`.
 #[inline(never)]
 fn evaluated_size(
     e: &Resolved,
@@ -158,7 +158,7 @@ fn evaluated_size(
     size_of(told(e, store, start, meter)?, start)
 }
 
-/// What operators see of an expression's value; its fault is told at a place.
+/// What matters to an operator about an expression's value. Its fault is at `place`.
 fn told<'a>(
     e: &'a Resolved,
     store: &'a Store,
@@ -179,7 +179,7 @@ fn told<'a>(
     }
 }
 
-/// The truth of an expression; its fault is told at a place. Comparisons of integers that are there are met at a glance.
+/// The truth of an expression. Its fault is at `place`. Comparisons of integers take a fast path.
 #[inline(always)]
 fn truth_told(e: &Resolved, store: &Store, place: u128, meter: &mut Meter) -> Result<bool, Stop>
     requires { IsSoundTerm (term_of e.now) }
@@ -199,7 +199,7 @@ fn truth_told(e: &Resolved, store: &Store, place: u128, meter: &mut Meter) -> Re
     }
 }
 
-/// The truth of an expression's value; its fault is told at a place.
+/// The truth of an expression's value. Its fault is at `place`.
 #[inline(never)]
 fn evaluated_truth(
     e: &Resolved,
@@ -216,7 +216,7 @@ fn evaluated_truth(
     told_truth(told(e, store, place, meter)?, place)
 }
 
-/// Whether a constraint is satisfied.
+/// Fails with a Constraint fault unless the constraint holds.
 fn satisfied(holds: bool, place: u128) -> Result<(), Stop>
     ensures { Ends result (satisfied place (Ok holds)) }
 {
@@ -227,7 +227,7 @@ fn satisfied(holds: bool, place: u128) -> Result<(), Stop>
     }
 }
 
-/// The truth of a value: anything but 0 is true.
+/// The truth of a value: any integer but 0 is true.
 fn told_truth(x: Content<'_>, place: u128) -> Result<bool, Stop>
     ensures { (y : Label) → IsHeld x.entry y → Ends result (kind_at place (truth_of y)) }
 {
@@ -237,7 +237,7 @@ fn told_truth(x: Content<'_>, place: u128) -> Result<bool, Stop>
     }
 }
 
-/// A number that isn't negative.
+/// A number as an unsigned one; None if it is negative.
 fn natural(number: i128) -> Option<u128>
     ensures { result ≡ natural number }
 {
@@ -247,7 +247,7 @@ fn natural(number: i128) -> Option<u128>
     Some(number as u128)
 }
 
-/// The bit that a label leads to.
+/// The bit that a label means, counted from `start`.
 #[tactic(auto, using(crate::proofs::Settling::is_natural, crate::proofs::Settling::is_negative))]
 fn behind_start(x: Content<'_>, start: u128) -> Result<u128, Stop>
     requires content { IsSoundContent x }
@@ -263,7 +263,7 @@ fn behind_start(x: Content<'_>, start: u128) -> Result<u128, Stop>
     }
 }
 
-/// A number of elements.
+/// An extent of that many elements.
 #[tactic(auto, using(crate::proofs::Settling::is_natural, crate::proofs::Settling::is_negative))]
 fn count_of(x: Content<'_>, start: u128) -> Result<Extent, Stop>
     ensures { (y : Label) → IsHeld x.entry y → Ends result (count_of start y) }
@@ -277,7 +277,7 @@ fn count_of(x: Content<'_>, start: u128) -> Result<Extent, Stop>
     }
 }
 
-/// A number of bits.
+/// An extent of that many bits.
 #[tactic(auto, using(crate::proofs::Settling::is_natural, crate::proofs::Settling::is_negative))]
 fn size_of(x: Content<'_>, start: u128) -> Result<Extent, Stop>
     requires content { IsSoundContent x }

@@ -1,4 +1,4 @@
-//! The level that is opened for a value, as a mapping leaves it.
+//! Leaves the frame that was opened for a value.
 
 ghost use Rattle.std.specs.Prelude.{◌<◌, OnErr};
 ghost use Rattle.pickle_map.specs.Framed.{DropsStopped};
@@ -8,7 +8,8 @@ use crate::mapper::stop::Stop;
 use crate::mapper::watch::Watch;
 use value_store::store::Store;
 
-/// Leaves the level that was opened for a value: it has closed as that value, or is given up where its body stopped.
+/// Leaves the frame that was opened for a value: the value has closed it, or the frame is rolled back where the value
+/// stopped.
 #[inline(always)]
 pub(crate) fn leave_level<T, W: Watch>(mapped: &Result<T, Stop>, store: &mut Store, watch: &mut W)
     requires { OnErr mapped.now (1 < level_count store.old) }

@@ -26,7 +26,8 @@ use pickle_types::view::{Node, Part, Shape};
 use value_store::ranges::low_digits;
 
 impl<W: Watch> Mapper<'_, W> {
-    /// Maps the type at a place of the table, which is read as one number, from the bit `start` on, and gives the bit behind it.
+    /// Maps the type at a place of the table, which is read as one number, from the bit `start` on. Returns the bit
+    /// after it.
     pub(crate) fn map_number<S: Space>(
         &mut self,
         at: usize,
@@ -51,7 +52,7 @@ impl<W: Watch> Mapper<'_, W> {
         Ok(start + u64::from(number.width))
     }
 
-    /// Maps an integer from the bit `start` on, and gives the bit behind it.
+    /// Maps an integer from the bit `start` on. Returns the bit after it.
     #[inline(always)]
     pub(crate) fn map_integer<S: Space>(
         &mut self,
@@ -72,7 +73,7 @@ impl<W: Watch> Mapper<'_, W> {
         Ok(start + u64::from(number.width))
     }
 
-    /// Keeps a number as the type at a place of the table, after its own first step.
+    /// Stores a number as the type at a place of the table, after its own first step.
     #[cycle(placing)]
     pub fn place_number(&mut self, at: usize, digits: u64, start: u64) -> Result<(), Stop>
         requires table { IsTable self.old.nodes.now }
@@ -101,7 +102,7 @@ impl<W: Watch> Mapper<'_, W> {
         }
     }
 
-    /// Keeps an integer.
+    /// Stores an integer.
     #[inline(always)]
     fn place_integer(&mut self, number: IntegerType, digits: u64, start: u64) -> Result<(), Stop>
         requires width { IsWidth number }
@@ -116,7 +117,7 @@ impl<W: Watch> Mapper<'_, W> {
         Ok(())
     }
 
-    /// Keeps an offset.
+    /// Stores an offset.
     fn place_offset(
         &mut self,
         number: IntegerType,
@@ -137,7 +138,7 @@ impl<W: Watch> Mapper<'_, W> {
         Ok(())
     }
 
-    /// Keeps an integral struct, whose node is at a place of the table.
+    /// Stores an integral struct, whose node is at a place of the table.
     #[cycle(placing)]
     fn place_integral(
         &mut self,
@@ -166,7 +167,7 @@ impl<W: Watch> Mapper<'_, W> {
         placed
     }
 
-    /// Keeps the fields of an integral struct in its level, and closes it.
+    /// Stores the fields of an integral struct in its frame, and closes it.
     #[cycle(placing)]
     fn integral_body(
         &mut self,
@@ -195,7 +196,7 @@ impl<W: Watch> Mapper<'_, W> {
         Ok(())
     }
 
-    /// Cuts a number of `width` bits into the fields of an integral struct, and keeps them in its level.
+    /// Cuts a number of `width` bits into the fields of an integral struct, and stores them in its frame.
     #[cycle(placing)]
     fn place_fields(
         &mut self,
@@ -225,7 +226,7 @@ impl<W: Watch> Mapper<'_, W> {
         Ok(())
     }
 
-    /// Keeps a field of an integral struct in its level, and checks its constraint.
+    /// Stores a field of an integral struct in its frame, and checks its constraint.
     #[cycle(placing)]
     fn place_part(&mut self, part: &Part, digits: u64, start: u64) -> Result<(), Stop>
         requires table { IsTable self.old.nodes.now }
@@ -251,14 +252,14 @@ impl<W: Watch> Mapper<'_, W> {
     }
 }
 
-/// The fault of a type that is not read as one number, of which a well typed table has none in an integral struct.
+/// The fault of a type that isn't read as one number. A well typed table has none in an integral struct.
 fn no_number(start: u64) -> Stop
     ensures { result ≡ Stop.Fault MapFaultKind.Absent start }
 {
     Stop::Fault(MapFaultKind::Absent, u128::from(start))
 }
 
-/// The first `width` of the `left` binary digits of a number that are left.
+/// The first `width` of the last `left` binary digits of a number.
 pub fn first_digits(digits: u64, left: u8, width: u8) -> u64
     requires left { left ≤ 64 }
     requires width { width ≤ 64 }
@@ -269,7 +270,7 @@ pub fn first_digits(digits: u64, left: u8, width: u8) -> u64
     low_digits(width, u128::from(digits) >> u32::from(behind))
 }
 
-/// How many bits a type takes that is read as one number, else 0.
+/// The width in bits of a type that is read as one number; 0 for other types.
 pub fn width_at(nodes: &[Node], at: usize) -> u8
     requires table { IsTable nodes.now }
     requires at { at < length nodes.now }

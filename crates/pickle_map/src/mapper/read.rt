@@ -9,7 +9,7 @@ use crate::mapper::stop::Stop;
 use bit_space::{BitFault, Meter, Order, Space, read_number};
 use pickle_meaning::faults::MapFaultKind;
 
-/// The binary digits of `width` bits from the bit `start` on, as a number without a sign.
+/// Reads `width` bits from the bit `start` on, as an unsigned number.
 #[tactic(auto, using(crate::proofs::Placing::refusal_stops))]
 #[inline(always)]
 pub fn read_digits<S: Space>(
@@ -35,7 +35,7 @@ pub fn read_digits<S: Space>(
     }
 }
 
-/// Why a refused read stops, whose fault is told at the bit `place`.
+/// The stop of a refused read. Its fault is at the bit `place`.
 #[inline(always)]
 pub fn refusal_at(fault: BitFault, place: u64) -> Stop
     ensures { result ≡ refusal_at fault place }

@@ -20,7 +20,8 @@ use pickle_types::view::{Node, Shape as Type};
 use value_store::store::Store;
 use value_store::store::slots::Shape;
 
-/// What an array of the type at a place of the table is packed as, where the store packs it: integers and offsets.
+/// The packed shape of an array whose element is the type at a place of the table: of integers or offsets, where the
+/// store packs them; otherwise None.
 pub(crate) fn packed_as(nodes: &[Node], element: usize, store: &Store) -> Option<Shape>
     requires table { IsTable nodes.now }
     requires element { element < length nodes.now }
@@ -44,7 +45,7 @@ pub(crate) fn packed_as(nodes: &[Node], element: usize, store: &Store) -> Option
 }
 
 impl<W: Watch> Mapper<'_, W> {
-    /// Maps the elements of an array of packed numbers into its level, and closes it.
+    /// Maps the elements of an array of packed numbers into its frame, and closes it.
     pub(crate) fn row_body<S: Space>(
         &mut self,
         element: usize,
@@ -70,7 +71,8 @@ impl<W: Watch> Mapper<'_, W> {
         Ok(end)
     }
 
-    /// Maps numbers, one after the other, into an array of packed numbers. Its loop has the meter and the store in registers.
+    /// Maps numbers, one after the other, into an array of packed numbers. The loop has the meter and the store in
+    /// registers.
     #[inline(never)]
     fn map_packed<S: Space>(
         &mut self,

@@ -1,11 +1,11 @@
-//! A mapper at work.
+//! The state of a mapping.
 
 use bit_space::Meter;
 use pickle_types::view::Node;
 use value_store::store::Store;
 
-/// What a mapping works with: the nodes of the table that it walks over, the meter that counts for it, the store that it
-/// fills, and who watches it. The space is lent to the calls that read.
+/// The state of a mapping: the nodes of the table that it walks over, the meter that counts for it, the store that it
+/// fills, and its watcher. Calls that read borrow the space.
 #[derive(Drop)]
 pub struct Mapper<'a, W> {
     pub nodes: &'a [Node],

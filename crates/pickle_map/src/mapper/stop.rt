@@ -1,4 +1,4 @@
-//! Why a mapping under way stops.
+//! The reasons that stop a mapping.
 
 ghost use Rattle.std.specs.Prelude.{◌≡◌};
 ghost use Rattle.pickle_map.specs.Stops.{stop_misses, stop_ends};
@@ -8,7 +8,7 @@ use bit_space::{DeviceFault, LimitPassed, Memory};
 use pickle_meaning::extent::Extent;
 use pickle_meaning::faults::MapFaultKind;
 
-/// Why a mapping under way stops: a fault of the type's meaning, at a bit position, or one of the run.
+/// Why a mapping stops: a fault of the type's meaning, at a bit, or a fault of the run.
 #[derive(Clone, Copy, Debug, PartialEq, Eq)]
 pub enum Stop {
     Fault(MapFaultKind, u128),
@@ -42,7 +42,7 @@ impl From<Memory> for Stop {
 }
 
 impl Stop {
-    /// Whether a union tries its next alternative after one that stops so.
+    /// Whether a union tries its next alternative after this stop.
     pub fn misses(self) -> bool
         ensures { result ≡ stop_misses self }
     {
@@ -52,7 +52,7 @@ impl Stop {
         }
     }
 
-    /// Whether an array ends before an element that stops so.
+    /// Whether an array ends before an element that stops in this way.
     pub fn ends(self, extent: Extent) -> bool
         ensures { result ≡ stop_ends extent self }
     {

@@ -1,4 +1,4 @@
-//! Strings.
+//! Maps strings.
 
 ghost use Rattle.std.specs.Prelude.{◌≡◌, ◌+◌, ◌*◌, ◌<◌, ◌≤◌, [], IfOk, IfErr, OnOk};
 ghost use Rattle.bit_space.specs.SpaceView.{known_bits, Keeps};
@@ -18,7 +18,7 @@ use crate::mapper::watch::{Unwatched, Watch};
 use bit_space::{BitFault, Meter, Order, Space, read_number};
 
 impl<W: Watch> Mapper<'_, W> {
-    /// Maps a string from the bit `start` on, and gives the bit behind its final 0.
+    /// Maps a string from the bit `start` on. Returns the bit after its final 0.
     pub(crate) fn map_text<S: Space>(&mut self, start: u64, space: &mut S) -> Result<u64, Stop>
         requires inside { start ≤ 8 * (S.view space.old).len }
         requires open { level_count self.old.store.now ≤ 64 }
@@ -34,7 +34,7 @@ impl<W: Watch> Mapper<'_, W> {
         mapped
     }
 
-    /// Reads the bytes of a string into its level, and closes it. It stands apart, so that its loop has the
+    /// Reads the bytes of a string into its frame, and closes it. It is a separate function, so that its loop has the
     /// meter and the store in registers.
     #[inline(never)]
     fn text_body<S: Space>(&mut self, start: u64, space: &mut S) -> Result<u64, Stop>

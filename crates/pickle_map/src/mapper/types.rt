@@ -1,4 +1,4 @@
-//! The types of a table, over the bits of a space.
+//! Maps the types of a table over the bits of a space.
 
 ghost use Rattle.std.specs.Prelude.{◌≡◌, ◌+◌, ◌*◌, ◌^◌, ◌<◌, ◌≤◌, ◌∷◌, [], map, length, All, IfOk, OnOk};
 ghost use Rattle.pickle_types.specs.Types.{depth};
@@ -27,7 +27,7 @@ use pickle_tree::tree::ByteOrder;
 use pickle_types::view::{Extent as Bound, Field, Node, Part, Resolved, Shape};
 
 impl<W: Watch> Mapper<'_, W> {
-    /// Maps the type at a place of the table from the bit `start` on, and gives the bit behind it.
+    /// Maps the type at a place of the table from the bit `start` on. Returns the bit after it.
     #[cycle(mapping)]
     #[inline(always)]
     pub fn map_type<S: Space>(
@@ -52,7 +52,7 @@ impl<W: Watch> Mapper<'_, W> {
     }
 
     /// Maps the type at a place of the table, whose start is inside the file. Most values are integers: those are
-    /// mapped without one more call, and strings with one less.
+    /// mapped with one call less, and strings too.
     #[cycle(mapping)]
     #[inline(always)]
     fn map_inside<S: Space>(
@@ -123,7 +123,7 @@ impl<W: Watch> Mapper<'_, W> {
         }
     }
 
-    /// Maps a type into the innermost level, and checks the constraint that stands beside it.
+    /// Maps a type into the innermost frame, and checks its constraint.
     #[cycle(mapping)]
     #[inline(always)]
     fn map_checked<S: Space>(
@@ -186,7 +186,8 @@ impl<W: Watch> Mapper<'_, W> {
         mapped
     }
 
-    /// Maps the elements of an array into its level, as a row of packed numbers where the store packs them, and closes it.
+    /// Maps the elements of an array into its frame, as a row of packed numbers where the store packs them, and closes
+    /// it.
     #[cycle(mapping)]
     fn array_body<S: Space>(
         &mut self,
@@ -218,7 +219,7 @@ impl<W: Watch> Mapper<'_, W> {
         Ok(end)
     }
 
-    /// Maps elements, one after the other, into their level.
+    /// Maps elements, one after the other, into their frame.
     #[cycle(mapping)]
     fn map_elements<S: Space>(
         &mut self,
@@ -302,7 +303,7 @@ impl<W: Watch> Mapper<'_, W> {
         mapped
     }
 
-    /// Maps the fields of a struct into its level, and closes it.
+    /// Maps the fields of a struct into its frame, and closes it.
     #[cycle(mapping)]
     fn struct_body<S: Space>(
         &mut self,
@@ -331,7 +332,7 @@ impl<W: Watch> Mapper<'_, W> {
         Ok(end)
     }
 
-    /// Maps fields, one after the other, into their level, and gives their greatest end.
+    /// Maps fields, one after the other, into their frame. Returns their greatest end.
     #[cycle(mapping)]
     fn map_fields<S: Space>(
         &mut self,
@@ -419,7 +420,7 @@ impl<W: Watch> Mapper<'_, W> {
         mapped
     }
 
-    /// Maps an alternative of a union into its level, and closes it.
+    /// Maps an alternative of a union into its frame, and closes it.
     #[cycle(mapping)]
     fn union_body<S: Space>(
         &mut self,
@@ -449,7 +450,7 @@ impl<W: Watch> Mapper<'_, W> {
         Ok(end)
     }
 
-    /// Maps the first alternative that fits into its level, and gives its index and its end.
+    /// Maps the first alternative that matches into its frame. Returns its index and its end.
     #[cycle(mapping)]
     fn map_alternatives<S: Space>(
         &mut self,
@@ -489,7 +490,7 @@ impl<W: Watch> Mapper<'_, W> {
     }
 }
 
-/// The order of a field: its prefix's, or the one around it.
+/// The byte order of a field: its prefix's, or the one around it.
 pub fn ordered(prefix: Option<ByteOrder>, order: Order) -> Order
     ensures { result ≡ ordered prefix order }
 {

@@ -1,4 +1,4 @@
-//! Watchers of a mapping on its way.
+//! Watchers of a mapping.
 
 ghost use Rattle.pickle_types.specs.Sound.{IsSoundTerm};
 ghost use Rattle.pickle_types.specs.Table.{term_of};
@@ -8,30 +8,30 @@ use pickle_meaning::extent::Extent;
 use pickle_types::view::{Node, Resolved};
 use value_store::store::Store;
 
-/// What stands beside the types of a pickle and is evaluated while mapping.
+/// The clauses of a type, which are evaluated while mapping.
 #[derive(Clone, Copy, Debug, PartialEq, Eq)]
 pub enum Clause {
     Constraint,
     Condition,
     Label,
-    /// The bound of an array, as a number of elements.
+    /// The bound of an array, a number of elements.
     Count,
-    /// The bound of an array, as a number of bits.
+    /// The bound of an array, a number of bits.
     Size,
 }
 
-/// What is told of a mapping on its way. A watcher sees it and changes nothing of it.
+/// Receives what a mapping does. A watcher changes nothing of the mapping.
 ///
-/// The arrays, structs, unions and integral structs that the walk is in are nested: each `open` is followed by one `close`
-/// or `stop` of the same one, with all of its parts between the two.
+/// The arrays, structs, unions and integral structs that the walk is in are nested. Each `open` is followed by one
+/// `close` or `stop` of the same one, with all of its parts between the two.
 pub trait Watch {
-    /// The walk goes into an array, struct, union or integral struct, which stands at a place of the table.
+    /// The walk enters an array, struct, union or integral struct, which is at a place of the table.
     fn open(&mut self, at: usize);
 
     /// The next part of the innermost one begins: a field, an element or an alternative.
     fn next(&mut self);
 
-    /// The innermost one is whole.
+    /// The innermost one is complete.
     fn close(&mut self);
 
     /// The innermost one stops, and the walk leaves it.
@@ -41,20 +41,20 @@ pub trait Watch {
     fn blame(&mut self, clause: Clause, e: &Resolved, table: &[Node], store: &Store, stop: Stop)
         requires { IsSoundTerm (term_of e.now) };
 
-    /// The elements of the innermost array end at the bit `end`, which isn't where its extent does.
+    /// The elements of the innermost array end at the bit `end`, past the end of its extent.
     fn outgrow(&mut self, extent: Extent, end: u64, stop: Stop);
 
-    /// The innermost array ends before an element that stops so.
+    /// The innermost array ends before an element that stops with `stop`.
     fn end(&mut self, stop: Stop);
 
-    /// An alternative of the innermost union misses.
+    /// An alternative of the innermost union doesn't match.
     fn miss(&mut self, stop: Stop);
 
-    /// No alternative of the innermost union fits.
+    /// No alternative of the innermost union matches.
     fn refuse(&mut self, stop: Stop);
 }
 
-/// No watcher: each call is nothing.
+/// No watcher: each call does nothing.
 #[derive(Clone, Copy, Debug)]
 pub struct Unwatched;
 

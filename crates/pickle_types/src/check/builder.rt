@@ -1,4 +1,4 @@
-//! What builds a table: it adds the types of declarations, as nodes, under their names.
+//! Builds the table: it adds the types of declarations, as nodes, under their names.
 
 ghost use Rattle.std.specs.Prelude.{◌≡◌, ◌+◌, ◌^◌, ◌<◌, ◌≤◌, ℕ, List, [], ◌∷◌, ◌++◌, length, map, true, false, Ok, None, Some, IfOk, IfErr, IfSome, IsTrue, OnOk, All};
 ghost use Rattle.pickle_tree.specs.Limits.{standard, form_count, fields_form_count, pickle_form_count, IsFormWithin, AreFieldsWithin, AreDeclarationsWithin};
@@ -36,21 +36,21 @@ use pickle_tree::tree;
 use pickle_tree::tree::{Declaration, Expression, Form, Reference, Unit};
 use std::alloc::Global;
 
-/// A node, and how deep its type is.
+/// A node, and the depth of its type.
 #[derive(Clone, Copy)]
 pub struct Found {
     pub node: usize,
     pub depth: u8,
 }
 
-/// The name that a type is printed with, and its place among the declared types.
+/// The name that a type is printed with, and the place that its node will have among the roots.
 #[derive(Clone, Copy)]
 pub struct Title<'n> {
     pub name: Option<&'n [u8]>,
     pub slot: Option<u16>,
 }
 
-/// The types as far as they are built, and the fields that are seen.
+/// The types built so far, and the visible fields.
 #[derive(Drop)]
 pub struct Builder<'n> {
     pub alloc: Global,
@@ -60,7 +60,7 @@ pub struct Builder<'n> {
 }
 
 impl<'n> Builder<'n> {
-    /// No types yet.
+    /// No types.
     pub fn new(alloc: Global) -> Builder<'n>
         ensures ready { IsReady result }
         ensures none { known_types result ≡ [] }
@@ -74,7 +74,7 @@ impl<'n> Builder<'n> {
         }
     }
 
-    /// Gives a type a name that no type has.
+    /// Gives a type a name that no other type has.
     fn add(&mut self, word: &'n [u8], found: Found) -> Result<(), FaultKind>
         requires ready { IsReady self.old }
         requires new { find_type word.now (known_types self.old) ≡ None }
@@ -93,7 +93,7 @@ impl<'n> Builder<'n> {
         Ok(())
     }
 
-    /// Adds integer types under names that are new.
+    /// Adds integer types under new names.
     pub fn predeclare(&mut self, types: &[(&'n [u8], IntegerType)]) -> Result<(), FaultKind>
         requires ready { IsReady self.old }
         requires new { IsTrue (may_add (known_types self.old) types.now) }
@@ -123,7 +123,7 @@ impl<'n> Builder<'n> {
         self.add(word, found)
     }
 
-    /// Adds the type of a declaration, and gives its node.
+    /// Adds the type of a declaration, and returns its node.
     fn declare(
         &mut self,
         slot: Option<u16>,
@@ -147,7 +147,7 @@ impl<'n> Builder<'n> {
         Ok(found.node)
     }
 
-    /// Adds the types of declarations, and gives the nodes of those that are no other names of earlier ones.
+    /// Adds the types of declarations, and returns their nodes. A declaration whose type has a node already adds none.
     pub fn declare_all(&mut self, declarations: &[Declaration<'n>]) -> Result<Vec<usize>, TypeFault>
         requires ready { IsReady self.old }
         requires within { AreDeclarationsWithin standard (map declaration_tree declarations.now) }
@@ -241,7 +241,7 @@ impl<'n> Builder<'n> {
         }
     }
 
-    /// The constraint of a field, which sees the field itself; so does what comes after it, but not in a union.
+    /// The constraint of a field. It sees the field itself, and so does what comes after the field, except in a union.
     fn constraint(
         &mut self,
         place: Place,
@@ -268,7 +268,7 @@ impl<'n> Builder<'n> {
         Ok(constraint)
     }
 
-    /// A field of a type, after others; what comes after it sees it, but not in a union.
+    /// A field of a type, after others. What comes after the field sees it, except in a union.
     fn field_of(
         &mut self,
         place: Place,
@@ -313,7 +313,7 @@ impl<'n> Builder<'n> {
         })
     }
 
-    /// A new node, with the places of its fields where they are many, and the depth of its type.
+    /// Appends a node, with the places of its fields where they are many, and returns it with the depth of its type.
     pub fn push(
         &mut self,
         slot: Option<u16>,
@@ -339,7 +339,7 @@ impl<'n> Builder<'n> {
         Ok(Found { node, depth })
     }
 
-    /// The type of a name, no deeper than there is room for.
+    /// The type of a name. A type deeper than `room` is `TooDeep`.
     fn called_at(&self, room: u8, word: &[u8]) -> Result<Found, FaultKind>
         requires table { IsTable self.now.nodes }
         requires names { AreNamed self.now.nodes self.now.names }
@@ -418,7 +418,7 @@ impl<'n> Builder<'n> {
         self.push(slot, Shape::Offset(t, bits), None, 1)
     }
 
-    /// The node of the type that a form means, no deeper than there is room for.
+    /// The node of the type that a form means. A type deeper than `room` is `TooDeep`.
     #[cycle(types)]
     pub fn type_at(
         &mut self,
@@ -604,7 +604,7 @@ impl<'n> Builder<'n> {
         )
     }
 
-    /// One field, after others; what comes after it sees it, but not in a union.
+    /// One field, after others. What comes after the field sees it, except in a union.
     #[cycle(types)]
     fn field_at(
         &mut self,
@@ -640,7 +640,7 @@ impl<'n> Builder<'n> {
         Ok((field, found.depth))
     }
 
-    /// The fields of a struct or the alternatives of a union, and how deep the deepest is.
+    /// The fields of a struct or the alternatives of a union, and the depth of the deepest.
     #[cycle(types)]
     #[tactic(auto, unfolding(crate::specs::Meaning::fields_meaning))]
     fn fields_at(
@@ -676,7 +676,7 @@ impl<'n> Builder<'n> {
     }
 }
 
-/// A fault in the declaration at a place, counted from 0.
+/// A fault in the declaration at a place. The place is counted from 0.
 fn fault_in(kind: FaultKind, place: usize) -> TypeFault
     requires counted { place + 1 < 2 ^ 64 }
     ensures kind { result.kind ≡ kind }

@@ -21,7 +21,7 @@ use crate::scopes::Scopes;
 use pickle_tree::tree::{Attribute, Expression, Infix, Number, Prefix, Suffix, Target, Unit};
 use std::alloc::Global;
 
-/// Whether the number's type has a width from 1 to 64 bits, and holds its value.
+/// Whether a number's type has a width from 1 to 64 bits and holds its value.
 fn is_held(n: Number) -> bool
     ensures { result ≡ is_held n }
 {
@@ -32,7 +32,7 @@ fn is_held(n: Number) -> bool
     bits == 64 || n.value < 1u64 << bits
 }
 
-/// A number, where its type holds it.
+/// A number. It is `Width` where its type doesn't hold it.
 fn number(n: Number) -> Result<Meant, FaultKind>
     ensures gives { (nodes : List Node) → Gives (meant_of nodes) result (number_meant n) }
     ensures sound { (nodes : List Node) → IfOk result (IsSoundMeant nodes) }
@@ -74,7 +74,7 @@ fn text(alloc: Global, bytes: &[u8]) -> Result<Meant, FaultKind>
     })
 }
 
-/// A name is the open level of the field that is meant, counted from the innermost, and its place there.
+/// The field that a name means: its frame, counted from the innermost, and its place in that frame.
 fn name(seen: &Scopes, levels: u8, word: &[u8]) -> Result<Meant, FaultKind>
     requires below { (n : ℕ) × AreBelow n levels seen.now }
     ensures gives { (nodes : List Node) → Gives (meant_of nodes) result (resolved (views_of nodes seen.now) levels word.now) }
@@ -133,7 +133,7 @@ fn infix(alloc: Global, nodes: &Nodes, op: Infix, x: Meant, y: Meant) -> Result<
     }
 }
 
-/// A choice between x and y by z, which is an integer.
+/// A choice between x and y by the integer z.
 fn select(alloc: Global, nodes: &Nodes, z: Meant, x: Meant, y: Meant) -> Result<Meant, FaultKind>
     requires table { IsTable nodes.now }
     requires condition { IsSoundMeant nodes.now z }
@@ -156,7 +156,7 @@ fn select(alloc: Global, nodes: &Nodes, z: Meant, x: Meant, y: Meant) -> Result<
     }
 }
 
-/// That it is an integer, and of which type.
+/// The type of an integer; `Mismatch` for anything else.
 pub fn integer(nodes: &Nodes, sort: Sort) -> Result<IntegerType, FaultKind>
     requires table { IsTable nodes.now }
     requires inside { IsInside nodes.now sort }
@@ -169,7 +169,7 @@ pub fn integer(nodes: &Nodes, sort: Sort) -> Result<IntegerType, FaultKind>
     }
 }
 
-/// The element of an array x at y, of the type of a node.
+/// The element of an array x at y. `element` is the node of its type.
 fn index(
     alloc: Global,
     nodes: &Nodes,
@@ -210,7 +210,7 @@ fn select_field(
     })
 }
 
-/// The number of an array's elements.
+/// The number of elements of an array.
 fn length(alloc: Global, nodes: &Nodes, x: Meant) -> Result<Meant, FaultKind>
     requires table { IsTable nodes.now }
     requires sound { IsSoundMeant nodes.now x }
@@ -229,7 +229,7 @@ fn length(alloc: Global, nodes: &Nodes, x: Meant) -> Result<Meant, FaultKind>
     }
 }
 
-/// The size of a path's value.
+/// The size of a path's value, in bits.
 fn size(alloc: Global, path: bool, x: Meant) -> Result<Meant, FaultKind>
     ensures gives { (nodes : List Node) → Gives (meant_of nodes) result (size_of path (meant_of nodes x)) }
     ensures sound { (nodes : List Node) → IsSoundMeant nodes x → IfOk result (IsSoundMeant nodes) }
@@ -249,7 +249,7 @@ fn size(alloc: Global, path: bool, x: Meant) -> Result<Meant, FaultKind>
     })
 }
 
-/// An offset of an integer's magnitude.
+/// An offset whose magnitude is an integer.
 fn in_unit(alloc: Global, nodes: &Nodes, x: Meant, unit: Unit) -> Result<Meant, FaultKind>
     requires table { IsTable nodes.now }
     requires sound { IsSoundMeant nodes.now x }
@@ -339,7 +339,7 @@ fn is_path(e: &Expression<'_>) -> bool
     }
 }
 
-/// An expression with its names resolved, and what it is, where these fields are seen and so many levels are open.
+/// An expression with its names resolved, and its sort, where these fields are visible and `levels` frames are open.
 #[tactic(auto, unfolding(crate::specs::Expressions::typed))]
 pub fn typed(
     alloc: Global,

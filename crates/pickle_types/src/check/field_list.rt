@@ -1,4 +1,4 @@
-//! The fields of one type, found by the numbers of their names.
+//! The fields of one type, and the look-up of a field by the number of its name.
 
 ghost use Rattle.std.specs.Prelude.{◌≡◌, ◌++◌, ◌∷◌, [], ℕ, List, length, Ok, IfOk, IfErr, IfSome, OnOk};
 ghost use Rattle.pickle_types.specs.Table.{name_of};
@@ -16,24 +16,24 @@ use crate::number_hasher::ByNumber;
 use indexmap::IndexMap;
 use std::alloc::Global;
 
-/// The most fields of a list whose names are found one by one. It is faster up to there, and takes no memory.
+/// Up to this many fields are searched one by one. That is faster for few, and takes no memory.
 const FEW: usize = 32;
 
 /// The places of fields, by the numbers of their names, in the order of the fields.
 pub type FieldPlaces = IndexMap<NameId, usize, ByNumber>;
 
-/// Fields of a struct or alternatives of a union, no two of one name.
+/// Fields of a struct or alternatives of a union. No two have the same name.
 #[derive(Drop)]
 pub struct FieldList {
     fields: Vec<Field>,
-    /// The places of many fields.
+    /// The places of the fields by their names, where they are many.
     places: Option<FieldPlaces>,
 }
 
 impl FieldList {
-    // What lists and their places take of the stack stays out of the frames of types in types: these calls are never inlined.
+    // Lists and their places stay out of the stack frames of nested types: these calls are never inlined.
 
-    /// No fields, and room for so many.
+    /// An empty list with capacity for `count` fields.
     #[inline(never)]
     pub fn with_capacity(alloc: Global, count: usize) -> Result<FieldList, FaultKind>
         ensures none { IfOk result (λ l. l.fields.items ≡ []) }
@@ -49,7 +49,7 @@ impl FieldList {
         Ok(FieldList { fields, places })
     }
 
-    /// How many fields there are.
+    /// The number of fields.
     pub fn len(&self) -> usize
         ensures { result ≡ length self.now.fields.items }
     {
@@ -70,7 +70,7 @@ impl FieldList {
         }
     }
 
-    /// One more field. No other has its name.
+    /// Appends a field. Its name has to be new.
     #[inline(never)]
     pub fn push<'n>(
         &mut self,
@@ -100,7 +100,7 @@ impl FieldList {
         Ok(())
     }
 
-    /// The fields, and the places of many.
+    /// The fields, and their places where they are many.
     pub fn into_parts(self) -> (Vec<Field>, Option<FieldPlaces>)
         ensures fields { result.0.items ≡ self.fields.items }
     {

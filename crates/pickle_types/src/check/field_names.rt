@@ -41,7 +41,7 @@ fn part_place(parts: &[Part], word: &[u8]) -> Option<usize>
     None
 }
 
-/// The place of the first field or alternative of that name in a type.
+/// The place of the first field or alternative of that name in a type's shape.
 pub fn shape_place(shape: &Shape, word: &[u8]) -> Option<usize>
     ensures { result ≡ place_named word.now (shape_names shape.now) }
 {
@@ -53,7 +53,7 @@ pub fn shape_place(shape: &Shape, word: &[u8]) -> Option<usize>
     }
 }
 
-/// Whether the field or alternative at a place of a type has that name.
+/// Whether the field or alternative at a place of a shape has that name.
 pub fn is_called_at(shape: &Shape, place: usize, word: &[u8]) -> bool
     ensures { result ≡ true → slice_get (shape_names shape.now) place ≡ Some (Some word.now) }
 {

@@ -20,21 +20,21 @@ use pickle_tree::tree;
 use pickle_tree::tree::{ByteOrder, Clauses, Expression, Form};
 use std::alloc::Global;
 
-/// The type of a field as it is written.
+/// The written type of a field.
 pub fn form_in<'a, 't>(field: &'a tree::Field<'t>) -> &'a Form<'t>
     ensures { form_tree result.now ≡ (field_tree field.now).form }
 {
     &field.form
 }
 
-/// The name of a field, where it has one.
+/// The name of a field, if it has one.
 pub fn name_in<'t>(field: &tree::Field<'t>) -> Option<&'t [u8]>
     ensures { bytes_now result ≡ (field_tree field.now).parts.name }
 {
     field.name
 }
 
-/// The byte order that a field's prefix names, where it has one.
+/// The byte order that a field's prefix names, if it has one.
 pub fn order_in(field: &tree::Field<'_>) -> Option<ByteOrder>
     ensures { result ≡ (field_tree field.now).parts.order }
 {
@@ -50,7 +50,7 @@ fn lent<'a, 't>(e: &'a Option<Box<Expression<'t>>>) -> Option<&'a Expression<'t>
     }
 }
 
-/// The label of a field, where it has one.
+/// The label of a field, if it has one.
 pub fn label_in<'a, 't>(field: &'a tree::Field<'t>) -> Option<&'a Expression<'t>>
     ensures { borrowed_tree result ≡ (field_tree field.now).parts.label }
 {
@@ -60,7 +60,7 @@ pub fn label_in<'a, 't>(field: &'a tree::Field<'t>) -> Option<&'a Expression<'t>
     }
 }
 
-/// The condition of a field, where it has one.
+/// The condition of a field, if it has one.
 pub fn condition_in<'a, 't>(field: &'a tree::Field<'t>) -> Option<&'a Expression<'t>>
     ensures { borrowed_tree result ≡ (field_tree field.now).parts.condition }
 {
@@ -70,7 +70,7 @@ pub fn condition_in<'a, 't>(field: &'a tree::Field<'t>) -> Option<&'a Expression
     }
 }
 
-/// The constraint of a field, where it has one.
+/// The constraint of a field, if it has one.
 pub fn constraint_in<'a, 't>(field: &'a tree::Field<'t>) -> Option<&'a Expression<'t>>
     ensures { borrowed_tree result ≡ (field_tree field.now).parts.constraint }
 {
@@ -81,7 +81,7 @@ pub fn constraint_in<'a, 't>(field: &'a tree::Field<'t>) -> Option<&'a Expressio
     }
 }
 
-/// Whether a field may stand here, which has a width of bits or not.
+/// Whether a place allows a field. `bits` says whether the field's type has a width in bits.
 fn may_stand(place: Place, bits: bool, field: &tree::Field<'_>) -> bool
     ensures { result ≡ may_stand place bits (field_tree field.now).parts }
 {
@@ -100,7 +100,7 @@ fn may_stand(place: Place, bits: bool, field: &tree::Field<'_>) -> bool
     }
 }
 
-/// That a field may stand here, which has a width of bits or not.
+/// Fails with `NotHere` where the place doesn't allow the field. `bits` says whether its type has a width in bits.
 pub fn stand(place: Place, bits: bool, field: &tree::Field<'_>) -> Result<(), FaultKind>
     ensures { Gives (λ u. u) result (if_here (may_stand place bits (field_tree field.now).parts)) }
 {
@@ -111,7 +111,7 @@ pub fn stand(place: Place, bits: bool, field: &tree::Field<'_>) -> Result<(), Fa
     }
 }
 
-/// That no earlier field has this name.
+/// Fails with `DuplicateField` where an earlier field has this name.
 #[tactic(auto, unfolding(crate::specs::Meaning::fresh))]
 pub fn fresh(names: &Names, name: Option<&[u8]>, fields: &FieldList) -> Result<(), FaultKind>
     requires { IsFieldList (words_in names.now) fields.now }
@@ -128,14 +128,14 @@ pub fn fresh(names: &Names, name: Option<&[u8]>, fields: &FieldList) -> Result<(
     }
 }
 
-/// The place of the fields of a struct, which is pinned or not.
+/// The place of the fields of a struct, pinned or not.
 pub fn struct_place(pinned: bool) -> Place
     ensures { result ≡ struct_place pinned }
 {
     if pinned { Place::Pinned } else { Place::Struct }
 }
 
-/// The place of a field in its level, after others: an alternative is alone in it.
+/// The place of a field in its frame, after `before` others. An alternative is alone in its frame.
 pub fn place_in(place: Place, before: usize) -> usize
     ensures { result ≡ place_in place before }
 {
@@ -145,7 +145,7 @@ pub fn place_in(place: Place, before: usize) -> usize
     }
 }
 
-/// A copy of a name, where there is one.
+/// A copy of a name, if there is one.
 pub fn copied(alloc: Global, name: Option<&[u8]>) -> Result<Option<Name>, FaultKind>
     ensures ok { IfOk result (λ x. name_of x ≡ bytes_now name.entry) }
     ensures err { IfErr result (λ e. e ≡ FaultKind.Memory) }
@@ -156,7 +156,7 @@ pub fn copied(alloc: Global, name: Option<&[u8]>) -> Result<Option<Name>, FaultK
     }
 }
 
-/// How many bits the fields of an integral struct have together.
+/// The sum of the widths of an integral struct's fields, in bits.
 pub fn total_width(nodes: &Nodes, fields: &[Field]) -> u128
     requires table { IsTable nodes.now }
     requires below { FieldsBelow (length nodes.now) fields.now }
@@ -171,7 +171,7 @@ pub fn total_width(nodes: &Nodes, fields: &[Field]) -> u128
     total
 }
 
-/// A field that has neither a label nor a condition.
+/// Turns a field without a label and a condition to a part.
 fn part_from(field: Field) -> Part
     ensures { result ≡ part_of field }
 {
@@ -191,7 +191,7 @@ fn part_from(field: Field) -> Part
     }
 }
 
-/// Fields that have neither labels nor conditions.
+/// Turns fields without labels and conditions to parts.
 pub fn parts_from(alloc: Global, fields: Vec<Field>) -> Result<Vec<Part>, FaultKind>
     ensures ok { IfOk result (λ ps. ps.items ≡ map part_of fields.items) }
     ensures err { IfErr result (λ e. e ≡ FaultKind.Memory) }

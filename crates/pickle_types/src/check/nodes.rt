@@ -1,4 +1,4 @@
-//! The nodes of a table that is being built.
+//! The nodes of a table while it is built.
 
 ghost use Rattle.std.specs.Prelude.{◌≡◌, ◌<◌, ◌++◌, ◌∷◌, [], List, length, Some, slice_get, IfErr, IfSome, OnOk, OnErr};
 ghost use Rattle.std.specs.Coded.{codes};
@@ -15,11 +15,11 @@ use std::alloc::Global;
 use std::collections::BTreeMap;
 use std::marker::Model;
 
-/// Nodes, each found by its index, and their fields by their names.
+/// The nodes, each found by its index, and the places of their fields by name.
 #[derive(Drop)]
 pub struct Nodes {
     nodes: Vec<Node>,
-    /// The places of a node's fields by the numbers of their names, where it has many.
+    /// For each node that has many fields, the places of the fields by the numbers of their names.
     places: BTreeMap<usize, FieldPlaces>,
 }
 
@@ -34,7 +34,7 @@ impl Model for Nodes {
 }
 
 impl Nodes {
-    /// No nodes yet.
+    /// No nodes.
     pub fn new(alloc: Global) -> Nodes
         ensures { result ≡ [] }
     {
@@ -44,14 +44,14 @@ impl Nodes {
         }
     }
 
-    /// How many nodes there are.
+    /// The number of nodes.
     pub fn len(&self) -> usize
         ensures { result ≡ length self.now }
     {
         self.nodes.len()
     }
 
-    /// The node at an index below their number.
+    /// The node at an index. The index is less than the number of nodes.
     pub fn node(&self, i: usize) -> &Node
         requires inside { i < length self.now }
         ensures { slice_get self.now i ≡ Some result.now }
@@ -59,7 +59,7 @@ impl Nodes {
         &self.nodes[i]
     }
 
-    /// The place that is kept for a node's field of that name.
+    /// The stored place of a node's field of that name.
     fn kept_place(&self, names: &Names, i: usize, word: &[u8]) -> Option<usize>
         ensures { IfSome result (λ _. (node : Node) → slice_get self.now i ≡ Some node → AreDistinct (shape_names node.shape)) }
     {
@@ -81,7 +81,7 @@ impl Nodes {
         shape_place(shape, word)
     }
 
-    /// One more node, with the places of its fields where they are many.
+    /// Appends a node, with the places of its fields where they are many.
     pub fn push(&mut self, node: Node, places: Option<FieldPlaces>) -> Result<(), FaultKind>
         requires { IfSome places (λ _. AreDistinct (shape_names node.shape)) }
         ensures ok { OnOk result (self.new ≡ self.old ++ node ∷ []) }
@@ -102,7 +102,7 @@ impl Nodes {
         }
     }
 
-    /// The nodes, without the places of their fields.
+    /// The nodes alone. The places of their fields are dropped.
     pub fn into_nodes(self) -> Vec<Node>
         ensures { result.items ≡ self }
     {

@@ -1,4 +1,4 @@
-//! What operators make of the types of their operands.
+//! The types that operators give, from the types of their operands.
 
 ghost use Rattle.std.specs.Prelude.{◌≡◌, ◌<◌, IfSome};
 ghost use Rattle.pickle_types.specs.Sound.{IsWidth, IsSoundScalar, IsSoundOperand};
@@ -7,14 +7,14 @@ ghost use Rattle.pickle_types.specs.Operators.{common, greatest_divisor, arithme
 use crate::integer::IntegerType;
 use pickle_tree::tree::{Infix, Prefix};
 
-/// The type of a number: an integer's, or an offset's magnitude and unit in bits.
+/// The type of a number: an integer type, or an offset's integer type and unit in bits.
 #[derive(Clone, Copy, PartialEq, Eq, Debug)]
 pub enum Scalar {
     Integer(IntegerType),
     Offset(IntegerType, u32),
 }
 
-/// What an operator sees of its operand's type.
+/// What matters to an operator about its operand's type.
 #[derive(Clone, Copy, PartialEq, Eq, Debug)]
 pub enum Operand {
     Number(Scalar),
@@ -25,13 +25,13 @@ pub enum Operand {
     Other,
 }
 
-/// The type of what is true or false.
+/// The type of a truth value.
 const TRUTH: Scalar = Scalar::Integer(IntegerType {
     width: 32,
     signed: true,
 });
 
-/// The type to which two integers are brought: of the greater width, and unsigned if either is.
+/// The common type of two integers: it has the greater width, and is unsigned if either is.
 fn common(a: IntegerType, b: IntegerType) -> IntegerType
     ensures { result ≡ common a b }
 {
@@ -41,7 +41,7 @@ fn common(a: IntegerType, b: IntegerType) -> IntegerType
     }
 }
 
-/// The greatest number of bits that divides both units, by Euclid's algorithm.
+/// The greatest common divisor of two units in bits, by Euclid's algorithm.
 pub fn greatest_divisor(a: u32, b: u32) -> u32
     ensures is { result ≡ greatest_divisor a b }
     ensures some { 0 < a → 0 < result }
@@ -142,7 +142,7 @@ fn between_numbers(op: Infix, a: Scalar, b: Scalar) -> Option<Scalar>
     }
 }
 
-/// The type of an operator's result, where its operands may have these types.
+/// The type of an infix operator's result; None where its operands may not have these types.
 pub fn between(op: Infix, a: Operand, b: Operand) -> Option<Scalar>
     ensures { result ≡ between op a b }
 {
@@ -156,7 +156,7 @@ pub fn between(op: Infix, a: Operand, b: Operand) -> Option<Scalar>
     }
 }
 
-/// The type of a prefix operator's result, where its operand may have this type.
+/// The type of a prefix operator's result; None where its operand may not have this type.
 pub fn before(op: Prefix, operand: Operand) -> Option<Scalar>
     ensures { result ≡ before op operand }
 {
@@ -168,7 +168,7 @@ pub fn before(op: Prefix, operand: Operand) -> Option<Scalar>
     }
 }
 
-/// The type of a choice between two values, where they may have these types.
+/// The type of a choice between two values; None where they may not have these types.
 pub fn choice(a: Operand, b: Operand) -> Option<Scalar>
     ensures { result ≡ choice a b }
 {
@@ -189,7 +189,7 @@ fn is_same(a: IntegerType, b: IntegerType) -> bool
 }
 
 impl Scalar {
-    /// The type of an integer; of an offset there is none.
+    /// The integer type; None for an offset.
     pub fn integer(self) -> Option<IntegerType>
         ensures is { result ≡ integer_in self }
         ensures wide { IsSoundScalar self → IfSome result IsWidth }
@@ -202,7 +202,7 @@ impl Scalar {
 }
 
 impl Operand {
-    /// The integer or offset that an operand is, where it is one.
+    /// The integer or offset type of an operand; None for any other operand.
     pub fn number(self) -> Option<Scalar>
         ensures { result ≡ number_in self }
     {
@@ -212,7 +212,7 @@ impl Operand {
         }
     }
 
-    /// The type of an operand that is an integer, where it is one.
+    /// The integer type of an operand; None for any other operand.
     pub fn integer(self) -> Option<IntegerType>
         ensures is { result ≡ integer_operand self }
         ensures wide { IsSoundOperand self → IfSome result IsWidth }

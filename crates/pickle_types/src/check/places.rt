@@ -1,12 +1,12 @@
-//! Where a field may stand.
+//! The places that a field may be in.
 
-/// What a field is a part of.
+/// The type that a field is a part of.
 #[derive(Clone, Copy, PartialEq, Eq, Debug)]
 pub enum Place {
     Struct,
-    /// A struct whose fields all begin where it begins.
+    /// A pinned struct: all its fields begin where the struct begins.
     Pinned,
-    /// A struct that is read as one integer.
+    /// An integral struct: it is read as one integer.
     Integral,
     Union,
 }

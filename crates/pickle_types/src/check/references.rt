@@ -1,4 +1,4 @@
-//! Types that are named by references and units.
+//! Resolves the types that references and units name.
 
 ghost use Rattle.std.specs.Prelude.{◌≡◌, ◌<◌, ◌≤◌, ℕ, List, length, Ok, IfOk, IfErr};
 ghost use Rattle.pickle_tree.specs.Tree.{reference_tree, target_tree};
@@ -15,7 +15,7 @@ use crate::integer::IntegerType;
 use crate::names::{Names, find_name};
 use pickle_tree::tree::{Reference, Target, Unit};
 
-/// An integer type of a width from 1 to 64 bits.
+/// An integer type. A width outside 1 to 64 bits is `Width`.
 pub fn in_range(signed: bool, width: u64) -> Result<IntegerType, FaultKind>
     ensures is { result ≡ in_range signed width }
     ensures wide { IfOk result IsWidth }
@@ -30,7 +30,7 @@ pub fn in_range(signed: bool, width: u64) -> Result<IntegerType, FaultKind>
     }
 }
 
-/// What an operator sees of the type that a reference names.
+/// What matters to an operator about the type that a reference names.
 fn operand_referred(
     names: &Names,
     nodes: &Nodes,
@@ -69,7 +69,7 @@ pub fn integer_referred(
     }
 }
 
-/// The bits of a unit, from 1 to 4,294,967,295.
+/// The bits of a unit. A unit outside 1 to 4,294,967,295 bits is `Width`.
 pub fn unit_bits(unit: Unit) -> Result<u32, FaultKind>
     ensures is { result ≡ unit_bits unit }
     ensures some { IfOk result (λ n. 1 ≤ n) }
@@ -87,7 +87,7 @@ pub fn unit_bits(unit: Unit) -> Result<u32, FaultKind>
     }
 }
 
-/// The magnitude's type and the unit of an offset type.
+/// The integer type and the unit of an offset type. The unit is in bits.
 pub fn offset_parts(
     names: &Names,
     nodes: &Nodes,
@@ -105,7 +105,7 @@ pub fn offset_parts(
     Ok((t, bits))
 }
 
-/// The offset type of a magnitude and a unit.
+/// The offset type of an integer type and a unit.
 fn offset_referred(
     names: &Names,
     nodes: &Nodes,

@@ -1,4 +1,4 @@
-//! What an expression is: a text literal, or of a type.
+//! The sort of an expression: a text literal, or a value of a type.
 
 ghost use Rattle.std.specs.Prelude.{◌≡◌, ℕ, ◌<◌, length, slice_get, Some, true, IfOk, IfSome, option_map};
 ghost use Rattle.pickle_types.specs.Types.{PokeType, IntegerOf};
@@ -18,17 +18,17 @@ use crate::names::Names;
 use crate::node::{Field, Part, Resolved, Shape};
 use crate::predeclared::PREDECLARED;
 
-/// What an expression is.
+/// The sort of an expression.
 #[derive(Clone, Copy)]
 pub enum Sort {
     /// A text literal without brackets.
     Text,
     Scalar(Scalar),
-    /// Of the type of a node.
+    /// A value of the type of a node.
     Node(usize),
 }
 
-/// An expression with its names resolved, and what it is.
+/// An expression with its names resolved, and its sort.
 #[derive(Drop)]
 pub struct Meant {
     pub term: Resolved,
@@ -46,7 +46,7 @@ pub fn shape_at<'a>(nodes: &'a Nodes, i: usize) -> &'a Shape
     &nodes.node(i).shape
 }
 
-/// The node of a predeclared type of that width and sign, where there is one. Their nodes are the first.
+/// The node of the predeclared type of that width and sign, if there is one. The predeclared nodes are the first.
 pub fn predeclared_node(nodes: &Nodes, ty: IntegerType) -> Option<usize>
     requires { IsTable nodes.now }
     ensures { IfSome result (λ i. (i < length nodes.now) × (type_of nodes.now i ≡ IntegerOf ty)) }
@@ -80,7 +80,7 @@ fn shape_operand(shape: &Shape) -> Operand
     }
 }
 
-/// What an operator sees of the type of a node.
+/// What matters to an operator about the type of a node.
 pub fn node_operand(nodes: &Nodes, i: usize) -> Operand
     requires table { IsTable nodes.now }
     requires inside { i < length nodes.now }
@@ -90,7 +90,7 @@ pub fn node_operand(nodes: &Nodes, i: usize) -> Operand
     shape_operand(shape_at(nodes, i))
 }
 
-/// What an operator sees of it.
+/// What matters to an operator about a sort.
 pub fn operand_of(nodes: &Nodes, sort: Sort) -> Operand
     requires table { IsTable nodes.now }
     requires inside { IsInside nodes.now sort }
@@ -114,7 +114,7 @@ fn shape_element(shape: &Shape) -> Option<usize>
     }
 }
 
-/// The node of an array's element.
+/// The node of an array's element; None where the sort is no array.
 pub fn element_of(nodes: &Nodes, sort: Sort) -> Option<usize>
     requires table { IsTable nodes.now }
     requires inside { IsInside nodes.now sort }
@@ -167,7 +167,7 @@ fn shape_field(shape: &Shape, place: Option<usize>) -> Result<(usize, usize), Fa
     }
 }
 
-/// The place and the node of a field of that name.
+/// The place and the node of the field of that name.
 pub fn field_of(
     names: &Names,
     nodes: &Nodes,
@@ -197,7 +197,7 @@ fn shape_width(shape: &Shape) -> Option<u8>
     }
 }
 
-/// The width of an integer, an offset or an integral struct.
+/// The width in bits of an integer, an offset or an integral struct; None for other types.
 pub fn width_of(nodes: &Nodes, i: usize) -> Option<u8>
     requires table { IsTable nodes.now }
     requires inside { i < length nodes.now }
@@ -206,7 +206,7 @@ pub fn width_of(nodes: &Nodes, i: usize) -> Option<u8>
     shape_width(shape_at(nodes, i))
 }
 
-/// Whether it is an integer, an offset or an integral struct.
+/// Whether a node is an integer, an offset or an integral struct.
 pub fn has_width(nodes: &Nodes, i: usize) -> bool
     requires table { IsTable nodes.now }
     requires inside { i < length nodes.now }

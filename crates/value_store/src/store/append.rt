@@ -1,14 +1,14 @@
-//! Appends to a vector that has the room.
+//! Appends to a vector that has the capacity.
 ghost use Rattle.std.specs.Prelude.{◌≡◌, ◌+◌, ◌≤◌, ◌++◌, length, vec_len, vec_capacity};
 ghost use Rattle.value_store.specs.declared.store.room.Growth.TheVariants.{Never};
 
 use crate::store::room::{Growth, Room};
 
-/// So many items, at most, are appended one by one, which takes less than a call for them all.
+/// Up to this many items are appended one by one, which is faster than the call that appends many.
 const FEW: usize = 8;
 
-/// Appends items, for which there is room. Of the call for many it is only promised that a vector doesn't shrink, so
-/// where the room never grows all go one by one.
+/// Appends items that the vector has the capacity for. The call that appends many promises only that a vector doesn't
+/// shrink, so a store that never grows appends one by one.
 #[inline(always)]
 pub(super) fn append<T: Copy>(to: &mut Vec<T>, items: &[T], room: Room)
     requires { vec_len to.old + length items.now ≤ vec_capacity to.old }
@@ -25,7 +25,7 @@ pub(super) fn append<T: Copy>(to: &mut Vec<T>, items: &[T], room: Room)
     }
 }
 
-// Appends many items, for which there is room.
+// Appends many items that the vector has the capacity for.
 #[inline(never)]
 fn append_many<T: Copy>(to: &mut Vec<T>, items: &[T])
     requires { vec_len to.old + length items.now ≤ vec_capacity to.old }

@@ -1,4 +1,4 @@
-//! What is made of bytes: texts, and arrays of packed numbers.
+//! Values that are made of bytes: texts, and arrays of packed numbers.
 ghost use Rattle.std.specs.Prelude.{◌≡◌, [], ◌∷◌, Some, length, IsTrue, ◌↔◌, OnOk, OnErr};
 ghost use Rattle.value_store.specs.Keeping.{HoldsLevels, LacksBytes, IsPushed, CannotPush};
 ghost use Rattle.value_store.specs.Slots.{level_count, with_bytes, with_more, bytes_value, AreBytes, AreSome, MayKeep, HasNoNode, GoesOn, KeepsRoom, Regrown};
@@ -9,7 +9,7 @@ use crate::store::slots::{Link, Node, Shape};
 use bit_space::Memory;
 
 impl Store {
-    // Places a value of these bytes that begins at the bit `start`.
+    // Places a value of these bytes, from the bit `start` on.
     #[inline(never)]
     pub(super) fn place_bytes(
         &mut self,
@@ -46,7 +46,7 @@ impl Store {
         Ok(())
     }
 
-    // Places more bytes of a value that has some.
+    // Appends bytes to a value that has some.
     #[inline(always)]
     pub(super) fn append_bytes(&mut self, shape: Shape, more: &[u8]) -> Result<(), Memory>
         requires { GoesOn self.old shape more.now }
@@ -64,7 +64,7 @@ impl Store {
         Ok(())
     }
 
-    // Places one more byte, as `append_bytes` places more: this one without a loop.
+    // Appends one byte, as `append_bytes` does, without a loop.
     #[inline(always)]
     pub(super) fn append_byte(&mut self, shape: Shape, byte: u8) -> Result<(), Memory>
         requires { GoesOn self.old shape (byte ∷ []) }

@@ -1,4 +1,4 @@
-//! Levels that are opened, closed and given up.
+//! Opens, closes and rolls back frames.
 
 ghost use Rattle.std.specs.Prelude.{◌≡◌, ◌+◌, ◌-◌, ◌<◌, ◌≤◌, ◌∷◌, [], length, max, take};
 ghost use Rattle.pickle_meaning.specs.Values.{opened, outer_of, top_of};
@@ -11,7 +11,7 @@ use crate::store::Store;
 use crate::store::slots::Marks;
 
 impl Store {
-    /// Opens a value, which has no parts yet. As many as 64 may be open.
+    /// Opens a value, which has no parts yet. At most 64 values may be open.
     pub fn open_level(&mut self)
         requires { level_count self.old ≤ 64 }
         ensures levels { (names : Names) → levels names self.new ≡ opened (levels names self.old) }
@@ -25,7 +25,7 @@ impl Store {
         self.frames.push(marks);
     }
 
-    /// Closes the innermost open value, and leaves its parts to the one around it.
+    /// Closes the innermost open value. Its parts become parts of the value around it.
     pub(crate) fn lift_level(&mut self)
         ensures levels { (names : Names) → levels names self.new ≡ extended (outer_of (levels names self.old)) (top_of (levels names self.old)) }
         ensures within { HoldsLevels self.new }
@@ -35,7 +35,7 @@ impl Store {
         let _ = self.frames.pop();
     }
 
-    /// Gives up the parts of the innermost open value, which stays open. What they took is free again.
+    /// Rolls back the parts of the innermost open value, which stays open. Their slots are free again.
     pub fn clear_level(&mut self)
         ensures levels { (names : Names) → levels names self.new ≡ opened (outer_of (levels names self.old)) }
         ensures room { KeepsRoom self.old self.new }
@@ -50,7 +50,7 @@ impl Store {
         self.bytes.truncate(marks.bytes);
     }
 
-    /// Gives up the innermost open value with its parts. What they took is free again.
+    /// Rolls back the innermost open value with its parts. Their slots are free again.
     pub fn drop_level(&mut self)
         requires { 1 < level_count self.old }
         ensures levels { (names : Names) → levels names self.new ≡ outer_of (levels names self.old) }

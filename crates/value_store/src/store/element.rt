@@ -14,7 +14,7 @@ use crate::store::row::bytes_for;
 use crate::store::slots::Shape;
 use pickle_types::integer::IntegerType;
 
-// The number that bytes are, the lowest first.
+// The number that bytes are, the lowest byte first.
 #[inline(never)]
 fn bytes_number(bytes: &[u8]) -> u64
     requires { length bytes.now ≤ 8 }
@@ -28,7 +28,7 @@ fn bytes_number(bytes: &[u8]) -> u64
 }
 
 impl Store {
-    /// How many packed numbers of `width` bits each there are.
+    /// The number of packed numbers of `width` bits each in a row.
     pub(crate) fn count_packed(&self, width: u8, row: usize) -> usize
         requires row { IsByteRow self.now.slots row }
         requires width { 1 ≤ width }
@@ -59,7 +59,7 @@ impl Store {
         bytes_number(&bytes[first..first + size])
     }
 
-    /// The number of an element, the magnitude where it is an offset.
+    /// The number of an element, or its magnitude where it is an offset.
     #[inline(never)]
     pub(crate) fn element_number(&self, array: usize, index: usize) -> i128
         requires { IsPlace self.now.slots (Element array index) }
@@ -77,7 +77,7 @@ impl Store {
         }
     }
 
-    /// What an element is, beside its place and its number.
+    /// The shape of an element: what it is without its place and its number.
     #[inline(always)]
     pub(crate) fn element_shape(&self, array: usize, index: usize) -> Shape
         requires { IsPlace self.now.slots (Element array index) }

@@ -1,4 +1,4 @@
-//! Values that are placed in the innermost open one.
+//! Places values in the innermost open value.
 
 ghost use Rattle.std.specs.Prelude.{◌≡◌, ◌+◌, ◌-◌, ◌^◌, ◌<◌, ◌≤◌, ◌++◌, ◌∷◌, [], Some, None, take, drop, max, OnOk, OnErr, vec_len, vec_capacity};
 ghost use Rattle.value_store.specs.declared.store.room.Growth.TheVariants.{Never};
@@ -17,8 +17,9 @@ use crate::store::slots::{Family, Link, Node, Shape};
 use bit_space::Memory;
 use pickle_types::integer::IntegerType;
 
-// Moves the links above a mark, for which there is room, and leaves room for one there. The vectors change places where
-// all links move to an empty one of the same capacity: an array of numbers has as many as the file has bytes.
+// Moves the links above a mark, and leaves capacity for one link there. `to` has the capacity already. The vectors
+// change places where all links move to an empty vector of the same capacity: an array of numbers has as many links as
+// the file has bytes.
 fn move_above(from: &mut Vec<Link>, mark: usize, to: &mut Vec<Link>, room: Room)
     requires mark { mark ≤ vec_len from.old }
     requires room { vec_len to.old + (vec_len from.old - mark) ≤ vec_capacity to.old }
@@ -39,7 +40,8 @@ fn move_above(from: &mut Vec<Link>, mark: usize, to: &mut Vec<Link>, room: Room)
     from.truncate(mark);
 }
 
-// Makes room for the links above a mark, in an empty vector as much as where they are, so that both can change places.
+// Reserves capacity for the links above a mark. An empty vector gets as much as the links have where they are, so that
+// both vectors can change places.
 fn reserve_moved(
     to: &mut Vec<Link>,
     from: &Vec<Link>,
@@ -61,7 +63,7 @@ fn reserve_moved(
     room.reserve(to, count)
 }
 
-// Makes room for one link above a mark, where those that stand there are to go.
+// Reserves capacity for one link above a mark. The links that are above it now will be moved away.
 fn reserve_above(links: &mut Vec<Link>, mark: usize, room: Room) -> Result<(), Memory>
     requires { mark ≤ vec_len links.old }
     ensures items { links.new.items ≡ links.old.items }
@@ -78,7 +80,7 @@ fn reserve_above(links: &mut Vec<Link>, mark: usize, room: Room) -> Result<(), M
     }
 }
 
-// A number as 64 bits.
+// A number as 64 binary digits.
 fn content_of(signed: bool, number: i128) -> u64
     requires { IsContentNumber signed number }
     ensures { number_in signed result ≡ number }
@@ -114,7 +116,7 @@ impl Store {
         Ok(())
     }
 
-    // Places a value of the parts of the innermost open value, which it then holds in their place.
+    // Makes one value of the parts of the innermost open value. It takes their place, and the open value stays open.
     #[inline(always)]
     pub(super) fn place_family(&mut self, shape: Shape, start: u64, size: u64) -> Result<(), Memory>
         requires composite { IsComposite shape }
@@ -201,7 +203,7 @@ impl Store {
         )
     }
 
-    /// Places a field that is not there.
+    /// Places an absent field.
     pub fn push_absent(&mut self) -> Result<(), Memory>
         ensures ok { OnOk result (IsPushed self.old self.new None) }
         ensures within { OnOk result (HoldsLevels self.new) }
@@ -215,7 +217,7 @@ impl Store {
         Ok(())
     }
 
-    // Makes a value of the parts of the innermost open value, and closes it.
+    // Makes one value of the parts of the innermost open value, and closes that.
     #[inline(always)]
     fn close(&mut self, shape: Shape, start: u64, size: u64) -> Result<(), Memory>
         requires composite { IsComposite shape }
@@ -232,8 +234,8 @@ impl Store {
         Ok(())
     }
 
-    /// Closes the innermost open value as an array from the bit `start` to `end`, whose elements are its parts. Where arrays of numbers are
-    /// packed these are no integers or offsets.
+    /// Closes the innermost open value as an array of its parts, from the bit `start` to the bit `end`. In a store that
+    /// packs arrays of numbers its first part is no integer and no offset.
     pub fn close_array(&mut self, start: u64, end: u64) -> Result<(), Memory>
         requires order { start ≤ end }
         requires members { StartsWithNoNumber self.old }
@@ -247,8 +249,8 @@ impl Store {
         self.close(Shape::Array, start, end - start)
     }
 
-    /// Closes the innermost open value as a struct of the type at the index `of`, from the bit `start` to `end`. Its parts are its
-    /// fields, absent ones too.
+    /// Closes the innermost open value as a struct of the type at the index `of`, from the bit `start` to the bit
+    /// `end`. Its parts are the fields, absent ones too.
     pub fn close_struct(&mut self, of: u32, start: u64, end: u64) -> Result<(), Memory>
         requires order { start ≤ end }
         ensures ok { OnOk result (IsClosed self.old self.new (λ names. struct_label names of) start end) }
@@ -261,8 +263,8 @@ impl Store {
         self.close(Shape::Struct { of }, start, end - start)
     }
 
-    /// Closes the innermost open value as a union of the type at the index `of`, from the bit `start` to `end`. Its part is the
-    /// alternative taken, which is the one at the index `taken`.
+    /// Closes the innermost open value as a union of the type at the index `of`, from the bit `start` to the bit `end`.
+    /// Its part is the alternative that matched, number `taken`, counted from 0.
     pub fn close_union(&mut self, of: u32, taken: u16, start: u64, end: u64) -> Result<(), Memory>
         requires order { start ≤ end }
         ensures ok { OnOk result (IsClosed self.old self.new (λ names. union_label names of taken) start end) }

@@ -1,4 +1,4 @@
-//! What is read of a value that is kept.
+//! Reads stored values.
 
 ghost use Rattle.std.specs.Prelude.{◌≡◌, ◌-◌, ◌<◌, ◌≤◌, Some, length, slice_get, slice_index};
 ghost use Rattle.value_store.specs.Slots.{first_link, family_at, family_links, first_byte, text_bytes, IsFamily, IsByteRow, IsRead};
@@ -7,7 +7,7 @@ use crate::store::Store;
 use crate::store::slots::{Link, Node};
 
 impl Store {
-    /// The node at a place, and what its value has of it.
+    /// The node at a place. It has the start, the shape and the content of its value.
     #[inline(always)]
     pub(crate) fn node_at(&self, at: usize) -> Node
         requires { at < length self.now.slots.nodes }
@@ -30,7 +30,7 @@ impl Store {
         &self.links[first..self.families[family].end]
     }
 
-    /// How many bits a family takes.
+    /// The size of a family in bits.
     pub(crate) fn family_size(&self, family: usize) -> u64
         requires { IsFamily self.now.slots family }
         ensures { result ≡ (family_at self.now.slots.families family).size }

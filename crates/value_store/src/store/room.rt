@@ -1,20 +1,21 @@
-//! The room of a store.
+//! The capacity of a store.
 ghost use Rattle.std.specs.Prelude.{◌≡◌, ◌+◌, ◌<◌, ◌≤◌, OnOk, OnErr, vec_len, vec_capacity};
 ghost use Rattle.value_store.specs.declared.store.room.Growth.TheVariants.{Never};
 ghost use Rattle.value_store.specs.Slots.{packs};
 
 use bit_space::Memory;
 
-/// Whether a store asks for more room than it was made with.
+/// Whether a store grows past the capacity that it was made with.
 #[derive(Clone, Copy)]
 pub(crate) enum Growth {
-    /// Where it needs more.
+    /// It grows where it needs more.
     Free,
-    /// It keeps what it has.
+    /// It never grows.
     Never,
 }
 
-/// The room of a store: so many slots of each kind at least, and just so many where it doesn't grow.
+/// The capacity that a store was made with: so many slots of each kind at least, and exactly so many where the store
+/// never grows.
 #[derive(Clone, Copy)]
 pub(crate) struct Room {
     pub(crate) least: usize,
@@ -22,8 +23,8 @@ pub(crate) struct Room {
 }
 
 impl Room {
-    /// Whether arrays of numbers are packed: where no room is asked for beforehand. Else each element has a slot of its own, so that
-    /// the slots are those that a mapping is told to take.
+    /// Whether arrays of numbers are packed. They are where no capacity was requested in advance. Otherwise each
+    /// element has a slot of its own, so that a mapping takes the slots that its bound counts.
     pub(crate) fn packs(self) -> bool
         ensures { result ≡ packs self }
     {
@@ -33,7 +34,7 @@ impl Room {
         }
     }
 
-    /// Makes room for so many items more, where there is less. Nothing is asked for where the room doesn't grow.
+    /// Reserves capacity for `more` items, where there is less. A store that never grows returns `Memory` instead.
     #[inline(always)]
     pub(crate) fn reserve<T>(self, to: &mut Vec<T>, more: usize) -> Result<(), Memory>
         ensures items { to.new.items ≡ to.old.items }
@@ -49,7 +50,7 @@ impl Room {
         self.grow(to, more)
     }
 
-    // Asks for room for so many items more, which there is not.
+    // Allocates capacity for `more` items. There is less now.
     #[inline(never)]
     fn grow<T>(self, to: &mut Vec<T>, more: usize) -> Result<(), Memory>
         requires { vec_capacity to.old < vec_len to.old + more }

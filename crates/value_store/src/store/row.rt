@@ -9,7 +9,7 @@ use crate::store::Store;
 use crate::store::slots::Shape;
 use bit_space::Memory;
 
-/// How many bytes a number of `width` bits takes.
+/// The number of bytes that a number of `width` bits takes.
 pub(crate) fn bytes_for(width: u8) -> usize
     ensures { result ≡ bytes_for width }
 {
@@ -17,15 +17,15 @@ pub(crate) fn bytes_for(width: u8) -> usize
 }
 
 impl Store {
-    /// Whether arrays of numbers are packed.
+    /// Whether the store packs arrays of numbers.
     pub fn packs(&self) -> bool
         ensures { result ≡ packs self.now.room }
     {
         self.room.packs()
     }
 
-    /// Places a number more, of `width` binary digits, of the array of packed numbers under way, which begins at the bit `start`, and tells by
-    /// `first` that it has none yet.
+    /// Appends a number of `width` binary digits to the open array of packed numbers, which begins at the bit `start`.
+    /// `first` says that the array has no numbers yet.
     #[inline(always)]
     pub fn push_packed(
         &mut self,
@@ -59,7 +59,7 @@ impl Store {
         }
     }
 
-    // Gives the array of packed numbers under way a node, where it has no numbers: that of an array without members.
+    // Makes a node for an open array of packed numbers that has none: an array without elements.
     fn settle_row(&mut self, shape: Shape, start: u64) -> Result<(), Memory>
         requires row { IsRowOf self.old shape start }
         requires packed { IsPacked shape }
@@ -76,7 +76,7 @@ impl Store {
         }
     }
 
-    /// Closes the array of packed numbers under way, which begins at the bit `start`.
+    /// Closes the open array of packed numbers, which begins at the bit `start`.
     pub fn close_row(&mut self, shape: Shape, start: u64) -> Result<(), Memory>
         requires row { IsRowOf self.old shape start }
         requires packed { IsPacked shape }

@@ -1,4 +1,4 @@
-//! The values that are open, and their parts.
+//! Reads the open values and their parts.
 
 ghost use Rattle.std.specs.Prelude.{◌≡◌, ℕ, ◌<◌, ◌≤◌, None, length, slice_get, unwrap_or, IfSome};
 ghost use Rattle.std.specs.Option.{option_map};
@@ -16,7 +16,7 @@ use pickle_types::table::Table;
 impl Store {
     ghost use Rattle.value_store.specs.Refs.{value_of, value_shown};
 
-    // The marks of an open value, counted from the innermost; past the outermost those of the whole.
+    // The marks of a frame. Frames are counted from the innermost; after the open values comes the frame of the whole.
     fn frame(&self, level: usize) -> Marks
         ensures { result ≡ marks_at self.now.frames level }
     {
@@ -28,7 +28,7 @@ impl Store {
         }
     }
 
-    // Where the parts of an open value end among the pending children.
+    // The end of a frame's parts among the pending children.
     fn end_of_level(&self, level: usize) -> usize
         ensures end { result ≡ level_end self.now.frames (length self.now.slots.pending) level }
         ensures ordered { (marks_at self.now.frames level).pending ≤ result }
@@ -42,7 +42,7 @@ impl Store {
         }
     }
 
-    // The links of the parts of an open value.
+    // The links of a frame's parts.
     fn level_links(&self, level: usize) -> &[Link]
         ensures parts { AreLinksAt self.now level result.now }
         ensures below { (i : ℕ) → IfSome (unwrap_or (slice_get result.now i) None) (λ j. j < length self.now.slots.nodes) }
@@ -51,7 +51,7 @@ impl Store {
         &self.pending[self.frame(level).pending..self.end_of_level(level)]
     }
 
-    // The node of the part at a place of an open value, unless it is absent or there is none.
+    // The node of the part at a place of a frame; None where the part is absent or past the end.
     fn part_at(&self, level: usize, i: usize) -> Option<usize>
         ensures part { (names : Names) → option_map (node_value names self.now.slots) result ≡ value_at (levels names self.now) level i }
         ensures below { IfSome result (λ j. j < length self.now.slots.nodes) }
@@ -62,15 +62,16 @@ impl Store {
         }
     }
 
-    /// How many parts an open value has so far, absent ones too. Open values are counted from the innermost, and the last is the whole.
+    /// The number of parts of a frame so far, absent ones too. Frames are counted from the innermost, and the last is
+    /// that of the whole.
     pub fn count(&self, level: usize) -> usize
         ensures { (names : Names) → result ≡ length (level_at (levels names self.now) level) }
     {
         self.level_links(level).len()
     }
 
-    /// The part at a place of an open value, unless it is absent or there is none. Open values are counted from the innermost, and the last is
-    /// the whole.
+    /// The part at a place of a frame; None where the part is absent or past the end. Frames are counted from the
+    /// innermost, and the last is that of the whole.
     pub fn part(&self, level: usize, i: usize) -> Option<StoredValue<'_>>
         ensures { (names : Names) → option_map (value_of names) result ≡ value_at (levels names self.now) level i }
     {
@@ -80,7 +81,7 @@ impl Store {
         }
     }
 
-    /// The value that was mapped, with the names of its table, where no value is open; nothing in an empty store.
+    /// The mapped value, with the names of its table, where no value is open; None in an empty store.
     pub fn root<'a>(&'a self, table: &'a Table) -> Option<ValueRef<'a>>
         ensures { option_map value_shown result ≡ value_at (levels table.now.nodes.items self.now) 0 0 }
     {

@@ -1,32 +1,32 @@
-//! What the vectors of a store hold.
+//! The entries of a store's vectors.
 
 ghost use Rattle.std.specs.Prelude.{◌≡◌, ◌<◌, ◌^◌, ◌-◌, Some, None, Option};
 
 use std::marker::Model;
 
-/// What a value is, beside its place, its content and its parts.
+/// The shape of a value: what it is without its place, its content and its parts.
 #[derive(Clone, Copy)]
 pub enum Shape {
-    /// The content is the number, as 64 bits.
+    /// The content is the number, as 64 binary digits.
     Integer { width: u8, signed: bool },
-    /// The content is the magnitude, as 64 bits; the unit is in bits.
+    /// The content is the magnitude, as 64 binary digits; the unit is in bits.
     Offset { width: u8, signed: bool, unit: u32 },
     /// The content is the place of the text among the texts.
     Text,
     /// An array of integers, packed: the content is the place of their bytes among the texts.
     Integers { width: u8, signed: bool },
-    /// An array of offsets, packed likewise.
+    /// An array of offsets, packed in the same way.
     Offsets { width: u8, signed: bool, unit: u32 },
-    /// The content of an array, a struct or a union is the place of its family.
+    /// An array of other elements. The content of an array, a struct or a union is the place of its family.
     Array,
     /// A struct of the type at the index `of`.
     Struct { of: u32 },
-    /// A union of the type at the index `of`, which took the alternative `taken`.
+    /// A union of the type at the index `of`, whose alternative number `taken`, counted from 0, matched.
     Union { taken: u16, of: u32 },
 }
 
-/// One value of the store, in 24 bytes. What a leaf doesn't need stands elsewhere: the size and the parts of an array, a struct or a
-/// union in a family, the end of a text, or of packed numbers, in a list of ends.
+/// One value of the store, in 24 bytes. The rest of a value is in other vectors: the size and the parts of an array, a
+/// struct or a union are in a family, and a text or an array of packed numbers has its end in a list of ends.
 #[derive(Clone, Copy)]
 pub(crate) struct Node {
     pub(crate) start: u64,
@@ -34,23 +34,24 @@ pub(crate) struct Node {
     pub(crate) shape: Shape,
 }
 
-/// Where a value is kept.
+/// Where a value is stored.
 #[derive(Clone, Copy)]
 pub(crate) enum Place {
     /// At a node.
     Node(usize),
-    /// Packed: as the element at a place of the array at a node.
+    /// Packed: the element at a place of the array that a node is.
     Element { array: usize, index: usize },
 }
 
-/// The parts of an array, a struct or a union: the links from the end of the family before it up to `end`. The size is in bits.
+/// The parts of an array, a struct or a union: the links after those of the family before it, up to `end`. The size is
+/// in bits.
 #[derive(Clone, Copy)]
 pub(crate) struct Family {
     pub(crate) end: usize,
     pub(crate) size: u64,
 }
 
-/// The place of a node, or nothing for an absent field, in 8 bytes.
+/// The place of a node in 8 bytes, or the mark of an absent field.
 #[derive(Clone, Copy)]
 pub(crate) struct Link {
     node: usize,
@@ -59,7 +60,7 @@ pub(crate) struct Link {
 impl Shape {
     ghost use Rattle.value_store.specs.Slots.{element_width};
 
-    /// How many bits an element of an array of packed numbers takes, else 0.
+    /// The width in bits of an element of an array of packed numbers; 0 for other shapes.
     pub fn element_width(self) -> u8
         ensures { result ≡ element_width self }
     {
@@ -109,7 +110,7 @@ impl Link {
     }
 }
 
-/// How much of each kind a store held at some moment.
+/// The number of entries of each vector at some moment.
 #[derive(Clone, Copy, Default)]
 pub(crate) struct Marks {
     pub(crate) nodes: usize,

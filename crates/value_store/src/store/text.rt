@@ -1,4 +1,4 @@
-//! Texts, byte by byte.
+//! Writes texts byte by byte.
 
 ghost use Rattle.std.specs.Prelude.{◌≡◌, ℕ, ◌+◌, ◌-◌, ◌≤◌, [], max, IsTrue, ◌↔◌, OnOk, OnErr};
 ghost use Rattle.pickle_meaning.specs.Values.{opened};
@@ -13,7 +13,7 @@ use crate::store::slots::Shape;
 use bit_space::Memory;
 
 impl Store {
-    /// Opens a text, which has no bytes yet. As many as 64 values may be open.
+    /// Opens a text, which has no bytes yet. At most 64 values may be open.
     pub fn open_text(&mut self)
         requires { level_count self.old ≤ 64 }
         ensures writes { (names : Names) (start : ℕ) → IsWriting names self.new [] start (levels names self.old) }
@@ -24,7 +24,7 @@ impl Store {
         self.open_level();
     }
 
-    /// Places a byte more of the text under way, which begins at the bit `start`, and tells by `first` that it has none yet.
+    /// Appends a byte to the open text, which begins at the bit `start`. `first` says that the text has no bytes yet.
     #[inline(always)]
     pub fn push_byte(&mut self, byte: u8, first: bool, start: u64) -> Result<(), Memory>
         requires takes { TakesByte self.old start }
@@ -44,7 +44,7 @@ impl Store {
         }
     }
 
-    // Gives the text under way a node, where it has no bytes.
+    // Makes a node for an open text that has no bytes.
     fn settle_text(&mut self, start: u64) -> Result<(), Memory>
         requires { IsText self.old start }
         ensures ok { OnOk result (Settles self.old self.new start) }
@@ -60,7 +60,7 @@ impl Store {
         }
     }
 
-    /// Closes the text under way, which begins at the bit `start`.
+    /// Closes the open text, which begins at the bit `start`.
     pub fn close_text(&mut self, start: u64) -> Result<(), Memory>
         requires { IsText self.old start }
         ensures ok { OnOk result (ClosesText self.old self.new start) }

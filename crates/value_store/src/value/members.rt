@@ -1,4 +1,4 @@
-//! The members of a value, whose links or packed numbers are found once.
+//! The members of a value. Their links or packed numbers are found once for all of them.
 
 ghost use Rattle.std.specs.Prelude.{◌≡◌, ◌<◌, IfSome};
 ghost use Rattle.std.specs.Option.{option_map};
@@ -10,7 +10,7 @@ use crate::store::slots::Link;
 use crate::value::ValueRef;
 use pickle_types::integer::IntegerType;
 
-/// The elements of an array, the declared fields of a struct, or the alternative that a union took.
+/// The elements of an array, the declared fields of a struct, or the alternative of a union that matched.
 #[derive(Clone, Copy)]
 pub struct Members<'a> {
     value: ValueRef<'a>,
@@ -36,29 +36,28 @@ impl<'a> Members<'a> {
         }
     }
 
-    /// The type of the members, where they are the integers of an array that are kept side by side. It is found once for all of them.
+    /// The type of the members, where they are the packed integers of an array. It is found once for all of them.
     pub fn row_type(&self) -> Option<IntegerType>
         ensures { IfSome result (λ number. AreIntegersOf number (members_of (value_shown (owner_of self.now)))) }
     {
         self.value.stored.row_type()
     }
 
-    /// The type of the members and their binary digits, where they are the integers of an array, of at most 8 bits each, that are kept
-    /// side by side.
+    /// The type of the members and their bytes, where they are the packed integers of an array, of at most 8 bits each.
     pub fn byte_row(&self) -> Option<(IntegerType, &'a [u8])>
         ensures { IfSome result (λ row. AreBytesOf row.0 row.1.now (value_shown (owner_of self.now))) }
     {
         self.value.stored.byte_row()
     }
 
-    /// How many there are, absent fields too.
+    /// The number of members, absent fields too.
     pub fn len(&self) -> usize
         ensures { result ≡ member_count (members_of (value_shown (owner_of self.now))) }
     {
         self.value.stored.count_linked(self.links, self.packed)
     }
 
-    /// The member at a place; nothing for an absent field and past the end.
+    /// The member at a place; None for an absent field and past the end.
     pub fn get(&self, i: usize) -> Option<ValueRef<'a>>
         ensures member { option_map value_shown result ≡ member_at (members_of (value_shown (owner_of self.now))) i }
         ensures below { IfSome result (λ c. rank_of c < rank_of (owner_of self.now)) }
