@@ -8,7 +8,7 @@ mutual
     JsonFalse : Json
     JsonTrue : Json
     JsonNull : Json
-    -- an integer, of which so many digits stand behind the point, times ten to a power
+    -- an integer with so many digits after the point, times ten to a power
     JsonNumber : (digits : ℤ) (places : ℕ) (power : ℤ) → Json
     -- characters by their numbers; one beyond 65,535 is two of them, as in UTF-16
     JsonString : (characters : List ℕ) → Json
