@@ -25,8 +25,8 @@ pub struct Shown<'t> {
 }
 
 impl<'t> Shown<'t> {
-    /// What is printed of a line with a mark under `length` bytes. `before` has the line's bytes before the mark, `rest` the
-    /// bytes from the mark on, with the lines after it.
+    /// What is printed of a line with a mark under `length` bytes. `before` has the line's bytes before the mark, `rest`
+    /// the bytes from the mark on, with the lines after it.
     pub fn new(before: &'t [u8], rest: &'t [u8], length: usize) -> Shown<'t> {
         let rest = first_line(rest);
         let whole = columns(before).saturating_add(columns(rest)) <= MOST_COLUMNS;

@@ -5,7 +5,8 @@ use Rattle.pickle_types.specs.Names.{Names}
 use Rattle.pickle_script.specs.Places.{TellsPlace, called_by}
 use Rattle.run_parts.specs.Accepted.{IsAccepted}
 
--- why a pickle, or the requested name of a type, is refused: a place in the pickle; nothing is promised for an accepted one
+-- why a pickle, or the requested name of a type, is refused: a place in the pickle. Nothing is promised for an accepted
+-- one
 pub data Explains (pickle path : List ℕ) : List ℕ → Type 0 where
   placed : {text : List ℕ} → TellsPlace pickle (called_by path) text → Explains pickle path text
   unplaced : {declarations : List DeclarationTree} {types : Names} {text : List ℕ} → IsAccepted pickle declarations types → Explains pickle path text

@@ -172,7 +172,7 @@ end_by pickle ask terms before after (Some n) fault.Limit at e asked less right 
 end_by pickle ask terms before after (Some n) fault.Device at e asked less right = right
 end_by pickle ask terms before after (Some n) fault.Memory at e asked less right = slots_under asked e (less refl n refl)
 
--- in a store of the most slots an allocation failure is a want of slots
+-- in a store of the most slots an allocation failure is the fault `Slots`
 pub end_under : (pickle : List ℕ) (ask : Ask) (terms : Terms) (before after : SpaceView) {type : PokeType} (kind : MapFaultKind) (at : ℕ)
     → IsAsked pickle ask.name.now type
     → (kind ≡ fault.Memory → (n : ℕ) → terms.most_slots ≡ Some n → n < room type (8 * before.len))

@@ -8,7 +8,7 @@ use Rattle.value_text.specs.ValueText.{is_plain, escape_text}
 use Rattle.poke_batch.specs.declared.each.Kept.{Kept}
 use Rattle.std.specs.Io.KnownBytes.{Appends}
 
--- a byte of a name, as in a string, but for `"` (34), which stands for itself
+-- a byte of a name, as in a string, but for `"` (34), which isn't escaped
 abbrev pub name_byte : ℕ → List ℕ
 name_byte byte =
     if byte == 34 then 34 ∷ []
@@ -30,7 +30,8 @@ status_text Outside = codes "\t3\t"
 abbrev pub file_line : (name : List ℕ) → Status → (written : List ℕ) → List ℕ
 file_line name status written = shown_name name ++ (status_text status ++ written)
 
--- what a run wrote: its text if it is done, else its line; a text cut off by an allocation failure becomes that fault's line
+-- what a run wrote: its text if it is done, else its line; a text that an allocation failure cut off becomes the line
+-- of that failure
 abbrev pub written_of : Status → (text line : List ℕ) → List ℕ
 written_of Done text line = text
 written_of Fault text line = line

@@ -40,7 +40,8 @@ abbrev pub member_there : Value → Option ℕ → Option Value
 member_there value None = None
 member_there value (Some place) = member_at (members_of value) place
 
--- the part to which a step leads: a field or alternative by its name or, if nameless, by its place; an element by its place
+-- the part to which a step leads: a field or alternative by its name, a nameless one by its place, an element by its
+-- place
 abbrev pub step_to : Step → Value → Option Value
 step_to (Field name) value = member_there value (place_named name.items (label_of value) (member_count (members_of value)) 0)
 step_to (Place place) value = member_if (is_nameless_at value place) (member_at (members_of value) place)

@@ -60,7 +60,7 @@ pub data MapsAs (pickle : List ℕ) (ask : Ask) (before after : SpaceView) : Say
       → ((bytes : List ℕ) → before.bytes ≡ Some bytes → HasAnswer bytes type ask.order ask.start ask.limit (Ok mapped))
       → Fits (8 * before.len) type no_values ask.start mapped
       → MapsAs pickle ask before after (Text (printed ask.mode mapped))
-  -- the fault that the type means there; over any space Limit only where the type can take more steps than the limit
+  -- the fault that the type means there; over any space Limit only if the type can take more steps than the limit
   stops : {type : PokeType} {kind : MapFaultKind} {at : ℕ} → IsAsked pickle ask.name.now type → kind ≢ fault.Device → kind ≢ fault.Memory
       → ((bytes : List ℕ) → before.bytes ≡ Some bytes → HasAnswer bytes type ask.order ask.start ask.limit (Err (kind, at)))
       → (kind ≡ fault.Limit → (at ≡ ask.start) × (ask.limit < cost type (8 * before.len)))

@@ -16,8 +16,8 @@ const SHARED: &str = "/share/poke_batch/pickles";
 /// How the name of a pickle's file ends.
 const ENDING: &str = ".pk";
 
-/// The path of a pickle, from the argument `word`. If `word` is a `+` and a name, and no file has the path `word`, it is
-/// the path of the installed pickle. Otherwise it is `word` itself.
+/// The path of a pickle, from the argument `word`. If `word` is a `+` and a name, and no file has the path `word`, it
+/// is the path of the installed pickle. Otherwise it is `word` itself.
 pub fn pickle_path<R: Files + Env + AllocGlobal>(rt: &R, word: &str) -> Result<String, FileFault> {
     let alloc = rt.alloc();
     if let Some(name) = name_in(word) {

@@ -19,8 +19,8 @@ use std::rt::{Env, Files};
 /// The bytes of an answer that are gathered before they are written.
 const GATHERED: usize = 65_536;
 
-/// Does a job, and returns its exit status once the whole answer is written to `out`. Its line goes to `err`. If reasons
-/// are requested they go to `reason`; those of one file among many go to `aside`, after the file's line.
+/// Does a job, and returns its exit status once the whole answer is written to `out`. Its line goes to `err`. If
+/// reasons are requested they go to `reason`; those of one file among many go to `aside`, after the file's line.
 pub fn do_job<
     R: Files<File = File> + Env + Input + AllocGlobal + Clone + Drop,
     O: Write + Drop,

@@ -2,8 +2,8 @@
 //!
 //! There is an empty line between blocks. The first line of a block is a pickle, and the other lines are rows. A row
 //! has three cells, with bars between them: the run, its exit status, and the text. The run of a mapping has a type's
-//! name, a start, a byte order, the most steps and the file's bytes in hexadecimal digits. The run of a bound has a name
-//! and the bits of a file.
+//! name, a start, a byte order, the most steps and the file's bytes in hexadecimal digits. The run of a bound has a
+//! name and the bits of a file.
 
 mod bounds;
 mod files;

@@ -6,7 +6,7 @@ abbrev pub bound_number : Option ℕ → List ℕ
 bound_number None = codes "more than 2^128-1"
 bound_number (Some n) = decimal n
 
--- a bound after its name, on a line of its own
+-- a bound after its name, on a separate line
 unfoldable pub bound_line : List ℕ → Option ℕ → List ℕ
 bound_line name bound = name ++ (bound_number bound ++ codes "\n")
 

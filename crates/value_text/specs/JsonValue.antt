@@ -1,4 +1,4 @@
--- JSON values as data, and the one that a mapped value stands for.
+-- JSON values as data, and the one that a mapped value means.
 use Rattle.std.specs.Prelude.{ℕ, suc, ℤ, pos, List, Some, None, codes, decimal}
 use Rattle.pickle_meaning.specs.Values.{Naming, Label, IntegerLabel, OffsetLabel, TextLabel, ArrayLabel, StructLabel, UnionLabel, Value, Mapped, Members, NoMembers, MemberThen, AbsentThen}
 use Rattle.value_store.specs.Labels.{member_name}

@@ -20,7 +20,7 @@ lent_member first name member = member_text first (lent_name name) (value_shown 
 abbrev pub lent_prefix : ValueRef → (place : ℕ) → List ℕ
 lent_prefix value place = prefix_text (label_of (value_shown value)) place
 
--- that on a line of its own
+-- the same on a separate line
 abbrev pub lent_start : (level : ℕ) → ValueRef → (place : ℕ) → List ℕ
 lent_start level value place = start_text level (label_of (value_shown value)) place
 

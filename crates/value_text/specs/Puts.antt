@@ -10,7 +10,8 @@ pub record AppendsBut (old new : Option (List ℕ)) (rest text : List ℕ) : Typ
   pub appends : Appends old new taken
   pub whole : taken ++ rest ≡ text
 
--- what became of a text since the writer had the old bytes: it accepted all but what is in the line or, if it failed, a part
+-- what became of a text since the writer had the old bytes: it accepted all but what is in the line or, if it failed, a
+-- part
 abbrev pub Stands : (failed : Bool) (old new : Option (List ℕ)) (line text : List ℕ) → Type 0
 Stands false old new line text = AppendsBut old new line text
 Stands true old new line text = AppendsPart old new text
