@@ -38,7 +38,7 @@ static uint64_t number_at(size_t at, int count) {
   return number;
 }
 
-/* The bytes up to the 0, in quotes; the files have no bytes that need a name. Returns the place behind the 0. */
+/* The bytes up to the 0, in quotes; the files have no bytes that need an escape. Returns the place after the 0. */
 static size_t put_string(size_t at) {
   putchar_unlocked('"');
   while (bytes[at]) putchar_unlocked(bytes[at++]);

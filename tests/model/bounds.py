@@ -1,9 +1,9 @@
-"""The bounds of a type on the steps and slots of its mappings, by the table of docs/LANGUAGE.md."""
+"""The bounds of a type on the steps and slots of its mappings, from the table in docs/LANGUAGE.md."""
 from meaning import Array, Integral, Named, Scalar, String, Struct, Term, Union
 
 
 def nodes_of(term):
-    """The nodes of an expression, where there is one, and the bytes of its text literals."""
+    """The nodes of an expression, if there is one, and the bytes of its text literals."""
     if isinstance(term, Term):
         return 1 + sum(map(nodes_of, term.of))
     return len(term) if isinstance(term, bytes) else 0

@@ -1,13 +1,13 @@
-"""What a mapping means, said once more by the rules of docs/LANGUAGE.md, without the program's code or its definitions.
+"""What a mapping means: the rules of docs/LANGUAGE.md once more, without the program's code or its definitions.
 
-`mapped` gives the text of the value or fault that a type has at a bit of a file, and its steps.
+`mapped` returns the printed value or fault that a type has at a bit of a file, and its steps.
 """
 from dataclasses import dataclass, field
 from math import gcd
 
 
 class Fault(Exception):
-    """A fault; that of an expression gets its place where the expression stands."""
+    """A fault. The fault of an expression has no place until `Mapping.evaluated` adds it."""
 
     def __init__(self, kind, at=None):
         super().__init__(kind)
@@ -157,7 +157,7 @@ class Counts:
 
 @dataclass
 class Evaluation:
-    """The evaluation of expressions over scopes, the innermost first: lists of pairs of a name and a field, or None where that is absent."""
+    """Evaluates expressions over scopes, the innermost first. A scope lists pairs of a name and a field, None if absent."""
 
     scopes: list
     counts: Counts
@@ -236,7 +236,7 @@ class Evaluation:
 
 @dataclass
 class Field:
-    """A field of a struct, or an alternative of a union; order, constraint, label and condition where there are such."""
+    """A field of a struct, or an alternative of a union. `order` may be empty; constraint, label and condition may be None."""
 
     type: object
     name: str = ""
@@ -262,7 +262,7 @@ class String:
 
 @dataclass
 class Array:
-    """An array, bounded by a count or a size where there is an expression for it."""
+    """An array. Its bound, a count or a size, may be None."""
 
     element: object
     bound: Term | None = None
@@ -292,7 +292,7 @@ class Union:
 
 @dataclass
 class Named:
-    """A type by its name: it sees nothing of where it is used."""
+    """A type by its name. It sees nothing of the place where it is used."""
 
     name: str
     type: object
@@ -322,7 +322,7 @@ class Mapping:
             raise Fault(fault.kind, place) from None
 
     def holds(self, field, scopes, place):
-        """Sees that a constraint holds, where there is one."""
+        """Raises a fault if there is a constraint and it doesn't hold."""
         if field.constraint and self.evaluated(field.constraint, scopes, place).value == 0:
             raise Fault("Constraint", place)
 
@@ -463,7 +463,7 @@ def text_of(value):
 
 
 def mapped(of, order, start, file):
-    """Whether the type has a value there, its text or the fault's line, and its steps."""
+    """Whether the type has a value there, the printed value or the fault's line, and its steps."""
     mapping = Mapping("".join(f"{byte:08b}" for byte in file))
     try:
         return True, text_of(mapping.value(of, order, [], start)), mapping.counts.steps

@@ -4,7 +4,7 @@ from math import gcd
 
 from meaning import Array, Field, Integral, Named, Number, Scalar, String, Struct, Term, Union, common, width_of
 
-# a suffix, the width and the sign that it gives, and the greatest number that is written with it
+# a suffix, the width and the sign that it means, and the greatest number that is written with it
 LITERALS = [("", 32, True, 120), ("U", 32, False, 300), ("B", 8, True, 127), ("UB", 8, False, 255), ("H", 16, True, 200),
             ("UH", 16, False, 300), ("L", 64, True, 300), ("UL", 64, False, 300), ("N", 4, True, 7), ("UN", 4, False, 15)]
 WIDTHS = [1, 2, 3, 4, 7, 8, 8, 8, 8, 12, 16, 24, 32, 33, 48, 63, 64]
@@ -15,7 +15,7 @@ SOME_BYTES = [0, 0, 1, 2, 3, 97, 98]
 
 @dataclass
 class Written:
-    """What is written in a pickle: its text, and what it is in the model. `of` is an expression's type or a type's sort: what paths may ask."""
+    """A part of a pickle: its text, and what it is in the model. `of` is an expression's type or a type's sort, for paths."""
 
     text: str
     it: object
@@ -44,7 +44,7 @@ def bracketed(written):
 
 @dataclass
 class Expressions:
-    """Random expressions over scopes of names and sorts. Operands stand in brackets, so that no rule of grouping is asked."""
+    """Random expressions over scopes of names and sorts. Operands are in brackets, so no rule of grouping matters."""
 
     choose: object
     scopes: list
@@ -62,7 +62,7 @@ class Expressions:
         return [*found.values(), *inside]
 
     def path(self, is_wanted):
-        """A path of a sort that is wanted, where there is one; to an element too."""
+        """A path to a value of the requested sort, if there is one. It may lead to an element."""
         paths = self.paths()
         arrays = [it for it in paths if it.of.kind == "array" and is_wanted(it.of.of)]
         if arrays and self.choose.random() < 0.4:
@@ -81,7 +81,7 @@ class Expressions:
         return Written(f"{value}{suffix}", Term("literal", (Number(value, width, signed),)), (width, signed, 0))
 
     def integer(self, depth=0):
-        """An integer; the deeper it stands, the simpler it is."""
+        """An integer. The deeper it is, the simpler it is."""
         forms = [self.literal, lambda: self.number_at(False)]
         if depth < 3:
             forms += [lambda: self.calculated(depth + 1)] * 3 + [lambda: self.compared(depth + 1)] * 2 + [
@@ -165,7 +165,7 @@ class Expressions:
 
 @dataclass
 class Pickle:
-    """A random pickle under way."""
+    """A random pickle that is being made."""
 
     choose: object
     named: list = field(default_factory=list)
@@ -177,7 +177,7 @@ class Pickle:
         return f"f{self.names}" if self.choose.random() < 0.95 else ""
 
     def declare(self):
-        """Declares a type more, and gives its name and the type."""
+        """Declares one more type, and returns its name and the type."""
         name = f"T{len(self.named)}"
         it = self.choose.choice([self.composite, self.composite, self.element])([], 0)
         if isinstance(it.it, (Struct, Union, Integral)):
@@ -221,7 +221,7 @@ class Pickle:
         return Written(f"{base.text}[{bound.text}]", Array(base.it, bound.it), sort)
 
     def bound(self, scopes):
-        """A count or a size; a small one more often, since an array so has elements."""
+        """A count or a size. A small one is more frequent, so that arrays have elements."""
         expressions, count = Expressions(self.choose, scopes), self.choose.randrange(5)
         small = Term("literal", (Number(count, 32, True),))
         return self.choose.choice([

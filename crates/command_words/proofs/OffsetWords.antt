@@ -1,4 +1,4 @@
--- Laws of offset words.
+-- Laws of offsets as arguments.
 use Rattle.std.proofs.Common.{◌≡◌, ◌≢◌, ℕ, ◌+◌, ◌*◌, ◌<◌, ◌≤◌, true, false, List, [], ◌∷◌, ◌++◌, length, get_or, take, drop, Option, Some, None, refl, sym, ◌∙◌, ap, subst, inl, inr, arith, rules}
 use Rattle.std.specs.Prelude.{◌==◌, nat_lt, position, SomeIff, IfNone, IfSome, Result, Ok, Err, MatchResult, cond}
 use Rattle.std.specs.Result.{result_ok}
@@ -40,17 +40,17 @@ place_after m u h =
 some_within : (n k : ℕ) → k < n → cond (nat_lt k n) (Some k) None ≡ Some k
 some_within n k h = let t : nat_lt k n ≡ true = grind (arith, nat_tests) in rw t refl
 
--- the first `#` stands after the magnitude
+-- the first `#` is after the magnitude
 pub hash_after : (w m u : List ℕ) → w ≡ m ++ 35 ∷ u → AllDigits 10 m → position (λ byte. byte == 35) w ≡ Some (length m)
 hash_after w m u e h =
     let place : position_or_len (λ byte. byte == 35) (m ++ 35 ∷ u) ≡ length m = place_after m u h in
     rw e (rw place (some_within _ _ (omega (arith, length-append m (35 ∷ u)))))
 
--- a word of an offset has a `#`
+-- an offset has a `#`
 pub hash_there : (w : List ℕ) (bits : ℕ) → IsOffsetWord w bits → position (λ byte. byte == 35) w ≡ None → ⊥
 hash_there w bits x e = none-some _ (sym e ∙ hash_after w x.magnitude x.unit x.parts x.number.1)
 
--- a word is cut at its first `#`
+-- an argument is cut at its first `#`
 pub cut_at_hash : (w : List ℕ) (k : ℕ) → position (λ byte. byte == 35) w ≡ Some k → w ≡ take k w ++ 35 ∷ drop (k + 1) w
 cut_at_hash w k e =
     let p = position-Some (λ byte. byte == 35) w k 0 e in
@@ -107,7 +107,7 @@ unit_same u a b h k = elim h [
 pub product_large : (m u n : ℕ) → n ≤ m → 1 ≤ u → n ≤ m * u
 product_large m u n h k = omega (arith, mul-le-mul_left m k)
 
--- where the answer is none
+-- if the answer is none
 pub large_by_hash : (w : List ℕ) (n : ℕ) → position (λ byte. byte == 35) w ≡ None → (bits : ℕ) → IsOffsetWord w bits → n ≤ bits
 large_by_hash w n e bits x = absurd (hash_there w bits x e)
 
@@ -134,7 +134,7 @@ large_by_product w k m u n e is unit large bits x =
     let named : u ≡ x.unit_bits = unit_same x.unit u x.unit_bits (subst (λ s. IsUnit s u) p.1 unit) x.counts in
     subst (λ b. n ≤ b) x.product (subst (λ y. n ≤ digits_value 10 x.magnitude * y) named (subst (λ y. n ≤ y * u) magnitude large))
 
--- and where it is a number
+-- and if it is a number
 pub word_from_parts : (w : List ℕ) (k m u : ℕ) → position (λ byte. byte == 35) w ≡ Some k → IsNumeral 10 (take k w) → m ≡ digits_value 10 (take k w) → IsUnit (drop (k + 1) w) u → IsOffsetWord w (m * u)
 word_from_parts w k m u e numeral is unit = record {
   magnitude = take k w;
@@ -158,12 +158,12 @@ pub large_where_none : (w : List ℕ) (k m u n : ℕ) (r : Option ℕ) → posit
 large_where_none w k m u n None e is unit h = large_by_product w k m u n e is unit (omega arith)
 large_where_none w k m u n (Some x) e is unit h = tt
 
--- what stands at an error that was made a `None`
+-- what holds at an error that was made a `None`
 pub at_no_ok : {T E : Type 0} (r : Result T E) (P : T → Type 0) (Q : Type 0) → result_ok r ≡ None → MatchResult r P (λ _. Q) → Q
 at_no_ok (Ok x) P Q e h = absurd (none-some _ (sym e))
 at_no_ok (Err x) P Q e h = h
 
--- a word names one number of bits
+-- an argument names one number of bits
 pub one_offset : (w : List ℕ) (a b : ℕ) → IsOffsetWord w a → IsOffsetWord w b → a ≡ b
 one_offset w a b x y =
     let at = hash_after w x.magnitude x.unit x.parts x.number.1 in

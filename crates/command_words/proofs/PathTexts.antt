@@ -4,7 +4,7 @@ use Rattle.std.specs.Prelude.{slice_range}
 use Rattle.command_words.specs.declared.path.Step.{Step}
 use Rattle.command_words.specs.Paths.{step_text, steps_text}
 
--- a step more
+-- one more step
 pub steps_more : (steps : List Step) (step : Step) → steps_text (steps ++ step ∷ []) ≡ steps_text steps ++ step_text step
 steps_more [] step = append-nil (step_text step)
 steps_more (first ∷ steps) step =

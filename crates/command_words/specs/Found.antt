@@ -1,4 +1,4 @@
--- What the words of a command ask for, by what clap found among them.
+-- What the arguments of a command request, by what clap found among them.
 use Rattle.std.specs.Prelude.{◌≡◌, ◌≢◌, ◌⊎◌, ◌<◌, ◌≤◌, ◌^◌, ◌*◌, ℕ, Bool, true, false, not, List, [], map, Option, Some, None, string_bytes, codes}
 use Rattle.std.specs.Option.{unwrap_or, option_map_or}
 use Rattle.std.specs.Str.Parse.{IsNumeral, digits_value, without_leading_plus}
@@ -17,17 +17,17 @@ use Rattle.command_words.specs.declared.words.Job.TheVariants.{Map, MapUnder, Ea
 use Rattle.command_words.specs.declared.words.FileNames.{FileNames}
 use Rattle.command_words.specs.declared.words.FileNames.TheVariants.{Words, EndedByZero}
 
--- the word of an argument, and an empty one where there is none
+-- the text of an argument, empty if it wasn't given
 abbrev pub word_in : Found → List ℕ → List ℕ
 word_in found name = unwrap_or (first_value found name) []
 
--- the number that decimal digits are, perhaps behind a plus, where they are one below 2^64; the default where there are none
+-- the number that decimal digits are, perhaps after a plus, if it is below 2^64; the default if there are none
 abbrev pub NumberIn : Option (List ℕ) → ℕ → ℕ → Type 0
 NumberIn None default number = number ≡ default
 NumberIn (Some text) default number = let digits = without_leading_plus text in
     IsNumeral 10 digits × (digits_value 10 digits < 2 ^ 64) → number ≡ digits_value 10 digits
 
--- likewise, and no number where there are none
+-- the same, and no number if there are no digits
 abbrev pub NumberIfAny : Option (List ℕ) → Option ℕ → Type 0
 NumberIfAny None number = number ≡ None
 NumberIfAny (Some text) number = let digits = without_leading_plus text in
@@ -38,18 +38,18 @@ abbrev pub FlagIn : Option (List ℕ) → Bool → Type 0
 FlagIn None flag = flag ≡ false
 FlagIn (Some text) flag = ((text ≡ codes "true") → flag ≡ true) × ((text ≡ codes "false") → flag ≡ false)
 
--- `little` names an order of its own, all other words the first
+-- `little` is little-endian, any other text big-endian
 abbrev pub NamesOrder : List ℕ → Order → Type 0
 NamesOrder word Big = word ≢ codes "little"
 NamesOrder word Little = word ≡ codes "little"
 
--- the path that a word is, where there is one
+-- the path that an argument is, if it was given
 abbrev pub PathIfAny : Option (List ℕ) → Option Path → Type 0
 PathIfAny None path = path ≡ None
 PathIfAny (Some word) None = ⊥
 PathIfAny (Some word) (Some path) = path_text path.steps.items ≡ word
 
--- the terms under which a value is taken
+-- the terms under which a value is accepted
 pub record HasTerms (found : Found) (terms : Terms) : Type 0 where
   pub whole : FlagIn (one_text found (codes "whole")) terms.whole
   pub most_output : NumberIfAny (one_text found (codes "max-output")) terms.most_output
@@ -59,7 +59,7 @@ pub record HasTerms (found : Found) (terms : Terms) : Type 0 where
 abbrev pub no_terms : Terms
 no_terms = record { whole = false; most_output = None; part = None; most_slots = None }
 
--- what is asked of a mapping: from which bit on, in which order, under which limit and in which mode, of which type of which pickle
+-- what a mapping is given: its first bit, its byte order, its limit of steps, its mode, its pickle and its type
 pub record AsksMapping (found : Found) (at : ℕ) (order : Order) (limit : ℕ) (mode : Mode) (pickle name : List ℕ) : Type 0 where
   pub start : IsOffsetWord (word_in found (codes "at")) at
   pub order_named : NamesOrder (word_in found (codes "endian")) order
@@ -74,13 +74,13 @@ pub record AsksBound (found : Found) (pickle name : List ℕ) (bits : ℕ) : Typ
   pub type_named : name ≡ word_in found (codes "TYPE")
   pub over : NumberIn (one_text found (codes "BITS")) 0 bits
 
--- the files that words name, or the one that a list of names is read from
+-- the files that arguments name, or the file from which a list of names is read
 abbrev pub NamesFiles : Found → FileNames → Type 0
 NamesFiles found (Words names) = (first_value found (codes "files0-from") ≡ None)
     × (map string_bytes names.items ≡ option_map_or raw_values (matched_of found (codes "FILE")) [])
 NamesFiles found (EndedByZero path) = first_value found (codes "files0-from") ≡ Some (string_bytes path)
 
--- a job is what the words of its command ask for
+-- a job is what the arguments of its command request
 abbrev pub Asks : Found → Job → Type 0
 Asks found (Map at order limit mode pickle name file) = AsksMapping found at order limit mode (string_bytes pickle) (string_bytes name)
     × HasTerms found no_terms × (string_bytes file ≡ word_in found (codes "FILE"))
@@ -114,14 +114,14 @@ IsJobOf command (Dump from size ruler file) = command ≡ Some (codes "dump")
 IsJobOf command (Check pickle) = IsOther command (codes "map") × IsOther command (codes "each") × IsOther command (codes "bound")
     × IsOther command (codes "types") × IsOther command (codes "formats") × IsOther command (codes "dump")
 
--- a word is no offset below 2^64
+-- an argument isn't an offset below 2^64
 abbrev pub IsNoOffset : List ℕ → Type 0
 IsNoOffset word = (bits : ℕ) → IsOffsetWord word bits → 2 ^ 64 ≤ bits
 
--- nor one of whole bytes
+-- nor an offset of whole bytes
 abbrev pub IsNoByteOffset : List ℕ → Type 0
 IsNoByteOffset word = (bytes : ℕ) → IsOffsetWord word (8 * bytes) → 2 ^ 64 ≤ 8 * bytes
 
--- the words of a dump name no bytes: one of them isn't such an offset
+-- the arguments of a dump don't name bytes: one of them isn't such an offset
 abbrev pub IsNoRange : Found → Type 0
 IsNoRange found = IsNoByteOffset (word_in found (codes "from")) ⊎ IsNoByteOffset (word_in found (codes "size"))

@@ -1,4 +1,4 @@
--- Offsets as words of a command line.
+-- Offsets as arguments.
 use Rattle.std.specs.Prelude.{◌≡◌, ℕ, ◌*◌, ◌≤◌, List, ◌∷◌, ◌++◌, ◌⊎◌, codes}
 use Rattle.std.specs.Str.Parse.{IsNumeral, digits_value}
 
@@ -9,7 +9,7 @@ IsUnit unit bits =
     ⊎ (((unit ≡ codes "B") × (bits ≡ 8))
     ⊎ (IsNumeral 10 unit × (digits_value 10 unit ≡ bits) × (1 ≤ bits) × (bits ≤ 4294967295)))
 
--- a word that names so many bits: a magnitude in decimal digits, `#` (byte 35), and the unit that it counts
+-- an argument that names so many bits: a magnitude in decimal digits, `#` (byte 35), and the unit that it counts
 pub record IsOffsetWord (word : List ℕ) (bits : ℕ) : Type 0 where
   pub magnitude : List ℕ
   pub unit : List ℕ

@@ -13,7 +13,7 @@ abbrev pub steps_text : List Step → List ℕ
 steps_text [] = []
 steps_text (step ∷ steps) = step_text step ++ steps_text steps
 
--- a dot for the value itself
+-- the path to the value itself is a dot
 abbrev pub path_text : List Step → List ℕ
 path_text [] = codes "."
 path_text (step ∷ steps) = steps_text (step ∷ steps)

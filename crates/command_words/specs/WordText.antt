@@ -1,4 +1,4 @@
--- How a word of the command line is shown where the words are wrong.
+-- How a usage error prints an argument.
 use Rattle.std.specs.Prelude.{ℕ, ◌/◌, ◌%◌, ◌&&◌, List, [], ◌∷◌, ◌++◌, ◌==◌, nat_le, if◌then◌else◌, codes}
 use Rattle.std.specs.List.{flat_map}
 use Rattle.text_forms.specs.HexDigits.{hex_digit}
@@ -6,7 +6,7 @@ use Rattle.text_forms.specs.HexDigits.{hex_digit}
 abbrev pub digits_text : ℕ → List ℕ
 digits_text byte = codes "\\x" ++ hex_digit (byte / 16) ∷ hex_digit (byte % 16) ∷ []
 
--- a byte from the space (32) to `~` (126) stands for itself, any other as in a string: `\n`, `\t`, or `\x` and two digits
+-- a byte from the space (32) to `~` (126) is itself, any other is `\n`, `\t`, or `\x` and two hexadecimal digits
 abbrev pub word_byte : ℕ → List ℕ
 word_byte byte =
     if nat_le 32 byte && nat_le byte 126 then byte ∷ []

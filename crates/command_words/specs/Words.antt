@@ -1,4 +1,4 @@
--- What words ask for.
+-- What arguments request.
 use Rattle.std.specs.Prelude.{◌≡◌, ◌≢◌, ℕ, false, List, Option, Some, None, string_bytes, codes}
 use Rattle.text_forms.specs.declared.mode.Mode.{Mode}
 use Rattle.text_forms.specs.declared.mode.Mode.TheVariants.{Flat, Tree, Json, Lines}
@@ -18,18 +18,18 @@ IsCheckOf name (Types pickle) = ⊥
 IsCheckOf name Formats = ⊥
 IsCheckOf name (Dump from size ruler file) = ⊥
 
--- likewise, and no refusal of it is to be explained
+-- the same, without an explanation of a refusal
 abbrev pub IsBareCheckOf : List ℕ → Asked → Type 0
 IsBareCheckOf name asked = IsCheckOf name asked.job × (asked.why ≡ false)
 
--- `tree`, `json` and `lines` name modes of their own, all other words the first
+-- `tree`, `json` and `lines` name their modes, any other text is the mode `flat`
 abbrev pub NamesMode : List ℕ → Mode → Type 0
 NamesMode word Flat = (word ≢ codes "tree") × (word ≢ codes "json") × (word ≢ codes "lines")
 NamesMode word Tree = word ≡ codes "tree"
 NamesMode word Json = word ≡ codes "json"
 NamesMode word Lines = word ≡ codes "lines"
 
--- a mode that a word names, or none where there is no word
+-- the mode that an argument names, or none if it wasn't given
 abbrev pub NamesModeIfAny : Option (List ℕ) → Option Mode → Type 0
 NamesModeIfAny None None = Unit {0}
 NamesModeIfAny None (Some mode) = ⊥

@@ -1,4 +1,4 @@
-//! What is asked of a run, and the words of the command line that ask it.
+//! The arguments, and the job that they request.
 #![tactic(auto)]
 
 pub mod ask;

@@ -1,14 +1,16 @@
-//! Offsets as words of a command line, such as `8#B`.
+//! Offsets as arguments, such as `8#B`.
 ghost use Rattle.std.specs.Prelude.{◌≡◌, ℕ, ◌<◌, ◌≤◌, ◌^◌, ◌==◌, IfNone, IfSome, SomeIff, position};
 ghost use Rattle.std.specs.Str.Parse.{IsNumeral, digits_value};
 ghost use Rattle.command_words.specs.OffsetWord.{IsOffsetWord, IsUnit};
 
 const LARGEST_UNIT: u64 = 4_294_967_295;
 
-/// How many bits an offset word names, where the word has the form of one and they are below 2^64.
+/// The number of bits that an offset argument names, such as 64 for `8#B`. `None` if the argument doesn't have the form
+/// of an offset, or names 2^64 bits or more.
 ///
-/// The form is this project's profile of GNU poke's offsets: decimal digits, `#`, and a unit that is `b` (a bit), `B` (a byte) or decimal
-/// digits with a value from 1 to 4,294,967,295 (bits). Leading zeros are allowed in both numbers, signs and blanks in none.
+/// The form is this project's profile of GNU poke's offsets: decimal digits, `#`, and a unit. The unit is `b` (a bit),
+/// `B` (a byte) or a number of bits from 1 to 4,294,967,295 in decimal digits. Both numbers may have leading zeros.
+/// Neither may have a sign or blanks.
 pub fn offset_word(word: &[u8]) -> Option<u64>
     ensures some { IfSome result (IsOffsetWord word.now) }
     ensures none { IfNone result ((bits : ℕ) → IsOffsetWord word.now bits → 2 ^ 64 ≤ bits) }
@@ -36,7 +38,7 @@ fn unit_bits(unit: &[u8]) -> Option<u64>
     }
 }
 
-// The value of decimal digits, where it is below 2^64.
+// The value of decimal digits, if it is below 2^64.
 fn number(digits: &[u8]) -> Option<u64>
     ensures { SomeIff result (IsNumeral 10 digits.now × (digits_value 10 digits.now < 2 ^ 64)) (digits_value 10 digits.now) }
 {

@@ -1,4 +1,4 @@
-//! Paths to the parts of a value, as words of a command line.
+//! Paths to the parts of a value, as arguments.
 
 ghost use Rattle.std.specs.Prelude.{◌≡◌, ◌≤◌, ◌<◌, [], ◌∷◌, ◌++◌, length, codes, decimal, IfOk, IfSome, OnOk};
 ghost use Rattle.command_words.specs.Paths.{step_text, steps_text, path_text};
@@ -11,28 +11,28 @@ use thiserror::Error;
 /// A step from a value to one of its parts.
 #[derive(Debug, Drop, PartialEq, Eq)]
 pub enum Step {
-    /// The field of a struct, or the alternative taken of a union, that has this name.
+    /// The field of a struct, or the alternative that a union matched, with this name.
     Field(Vec<u8>),
-    /// The nameless field at this place among the declared ones, from 0.
+    /// The nameless field at this place among the declared fields, counted from 0.
     Place(u64),
-    /// The element of an array at this place, from 0.
+    /// The element of an array at this place, counted from 0.
     Element(u64),
 }
 
-/// The steps to a part of a value; none lead to the value itself.
+/// The steps to a part of a value. Without steps it is the path to the value itself.
 #[derive(Debug, Drop, PartialEq, Eq)]
 pub struct Path {
-    /// The steps, the first from the value itself.
+    /// The steps in order. The first starts at the value itself.
     pub steps: Vec<Step>,
 }
 
-/// Why a word is no path.
+/// Why an argument isn't a path.
 #[derive(Clone, Copy, Debug, Drop, PartialEq, Eq, Error)]
 pub enum PathFault {
-    /// It has not the form of one, or a number in it is 2^64 or more.
+    /// It doesn't have the form of a path, or a number in it is 2^64 or more.
     #[error("not a path")]
     Form,
-    /// There was no memory.
+    /// An allocation failed.
     #[error("fault Memory")]
     Memory,
 }
@@ -45,11 +45,15 @@ impl From<AllocError> for PathFault {
     }
 }
 
-/// The path that a word is, such as `.`, `.name`, `[2].name` or `.name[0].1`.
+/// Reads a path, such as `.`, `.name`, `[2].name` or `.name[0].1`.
 ///
-/// A dot alone is the value itself. Else there is a step or more: `.name` to the field or alternative of a name, `.place` to a nameless
-/// field, `[place]` to an element. A name is of letters, digits and `_`, and begins with no digit; a place has decimal digits without leading
-/// zeros and is below 2^64. It is the form in which this project's profile writes the places of values.
+/// A dot alone is the value itself. Any other path has one step or more:
+/// - `.name` leads to the field or alternative with that name;
+/// - `.place` leads to a nameless field;
+/// - `[place]` leads to an element.
+///
+/// A name has letters, digits and `_`, and doesn't begin with a digit. A place is below 2^64, in decimal digits without
+/// leading zeros. This form is this project's own; the mode `lines` prints it.
 pub fn read_path(alloc: Global, word: &[u8]) -> Result<Path, PathFault>
     ensures { IfOk result (λ path. path_text path.steps.items ≡ word.now) }
 {
@@ -87,7 +91,7 @@ fn add(steps: &mut Vec<Step>, step: Step) -> Result<(), PathFault>
     }
 }
 
-// How many bytes the first step of a text has.
+// The number of bytes in the first step of a text.
 fn step_len(text: &[u8]) -> usize
     requires { 0 < length text.now }
     ensures least { 0 < result }
@@ -133,7 +137,7 @@ fn copy(alloc: Global, bytes: &[u8]) -> Result<Vec<u8>, AllocError>
     Ok(copy)
 }
 
-// Whether bytes are a name: letters, digits and `_`, and first no digit.
+// Whether bytes are a name: letters, digits and `_`, the first not a digit.
 fn is_name(bytes: &[u8]) -> bool {
     match bytes.first() {
         Some(first) if !first.is_ascii_digit() => bytes
@@ -156,7 +160,7 @@ fn read_element(place: &[u8]) -> Result<Step, PathFault>
     }
 }
 
-// The number that has these decimal digits, without leading zeros, where it is below 2^64.
+// The number with these decimal digits, if it is below 2^64 and they have no leading zeros.
 fn number(digits: &[u8]) -> Option<u64>
     ensures { IfSome result (λ number. decimal number ≡ digits.now) }
 {

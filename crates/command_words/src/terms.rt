@@ -1,19 +1,19 @@
-//! The terms under which a mapped value is accepted and written.
+//! The terms under which a mapped value is accepted and printed.
 
 ghost use Rattle.std.specs.Prelude.{◌≡◌, false, None};
 
 use crate::path::Path;
 
-/// What a mapped value has to meet before it is written. [`Terms::none`] asks for nothing.
+/// What a mapped value must meet before it is printed. Every value meets [`Terms::none`].
 #[derive(Debug, Drop, PartialEq, Eq)]
 pub struct Terms {
-    /// Whether the value has to end with the file's last bit.
+    /// Whether the value must end with the file's last bit.
     pub whole: bool,
-    /// The most bytes of its text, with the line feed that ends it; nothing where any length will do.
+    /// The most bytes of the printed value, the line feed at its end included. `None` is no limit.
     pub most_output: Option<u64>,
-    /// The path to the part that is written; nothing for the value itself.
+    /// The path to the part that is printed. `None` prints the value itself.
     pub part: Option<Path>,
-    /// The most slots of each kind that its mapping may fill, reserved before it; nothing where any number will do.
+    /// The most slots of each kind that the mapping may fill. They are reserved before it starts. `None` is no limit.
     pub most_slots: Option<u64>,
 }
 

@@ -1,4 +1,4 @@
-//! The words of the command line.
+//! Reads the arguments.
 mod commands;
 mod found;
 mod shown;
@@ -24,13 +24,13 @@ use std::alloc::{AllocError, Global};
 use text_forms::mode::Mode;
 use thiserror::Error;
 
-/// What is told where words are wrong, but not as they are shown.
+/// The usage error for arguments that are wrong, but whose escaped forms clap accepts.
 const WRONG_WORD: &str = "error: a word has bytes that aren't printed\n";
 
-/// What a command line asks for.
+/// The job that the arguments request.
 #[derive(Debug, Drop, PartialEq, Eq)]
 pub enum Job {
-    /// Map a type over a file, from a bit on.
+    /// Map a type over a file, from the bit `at` on.
     Map {
         at: u64,
         order: Order,
@@ -40,7 +40,7 @@ pub enum Job {
         name: String,
         file: String,
     },
-    /// Map a type over a file, from a bit on, and take the value where it meets the terms. At least one is asked for.
+    /// Map a type over a file, from the bit `at` on, and print the value if it meets the terms. At least one is given.
     MapUnder {
         at: u64,
         order: Order,
@@ -51,7 +51,7 @@ pub enum Job {
         name: String,
         file: String,
     },
-    /// Map a type over one file after the other, with a line for each.
+    /// Map a type over one file after another, and print a line for each.
     Each {
         at: u64,
         order: Order,
@@ -62,14 +62,14 @@ pub enum Job {
         name: String,
         files: FileNames,
     },
-    /// Tell the most steps and slots that mapping a type over so many bits takes.
+    /// Print the most steps and slots that a mapping of a type over `bits` bits takes.
     Bound {
         pickle: String,
         name: String,
         bits: u64,
     },
-    /// Tell the most steps and slots that mapping a type over so many bits takes, and the most bytes of its text in a
-    /// mode, or in any.
+    /// Print the most steps and slots that a mapping of a type over `bits` bits takes, and the most bytes of its
+    /// printed value in `mode`, or in every mode.
     BoundText {
         pickle: String,
         name: String,
@@ -80,13 +80,13 @@ pub enum Job {
     Check {
         pickle: String,
     },
-    /// Tell the types that a pickle declares.
+    /// Print the types that a pickle declares.
     Types {
         pickle: String,
     },
     /// Print the pickles that are installed.
     Formats,
-    /// Dump the bytes of a file, from a byte on.
+    /// Dump `size` bytes of a file, from the byte `from` on.
     Dump {
         from: u64,
         size: u64,
@@ -95,28 +95,28 @@ pub enum Job {
     },
 }
 
-/// Where the names of many files stand.
+/// Where the names of many files are.
 #[derive(Debug, Drop, PartialEq, Eq)]
 pub enum FileNames {
-    /// In the words.
+    /// In the arguments.
     Words(Vec<String>),
-    /// In the file of this name, or in standard input for `-`, each ended by a byte 0.
+    /// In the file of this name, or in standard input for `-`. Each name ends with a byte 0.
     EndedByZero(String),
 }
 
-/// Why words are no job.
+/// Why arguments aren't a job.
 #[derive(Debug, Drop, PartialEq, Eq, Error)]
 pub enum WordFault {
-    /// The words are wrong, as the text tells.
+    /// A usage error. The text is its message.
     #[error("{0}")]
     Usage(String),
-    /// The words ask for help, or for the version, which is the text.
+    /// The arguments request help or the version. The text is what to print.
     #[error("{0}")]
     Help(String),
-    /// A word that should be an offset has no form of one, is 2^64 bits or more, or isn't of whole bytes where it should be.
+    /// An argument isn't an offset, is 2^64 bits or more, or isn't whole bytes for an option that needs them.
     #[error("refused offset")]
     Offset,
-    /// There was no memory.
+    /// An allocation failed.
     #[error("fault Memory")]
     Memory,
 }
@@ -129,28 +129,28 @@ impl From<AllocError> for WordFault {
     }
 }
 
-/// A job, and whether a refusal by it is explained.
+/// A job, and whether it explains a refusal or a fault.
 #[derive(Debug, Drop, PartialEq, Eq)]
 pub struct Asked {
-    /// What is asked for.
+    /// The job that is requested.
     pub job: Job,
     /// Whether `--why` was given.
     pub why: bool,
 }
 
-/// What the words of a command line, without the program's name, ask for. No words at all ask for a check of standard input, `-`.
-/// That `--why` is given is left out: [`read_asked`] tells it too.
+/// Reads the arguments, without the program's name, as a job. Without arguments the job is a check of standard input,
+/// `-`. [`read_asked`] also returns whether `--why` was given.
 ///
-/// All words are read before any of them is judged as an offset. What the commands, their options and defaults are is this project's
-/// profile; `--help` tells them.
+/// clap reads all arguments before any of them is read as an offset or a path. The commands, their options and their
+/// defaults are this project's own; `--help` prints them.
 pub fn read_words(alloc: Global, words: Vec<String>) -> Result<Job, WordFault>
     ensures { words.items ≡ [] → MatchResult result (IsCheckOf (codes "-")) (λ fault. fault ≡ WordFault.Memory) }
 {
     Ok(read_asked(alloc, words)?.job)
 }
 
-/// What the words of a command line, without the program's name, ask for, and whether `--why` is among them. No words at all
-/// ask for a check of standard input, `-`, without it.
+/// Reads the arguments, without the program's name, as a job, and whether `--why` is among them. Without arguments the
+/// job is a check of standard input, `-`, without `--why`.
 pub fn read_asked(alloc: Global, words: Vec<String>) -> Result<Asked, WordFault>
     ensures { words.items ≡ [] → MatchResult result (IsBareCheckOf (codes "-")) (λ fault. fault ≡ WordFault.Memory) }
 {
@@ -182,7 +182,7 @@ fn asks_why(matches: &ArgMatches<'_>) -> bool {
     }
 }
 
-// The words after the program's name, which clap's texts show.
+// The arguments after the program's name, which clap's messages print.
 fn after_name<'a>(alloc: Global, words: &'a [String]) -> Result<Vec<&'a str>, AllocError> {
     let mut named = Vec::new(alloc);
     named.push(PROGRAM)?;
@@ -204,9 +204,9 @@ fn told(alloc: Global, error: &clap::Error, words: &[String]) -> Result<WordFaul
     }
 }
 
-// What is wrong with words. clap's text holds some of them, so it is asked for its text on the words as they are shown: else a
-// word with a line feed in it could pass for a line of that text. A backslash is in no option, no command and no value that an
-// option takes, so what is wrong with a word stays wrong.
+// The usage error for arguments. clap's message repeats some of them, and an argument with a line feed could pass for a
+// line of the message. clap therefore reads the escaped arguments once more, and its message on those is printed. No
+// option, command or value of an option has a backslash, so an argument that was wrong stays wrong.
 fn usage_of(alloc: Global, words: &[String]) -> Result<String, AllocError> {
     let shown = shown_words(alloc, words)?;
     let named = after_name(alloc, shown.as_slice())?;
@@ -241,7 +241,7 @@ fn read_command(alloc: Global, matches: &ArgMatches<'_>) -> Result<Job, WordFaul
     }
 }
 
-// The order of bytes that a word names, and the default where it names none.
+// The byte order that an argument names: `little`, or the default, big-endian, for any other.
 fn order_of(word: &str) -> Order
     ensures { NamesOrder word.now result }
 {
@@ -324,7 +324,7 @@ fn copies(alloc: Global, words: &[&str]) -> Result<Vec<String>, AllocError>
     Ok(copies)
 }
 
-// The terms that options ask for.
+// The terms that the options request.
 fn terms_of(alloc: Global, found: &ArgMatches<'_>) -> Result<Terms, WordFault>
     ensures terms { IfOk result (HasTerms (found_of found.now)) }
     ensures path { IfErr result (λ fault. fault ≡ WordFault.Offset → ⊥) }
@@ -351,7 +351,7 @@ fn has_no_terms(terms: &Terms) -> bool
     }
 }
 
-// The path to the part that is asked for, if one is.
+// The path to the requested part, if there is one.
 fn part_of(alloc: Global, found: &ArgMatches<'_>) -> Result<Option<Path>, WordFault>
     ensures part { IfOk result (PathIfAny (first_value (found_of found.now) (codes "get"))) }
     ensures path { IfErr result (λ fault. fault ≡ WordFault.Offset → ⊥) }
@@ -362,7 +362,7 @@ fn part_of(alloc: Global, found: &ArgMatches<'_>) -> Result<Option<Path>, WordFa
     }
 }
 
-// The path that a word is.
+// The path that an argument is.
 fn path_of(alloc: Global, word: &str) -> Result<Path, WordFault>
     ensures path { IfOk result (λ path. path_text path.steps.items ≡ word.now) }
     ensures fault { IfErr result (λ fault. fault ≡ WordFault.Offset → ⊥) }
@@ -381,7 +381,7 @@ fn no_path(alloc: Global, word: &str) -> Result<String, AllocError> {
     )
 }
 
-// The mode that a word names, and the default where it names none.
+// The mode that an argument names: the default, `flat`, for any but the three others.
 fn mode_of(word: &str) -> Mode
     ensures { NamesMode word.now result }
 {
@@ -412,7 +412,7 @@ fn read_bound(alloc: Global, found: &ArgMatches<'_>) -> Result<Job, WordFault>
     Ok(Job::Bound { pickle, name, bits })
 }
 
-// The mode that is asked for, if one is.
+// The mode that is requested, if one is.
 fn mode_in(found: &ArgMatches<'_>) -> Option<Mode>
     ensures { NamesModeIfAny (first_value (found_of found.now) (codes "mode")) result }
 {
@@ -456,7 +456,7 @@ fn read_dump(alloc: Global, found: &ArgMatches<'_>) -> Result<Job, WordFault>
     })
 }
 
-// The bits that a word names.
+// The number of bits that an argument names.
 fn bits_of(word: &str) -> Result<u64, WordFault>
     ensures ok { IfOk result (IsOffsetWord word.now) }
     ensures err { IfErr result (λ fault. fault ≡ WordFault.Offset) }
@@ -468,7 +468,7 @@ fn bits_of(word: &str) -> Result<u64, WordFault>
     }
 }
 
-// The bytes that a word names, where they are whole.
+// The number of bytes that an argument names, if it names whole bytes.
 fn bytes_of(word: &str) -> Result<u64, WordFault>
     ensures ok { IfOk result (λ bytes. IsOffsetWord word.now (8 * bytes)) }
     ensures err { IfErr result (λ fault. fault ≡ WordFault.Offset) }

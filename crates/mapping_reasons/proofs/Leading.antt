@@ -1,4 +1,4 @@
--- Ways that go on by a step.
+-- Ways with one more step.
 use Rattle.std.proofs.Common.{◌≡◌, ℕ, ◌+◌, ◌<◌, List, [], ◌∷◌, ◌++◌, Some, length, get_or, take, sym, ap, ◌∙◌, subst}
 use Rattle.std.proofs.lemmas.List.{append-nil, append_assoc, map_more}
 use Rattle.pickle_types.specs.declared.node.Node.{Node}
@@ -23,7 +23,7 @@ leads_on {type} {reached} part place (further {part = first} {places = places} {
     subst (λ s. LeadsTo type (k ∷ (places ++ place ∷ [])) s part.type) (sym (append_assoc (step_text type first.name k) steps (step_text reached part.name place)))
     (further k there (leads_on part place rest e))
 
--- so does a step that is said behind the others
+-- so does a step that is added after the others
 pub steps_on : (nodes : List Node) (root node : ℕ) (places text said : List ℕ) (to : Step) (part : Portion) → LeadsTo (type_of nodes root) places text (type_of nodes node)
     → to.node ≡ node → IsPortion nodes to part → said ≡ text ++ joint_text part.joint to.place
     → LeadsTo (type_of nodes root) (places ++ to.place ∷ []) said (type_of nodes part.node)

@@ -31,7 +31,7 @@ module _ {A : Type 0} (space : SpaceView) (type : PokeType) (ask : Ask) (limit s
       (g.value, record { steps = steps; made = made; means = subst (λ l. Answer (bits_of bytes) type ask.order ask.start l (Ok g.value) steps made) same g.holds })
   value_meant nodes store (Err f) h = tt
 
--- what is told of a fault, where the mapping ended with it, by a type that is the one that was mapped
+-- what is printed about a fault that ended the mapping, for a type that is the one that was mapped
 pub told_again : (run : Run) (type found : PokeType) (again : Again) (fault : MapFault) (text : List ℕ) → found ≡ type → again.end ≡ Err fault
     → IfErr again.end (HasFault run.space type run.ask) → KeepsPart run.space type run.ask again
     → (HasFault run.space found run.ask fault → IfSome again.kept.fault (HasThere run.space found run.ask fault) → TellsWhy run found text) → TellsWhy run type text

@@ -1,4 +1,4 @@
--- The line that tells a fault.
+-- The line of a fault.
 use Rattle.std.proofs.Common.{◌≡◌, ℕ, List, [], Option, Some, None, sym, ap, ◌∙◌, subst, inl, inr}
 use Rattle.pickle_meaning.specs.declared.faults.MapFaultKind.{MapFaultKind}
 use Rattle.pickle_meaning.specs.declared.faults.MapFaultKind.TheVariants as fault
@@ -17,7 +17,7 @@ abbrev IsLine : Saying → Type 0
 IsLine (Text text) = ⊥
 IsLine (Line status line) = Unit {0}
 
--- faults are told by lines
+-- faults are printed as lines
 is_line : (most : Option ℕ) (start : ℕ) (kind : MapFaultKind) (at : ℕ) → IsLine (end_saying most start kind at)
 is_line None start fault.End at = tt
 is_line None start fault.Constraint at = tt
@@ -50,7 +50,7 @@ line_told : (saying : Saying) (items : List ℕ) → IsLine saying → IsSaid sa
 line_told (Text text) items h said = absurd h
 line_told (Line status line) items h said = whole_line status line items said.1
 
--- what is told with status 1 is the line of the fault
+-- what is printed with exit status 1 is the line of the fault
 pub fault_told : (most : Option ℕ) (start : ℕ) (kind : MapFaultKind) (at : ℕ) (items : List ℕ)
     → IsSaid (end_saying most start kind at) Fault None None (Some []) (Some items) → end_saying most start kind at ≡ Line Fault items
 fault_told most start kind at items said = line_told (end_saying most start kind at) items (is_line most start kind at) said

@@ -1,4 +1,4 @@
--- What is found along ways from a type to its parts, in the table that has these types.
+-- What is found along the ways from a type to its parts, in the table that has these types.
 use Rattle.std.specs.Prelude.{ℕ, List, map, IfErr, IfSome}
 use Rattle.bit_space.specs.SpaceView.{SpaceView}
 use Rattle.pickle_types.specs.declared.node.Node.{Node}
@@ -31,14 +31,14 @@ way_places way = places_of way.steps.items
 abbrev pub IsPartOf : List Node → (root : ℕ) → Way → Found → Type 0
 IsPartOf nodes root way part = IsWayTo (type_of nodes root) (way_places way) part.path.items (type_of nodes part.node)
 
--- what was walked to by places is a part of the type at a place of the table, with the steps to it
+-- what was reached by places is a part of the type at a place of the table, with the steps to it
 abbrev pub IsReachedBy : List Node → (root : ℕ) → (places : List ℕ) → Walked → Type 0
 IsReachedBy nodes root places part = LeadsTo (type_of nodes root) places part.text.bytes.items (type_of nodes part.node)
 
--- a part that is kept is the one that has a fault of the type
+-- a stored part is the one that has a fault of the type
 abbrev pub HasThere : SpaceView → PokeType → Ask → MapFault → Fault → Type 0
 HasThere space type ask fault part = IsFaultAt space type ask fault (way_places part.way)
 
--- what is kept of a mapping that ended with a fault: the part that has it, if any
+-- what is stored of a mapping that ended with a fault: the part that has it, if any
 abbrev pub KeepsPart : SpaceView → PokeType → Ask → Again → Type 0
 KeepsPart space type ask again = IfErr again.end (λ fault. IfSome again.kept.fault (HasThere space type ask fault))

@@ -26,7 +26,7 @@ joint_text Element place = in_brackets place
 joint_text (Named name) place = codes "." ++ name.now
 joint_text Nameless place = codes "." ++ decimal place
 
--- a portion, where the nodes of the table have these types
+-- a portion, if the nodes of the table have these types
 abbrev pub typed : (ℕ → PokeType) → Portion → TypePart
 typed at p = record { name = joint_name p.joint; type = at p.node }
 
@@ -46,7 +46,7 @@ pub record IsPartPortion (parts : List Part) (place : ℕ) (p : Portion) : Type 
   pub step : joint_text p.joint place ≡ field_step (joint_name p.joint) place
   pub below : (i : ℕ) → PartsBelow i parts → p.node < i
 
--- the part of the node from which a step goes
+-- the part to which a step leads from its node
 pub record IsPortion (nodes : List Node) (to : Step) (p : Portion) : Type 0 where
   pub part : part_at (type_of nodes to.node) to.place ≡ Some (typed (type_of nodes) p)
   pub step : step_text (type_of nodes to.node) (joint_name p.joint) to.place ≡ joint_text p.joint to.place

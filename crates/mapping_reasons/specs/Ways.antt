@@ -1,10 +1,10 @@
--- Ways from a type to its parts, in the form in which values of the type are printed over lines.
+-- Ways from a type to its parts, with the paths that the mode `lines` prints.
 use Rattle.std.specs.Prelude.{◌≡◌, ℕ, zero, suc, List, [], ◌∷◌, ◌++◌, Option, Some, None}
 use Rattle.pickle_types.specs.Types.{PokeType, IntegerOf, OffsetOf, StringOf, ArrayOf, StructOf, IntegralOf, UnionOf, Fields, NoFields, FieldThen, Parts, NoParts, PartThen}
 use Rattle.value_text.specs.PathText.{field_step, path_text}
 use Rattle.text_forms.specs.Brackets.{in_brackets}
 
--- a part of a type: its type, and the name of a field or an alternative, where it has one
+-- a part of a type: its type, and the name of a field or an alternative, if it has one
 pub record TypePart : Type 0 where
   pub name : Option (List ℕ)
   pub type : PokeType
@@ -21,7 +21,7 @@ alternative_at NoParts place = None
 alternative_at (PartThen name order type constraint rest) zero = Some (record { name = name; type = type })
 alternative_at (PartThen name order type constraint rest) (suc place) = alternative_at rest place
 
--- the part at a place: an element at any, else a field or an alternative; scalars and strings have none
+-- the part at a place: an array has an element at every place, scalars and strings have no parts
 abbrev pub part_at : PokeType → (place : ℕ) → Option TypePart
 part_at (IntegerOf type) place = None
 part_at (OffsetOf type unit) place = None

@@ -1,4 +1,4 @@
--- What is told of why a mapping stops.
+-- What is printed about why a mapping stops.
 use Rattle.std.specs.Prelude.{◌≡◌, ℕ, List, [], ◌++◌, Option, Some, Result, Vec, IfOk, IfSome, codes}
 use Rattle.std.specs.declared.alloc.Global.{Global}
 use Rattle.bit_space.specs.SpaceView.{SpaceView}
@@ -37,12 +37,12 @@ pub data TellsArrays (type : PokeType) : List ℕ → Type 0 where
   uncounted : {lines : List ℕ} (count : List ℕ) → TellsArrays type lines
       → TellsArrays type (lines ++ (codes "  " ++ (count ++ codes " ended early before these\n")))
 
--- how far the path leads to the part that is asked for, of a run that ended with NoSuchPart; or nothing
+-- for a run that ended with NoSuchPart, how far the path to the requested part leads; or nothing
 pub data TellsMissing (part : Option Path) (line : List ℕ) : List ℕ → Type 0 where
   none_missing : TellsMissing part line []
   tells_missing : {path : Path} (missing : List ℕ) → part ≡ Some path → line ≡ fault_line (codes "NoSuchPart") → TellsMissing part line missing
 
--- a run that is over: the file, what was asked of it, under which terms, and the line that the run ended with
+-- a finished run: the file, what the run was given, its terms, and the line with which it ended
 pub record Run : Type 0 where
   pub space : SpaceView
   pub ask : Ask
@@ -58,8 +58,8 @@ pub data TellsFault (run : Run) (type : PokeType) (fault : MapFault) : List ℕ 
   no_fault_part : TellsFault run type fault []
   tells_fault : {places text : List ℕ} → IsFaultAt run.space type run.ask fault places → TellsPart type places text → TellsFault run type fault text
 
--- What is told of a run that ended with a line, or with none: of a fault the part and the arrays, of a value the arrays. The line
--- is the one that tells the fault which the type has on the file's bits.
+-- What is printed about a run that ended with a line, or with none: for a fault the part and the arrays, for a value
+-- the arrays. The line is that of the fault which the type has on the file's bits.
 pub data TellsWhy (run : Run) (type : PokeType) : List ℕ → Type 0 where
   nothing : TellsWhy run type []
   of_fault : {fault : MapFault} {part arrays : List ℕ} → HasFault run.space type run.ask fault
@@ -68,21 +68,21 @@ pub data TellsWhy (run : Run) (type : PokeType) : List ℕ → Type 0 where
   of_value : {missing arrays : List ℕ} → HasValue run.space type run.ask
       → TellsMissing run.terms.part run.line missing → TellsArrays type arrays → TellsWhy run type (missing ++ arrays)
 
--- what was made is told of a run's fault, where the part that is kept has it
+-- the text is about a run's fault, if the stored part has it
 abbrev pub TellsOfPart : {E : Type 0} → PokeType → Option Fault → Result Text E → Type 0
 TellsOfPart type kept made =
     (run : Run) (fault : MapFault) → IfSome kept (HasThere run.space type run.ask fault) → IfOk made (λ text. TellsFault run type fault text.bytes.items)
 
--- what was made is told of the run, where its type has this fault on the file's bytes, and the part that is kept has it
+-- the text is about the run, if its type has this fault on the file's bytes and the stored part has it
 abbrev pub TellsOfFault : {E : Type 0} → Run → PokeType → MapFault → Option Fault → Result (Vec ℕ Global) E → Type 0
 TellsOfFault run type fault kept made =
     HasFault run.space type run.ask fault → IfSome kept (HasThere run.space type run.ask fault) → IfOk made (λ text. TellsWhy run type text.items)
 
--- the same, where its type has a value there
+-- the same, if its type has a value there
 abbrev pub TellsOfValue : {E : Type 0} → Run → PokeType → Result (Vec ℕ Global) E → Type 0
 TellsOfValue run type made = HasValue run.space type run.ask → IfOk made (λ text. TellsWhy run type text.items)
 
--- What is told of a run by its pickle: nothing, or as above of the type of the name that is asked for.
+-- What is printed about a run from its pickle: nothing, or the above for the type of the requested name.
 pub data ExplainsRun (pickle : List ℕ) (run : Run) : List ℕ → Type 0 where
   untold : ExplainsRun pickle run []
   explains : {type : PokeType} {text : List ℕ} → IsAsked pickle run.ask.name.now type → TellsWhy run type text → ExplainsRun pickle run text

@@ -1,4 +1,4 @@
-//! A mapping that is watched.
+//! A mapping with a watcher.
 
 ghost use Rattle.std.specs.Prelude.{ℕ, List, ◌≡◌, Some, IfOk, IfErr, OnOk};
 ghost use Rattle.bit_space.specs.SpaceView.{Keeps};
@@ -16,10 +16,10 @@ use pickle_types::table::{Table, TypeId};
 use poke_batch::ask::Ask;
 use std::alloc::{AllocError, Global};
 
-/// What was kept of a mapping that is over.
+/// What the watcher stored of a finished mapping.
 #[derive(Drop)]
 pub struct Kept {
-    /// The part that has the fault which ended it, where it is known.
+    /// The part with the fault that ended the mapping, if it is known.
     pub fault: Option<Fault>,
     /// The last arrays that ended early.
     pub ended: Vec<Ended>,
@@ -27,14 +27,14 @@ pub struct Kept {
     pub ended_count: usize,
 }
 
-/// How a mapping ended, and what was kept of it.
+/// How a mapping ended, and what the watcher stored of it.
 #[derive(Drop)]
 pub struct Again {
     pub end: Result<(), MapFault>,
     pub kept: Kept,
 }
 
-/// Maps a type into a store, which is emptied first.
+/// Maps a type into a store, which is emptied first, and stores which part has the fault and which arrays ended early.
 pub fn map_again<S: Space>(
     alloc: Global,
     table: &Table,

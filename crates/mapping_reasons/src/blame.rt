@@ -15,7 +15,7 @@ use pickle_script::text::Text;
 use pickle_types::view::Resolved;
 use std::alloc::AllocError;
 
-/// What is wrong with an expression that stops a mapping; nothing where the run stops it.
+/// What is wrong with an expression that stops a mapping. `None` if the run stops the mapping, as a limit does.
 pub fn blamed(
     seen: Seen<'_>,
     clause: Clause,
@@ -34,7 +34,7 @@ pub fn blamed(
     }))
 }
 
-/// What is wrong with an expression, as `is 0`.
+/// What is wrong with an expression, such as `is 0`.
 fn wrong(seen: Seen<'_>, e: &Resolved, kind: MapFaultKind) -> Result<Text, AllocError>
     requires { IsSoundTerm (term_of e.now) }
 {
@@ -50,7 +50,7 @@ fn wrong(seen: Seen<'_>, e: &Resolved, kind: MapFaultKind) -> Result<Text, Alloc
     }
 }
 
-/// That an expression has its value, which isn't allowed.
+/// Adds the value of an expression, which isn't allowed.
 fn say_value(seen: Seen<'_>, text: Text, e: &Resolved) -> Result<Text, AllocError>
     requires { IsSoundTerm (term_of e.now) }
 {
@@ -60,7 +60,7 @@ fn say_value(seen: Seen<'_>, text: Text, e: &Resolved) -> Result<Text, AllocErro
     }
 }
 
-/// The innermost part of an expression that has its fault.
+/// The innermost part of an expression that has the fault.
 fn culprit<'a>(seen: Seen<'a>, e: &'a Resolved) -> &'a Resolved
     requires { IsSoundTerm (term_of e.now) }
     ensures { IsSoundTerm (term_of result.now) }
@@ -104,7 +104,7 @@ fn is_faulty<'a>(seen: Seen<'a>, e: &'a Resolved) -> bool
     seen.known(e).is_none()
 }
 
-/// That a part isn't there.
+/// Adds that a part isn't there.
 fn say_absent(seen: Seen<'_>, text: Text, e: &Resolved) -> Result<Text, AllocError>
     requires { IsSoundTerm (term_of e.now) }
 {
@@ -117,7 +117,7 @@ fn say_absent(seen: Seen<'_>, text: Text, e: &Resolved) -> Result<Text, AllocErr
     }
 }
 
-/// That an array has no such element, or that an operand has not so many bits.
+/// Adds that an array has no such element, or that an operand has fewer bits than it is shifted by.
 fn say_index(seen: Seen<'_>, text: Text, e: &Resolved) -> Result<Text, AllocError>
     requires { IsSoundTerm (term_of e.now) }
 {

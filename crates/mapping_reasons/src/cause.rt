@@ -7,17 +7,17 @@ use pickle_map::mapper::stop::Stop;
 use pickle_map::mapper::watch::Clause;
 use std::alloc::Global;
 
-/// A part that stopped a mapping, or an array, or missed.
+/// A part that stopped a mapping, that ended an array, or that made an alternative fail to match.
 #[derive(Drop)]
 pub struct Fault {
-    /// The way to the part.
+    /// The path to the part.
     pub way: Way,
     pub stop: Stop,
     pub cause: Cause,
 }
 
 impl Fault {
-    /// The fault of the type itself, where the walk didn't go into it.
+    /// A fault of the type itself, for a walk that went into no part.
     pub fn of_type(alloc: Global, fault: MapFault) -> Fault {
         Fault {
             way: Way::new(alloc),
@@ -30,11 +30,11 @@ impl Fault {
 /// What failed.
 #[derive(Drop)]
 pub enum Cause {
-    /// What the stop alone tells.
+    /// Nothing beyond the stop.
     Plain,
     /// An expression.
     Expression(Blamed),
-    /// The elements of an array, which end at a bit beyond its extent.
+    /// The elements of an array, which end at a bit after its extent.
     Outgrown(Extent, u64),
     /// A union, by its alternatives.
     NoneFits(Misses),
@@ -44,45 +44,45 @@ pub enum Cause {
 #[derive(Drop)]
 pub struct Blamed {
     pub clause: Clause,
-    /// What is wrong with it, as `is 0`.
+    /// What is wrong with it, such as `is 0`.
     pub wrong: Vec<u8>,
-    /// The names in it that have values, each with its value, as `n=2UB`.
+    /// The names in it that have values, each with its value, such as `n=2UB`.
     pub names: Vec<Vec<u8>>,
 }
 
-/// The alternatives of a union that missed.
+/// The alternatives of a union that didn't match.
 #[derive(Drop)]
 pub struct Misses {
-    /// The first of them.
+    /// The first of them, which are printed.
     pub told: Vec<Miss>,
     /// How many there are in all.
     pub count: usize,
 }
 
-/// An alternative of a union that missed.
+/// An alternative of a union that didn't match.
 #[derive(Drop)]
 pub struct Miss {
-    /// How many levels there are down to that of the union for which it is kept.
+    /// How many levels there are down to that of the union for which it is stored.
     pub depth: usize,
-    /// How many levels there are down to its own union's, which may be inside that one.
+    /// How many levels there are down to that of its own union, which may be inside the other one.
     pub of: usize,
-    /// Inside how many unions its own is, in that one.
+    /// How many unions its own union is in, inside the other one.
     pub inside: usize,
-    /// The way to the part that has the fault.
+    /// The path to the part with the fault.
     pub way: Way,
     pub stop: Stop,
 }
 
-/// An array without a bound that an element's fault ended.
+/// An array without a bound that a fault of an element ended.
 #[derive(Drop)]
 pub struct Ended {
     /// Its number, counted from 0.
     pub number: usize,
-    /// The way to the array.
+    /// The path to the array.
     pub array: Way,
     /// How many elements it has.
     pub count: usize,
-    /// The way to the part that has the fault.
+    /// The path to the part with the fault.
     pub way: Way,
     pub stop: Stop,
 }

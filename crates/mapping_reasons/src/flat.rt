@@ -1,4 +1,4 @@
-//! The flat text of values, cut where it is long.
+//! Values printed on one line, cut if that is long.
 
 use itoa::Buffer;
 use pickle_map::ValueRef;
@@ -13,13 +13,13 @@ use text_forms::mode::Mode;
 use value_text::print::print;
 use value_text::print::suffix::{Suffix, suffix_of};
 
-/// The most bytes of a value's text that are shown.
+/// The most bytes that are printed of a value.
 const MOST_SHOWN: usize = 60;
 
-/// How many bytes of a value's text are laid out: one more than are shown, and its line feed.
+/// How many bytes of a printed value are stored: one more than are printed, and the line feed.
 const ROOM: usize = MOST_SHOWN + 2;
 
-/// The bytes of a text from its front.
+/// The first bytes of a text.
 #[derive(Drop)]
 struct Front {
     bytes: Vec<u8>,
@@ -38,7 +38,7 @@ impl Write for Front {
     }
 }
 
-/// The text, and behind it the flat text of what an expression comes to, cut with `..` where it is long.
+/// Adds the value of an expression to the text, on one line. A long value is cut, with `..` after it.
 pub fn say_known(alloc: Global, text: Text, known: Known<'_>) -> Result<Text, AllocError> {
     match known {
         Known::Integer(number, of) => say_integer(text, of, number),
@@ -48,7 +48,7 @@ pub fn say_known(alloc: Global, text: Text, known: Known<'_>) -> Result<Text, Al
     }
 }
 
-/// The text, and the flat text of a value behind it.
+/// Adds a printed value to the text.
 fn say_value(alloc: Global, text: Text, value: ValueRef<'_>) -> Result<Text, AllocError> {
     let mut front = Front {
         bytes: Vec::new(alloc),
@@ -68,7 +68,7 @@ fn say_value(alloc: Global, text: Text, value: ValueRef<'_>) -> Result<Text, All
     }
 }
 
-/// The text, and a number behind it, as values of its type are printed.
+/// Adds a number to the text, as values of its type are printed.
 fn say_integer(text: Text, of: IntegerType, number: i128) -> Result<Text, AllocError> {
     match suffix_of(of) {
         Some(suffix) => say_suffix(say_number(text, number)?, suffix),
@@ -83,7 +83,7 @@ fn say_integer(text: Text, of: IntegerType, number: i128) -> Result<Text, AllocE
     }
 }
 
-/// The text, and an offset behind it, as values of its type are printed.
+/// Adds an offset to the text, as values of its type are printed.
 fn say_offset(text: Text, of: IntegerType, unit: u32, magnitude: i128) -> Result<Text, AllocError> {
     let text = say_integer(text, of, magnitude)?.say(b"#")?;
     match unit {
@@ -93,13 +93,13 @@ fn say_offset(text: Text, of: IntegerType, unit: u32, magnitude: i128) -> Result
     }
 }
 
-/// The text, and the decimal digits of a number behind it.
+/// Adds the decimal digits of a number to the text.
 pub fn say_number(text: Text, number: i128) -> Result<Text, AllocError> {
     let mut digits = Buffer::new();
     text.say(digits.format(number).as_bytes())
 }
 
-/// The text, and the letters behind it by which a number's type is told.
+/// Adds the suffix of a number's type to the text.
 fn say_suffix(text: Text, suffix: Suffix) -> Result<Text, AllocError> {
     let text = if suffix.signed { text } else { text.say(b"U")? };
     match suffix.letter {

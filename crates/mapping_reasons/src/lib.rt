@@ -1,4 +1,4 @@
-//! Why a mapping stops, or an array in it: further lines, behind the one that tells the fault.
+//! Why a mapping stops, or an array in it: more lines, after the line of the fault.
 #![tactic(auto)]
 
 ghost use Rattle.std.specs.Prelude.{◌≡◌, ◌<◌, ◌++◌, length, IfOk, IsTrue};
@@ -43,10 +43,10 @@ use run_parts::accept::accept;
 use run_parts::status::Status;
 use std::alloc::{AllocError, Global};
 
-/// The lines that tell why the mapping of a type of a pickle over a file ended with a line, or which arrays ended early where it
-/// ended with none. `path` is the path of the pickle; bytes outside 0x20 to 0x7e of what is shown are escaped.
+/// The lines that say why a mapping of a type over a file ended with `line` or, if `line` is empty, which arrays ended
+/// early. `path` is the path of the pickle. Bytes outside 0x20 to 0x7e are escaped in these lines.
 ///
-/// The type is mapped again. Nothing is told where that doesn't end as the line tells.
+/// The type is mapped again. If that mapping doesn't end as `line` says, the result is empty.
 pub fn reasons<S: Space>(
     alloc: Global,
     pickle: &[u8],
@@ -70,7 +70,7 @@ pub fn reasons<S: Space>(
     Ok(text)
 }
 
-/// What [`reasons`] gives, by the table of the pickle's types.
+/// What [`reasons`] returns, from the table of the pickle's types.
 pub fn reasons_in<S: Space>(
     alloc: Global,
     pickle: &[u8],
@@ -99,7 +99,7 @@ pub fn reasons_in<S: Space>(
     Ok(text)
 }
 
-/// Where reasons are told from.
+/// What the reasons are printed from.
 fn scene_of<'p, 't>(
     alloc: Global,
     pickle: &'p [u8],
@@ -126,7 +126,8 @@ fn scene_of<'p, 't>(
     })
 }
 
-/// The lines on a mapping that gave a value, which the run's line tells with what is wrong of it, or not at all.
+/// The lines on a mapping that ended with a value. The run's line is empty, or names the term that the value fails to
+/// meet.
 fn value_reasons(
     scene: &Scene<'_, '_>,
     value: Option<ValueRef<'_>>,
@@ -146,7 +147,7 @@ fn value_reasons(
     Ok(text)
 }
 
-/// The lines on a mapping that stopped, where the run's line tells that.
+/// The lines on a mapping that stopped, if the run's line is that of its fault.
 fn fault_reasons(
     scene: &Scene<'_, '_>,
     ask: &Ask<'_>,
@@ -168,7 +169,7 @@ fn fault_reasons(
     }
 }
 
-/// Whether a run that gave a value may end with a line: with none, or with that of a term which the value doesn't meet.
+/// Whether a run with a value may end with this line: an empty one, or that of a term which the value fails to meet.
 fn is_of_value(line: &[u8]) -> bool {
     line.is_empty()
         || line.starts_with(b"fault Left ")
@@ -176,7 +177,7 @@ fn is_of_value(line: &[u8]) -> bool {
         || line.starts_with(b"fault Output ")
 }
 
-/// The lines on the part that has the fault of a mapping; none where it isn't known.
+/// The lines on the part with the fault of a mapping. Empty if the part isn't known.
 fn part_text(scene: &Scene<'_, '_>, part: &Option<Fault>) -> Result<Text, AllocError>
     requires table { IsTable scene.now.nodes.now }
     requires root { scene.now.root < length scene.now.nodes.now }
@@ -189,7 +190,7 @@ fn part_text(scene: &Scene<'_, '_>, part: &Option<Fault>) -> Result<Text, AllocE
     Ok(text)
 }
 
-/// Whether a line is the one that tells a fault, with status 1.
+/// Whether a line is the one of a fault with exit status 1.
 fn is_told(alloc: Global, ask: &Ask<'_>, terms: &Terms, fault: MapFault, line: &[u8]) -> bool
     ensures { IsTrue result → end_saying terms.now.most_slots ask.now.start fault.kind fault.at ≡ Line Faulty line.now }
 {

@@ -1,4 +1,4 @@
-//! The lines that tell why a mapping stops.
+//! The lines that say why a mapping stops.
 
 ghost use Rattle.std.specs.Prelude.{◌≡◌, ◌<◌, ◌++◌, length, codes, IfOk};
 ghost use Rattle.pickle_types.specs.Table.{IsTable};
@@ -19,7 +19,7 @@ use pickle_script::text::Text;
 use pickle_types::view::Shape;
 use std::alloc::{AllocError, Global};
 
-/// The lines on the part that has a fault; none where the type has no such part.
+/// The lines on the part with a fault. Empty if the type has no such part.
 pub fn fault_text(scene: &Scene<'_, '_>, fault: &Fault) -> Result<Text, AllocError>
     requires table { IsTable scene.now.nodes.now }
     requires root { scene.now.root < length scene.now.nodes.now }
@@ -54,7 +54,7 @@ fn laid(
     Ok(text)
 }
 
-/// What is told of a part that has a fault, behind its path.
+/// What is printed of a part with a fault, after its path.
 fn about(scene: &Scene<'_, '_>, fault: &Fault, found: &Found) -> Result<Text, AllocError>
     requires table { IsTable scene.now.nodes.now }
     requires root { scene.now.root < length scene.now.nodes.now }
@@ -74,7 +74,7 @@ fn about(scene: &Scene<'_, '_>, fault: &Fault, found: &Found) -> Result<Text, Al
     }
 }
 
-/// The text, and behind it a line on an expression.
+/// Adds a line on an expression to the text.
 fn say_blamed(
     scene: &Scene<'_, '_>,
     text: Text,
@@ -94,7 +94,7 @@ fn say_blamed(
     say_names(text, blamed.names.as_slice())?.say(b"\n")
 }
 
-/// The text, and behind it names with their values.
+/// Adds names with their values to the text.
 fn say_names(text: Text, names: &[Vec<u8>]) -> Result<Text, AllocError> {
     let mut text = text;
     for (place, name) in names.iter().enumerate() {
@@ -110,7 +110,7 @@ fn say_names(text: Text, names: &[Vec<u8>]) -> Result<Text, AllocError> {
     Ok(text)
 }
 
-/// The text, and behind it a line on an array whose elements don't end where its size does.
+/// Adds a line on an array whose elements end after its size to the text.
 fn say_outgrown(
     scene: &Scene<'_, '_>,
     text: Text,
@@ -127,7 +127,7 @@ fn say_outgrown(
     say_bit(text.say(b" ends at ")?, start.saturating_add(size))?.say(b"\n")
 }
 
-/// The text, and behind it a line on a part that has not all of its bits.
+/// Adds a line on a part that is cut off by the end of the file to the text.
 fn say_end(scene: &Scene<'_, '_>, text: Text, found: &Found, at: u128) -> Result<Text, AllocError> {
     let bits = u128::from(scene.bits);
     if bits < at {
@@ -147,7 +147,7 @@ fn say_end(scene: &Scene<'_, '_>, text: Text, found: &Found, at: u128) -> Result
     }
 }
 
-/// The text, and behind it how many bits are left.
+/// Adds how many bits are left to the text.
 fn say_left(text: Text, count: u128) -> Result<Text, AllocError> {
     match count {
         0 => text.say(b", and none is left\n"),
@@ -170,7 +170,7 @@ fn say_count(text: Text, count: u128) -> Result<Text, AllocError> {
     text.say(digits.format(count).as_bytes())
 }
 
-/// The text, and behind it the lines on the alternatives of a union.
+/// Adds the lines on the alternatives of a union to the text.
 fn say_misses(
     scene: &Scene<'_, '_>,
     text: Text,
@@ -194,7 +194,7 @@ fn say_misses(
     }
 }
 
-/// The text, and behind it the line on an alternative.
+/// Adds the line on an alternative to the text.
 fn say_miss(scene: &Scene<'_, '_>, text: Text, miss: &Miss) -> Result<Text, AllocError>
     requires table { IsTable scene.now.nodes.now }
     requires root { scene.now.root < length scene.now.nodes.now }
@@ -234,7 +234,7 @@ pub fn arrays_text(scene: &Scene<'_, '_>, kept: &Kept) -> Result<Text, AllocErro
     }
 }
 
-/// The line that tells how many arrays more ended early.
+/// The line that says how many more arrays ended early.
 fn more_line(scene: &Scene<'_, '_>, count: &[u8]) -> Result<Text, AllocError>
     ensures { IfOk result (λ text. text.bytes.items ≡ codes "  " ++ (count.now ++ codes " ended early before these\n")) }
 {
@@ -247,14 +247,14 @@ fn more_line(scene: &Scene<'_, '_>, count: &[u8]) -> Result<Text, AllocError>
     )
 }
 
-/// How many arrays, in words.
+/// A number of arrays, such as `2 arrays`.
 fn array_count(scene: &Scene<'_, '_>, count: usize) -> Result<Vec<u8>, AllocError> {
     let arrays: &[u8] = if count == 1 { b" array" } else { b" arrays" };
     let text = Text::new(scene.alloc).say_number(count)?.say(arrays)?;
     Ok(text.into_bytes())
 }
 
-/// The line on an array; none where the type has no such parts.
+/// The line on an array. Empty if the type has no such parts.
 fn array_line(scene: &Scene<'_, '_>, ended: &Ended) -> Result<Text, AllocError>
     requires table { IsTable scene.now.nodes.now }
     requires root { scene.now.root < length scene.now.nodes.now }
@@ -277,7 +277,7 @@ fn array_line(scene: &Scene<'_, '_>, ended: &Ended) -> Result<Text, AllocError>
     Ok(text)
 }
 
-/// What is told of an array, behind its path: how many elements it has, and the fault that ended it.
+/// What is printed of an array, after its path: how many elements it has, and the fault that ended it.
 fn ending(scene: &Scene<'_, '_>, ended: &Ended, found: &Found) -> Result<Text, AllocError> {
     let text = Text::new(scene.alloc).say_number(ended.count)?.say(b": ")?;
     let text = scene.say_stop(text, ended.stop, &ended.way, found)?;

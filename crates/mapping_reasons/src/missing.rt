@@ -10,7 +10,7 @@ use poke_batch::part::step_to;
 use poke_batch::path::{Path, Step};
 use std::alloc::{AllocError, Global};
 
-/// The line that tells how far a path leads, where a run ended with NoSuchPart; else none.
+/// The line that says how far a path leads, if a run ended with NoSuchPart. Empty for any other run.
 pub fn missing_text(
     alloc: Global,
     value: Option<ValueRef<'_>>,
@@ -28,7 +28,7 @@ pub fn missing_text(
     Ok(Text::new(alloc))
 }
 
-/// A line on the first part of a path that a value hasn't; none where it has all.
+/// A line on the first step of a path that leads to no part. Empty if all steps lead to parts.
 fn say_missing(alloc: Global, value: ValueRef<'_>, steps: &[Step]) -> Result<Text, AllocError> {
     let mut part = value;
     for (count, step) in steps.iter().enumerate() {
@@ -40,7 +40,7 @@ fn say_missing(alloc: Global, value: ValueRef<'_>, steps: &[Step]) -> Result<Tex
     Ok(Text::new(alloc))
 }
 
-/// A line on a path of which so many steps lead to a part, but not the one behind them.
+/// A line on a path whose first `count` steps lead to a part, and the step after them to none.
 fn say_first_missing(alloc: Global, steps: &[Step], count: usize) -> Result<Text, AllocError> {
     let (there, rest) = steps.split_at(count.min(steps.len()));
     let there = path_text(alloc, there)?;

@@ -8,10 +8,10 @@ use crate::seen::Seen;
 use pickle_types::view::Resolved;
 use std::alloc::AllocError;
 
-/// The most names of an expression that are told.
+/// The most names of an expression that are printed.
 const MOST_NAMES: usize = 16;
 
-/// The names in an expression that have values, each with its value, as `n=2UB`: the first of them, and none twice.
+/// The first names in an expression that have values, each with its value, such as `n=2UB`, and no name twice.
 pub fn named_values(seen: Seen<'_>, e: &Resolved) -> Result<Vec<Vec<u8>>, AllocError>
     requires { IsSoundTerm (term_of e.now) }
 {
@@ -20,7 +20,7 @@ pub fn named_values(seen: Seen<'_>, e: &Resolved) -> Result<Vec<Vec<u8>>, AllocE
     Ok(names)
 }
 
-/// Gathers the names of an expression. A path that has a value stands for the names that it goes on from.
+/// Gathers the names of an expression. A path with a value is gathered instead of the name that it begins with.
 #[cycle(gather)]
 fn gather<'a>(seen: Seen<'a>, e: &'a Resolved, names: &mut Vec<Vec<u8>>) -> Result<(), AllocError>
     requires { IsSoundTerm (term_of e.now) }
@@ -82,7 +82,7 @@ fn gather_indices<'a>(
     }
 }
 
-/// Puts a path and its value to the names, where it has one; tells whether it has.
+/// Adds a path and its value to the names, if it has a value. Returns whether it has one.
 fn tell<'a>(seen: Seen<'a>, e: &'a Resolved, names: &mut Vec<Vec<u8>>) -> Result<bool, AllocError>
     requires { IsSoundTerm (term_of e.now) }
 {

@@ -17,12 +17,12 @@ use pickle_types::table::{Table, TypeId};
 use poke_batch::ask::Ask;
 use std::alloc::{AllocError, Global};
 
-/// How many times the run's limit of steps finding a part may take. What is mapped here was mapped within the limit, but
-/// some of it more than once.
+/// The search for a part may take this many times the run's limit of steps. All that it maps was mapped within the
+/// limit before, but it maps some of that more than once.
 const MOST_TIMES: u64 = 4;
 
-/// The part that has the fault which ended a mapping: the one that was kept, or the type itself where the walk didn't go
-/// into it. None where the fault isn't found to arise there.
+/// The part with the fault that ended a mapping: the one that the watcher stored or, if the walk went into no part, the
+/// type itself. `None` if the check doesn't find the fault there.
 pub fn part_with<S: Space>(
     alloc: Global,
     table: &Table,
@@ -54,7 +54,7 @@ pub fn part_with<S: Space>(
     }
 }
 
-/// Whether a fault is that of the part to which places lead, as far as that is found.
+/// Whether the check finds that a fault is that of the part to which places lead.
 fn is_at<S: Space>(
     table: &Table,
     id: TypeId,
@@ -79,7 +79,7 @@ fn is_at<S: Space>(
     )
 }
 
-/// Whether a fault ends a run, and is none that a type means.
+/// Whether a fault ends a run, and isn't one that a type means.
 fn ends_run(kind: MapFaultKind) -> bool
     ensures { IsTrue result → EndsRun kind }
 {

@@ -1,4 +1,4 @@
-//! Where reasons are told from: a type of a pickle, and a file.
+//! What reasons are printed from: a type of a pickle, and a file.
 
 ghost use Rattle.std.specs.Prelude.{◌<◌, length, IfOk, IfSome};
 ghost use Rattle.pickle_types.specs.Table.{IsTable};
@@ -19,7 +19,7 @@ use std::alloc::{AllocError, Global};
 pub struct Scene<'p, 't> {
     pub alloc: Global,
     pub script: Script<'p>,
-    /// The pickle's path, as it is shown.
+    /// The pickle's path, as it is printed.
     pub path: Vec<u8>,
     /// The type's name.
     pub name: Vec<u8>,
@@ -31,7 +31,7 @@ pub struct Scene<'p, 't> {
 }
 
 impl<'p, 't> Scene<'p, 't> {
-    /// The part of the type to which a way leads, with its path; none where there is no such part.
+    /// The part of the type to which a way leads, with its path. `None` if there is no such part.
     pub fn find(&self, way: &Way) -> Result<Option<Found>, AllocError>
         requires table { IsTable self.now.nodes.now }
         requires root { self.now.root < length self.now.nodes.now }
@@ -40,7 +40,7 @@ impl<'p, 't> Scene<'p, 't> {
         way.find(self.alloc, self.nodes, self.root)
     }
 
-    /// Where a part stands in the pickle; none of a type that is predeclared.
+    /// The place of a part in the pickle. `None` for a predeclared type.
     pub fn site(&self, way: &Way) -> Result<Option<Site>, AllocError> {
         let steps = way.to_site(self.alloc, self.nodes)?;
         match Site::of_type(&self.script, self.name.as_slice()) {
@@ -49,7 +49,7 @@ impl<'p, 't> Scene<'p, 't> {
         }
     }
 
-    /// The text, and behind it what a part is: its type, the type that declares it, and its place in the pickle.
+    /// Adds to the text what a part is: its type, the type that declares it, and its place in the pickle.
     pub fn say_part(&self, text: Text, way: &Way) -> Result<Text, AllocError> {
         let Some(site) = self.site(way)? else {
             return say_kind(text, self.name.as_slice());
@@ -63,7 +63,7 @@ impl<'p, 't> Scene<'p, 't> {
         self.say_site(text, site)
     }
 
-    /// The text, and behind it a stop, the path of the part that has it, and that one's place in the pickle.
+    /// Adds to the text a stop, the path of the part that has it, and the place of that part in the pickle.
     pub fn say_stop(
         &self,
         text: Text,
@@ -84,7 +84,8 @@ impl<'p, 't> Scene<'p, 't> {
         }
     }
 
-    /// The text, and behind it an expression of a part as it stands in the pickle, in backquotes; nothing where it has none.
+    /// Adds to the text an expression of a part as the pickle has it, in backquotes. Adds nothing if the part has no
+    /// such expression.
     pub fn say_clause(&self, text: Text, way: &Way, purpose: Purpose) -> Result<Text, AllocError> {
         let Some(site) = self.site(way)? else {
             return Ok(text);
@@ -96,7 +97,7 @@ impl<'p, 't> Scene<'p, 't> {
         text.say(b" `")?.say(written.as_slice())?.say(b"`")
     }
 
-    /// The text, and a place in the pickle behind it.
+    /// Adds a place in the pickle to the text.
     fn say_site(&self, text: Text, site: Site) -> Result<Text, AllocError> {
         let place = site.place(&self.script);
         let text = text.say(b" (")?.say(self.path.as_slice())?.say(b":")?;
@@ -105,7 +106,7 @@ impl<'p, 't> Scene<'p, 't> {
     }
 }
 
-/// The text, and a sort of values behind it, with its article.
+/// Adds a sort of values to the text, with its article.
 fn say_kind(text: Text, kind: &[u8]) -> Result<Text, AllocError> {
     let article: &[u8] = match kind {
         [b'a' | b'e' | b'i' | b'o' | b'A' | b'E' | b'I' | b'O', ..] => b"an ",
@@ -114,7 +115,7 @@ fn say_kind(text: Text, kind: &[u8]) -> Result<Text, AllocError> {
     text.say(article)?.say(kind)
 }
 
-/// The text, and a bit of the file behind it.
+/// Adds a bit of the file to the text, such as `8#b`.
 pub fn say_bit(text: Text, bit: u128) -> Result<Text, AllocError> {
     let mut digits = Buffer::new();
     text.say(digits.format(bit).as_bytes())?.say(b"#b")

@@ -1,4 +1,4 @@
-//! What an expression sees where it is evaluated.
+//! What an expression sees when it is evaluated.
 
 ghost use Rattle.pickle_types.specs.Sound.{IsSoundTerm};
 ghost use Rattle.pickle_types.specs.Table.{term_of};
@@ -13,18 +13,18 @@ use pickle_tree::tree::Attribute;
 use pickle_types::view::{Node, Resolved, Shape};
 use std::alloc::{AllocError, Global};
 
-/// What an expression sees where it is evaluated: the open levels, and their values.
+/// What an expression sees when it is evaluated: the open frames, and their values.
 #[derive(Clone, Copy)]
 pub struct Seen<'a> {
     pub alloc: Global,
     table: &'a [Node],
     store: &'a Store,
     trail: &'a Trail,
-    /// How many of the innermost levels it doesn't see: the bound of an array stands before its level.
+    /// How many of the innermost levels it doesn't see. An array's bound is evaluated before the array's frame opens.
     hidden: usize,
 }
 
-/// A name, or a path from one, as it is told.
+/// A name, or a path from one, as it is printed.
 #[derive(Drop)]
 pub struct Called {
     pub text: Text,
@@ -54,14 +54,14 @@ impl<'a> Seen<'a> {
         }
     }
 
-    /// What an expression comes to; nothing where it has a fault.
+    /// The value of an expression. `None` if it has a fault.
     pub fn known(self, e: &'a Resolved) -> Option<Known<'a>>
         requires { IsSoundTerm (term_of e.now) }
     {
         known_value(self.table, e, self.store)
     }
 
-    /// The number that an expression comes to, where it is an integer.
+    /// The value of an expression, if it is an integer.
     pub fn number(self, e: &'a Resolved) -> Option<i128>
         requires { IsSoundTerm (term_of e.now) }
     {
@@ -72,8 +72,8 @@ impl<'a> Seen<'a> {
         }
     }
 
-    /// A name, or a path from one, as it is told: `a.b`, `a[2].b` or `a'length`. Nothing of another expression, and where an index
-    /// has no value.
+    /// A name, or a path from one, as it is printed: `a.b`, `a[2].b` or `a'length`. `None` for any other expression,
+    /// and if an index has no value.
     pub fn called(self, e: &'a Resolved) -> Result<Option<Called>, AllocError>
         requires { IsSoundTerm (term_of e.now) }
     {
@@ -96,12 +96,12 @@ impl<'a> Seen<'a> {
         }
     }
 
-    /// The name of the part at a place of an open level, counted from the innermost.
+    /// The name of the part at a place of an open frame. Frames are counted from the innermost.
     fn name(self, level: usize, place: usize) -> Result<Option<Called>, AllocError> {
         let Some(level) = self.trail.level(level.saturating_add(self.hidden)) else {
             return Ok(None);
         };
-        // An alternative is alone in its level.
+        // An alternative is alone in its frame.
         let place = if is_union(self.table, level.node) {
             level.begun.saturating_sub(1)
         } else {

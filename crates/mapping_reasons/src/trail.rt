@@ -1,4 +1,4 @@
-//! The arrays, structs and unions that a walk is in, from the outermost on.
+//! The arrays, structs and unions that a walk is in, the outermost first.
 
 use crate::way::{Step, Way};
 use std::alloc::{AllocError, Global};
@@ -10,11 +10,11 @@ pub struct Level {
     pub node: usize,
     /// How many of its parts have begun; the last of them is under way.
     pub begun: usize,
-    /// How many arrays had ended early when that one began.
+    /// How many arrays had ended early when that part began.
     pub ended: usize,
 }
 
-/// The levels that a walk is in, from the outermost on.
+/// The levels that a walk is in, the outermost first.
 #[derive(Drop)]
 pub struct Trail {
     levels: Vec<Level>,
@@ -39,12 +39,12 @@ impl Trail {
         self.levels.get(from_outermost).copied()
     }
 
-    /// The levels, from the outermost on.
+    /// The levels, the outermost first.
     pub fn levels(&self) -> &[Level] {
         self.levels.as_slice()
     }
 
-    /// Goes into what stands at a place of the table.
+    /// Goes into the node at a place of the table.
     pub fn open(&mut self, node: usize) -> Result<(), AllocError> {
         self.levels.push(Level {
             node,
@@ -67,7 +67,7 @@ impl Trail {
         let _left = self.levels.pop();
     }
 
-    /// The way to the part that is under way; to the innermost level itself, where none of its parts has begun.
+    /// The way to the part that is under way or, if no part of the innermost level has begun, to that level itself.
     pub fn way(&self, alloc: Global) -> Result<Way, AllocError> {
         way_along(alloc, self.levels.as_slice())
     }

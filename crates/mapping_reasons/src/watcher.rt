@@ -1,4 +1,4 @@
-//! What a watcher keeps of a mapping on its way: the part that has a fault, and the arrays that ended early.
+//! What a watcher stores during a mapping: the part with a fault, and the arrays that ended early.
 
 ghost use Rattle.std.specs.Prelude.{◌≤◌};
 ghost use Rattle.std.specs.Vec.{vec_len};
@@ -17,34 +17,34 @@ use pickle_map::mapper::watch::{Clause, Watch};
 use pickle_types::view::{Extent as Bound, Node, Resolved, Shape};
 use std::alloc::{AllocError, Global};
 
-/// The most arrays that ended early which are told.
+/// The most arrays that are printed because they ended early.
 pub const MOST_ENDED: usize = 16;
 
-/// The most alternatives of a union which are told.
+/// The most alternatives of a union that are printed.
 pub const MOST_MISSES: usize = 16;
 
-/// What is kept of a mapping on its way.
+/// What is stored during a mapping.
 ///
-/// The trail is whole when the first of `stop`, `end`, `miss` and `refuse` is called behind a fault: so that one keeps the
-/// way to the part, and those that follow find it kept.
+/// After a fault the trail is still whole when the first of `stop`, `end`, `miss` and `refuse` is called. That call
+/// stores the way to the part, and the later calls find it stored.
 #[derive(Drop)]
 pub struct Told {
     alloc: Global,
     trail: Trail,
     /// The fault that is under way.
     fault: Option<Fault>,
-    /// The misses of the unions that the walk is in, outermost first.
+    /// The alternatives that didn't match, of the unions that the walk is in, the outermost first.
     misses: Vec<Miss>,
     /// The last arrays that ended early.
     ended: Vec<Ended>,
     /// How many arrays have ended early.
     ended_count: usize,
-    /// Whether there was no memory for something of these.
+    /// Whether an allocation failed for any of these.
     starved: bool,
 }
 
 impl Told {
-    /// A watcher that was told nothing yet.
+    /// A watcher that hasn't been notified yet.
     pub fn new(alloc: Global) -> Told {
         Told {
             alloc,
@@ -57,7 +57,7 @@ impl Told {
         }
     }
 
-    /// What was kept, where there was memory for it.
+    /// What was stored. An error if an allocation for it failed.
     pub fn into_kept(self) -> Result<Kept, AllocError> {
         let Told {
             alloc: _,
@@ -84,14 +84,14 @@ impl Told {
         }
     }
 
-    /// Leaves the innermost level, whose misses are of no use any more.
+    /// Leaves the innermost level, and drops its misses, which aren't needed any more.
     fn leave(&mut self) {
         let kept = self.misses_above(self.trail.depth());
         self.misses.truncate(kept);
         self.trail.leave();
     }
 
-    /// How many misses are of unions around the level at a depth.
+    /// How many misses belong to unions around the level at a depth.
     fn misses_above(&self, depth: usize) -> usize
         ensures { result ≤ vec_len self.now.misses }
     {
@@ -99,7 +99,7 @@ impl Told {
         above.count().min(self.misses.len())
     }
 
-    /// Keeps the fault of the part that is under way, unless one is kept.
+    /// Stores the fault of the part that is under way, unless one is stored.
     fn keep(&mut self, stop: Stop) -> Result<(), AllocError> {
         if self.fault.is_none() {
             self.fault = Some(Fault {
@@ -111,7 +111,7 @@ impl Told {
         Ok(())
     }
 
-    /// The fault of the part that is under way, which is kept no longer.
+    /// Removes and returns the fault of the part that is under way.
     fn take(&mut self, stop: Stop) -> Result<Fault, AllocError> {
         self.keep(stop)?;
         match self.fault.take() {
@@ -144,7 +144,8 @@ impl Told {
         Ok(())
     }
 
-    /// Whether a fault is only a miss of a union, or the end of an array, that the walk is in.
+    /// Whether a fault only means that an alternative doesn't match, or that an array ends, of a union or array that
+    /// the walk is in.
     fn is_caught(&self, table: &[Node], stop: Stop) -> bool {
         self.trail
             .levels()
@@ -214,7 +215,7 @@ impl Told {
         Ok(())
     }
 
-    /// Adds a miss to those of the innermost union, where it is one of the first.
+    /// Adds a miss to those of the innermost union, if it is one of the first.
     fn add_miss(&mut self, miss: Miss) -> Result<(), AllocError> {
         let depth = miss.depth;
         let told = self.misses.iter().filter(|it| it.depth == depth).count();
@@ -224,7 +225,7 @@ impl Told {
         Ok(())
     }
 
-    /// Forgets the arrays that ended early in an alternative that missed, before which so many had.
+    /// Forgets the arrays that ended early in an alternative that didn't match. Before it, `count` arrays had ended so.
     fn forget_ended(&mut self, count: usize) {
         let kept = self
             .ended
@@ -251,7 +252,7 @@ impl Told {
     }
 }
 
-/// Whether what stands at a place of the table goes on behind a part of it that stops so.
+/// Whether the node at a place of the table goes on after one of its parts that stops in this way.
 fn catches(table: &[Node], at: usize, stop: Stop) -> bool {
     match table.get(at) {
         Some(node) => match &node.shape {

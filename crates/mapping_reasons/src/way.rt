@@ -1,4 +1,4 @@
-//! Ways from a type to its parts.
+//! Paths from a type to its parts.
 
 ghost use Rattle.std.specs.Prelude.{◌≡◌, ℕ, ◌<◌, ◌++◌, length, IfOk, IfSome};
 ghost use Rattle.std.specs.Option.{option_map};
@@ -16,13 +16,13 @@ use std::alloc::{AllocError, Global};
 /// A step from an array, struct, union or integral struct to one of its parts.
 #[derive(Clone, Copy, Debug, PartialEq, Eq)]
 pub struct Step {
-    /// The place in the table of what the step goes from.
+    /// The place in the table of the node where the step starts.
     pub node: usize,
-    /// The place of the part: of a field or alternative among the declared ones, of an element in its array, from 0.
+    /// The place of the part, counted from 0: a field or alternative among the declared ones, an element in its array.
     pub place: usize,
 }
 
-/// The steps from a type to a part of it; none lead to the type itself.
+/// The steps from a type to a part of it. Without steps it is the way to the type itself.
 #[derive(Drop)]
 pub struct Way {
     steps: Vec<Step>,
@@ -68,7 +68,7 @@ impl Way {
         }
     }
 
-    /// Goes on by a step.
+    /// Adds a step at the end.
     pub fn go(&mut self, step: Step) -> Result<(), AllocError> {
         self.steps.push(step)?;
         Ok(())
@@ -85,7 +85,7 @@ impl Way {
         Ok(places)
     }
 
-    /// The steps by which its site is found in the pickle.
+    /// The steps that find the site of the part in the pickle.
     pub fn to_site(&self, alloc: Global, nodes: &[Node]) -> Result<Vec<site::Step>, AllocError> {
         let mut steps = Vec::new(alloc);
         for step in self.steps.as_slice() {
@@ -94,8 +94,8 @@ impl Way {
         Ok(steps)
     }
 
-    /// The part to which it leads from the type at a place of the table, with the path in the form in which values are printed
-    /// over lines; none where that type has no such part.
+    /// The part to which the way leads from the type at a place of the table, with its path as the mode `lines` prints
+    /// it. `None` if that type has no such part.
     pub fn find(
         &self,
         alloc: Global,
@@ -115,7 +115,7 @@ impl Way {
         }
     }
 
-    /// The text, and behind it the step of a number, counted from 1.
+    /// Adds the step of a number, counted from 1, to the text.
     pub fn say_nth(&self, text: Text, nodes: &[Node], number: usize) -> Result<Text, AllocError> {
         let Some(place) = number.checked_sub(1) else {
             return Ok(text);
@@ -130,7 +130,7 @@ impl Way {
     }
 }
 
-/// The path of steps: a dot where there are none.
+/// The path of steps: a dot if there are none.
 fn whole_path(alloc: Global, steps: Vec<u8>) -> Result<Vec<u8>, AllocError>
     ensures { IfOk result (λ path. path.items ≡ path_text steps.items) }
 {
@@ -141,7 +141,7 @@ fn whole_path(alloc: Global, steps: Vec<u8>) -> Result<Vec<u8>, AllocError>
     }
 }
 
-/// Goes along steps from the type at a place of the table; none where it has no such part.
+/// Goes along steps from the type at a place of the table. `None` if that type has no such part.
 fn walk(
     alloc: Global,
     nodes: &[Node],
@@ -169,7 +169,7 @@ fn walk(
     Ok(Some(Walked { text, node }))
 }
 
-/// What a step leads to; none where there is no such part.
+/// The part to which a step leads. `None` if there is no such part.
 pub fn part_of(nodes: &[Node], step: Step) -> Option<Portion<'_>>
     ensures is { IsTable nodes.now → IfSome result (IsPortion nodes.now step) }
 {
@@ -221,7 +221,7 @@ fn joint_of(name: &Option<Name>) -> Joint<'_>
     }
 }
 
-/// Whether an array stands at a place of the table.
+/// Whether the node at a place of the table is an array.
 fn is_array(nodes: &[Node], at: usize) -> bool {
     match nodes.get(at) {
         Some(node) => matches!(node.shape, Shape::Array(_, _)),
@@ -237,7 +237,7 @@ fn site_step(nodes: &[Node], step: Step) -> site::Step {
     }
 }
 
-/// The text, and a step behind it: `.name`, `.place` to a nameless field, `[place]` to an element.
+/// Adds a step to the text: `.name`, `.place` to a nameless field, or `[place]` to an element.
 fn say_joint(text: Text, joint: Joint<'_>, place: usize) -> Result<Text, AllocError>
     ensures { IfOk result (λ said. said.bytes.items ≡ text.bytes.items ++ joint_text joint.entry place) }
 {
@@ -248,7 +248,7 @@ fn say_joint(text: Text, joint: Joint<'_>, place: usize) -> Result<Text, AllocEr
     }
 }
 
-/// The text, and the step to an element behind it.
+/// Adds the step to an element to the text.
 pub fn say_element(text: Text, place: u64) -> Result<Text, AllocError>
     ensures { IfOk result (λ said. said.bytes.items ≡ text.bytes.items ++ in_brackets place) }
 {

@@ -1,22 +1,22 @@
-//! What to write in place of what GNU poke or C has and a pickle hasn't.
+//! What to write instead of what GNU poke or C has and a pickle of this program doesn't.
 
 use crate::expected::Expected;
 
-/// The words around the token that is refused.
+/// The tokens around the token that is refused.
 #[derive(Clone, Copy)]
 pub struct Around<'t> {
-    /// The token that is refused, as it is written; nothing at the pickle's end.
+    /// The token that is refused, as the pickle has it. Empty at the pickle's end.
     pub found: &'t [u8],
-    /// The tokens before and behind it.
+    /// The tokens before and after it.
     pub before: &'t [u8],
     pub next: &'t [u8],
-    /// Whether a label or a condition stands before it in its field.
+    /// Whether a label or a condition is before it in its field.
     pub is_labelled: bool,
-    /// The first token of the declaration or field in which it stands.
+    /// The first token of the declaration or field that it is in.
     pub opening: &'t [u8],
 }
 
-/// What to write in place of the token that is refused.
+/// What to write instead of the token that is refused.
 pub fn advice(around: Around<'_>, expected: Expected) -> Option<&'static str> {
     if expected.declaration {
         if let Some(help) = at_declaration(around.found) {
@@ -32,7 +32,7 @@ pub fn advice(around: Around<'_>, expected: Expected) -> Option<&'static str> {
     }
 }
 
-/// What stands for a word where a declaration begins.
+/// The advice for a word where a declaration begins.
 fn at_declaration(found: &[u8]) -> Option<&'static str> {
     match found {
         b"load" => Some(
@@ -49,7 +49,7 @@ fn at_declaration(found: &[u8]) -> Option<&'static str> {
     }
 }
 
-/// What stands for a statement of GNU poke.
+/// The advice for a statement of GNU poke.
 fn of_statement(word: &[u8]) -> Option<&'static str> {
     match word {
         b"var" => Some("variables are left out: write their value where it is used"),
@@ -81,7 +81,7 @@ fn of_statement(word: &[u8]) -> Option<&'static str> {
     }
 }
 
-/// What stands for the first word of a field.
+/// The advice for the first word of a field.
 fn of_opening(word: &[u8]) -> Option<&'static str> {
     match word {
         b"if" => Some("a condition stands behind its field: `TYPE NAME if CONDITION;`"),
@@ -95,7 +95,7 @@ fn of_opening(word: &[u8]) -> Option<&'static str> {
     }
 }
 
-/// What stands for a word, wherever it is.
+/// The advice for a word, wherever it is.
 fn of_word(found: &[u8]) -> Option<&'static str> {
     match found {
         b"in" => Some("`in` is left out: write `(x == 1 || x == 2)`"),
@@ -119,7 +119,7 @@ fn of_hash(found: &[u8]) -> Option<&'static str> {
     }
 }
 
-/// What stands for two tokens in a row.
+/// The advice for two tokens in a row.
 fn of_pair(around: Around<'_>) -> Option<&'static str> {
     match (around.before, around.found) {
         (b"*", b"*") => Some("`**` is left out: write the product, or `1 << n` for powers of 2"),
@@ -158,7 +158,7 @@ fn is_unit_word(word: &[u8]) -> bool {
     )
 }
 
-/// What stands for a token where an operand has to be.
+/// The advice for a token where an operand must be.
 fn in_place_of_value(around: Around<'_>) -> Option<&'static str> {
     match around.found {
         b"#" => Some("an offset has a magnitude: write `1#B`"),
@@ -175,7 +175,7 @@ fn in_place_of_value(around: Around<'_>) -> Option<&'static str> {
     }
 }
 
-/// What stands for a token behind an operand.
+/// The advice for a token after an operand.
 fn behind_operand(around: Around<'_>) -> Option<&'static str> {
     match (around.found, around.next) {
         (b"=", b">") => return Some("`=>` is left out: write `!a || b`"),
@@ -199,7 +199,7 @@ fn behind_operand(around: Around<'_>) -> Option<&'static str> {
     }
 }
 
-/// What stands for a token behind a type, a name, or where a type or a name has to be.
+/// The advice for a token after a type or a name, or where a type or a name must be.
 fn behind_form(around: Around<'_>, expected: Expected) -> Option<&'static str> {
     match around.found {
         b"=" => Some(
@@ -229,7 +229,7 @@ fn is_word(found: &[u8]) -> bool {
     matches!(found.first(), Some(b'a'..=b'z' | b'A'..=b'Z' | b'_'))
 }
 
-/// That a word is reserved.
+/// The advice for a reserved word.
 fn of_reserved(word: &[u8]) -> Option<&'static str> {
     match word {
         b"type" => Some("`type` is a reserved word; types are declared outside of other types"),

@@ -1,4 +1,4 @@
-//! Sentences about an expression that the checker of types refuses.
+//! Sentences about an expression that the type checker refuses.
 
 use crate::nodes::{Node, token_count};
 use crate::probe::Probe;
@@ -14,10 +14,10 @@ use pickle_types::fault::FaultKind;
 use run_parts::accept::{Refusal, read_syntax};
 use std::alloc::{AllocError, Global};
 
-/// The most operands inside an operand.
+/// The most levels of operands inside operands.
 const MOST_LEVELS: usize = 64;
 
-/// The most tokens of an expression in which a part is sought.
+/// The most tokens of an expression that is searched for a part.
 const MOST_TOKENS: usize = 4096;
 
 /// A sentence about some tokens.
@@ -104,7 +104,7 @@ fn is_meant(script: &Script<'_>, clause: &Clause, node: Node<'_, '_>) -> Result<
     clause.probe.is_meant(script.slice(node.part()))
 }
 
-/// The first operand that has a fault of its own.
+/// The first operand that has a fault itself.
 fn failing_operand<'a, 't>(
     alloc: Global,
     script: &Script<'_>,
@@ -119,7 +119,7 @@ fn failing_operand<'a, 't>(
     Ok(None)
 }
 
-/// That a whole expression isn't what its purpose asks for.
+/// The finding for a whole expression that doesn't serve its purpose.
 fn whole(alloc: Global, script: &Script<'_>, clause: &Clause) -> Result<Finding, AllocError> {
     let expression = script.slice(clause.part);
     let text = Text::new(alloc).say(match clause.purpose {
@@ -150,7 +150,7 @@ fn whole(alloc: Global, script: &Script<'_>, clause: &Clause) -> Result<Finding,
     })
 }
 
-/// An integer with the unit of bytes behind it.
+/// An integer with the unit of bytes after it.
 fn with_unit(alloc: Global, script: &Script<'_>, part: Part) -> Result<Vec<u8>, AllocError> {
     let expression = script.slice(part);
     if part.first.saturating_add(1) == part.end {
@@ -218,7 +218,7 @@ impl<'a, 't> Place<'a, 't> {
         })
     }
 
-    /// Some tokens from this expression's first on, so many behind it.
+    /// `count` tokens, the first of them `behind` tokens after this expression's first.
     fn tokens(self, behind: usize, count: usize) -> Part {
         let first = self.part.first.saturating_add(behind);
         Part {
@@ -227,7 +227,7 @@ impl<'a, 't> Place<'a, 't> {
         }
     }
 
-    /// The tokens from one on, up to the expression's end.
+    /// The tokens from the one `behind` tokens after the first on, up to the expression's end.
     fn rest(self, behind: usize) -> Part {
         Part {
             first: self.part.first.saturating_add(behind),
@@ -235,7 +235,7 @@ impl<'a, 't> Place<'a, 't> {
         }
     }
 
-    /// The text, and behind it what some tokens are as an expression.
+    /// Adds to the text what some tokens are as an expression.
     pub fn say_sort(self, text: Text, part: Part) -> Result<Text, AllocError> {
         say_sort(text, &self.clause.probe, self.script.slice(part))
     }
@@ -245,7 +245,7 @@ impl<'a, 't> Place<'a, 't> {
         sort_of(&self.clause.probe, self.script.slice(part))
     }
 
-    /// An operator between two operands that it doesn't take.
+    /// The finding for an operator between two operands that it rejects.
     fn infix(self, left: &Expression<'_>) -> Result<Finding, AllocError> {
         let count = token_count(left);
         let sign = self.tokens(count, 1);
@@ -277,7 +277,7 @@ impl<'a, 't> Place<'a, 't> {
         self.finding(sign, text, help)
     }
 
-    /// That an integer is no offset.
+    /// The help for an integer that should be an offset.
     fn unit_help(self, integer: Part) -> Result<Text, AllocError> {
         let written = with_unit(self.alloc, self.script, integer)?;
         Text::new(self.alloc)
@@ -364,7 +364,7 @@ impl<'a, 't> Place<'a, 't> {
         }
     }
 
-    /// The text, and what an operand is behind it.
+    /// Adds what an operand is to the text.
     fn operand_is(self, text: Text, operand: Part) -> Result<Finding, AllocError> {
         let text = text.quote(self.script.slice(operand))?.say(b" is ")?;
         let text = self.say_sort(text, operand)?;

@@ -1,15 +1,15 @@
-//! What may stand at a place of a pickle: the parser is asked.
+//! What may be at a place in a pickle, which the parser decides.
 
 use pickle_script::text::Text;
 use run_parts::accept::{Refusal, read_syntax};
 use std::alloc::{AllocError, Global};
 
-/// What may stand at a place.
+/// What may be at a place.
 #[derive(Clone, Copy, Debug, Drop)]
 pub struct Expected {
     /// `type`, which begins a declaration.
     pub declaration: bool,
-    /// A type as a field or an array has it.
+    /// A type, as a field or an array has one.
     pub form: bool,
     /// An operand of an expression.
     pub value: bool,
@@ -21,12 +21,12 @@ pub struct Expected {
     pub number: bool,
 }
 
-/// Tokens that are told one by one, where no group of tokens has them.
+/// Tokens that are printed one by one, because no group of tokens has them.
 const SIGNS: [&[u8]; 15] = [
     b"=", b"struct", b"{", b"}", b"[", b"]", b")", b",", b">", b":", b"@", b"if", b";", b"b", b"B",
 ];
 
-/// Whether a pickle that begins with `front` may go on with tokens.
+/// Whether a pickle that begins with `front` may go on with `tokens`.
 pub fn goes_on(alloc: Global, front: &[u8], tokens: &[u8]) -> Result<bool, AllocError> {
     let text = Text::new(alloc).say(front)?.say(b"\n")?.say(tokens)?;
     let text = text.into_bytes();
@@ -39,7 +39,7 @@ pub fn goes_on(alloc: Global, front: &[u8], tokens: &[u8]) -> Result<bool, Alloc
 }
 
 impl Expected {
-    /// What may stand behind the front of a pickle.
+    /// What may be after the start of a pickle.
     pub fn behind(alloc: Global, front: &[u8]) -> Result<Expected, AllocError> {
         Ok(Expected {
             declaration: goes_on(alloc, front, b"type")?,
@@ -51,7 +51,7 @@ impl Expected {
         })
     }
 
-    /// The groups of tokens that may stand there, as words.
+    /// The groups of tokens that may be there, in words.
     fn groups(self) -> [&'static [u8]; 5] {
         let operator: &'static [u8] = if self.operator && !self.value {
             b"an operator"
@@ -87,7 +87,7 @@ impl Expected {
     }
 }
 
-/// The text, and behind it what may stand behind the front of a pickle, as in "a name, `:` or `;`".
+/// Adds to the text what may be after the start of a pickle, as in "a name, `:` or `;`".
 pub fn say_expected(
     alloc: Global,
     text: Text,
@@ -104,7 +104,7 @@ pub fn say_expected(
     say_list(text, words.as_slice(), b" or ")
 }
 
-/// Adds the tokens that may stand behind the front of a pickle and are in no group.
+/// Adds the tokens that may be after the start of a pickle and are in no group.
 fn push_signs(
     alloc: Global,
     words: &mut Vec<Vec<u8>>,
@@ -119,7 +119,7 @@ fn push_signs(
     Ok(())
 }
 
-/// Whether a token is in a group that may stand there.
+/// Whether a token is in a group that may be there.
 fn is_grouped(sign: &[u8], expected: Expected) -> bool {
     match sign {
         b"struct" => expected.form,
@@ -130,7 +130,7 @@ fn is_grouped(sign: &[u8], expected: Expected) -> bool {
     }
 }
 
-/// The text, and a list of words behind it, parted by commas, the last by `last`.
+/// Adds a list of words to the text, with commas between them, and `last` before the last one.
 pub fn say_list(text: Text, words: &[Vec<u8>], last: &[u8]) -> Result<Text, AllocError> {
     let mut text = text;
     for (index, word) in words.iter().enumerate() {

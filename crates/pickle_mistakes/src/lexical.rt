@@ -1,4 +1,4 @@
-//! Sentences about bytes that are no tokens.
+//! Sentences about bytes that aren't tokens.
 
 use pickle_notes::note::Note;
 use pickle_script::script::cut;

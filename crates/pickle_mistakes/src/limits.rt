@@ -15,7 +15,7 @@ pub enum Limit {
     Count,
 }
 
-/// The token by which a limit is passed, and the limit.
+/// A note about the token that exceeds a limit.
 pub fn limit_note(alloc: Global, script: &Script<'_>, limit: Limit) -> Result<Note, AllocError> {
     let token = passing_token(alloc, script, limit)?;
     let sentence = match limit {
@@ -35,7 +35,7 @@ pub fn limit_note(alloc: Global, script: &Script<'_>, limit: Limit) -> Result<No
     })
 }
 
-/// The first token with which the parser tells that a limit is passed.
+/// The first token at which the parser reports that a limit is exceeded.
 fn passing_token(alloc: Global, script: &Script<'_>, limit: Limit) -> Result<usize, AllocError> {
     let mut low: usize = 0;
     let mut high = script.len();

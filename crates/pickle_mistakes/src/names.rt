@@ -1,4 +1,4 @@
-//! Names that an expression doesn't see, and names that it sees.
+//! Names that an expression doesn't see, and the names that it sees.
 
 use crate::clause::{Finding, Place};
 use crate::expected::say_list;
@@ -13,15 +13,16 @@ use std::alloc::{AllocError, Global};
 /// The most names that are tried.
 const MOST_TRIED: usize = 128;
 
-/// The most names that are tried behind a long front of a pickle, and from how many bytes on it is long.
+/// The most names that are tried after a long start of a pickle.
 const FEW_TRIED: usize = 16;
 
+/// A start of a pickle with more bytes is long.
 const LONG: usize = 65_536;
 
-/// The most names that are told.
+/// The most names that are printed.
 const MOST_TOLD: usize = 8;
 
-/// The names among some tokens, each once, in order, so many of them at most.
+/// The names among some tokens, each once, in order, and at most so many of them.
 pub fn names_in<'t>(
     alloc: Global,
     script: &Script<'t>,
@@ -42,7 +43,7 @@ pub fn names_in<'t>(
 }
 
 impl<'a, 't> Place<'a, 't> {
-    /// A name that no field has that is seen.
+    /// The finding for a name that no visible field has.
     pub fn unknown_name(self, word: &[u8]) -> Result<Finding, AllocError> {
         let seen = self.seen_names(self.before(), b"")?;
         let text = Text::new(self.alloc)
@@ -53,7 +54,7 @@ impl<'a, 't> Place<'a, 't> {
         self.finding(self.part, text, self.later_help(word)?)
     }
 
-    /// A name that no field of an operand has.
+    /// The finding for a name that no field of an operand has.
     pub fn unknown_field(self, operand: Part, word: &[u8]) -> Result<Finding, AllocError> {
         let name = Part {
             first: operand.end.saturating_add(1),
@@ -84,7 +85,7 @@ impl<'a, 't> Place<'a, 't> {
         }
     }
 
-    /// Tokens among which the fields of an operand are: those of the declaration of its type, where that is known.
+    /// The tokens that have the fields of an operand: those of the declaration of its type, if that is known.
     fn fields_of(self, operand: Part) -> Part {
         let everything = Part {
             first: 0,
@@ -102,7 +103,7 @@ impl<'a, 't> Place<'a, 't> {
         }
     }
 
-    /// The names among some tokens that have a meaning behind a front.
+    /// The names among some tokens that have a meaning after the start of an expression.
     fn seen_names(self, among: Part, front: &[u8]) -> Result<Vec<&'t [u8]>, AllocError> {
         let long = LONG < self.clause.probe.front.len();
         let most = if long { FEW_TRIED } else { MOST_TRIED };
@@ -116,7 +117,7 @@ impl<'a, 't> Place<'a, 't> {
         Ok(seen)
     }
 
-    /// The text, and behind it the nearest of some names, or else the first of them.
+    /// Adds to the text the nearest of some names or, if none is near, the first of them.
     fn say_names(
         self,
         text: Text,
@@ -137,7 +138,7 @@ impl<'a, 't> Place<'a, 't> {
         say_list(text.say(link)?, words.as_slice(), b" and ")
     }
 
-    /// That a name stands later in the declaration, or is the field's own.
+    /// The help for a name that is later in the declaration, or that is the field's own.
     fn later_help(self, word: &[u8]) -> Result<Option<Text>, AllocError> {
         let text = Text::new(self.alloc);
         if self.is_own(word) {
@@ -155,7 +156,7 @@ impl<'a, 't> Place<'a, 't> {
         Ok(None)
     }
 
-    /// Whether a name is that of the field of the expression: it stands before a sign of the field, or behind the bound.
+    /// Whether a name is that of the field with the expression: it is before a sign of the field, or after the bound.
     fn is_own(self, word: &[u8]) -> bool {
         let first = opening(self.script, self.clause.part.first);
         let behind = self.clause.part.end.saturating_add(1);
@@ -170,7 +171,7 @@ impl<'a, 't> Place<'a, 't> {
         self.script.text(token) == word && matches!(next, b":" | b"@" | b"if")
     }
 
-    /// The text, and how the type of an operand is called behind it: by the name of its field's type, or by the operand itself.
+    /// Adds to the text what the type of an operand is called: the name of its field's type, or the operand itself.
     fn say_type(self, text: Text, operand: Part) -> Result<Text, AllocError> {
         match self.type_name(operand) {
             Some(name) => text.show(name),
@@ -178,7 +179,7 @@ impl<'a, 't> Place<'a, 't> {
         }
     }
 
-    /// The name of the type of the field that an operand names, where it has one.
+    /// The name of the type of the field that an operand names, if it has one.
     fn type_name(self, operand: Part) -> Option<&'t [u8]> {
         let word = self.script.slice(operand);
         for back in 1..self.part.first {
@@ -203,7 +204,7 @@ fn last_type(script: &Script<'_>, token: usize) -> usize {
     0
 }
 
-/// The first `type` behind a token, or the end.
+/// The first `type` after a token, or the end.
 fn next_type(script: &Script<'_>, token: usize) -> usize {
     (token..script.len())
         .find(|next| script.text(*next) == b"type".as_slice())

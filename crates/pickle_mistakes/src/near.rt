@@ -1,12 +1,12 @@
-//! Words that are near to each other.
+//! Words with few edits between them.
 
 use std::alloc::{AllocError, Global};
 use strsim::generic_levenshtein;
 
-/// The longest word for which a near one is sought, in bytes.
+/// The longest word for which a near one is searched, in bytes.
 const MOST_BYTES: usize = 64;
 
-/// How many edits a near word may be away, by a word's length in bytes.
+/// The most edits between a word and a near one, by the word's length in bytes.
 fn most_edits(length: usize) -> usize {
     match length {
         0..=1 => 0,
@@ -16,7 +16,7 @@ fn most_edits(length: usize) -> usize {
     }
 }
 
-/// Among some words the one that takes the fewest edits from a word, the first of them, where it is near.
+/// Of the words `among`, the one with the fewest edits from `word`, or the first of several. `None` if it isn't near.
 pub fn nearest<'t>(
     alloc: Global,
     word: &[u8],

@@ -38,7 +38,7 @@ pub fn token_count(expression: &Expression<'_>) -> usize {
     }
 }
 
-/// How many tokens follow an operand.
+/// How many tokens a suffix of an operand has.
 fn suffix_tokens(suffix: &Suffix<'_>) -> usize {
     match suffix {
         Suffix::Select(_) | Suffix::Unit(_) => 2,
@@ -66,7 +66,7 @@ impl<'a, 't> Node<'a, 't> {
         }
     }
 
-    /// An operand, some tokens behind this one's first.
+    /// An operand that begins `behind` tokens after this one's first.
     fn inner(self, expression: &'a Expression<'t>, behind: usize) -> Node<'a, 't> {
         Node {
             expression,

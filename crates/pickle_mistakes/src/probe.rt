@@ -1,11 +1,11 @@
-//! Questions to the checker of types: whether it refuses a pickle that is made of parts of another.
+//! Asks the type checker whether it refuses a pickle that is made of parts of another.
 
 use pickle_script::text::Text;
 use pickle_types::fault::FaultKind;
 use run_parts::accept::{Refusal, accept};
 use std::alloc::{AllocError, Global};
 
-/// What stands around a part of a pickle that is in question. It is short of all that comes behind the part.
+/// What is around a part of a pickle that is tested. It leaves out all that is after the part in the pickle.
 #[derive(Drop)]
 pub struct Probe {
     pub alloc: Global,
@@ -16,7 +16,7 @@ pub struct Probe {
 }
 
 impl Probe {
-    /// What the checker refuses of a part in its place; none where it has nothing to say of types.
+    /// The fault that the type checker reports with a part in this place. `None` if it reports no fault of types.
     pub fn fault(&self, part: &[u8]) -> Result<Option<FaultKind>, AllocError> {
         let text = Text::new(self.alloc).say(self.front.as_slice())?;
         let text = text.say(part)?.say(self.back.as_slice())?.into_bytes();
@@ -27,12 +27,12 @@ impl Probe {
         }
     }
 
-    /// Whether a part in its place has the fault of the pickle.
+    /// Whether a part in this place has the fault of the pickle.
     pub fn fails(&self, part: &[u8]) -> Result<bool, AllocError> {
         Ok(self.fault(part)? == Some(self.kind))
     }
 
-    /// Whether an expression in its place is an integer, as a constraint is.
+    /// Whether an expression in this place is an integer, as a constraint is.
     pub fn holds(&self, expression: &[u8]) -> Result<bool, AllocError> {
         Ok(!matches!(
             self.fault(expression)?,
@@ -45,7 +45,7 @@ impl Probe {
         ))
     }
 
-    /// Whether a path or a number or an offset in its place has no fault.
+    /// Whether a path, a number or an offset in this place has no fault.
     pub fn is_meant(&self, expression: &[u8]) -> Result<bool, AllocError> {
         let path = self.asked(expression, b")'size >= 0#b")?;
         if path {
@@ -56,7 +56,7 @@ impl Probe {
         self.asked(text.as_slice(), b"")
     }
 
-    /// Whether `(`, the expression and an end are an integer.
+    /// Whether `(`, the expression and `end` together are an integer.
     pub fn asked(&self, expression: &[u8], end: &[u8]) -> Result<bool, AllocError> {
         let text = Text::new(self.alloc).say(b"(")?.say(expression)?.say(end)?;
         self.holds(text.into_bytes().as_slice())

@@ -1,4 +1,4 @@
-//! Where in a declaration a fault of its types is: the checker is asked about parts of it.
+//! Where in a declaration a fault of its types is. The type checker is asked about parts of the declaration.
 
 use crate::probe::Probe;
 use pickle_script::anatomy::{FieldParts, base, bound, field_parts, fields, opening_brace};
@@ -8,10 +8,10 @@ use pickle_script::text::Text;
 use pickle_types::fault::FaultKind;
 use std::alloc::{AllocError, Global};
 
-/// The most types inside a type.
+/// The most levels of types inside types.
 const MOST_LEVELS: usize = 65;
 
-/// An expression of a field or an array, and a probe that has a constraint in its place.
+/// An expression of a field or an array, and a probe with a constraint in its place.
 #[derive(Drop)]
 pub struct Clause {
     pub purpose: Purpose,
@@ -19,19 +19,19 @@ pub struct Clause {
     pub probe: Probe,
 }
 
-/// A part of a declaration in which a fault is.
+/// The part of a declaration that has a fault.
 #[derive(Drop)]
 pub enum Located {
     /// A struct or union as a whole.
     Body(Part, Probe),
-    /// A type that is no struct or union, without its array suffix, or the integer type of an integral struct.
+    /// A type other than a struct or union, without its array suffix, or the integer type of an integral struct.
     Base(Part, Probe),
     /// A field as a whole; the probe is for its parts.
     Field(FieldParts, Probe),
     Clause(Clause),
 }
 
-/// The part of a type in which the fault of a probe is, which is for the whole type.
+/// The part of a type that has the fault of a probe. The probe is for the whole type.
 pub fn locate(script: &Script<'_>, form: Part, probe: Probe) -> Result<Located, AllocError> {
     let mut form = form;
     let mut probe = probe;
@@ -84,7 +84,7 @@ fn is_plain(script: &Script<'_>, form: Part) -> bool {
     )
 }
 
-/// A probe for a field, or what stands in its place, inside a type.
+/// A probe for a field, or for what replaces it, inside a type.
 fn field_probe(
     script: &Script<'_>,
     form: Part,
@@ -120,7 +120,7 @@ fn is_reference_wrong(
     probe.fails(text.into_bytes().as_slice())
 }
 
-/// The first field of a struct or union with which the fault is there.
+/// The first field of a struct or union with which the fault appears.
 fn failing_field(
     script: &Script<'_>,
     form: Part,
@@ -147,7 +147,7 @@ fn failing_field(
     Ok(None)
 }
 
-/// Whether the fault is there where a struct or union ends behind a field.
+/// Whether the fault is there if a struct or union ends after a field.
 fn fails_up_to(
     script: &Script<'_>,
     form: Part,
@@ -162,7 +162,7 @@ fn fails_up_to(
     probe.fails(text.into_bytes().as_slice())
 }
 
-/// The part of a type without braces in which the fault is.
+/// The part of a type without braces that has the fault.
 fn in_simple(script: &Script<'_>, form: Part, probe: Probe) -> Result<Located, AllocError> {
     if probe.kind == FaultKind::NotHere {
         return Ok(Located::Base(form, probe));
@@ -178,7 +178,7 @@ fn in_simple(script: &Script<'_>, form: Part, probe: Probe) -> Result<Located, A
     }))
 }
 
-/// The part of a field in which the fault is, which isn't in its type.
+/// The part of a field that has the fault. The fault isn't in its type.
 fn in_field(script: &Script<'_>, parts: FieldParts, probe: Probe) -> Result<Located, AllocError> {
     if probe.kind == FaultKind::NotHere || probe.kind == FaultKind::DuplicateField {
         return Ok(Located::Field(parts, probe));
@@ -202,7 +202,7 @@ fn in_field(script: &Script<'_>, parts: FieldParts, probe: Probe) -> Result<Loca
     Ok(Located::Field(parts, probe))
 }
 
-/// A field's type and name as they are written.
+/// A field's type and name as the pickle has them.
 fn named<'t>(script: &Script<'t>, parts: &FieldParts) -> &'t [u8] {
     script.slice(Part {
         first: parts.form.first,
@@ -210,7 +210,7 @@ fn named<'t>(script: &Script<'t>, parts: &FieldParts) -> &'t [u8] {
     })
 }
 
-/// Whether the fault is there where a field has an expression behind a sign and no other.
+/// Whether the fault is there if a field has one expression after a sign, and no other.
 fn has_fault(
     script: &Script<'_>,
     parts: &FieldParts,

@@ -1,10 +1,10 @@
-//! What an expression is, in words: the checker is asked.
+//! What an expression is, in words. The type checker decides.
 
 use crate::probe::Probe;
 use pickle_script::text::Text;
 use std::alloc::{AllocError, Global};
 
-/// The longest front of a pickle for which the width of an integer is sought, in bytes.
+/// The longest start of a pickle for which the width of an integer is searched, in bytes.
 const MOST_BYTES: usize = 65_536;
 
 /// Widths in bits, the usual ones first.
@@ -29,7 +29,7 @@ pub enum Sort {
     Text,
     /// A struct, an integral struct or a union.
     Struct,
-    /// None of these; it has a fault of its own.
+    /// None of these: it has a fault itself.
     Unknown,
 }
 
@@ -53,7 +53,7 @@ pub fn sort_of(probe: &Probe, expression: &[u8]) -> Result<Sort, AllocError> {
     Ok(Sort::Unknown)
 }
 
-/// The text, and what an expression is behind it, as in "int<32>".
+/// Adds what an expression is to the text, as in "int<32>".
 pub fn say_sort(text: Text, probe: &Probe, expression: &[u8]) -> Result<Text, AllocError> {
     match sort_of(probe, expression)? {
         Sort::Integer => say_integer(text, probe, expression, b"an integer"),
@@ -81,7 +81,7 @@ fn say_offset(text: Text, probe: &Probe, expression: &[u8]) -> Result<Text, Allo
         .say(b">")
 }
 
-/// The unit of an offset of an integer type, as it is written.
+/// The unit of an offset of an integer type, as pickles write it.
 fn unit_of(probe: &Probe, expression: &[u8], integer: &[u8]) -> Result<&'static [u8], AllocError> {
     for unit in UNITS {
         let end = Text::new(probe.alloc)
@@ -112,7 +112,7 @@ fn say_integer(
     }
 }
 
-/// The type of an integer, as it is written; none where it isn't sought.
+/// The type of an integer, as pickles write it. `None` if it isn't searched.
 fn integer_type(probe: &Probe, expression: &[u8]) -> Result<Option<Vec<u8>>, AllocError> {
     if MOST_BYTES < probe.front.len() {
         return Ok(None);
@@ -137,7 +137,7 @@ fn written(alloc: Global, opener: &[u8], width: u8) -> Result<Vec<u8>, AllocErro
     Ok(text.say(b">")?.into_bytes())
 }
 
-/// Whether an integer has a type: only offsets of one type may be chosen between.
+/// Whether an integer has a type. The test is a choice between two offsets, whose types must be the same.
 fn is_of_type(probe: &Probe, expression: &[u8], written: &[u8]) -> Result<bool, AllocError> {
     let chosen = Text::new(probe.alloc)
         .say(b"1 ? (")?

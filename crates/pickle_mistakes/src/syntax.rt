@@ -8,12 +8,12 @@ use pickle_script::script::{Script, cut};
 use pickle_script::text::Text;
 use std::alloc::{AllocError, Global};
 
-/// The words that begin a declaration or a prefix, for which a near one may have been written.
+/// Reserved words that may be meant where a near word is written.
 const RESERVED: [&[u8]; 9] = [
     b"type", b"struct", b"union", b"pinned", b"big", b"little", b"if", b"as", b"string",
 ];
 
-/// The signs that end a part of a pickle, of which one may be missing.
+/// The signs that end a part of a pickle. One of them may be missing.
 const CLOSING: [&[u8]; 5] = [b")", b"]", b"}", b";", b"="];
 
 /// What is wrong at a byte at which no pickle can go on.
@@ -41,7 +41,7 @@ pub fn syntax_note(alloc: Global, script: &Script<'_>, at: usize) -> Result<Note
     })
 }
 
-/// What to write in place of a token.
+/// What to write instead of a token.
 fn help(
     alloc: Global,
     script: &Script<'_>,
@@ -66,7 +66,7 @@ fn help(
     missing(alloc, script, token)
 }
 
-/// The first token of the declaration or field in which a token stands.
+/// The first token of the declaration or field that a token is in.
 pub fn opening(script: &Script<'_>, token: usize) -> usize {
     for back in 0..token {
         let first = token - back;
@@ -77,7 +77,7 @@ pub fn opening(script: &Script<'_>, token: usize) -> usize {
     0
 }
 
-/// The reserved word that is near to the token, or to the one before it, where the pickle can go on with it.
+/// The reserved word that is near to the token, or to the one before it, if the pickle can go on with it.
 fn near_word(
     alloc: Global,
     script: &Script<'_>,
@@ -93,7 +93,7 @@ fn near_word(
     }
 }
 
-/// The reserved word that is near to a token, where the pickle can go on with it and with `behind`.
+/// The reserved word that is near to a token, if the pickle can go on with it and then with `behind`.
 fn near_from(
     alloc: Global,
     script: &Script<'_>,
@@ -118,7 +118,7 @@ fn near_from(
     Ok(None)
 }
 
-/// The place behind the last token.
+/// The place after the last token.
 fn last_end(script: &Script<'_>) -> usize {
     match script.len().checked_sub(1) {
         Some(last) => script.behind(last),
@@ -126,7 +126,7 @@ fn last_end(script: &Script<'_>) -> usize {
     }
 }
 
-/// That a sign is missing before a token that begins a line or closes something, or at the end.
+/// The note for a sign that is missing before a token that begins a line or closes something, or at the end.
 fn missing(
     alloc: Global,
     script: &Script<'_>,
@@ -154,7 +154,7 @@ fn missing(
     }
 }
 
-/// The closing sign that may stand behind the front of a pickle.
+/// The closing sign that may be after the start of a pickle.
 fn missing_sign(alloc: Global, front: &[u8]) -> Result<Option<&'static [u8]>, AllocError> {
     for sign in CLOSING {
         if goes_on(alloc, front, sign)? {

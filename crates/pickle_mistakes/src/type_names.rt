@@ -1,4 +1,4 @@
-//! The types of a pickle that has none of a name.
+//! The types of a pickle that has no type of the requested name.
 
 use crate::expected::say_list;
 use crate::near::nearest;
@@ -7,10 +7,10 @@ use pickle_script::script::{Part, Script};
 use pickle_script::text::Text;
 use std::alloc::{AllocError, Global};
 
-/// The most types that are told.
+/// The most types that are printed.
 const MOST_TOLD: usize = 20;
 
-/// The lines that tell the types of a pickle that has none of a name, and the nearest.
+/// The lines with the types of a pickle that has no type `name`, and with the nearest name.
 pub fn no_such_type(alloc: Global, pickle: &[u8], name: &[u8]) -> Result<Vec<u8>, AllocError> {
     let Some(script) = Script::new(alloc, pickle) else {
         return Err(AllocError);
@@ -32,7 +32,7 @@ pub fn no_such_type(alloc: Global, pickle: &[u8], name: &[u8]) -> Result<Vec<u8>
     Ok(text.into_bytes())
 }
 
-/// The text, and the names of types behind it.
+/// Adds the names of types to the text.
 fn say_types(alloc: Global, text: Text, types: &[&[u8]]) -> Result<Text, AllocError> {
     if types.is_empty() {
         return text.say(b"the pickle declares no types");

@@ -1,4 +1,4 @@
-//! Sentences about types that the checker refuses.
+//! Sentences about types that the type checker refuses.
 
 use crate::clause::{Finding, clause_finding};
 use crate::near::nearest;
@@ -12,7 +12,7 @@ use pickle_script::text::Text;
 use pickle_types::fault::FaultKind;
 use std::alloc::{AllocError, Global};
 
-/// What an integral struct has as fields.
+/// What the fields of an integral struct may be.
 const IN_INTEGRAL: &str =
     "a field of an integral struct is an integer, an offset or an integral struct";
 
@@ -65,7 +65,7 @@ fn finding(
     }
 }
 
-/// That a declared name is taken.
+/// The finding for a declared name that is declared before.
 fn declared_twice(alloc: Global, script: &Script<'_>, name: Part) -> Result<Finding, AllocError> {
     let word = script.slice(name);
     let text = Text::new(alloc).quote(word)?;
@@ -90,12 +90,12 @@ fn line_of(script: &Script<'_>, token: usize) -> usize {
     place_behind(cut(script.bytes, 0, script.first(token))).line
 }
 
-/// The token by which a name is declared before.
+/// The earlier token that declares a name.
 fn earlier_declaration(script: &Script<'_>, name: Part) -> Option<usize> {
     (0..name.first).find(|token| is_declared_as(script, *token, script.slice(name)))
 }
 
-/// Whether a token is a word, right behind a `type`.
+/// Whether a token is a word, right after a `type`.
 pub fn is_declared_as(script: &Script<'_>, token: usize, word: &[u8]) -> bool {
     script.text_before(token) == b"type".as_slice() && script.text(token) == word
 }
@@ -144,7 +144,7 @@ fn of_body(
     })
 }
 
-/// Why a struct or union may not stand in its place.
+/// Why a struct or union may not be in its place.
 fn misplaced_body(script: &Script<'_>, form: Part) -> &'static str {
     match script.text(form.first.saturating_add(2)) {
         b"}" => "a union has at least one alternative",
@@ -162,7 +162,7 @@ fn integral_reference(script: &Script<'_>, form: Part) -> Part {
     Part { first, end }
 }
 
-/// How wide an integral struct has to be for its fields: the checker is asked.
+/// How wide an integral struct must be for its fields, which the type checker decides.
 fn widths_help(
     script: &Script<'_>,
     form: Part,
@@ -185,7 +185,7 @@ fn widths_help(
     Ok(None)
 }
 
-/// What is wrong with a type that is no struct or union, or the integer type of an integral struct.
+/// What is wrong with a type other than a struct or union, or with the integer type of an integral struct.
 fn of_base(
     alloc: Global,
     script: &Script<'_>,
@@ -263,7 +263,7 @@ fn number_of(script: &Script<'_>, base: Part, probe: &Probe) -> Result<Part, All
     )
 }
 
-/// That no type of a name is declared.
+/// The finding for a name that no declared type has.
 pub fn unknown_type(alloc: Global, script: &Script<'_>, name: Part) -> Result<Finding, AllocError> {
     let word = script.slice(name);
     let text = Text::new(alloc).say(b"no type ")?.quote(word)?;
@@ -305,7 +305,7 @@ fn near_type(
     }
 }
 
-/// Whether a name is that of the declaration in which it stands.
+/// Whether a name is that of the declaration that it is in.
 fn is_own(script: &Script<'_>, name: Part) -> bool {
     earlier_declaration(script, name).is_some()
 }
@@ -331,7 +331,7 @@ const PREDECLARED: [&[u8]; 18] = [
     b"int8", b"int16", b"int32", b"int64", b"uint8", b"uint16", b"uint32", b"uint64",
 ];
 
-/// What stands for a type of GNU poke, C or other languages.
+/// The advice for a type of GNU poke, C or another language.
 fn of_foreign(word: &[u8]) -> Option<&'static str> {
     match word {
         b"any" | b"void" => Some(
@@ -391,7 +391,7 @@ fn of_field(
     })
 }
 
-/// What may not stand in a field: the checker is asked about the field without it.
+/// What may not be in a field. The type checker is asked about the field without it.
 fn misplaced(
     script: &Script<'_>,
     parts: &FieldParts,

@@ -1,4 +1,4 @@
-//! Notes: sentences about places of a pickle, and their text.
+//! Notes: sentences about places in a pickle, and their text.
 #![tactic(auto)]
 
 pub mod note;

@@ -1,4 +1,4 @@
-//! A sentence about a place of a pickle, and its text.
+//! A sentence about a place in a pickle, and its text.
 
 ghost use Rattle.std.specs.Prelude.{◌≡◌, IfOk};
 ghost use Rattle.pickle_script.specs.Places.{TellsPlace, place_line};
@@ -18,11 +18,12 @@ pub struct Note {
     /// How many bytes are marked.
     pub length: usize,
     pub sentence: Vec<u8>,
-    /// What to write in place of what stands there.
+    /// What to write instead of what is there.
     pub help: Option<Vec<u8>>,
 }
 
-/// The text of a note: the place and the sentence, the line with a mark, and the help. A place behind the pickle is told as its end.
+/// The text of a note: the place and the sentence, the line with a mark, and the help. A place after the pickle is
+/// printed as its end.
 pub fn note_text(
     alloc: Global,
     pickle: &[u8],
@@ -41,7 +42,7 @@ pub fn note_text(
     Ok(text)
 }
 
-/// The line that tells a place.
+/// The line of a place.
 fn place_line(
     alloc: Global,
     called: &[u8],
@@ -73,7 +74,7 @@ fn below(
     Ok(text.into_bytes())
 }
 
-/// As many blanks as a line's number has digits.
+/// Adds as many blanks to the text as a line's number has digits.
 fn say_margin(text: Text, line: usize) -> Result<Text, AllocError> {
     let mut digits = Buffer::new();
     let mut text = text;

@@ -1,32 +1,32 @@
-//! A line of a pickle as it is shown, and the mark below it.
+//! A line of a pickle as it is printed, and the mark below it.
 
 use pickle_script::text::{Text, is_shown};
 use std::alloc::AllocError;
 
-/// The most columns of a line that are shown.
+/// The most columns of a line that are printed.
 const MOST_COLUMNS: usize = 100;
 
-/// The most columns before a mark that are shown of a longer line.
+/// The most columns before a mark that are printed of a longer line.
 const COLUMNS_BEFORE: usize = 50;
 
-/// The columns of the dots on both sides of a part of a line.
+/// The columns of the dots on both sides of a part of a line, together.
 const DOTS: usize = 4;
 
-/// What is shown of a line: the bytes before a mark, those above it, and those behind it.
+/// What is printed of a line: the bytes before a mark, those above it, and those after it.
 #[derive(Clone, Copy)]
 pub struct Shown<'t> {
     before: &'t [u8],
     marked: &'t [u8],
     after: &'t [u8],
-    /// Whether the line begins further to the left.
+    /// Whether the line has more bytes on the left.
     cut_left: bool,
-    /// Whether the line ends further to the right.
+    /// Whether the line has more bytes on the right.
     cut_right: bool,
 }
 
 impl<'t> Shown<'t> {
-    /// What is shown of a line in which a mark of so many bytes stands: `before` are the line's bytes before the mark, `rest`
-    /// those from the mark on, with whatever lines come behind.
+    /// What is printed of a line with a mark under `length` bytes. `before` has the line's bytes before the mark, `rest`
+    /// the bytes from the mark on, with the lines after it.
     pub fn new(before: &'t [u8], rest: &'t [u8], length: usize) -> Shown<'t> {
         let rest = first_line(rest);
         let whole = columns(before).saturating_add(columns(rest)) <= MOST_COLUMNS;
@@ -50,7 +50,7 @@ impl<'t> Shown<'t> {
         }
     }
 
-    /// The text, and the line behind it.
+    /// Adds the line to the text.
     pub fn say_line(&self, text: Text) -> Result<Text, AllocError> {
         let text = if self.cut_left {
             text.say(b"..")?
@@ -67,7 +67,7 @@ impl<'t> Shown<'t> {
         }
     }
 
-    /// The text, and behind it blanks under what stands before the mark, and the mark.
+    /// Adds blanks under what is before the mark, and the mark, to the text.
     pub fn say_mark(&self, text: Text) -> Result<Text, AllocError> {
         let text = if self.cut_left {
             text.say(b"  ")?
@@ -82,7 +82,7 @@ impl<'t> Shown<'t> {
     }
 }
 
-/// The columns that a byte takes, at most.
+/// The most columns that a byte takes.
 fn columns_of(byte: u8) -> usize {
     match byte {
         b'\t' => 8,
@@ -91,7 +91,7 @@ fn columns_of(byte: u8) -> usize {
     }
 }
 
-/// The columns that bytes take, at most.
+/// The most columns that bytes take.
 fn columns(bytes: &[u8]) -> usize {
     let mut columns: usize = 0;
     for byte in bytes {
@@ -150,7 +150,7 @@ fn back(bytes: &[u8], count: usize) -> &[u8] {
     }
 }
 
-/// Bytes as they are shown in a line: a tab stays one.
+/// Adds bytes to the text as a line prints them. A tab stays a tab.
 fn say_bytes(text: Text, bytes: &[u8]) -> Result<Text, AllocError> {
     let mut text = text;
     for byte in bytes {
@@ -162,7 +162,7 @@ fn say_bytes(text: Text, bytes: &[u8]) -> Result<Text, AllocError> {
     Ok(text)
 }
 
-/// As many columns of blanks as bytes take; a tab stays one.
+/// Adds as many blanks to the text as bytes take columns. A tab stays a tab.
 fn say_blanks(text: Text, bytes: &[u8]) -> Result<Text, AllocError> {
     let mut text = text;
     for byte in bytes {
@@ -175,7 +175,7 @@ fn say_blanks(text: Text, bytes: &[u8]) -> Result<Text, AllocError> {
     Ok(text)
 }
 
-/// The mark under bytes.
+/// Adds the mark under bytes to the text.
 fn say_carets(text: Text, bytes: &[u8]) -> Result<Text, AllocError> {
     let mut text = text;
     for byte in bytes {

@@ -1,4 +1,4 @@
--- What is told of a refusal.
+-- What is printed about a refusal.
 use Rattle.std.proofs.Common.{◌≡◌, ℕ, List, [], fold, Result, Ok, Err, IfOk, subst}
 use Rattle.pickle_tree.specs.Tree.{DeclarationTree}
 use Rattle.pickle_types.specs.Names.{Names}

@@ -1,4 +1,4 @@
-//! Why a pickle, or the name of a type, is refused: further lines, behind the one that refuses it.
+//! Why a pickle, or the name of a type, is refused: more lines, after the line of the refusal.
 #![tactic(auto)]
 
 ghost use Rattle.std.specs.Prelude.{IfOk};
@@ -15,8 +15,8 @@ use pickle_script::text::Text;
 use run_parts::accept::{Refusal, accept};
 use std::alloc::{AllocError, Global};
 
-/// The lines that tell why a pickle is refused, or the name of a type that is asked of it; none where neither is. `path` is the
-/// path of the pickle; bytes outside 0x20 to 0x7e of what is shown are escaped.
+/// The lines that say why a pickle, or the name of a type in it, is refused. Empty if neither is refused. `path` is the
+/// path of the pickle. Bytes outside 0x20 to 0x7e are escaped in these lines.
 pub fn explanation(
     alloc: Global,
     pickle: &[u8],

@@ -1,4 +1,4 @@
-//! The parts of declarations, fields and types, as tokens. The pickle has a syntax.
+//! The parts of declarations, fields and types, as tokens. The parser accepts the pickle.
 
 use crate::script::{Part, Script};
 use std::alloc::{AllocError, Global};
@@ -7,7 +7,7 @@ use std::alloc::{AllocError, Global};
 #[derive(Clone, Copy)]
 pub struct FieldParts {
     pub whole: Part,
-    /// The prefix `big` or `little`; no token where there is none.
+    /// The prefix `big` or `little`. No tokens if there is none.
     pub order: Part,
     pub form: Part,
     pub name: Part,
@@ -16,7 +16,7 @@ pub struct FieldParts {
     pub condition: Part,
 }
 
-/// The tokens of a declaration from its `type` on, without its `;`; it is counted from 1.
+/// The tokens of a declaration from its `type` on, without its `;`. Declarations are counted from 1.
 pub fn declaration(script: &Script<'_>, number: usize) -> Part {
     let mut first = 0;
     for _ in 1..number {
@@ -28,7 +28,7 @@ pub fn declaration(script: &Script<'_>, number: usize) -> Part {
     }
 }
 
-/// The `;` that ends what begins with a token, or `end`.
+/// The `;` at the end of what begins with a token, or `end`.
 fn statement_end(script: &Script<'_>, first: usize, end: usize) -> usize {
     let mut depth: usize = 0;
     for token in first..end {
@@ -42,7 +42,7 @@ fn statement_end(script: &Script<'_>, first: usize, end: usize) -> usize {
     end
 }
 
-/// The token behind the bracket or brace that closes the one at `open`, or `end`.
+/// The token after the bracket or brace that closes the one at `open`, or `end`.
 fn closed(script: &Script<'_>, open: usize, end: usize) -> usize {
     let mut depth: usize = 0;
     for token in open..end {
@@ -58,7 +58,7 @@ fn closed(script: &Script<'_>, open: usize, end: usize) -> usize {
     end
 }
 
-/// The token behind the `>` that closes the opener at `open`, or `end`.
+/// The token after the `>` that closes the opener at `open`, or `end`.
 fn angle_closed(script: &Script<'_>, open: usize, end: usize) -> usize {
     let mut depth: usize = 0;
     for token in open..end {
@@ -74,7 +74,7 @@ fn angle_closed(script: &Script<'_>, open: usize, end: usize) -> usize {
     end
 }
 
-/// The `{` of a struct or union whose tokens begin at `first`; none of another type.
+/// The `{` of a struct or union whose tokens begin at `first`. `None` for any other type.
 pub fn opening_brace(script: &Script<'_>, form: Part) -> Option<usize> {
     match script.text(form.first) {
         b"struct" | b"union" | b"pinned" => brace_from(script, form),
@@ -119,7 +119,7 @@ pub fn form_from(script: &Script<'_>, first: usize, end: usize) -> Part {
     Part { first, end }
 }
 
-/// The fields between braces, of which the first is at `brace`.
+/// The fields between braces, the opening one at `brace`.
 pub fn fields(
     alloc: Global,
     script: &Script<'_>,
@@ -140,7 +140,7 @@ pub fn fields(
     Ok(fields)
 }
 
-/// The field at a place, from 0, between braces, of which the first is at `brace`.
+/// The field at a place, counted from 0, between braces, the opening one at `brace`.
 pub fn field_at(script: &Script<'_>, brace: usize, end: usize, place: usize) -> Option<Part> {
     let close = closed(script, brace, end).saturating_sub(1);
     let mut first = brace.saturating_add(1);
@@ -203,7 +203,7 @@ pub fn field_parts(script: &Script<'_>, whole: Part) -> FieldParts {
     }
 }
 
-/// The first of some tokens that is written so, or `end`.
+/// The first of some tokens that is `word`, or `end`.
 fn token_from(script: &Script<'_>, word: &[u8], first: usize, end: usize) -> usize {
     (first..end)
         .find(|token| script.text(*token) == word)

@@ -1,4 +1,4 @@
-//! Parts of a pickle as they are shown in a line.
+//! Parts of a pickle as they are printed in a line.
 
 ghost use Rattle.std.specs.Prelude.{◌≡◌, ◌≤◌, length, IfOk};
 ghost use Rattle.pickle_script.specs.Places.{IsPlain, shortened};
@@ -7,11 +7,11 @@ use crate::script::{Part, Script, cut};
 use crate::text::Text;
 use std::alloc::{AllocError, Global};
 
-/// The most columns of a part that are shown.
+/// The most columns of a part that are printed.
 const MOST_COLUMNS: usize = 100;
 
-/// Some tokens as they are written, with a blank for whatever stands between two of them. No more than 100 columns are shown,
-/// and `..` behind them where there are more.
+/// Some tokens as the pickle has them, with one blank for whatever is between two of them. After 100 columns the
+/// remainder is cut, and `..` is printed instead.
 pub fn excerpt(alloc: Global, script: &Script<'_>, part: Part) -> Result<Vec<u8>, AllocError>
     ensures plain { IfOk result (λ text. IsPlain text.items) }
     ensures short { IfOk result (λ text. length text.items ≤ 102) }
@@ -20,7 +20,8 @@ pub fn excerpt(alloc: Global, script: &Script<'_>, part: Part) -> Result<Vec<u8>
     shortened(alloc, text.into_bytes().as_slice())
 }
 
-/// The text, and some tokens behind it, with a blank for whatever stands between two of them; not more of them than are shown.
+/// Adds some tokens to the text, with one blank for whatever is between two of them. Stops when there are more columns
+/// than are printed.
 pub fn say_tokens(text: Text, script: &Script<'_>, part: Part) -> Result<Text, AllocError>
     ensures { IsPlain text.bytes.items → IfOk result (λ shown. IsPlain shown.bytes.items) }
 {
@@ -37,17 +38,17 @@ pub fn say_tokens(text: Text, script: &Script<'_>, part: Part) -> Result<Text, A
     Ok(text)
 }
 
-/// Whether something stands between a token and the one before it.
+/// Whether there is something between a token and the one before it.
 fn is_apart(script: &Script<'_>, token: usize) -> bool {
     script.behind(token.saturating_sub(1)) < script.first(token)
 }
 
-/// As many bytes of a token as can be shown, and one more.
+/// As many bytes of a token as can be printed, and one more.
 fn front(bytes: &[u8]) -> &[u8] {
     cut(bytes, 0, bytes.len().min(MOST_COLUMNS + 1))
 }
 
-/// What is shown of a text.
+/// What is printed of a text.
 pub fn shortened(alloc: Global, text: &[u8]) -> Result<Vec<u8>, AllocError>
     ensures shown { IfOk result (λ shown. shown.items ≡ shortened text.now) }
     ensures plain { IsPlain text.now → IfOk result (λ shown. IsPlain shown.items) }

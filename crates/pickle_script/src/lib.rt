@@ -1,4 +1,4 @@
-//! A pickle's bytes with their tokens: where its parts stand, and how they are shown.
+//! A pickle's bytes with their tokens: where its parts are, and how they are printed.
 #![tactic(auto)]
 
 pub mod anatomy;

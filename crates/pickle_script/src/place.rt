@@ -3,14 +3,14 @@
 ghost use Rattle.std.specs.Prelude.{◌≡◌, ◌+◌, ◌≤◌, ◌<◌, ◌^◌, length};
 ghost use Rattle.pickle_script.specs.Places.{line_behind, column_behind, next_column};
 
-/// A place of a pickle: its line, and its column in bytes, both counted from 1.
+/// A place in a pickle: its line, and its column in bytes, both counted from 1.
 #[derive(Clone, Copy, Debug, Drop, PartialEq, Eq)]
 pub struct Place {
     pub line: usize,
     pub column: usize,
 }
 
-/// The place behind some bytes. A line feed ends a line.
+/// The place after some bytes. A line feed ends a line.
 pub fn place_behind(before: &[u8]) -> Place
     ensures line { result.line ≡ line_behind before.now }
     ensures column { result.column ≡ column_behind before.now }

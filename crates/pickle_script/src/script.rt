@@ -4,7 +4,7 @@ use pickle_syntax::lexer::{Tokens, lex};
 use pickle_syntax::token::{Kind, Word};
 use std::alloc::{AllocError, Global};
 
-/// Some tokens in a row: the first, counted from 0, and the one behind the last.
+/// Some tokens in a row: the first, counted from 0, and the one after the last.
 #[derive(Clone, Copy, Debug, Drop, PartialEq, Eq)]
 pub struct Part {
     pub first: usize,
@@ -26,11 +26,11 @@ impl Part {
 pub struct Script<'t> {
     pub bytes: &'t [u8],
     tokens: Tokens<'t>,
-    /// The tokens behind each `type`: the names that are declared.
+    /// The tokens after each `type`: the names that are declared.
     names: Vec<usize>,
 }
 
-/// The bytes from one place to another; none where there are no such places.
+/// The bytes from one place to another. Empty if there are no such places.
 pub fn cut(bytes: &[u8], from: usize, to: usize) -> &[u8] {
     match bytes.get(from..to) {
         Some(part) => part,
@@ -39,7 +39,7 @@ pub fn cut(bytes: &[u8], from: usize, to: usize) -> &[u8] {
 }
 
 impl<'t> Script<'t> {
-    /// The tokens of bytes; none where they have no tokens.
+    /// The tokens of bytes. `None` if the lexer refuses them, or an allocation fails.
     pub fn new(alloc: Global, bytes: &'t [u8]) -> Option<Script<'t>> {
         let tokens = lex(alloc, bytes).ok()?;
         let names = declared_names(alloc, tokens.kinds()).ok()?;
@@ -55,7 +55,7 @@ impl<'t> Script<'t> {
         self.names.len()
     }
 
-    /// The token by which a name is declared, behind `type`.
+    /// The token that declares a name, after `type`.
     pub fn declared(&self, name: &[u8]) -> Option<usize> {
         self.names
             .iter()
@@ -68,7 +68,7 @@ impl<'t> Script<'t> {
         self.tokens.len()
     }
 
-    /// The place of a token's first byte; behind the last token the pickle's end.
+    /// The place of a token's first byte. After the last token it is the pickle's end.
     pub fn first(&self, token: usize) -> usize {
         match self.tokens.span(token) {
             Some((first, _)) => first,
@@ -76,7 +76,7 @@ impl<'t> Script<'t> {
         }
     }
 
-    /// The place behind a token's last byte; behind the last token the pickle's end.
+    /// The place after a token's last byte. After the last token it is the pickle's end.
     pub fn behind(&self, token: usize) -> usize {
         match self.tokens.span(token) {
             Some((_, behind)) => behind,
@@ -84,12 +84,12 @@ impl<'t> Script<'t> {
         }
     }
 
-    /// A token as it is written; nothing behind the last token.
+    /// A token as the pickle has it. Empty after the last token.
     pub fn text(&self, token: usize) -> &'t [u8] {
         cut(self.bytes, self.first(token), self.behind(token))
     }
 
-    /// The token before another as it is written; nothing before the first.
+    /// The token before another as the pickle has it. Empty before the first.
     pub fn text_before(&self, token: usize) -> &'t [u8] {
         match token.checked_sub(1) {
             Some(before) => self.text(before),
@@ -97,7 +97,7 @@ impl<'t> Script<'t> {
         }
     }
 
-    /// Whether a token is a name, and no reserved word.
+    /// Whether a token is a name, not a reserved word.
     pub fn is_name(&self, token: usize) -> bool {
         matches!(self.tokens.kinds().get(token), Some(Kind::Name(_)))
     }
@@ -107,7 +107,7 @@ impl<'t> Script<'t> {
         matches!(self.tokens.kinds().get(token), Some(Kind::Number(_)))
     }
 
-    /// The place of the first byte of some tokens, and the one behind their last.
+    /// The place of the first byte of some tokens, and the place after their last byte.
     pub fn bounds(&self, part: Part) -> (usize, usize) {
         match part.end.checked_sub(1) {
             Some(last) if part.first <= last => (self.first(part.first), self.behind(last)),
@@ -115,13 +115,13 @@ impl<'t> Script<'t> {
         }
     }
 
-    /// Some tokens as they are written, with what stands between them.
+    /// Some tokens as the pickle has them, with what is between them.
     pub fn slice(&self, part: Part) -> &'t [u8] {
         let (first, behind) = self.bounds(part);
         cut(self.bytes, first, behind)
     }
 
-    /// The first token that begins at a byte or behind it.
+    /// The first token that begins at a byte or after it.
     pub fn token_at(&self, byte: usize) -> usize {
         for token in 0..self.tokens.len() {
             if byte <= self.first(token) {
@@ -132,7 +132,7 @@ impl<'t> Script<'t> {
     }
 }
 
-/// The places behind each `type`.
+/// The places after each `type`.
 fn declared_names(alloc: Global, kinds: &[Kind<'_>]) -> Result<Vec<usize>, AllocError> {
     let mut names = Vec::new(alloc);
     for (place, kind) in kinds.iter().enumerate() {

@@ -1,4 +1,4 @@
-//! Where the parts of a type stand in its pickle. The pickle is accepted.
+//! Where the parts of a type are in its pickle. The pickle is accepted.
 
 ghost use Rattle.std.specs.Prelude.{◌≤◌, length, IfOk};
 ghost use Rattle.pickle_script.specs.Places.{IsPlaceIn, IsPlain};
@@ -13,7 +13,7 @@ use std::alloc::{AllocError, Global};
 /// A step from a type to one of its parts.
 #[derive(Clone, Copy, Debug, PartialEq, Eq)]
 pub enum Step {
-    /// The field of a struct, or the alternative of a union, at this place among the declared ones, from 0.
+    /// The field of a struct, or the alternative of a union, at this place among the declared ones, counted from 0.
     Field(usize),
     /// An element of an array.
     Element,
@@ -29,20 +29,20 @@ pub enum Purpose {
     Bound,
 }
 
-/// A declared type, a field or alternative in one, or an element of an array, with the place where it stands.
+/// A declared type, a field or alternative in one, or an element of an array, and its place in the pickle.
 #[derive(Clone, Copy)]
 pub struct Site {
-    /// The first token of the innermost field on the way; where there is none, the name of the declared type.
+    /// The first token of the innermost field on the way. If there is no field, the name of the declared type.
     at: usize,
-    /// The name of the declared type in which it stands; none for a declared type itself.
+    /// The name of the declared type that it is in. `None` for a declared type itself.
     owner: Option<usize>,
-    /// The tokens of its type. Those of a declared type are its name.
+    /// The tokens of its type. For a declared type, the token of its name.
     form: Part,
-    /// The parts of the field that it is.
+    /// The parts of the field, if it is one.
     field: Option<FieldParts>,
 }
 
-/// A type that is no name of a declared one, and the name of the declared type in which it stands.
+/// A type that isn't the name of a declared one, and the name of the declared type that it is in.
 #[derive(Clone, Copy)]
 struct Opened {
     form: Part,
@@ -50,7 +50,7 @@ struct Opened {
 }
 
 impl Site {
-    /// The declared type of a name; none where there is no declaration of it.
+    /// The declared type with a name. `None` if no type of that name is declared.
     pub fn of_type(script: &Script<'_>, name: &[u8]) -> Option<Site> {
         let token = script.declared(name)?;
         Some(Site {
@@ -61,7 +61,7 @@ impl Site {
         })
     }
 
-    /// The part to which steps lead, through names of declared types too; none where the types have no such part.
+    /// The part to which steps lead, also through names of declared types. `None` if the types have no such part.
     pub fn along(self, script: &Script<'_>, steps: &[Step]) -> Option<Site> {
         let mut site = self;
         for step in steps {
@@ -70,7 +70,7 @@ impl Site {
         Some(site)
     }
 
-    /// The part to which a step leads, through names of declared types too; none where the type has no such part.
+    /// The part to which a step leads, also through names of declared types. `None` if the type has no such part.
     pub fn part(self, script: &Script<'_>, step: Step) -> Option<Site> {
         let opened = self.opened(script);
         match step {
@@ -79,8 +79,9 @@ impl Site {
         }
     }
 
-    /// The place of its first byte in the pickle, counted from 0: of a field or alternative that of its order's word or its type, of
-    /// a declared type that of its name, of an element that of the innermost field or declared type on the way to it.
+    /// The place of its first byte in the pickle, counted from 0. A field or alternative begins with `big` or `little`
+    /// or with its type, a declared type with its name. An element has the place of the innermost field or declared
+    /// type on the way to it.
     pub fn at(self, script: &Script<'_>) -> usize
         ensures { result ≤ length script.now.bytes.now }
     {
@@ -95,14 +96,14 @@ impl Site {
         place_behind(before)
     }
 
-    /// The name of the declared type in which it stands; none for a declared type itself.
+    /// The name of the declared type that it is in. `None` for a declared type itself.
     pub fn owner<'t>(self, script: &Script<'t>) -> Option<&'t [u8]> {
         Some(script.text(self.owner?))
     }
 
-    /// Its type as it stands in the pickle, in one line and without the word of its order, as `uint<32>` or `byte[size - 4]`; of a
-    /// declared type its name. Fields between braces are left out, as in `struct {..}`. No more than 100 columns are shown, and `..`
-    /// behind them where there are more.
+    /// Its type as the pickle has it, on one line and without `big` or `little`, such as `uint<32>` or
+    /// `byte[size - 4]`. For a declared type, its name. Fields between braces are left out, as in `struct {..}`. After
+    /// 100 columns the remainder is cut, and `..` is printed instead.
     pub fn type_text(self, alloc: Global, script: &Script<'_>) -> Result<Vec<u8>, AllocError>
         ensures plain { IfOk result (λ text. IsPlain text.items) }
         ensures short { IfOk result (λ text. length text.items ≤ 102) }
@@ -123,8 +124,8 @@ impl Site {
         shortened(alloc, text.into_bytes().as_slice())
     }
 
-    /// The tokens of an expression that it has: as a field its constraint, condition or label, as an array its bound, through names of
-    /// declared types too. None where it has none.
+    /// The tokens of an expression that it has: of a field the constraint, condition or label, of an array the bound,
+    /// also through names of declared types. `None` if it has no such expression.
     pub fn clause(self, script: &Script<'_>, purpose: Purpose) -> Option<Part> {
         let part = match purpose {
             Purpose::Constraint => self.field?.constraint,
@@ -139,7 +140,7 @@ impl Site {
         }
     }
 
-    /// Its type, where it is a name that of the declared type, and so on.
+    /// Its type. A name of a declared type is followed to that type, and so on.
     fn opened(self, script: &Script<'_>) -> Opened {
         let mut opened = Opened {
             form: self.form,
@@ -154,12 +155,12 @@ impl Site {
         opened
     }
 
-    /// The name of the declared type that it is or in which it stands.
+    /// The name of the declared type that it is, or that it is in.
     fn innermost(self) -> usize {
         self.owner.unwrap_or(self.at)
     }
 
-    /// An element of it, where it is an array.
+    /// An element of it, if it is an array.
     fn element_of(self, script: &Script<'_>, opened: Opened) -> Option<Site> {
         let base = base(script, opened.form);
         if opened.form.end <= base.end {
@@ -174,7 +175,7 @@ impl Site {
     }
 }
 
-/// The field or alternative of a struct or union at a place, from 0.
+/// The field or alternative of a struct or union at a place, counted from 0.
 fn field_of(script: &Script<'_>, opened: Opened, place: usize) -> Option<Site> {
     if base(script, opened.form).end < opened.form.end {
         return None;
@@ -190,7 +191,7 @@ fn field_of(script: &Script<'_>, opened: Opened, place: usize) -> Option<Site> {
     })
 }
 
-/// The type that is declared under a name, where a type is one.
+/// The declared type that a type names, if it is a name.
 fn declared_as(script: &Script<'_>, form: Part) -> Option<Opened> {
     if form.first.saturating_add(1) != form.end {
         return None;

@@ -8,7 +8,7 @@ use itoa::Buffer;
 use std::alloc::{AllocError, Global};
 use text_forms::hex::hex_digit;
 
-/// The most bytes of a word that are shown.
+/// The most bytes of a word that are printed.
 const MOST_SHOWN: usize = 64;
 
 /// A text that grows at its end.
@@ -18,7 +18,7 @@ pub struct Text {
 }
 
 impl Text {
-    /// No text.
+    /// An empty text.
     pub fn new(alloc: Global) -> Text
         ensures { result.bytes.items ≡ [] }
     {
@@ -27,14 +27,14 @@ impl Text {
         }
     }
 
-    /// How many bytes it has.
+    /// The number of bytes in it.
     pub fn len(&self) -> usize
         ensures { result ≡ length self.now.bytes.items }
     {
         self.bytes.len()
     }
 
-    /// The text, and a part behind it.
+    /// Adds a part to the text.
     pub fn say(self, part: &[u8]) -> Result<Text, AllocError>
         ensures added { IfOk result (λ text. text.bytes.items ≡ self.bytes.items ++ part.now) }
         ensures plain { IsPlain self.bytes.items → IsPlain part.now → IfOk result (λ text. IsPlain text.bytes.items) }
@@ -44,7 +44,7 @@ impl Text {
         Ok(Text { bytes })
     }
 
-    /// The text, and the decimal digits of a number behind it.
+    /// Adds the decimal digits of a number to the text.
     pub fn say_number(self, number: usize) -> Result<Text, AllocError>
         ensures { IfOk result (λ text. text.bytes.items ≡ self.bytes.items ++ decimal number) }
     {
@@ -52,7 +52,7 @@ impl Text {
         self.say(digits.format(number).as_bytes())
     }
 
-    /// The text, and a place behind it: what the pickle is called, the line and the column, with colons between them.
+    /// Adds a place to the text: the name of the pickle, the line and the column, with colons between them.
     pub fn say_place(self, called: &[u8], place: Place) -> Result<Text, AllocError>
         ensures { IfOk result (λ text. text.bytes.items ≡ self.bytes.items ++ place_text called.now place.line place.column) }
     {
@@ -61,7 +61,7 @@ impl Text {
         text.say_number(place.column)
     }
 
-    /// The text, and a word in backquotes behind it, of which no more than 64 bytes are shown.
+    /// Adds a word in backquotes to the text, at most 64 bytes of it.
     pub fn quote(self, word: &[u8]) -> Result<Text, AllocError> {
         match word.get(..MOST_SHOWN) {
             Some(front) if front.len() < word.len() => self.say(b"`")?.show(front)?.say(b"..`"),
@@ -69,7 +69,7 @@ impl Text {
         }
     }
 
-    /// The text, and bytes behind it, of which those outside 0x20 to 0x7e are escaped.
+    /// Adds bytes to the text. Those outside 0x20 to 0x7e are escaped.
     pub fn show(self, bytes: &[u8]) -> Result<Text, AllocError>
         ensures shown { IfOk result (λ text. text.bytes.items ≡ fold shown_behind self.bytes.items bytes.now) }
         ensures plain { IsPlain self.bytes.items → IfOk result (λ text. IsPlain text.bytes.items) }
@@ -81,7 +81,7 @@ impl Text {
         Ok(text)
     }
 
-    /// The text, and a byte behind it, which is escaped outside 0x20 to 0x7e.
+    /// Adds a byte to the text. A byte outside 0x20 to 0x7e is escaped.
     pub fn show_byte(self, byte: u8) -> Result<Text, AllocError>
         ensures shown { IfOk result (λ text. text.bytes.items ≡ shown_behind self.bytes.items byte) }
         ensures plain { IsPlain self.bytes.items → IfOk result (λ text. IsPlain text.bytes.items) }
@@ -101,7 +101,7 @@ impl Text {
     }
 }
 
-/// Whether a byte is shown as it is.
+/// Whether a byte is printed as itself.
 pub fn is_shown(byte: u8) -> bool
     ensures { result ≡ nat_le 32 byte && nat_le byte 126 }
 {

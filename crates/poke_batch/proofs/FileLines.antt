@@ -19,7 +19,7 @@ name_append (x ∷ xs) ys = ap (λ s. name_byte x ++ s) (name_append xs ys) ∙ 
 take_one : (name : List ℕ) (k : ℕ) → k < length name → take (k + 1) name ≡ take k name ++ slice_index name k ∷ []
 take_one name k lt = ap (λ n. take n name) (one_more k) ∙ take-suc name k 0 lt
 
--- the bytes before a place, the byte there, and those behind it
+-- the bytes before a place, the byte there, and those after it
 pub name_split : (name : List ℕ) (k : ℕ) → k < length name → shown_name name ≡ shown_name (take k name) ++ (name_byte (slice_index name k) ++ shown_name (drop (k + 1) name))
 name_split name k lt =
     ap shown_name (sym (take-append-drop k name)) ∙ name_append (take k name) (drop k name) ∙ ap (λ s. shown_name (take k name) ++ shown_name s) (drop_more name k 0 lt)

@@ -37,7 +37,7 @@ has_answer bytes type order start limit most used answer k j same none means = r
   means = subst (λ left. Answer (bits_of bytes) type order start left answer k j) (omega (arith, same, none)) means;
 }
 
--- a fault that a type means, told of a meter that took no step before
+-- a fault that a type means, reported for a meter that took no step before
 stopped : (pickle : List ℕ) (ask : Ask) (before after : SpaceView) (type : PokeType) (at most used taken k j : ℕ) (kind : MapFaultKind)
     → most ≡ ask.limit → used ≡ 0 → IsAsked pickle ask.name.now type
     → ((bytes : List ℕ) → before.bytes ≡ Some bytes → Answer (bits_of bytes) type ask.order ask.start (most - used) (Err (kind, at)) k j)

@@ -1,4 +1,4 @@
--- Laws of the parts that paths lead to.
+-- Laws of the parts to which paths lead.
 use Rattle.std.proofs.Common.{◌≡◌, ◌∙◌, ℕ, suc, ◌+◌, ◌-◌, ◌<◌, true, false, List, [], ◌∷◌, Some, None, drop, refl, sym, ap, subst, arith}
 use Rattle.value_store.specs.Labels.{member_name}
 use Rattle.pickle_meaning.specs.Values.{Label, Value}

@@ -1,4 +1,4 @@
--- What the definitions of words, writers and runs refuse.
+-- What the definitions of arguments, writers and runs refuse.
 use Rattle.std.proofs.Common.{◌≡◌, ◌<◌, ◌++◌, ℕ, List, [], ◌∷◌, length, Some, refl, sym, ap, subst, inl, inr, arith}
 use Rattle.std.specs.Prelude.{codes}
 use Rattle.bit_space.specs.SpaceView.{SpaceView, HasRisen, honest}
@@ -53,7 +53,7 @@ no_sign (x ∷ y ∷ front) behind e = no_more (ap tail e)
 no_unit : (bits : ℕ) → IsOffsetWord (codes "8") bits → ⊥
 no_unit bits w = no_sign w.magnitude w.unit w.parts
 
--- a text of which the last byte is not written is not done, nor is one that is written twice
+-- a text without its last byte is not done, nor is one that is written twice
 a_byte_less : IsWritten (codes "ab") Done (Some []) (Some (codes "a")) (Some []) (Some []) → ⊥
 a_byte_less (inl (done, appends, keeps)) = apart 1 2 (omega arith) (ap length appends)
 a_byte_less (inr (failed, part, told)) = done_is_not_outside failed
@@ -70,7 +70,7 @@ nothing_written (inr (failed, part, told)) = done_is_not_outside failed
 silent : Says (λ saying. saying ≡ Text (codes "a")) Done (Some []) (Some []) (Some []) (Some []) → ⊥
 silent s = nothing_written (subst (λ saying. IsSaid saying Done (Some []) (Some []) (Some []) (Some [])) s.right s.said)
 
--- a mapping tells no line with the status of one that is done
+-- a mapping prints no line with the exit status of one that is done
 abbrev LineHas : (Status → Type 0) → Saying → Type 0
 LineHas P (Text text) = Unit {0}
 LineHas P (Line status line) = P status

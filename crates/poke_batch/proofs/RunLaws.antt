@@ -34,7 +34,7 @@ parts_small pickle name m type levels start mapped asked fits = value_small m ty
 not_outside : {status : Status} → status ≡ Done → status ≡ Outside → ⊥
 not_outside done outside = cc
 
--- where a run is done, a text was written whole, and no line told
+-- if a run is done, its text was written whole, and no line was printed
 whole_written : (text : List ℕ) (status : Status) (out out' err err' : Option (List ℕ)) → status ≡ Done → IsWritten text status out out' err err' → Appends out out' text
 whole_written text status out out' err err' done (inl h) = h.1
 whole_written text status out out' err err' done (inr h) = absurd (not_outside done h.0)
@@ -60,7 +60,7 @@ module _ (pickle : List ℕ) (ask : Ask) (before : SpaceView) (status : Status) 
   abbrev IsSaidHere : Saying → Type 0
   IsSaidHere saying = IsSaid saying status out out' err err'
 
-  -- no line is told
+  -- no line is printed
   no_line : {A : Type 0} (line_status : Status) (line : List ℕ) → (line_status ≡ Done → ⊥) → IsSaidHere (Line line_status line) → A
   no_line line_status line other h = absurd (other (nothing_told line_status line status err err' done h.1))
 
@@ -117,7 +117,7 @@ module _ (pickle : List ℕ) (ask : Ask) (before : SpaceView) (status : Status) 
   json_written after saying (refused_map {refusal = refusal.Memory} a) h = no_line Outside _ (λ e. cc) h
   json_written after saying no_memory h = no_line Outside _ (λ e. cc) h
 
-  -- no line of a mapping is told with the status of one that is done
+  -- no line of a mapping is printed with the exit status of one that is done
   line_is : (after : SpaceView) (saying : Saying) → MapsAs pickle ask before after saying → (line_status : Status) (line : List ℕ) → saying ≡ Line line_status line → line_status ≡ Done → ⊥
   line_is after _ (value asked means fits) line_status line is e = cc
   line_is after _ (stops asked a b c d) line_status line is e = cc

@@ -36,7 +36,7 @@ text_small : (bytes : List ℕ) → IsText bytes → AreBytes bytes
 text_small [] h = tt
 text_small (b ∷ bytes) h = (h.1, text_small bytes h.2)
 
--- ---- what a level has gathered
+-- ---- what a frame has gathered
 
 abbrev HasSmallTop : Levels → Type 0
 HasSmallTop levels = AreSmallParts (gathered (top_of levels))
@@ -73,7 +73,7 @@ count_pushed [] None = refl
 count_pushed [] (Some v) = refl
 count_pushed (top ∷ outer) v = one_more top v
 
--- a level with so many members more
+-- a frame with so many members more
 record Gains (levels inside : Levels) (n : ℕ) : Type 0 where
   count : top_count inside ≡ top_count levels + n
   small : HasSmallTop inside

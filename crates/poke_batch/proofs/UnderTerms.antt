@@ -82,7 +82,7 @@ pub says_more : {P Q : Saying → Type 0} {status : Status} {out out' err err' :
     → ((saying : Saying) → P saying → Q saying) → Says P status out out' err err' → Says Q status out out' err err'
 says_more more says = record { saying = says.saying; right = more says.saying says.right; said = says.said }
 
--- a text that any length will do for
+-- a text without a limit on its length
 pub free_saying : (most : Option ℕ) (start : ℕ) (text : List ℕ) → most ≡ None → SaysIt (text_saying most start text) (Text text)
 free_saying most start text free = subst (λ o. SaysIt (text_saying o start text) (Text text)) (sym free) said_so
 
@@ -97,7 +97,7 @@ pub long_saying : (most start : ℕ) (text : List ℕ) → most < length text �
 long_saying most start text more =
     subst (λ b. SaysIt (if b then Text text else Line Fault (fault_at_line (codes "Output") start)) (Line Fault (fault_at_line (codes "Output") start))) (sym (lt-leb (length text) most more)) said_so
 
--- a value without the part that is asked for
+-- a value without the requested part
 pub no_part_saying : (ask : Ask) (most : Option ℕ) (found : Option Value) → found ≡ None → SaysIt (part_saying ask most found) (Line Fault (fault_line (codes "NoSuchPart")))
 no_part_saying ask most found none = subst (λ o. SaysIt (part_saying ask most o) (Line Fault (fault_line (codes "NoSuchPart")))) (sym none) said_so
 
@@ -109,7 +109,7 @@ left_saying ask terms bits mapped end same left =
     subst (λ e. SaysIt (value_saying ask terms bits mapped) (Line Fault (fault_at_line (codes "Left") e))) (sym same)
     (subst (λ b. SaysIt (if b then Line Fault (fault_at_line (codes "Left") (end_of mapped)) else kept_saying ask terms mapped) (Line Fault (fault_at_line (codes "Left") (end_of mapped)))) (sym t) said_so)
 
--- what is said of a value is what a mapping under terms says
+-- what is printed of a value is what a mapping under terms prints
 pub said_under : (pickle : List ℕ) (ask : Ask) (terms : Terms) (before after : SpaceView) (mapped : Value)
     → MapsUnder pickle ask terms before after (value_saying ask terms (8 * before.len) mapped)
     → (saying : Saying) → SaysIt (value_saying ask terms (8 * before.len) mapped) saying
@@ -117,14 +117,14 @@ pub said_under : (pickle : List ℕ) (ask : Ask) (terms : Terms) (before after :
 said_under pickle ask terms before after mapped right saying said_so = right
 said_under pickle ask terms before after mapped right saying no_memory_for_it = ended_under no_memory
 
--- without terms a mapping says what it does under none
+-- without terms a mapping prints what it prints under none
 pub without_terms : (pickle : List ℕ) (ask : Ask) (before after : SpaceView) (saying : Saying)
     → MapsUnder pickle ask (record { whole = false; most_output = None; part = None; most_slots = None }) before after saying → MapsAs pickle ask before after saying
 without_terms pickle ask before after saying (mapped_under asked answer fits) = value asked answer fits
 without_terms pickle ask before after saying (ended_under ends) = ends
 without_terms pickle ask before after saying (slots_under asked e less) = absurd cc
 
--- a fault of a mapping is told as without terms
+-- a fault of a mapping is reported as without terms
 pub fault_under : (pickle : List ℕ) (ask : Ask) (terms : Terms) (before after : SpaceView) (kind : MapFaultKind) (at : ℕ)
     → MapsAs pickle ask before after (fault_saying kind at) → MapsUnder pickle ask terms before after (fault_saying kind at)
 fault_under pickle ask terms before after fault.End at right = ended_under right
@@ -139,7 +139,7 @@ fault_under pickle ask terms before after fault.Limit at right = ended_under rig
 fault_under pickle ask terms before after fault.Device at right = ended_under right
 fault_under pickle ask terms before after fault.Memory at right = ended_under right
 
--- a refusal is told as without terms
+-- a refusal is reported as without terms
 pub refused_under : {pickle : List ℕ} {ask : Ask} {terms : Terms} {before after : SpaceView} (why : Refusal)
     → Refuses pickle why → MapsUnder pickle ask terms before after (refusal_saying why)
 refused_under (refusal.Tokens kind at) refuses = ended_under (refused_map refuses)
@@ -149,7 +149,7 @@ refused_under refusal.TooMany refuses = ended_under (refused_map refuses)
 refused_under (refusal.Types kind declaration) refuses = ended_under (refused_map refuses)
 refused_under refusal.Memory refuses = ended_under (refused_map refuses)
 
--- a store of the most slots has just these
+-- a store of the most slots has exactly these
 pub least_of : (most : Option ℕ) (old cleared : Held) {bound : ℕ} → IsStoreOf most old → cleared ≡ emptied old → cleared.room.least < bound → (n : ℕ) → most ≡ Some n → n < bound
 least_of None old cleared is same less n e = absurd cc
 least_of (Some m) old cleared {bound} is same less n e =
@@ -172,7 +172,7 @@ end_by pickle ask terms before after (Some n) fault.Limit at e asked less right 
 end_by pickle ask terms before after (Some n) fault.Device at e asked less right = right
 end_by pickle ask terms before after (Some n) fault.Memory at e asked less right = slots_under asked e (less refl n refl)
 
--- in a store of the most slots want of memory is want of slots
+-- in a store of the most slots an allocation failure is the fault `Slots`
 pub end_under : (pickle : List ℕ) (ask : Ask) (terms : Terms) (before after : SpaceView) {type : PokeType} (kind : MapFaultKind) (at : ℕ)
     → IsAsked pickle ask.name.now type
     → (kind ≡ fault.Memory → (n : ℕ) → terms.most_slots ≡ Some n → n < room type (8 * before.len))

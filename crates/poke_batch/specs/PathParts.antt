@@ -40,7 +40,8 @@ abbrev pub member_there : Value → Option ℕ → Option Value
 member_there value None = None
 member_there value (Some place) = member_at (members_of value) place
 
--- the part that a step leads to: the field or alternative of a name, a nameless one at its place, the element at a place
+-- the part to which a step leads: a field or alternative by its name, a nameless one by its place, an element by its
+-- place
 abbrev pub step_to : Step → Value → Option Value
 step_to (Field name) value = member_there value (place_named name.items (label_of value) (member_count (members_of value)) 0)
 step_to (Place place) value = member_if (is_nameless_at value place) (member_at (members_of value) place)
@@ -50,7 +51,7 @@ abbrev pub step_from : Step → Option Value → Option Value
 step_from step None = None
 step_from step (Some value) = step_to step value
 
--- the part that steps lead to, one after the other
+-- the part to which steps lead, one after the other
 abbrev pub part_from : List Step → Option Value → Option Value
 part_from [] found = found
 part_from (step ∷ steps) found = part_from steps (step_from step found)
@@ -58,7 +59,7 @@ part_from (step ∷ steps) found = part_from steps (step_from step found)
 abbrev pub part_of : List Step → Value → Option Value
 part_of steps value = part_from steps (Some value)
 
--- the part that is asked for, where one is: else the value itself
+-- the part that is requested; without a path, the value itself
 abbrev pub part_at : Option Path → Value → Option Value
 part_at None value = Some value
 part_at (Some path) value = part_of path.steps.items value

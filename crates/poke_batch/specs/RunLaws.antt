@@ -24,8 +24,8 @@ abbrev pub MappedPartsAreSmall : Type 0
 MappedPartsAreSmall = (pickle name : List ℕ) (m : ℕ) (type : PokeType) (levels : Levels) (start : ℕ) (value : Value)
     → IsAsked pickle name type → Fits m type levels start value → HasSmallParts value
 
--- The bytes that were written are a text in JSON of the part at a path of the value that the type means on the file's bits, where they
--- are known; over any space of one that fits.
+-- The bytes that were written are a text in JSON of the part at a path of a value. If the file's bits are known, that
+-- is the value that the type means on them; over any space it is one that fits.
 pub record WritesJson (pickle : List ℕ) (ask : Ask) (path : Option Path) (before : SpaceView) (out out' : Option (List ℕ)) : Type 0 where
   pub type : PokeType
   pub asked : IsAsked pickle ask.name.now type
@@ -38,12 +38,12 @@ pub record WritesJson (pickle : List ℕ) (ask : Ask) (path : Option Path) (befo
   pub written : Appends out out' text
   pub reads : Reads text (json_of part)
 
--- a mapping in JSON that is done has written the value that was mapped
+-- a mapping in JSON that is done wrote the value that was mapped
 abbrev pub MappedJsonReadsBack : Type 0
 MappedJsonReadsBack = (pickle : List ℕ) (ask : Ask) (before after : SpaceView) (status : Status) (out out' err err' : Option (List ℕ))
     → ask.mode ≡ Json → status ≡ Done → Says (MapsAs pickle ask before after) status out out' err err' → WritesJson pickle ask None before out out'
 
--- and under terms the part that they ask for
+-- and under terms the part that they request
 abbrev pub PartJsonReadsBack : Type 0
 PartJsonReadsBack = (pickle : List ℕ) (ask : Ask) (terms : Terms) (before after : SpaceView) (status : Status) (out out' err err' : Option (List ℕ))
     → ask.mode ≡ Json → status ≡ Done → Says (MapsUnder pickle ask terms before after) status out out' err err' → WritesJson pickle ask terms.part before out out'

@@ -1,4 +1,4 @@
--- What a run has to say of a pickle.
+-- What a run must print for a pickle.
 use Rattle.std.specs.Prelude.{◌≡◌, ◌≢◌, ◌*◌, ◌<◌, ℕ, List, Option, Some, None, Result, Ok, Err, length, codes}
 use Rattle.pickle_tree.specs.Tree.{DeclarationTree}
 use Rattle.pickle_types.specs.Types.{PokeType}
@@ -27,12 +27,12 @@ use Rattle.value_text.specs.Printed.{printed}
 abbrev pub types_text : ℕ → List ℕ
 types_text n = bound_line (codes "types ") (Some n)
 
--- what a check has to say: how many types an accepted pickle declares, or why it is refused
+-- what a check prints: how many types an accepted pickle declares, or why it is refused
 pub data ChecksAs (pickle : List ℕ) : Saying → Type 0 where
   accepted : {declarations : List DeclarationTree} {types : Names} → IsAccepted pickle declarations types → ChecksAs pickle (Text (types_text (length declarations)))
   refused : {refusal : Refusal} → Refuses pickle refusal → ChecksAs pickle (refusal_saying refusal)
 
--- what is to be said of the bounds of a type of a pickle, over so many bits
+-- what is printed for the bounds of a type of a pickle, over so many bits
 pub data BoundsAs (pickle name : List ℕ) (bits : ℕ) : Saying → Type 0 where
   bounds : {declarations : List DeclarationTree} {types : Names} {type : PokeType} (steps slots : Option ℕ) → IsAccepted pickle declarations types → find_type name types ≡ Some type
       → IsBound steps (cost type bits) → IsBound slots (room type bits) → BoundsAs pickle name bits (Text (bound_text steps slots))
@@ -40,7 +40,7 @@ pub data BoundsAs (pickle name : List ℕ) (bits : ℕ) : Saying → Type 0 wher
       → BoundsAs pickle name bits (Line Refused (refused_line (codes "NoSuchType")))
   refused_bounds : {refusal : Refusal} → Refuses pickle refusal → BoundsAs pickle name bits (refusal_saying refusal)
 
--- what is asked of a pickle: the type of a name
+-- the pickle is accepted, and the type of a name in it is this one
 pub record IsAsked (pickle name : List ℕ) (type : PokeType) : Type 0 where
   pub declarations : List DeclarationTree
   pub types : Names
@@ -53,14 +53,14 @@ pub record HasAnswer (bytes : List ℕ) (type : PokeType) (order : Order) (start
   pub made : ℕ
   pub means : Answer (bits_of bytes) type order start limit answer steps made
 
--- what a mapping over a space, from its view before to its view after, has to say
+-- what a mapping over a space prints, from the space's view before to its view after
 pub data MapsAs (pickle : List ℕ) (ask : Ask) (before after : SpaceView) : Saying → Type 0 where
-  -- the value that the type means on the file's bits, where they are known; over any space one that fits the type
+  -- the value that the type means on the file's bits, if they are known; over any space a value that fits the type
   value : {type : PokeType} {mapped : Value} → IsAsked pickle ask.name.now type
       → ((bytes : List ℕ) → before.bytes ≡ Some bytes → HasAnswer bytes type ask.order ask.start ask.limit (Ok mapped))
       → Fits (8 * before.len) type no_values ask.start mapped
       → MapsAs pickle ask before after (Text (printed ask.mode mapped))
-  -- the fault that the type means there; over any space Limit only where the type can take more steps than the limit
+  -- the fault that the type means there; over any space Limit only if the type can take more steps than the limit
   stops : {type : PokeType} {kind : MapFaultKind} {at : ℕ} → IsAsked pickle ask.name.now type → kind ≢ fault.Device → kind ≢ fault.Memory
       → ((bytes : List ℕ) → before.bytes ≡ Some bytes → HasAnswer bytes type ask.order ask.start ask.limit (Err (kind, at)))
       → (kind ≡ fault.Limit → (at ≡ ask.start) × (ask.limit < cost type (8 * before.len)))

@@ -1,4 +1,4 @@
-//! Texts that are gathered before they are written, so that their length is known before the first byte.
+//! Texts that are gathered before they are written. Their length is therefore known before the first byte is written.
 
 ghost use Rattle.std.specs.Prelude.{◌≡◌, ◌<◌, ◌≤◌, Some, length, codes, IsOk, IfOk, IfErr, OnOk, OnErr};
 ghost use Rattle.std.specs.Io.KnownBytes.{Appends};
@@ -15,18 +15,18 @@ use text_forms::write::WriteFault;
 use thiserror::Error;
 use value_text::print::print;
 
-/// Why a text isn't gathered. It displays the name by which its line tells it.
+/// Why a text isn't gathered. It displays as the name that its line prints.
 #[derive(Clone, Copy, Debug, Drop, PartialEq, Eq, Error)]
 #[error("{}", self.name())]
 pub enum DraftFault {
-    /// It is longer than it may be.
+    /// The text has more bytes than it may have.
     TooLong,
-    /// There was no memory.
+    /// An allocation failed.
     Memory,
 }
 
 impl DraftFault {
-    /// The name by which its line tells it.
+    /// The name that its line prints: `Output` or `Memory`.
     pub fn name(self) -> &'static str
         ensures too_long { self ≡ DraftFault.TooLong → result.now ≡ codes "Output" }
         ensures memory { self ≡ DraftFault.Memory → result.now ≡ codes "Memory" }
@@ -38,7 +38,7 @@ impl DraftFault {
     }
 }
 
-// The bytes of a text from its front, which grow up to a length and no further.
+// The first bytes of a text. They grow up to `most` bytes and no further.
 #[derive(Drop)]
 struct Draft {
     bytes: Vec<u8>,
@@ -60,7 +60,9 @@ impl Write for Draft {
     }
 }
 
-/// The text that a value has in a mode, where it has `most` bytes at most. No more bytes than that are laid out.
+/// The printed value in a mode, if it has at most `most` bytes. No more bytes than that are stored.
+///
+/// `TooLong` means that the printed value has more bytes; `Memory` means that an allocation failed.
 pub fn gather(
     alloc: Global,
     value: ValueRef<'_>,
@@ -79,7 +81,7 @@ pub fn gather(
     judge(printed, draft.bytes, most)
 }
 
-// Judges a text that was laid out, or what there is of it.
+// Decides between the text and its fault, from the bytes that were stored.
 fn judge(printed: Result<(), WriteFault>, bytes: Vec<u8>, most: u64) -> Result<Vec<u8>, DraftFault>
     ensures same { IfOk result (λ text. text ≡ bytes) }
     ensures done { IfOk result (λ text. IsOk printed) }

@@ -1,4 +1,4 @@
-//! A type of a pickle, mapped over one file after the other, with a line for each.
+//! A type of a pickle, mapped over one file after another, with a line for each.
 
 ghost use Rattle.std.specs.Prelude.{◌≡◌, ℕ, List, [], IfOk, OnErr};
 ghost use Rattle.std.specs.Io.KnownBytes.{Appends};
@@ -22,7 +22,7 @@ use std::alloc::Global;
 use std::io::Write;
 use text_forms::write::WriteFault;
 
-/// What is kept from file to file, so that its room serves the next: the values, and what a run wrote.
+/// What is stored from file to file: the values, and what a run wrote. The next file uses the same memory.
 #[derive(Drop)]
 pub struct Kept {
     alloc: Global,
@@ -32,7 +32,8 @@ pub struct Kept {
 }
 
 impl Kept {
-    /// Nothing yet, and room for the most slots, where there is a most.
+    /// Nothing yet. With `most_slots`, the store reserves that many slots of each kind. `Memory` is returned if an
+    /// allocation fails.
     pub fn new(alloc: Global, most_slots: Option<u64>) -> Result<Kept, Memory>
         ensures { IfOk result (λ kept. IsStoreOf most_slots kept.store) }
     {
@@ -44,7 +45,7 @@ impl Kept {
         })
     }
 
-    /// The line of the last run; none where it wrote a text.
+    /// The line of the last run. It is empty if that run wrote a value.
     pub fn line(&self) -> &[u8]
         ensures { result.now ≡ self.now.line.items }
     {
@@ -52,8 +53,8 @@ impl Kept {
     }
 }
 
-/// Maps a type of a table over a file, and writes the file's line: its name, the status of its run, and what
-/// [`run_map_under`](crate::run::run_map_under) writes of it. Gives that status.
+/// Maps a type of a table over a file, and writes the file's line: its name, the exit status of its run, and what
+/// [`run_map_under`](crate::run::run_map_under) writes for it. Returns that status.
 pub fn run_file<S: Space, W: Write>(
     table: &Table,
     id: TypeId,
@@ -71,7 +72,7 @@ pub fn run_file<S: Space, W: Write>(
         → IfOk result (λ status. TellsFile (MapsUnder pickle ask.now terms.now (S.view space.old) (S.view space.new)) Appends name.now status (W.contents w.old) (W.contents w.new)) }
     ensures err { (pickle : List ℕ) → IsAsked pickle ask.now.name.now (type_named table.now id)
         → OnErr result ((status : Status) × TellsFile (MapsUnder pickle ask.now terms.now (S.view space.old) (S.view space.new)) AppendsPart name.now status (W.contents w.old) (W.contents w.new)) }
-    // What is written is what is kept.
+    // What is written is what is stored.
     ensures kept { IfOk result (λ status. TellsKept kept.new name.now status (W.contents w.old) (W.contents w.new)) }
     ensures keeps { Keeps (S.view space.old) (S.view space.new) }
 {
@@ -92,7 +93,8 @@ pub fn run_file<S: Space, W: Write>(
     Ok(status)
 }
 
-// What a run wrote that ended with a status: its text, or its line. A text for which no memory was left is told so.
+// What a run wrote, by its status: its text or its line. A text that stopped at an allocation failure is replaced by
+// the line of that failure.
 fn written<'a>(status: Status, text: &'a [u8], line: &'a [u8]) -> &'a [u8]
     ensures { result.now ≡ written_of status text.now line.now }
 {

@@ -1,4 +1,4 @@
-//! The line that tells of one file among many.
+//! The line of one file among many.
 
 ghost use Rattle.std.specs.Prelude.{◌≡◌, ◌<◌, ◌≤◌, ◌++◌, take, length, IfOk, OnErr, OnOk};
 ghost use Rattle.std.specs.Io.KnownBytes.{Appends};
@@ -10,8 +10,8 @@ use std::io::Write;
 use text_forms::hex::hex_digit;
 use text_forms::write::{WriteFault, put};
 
-/// Writes the line of a file: its name, the number of a status, and what its run wrote, with a tab between them. Of the name, `\` and bytes
-/// outside 0x20 to 0x7e are escaped as in strings. What was written ends with a line feed.
+/// Writes the line of a file: its name, an exit status, and what its run wrote, with a tab between them. In the name,
+/// `\` and bytes outside 0x20 to 0x7e are escaped as in strings. What the run wrote ends with a line feed.
 #[tactic(auto, using(text_forms::proofs::Parts::written))]
 pub fn put_file_line<W: Write>(
     w: &mut W,
@@ -52,7 +52,7 @@ pub fn put_name<W: Write>(w: &mut W, name: &[u8]) -> Result<(), WriteFault>
     Ok(())
 }
 
-// The escape of a byte, or the byte where it stands for itself.
+// A byte of a name, or its escape if it needs one.
 fn put_byte<W: Write>(w: &mut W, byte: u8) -> Result<(), WriteFault>
     ensures ok { OnOk result (Appends (W.contents w.old) (W.contents w.new) (name_byte byte)) }
     ensures err { OnErr result (AppendsPart (W.contents w.old) (W.contents w.new) (name_byte byte)) }

@@ -1,7 +1,7 @@
 //! Maps the values that a pickle declares over a file's bits, and writes them as text.
 //!
-//! All output goes through one loop over the writer, [`write::put`]. Values and answers go to one writer, and refusals
-//! and faults, a line each, to another.
+//! All output goes through one loop over the writer, [`write::put`]. Values and answers go to one writer. Refusals and
+//! faults go to another, one line each.
 #![tactic(auto)]
 
 pub mod draft;

@@ -1,4 +1,4 @@
-//! The part of a value that a path leads to.
+//! The part of a value to which a path leads.
 
 ghost use Rattle.std.specs.Prelude.{◌≡◌};
 ghost use Rattle.std.specs.Option.{option_map};
@@ -9,7 +9,7 @@ ghost use Rattle.poke_batch.specs.PathParts.{is_array, is_named, is_nameless_at,
 use command_words::path::{Path, Step};
 use pickle_map::{Kind, ValueRef};
 
-/// The part that a path leads to, where the value has it, and the value itself where there is no path.
+/// The part to which a path leads, if the value has it. Without a path it is the value itself.
 pub fn part_at<'a>(value: ValueRef<'a>, path: &Option<Path>) -> Option<ValueRef<'a>>
     ensures { option_map value_shown result ≡ part_at path.now (value_shown value.entry) }
 {
@@ -32,7 +32,7 @@ fn part_of<'a>(value: ValueRef<'a>, steps: &[Step]) -> Option<ValueRef<'a>>
     Some(part)
 }
 
-/// The part that a step leads to, where the value has it.
+/// The part to which a step leads, if the value has it.
 pub fn step_to<'a>(value: ValueRef<'a>, step: &Step) -> Option<ValueRef<'a>>
     ensures { option_map value_shown result ≡ step_to step.now (value_shown value.entry) }
 {

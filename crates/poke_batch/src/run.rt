@@ -26,7 +26,8 @@ use std::alloc::Global;
 use std::io::Write;
 use text_forms::write::WriteFault;
 
-/// Checks a pickle, and writes how many types it declares.
+/// Checks a pickle, and writes how many types it declares, as `types 3`. A pickle that isn't accepted is refused with a
+/// line to `err`.
 pub fn run_check<O: Write, E: Write>(
     alloc: Global,
     pickle: &[u8],
@@ -50,7 +51,8 @@ fn put_types<W: Write>(w: &mut W, count: usize) -> Result<(), WriteFault>
     put_line(w, b"types ", Some(count as u128))
 }
 
-/// Tells the most steps and slots that a mapping of a type of a pickle over so many bits takes.
+/// Writes the most steps and slots that a mapping of the type `name` takes over a file of `bits` bits. A name that no
+/// type has is refused as `NoSuchType`.
 pub fn run_bound<O: Write, E: Write>(
     alloc: Global,
     pickle: &[u8],
@@ -79,9 +81,9 @@ pub fn run_bound<O: Write, E: Write>(
 /// C(t,m) nodes and string bytes, discarded attempts included; where memory suffices, the space is honest and no read or
 /// write fails, the bytes written are the text of the value or fault that t means at that start on the file's bits.
 ///
-/// The first half is what [`pickle_map::map`] ensures by its clauses `steps` and `made`, with C the recursion `cost`; the
-/// second is this function's own clause `says`, by `MapsAs`. What isn't accepted is refused, and so is a name that no
-/// type has.
+/// [`pickle_map::map`] ensures the first half by its clauses `steps` and `made`, with C the recursion `cost`. This
+/// function's own clause `says` ensures the second half, by `MapsAs`. A pickle that isn't accepted is refused. A name
+/// that no type has is refused too.
 pub fn run_map<S: Space, O: Write, E: Write>(
     alloc: Global,
     pickle: &[u8],
@@ -97,12 +99,15 @@ pub fn run_map<S: Space, O: Write, E: Write>(
     run_map_under(alloc, pickle, ask, &Terms::none(), space, out, err)
 }
 
-/// What [`run_map`] does, for a value that meets the terms. Of one that doesn't, nothing is written: the line tells the first
-/// term that it doesn't meet.
+/// Does what [`run_map`] does for a value that meets the terms. For any other value it writes only a line, with the
+/// first term that the value fails to meet.
 ///
-/// A value that ends before the file's last bit, where it has to end there, is told as `Left` at the first bit behind it; one
-/// without the part that is asked for as `NoSuchPart`; one whose text, or its part's, has more bytes than the most as `Output` at the
-/// mapping's start. A mapping that has a fault tells that.
+/// The terms are tested in this order:
+/// 1. `whole`: a value that ends before the file's last bit is the fault `Left`, at the first bit after the value.
+/// 2. `part`: a value without the requested part is the fault `NoSuchPart`.
+/// 3. `most_output`: a printed value, or part, of more bytes is the fault `Output`, at the first bit of the mapping.
+///
+/// A mapping that ends with a fault reports that fault.
 pub fn run_map_under<S: Space, O: Write, E: Write>(
     alloc: Global,
     pickle: &[u8],
@@ -126,7 +131,7 @@ pub fn run_map_under<S: Space, O: Write, E: Write>(
     }
 }
 
-// Maps a type of a table into a store of its own.
+// Maps a type of a table into a new store.
 fn map_new<S: Space, O: Write, E: Write>(
     alloc: Global,
     table: &Table,
@@ -149,7 +154,8 @@ fn map_new<S: Space, O: Write, E: Write>(
     }
 }
 
-/// A store for mappings that may fill so many slots of each kind, which are reserved, or any number.
+/// A store for mappings. With `most`, it reserves that many slots of each kind and never has more; without, it grows.
+/// `Memory` is returned if an allocation fails.
 pub fn store_of(alloc: Global, most: Option<u64>) -> Result<Store, Memory>
     ensures { IfOk result (IsStoreOf most) }
 {
@@ -159,7 +165,8 @@ pub fn store_of(alloc: Global, most: Option<u64>) -> Result<Store, Memory>
     }
 }
 
-/// Maps a type of a table into a store, which is emptied first, and writes its value or tells its fault.
+/// Maps a type of a table into a store, which is emptied first. Writes the printed value to `out`, or the line of the
+/// fault to `err`.
 pub fn map_stored<S: Space, O: Write, E: Write>(
     alloc: Global,
     table: &Table,
@@ -188,7 +195,8 @@ pub fn map_stored<S: Space, O: Write, E: Write>(
     }
 }
 
-/// Tells the fault of a mapping that began at a bit. In a store of the most slots want of memory is want of slots.
+/// Writes the line of a fault of a mapping that began at the bit `start`. With `most` the store has no more than so
+/// many slots of each kind, and an allocation failure is reported as `Slots`.
 pub fn tell_end<E: Write>(err: &mut E, fault: MapFault, most: Option<u64>, start: u64) -> Status
     ensures { (out : Option (List ℕ)) → IsSaid (end_saying most start fault.kind fault.at) result out out (E.contents err.old) (E.contents err.new) }
 {
@@ -198,7 +206,7 @@ pub fn tell_end<E: Write>(err: &mut E, fault: MapFault, most: Option<u64>, start
     }
 }
 
-// The same in a store of the most slots.
+// The same in a store with a fixed number of slots.
 fn tell_fixed<E: Write>(err: &mut E, fault: MapFault, start: u64) -> Status
     ensures { (out : Option (List ℕ)) → IsSaid (fixed_saying start fault.kind fault.at) result out out (E.contents err.old) (E.contents err.new) }
 {
@@ -208,7 +216,7 @@ fn tell_fixed<E: Write>(err: &mut E, fault: MapFault, start: u64) -> Status
     }
 }
 
-// Says what the value that a store holds has to say, mapped from a file of so many bytes.
+// Writes the value that a store holds, mapped from a file of so many bytes.
 fn tell_root<O: Write, E: Write>(
     alloc: Global,
     store: &Store,

@@ -7,12 +7,12 @@ pub fn mapped_parts_are_small()
     ensures law { MappedPartsAreSmall }
 {}
 
-/// What a mapping in JSON has written, where it is done, reads as the value that was mapped.
+/// If a mapping in JSON is done, what it wrote reads as the value that was mapped.
 pub fn mapped_json_reads_back()
     ensures law { MappedJsonReadsBack }
 {}
 
-/// What a mapping under terms has written in JSON, where it is done, reads as the part that is asked for of the value that was mapped.
+/// If a mapping under terms in JSON is done, what it wrote reads as the requested part of the value that was mapped.
 pub fn part_json_reads_back()
     ensures law { PartJsonReadsBack }
 {}

@@ -1,4 +1,4 @@
-//! What is said of a value that was mapped, under terms.
+//! What is printed of a mapped value under terms.
 
 ghost use Rattle.std.specs.Prelude.{◌≡◌, ◌≤◌, codes, length, nat_le, if◌then◌else◌};
 ghost use Rattle.value_store.specs.Refs.{value_shown};
@@ -21,7 +21,7 @@ use std::io::Write;
 use text_forms::write::put;
 use value_text::print::print;
 
-/// Writes the text of a value, mapped from a file of so many bits, or tells the first term that it doesn't meet.
+/// Writes the printed value, mapped from a file of so many bits, or the line of the first term that it fails to meet.
 pub fn tell_value<O: Write, E: Write>(
     alloc: Global,
     value: ValueRef<'_>,
@@ -43,14 +43,14 @@ pub fn tell_value<O: Write, E: Write>(
     }
 }
 
-// Whether a value has to end with the bits of its file, and ends before them.
+// Whether a value must end with the last bit of its file, and ends before that.
 fn is_left(whole: bool, end: u128, bits: u128) -> bool
     ensures { result ≡ is_left whole end bits }
 {
     whole && end < bits
 }
 
-// Writes the text of the part that is asked for of a value that ends where it has to.
+// Writes the requested part of a value that ends where it must.
 fn tell_kept<O: Write, E: Write>(
     alloc: Global,
     value: ValueRef<'_>,
@@ -68,7 +68,7 @@ fn tell_kept<O: Write, E: Write>(
     }
 }
 
-// Writes the text of a value where it has no more bytes than the most.
+// Writes the printed value if it has no more bytes than the most.
 fn tell_text<O: Write, E: Write>(
     alloc: Global,
     value: ValueRef<'_>,
@@ -86,7 +86,7 @@ fn tell_text<O: Write, E: Write>(
     }
 }
 
-// The same where there is a most: the text is gathered first.
+// The same with a most: the text is gathered first.
 fn tell_short<O: Write, E: Write>(
     alloc: Global,
     value: ValueRef<'_>,

@@ -1,4 +1,4 @@
-//! A type mapped over many files, whose names stand in the words or in a list.
+//! A type mapped over many files, whose names are in the arguments or in a list.
 ghost use Rattle.pickle_types.specs.TypeTable.{IsInTable};
 ghost use Rattle.poke_batch.specs.RunsUnder.{IsStoreOf};
 
@@ -23,20 +23,20 @@ use std::io::{BufRead, BufReader, ErrorKind, Input, Read, Write};
 use std::rt::Files;
 use thiserror::Error;
 
-/// Why a list of files came to no end. It displays the line that tells it.
+/// Why a list of files wasn't finished. It displays as its line.
 #[derive(Clone, Copy, Debug, Drop, PartialEq, Eq, Error)]
 #[error("fault {}", self.name())]
 enum ListFault {
-    /// The list was not opened, or not read.
+    /// The list couldn't be opened or read.
     Read,
-    /// There was no memory for a name.
+    /// An allocation for a name failed.
     Memory,
-    /// A line was not written.
+    /// A line couldn't be written.
     Write,
 }
 
 impl ListFault {
-    /// The name by which its line tells it.
+    /// The name that its line prints.
     fn name(self) -> &'static str {
         match self {
             ListFault::Read => "Read",
@@ -58,17 +58,17 @@ impl From<WriteFault> for ListFault {
     }
 }
 
-/// Where it goes why files end as they do.
+/// Where the reasons of files are written.
 #[derive(Drop)]
 pub struct WhyFiles<'a, A: Write> {
     pub aside: &'a mut A,
     /// The pickle's path.
     pub path: &'a [u8],
-    /// Whether that is asked.
+    /// Whether reasons are requested.
     pub asked: bool,
 }
 
-/// What every file is mapped by.
+/// What the mapping of every file uses.
 #[derive(Clone, Copy)]
 struct Typed<'a> {
     pickle: &'a [u8],
@@ -78,7 +78,7 @@ struct Typed<'a> {
     terms: &'a Terms,
 }
 
-/// Maps a type over one file after the other, and writes a line for each. The status is the greatest of all.
+/// Maps a type over one file after another, and writes a line for each. Returns the greatest exit status of all.
 pub fn run_each<R: Files<File = File> + Input + AllocGlobal, A: Write, O: Write, E: Write>(
     rt: &R,
     pickle: &[u8],
@@ -130,7 +130,7 @@ fn run_files<R: Files<File = File> + Input + AllocGlobal, A: Write, O: Write>(
     }
 }
 
-// Maps a type over the files that words name.
+// Maps a type over the files that the arguments name.
 fn run_words<R: Files<File = File> + Input + AllocGlobal, A: Write, O: Write>(
     rt: &R,
     typed: Typed<'_>,
@@ -149,7 +149,7 @@ fn run_words<R: Files<File = File> + Input + AllocGlobal, A: Write, O: Write>(
     Ok(greatest)
 }
 
-// Maps a type over the files that a list names, each name ended by a byte 0; the last may lack it.
+// Maps a type over the files that a list names. Each name ends with a byte 0, which the last may lack.
 fn run_list<R: Files<File = File> + Input + AllocGlobal, L: Read + Drop, A: Write, O: Write>(
     rt: &R,
     typed: Typed<'_>,
@@ -165,7 +165,7 @@ fn run_list<R: Files<File = File> + Input + AllocGlobal, L: Read + Drop, A: Writ
     let mut kept = Kept::new(rt.alloc(), typed.terms.most_slots)?;
     let mut name = Vec::new(rt.alloc());
     let mut greatest = Status::Done;
-    // (a loop whose end the list decides: no list has as many names)
+    // (the end of the list ends the loop: no list has as many names)
     for _ in 0..u64::MAX {
         if !read_name(&mut list, &mut name)? {
             break;
@@ -176,7 +176,7 @@ fn run_list<R: Files<File = File> + Input + AllocGlobal, L: Read + Drop, A: Writ
     Ok(greatest)
 }
 
-// Reads the next name of a list, without the byte 0 that ends it. There is none at the list's end.
+// Reads the next name of a list, without the byte 0 that ends it. Returns false at the list's end.
 fn read_name<L: BufRead>(list: &mut L, name: &mut Vec<u8>) -> Result<bool, ListFault> {
     name.clear();
     match list.read_until(0, name) {
@@ -220,7 +220,7 @@ fn run_name<R: Files<File = File> + AllocGlobal, A: Write, O: Write>(
     }
 }
 
-// Maps a type over a file that is open, and writes its line; behind it why it ends so, where that is asked.
+// Maps a type over an open file, and writes its line and, if requested, the reasons after it.
 fn run_space<S: Space, A: Write, O: Write>(
     alloc: Global,
     typed: Typed<'_>,
@@ -252,8 +252,8 @@ fn run_space<S: Space, A: Write, O: Write>(
     Ok(status)
 }
 
-// Writes the lines that tell why a file ends as it does, after its name and what `out` has of it. They go to `aside` by one
-// call, so that those of runs side by side don't mix.
+// Writes the reasons of a file, after its name and after what `out` has of it. They go to `aside` in one call, so that
+// the reasons of parallel runs don't mix.
 fn put_reasons<A: Write, O: Write>(
     alloc: Global,
     aside: &mut A,
@@ -267,7 +267,7 @@ fn put_reasons<A: Write, O: Write>(
     if out.flush().is_err() {
         return Err(WriteFault);
     }
-    // The file's status is that of its line, whatever becomes of the reasons for it.
+    // The file's exit status is that of its line, even if its reasons can't be written.
     let mut text = Vec::new(alloc);
     if gather_reasons(&mut text, name, lines).is_ok() {
         let _told = put(aside, text.as_slice());

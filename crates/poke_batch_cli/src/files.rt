@@ -8,22 +8,22 @@ use std::io::Input;
 use std::rt::Files;
 use thiserror::Error;
 
-/// What failed of the files of a job. It displays the line that tells it.
+/// What failed with the files of a job. It displays as its line.
 #[derive(Clone, Copy, Debug, Drop, PartialEq, Eq, Error)]
 #[error("fault {}", self.name())]
 pub enum FileFault {
-    /// The pickle was not opened, or not read.
+    /// The pickle couldn't be opened or read.
     Pickle(PickleFault),
-    /// The file was not opened.
+    /// The file couldn't be opened.
     Space(OpenFault),
     /// The dump of the file ended early.
     Dump(DumpFault),
-    /// There was no memory.
+    /// An allocation failed.
     Memory,
 }
 
 impl FileFault {
-    /// The name by which its line tells it.
+    /// The name that its line prints.
     pub fn name(self) -> &'static str {
         match self {
             FileFault::Pickle(fault) => fault.name(),
@@ -64,7 +64,7 @@ impl From<Memory> for FileFault {
     }
 }
 
-/// Reads a pickle from a path, or from standard input where it is `-`.
+/// Reads a pickle from a path, or from standard input if the path is `-`.
 pub fn read_pickle_of<R: Files + Input + AllocGlobal>(
     rt: &R,
     path: &str,
@@ -78,7 +78,7 @@ pub fn read_pickle_of<R: Files + Input + AllocGlobal>(
     }
 }
 
-/// Opens a file, to be read through pages.
+/// Opens a file, and reads it through pages.
 pub fn open_space<R: Files<File = File> + AllocGlobal>(
     rt: &R,
     path: &str,

@@ -1,4 +1,4 @@
-//! The list of the installed pickles, by the heads of their files.
+//! The list of the installed pickles, from the heads of their files.
 use crate::Line;
 use crate::files::{FileFault, read_pickle_of};
 use crate::installed::{path_in, pickles_folder, pickles_in};
@@ -10,8 +10,8 @@ use poke_batch::write::{WriteFault, put};
 use std::io::{Input, Write};
 use std::rt::{Env, Files};
 
-/// What the first lines of a pickle say of it: `// NAME: SENTENCE` and `// main: TYPE`, behind which `, options: OPTIONS` may
-/// stand. What isn't there is empty.
+/// The first two lines of a pickle: `// NAME: SENTENCE`, and `// main: TYPE` or `// main: TYPE, options: OPTIONS`. What
+/// isn't there is empty.
 #[derive(Clone, Copy, Debug, Drop, PartialEq, Eq)]
 struct Head<'a> {
     /// The type to map.
@@ -49,7 +49,7 @@ fn put_format<O: Write>(out: &mut O, name: &[u8], head: Head<'_>) -> Result<(), 
     put(out, b"\n")
 }
 
-// The head of the pickle of a name.
+// The head of the pickle with a name.
 fn head_of<'a>(name: &[u8], pickle: &'a [u8]) -> Head<'a> {
     let (first, rest) = line_of(pickle);
     let (second, _) = line_of(rest);
@@ -62,7 +62,7 @@ fn head_of<'a>(name: &[u8], pickle: &'a [u8]) -> Head<'a> {
     }
 }
 
-// The first line of a text, and what follows it.
+// The first line of a text, and the text after it.
 fn line_of(text: &[u8]) -> (&[u8], &[u8]) {
     match text.iter().position(|byte| *byte == b'\n') {
         Some(end) => (&text[..end], &text[end..][1..]),
@@ -70,12 +70,12 @@ fn line_of(text: &[u8]) -> (&[u8], &[u8]) {
     }
 }
 
-// What stands behind the front of a text, if it has that front.
+// The text after a prefix. Empty if the text doesn't begin with the prefix.
 fn behind<'a>(text: &'a [u8], front: &[u8]) -> &'a [u8] {
     text.strip_prefix(front).unwrap_or(b"")
 }
 
-// What stands before a mark in a text, and what stands behind it.
+// The text before a mark, and the text after it.
 fn parted<'a>(text: &'a [u8], mark: &[u8]) -> (&'a [u8], &'a [u8]) {
     for place in 0..text.len() {
         if let Some(rest) = text[place..].strip_prefix(mark) {

@@ -1,13 +1,13 @@
-//! The words that the program was started with.
+//! The arguments with which the program was started.
 use poke_batch::words::WordFault;
 use std::alloc::AllocError;
 use std::env::FillError;
 use std::rt::Env;
 
-/// The room for a word at first, in bytes.
+/// The first size of the buffer for an argument, in bytes.
 const ROOM: usize = 256;
 
-/// The words behind the program's name.
+/// The arguments after the program's name.
 pub fn given_words<R: Env + AllocGlobal>(rt: &R) -> Result<Vec<String>, WordFault> {
     let mut words = Vec::new(rt.alloc());
     for place in 1..usize::MAX {
@@ -24,7 +24,7 @@ pub fn given_words<R: Env + AllocGlobal>(rt: &R) -> Result<Vec<String>, WordFaul
     Ok(words)
 }
 
-// The bytes of the word at a place, where there is one.
+// The bytes of the argument at a place, if there is one.
 fn word_at<R: Env + AllocGlobal>(rt: &R, place: usize) -> Result<Option<Vec<u8>>, AllocError> {
     let mut room = ROOM;
     for _ in 0..usize::BITS {
@@ -42,7 +42,7 @@ fn word_at<R: Env + AllocGlobal>(rt: &R, place: usize) -> Result<Option<Vec<u8>>
     Err(AllocError)
 }
 
-// A word's text. A path of the toolchain is a text, so no other word can be used.
+// The text of an argument. The toolchain's paths are text, so an argument that isn't text is of no use.
 fn text_of<R: Env + AllocGlobal>(
     rt: &R,
     place: usize,

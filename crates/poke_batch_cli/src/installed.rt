@@ -1,4 +1,4 @@
-//! The pickles that are installed with the program. The word `+NAME` in the place of a pickle's path names one.
+//! The pickles that are installed with the program. `+NAME` instead of a pickle's path names one.
 use crate::files::FileFault;
 use pickle_mistakes::near::nearest;
 use poke_batch::pickle::PickleFault;
@@ -7,17 +7,17 @@ use std::env::VarError;
 use std::rt::{Env, Files};
 use std::{env, fs};
 
-/// The variable of the environment that names their folder.
+/// The environment variable that names their folder.
 const VARIABLE: &str = "POKE_BATCH_PICKLES";
 
-/// Their folder where the variable isn't set or is empty, from the folder above the program's own.
+/// Their folder if the variable isn't set or is empty, relative to the folder above the program's own.
 const SHARED: &str = "/share/poke_batch/pickles";
 
 /// How the name of a pickle's file ends.
 const ENDING: &str = ".pk";
 
-/// The path of a pickle, by the word that is given for it: the word itself, unless it is a `+` and a name, and no file has
-/// that word as its path; then that of the installed pickle.
+/// The path of a pickle, from the argument `word`. If `word` is a `+` and a name, and no file has the path `word`, it
+/// is the path of the installed pickle. Otherwise it is `word` itself.
 pub fn pickle_path<R: Files + Env + AllocGlobal>(rt: &R, word: &str) -> Result<String, FileFault> {
     let alloc = rt.alloc();
     if let Some(name) = name_in(word) {
@@ -72,7 +72,7 @@ pub fn pickles_in<R: Files + AllocGlobal + Clone + Drop>(
     Ok(names)
 }
 
-// Adds the name of a pickle, where a file's name is one.
+// Adds the name of a pickle, if the file's name is that of a pickle.
 fn push_pickle(alloc: Global, names: &mut Vec<String>, file: &str) -> Result<(), AllocError> {
     match file.strip_suffix(ENDING).filter(|name| is_name(name)) {
         Some(name) => Ok(names.push(String::from_str(alloc, name)?)?),
@@ -80,7 +80,7 @@ fn push_pickle(alloc: Global, names: &mut Vec<String>, file: &str) -> Result<(),
     }
 }
 
-/// The path of the pickle of a name in a folder.
+/// The path of the pickle with a name in a folder.
 pub fn path_in(alloc: Global, folder: &str, name: &str) -> Result<String, AllocError> {
     let mut path = String::from_str(alloc, folder)?;
     path.push('/')?;
@@ -89,7 +89,7 @@ pub fn path_in(alloc: Global, folder: &str, name: &str) -> Result<String, AllocE
     Ok(path)
 }
 
-/// Says where an installed pickle was looked for, and which name is near, where the word for a pickle names one.
+/// If an argument names an installed pickle, adds where that was looked for and which name is near.
 pub fn tell_missing<R: Files + Env + AllocGlobal + Clone + Drop>(
     rt: &R,
     word: &str,
@@ -137,12 +137,12 @@ fn tell_near(
     }
 }
 
-// The name in a word that names an installed pickle.
+// The name in an argument that names an installed pickle.
 fn name_in(word: &str) -> Option<&str> {
     word.strip_prefix('+').filter(|name| is_name(name))
 }
 
-// Whether a word is letters, digits, `_` and `-`.
+// Whether a word has only letters, digits, `_` and `-`, and isn't empty.
 fn is_name(word: &str) -> bool {
     !word.is_empty() && word.bytes().all(is_name_byte)
 }

@@ -19,8 +19,8 @@ use std::rt::{Env, Files};
 /// The bytes of an answer that are gathered before they are written.
 const GATHERED: usize = 65_536;
 
-/// Does a job. Its answer goes to `out`, which has it all before the status is told, and its line to `err`. Why it ends so, where
-/// that is asked, goes to `reason`; of one file among many to `aside`, behind the file's line.
+/// Does a job, and returns its exit status once the whole answer is written to `out`. Its line goes to `err`. If
+/// reasons are requested they go to `reason`; those of one file among many go to `aside`, after the file's line.
 pub fn do_job<
     R: Files<File = File> + Env + Input + AllocGlobal + Clone + Drop,
     O: Write + Drop,
@@ -43,17 +43,17 @@ pub fn do_job<
     if out.flush().is_ok() {
         return status;
     }
-    // What the writer didn't take isn't offered to it again.
+    // Bytes that the writer didn't accept aren't offered to it again.
     let (_writer, _rest) = out.into_parts();
     reason.clear();
-    // One line is told: that of what failed first, if it has one.
+    // One line is printed: that of the first failure, if it has one.
     if status == Status::Outside && !err.is_empty() {
         return status;
     }
     fail(err, WriteFault.name().as_bytes())
 }
 
-// Explains why no pickle was read, where that is asked. Nothing is explained where there is no memory for it: the line stands.
+// Explains why no pickle was read, if that is requested. If an allocation fails there is only the line.
 fn explain_fault<R: Files<File = File> + Env + AllocGlobal + Clone + Drop>(
     rt: &R,
     job: &Job,
@@ -70,7 +70,7 @@ fn explain_fault<R: Files<File = File> + Env + AllocGlobal + Clone + Drop>(
     }
 }
 
-// The word for the pickle of a job, where it has one.
+// The argument that names the pickle of a job, if it has one.
 fn pickle_of(job: &Job) -> Option<&str> {
     match job {
         Job::Map { pickle, .. }

@@ -1,4 +1,4 @@
-//! The program `poke_batch`: its words, its files and its standard streams. What it writes comes from the library of that name.
+//! The program `poke_batch`: its arguments, files and standard streams. The library of that name makes the output.
 #![tactic(auto)]
 
 mod each;
@@ -22,11 +22,11 @@ use std::alloc::{AllocError, Global};
 use std::io::{IsTerminal, Write};
 use std::process::ExitCode;
 
-/// What is told where standard input is asked for twice.
+/// The usage error for two arguments that are both standard input.
 const INPUT_TWICE: &str =
     "error: PICKLE and --files0-from can't both be standard input\n\nFor more information, try '--help'.\n";
 
-/// The line that a job tells on standard error. The longest has 62 bytes.
+/// The line that a job prints to standard error. The longest has 62 bytes.
 pub type Line = ArrayVec<u8, 128>;
 
 fn main(rt: HostRuntime) -> ExitCode {
@@ -49,7 +49,7 @@ fn main(rt: HostRuntime) -> ExitCode {
     } else {
         Status::Outside
     };
-    // The status is that of the line, whatever becomes of the reason for it.
+    // The exit status is that of the line, even if its reason can't be written.
     if told.is_ok() {
         let _ = put(&mut rt.stderr(), reason.as_slice());
     }
@@ -69,7 +69,7 @@ fn read_job(rt: &HostRuntime) -> Result<Asked, WordFault> {
     Ok(asked)
 }
 
-// Whether a job asks for two things of standard input, of which the second would find nothing.
+// Whether a job reads two things from standard input. The second would find nothing.
 fn reads_input_twice(job: &Job) -> bool {
     match job {
         Job::Each {
@@ -81,13 +81,14 @@ fn reads_input_twice(job: &Job) -> bool {
     }
 }
 
-// Shows the short help to somebody at a terminal who gave no words, since the job then waits for a pickle to be typed.
+// Prints the short help to somebody at a terminal who gave no arguments, because the job then waits for a pickle to be
+// typed.
 fn show_help<E: Write>(alloc: Global, err: &mut E) -> Result<(), AllocError> {
     let mut words = Vec::new(alloc);
     words.push(String::from_str(alloc, "-h")?)?;
     match read_words(alloc, words) {
         Err(WordFault::Help(text)) => {
-            // The job is done also where its help is lost.
+            // The job is done even if its help can't be written.
             let _told = put(err, text.as_bytes());
             Ok(())
         }

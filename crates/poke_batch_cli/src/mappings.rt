@@ -48,7 +48,7 @@ pub fn run_mapping<R: Files<File = File> + Env + Input + AllocGlobal, O: Write, 
     }
 }
 
-// What a job that maps asks of its pickle.
+// What a job that maps gives to the mapping.
 fn ask_of(job: &Job) -> Ask<'_>
     requires maps { Maps job.now }
 {
@@ -87,7 +87,7 @@ fn ask_of(job: &Job) -> Ask<'_>
     }
 }
 
-// Maps a type of a pickle over a file, each at its path.
+// Maps a type of the pickle at one path over the file at another.
 fn map_file<R: Files<File = File> + Env + Input + AllocGlobal, O: Write>(
     rt: &R,
     path: &str,
@@ -113,7 +113,7 @@ fn map_file<R: Files<File = File> + Env + Input + AllocGlobal, O: Write>(
     Ok(status)
 }
 
-// Maps a type of a pickle over many files. Why one of them ends as it does goes to `aside`.
+// Maps a type of a pickle over many files. The reasons of each file go to `aside`.
 fn map_files<R: Files<File = File> + Env + Input + AllocGlobal, O: Write, A: Write>(
     rt: &R,
     path: &str,
@@ -137,7 +137,7 @@ fn map_files<R: Files<File = File> + Env + Input + AllocGlobal, O: Write, A: Wri
     Ok(status)
 }
 
-/// Whether a run that ended so mapped its file, and nothing outside the mapping failed.
+/// Whether a run with this exit status mapped its file, and nothing in the environment failed.
 pub fn is_mapped(status: Status) -> bool {
     matches!(status, Status::Done | Status::Fault)
 }

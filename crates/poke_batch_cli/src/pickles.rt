@@ -26,7 +26,7 @@ pub fn check_pickle<R: Files + Env + Input + AllocGlobal, O: Write>(
     Ok(status)
 }
 
-/// Tells the types that the pickle at a path declares.
+/// Writes the types that the pickle at a path declares.
 pub fn tell_types<R: Files + Env + Input + AllocGlobal, O: Write>(
     rt: &R,
     path: &str,
@@ -41,7 +41,7 @@ pub fn tell_types<R: Files + Env + Input + AllocGlobal, O: Write>(
     Ok(status)
 }
 
-/// Tells the bounds of a mapping of a type of the pickle at a path over so many bits.
+/// Writes the bounds of a mapping of a type of the pickle at a path over `bits` bits.
 pub fn bound_type<R: Files + Env + Input + AllocGlobal, O: Write>(
     rt: &R,
     path: &str,
@@ -58,7 +58,7 @@ pub fn bound_type<R: Files + Env + Input + AllocGlobal, O: Write>(
     Ok(status)
 }
 
-/// Tells the same bounds, and the most bytes of the type's text in a mode, or in any.
+/// Writes the same bounds, and the most bytes of the printed value in a mode, or in any mode.
 pub fn bound_text<R: Files + Env + Input + AllocGlobal, O: Write>(
     rt: &R,
     path: &str,

@@ -1,18 +1,18 @@
-//! Why a job ends as it does, behind the line that tells how it ends.
+//! The reasons of a job, which are printed after its line.
 use pickle_reasons::explanation;
 use poke_batch::status::Status;
 use std::alloc::Global;
 
-/// Where it goes why a job ends as it does.
+/// Where the reasons of a job are written.
 #[derive(Drop)]
 pub struct Why<'a> {
     pub text: &'a mut Vec<u8>,
-    /// Whether that is asked.
+    /// Whether reasons are requested.
     pub asked: bool,
 }
 
-/// Tells why a pickle or a name is refused, where that is asked and a run ended so. Nothing is told where there is no memory for it:
-/// the line that refuses it stands.
+/// Writes why a pickle or a name is refused, if reasons are requested and the run ended with a refusal. If an
+/// allocation fails there is only the line of the refusal.
 pub fn explain(
     alloc: Global,
     why: &mut Why<'_>,

@@ -1,3 +1,3 @@
-//! Spaces that fail, or that hold other bytes at each reading.
+//! Spaces that fail, or that have other bytes at each read.
 
 pub use rows_kit::devices::{Failing, Shifting};

@@ -1,4 +1,4 @@
-//! Faults display the lines that tell them.
+//! Faults display as the lines that report them.
 
 use pickle_map::{MapFault, MapFaultKind};
 use pickle_types::FaultKind;

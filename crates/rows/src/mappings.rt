@@ -26,7 +26,7 @@ pub fn table_of(alloc: Global, pickle: &str) -> Result<Table, Fail> {
     }
 }
 
-/// The type that a row asks for.
+/// The type that a row requests.
 pub fn type_of(table: &Table, row: &Row<'_>) -> Result<TypeId, Fail>
     ensures inside { IfOk result (IsInTable table.now) }
 {
@@ -36,7 +36,7 @@ pub fn type_of(table: &Table, row: &Row<'_>) -> Result<TypeId, Fail>
     }
 }
 
-/// Maps the type of a row into an empty store: the text of its value or its fault.
+/// Maps the type of a row into an empty store. Returns the printed value or the fault.
 pub fn map_row<S: Space>(
     alloc: Global,
     table: &Table,
@@ -54,12 +54,12 @@ pub fn map_row<S: Space>(
     }
 }
 
-/// A fault, as it is told of a file.
+/// A fault, as it is printed for a file.
 pub fn fault_text(alloc: Global, fault: MapFault) -> Result<String, AllocError> {
     format!(in alloc; "fault {} at {}#b", fault.kind, fault.at)
 }
 
-/// The text of the value in a store, without its line feed.
+/// The printed value in a store, without its line feed.
 pub fn text(alloc: Global, table: &Table, store: &Store) -> Result<String, Fail> {
     let mut bytes = Vec::new(alloc);
     print(store.root(table).ok_or("no value")?, Mode::Flat, &mut bytes)?;
@@ -131,7 +131,7 @@ fn expect_run(rt: &impl Abort, alloc: Global, row: &Row<'_>) -> Result<(), Fail>
     Ok(())
 }
 
-// Whatever read of a row fails, nothing is written but the device's fault.
+// Whichever read of a row fails, only the fault of the device is written.
 fn expect_failures(rt: &impl Abort, alloc: Global, row: &Row<'_>) -> Result<(), Fail> {
     let mut all = Failing::new(&row.bytes, 0)?;
     run_row(
@@ -169,7 +169,7 @@ fn writes_values_and_faults(rt: HostRuntime) -> Result<(), Fail> {
     Ok(())
 }
 
-// The slots that a row can fill, by its bound.
+// The slots that a row can fill, from its bound.
 fn slots_of(table: &Table, row: &Row<'_>) -> Result<usize, Fail> {
     let id = type_of(table, row)?;
     let bits = (row.bytes.len() as u64).saturating_mul(8);
@@ -177,7 +177,7 @@ fn slots_of(table: &Table, row: &Row<'_>) -> Result<usize, Fail> {
     Ok(usize::try_from(slots)?)
 }
 
-// Maps a row from memory, from pages, and twice into a store that has the room of its bound.
+// Maps a row from memory, from pages, and twice into a store with the capacity of its bound.
 fn expect_values(rt: &impl Abort, alloc: Global, table: &Table, row: &Row<'_>) -> Result<(), Fail> {
     let mut space = space_of(alloc, row)?;
     let mut first = Store::new(alloc);
@@ -192,7 +192,7 @@ fn expect_values(rt: &impl Abort, alloc: Global, table: &Table, row: &Row<'_>) -
     expect_mapped(rt, alloc, table, row, &mut space, &mut store)
 }
 
-// Under a limit below its steps, a row takes just so many; under a limit of its steps it comes to its end.
+// With a limit below its steps, a row takes exactly as many steps as the limit. With a limit of its steps, it ends.
 fn expect_limits(rt: &impl Abort, alloc: Global, table: &Table, row: &Row<'_>) -> Result<(), Fail> {
     let told = format!(in alloc; "fault Limit at {}#b", row.start)?;
     let mut space = space_of(alloc, row)?;

@@ -1,4 +1,4 @@
-//! Reads that are counted, that fail, or that give other bytes each time.
+//! Reads that are counted, that fail, or that return other bytes each time.
 
 use crate::devices::{Failing, Shifting};
 use crate::mappings::{LIMIT, expect_mapped, map_row, table_of};
@@ -7,12 +7,12 @@ use bit_space::{Meter, Paged};
 use pickle_map::Store;
 use std::test::Fail;
 
-/// Four reads: three of elements, of which the last is given up, and one behind them.
+/// Four reads: three of elements, the last of which is rolled back, and one after them.
 const ELEMENTS: &str = r#"type E = struct { byte v : v != 0; }; type A = struct { E[] es; byte z; };
   A 0 big 050600 | 26 8 | A {es=[E {v=5UB},E {v=6UB}],z=0UB}
   A 8 big ff050600 | 26 8 | A {es=[E {v=5UB},E {v=6UB}],z=0UB}"#;
 
-/// Of the bytes only the number counts: each reading gives the number of the reading.
+/// Only the number of bytes matters: each read returns the number of the read.
 const SHIFTING: &str = r#"type T = struct { byte n : n == 1; };
   T 0 big 00 | 6 2 | T {n=1UB}
 
@@ -81,7 +81,8 @@ fn judges_the_bytes_that_it_keeps(rt: HostRuntime) -> Result<(), Fail> {
     Ok(())
 }
 
-// A row of pages is read once each: where the read behind the last one would fail it isn't made, and each other is.
+// Pages in a row are read once each. A failure of the first or the last read is reported. A read after the last one
+// would fail too, but isn't made.
 #[test]
 fn reads_each_page_once(rt: HostRuntime) -> Result<(), Fail> {
     let alloc = rt.alloc();

@@ -23,19 +23,19 @@ type T = union { byte a : a == 1; uint<16> b; };
 type T = struct { byte n; struct { byte[n] d; byte; } body; };
   T 0 big 010506 | 12 6 | T {n=1UB,body=struct {d=[5UB],6UB}}"#;
 
-/// A string behind one that is given up.
+/// A string after one that is rolled back.
 const SECOND_STRING: &str = r#"type T = union { string a : 0 != 0; string b; };
   T 0 big «0..1000 61»00 | 2010 2003 | T {b="«0..1000 a»"}"#;
 
-/// Elements of which the last is given up.
+/// Elements, the last of which is rolled back.
 const ELEMENTS: &str = r#"type E = struct { byte v : v != 0; }; type A = struct { E[] es; byte z; };
   A 0 big 050600 | 26 8 | A {es=[E {v=5UB},E {v=6UB}],z=0UB}"#;
 
-/// Elements whose first alternative is given up.
+/// Elements whose first alternative is rolled back.
 const UNIONS: &str = r#"type U = union { ushort a : a == 1; byte b; }; type T = U[];
   T 0 big 020304 | 23 7 | [U {b=2UB},U {b=3UB}]"#;
 
-/// Slots of each kind, and what is mapped in them. The bounds are 1005, 21 and 17.
+/// Numbers of slots of each kind, and what is mapped in so many. The bounds are 1005, 21 and 17.
 const ROOMS: [(usize, &str); 5] = [
     (1005, SECOND_STRING),
     (21, ELEMENTS),
@@ -44,11 +44,11 @@ const ROOMS: [(usize, &str); 5] = [
     (1_100_000, ELEMENTS),
 ];
 
-/// An array that takes a slot for each element, and one for itself.
+/// An array that needs a slot for each element, and one for itself.
 const THREE: &str = r#"type T = byte[3];
   T 0 big 010203 | 8 4 | [1UB,2UB,3UB]"#;
 
-// Maps a row, and clears the store after a value alone.
+// Maps a row, and clears the store after a value. A fault leaves it empty anyway.
 fn map_and_empty(
     rt: &impl Abort,
     alloc: Global,
@@ -91,7 +91,8 @@ fn maps_after_a_value_and_after_a_fault(rt: HostRuntime) -> Result<(), Fail> {
     Ok(())
 }
 
-// What an attempt took is given back before the next one, so a store has room for what is kept: one that never grows, too.
+// The slots of an attempt are free again before the next attempt. A store therefore needs capacity only for what is
+// stored at the end, also if it never grows.
 #[test]
 fn maps_in_so_many_slots(rt: HostRuntime) -> Result<(), Fail> {
     let alloc = rt.alloc();

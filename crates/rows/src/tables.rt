@@ -1,8 +1,10 @@
 //! Worked rows of mappings, as tables of text.
 //!
-//! An empty line parts blocks, of which each has a pickle in its first line, and then rows. Bars part a row: a type's name, the
-//! bit at which it is mapped, the order of the run, and the file's bytes as hexadecimal digits; then the steps that the mapping
-//! takes, and the values that it makes, with the bytes of strings; then what is written: a value's text or a fault.
+//! There is an empty line between blocks. The first line of a block is a pickle, and the other lines are rows. A row
+//! has three cells, with bars between them:
+//! 1. a type's name, the bit at which it is mapped, the byte order of the run, and the file's bytes in hexadecimal;
+//! 2. the steps that the mapping takes, and the values that it makes, the bytes of strings included;
+//! 3. what is written: a printed value or a fault.
 
 pub mod arrays;
 pub mod expressions;
@@ -19,7 +21,7 @@ use rows_kit::text::{bytes_of, hex_of};
 use std::alloc::Global;
 use std::test::Fail;
 
-/// A mapping, and what it comes to. The line tells which row it is.
+/// A mapping, and its result. The line identifies the row.
 #[derive(Drop)]
 pub struct Row<'a> {
     pub line: &'a str,

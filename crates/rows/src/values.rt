@@ -11,8 +11,8 @@ const RECORD: &str =
     r#"type U = union { byte a : a == 1; byte c : c == 2; short b; }; type G = struct uint<8> { uint<4> hi; int<4> lo; }; type R = struct { byte x; int<12> y; nibble; offset<ushort,B> units; string name; byte gone if 0; byte[2] pair; U u; G g; struct {} none; }; type S = R;
   S 8 big ff05f8010003616200070980012f | 45 19 | R {x=5UB,y=(int<12>) -128,1UN,units=3UH#B,name="ab",pair=[7UB,9UB],u=U {b=-32767H},g=G {hi=2UN,lo=-1N},none=struct {}}"#;
 
-/// The places of parts, and what each of them gives: its kind, start and size; its number, sign, width and unit; its bytes; its
-/// length; the name of its type; and the names of its fields, up to one past the end.
+/// The places of parts, and what the calls return for each: its kind, start and size; its number, sign, width and unit;
+/// its bytes; its length; the name of its type; and the names of its fields, up to one past the end.
 const PARTS: &str = "\
     root: Struct 8 104; 0 false 0 0; ; 10; R; x y - units name gone pair u g none -\n\
     0: Integer 8 8; 5 false 8 0; ; 0; -; -\n\
@@ -33,7 +33,7 @@ const PARTS: &str = "\
     9: Struct 112 0; 0 false 0 0; ; 0; -; -\n\
     10: nothing";
 
-/// Values of 16 bits: what was read and given up isn't theirs, and fields may share bits.
+/// Values of 16 bits: bits that were read and rolled back aren't theirs, and fields may share bits.
 const SIXTEEN_BITS: &str = r#"type T = uint<16>[];
   T 0 big 000102 | 5 2 | [1UH]
 
@@ -46,7 +46,7 @@ type T = pinned struct { uint<16> w; byte hi; };
 type R = byte[2]; type T = R[];
   T 0 big 010203 | 15 5 | [[1UB,2UB]]"#;
 
-/// The part at a place of the root, as `3`, or at a place of that, as `6 1`.
+/// The part at a place of the root, such as `3`, or at a place of that part, such as `6 1`.
 fn part_at<'a>(root: ValueRef<'a>, path: &str) -> Result<Option<ValueRef<'a>>, Fail> {
     if path == "root" {
         return Ok(Some(root));

@@ -35,7 +35,7 @@ type Flagged = struct { uint<8> n; Flags f; };
 type Quotient = struct { uint<8> n : 1 / n == 1; };
 ";
 
-/// A type, the bytes of a file in hexadecimal digits, and the places on the path, the first one first.
+/// A type, the bytes of a file in hexadecimal digits, and the places on the path, in order.
 const ROWS: &str = "\
 Pair 0103 1
 Pairs 010201020103 0 2 1
@@ -92,7 +92,7 @@ fn fault_of(alloc: Global, table: &Table, id: TypeId, row: &Row) -> Result<MapFa
     }
 }
 
-/// Whether the fault is found to arise at the end of a path.
+/// Whether the check finds that the fault arises at the end of a path.
 fn is_at(
     alloc: Global,
     table: &Table,
@@ -119,7 +119,7 @@ fn is_at(
     ))
 }
 
-// The fault arises at the end of the row's path, and not further on.
+// The fault arises at the end of the row's path, and not after it.
 fn expect_part(rt: &impl Abort, alloc: Global, table: &Table, line: &str) -> Result<(), Fail> {
     let (name, rest) = line.split_once(' ').ok_or("no bytes")?;
     let (digits, places) = rest.split_once(' ').unwrap_or((rest, ""));

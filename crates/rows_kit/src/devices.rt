@@ -1,11 +1,11 @@
-//! Spaces that fail, or that hold other bytes at each reading.
+//! Spaces that fail, or that have other bytes at each read.
 
 ghost use Rattle.std.specs.Prelude.{◌≡◌, ◌^◌, ◌<◌, None, length};
 ghost use Rattle.bit_space.specs.SpaceView.{SpaceView};
 
 use bit_space::{DeviceFault, Space, TooLong};
 
-/// Fills what is read with the number of the read, and fails at the read with a number, counted from 1.
+/// Fills each read with the number of the read, and fails at the read with a number, counted from 1.
 #[derive(Drop)]
 pub struct Shifting {
     pub len: u64,
@@ -37,7 +37,7 @@ impl Space for Shifting {
     }
 }
 
-/// Gives its bytes, and fails at the read with a number, counted from 1.
+/// Returns its bytes, and fails at the read with a number, counted from 1.
 #[derive(Drop)]
 pub struct Failing<'a> {
     bytes: &'a [u8],

@@ -3,7 +3,7 @@
 use std::io;
 use std::io::{Error, ErrorKind, Read, Write};
 
-/// Gives bytes one at a time, and fails at the read with a number, counted from 1.
+/// Returns bytes one at a time, and fails at the read with a number, counted from 1.
 #[derive(Drop)]
 pub struct OneByOne<'a> {
     pub bytes: &'a [u8],
@@ -28,7 +28,7 @@ impl Read for OneByOne<'_> {
     }
 }
 
-/// Gives so many blanks, or blanks without an end.
+/// Returns so many blanks, or blanks without an end.
 #[derive(Drop)]
 pub struct Blanks {
     pub left: Option<usize>,
@@ -51,8 +51,8 @@ impl Read for Blanks {
     }
 }
 
-/// Takes so many bytes, at most `step` at a time, and then gives an error or, where `dry`, takes no byte. It keeps the
-/// first 80 bytes.
+/// Accepts so many bytes, at most `step` at a time. Then it returns an error or, if `dry` is set, accepts no byte. It
+/// stores the first 80 bytes.
 #[derive(Drop)]
 pub struct Halting {
     kept: [u8; 80],
@@ -75,7 +75,7 @@ impl Halting {
         }
     }
 
-    /// Gives one error behind so many bytes, and then takes all.
+    /// Returns one error after so many bytes, and then accepts all.
     pub fn failing_once(room: usize, step: usize) -> Halting {
         Halting {
             kept: [0; 80],

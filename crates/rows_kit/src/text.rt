@@ -3,8 +3,8 @@
 use std::alloc::{AllocError, Global};
 use std::test::Fail;
 
-/// The bytes that a text stands for. A backtick and two hexadecimal digits are one byte. `«2..5 T~,»` is `T2,T3,T4,`: what
-/// follows the range stands there once for each of its numbers, which replaces `~`; the number after it replaces `^`.
+/// The bytes that a text means. A backtick and two hexadecimal digits are one byte. `«2..5 T~,»` is `T2,T3,T4,`: what
+/// is after the range is repeated for each number in it. The number replaces `~`, and the next number replaces `^`.
 pub fn bytes_of(alloc: Global, text: &str) -> Result<Vec<u8>, Fail> {
     let mut bytes = Vec::new(alloc);
     for part in text.split('«') {
@@ -20,7 +20,7 @@ pub fn bytes_of(alloc: Global, text: &str) -> Result<Vec<u8>, Fail> {
     Ok(bytes)
 }
 
-/// The bytes that pairs of hexadecimal digits write, in a text as `bytes_of` takes it.
+/// The bytes that pairs of hexadecimal digits name, in a text of the form that `bytes_of` reads.
 pub fn hex_of(alloc: Global, text: &str) -> Result<Vec<u8>, Fail> {
     let digits = bytes_of(alloc, text)?;
     let mut bytes = Vec::new(alloc);

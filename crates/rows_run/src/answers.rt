@@ -1,8 +1,9 @@
 //! What runs answer, as tables of text.
 //!
-//! An empty line parts blocks, of which each has a pickle in its first line, and then rows. Bars part a row: what is asked
-//! of the pickle, the status, and the text. A mapping is asked for by a type's name, a start, an order, the most steps and the
-//! file's bytes as hexadecimal digits; a bound by a name and the bits of a file.
+//! There is an empty line between blocks. The first line of a block is a pickle, and the other lines are rows. A row
+//! has three cells, with bars between them: the run, its exit status, and the text. The run of a mapping has a type's
+//! name, a start, a byte order, the most steps and the file's bytes in hexadecimal digits. The run of a bound has a
+//! name and the bits of a file.
 
 mod bounds;
 mod files;
@@ -17,7 +18,7 @@ use std::io::Write;
 use std::process::Abort;
 use std::test::Fail;
 
-/// What is written to writers that stop.
+/// What is written to writers that stop early.
 const CUT: &str = r#"type P = struct { uint<8> a; uint<16> b; };
   check | Done | types 1
   bound P 24 | Done | steps 5`0aslots 5
@@ -122,7 +123,7 @@ fn answers(rt: HostRuntime) -> Result<(), Fail> {
     Ok(())
 }
 
-/// Expects the front of a text on a writer that takes only so many bytes, and on the other what then is told.
+/// Expects the first bytes of a text on a writer that accepts only so many, and on the other writer the line of that.
 fn expect_cut(
     rt: &impl Abort,
     alloc: Global,

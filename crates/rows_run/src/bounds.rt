@@ -1,4 +1,4 @@
-//! What is told of steps and slots.
+//! What is printed about steps and slots.
 
 use poke_batch::bound::put_bounds;
 use std::test::Fail;

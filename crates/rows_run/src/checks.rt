@@ -1,4 +1,4 @@
-//! Which pickles are accepted, and what refuses the others.
+//! Which pickles are accepted, and how the others are refused.
 
 use poke_batch::{Status, run_check};
 use rows_kit::text::bytes_of;
@@ -83,7 +83,7 @@ type byte = byte; ==> DuplicateType in type 1
 type A = byte[2][3]; ==> Syntax at byte 16
 `80 ==> BadByte at byte 0"#;
 
-/// Pickles that are as deep or as long as may be, and those just beyond.
+/// Pickles that are as deep or as long as they may be, and those just beyond.
 const LIMITS: &str = r#"type P = struct {«0..1024 uint<8> a~;»}; ==> types 1
 type P = struct {«0..1025 uint<8> a~;»}; ==> TooMany
 type P = struct {«0..2 uint<8> a~;»};«0..1048535  » ==> types 1

@@ -12,7 +12,7 @@ use std::test::Fail;
 
 const RULER: &str = "76543210  0011 2233 4455 6677 8899 aabb ccdd eeff  0123456789ABCDEF\n";
 
-// A writer that takes so many bytes, at most `step` at a time, and then gives errors, or one error where `once`.
+// A writer that accepts so many bytes, at most `step` at a time, and then returns errors, or only one if `once` is set.
 #[derive(Drop)]
 struct Limited {
     taken: Vec<u8>,
@@ -40,7 +40,7 @@ impl Write for Limited {
     }
 }
 
-/// The first byte, the most bytes and the file's bytes as hexadecimal digits; and the lines.
+/// The first byte, the most bytes and the file's bytes in hexadecimal digits; then the lines.
 const DUMPS: &str =
     r#"16 1 3031323334353637383961626364656667 ==> 00000010: 67                                       g`0a
 0 16 3031323334353637383961626364656667 ==> 00000000: 3031 3233 3435 3637 3839 6162 6364 6566  0123456789abcdef`0a

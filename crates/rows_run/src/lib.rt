@@ -1,4 +1,4 @@
-//! Worked rows of the runs, of dumps and of words, as tables in tests. Their answers were worked out by hand.
+//! Worked rows of runs, dumps and arguments, as tables in tests. Their answers were worked out by hand.
 #![tactic(auto)]
 
 #[cfg(test)]

@@ -1,4 +1,4 @@
-//! Values in the modes other than the first.
+//! Values in the modes other than `flat`.
 
 use bit_space::{MemSpace, Order};
 use poke_batch::{Ask, Mode, Status, run_map};
@@ -8,8 +8,8 @@ use std::alloc::{AllocError, Global};
 use std::io::Write;
 use std::test::Fail;
 
-/// An empty line parts cases, of which each has a pickle in its first line, then a type's name and the file's bytes. Behind them stands
-/// what is written in mode tree, in mode json and in mode lines, there with `|` for a tab.
+/// There is an empty line between cases. The first line of a case is a pickle. Then come a type's name and the file's
+/// bytes, and then the output in the modes `tree`, `json` and `lines`, the last with `|` for a tab.
 const CASES: &str = r#"type E = struct { byte v : v != 0; }; type A = struct { E[] es; byte z; };
 A 5 6 0
 A
@@ -214,7 +214,7 @@ fn another_reader_reads_json(rt: HostRuntime) -> Result<(), Fail> {
         let case = read_case(alloc, block)?;
         let value = Value::from_slice(alloc, case.json.as_slice()).map_err(|_| "not read")?;
         let text = value.to_string(alloc)?;
-        // It sorts keys, and has shorter escapes for some bytes.
+        // The JSON library sorts keys, and has shorter escapes for some bytes.
         if !block.contains("\\u00") {
             assert_eq!(rt; text.len().saturating_add(1), case.json.len(), "{block}");
         }

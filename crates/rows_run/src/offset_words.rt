@@ -1,4 +1,4 @@
-//! Words that name offsets, with their bits.
+//! Offsets as arguments, with the bits that they name.
 
 use poke_batch::offset_word;
 use rows_kit::text::bytes_of;

@@ -1,4 +1,4 @@
-//! Pickles are read as far as they go, and no further.
+//! Pickles are read to their end, and no further.
 
 use poke_batch::{PickleFault, read_pickle};
 use rows_kit::streams::{Blanks, OneByOne};

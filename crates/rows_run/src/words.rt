@@ -1,11 +1,11 @@
-//! The words of command lines. A word `""` is empty.
+//! The arguments of command lines. An argument `""` is empty.
 
 use poke_batch::{WordFault, read_words};
 use rows_kit::text::bytes_of;
 use std::alloc::Global;
 use std::test::Fail;
 
-/// Words, and the job that they ask for.
+/// Arguments, and the job that they request.
 const JOBS: &str = r#" ==> Check { pickle: "-" }
 check - ==> Check { pickle: "-" }
 check p ==> Check { pickle: "p" }
@@ -35,7 +35,7 @@ map --max-output 5 p T f ==> MapUnder { at: 0, order: Big, limit: 1000000000, mo
 map --get . p T f ==> MapUnder { at: 0, order: Big, limit: 1000000000, mode: Flat, terms: Terms { whole: false, most_output: None, part: Some(Path { steps: [] }), most_slots: None }, pickle: "p", name: "T", file: "f" }
 map --get .a[2].0 p T f ==> MapUnder { at: 0, order: Big, limit: 1000000000, mode: Flat, terms: Terms { whole: false, most_output: None, part: Some(Path { steps: [Field([97]), Element(2), Place(0)] }), most_slots: None }, pickle: "p", name: "T", file: "f" }"#;
 
-/// Words that are no job.
+/// Arguments that aren't a job.
 const WRONG: &str = r#"map --at 8 p T f ==> refused offset
 map --at 18446744073709551616#b p T f ==> refused offset
 dump --from 3#b f ==> refused offset
@@ -66,7 +66,7 @@ chec p ==> usage
 - ==> usage
 "" ==> usage"#;
 
-/// Words that ask for help, and parts of its text.
+/// Arguments that request help, and parts of its text.
 const HELP: &str = "\
     --help ==> Statuses: & [default: 1000000000] & Example:\n\
     -h ==> Statuses: & map & dump\n\
@@ -84,7 +84,7 @@ fn words_of(alloc: Global, text: &str) -> Result<Vec<String>, Fail> {
     Ok(words)
 }
 
-/// The job, the fault, or `usage` where a text tells what is wrong.
+/// The job, the fault, or `usage` for a usage error.
 fn answer(alloc: Global, words: &str) -> Result<String, Fail> {
     match read_words(alloc, words_of(alloc, words)?) {
         Ok(job) => Ok(format!(in alloc; "{job:?}")?),

@@ -1,4 +1,4 @@
-//! Rows of the grammar. Behind the arrow stands what comes of it.
+//! Rows of the grammar. The result is after the arrow.
 
 use pickle_syntax::token::Number;
 use pickle_syntax::tree::{Expression, Form, Reference, Suffix, Target};
@@ -68,7 +68,7 @@ type A = byte[1 as T.f]; ==> refused Syntax at byte 20
 type A = byte[1 as T # b]; ==> refused Syntax at byte 21
 type A = byte[as]; ==> refused Syntax at byte 14"#;
 
-/// Pickles that are as deep as may be, or deeper.
+/// Pickles that are as deep as they may be, or deeper.
 const DEEP: &str = r#"type A = byte[«0..63 (»1«0..63 )»]; ==> types 1
 type A = byte[«0..64 (»1«0..64 )»]; ==> refused TooDeep
 type A = byte[«0..63 -»1]; ==> types 1
@@ -96,7 +96,7 @@ type A = «0..32 struct { »byte«0..32  a; }[]»; ==> refused TooDeep
 type A = byte[«0..64 (» ==> refused Syntax at byte 78
 type A = byte[«0..65 (» ==> refused TooDeep"#;
 
-/// Pickles that are as long as may be, or longer.
+/// Pickles that are as long as they may be, or longer.
 const LONG: &str = r#"«0..4096 type A = byte;» ==> types 4096
 «0..4097 type A = byte;» ==> refused TooMany
 type A = struct {«0..1024  byte;»}; ==> types 1
@@ -106,7 +106,7 @@ type A = struct byte {«0..1025  byte;»}; ==> refused TooMany
 type A = union {«0..1025  byte;»}; ==> refused TooMany
 type A = pinned struct {«0..1025  byte;»}; ==> refused TooMany"#;
 
-/// Faults behind many tokens.
+/// Faults after many tokens.
 const FAR: &str = r#"«0..30 type A = byte;»type B byte; ==> refused Syntax at byte 427
 type A = struct {«0..100  byte;» byte a b; }; ==> refused Syntax at byte 625
 «0..100 type A = byte;»type ==> refused Syntax at byte 1404
@@ -191,7 +191,7 @@ fn suffixed(alloc: Global, operand: &str, suffix: &Suffix) -> Result<String, Fai
     }
 }
 
-/// An expression with all of its nodes in brackets, operators first; a bracket of the pickle is `[ ]`.
+/// An expression with all of its nodes in brackets, operators first. A bracket of the pickle is printed as `[ ]`.
 fn grouped(alloc: Global, expression: &Expression) -> Result<String, Fail> {
     match expression {
         Expression::Number(number) => Ok(format!(in alloc; "{}", number.value)?),

@@ -1,4 +1,4 @@
-//! Rows of tokens. Behind the arrow stand the tokens, each before a blank, or the fault.
+//! Rows of tokens. After the arrow are the tokens, each with a blank after it, or the fault.
 
 use pickle_syntax::lex;
 use pickle_syntax::token::Kind;
@@ -118,7 +118,7 @@ int<8>>1 ==> Int< 8:i32 ShiftRight 1:i32
 == != <= >= << >> && || ==> EqualEqual BangEqual LessEqual GreaterEqual ShiftLeft ShiftRight AndAnd OrOr
 <<=&&&=== ==> ShiftLeft Assign AndAnd And EqualEqual Assign"#;
 
-/// Pickles, and what is too long.
+/// Pickles, some of them too long.
 const PICKLES: &str = r#"type A = byte $; ==> refused BadByte at byte 14
 type A = byte; /* x ==> refused Unclosed at byte 15
 type A = byte[256UB]; ==> refused BadNumber at byte 14
@@ -130,7 +130,7 @@ type A = byte[0b]; ==> Type A Assign byte OpenBracket 0:i8 CloseBracket Semicolo
 «0..1048577  » ==> refused TooLong at byte 1048576
 «0..1048577 $» ==> refused TooLong at byte 1048576"#;
 
-/// A token in a few letters: a number as `27:i32`, a name as itself.
+/// A token in a few letters: a number such as `27:i32`, a name as itself.
 fn show(alloc: Global, kind: &Kind) -> Result<String, AllocError> {
     match kind {
         Kind::Word(word) => format!(in alloc; "{word:?}"),
@@ -148,7 +148,7 @@ fn show(alloc: Global, kind: &Kind) -> Result<String, AllocError> {
     }
 }
 
-/// The tokens, each before a blank; or the fault.
+/// The tokens, each with a blank after it, or the fault.
 fn lexed(alloc: Global, bytes: &[u8]) -> Result<String, AllocError> {
     let tokens = match lex(alloc, bytes) {
         Ok(tokens) => tokens,

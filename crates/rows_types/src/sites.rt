@@ -1,5 +1,5 @@
-//! Rows of parts of types. Behind the arrow stands where a part stands in the pickle, its type, the declared type it stands in, and
-//! its expressions.
+//! Rows of parts of types. After the arrow are the place of the part in the pickle, its type, the declared type that it
+//! is in, and its expressions.
 
 use pickle_script::excerpt::excerpt;
 use pickle_script::script::Script;
@@ -31,7 +31,7 @@ type Alias = Choice; type Other = Alias; type Others = Other[2#B];
 type All = struct { Others[] many; Other one; Bytes b : 1; Bytes[n] bs if 2; struct { } none; };
 "#;
 
-/// Declared types, and what is none.
+/// Declared types, and names that aren't declared.
 const TYPES: &str = r#"Small ==> 1:6 Small
 Bytes ==> 2:6 Bytes [4]
 Record ==> 4:6 Record
@@ -45,7 +45,7 @@ string ==> none
 Recor ==> none
  ==> none"#;
 
-/// Fields of a struct, in one and in several lines.
+/// Fields of a struct, on one line and on several.
 const FIELDS: &str = r#"Record 0 ==> 6:3 uint<16> of Record : kind == 0x50
 Record 1 ==> 6:40 byte of Record
 Record 2 ==> 7:3 struct uint<8> {..} of Record
@@ -68,7 +68,7 @@ Record 7 0 ==> none
 All 4 ==> 19:78 struct {..} of All
 All 4 0 ==> none"#;
 
-/// Elements of arrays stand where the innermost field or declared type on the way stands.
+/// Elements of arrays have the place of the innermost field or declared type on the way.
 const ELEMENTS: &str = r#"Bytes [] ==> 2:6 byte of Bytes
 Record 3 [] ==> 8:3 byte of Record
 Record 4 1 [] ==> 10:20 Small of Record
@@ -112,7 +112,7 @@ fn step_of(word: &str) -> Result<Step, Fail> {
     }
 }
 
-/// The part that words name: a declared type, and steps.
+/// The part that words name: the name of a declared type, and steps.
 fn site_of(alloc: Global, script: &Script<'_>, words: &str) -> Result<Option<Site>, Fail> {
     let (name, rest) = words.split_once(' ').unwrap_or((words, ""));
     let mut steps = Vec::new(alloc);
@@ -125,7 +125,7 @@ fn site_of(alloc: Global, script: &Script<'_>, words: &str) -> Result<Option<Sit
     }
 }
 
-/// What is told of a part of a pickle.
+/// What is printed about a part of a pickle.
 fn told_of(alloc: Global, script: &Script<'_>, site: Site) -> Result<Vec<u8>, Fail> {
     let place = site.place(script);
     let text = Text::new(alloc).say_number(place.line)?.say(b":")?;

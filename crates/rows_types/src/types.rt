@@ -1,4 +1,4 @@
-//! Rows of types. Behind the arrow stands what comes of a pickle.
+//! Rows of types. The result of a pickle is after the arrow.
 
 use pickle_syntax::{lex, parse};
 use pickle_types::Table;
@@ -26,7 +26,7 @@ type A = union { byte a; byte b : a == 1; }; ==> refused UnknownName in type 1
 type A = struct { byte n; }; type D = struct { byte k : n == 1; }; ==> refused UnknownName in type 2
 type A = offset<uint<8>,0>; ==> refused Width in type 1"#;
 
-/// What expressions see, and counts.
+/// What expressions see, and what they may compute.
 const ACCEPTED: &str =
     r#"type A = struct { byte n; union { struct { byte x : x == n; } a; } u; }; ==> types 1
 type A = struct { byte n; struct { byte[n] d; byte n; } b; }; ==> types 1
@@ -57,7 +57,7 @@ type A = struct { byte n : (n + 1)'size == 8#b; }; ==> refused Mismatch in type 
 type A = struct { byte n; byte m : n as offset<uint<8>,B>; }; ==> refused Mismatch in type 1
 type A = struct { struct { byte x; } s; byte y : s.z; }; ==> refused UnknownName in type 1"#;
 
-/// Forms that are left out.
+/// Forms that the language leaves out.
 const LEFT_OUT: &str = r#"type A = struct { A[] x; }; ==> refused UnknownType in type 1
 type A = struct uint<8> {}; ==> refused IntegralWidths in type 1
 type A = struct uint<8> { little uint<8> a; }; ==> refused NotHere in type 1
@@ -80,7 +80,7 @@ type T1 = byte[];«1..64 type T^ = T~[];» ==> refused TooDeep in type 64
 type T1 = byte[];«1..200 type T^ = T~;» ==> types 200
 type T1 = struct { byte a; byte b; };«1..63 type T^ = struct { T~ a; T~ b; };» ==> types 63"#;
 
-/// Types behind many others, and of many fields.
+/// Types after many others, and types of many fields.
 const MANY: &str = r#"«0..70 type T~ = byte;»type A = uint<65>; ==> refused Width in type 71
 «0..100 type T~ = struct { byte x; };»type A = struct { byte x : y; }; ==> refused UnknownName in type 101
 «0..100 type T~ = byte;»type T99 = bit; ==> refused DuplicateType in type 101
@@ -97,7 +97,7 @@ type A = struct {«0..40 byte f~;» struct { byte g; } s; byte y : g == 1; }; ==
 type A = struct {«0..40 byte f~;» struct {«0..400 byte g~;» byte x : g399 == f39; } s; byte y : f39 == 1; }; ==> types 1
 type A = struct {«0..400 byte f~;»}; type B = struct {«0..40 byte g~;» byte x : f399; }; ==> refused UnknownName in type 2"#;
 
-/// Names that are scattered to one tree, since 31 times A and a is 31 times B and B.
+/// Names with the same hash, so that they are in one tree: 31 * `A` + `a` is 31 * `B` + `B`.
 const ALIKE: &str =
     r#"type Aa = byte; type BB = bit; type Aa = byte; ==> refused DuplicateType in type 3
 type Aa = byte; type A = struct { BB x; }; ==> refused UnknownType in type 2
@@ -177,7 +177,7 @@ fn finds_types(rt: HostRuntime) -> Result<(), Fail> {
     Ok(())
 }
 
-/// Expects an answer for a pickle in two parts, of which the first is left as it was.
+/// Expects an answer for a pickle in two parts. The first part is left as it was.
 fn expect_behind(
     rt: &impl Abort,
     alloc: Global,
@@ -192,7 +192,8 @@ fn expect_behind(
     Ok(())
 }
 
-/// Whether each field of a type of so many bits is found by its name, no other is, and a second one of its name is refused.
+/// Whether each field of a type of so many bits is found by its name, no other name is found, and a second field of the
+/// same name is refused.
 fn finds_fields(rt: &impl Abort, alloc: Global, kind: &str, count: u8) -> Result<(), Fail> {
     let text = format!(in alloc; "type A = {kind} {{ «0..{count} bit f~; »")?;
     let mut fields = bytes_of(alloc, &text)?;

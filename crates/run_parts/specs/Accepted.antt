@@ -31,7 +31,7 @@ pub record HasSyntax (pickle : List ℕ) (declarations : List DeclarationTree) :
   pub cut : lexed pickle ≡ Ok (tokens, spans)
   pub parsed : IsPickleOf tokens declarations
 
--- the place of the first byte of a token, or the pickle's length behind the last token
+-- the place of the first byte of a token, or the pickle's length after the last token
 abbrev pub start_in : Option (ℕ × ℕ) → ℕ → ℕ
 start_in None count = count
 start_in (Some span) count = span.0
@@ -39,7 +39,7 @@ start_in (Some span) count = span.0
 abbrev pub place_of : List (ℕ × ℕ) → (token count : ℕ) → ℕ
 place_of spans token count = start_in (slice_get spans token) count
 
--- the tokens of the bytes are no pickle, and why and where their reading stops
+-- the tokens of the bytes aren't a pickle, with the fault at which their reading stops
 pub record IsNoPickle (pickle : List ℕ) (spans : List (ℕ × ℕ)) (count : ℕ) (why : Fault) : Type 0 where
   pub tokens : List Token
   pub cut : lexed pickle ≡ Ok (tokens, spans)
@@ -62,7 +62,7 @@ pub record IsAccepted (pickle : List ℕ) (declarations : List DeclarationTree) 
 abbrev pub IsTableOf : (pickle : List ℕ) → Table → Type 0
 IsTableOf pickle table = (declarations : List DeclarationTree) × IsAccepted pickle declarations (types_of table) × (count_of table ≡ length declarations)
 
--- why the bytes are no pickle, or its types not well formed; want of memory says nothing of them
+-- why the bytes aren't a pickle, or its types not well formed; an allocation failure says nothing about them
 pub data Refuses (pickle : List ℕ) : Refusal → Type 0 where
   no_tokens : {kind : LexFaultKind} {at : ℕ} → lexed pickle ≡ Err (kind, at) → Refuses pickle (refusal.Tokens kind at)
   no_syntax : {spans : List (ℕ × ℕ)} {count token at : ℕ} → IsNoPickle pickle spans count (Wrong (count - token)) → token ≤ count → at ≡ place_of spans token (length pickle) → Refuses pickle (refusal.Syntax at)
@@ -80,7 +80,7 @@ refusal_kind refusal.TooMany = codes "TooMany"
 refusal_kind (refusal.Types kind declaration) = type_kind kind
 refusal_kind refusal.Memory = codes "Memory"
 
--- the line that tells a refusal, with its status
+-- the line of a refusal, with its exit status
 abbrev pub refusal_saying : Refusal → Saying
 refusal_saying (refusal.Tokens kind at) = Line Refused (refused_at_line (lex_kind kind) at)
 refusal_saying (refusal.Syntax at) = Line Refused (refused_at_line (codes "Syntax") at)

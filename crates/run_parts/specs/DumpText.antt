@@ -13,7 +13,7 @@ place_text place =
     let digits = map hex_digit (digits_of 16 place) in
     replicate (8 - length digits) 48 ++ digits
 
--- two digits for a byte, two spaces where there is none
+-- two digits for a byte, two spaces if there is none
 abbrev pub two_digits : Option ℕ → List ℕ
 two_digits None = codes "  "
 two_digits (Some byte) = hex_digit (byte / 16) ∷ hex_digit (byte % 16) ∷ []
@@ -60,10 +60,10 @@ unfoldable pub dump_text : (bytes : List ℕ) (from size : ℕ) (ruler : Bool) �
 dump_text bytes from size ruler =
     (if ruler then ruler_text else []) ++ range_text from size bytes
 
--- where the bytes of a space are known, a writer takes a text of them
+-- if the bytes of a space are known, a writer accepts a text of them
 abbrev pub Dumps : SpaceView → (old new : Option (List ℕ)) → (text : List ℕ → List ℕ) → Type 0
 Dumps space old new text = (bytes : List ℕ) → space.bytes ≡ Some bytes → Appends old new (text bytes)
 
--- or a part of that text, from its front
+-- or the first bytes of that text, but not all of them
 abbrev pub DumpsPart : SpaceView → (old new : Option (List ℕ)) → (text : List ℕ → List ℕ) → Type 0
 DumpsPart space old new text = (bytes : List ℕ) → space.bytes ≡ Some bytes → AppendsPart old new (text bytes)

@@ -1,4 +1,4 @@
--- The lines that tell a refusal or a fault. A kind is the fault's name; a line feed ends each line.
+-- The lines of refusals and faults. A kind is the fault's name. A line feed ends each line.
 use Rattle.std.specs.Prelude.{ℕ, List, [], ◌∷◌, ◌++◌, codes, decimal}
 
 -- what is refused as a whole

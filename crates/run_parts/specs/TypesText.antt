@@ -1,4 +1,4 @@
--- What a run has to say of the types that a pickle declares.
+-- What a run must print for the types that a pickle declares.
 use Rattle.std.specs.Prelude.{ℕ, List, ◌++◌, Option, Some, None, codes, decimal, map}
 use Rattle.std.specs.List.{flat_map}
 use Rattle.pickle_tree.specs.Tree.{DeclarationTree}
@@ -20,7 +20,7 @@ kind_column kind.Array = codes "\tarray\t"
 kind_column kind.Struct = codes "\tstruct\t"
 kind_column kind.Union = codes "\tunion\t"
 
--- a width in decimal digits, or what is told of one from 2^64 on
+-- a width in decimal digits, or what is printed for one of 2^64 or more
 abbrev pub width_number : Option ℕ → List ℕ
 width_number None = codes "more than 2^64-1"
 width_number (Some width) = decimal width
@@ -29,11 +29,11 @@ width_number (Some width) = decimal width
 unfoldable pub width_text : Option ℕ → List ℕ
 width_text width = width_number width ++ codes "#b\n"
 
--- name, kind and least width of a type, on a line of their own
+-- name, kind and least width of a type, on a line
 unfoldable pub type_line : Told → List ℕ
 type_line told = told.0 ++ (kind_column told.1 ++ width_text told.2)
 
--- the lines of what was told
+-- the lines of the declared types
 abbrev pub told_lines : List DeclaredType → List ℕ
 told_lines = flat_map (λ told. type_line (told_of told))
 

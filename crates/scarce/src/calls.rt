@@ -1,4 +1,4 @@
-//! The calls by their names.
+//! The calls, by name.
 
 use crate::ended::Ended;
 use crate::samples::{ARRAYS, ELEMENTS, MIXED, UNIONS};
@@ -44,7 +44,7 @@ pub const CALLS: [&str; 27] = [
     "values",
 ];
 
-/// Runs the call of a name.
+/// Runs the call with a name.
 pub fn run_call<R: Files<File = File> + AllocGlobal>(rt: &R, name: &[u8]) -> Ended {
     match run_named(rt, name) {
         Ok(ended) => ended,

@@ -6,20 +6,20 @@ use std::alloc::{AllocError, AllocFailed};
 /// How a call ended.
 #[derive(Clone, Copy, Debug, Drop, PartialEq, Eq)]
 pub enum Ended {
-    /// What the call needs was refused its memory, before the call.
+    /// An allocation before the call, for what the call needs, was refused.
     Early,
-    /// The call told of want of memory, and left what it must.
+    /// The call returned an allocation failure, and left its arguments as it must.
     Want,
-    /// The call gave its answer.
+    /// The call returned its answer.
     Answer,
-    /// The call gave its answer, and the first request after it was refused.
+    /// The call returned its answer, and the first request after it was refused.
     Next,
     /// The call did something else.
     Wrong,
 }
 
 impl Ended {
-    /// The line that tells it.
+    /// Its word in the printed line.
     pub fn word(self) -> &'static [u8] {
         match self {
             Ended::Early => b"early\n",
@@ -30,12 +30,12 @@ impl Ended {
         }
     }
 
-    /// An answer where it is right.
+    /// An answer if it is right, else `Wrong`.
     pub fn answer_if(right: bool) -> Ended {
         if right { Ended::Answer } else { Ended::Wrong }
     }
 
-    /// Want of memory where it is told rightly.
+    /// An allocation failure if it is reported rightly, else `Wrong`.
     pub fn want_if(right: bool) -> Ended {
         if right { Ended::Want } else { Ended::Wrong }
     }

@@ -14,7 +14,7 @@ use poke_batch::accept::accept;
 use poke_batch::{Ask, Mode, print};
 use std::alloc::Global;
 
-/// A writer that asks for no memory.
+/// A writer that allocates nothing.
 pub type Written = ArrayVec<u8, 1200>;
 
 /// The types of a pickle, and its type T.
@@ -35,7 +35,7 @@ pub fn space_of(alloc: Global, bytes: &[u8]) -> Result<MemSpace, Ended> {
     MemSpace::new(owned).map_err(|_| Ended::Wrong)
 }
 
-/// What is asked of a sample.
+/// What the mapping of a sample is given.
 pub fn ask_for_t() -> Ask<'static> {
     Ask {
         name: b"T",
@@ -62,7 +62,7 @@ pub fn map_type(
     map(table, id, Order::Big, 0, space, &mut meter, store)
 }
 
-/// Whether a store's value has a text.
+/// Whether a store's value is printed as `text`.
 pub fn has_text(table: &Table, store: &Store, text: &[u8]) -> bool {
     let mut out = Written::new();
     match store.root(table) {
@@ -71,7 +71,7 @@ pub fn has_text(table: &Table, store: &Store, text: &[u8]) -> bool {
     }
 }
 
-/// Whether a sample is mapped in a store, and its value has its text.
+/// Whether a sample is mapped in a store, and its value is printed as its text.
 pub fn is_mapped(
     table: &Table,
     id: TypeId,

@@ -1,8 +1,8 @@
-//! Runs one public call of the libraries after so many requests for memory, and tells how it ended.
+//! Runs one public call of the libraries after so many requests for memory, and prints how it ended.
 //!
-//! It is meant for `.ci/memory`, where one request of each run is refused. Standard input has the name of a call and the
-//! number of requests to make first, each given back at once, so that one build serves each place of the refused one.
-//! Without any input each call runs once, with memory.
+//! `.ci/memory` runs it, and has one request of each run refused. Standard input has the name of a call and the number
+//! of requests to make before it. The memory of these requests is freed at once. One build therefore serves for each
+//! place of the refused request. Without input each call runs once, with memory.
 #![tactic(auto)]
 
 mod calls;
@@ -61,8 +61,8 @@ fn tell(rt: &HostRuntime, name: &[u8], requests: u32) -> ExitCode {
     }
 }
 
-// The request after the call tells whether the refused one is spent: where it comes just there, the call and what was
-// prepared for it made exactly the requests before it.
+// Makes one request after the call, to see whether the refused request is still to come. If it is this one, the call
+// and its preparation made exactly the requests before it.
 fn run_after(rt: &HostRuntime, name: &[u8], requests: u32) -> Ended {
     for _ in 0..requests {
         if is_refused(rt.alloc()) {
@@ -77,7 +77,7 @@ fn run_after(rt: &HostRuntime, name: &[u8], requests: u32) -> Ended {
     }
 }
 
-// Makes one request for memory, and gives it back.
+// Makes one request for memory, and frees it.
 fn is_refused(alloc: Global) -> bool {
     let mut bytes = Vec::new(alloc);
     bytes.push(0_u8).is_err()

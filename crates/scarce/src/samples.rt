@@ -1,6 +1,6 @@
 //! Pickles, bytes and texts to try the calls with.
 
-/// A pickle, the bytes that its type T is mapped over, and the text of the value.
+/// A pickle, the bytes over which its type T is mapped, and the printed value.
 #[derive(Clone, Copy)]
 pub struct Sample<'a> {
     pub pickle: &'a [u8],
@@ -18,14 +18,14 @@ pub const MIXED: Sample<'_> = Sample {
     text: b"T {us=[U {a=1UB},U {s=\"ab\"},U {a=1UB}],z=5UB}\n",
 };
 
-/// An array whose last element is tried and given up.
+/// An array whose last element is tried and rolled back.
 pub const ELEMENTS: Sample<'_> = Sample {
     pickle: b"type E = struct { byte v : v != 0; }; type T = struct { E[] es; byte z; };",
     bytes: b"\x05\x06\x00",
     text: b"T {es=[E {v=5UB},E {v=6UB}],z=0UB}\n",
 };
 
-/// Elements whose first alternative is given up.
+/// Elements whose first alternative is rolled back.
 pub const UNIONS: Sample<'_> = Sample {
     pickle: b"type U = union { ushort a : a == 1; byte b; }; type T = U[];",
     bytes: b"\x02\x03\x04",
@@ -39,5 +39,5 @@ pub const ARRAYS: Sample<'_> = Sample {
     text: b"T {a=[1UB,2UB,3UB,4UB,5UB,6UB,7UB,8UB,9UB],b=[9UB,8UB,7UB,6UB,5UB,4UB,3UB,2UB,1UB]}\n",
 };
 
-/// A text that is kept by an alternative that is given up, and then by the next.
+/// A text that is stored by an alternative that is rolled back, and then by the next alternative.
 pub const LONG_PICKLE: &[u8] = b"type T = union { string a : 0 != 0; string b; };";

@@ -1,4 +1,4 @@
-//! The calls that ask for no memory: what they need is made before them.
+//! The calls that allocate nothing: what they need is made before them.
 
 ghost use Rattle.pickle_types.specs.TypeTable.{IsInTable};
 
@@ -14,7 +14,7 @@ use std::alloc::Global;
 use std::fs::File;
 use std::rt::Files;
 
-/// Maps in a store with room for the slots of the mapping, and once more after it is cleared.
+/// Maps in a store with the capacity for the slots of the mapping, and once more after it is cleared.
 pub fn mapping_in_room(alloc: Global, sample: Sample<'_>, slots: usize) -> Result<Ended, Ended> {
     let (table, id) = types_of(alloc, sample.pickle)?;
     let mut space = space_of(alloc, sample.bytes)?;
@@ -25,7 +25,7 @@ pub fn mapping_in_room(alloc: Global, sample: Sample<'_>, slots: usize) -> Resul
     Ok(Ended::answer_if(first && second))
 }
 
-/// Whether a store that holds just so many slots is refused memory for the mapping, and left empty.
+/// Whether a mapping in a store of exactly so many slots ends with an allocation failure, and leaves the store empty.
 fn is_refused(
     alloc: Global,
     table: &Table,
@@ -43,7 +43,8 @@ fn is_refused(
     Ok(refused && store.root(table).is_none() && store.never_grows())
 }
 
-/// Maps in a store that holds just the slots of the mapping and never asks for more. One of a slot less tells of want of memory.
+/// Maps in a store of exactly the slots of the mapping, which never grows. With one slot less it returns an allocation
+/// failure.
 pub fn mapping_within(alloc: Global, sample: Sample<'_>, slots: usize) -> Result<Ended, Ended> {
     let (table, id) = types_of(alloc, sample.pickle)?;
     let mut space = space_of(alloc, sample.bytes)?;
@@ -53,7 +54,7 @@ pub fn mapping_within(alloc: Global, sample: Sample<'_>, slots: usize) -> Result
     Ok(Ended::answer_if(refused && mapped && store.never_grows()))
 }
 
-/// A thousand letters are kept by an alternative that is given up, and then by the next, in the room of one.
+/// Two alternatives store a thousand letters each in the capacity of one: the first is rolled back.
 pub fn mapping_letters_in_room(alloc: Global) -> Result<Ended, Ended> {
     let mut bytes = [b'a'; 1001];
     bytes[1000] = 0;
@@ -68,7 +69,7 @@ pub fn mapping_letters_in_room(alloc: Global) -> Result<Ended, Ended> {
     mapping_in_room(alloc, letters, 1005)
 }
 
-/// Maps again in a store that mapped the same without any room at first, and was cleared.
+/// Maps again in a store that mapped the same value from no capacity, and was cleared.
 pub fn mapping_again(alloc: Global, sample: Sample<'_>) -> Result<Ended, Ended> {
     let (table, id) = types_of(alloc, sample.pickle)?;
     let mut space = space_of(alloc, sample.bytes)?;
@@ -114,7 +115,7 @@ pub fn telling_lengths<R: Files<File = File> + AllocGlobal>(rt: &R) -> Result<En
     Ok(Ended::answer_if(file.len() > 0 && paged.len() == 2))
 }
 
-/// The places of tokens, and a word of an offset.
+/// The places of tokens, and an offset as an argument.
 pub fn telling_tokens(alloc: Global) -> Ended {
     let Ok(tokens) = lex(alloc, b"type A = byte;") else {
         return Ended::Early;
@@ -124,7 +125,7 @@ pub fn telling_tokens(alloc: Global) -> Ended {
     Ended::answer_if(tokens.len() == 5 && places && offset)
 }
 
-/// The names and bounds of a table, and the types that it lends.
+/// The names and bounds of a table, and the types that are borrowed from it.
 pub fn asking_tables(alloc: Global) -> Result<Ended, Ended> {
     let (table, id) = types_of(alloc, ELEMENTS.pickle)?;
     let bounds = table.step_bound(id, 24) == Some(33) && table.slot_bound(id, 24) == Some(21);
@@ -133,7 +134,7 @@ pub fn asking_tables(alloc: Global) -> Result<Ended, Ended> {
     Ok(Ended::answer_if(bounds && found && !table.nodes().is_empty()))
 }
 
-// Whether each reader gives what the root of the elements has.
+// Whether each reading call returns what the root of the elements has.
 fn reads_root(table: &Table, store: &Store) -> bool {
     let Some(root) = store.root(table) else {
         return false;
@@ -153,7 +154,7 @@ fn starts_empty(alloc: Global, table: &Table) -> bool {
     Store::new(alloc).root(table).is_none()
 }
 
-/// A store, and what its value is read by.
+/// A store, and the calls that read its value.
 pub fn reading_values(alloc: Global) -> Result<Ended, Ended> {
     let (table, id) = types_of(alloc, ELEMENTS.pickle)?;
     let mut space = space_of(alloc, ELEMENTS.bytes)?;

@@ -1,4 +1,4 @@
-//! The calls that ask for memory. Each gives its answer or tells of want of memory, and does nothing else.
+//! The calls that allocate. Each returns its answer or an allocation failure, and does nothing else.
 
 use crate::ended::Ended;
 use crate::given::{Written, ask_for_t, has_text, is_mapped, map_type, space_of, types_of};
@@ -50,7 +50,7 @@ pub fn building(alloc: Global, sample: Sample<'_>) -> Ended {
     }
 }
 
-/// Makes a store with room.
+/// Makes a store with reserved capacity.
 pub fn taking_room(alloc: Global) -> Ended {
     match Store::with_room(alloc, 105) {
         Ok(_store) => Ended::Answer,
@@ -58,7 +58,7 @@ pub fn taking_room(alloc: Global) -> Ended {
     }
 }
 
-/// Maps in a store without room. After want of memory the same store, as it is, maps the same bytes.
+/// Maps in a store without capacity. After an allocation failure the same store, unchanged, maps the same bytes.
 pub fn mapping(alloc: Global, sample: Sample<'_>) -> Result<Ended, Ended> {
     let (table, id) = types_of(alloc, sample.pickle)?;
     let mut space = space_of(alloc, sample.bytes)?;
@@ -83,7 +83,7 @@ pub fn paging(alloc: Global) -> Result<Ended, Ended> {
     }
 }
 
-/// Reads across pages, each several times. A page that has no memory gives the same bytes, so this never wants any.
+/// Reads across pages, each several times. A page without memory returns the same bytes, so no failure is returned.
 pub fn reading_pages(alloc: Global) -> Result<Ended, Ended> {
     let mut bytes = [0_u8; 12_300];
     for (place, byte) in bytes.iter_mut().enumerate() {
@@ -101,7 +101,7 @@ pub fn reading_pages(alloc: Global) -> Result<Ended, Ended> {
     Ok(Ended::answer_if(same))
 }
 
-// A run's text and status, or the line of want of memory with its status.
+// A run's text and exit status, or the line of an allocation failure with its exit status.
 fn judge_run(status: Status, out: &Written, err: &Written, text: &[u8]) -> Ended {
     let (out, err) = (out.as_slice(), err.as_slice());
     match status {
@@ -147,7 +147,7 @@ pub fn reading_pickle(alloc: Global) -> Ended {
     }
 }
 
-/// Reads the words of a command.
+/// Reads the arguments of a command.
 pub fn reading_words(alloc: Global) -> Result<Ended, Ended> {
     let job = Job::Map {
         at: 4,

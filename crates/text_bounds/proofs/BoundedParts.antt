@@ -1,4 +1,4 @@
--- The bounds on texts of parts.
+-- The bounds on printed parts.
 use Rattle.std.proofs.Common.{◌+◌, ◌≤◌, [], length, codes, arith, length-append}
 use Rattle.pickle_meaning.specs.Values.{Value}
 use Rattle.text_forms.specs.declared.mode.Mode.{Mode}

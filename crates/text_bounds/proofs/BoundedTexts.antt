@@ -1,4 +1,4 @@
--- The bounds on texts.
+-- The bounds on printed values.
 use Rattle.std.proofs.Common.{ℕ, ◌*◌, ◌≤◌, List, Option, None, length, Ok, refl, ap, inl, inr, arith, length-append}
 use Rattle.bit_space.specs.SpaceView.{SpaceView}
 use Rattle.mapping_plans.proofs.OnBits.{outcomes_fit}

@@ -1,4 +1,4 @@
--- A greater number has no shorter text.
+-- A greater number has as many digits or more.
 use Rattle.std.proofs.Common.{◌≡◌, ℕ, zero, suc, ◌+◌, ◌-◌, ◌/◌, ◌%◌, ◌^◌, ◌<◌, ◌≤◌, Bool, true, false, List, [], ◌∷◌, ◌++◌, Option, Some, None, length, ℤ, pos, negsuc, decimal, codes, refl, ap, arith, length-append}
 use Rattle.std.specs.Prelude.{if◌then◌else◌, nat_le, nat_eq, ◌-ℤ◌}
 use Rattle.std.specs.Fmt.{signed_decimal, digits, digits_onto, digit_glyph}

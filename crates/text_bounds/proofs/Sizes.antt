@@ -1,4 +1,4 @@
--- The sizes of values: a text that is as long as they say, in each mode.
+-- The sizes of values: the printed value has as many bytes as its size says, in each mode.
 use Rattle.std.proofs.Common.{◌≡◌, ℕ, zero, suc, ◌+◌, ◌-◌, ◌*◌, ◌<◌, ◌≤◌, max, Bool, true, false, List, [], ◌∷◌, ◌++◌, Some, None, length, codes, decimal, replicate, refl, arith, length-append}
 use Rattle.std.proofs.Math.Nat.{add-mul, mul-add, mul-le-mul_left}
 use Rattle.std.specs.Fmt.{signed_decimal}
@@ -15,7 +15,7 @@ use Rattle.poke_batch.specs.PathText.{field_step, step_text, path_text}
 use Rattle.poke_batch.specs.LinesText.{bits_cell, place_cells, text_cell, leaf_line, any_present, is_parted, leaves_text, branches_text, part_lines}
 use Rattle.text_bounds.specs.TextRoom.{Size, array_room, titled_room, line_room, element_before, element_moves, field_before, field_moves, with_parts, moved, no_size, both}
 
--- what the text of a value on one line has beside its members
+-- what a printed value on one line has beside its members
 abbrev pub flat_own : Label → ℕ
 flat_own (IntegerLabel number type) = length (integer_text type number)
 flat_own (OffsetLabel magnitude type unit) = length (offset_text type unit magnitude)
@@ -24,7 +24,7 @@ flat_own ArrayLabel = array_room Flat 0
 flat_own (StructLabel name fields) = titled_room Flat (codes "struct") name
 flat_own (UnionLabel name index alternative) = titled_room Flat (codes "union") name
 
--- what the text of a value has beside its members
+-- what a printed value has beside its members
 abbrev pub own_room : Mode → Label → (count : ℕ) → ℕ
 own_room Flat label count = flat_own label
 own_room Lines label count = flat_own label
@@ -134,7 +134,7 @@ tree_moves ArrayLabel place lines = refl
 tree_moves (StructLabel name fields) place lines = refl
 tree_moves (UnionLabel name index alternative) place lines = refl
 
--- a level more moves each line by two more blanks
+-- one more level puts two more blanks before each line
 level_more : (level lines : ℕ) → 2 * (level + 1) * lines ≡ 2 * level * lines + 2 * lines
 level_more level lines = let same : 2 * (level + 1) ≡ 2 * level + 2 = omega arith in rw same (add-mul (2 * level) 2 lines)
 
@@ -174,7 +174,7 @@ mutual
 
 -- ---- in JSON
 
--- what stands before a member is short, its comma included
+-- what is before a member is short, its comma included
 abbrev IsShortBefore : (before : (place : ℕ) → List ℕ) → Label → Type 0
 IsShortBefore before label = (place : ℕ) → 1 + length (before place) ≤ member_before Json label place
 

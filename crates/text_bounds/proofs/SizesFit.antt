@@ -111,7 +111,7 @@ json_string_short : (bytes : List ℕ) → length (json_string bytes) ≤ 2 + 6 
 unfolding json_string
 json_string_short bytes = omega (arith, spelled_short json_escape 6 (omega arith) json_escape_short bytes, length-append (spelled json_escape bytes) (codes "\""))
 
--- a string's bytes, and the 0 behind them, end in the file
+-- a string's bytes, and the 0 after them, end in the file
 few_bytes : (m s n : ℕ) → s + 8 * (n + 1) ≤ m → n ≤ m / 8 - 1
 few_bytes m s n le = omega (arith, le)
 
@@ -133,7 +133,7 @@ top_pushed : (levels : Levels) (v : Option Value) → top_of (pushed levels v) �
 top_pushed [] v = refl
 top_pushed (top ∷ outer) v = refl
 
--- what a level has gathered beyond what it had
+-- what a frame has gathered beyond what it had
 pub record Gains (before after : Levels) (P : List (Option Value) → Type 0) : Type 0 where
   pub more : List (Option Value)
   pub is : top_of after ≡ top_of before ++ more
@@ -194,7 +194,7 @@ own_union Tree name index alternative count = refl
 own_union Json name index alternative count = refl
 own_union Lines name index alternative count = refl
 
--- what a level has gained is all that it has, where it was opened
+-- a frame begins empty: what it has gained since then is all that it has
 struct_within : (mode : Mode) (m widest : ℕ) (name : Naming) (names : List Naming) (s end : ℕ) (levels inside : Levels) {size : Size} → s ≤ m → end - s ≤ widest
     → Gains (opened levels) inside (λ more. Within (members_in mode (StructLabel name names) 0 (gathered more)) size)
     → Within (size_in mode (struct_value name names s end inside)) (with_parts mode (titled_room mode (codes "struct") name + line_room mode m widest) size)
@@ -238,7 +238,7 @@ array_more Tree i count le = brackets_longer i count le
 array_more Json i count le = omega arith
 array_more Lines i count le = omega arith
 
--- elements from a number on: how many there are, the bits that they take at least, and their size
+-- elements from a number on: how many there are, the least bits that they take, and their size
 record AreElements (mode : Mode) (m width count i place end : ℕ) (element : Size) (more : List (Option Value)) : Type 0 where
   n : ℕ
   counted : member_count (gathered more) ≡ n
@@ -284,7 +284,7 @@ scalar_within : (mode : Mode) (m widest own : ℕ) (label : Label) (start end : 
     → Within (size_in mode (Mapped label start end NoMembers)) (with_parts mode (own + line_room mode m widest) no_size)
 scalar_within mode m widest own label start end h le wide = parts_within mode _ _ (omega (arith, h, line_within mode start (end - start) m widest le wide)) same_within
 
--- a union with the alternative that it took
+-- a union with the alternative that matched
 union_within : (mode : Mode) (m : ℕ) (title : Naming) (s : ℕ) (t : Taken) {size : Size} → s ≤ m → end_of t.value ≤ m
     → Within (moved (field_before mode t.name 0) (field_moves mode t.name 0) (size_in mode t.value)) size
     → Within (size_in mode (union_value title s t)) (with_parts mode (titled_room mode (codes "union") title + line_room mode m m) size)

@@ -86,7 +86,7 @@ known_more mode nodes roots known m root b h is bounds = record { each = λ k r 
         let is_root : r ≡ root = let x = rw same at at_root in cc (x, is) in
         rw (is_b, is_root) bounds
 
--- the least width of a part and of those behind it, if there are any
+-- the least width of a part and of those after it, if there are any
 pub least_with_rest : (name : Option (List ℕ)) (order : Option ByteOrder) (c : Option Term) (m : ℕ) (type : PokeType) (parts : Parts) (is_empty : Bool) (own rest result : Option ℕ)
     → is_empty ≡ is_none parts → HoldsWidth own (least_width type) → HoldsWidth rest (least_of_widths parts)
     → ((w : ℕ) → HoldsWidth own w → IsTrue is_empty → HoldsWidth result w) → ((w v : ℕ) → HoldsWidth own w → HoldsWidth rest v → is_empty ≡ false → HoldsWidth result (min w v))

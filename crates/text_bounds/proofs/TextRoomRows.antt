@@ -1,4 +1,4 @@
--- Bounds on texts, worked out by hand, against the definition.
+-- Bounds on printed values, worked out by hand, against the definition.
 use Rattle.std.proofs.Common.{◌≡◌, ℕ, refl, false, true, codes, Some, None}
 use Rattle.std.specs.Fmt.{digits}
 use Rattle.pickle_types.specs.Types.{PokeType, IntegerOf, OffsetOf, StringOf, ArrayOf, StructOf, UnionOf, Unbounded, FieldThen, NoFields, PartThen, NoParts}
@@ -62,7 +62,7 @@ a_tree : most_text Tree pair 40 ≡ 29
 unfolding most_text size_of integer_text digits
 a_tree = refl
 
--- the two lines of the struct are moved by two more
+-- `struct`, then the three lines of Pair with two more blanks each, the first with `p=`
 a_deeper_tree : most_text Tree (StructOf None false (FieldThen (Some (codes "p")) None pair None None None NoFields)) 40 ≡ 44
 unfolding most_text size_of integer_text digits
 a_deeper_tree = refl

@@ -12,7 +12,7 @@ pub record GrowsWithin (old new : Option (List ℕ)) (most : ℕ) : Type 0 where
   pub appends : Appends old new taken
   pub few : length taken ≤ most
 
--- nothing is written, or at most as many bytes as the text of the type that is asked for can have over so many bytes
+-- nothing is written, or at most as many bytes as a printed value of the requested type can have over so many bytes
 abbrev pub OutputIsBounded : (pickle : List ℕ) → Ask → (len : ℕ) → (out out' : Option (List ℕ)) → Type 0
 OutputIsBounded pickle ask len out out' =
     Keeps out out' ⊎ ((type : PokeType) × IsAsked pickle ask.name.now type × GrowsWithin out out' (most_text ask.mode type (8 * len)))

@@ -1,4 +1,4 @@
--- What the sizes of texts hold, as they are computed.
+-- What the computed sizes of texts mean.
 use Rattle.std.specs.Prelude.{◌≡◌, ℕ, ◌+◌, Bool, List, Option, Some, slice_get}
 use Rattle.pickle_types.specs.declared.node.Field.{Field}
 use Rattle.pickle_types.specs.declared.node.Node.{Node}
@@ -35,7 +35,7 @@ pub record ArePartSizes (b : PartSizes) (mode : Mode) (place : ℕ) (parts : Par
   pub all : HoldsSize b.all (parts_size mode place parts m)
   pub greatest : HoldsSize b.greatest (greatest_size mode parts m)
 
--- the sizes of a field's own type and of the fields behind it give those of all of them
+-- the sizes of a field's own type and of the fields after it give those of all of them
 abbrev pub JoinsField : Mode → (place : ℕ) → Field → (own : NodeSize) → (rest all : FieldSizes) → Type 0
 JoinsField mode place field own rest all =
     (type : PokeType) (fields : Fields) (m : ℕ) → AreSizes own mode type m → AreFieldSizes rest mode (place + 1) fields m →

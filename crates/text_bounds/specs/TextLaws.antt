@@ -1,4 +1,4 @@
--- The laws of the bounds on texts.
+-- The laws of the bounds on printed values.
 use Rattle.std.specs.Prelude.{◌≡◌, ◌≤◌, ℕ, List, Option, Some, Ok, length}
 use Rattle.bit_space.specs.declared.order.Order.{Order}
 use Rattle.bit_space.specs.Bits.{bits_of}
@@ -20,7 +20,7 @@ use Rattle.poke_batch.specs.RunsUnder.{MapsUnder}
 use Rattle.text_bounds.specs.TextRoom.{most_text, most_text_in_any}
 use Rattle.run_parts.specs.Told.{Says}
 
--- a value that fits a type on m bits has a text of at most so many bytes
+-- a printed value that fits a type on m bits has at most so many bytes
 abbrev pub TextsAreBounded : Type 0
 TextsAreBounded = (mode : Mode) (m : ℕ) (ty : PokeType) (levels : Levels) (s : ℕ) (v : Value) → Fits m ty levels s v → length (printed mode v) ≤ most_text mode ty m
 
@@ -38,12 +38,12 @@ MeantTextsAreBounded = (mode : Mode) (bytes : List ℕ) (ty : PokeType) (order :
 abbrev pub AnyModeIsBounded : Type 0
 AnyModeIsBounded = (mode : Mode) (ty : PokeType) (m : ℕ) → most_text mode ty m ≤ most_text_in_any ty m
 
--- a mapping that says what it has to say writes no more than that
+-- a mapping that prints what it must print writes no more than that
 abbrev pub OutputsAreBounded : Type 0
 OutputsAreBounded = (pickle : List ℕ) (ask : Ask) (before after : SpaceView) (status : Status) (out out' err err' : Option (List ℕ))
     → Says (MapsAs pickle ask before after) status out out' err err' → OutputIsBounded pickle ask before.len out out'
 
--- nor does one under terms, where it may be a part that is written
+-- nor does one under terms, which may print a part
 abbrev pub OutputsUnderTermsAreBounded : Type 0
 OutputsUnderTermsAreBounded = (pickle : List ℕ) (ask : Ask) (terms : Terms) (before after : SpaceView) (status : Status) (out out' err err' : Option (List ℕ))
     → Says (MapsUnder pickle ask terms before after) status out out' err err' → OutputIsBounded pickle ask before.len out out'

@@ -1,4 +1,4 @@
--- A bound on the bytes of the text of a value, by its type and the bits of the file alone.
+-- A bound on the bytes of a printed value, from its type and the bits of the file alone.
 use Rattle.std.specs.Prelude.{ℕ, ◌+◌, ◌-◌, ◌*◌, ◌/◌, ◌^◌, max, length, List, ℤ, pos, negsuc, if◌then◌else◌, Option, None, Some, codes, decimal}
 use Rattle.std.specs.Fmt.{signed_decimal}
 use Rattle.pickle_types.specs.declared.integer.IntegerType.{IntegerType}
@@ -12,12 +12,12 @@ use Rattle.text_forms.specs.Brackets.{in_brackets}
 use Rattle.poke_batch.specs.JsonText.{json_offset, key_text}
 use Rattle.poke_batch.specs.PathText.{field_step}
 
--- a bound on the bytes of a text, and one on the lines in it that move where the text is that of a part
+-- a bound on the bytes of a text, and one on the lines in it that get longer if it is the text of a part
 pub record Size : Type 0 where
   pub text : ℕ
   pub lines : ℕ
 
--- the number of a type that has the longest text
+-- the number of a type that is the longest when printed
 abbrev pub longest_number : IntegerType → ℤ
 longest_number type = if type.signed then negsuc (2 ^ (type.width - 1) - 1) else pos (2 ^ type.width - 1)
 
@@ -33,7 +33,7 @@ offset_room Tree type unit = length (offset_text type unit (longest_number type)
 offset_room Lines type unit = length (offset_text type unit (longest_number type))
 offset_room Json type unit = length (json_offset (longest_number type) unit)
 
--- quotes, and the longest escape for each byte; the last byte is the 0, which isn't written
+-- quotes, and the longest escape for each byte; the last byte is the 0, which isn't printed
 abbrev pub string_room : Mode → (m : ℕ) → ℕ
 string_room Flat m = 2 + 4 * (m / 8 - 1)
 string_room Tree m = 2 + 4 * (m / 8 - 1)
@@ -54,14 +54,14 @@ titled_room Tree sort name = length (title_text sort name)
 titled_room Json sort name = 2
 titled_room Lines sort name = length (title_text sort name) + 3
 
--- what stands round the text of a value on a line of its own: in lines its start, at most m, and its size, at most `widest`
+-- what is around a printed value on a line; in the mode `lines` its start, at most m, and its size, at most `widest`
 abbrev pub line_room : Mode → (m widest : ℕ) → ℕ
 line_room Flat m widest = 0
 line_room Tree m widest = 1
 line_room Json m widest = 0
 line_room Lines m widest = 8 + (length (decimal m) + length (decimal widest))
 
--- what stands before an element, and before each line of it
+-- what is before an element, and before each line of it
 abbrev pub element_before : Mode → (place : ℕ) → ℕ
 element_before Flat place = 1
 element_before Tree place = length (in_brackets place) + 1
@@ -74,7 +74,7 @@ element_moves Tree place = 2
 element_moves Json place = 0
 element_moves Lines place = length (in_brackets place)
 
--- what stands before a field or an alternative, and before each line of it
+-- what is before a field or an alternative, and before each line of it
 abbrev pub field_before : Mode → Naming → (place : ℕ) → ℕ
 field_before Flat name place = 1 + length (name_text name)
 field_before Tree name place = length (name_text name)
@@ -87,7 +87,7 @@ field_moves Tree name place = 2
 field_moves Json name place = 0
 field_moves Lines name place = length (field_step name place)
 
--- what a value has of its own, and what its parts have; in lines it has the one or the other
+-- the sum of what a value has itself and what its parts have; in the mode `lines` the greater of the two
 abbrev pub joined : Mode → (own parts : ℕ) → ℕ
 joined Flat own parts = own + parts
 joined Tree own parts = own + parts
@@ -97,7 +97,7 @@ joined Lines own parts = max own parts
 abbrev pub with_parts : Mode → (own : ℕ) → Size → Size
 with_parts mode own parts = record { text = joined mode own parts.text; lines = joined mode 1 parts.lines }
 
--- a part, with what stands before it
+-- a part, with what is before it
 abbrev pub moved : (before moves : ℕ) → Size → Size
 moved before moves part = record { text = before + moves * part.lines + part.text; lines = part.lines }
 
@@ -119,7 +119,7 @@ array_size mode m count element =
     with_parts mode (array_room mode count + line_room mode m m) (repeated count (moved (element_before mode count) (element_moves mode count) element))
 
 unfoldable mutual
-  -- a bound on the text of a value of the type on m bits
+  -- a bound on a printed value of the type on m bits
   pub size_of : Mode → PokeType → (m : ℕ) → Size
   size_of mode (IntegerOf type) m = with_parts mode (integer_room mode type + line_room mode m type.width) no_size
   size_of mode (OffsetOf type unit) m = with_parts mode (offset_room mode type unit + line_room mode m type.width) no_size
@@ -146,22 +146,22 @@ unfoldable mutual
   greatest_size mode (PartThen name order type constraint rest) m =
       greater (moved (field_before mode name 0) (field_moves mode name 0) (size_of mode type m)) (greatest_size mode rest m)
 
--- the line feed behind a text of one line, and the dot that is the path of a value without parts
+-- the line feed after a text of one line, and the dot that is the path of a value without parts
 abbrev pub end_room : Mode → ℕ
 end_room Flat = 1
 end_room Tree = 0
 end_room Json = 1
 end_room Lines = 1
 
--- the most bytes of the text of a value of a type on m bits
+-- the most bytes of a printed value of a type on m bits
 unfoldable pub most_text : Mode → PokeType → (m : ℕ) → ℕ
 most_text mode type m = (size_of mode type m).text + end_room mode
 
--- the same in each mode
+-- the same, the most in any mode
 unfoldable pub most_text_in_any : PokeType → (m : ℕ) → ℕ
 most_text_in_any type m = max (most_text Flat type m) (max (most_text Tree type m) (max (most_text Json type m) (most_text Lines type m)))
 
--- in a mode, where one is named, or else in any
+-- in a mode if one is given, else the most in any mode
 abbrev pub most_text_for : Option Mode → PokeType → (m : ℕ) → ℕ
 most_text_for None type m = most_text_in_any type m
 most_text_for (Some mode) type m = most_text mode type m

@@ -1,4 +1,4 @@
--- What a run has to say of the bounds of a type, that of its texts included.
+-- What a run must print for the bounds of a type, the bound on printed values included.
 use Rattle.std.specs.Prelude.{◌≡◌, ℕ, List, Option, Some, None, codes}
 use Rattle.pickle_tree.specs.Tree.{DeclarationTree}
 use Rattle.pickle_types.specs.Types.{PokeType}
@@ -13,7 +13,7 @@ use Rattle.run_parts.specs.Lines.{refused_line}
 use Rattle.text_bounds.specs.TextRoom.{most_text_for}
 use Rattle.run_parts.specs.Told.{Saying, Text, Line}
 
--- what is to be said of the bounds of a type of a pickle, over so many bits and in a mode, where one is named
+-- what is printed for the bounds of a type of a pickle, over so many bits and in a mode, if one is given
 pub data TextBoundsAs (pickle name : List ℕ) (bits : ℕ) (mode : Option Mode) : Saying → Type 0 where
   text_bounds : {declarations : List DeclarationTree} {types : Names} {type : PokeType} (steps slots text : Option ℕ) → IsAccepted pickle declarations types → find_type name types ≡ Some type
       → IsBound steps (cost type bits) → IsBound slots (room type bits) → IsBound text (most_text_for mode type bits) → TextBoundsAs pickle name bits mode (Text (bound_text_and steps slots text))

@@ -1,4 +1,4 @@
-//! The most bytes of the text of a value, by its type and the bits of the file alone.
+//! The most bytes of a printed value, from its type and the bits of the file alone.
 ghost use Rattle.std.specs.Prelude.{IfOk};
 ghost use Rattle.pickle_types.specs.Bounds.{IsBound};
 ghost use Rattle.pickle_types.specs.TypeTable.{type_named, IsInTable};
@@ -11,8 +11,8 @@ use pickle_types::table::{Table, TypeId};
 use poke_batch::mode::Mode;
 use std::alloc::{AllocError, Global};
 
-/// The most bytes of the text of a value of a type over so many bits in a mode, the line feed at its end included;
-/// None from 2^128 on.
+/// The most bytes of a printed value of a type over a file of `bits` bits in a mode, the line feed at its end included.
+/// `None` for 2^128 or more; `Memory` if an allocation fails.
 #[tactic(auto, unfolding(crate::specs::TextRoom::most_text))]
 pub fn most_text(
     alloc: Global,
@@ -28,7 +28,7 @@ pub fn most_text(
     Ok(sum_of(known.size.text, Some(end_room(mode))))
 }
 
-/// The most bytes of the text of a value of a type over so many bits, whatever the mode; None from 2^128 on.
+/// The same, the most in any mode.
 #[tactic(auto, unfolding(crate::specs::TextRoom::most_text_in_any))]
 pub fn most_text_in_any(
     alloc: Global,
@@ -46,8 +46,7 @@ pub fn most_text_in_any(
     Ok(greater_of(flat, greater_of(tree, greater_of(json, lines))))
 }
 
-/// The most bytes of the text of a value of a type over so many bits in a mode, where one is named, or else whatever
-/// the mode; None from 2^128 on.
+/// The same in `mode` or, if that is `None`, the most in any mode.
 pub fn most_text_for(
     alloc: Global,
     table: &Table,

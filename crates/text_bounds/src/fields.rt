@@ -1,4 +1,4 @@
-//! The sizes of types, by those of the types that they are made of.
+//! The sizes of types, computed from the sizes of the types that they are made of.
 ghost use Rattle.std.specs.Prelude.{◌≡◌, ℕ, ◌+◌, ◌||◌};
 ghost use Rattle.pickle_types.specs.Sound.{IsWidth};
 ghost use Rattle.pickle_types.specs.Table.{name_of, optional_term};
@@ -19,39 +19,39 @@ use pickle_types::integer::IntegerType;
 use pickle_types::view::{Field, Name, Part};
 use poke_batch::mode::Mode;
 
-/// The least width of a type in bits, None from 2^64 on, and the size of its texts.
+/// The least width of a type in bits, `None` for 2^64 or more, and the size of its printed values.
 #[derive(Clone, Copy, Default)]
 pub struct NodeSize {
     /// The least width.
     pub least: Option<u64>,
-    /// The size of the texts.
+    /// The size of the printed values.
     pub size: TextSize,
 }
 
-/// What is known of some fields of a struct, the last ones. A width is in bits, and None from 2^64 on.
+/// What is known of the last fields of a struct. A width is in bits, and `None` for 2^64 or more.
 #[derive(Clone, Copy)]
 pub struct FieldSizes {
-    /// The least width where the fields follow one another.
+    /// The least width if the fields are one after another.
     pub sum: Option<u64>,
-    /// The least width where they may lie over one another.
+    /// The least width if the fields may overlap.
     pub greatest: Option<u64>,
     /// Whether one of the fields has a label.
     pub has_label: bool,
-    /// The size of the fields' texts.
+    /// The size of the printed fields.
     pub size: TextSize,
 }
 
-/// What is known of some alternatives of a union, or fields of an integral struct, the last ones. A width is in bits, and None
-/// from 2^64 on.
+/// What is known of the last alternatives of a union, or the last fields of an integral struct. A width is in bits, and
+/// `None` for 2^64 or more.
 #[derive(Clone, Copy)]
 pub struct PartSizes {
     /// Whether there are none.
     pub is_empty: bool,
-    /// The least width of one of them, 0 where there are none.
+    /// The least width of one of them, 0 if there are none.
     pub least: Option<u64>,
-    /// Where all are written.
+    /// The size if all of them are printed.
     pub all: TextSize,
-    /// Where one is written.
+    /// The size if one of them is printed.
     pub greatest: TextSize,
 }
 
@@ -81,7 +81,7 @@ pub fn no_parts() -> PartSizes
     }
 }
 
-/// The sizes of a field and of those behind it.
+/// The sizes of a field and of those after it.
 #[tactic(auto, unfolding(pickle_types::specs::Bounds::least_width, crate::specs::TextRoom::size_of))]
 pub fn field_and_rest(
     mode: Mode,
@@ -105,14 +105,14 @@ pub fn field_and_rest(
     }
 }
 
-/// Whether a field has a label, or one of those behind it.
+/// Whether a field, or one of those after it, has a label.
 fn is_labelled(field: &Field, rest: bool) -> bool
     ensures { result ≡ (is_some (optional_term field.now.label) || rest) }
 {
     field.label.is_some() || rest
 }
 
-/// The sizes of a part and of those behind it.
+/// The sizes of a part and of those after it.
 #[tactic(auto, unfolding(pickle_types::specs::Bounds::least_width, crate::specs::TextRoom::size_of))]
 pub fn part_and_rest(
     mode: Mode,
@@ -134,7 +134,7 @@ pub fn part_and_rest(
     }
 }
 
-/// A part with what stands before it.
+/// The size of a part with what is before it.
 fn placed(mode: Mode, place: usize, name: &Option<Name>, part: TextSize) -> TextSize
     ensures { (size : Size) → HoldsSize part size
         → HoldsSize result (moved (field_before mode (name_of name.now) place) (field_moves mode (name_of name.now) place) size) }
@@ -184,7 +184,7 @@ pub fn string_size(mode: Mode, bits: u64) -> NodeSize
     }
 }
 
-/// The sizes of an array, by those of an element. It has as many elements as the file's bits have room for.
+/// The sizes of an array, from those of an element. It has as many elements as fit into the file's bits.
 #[tactic(auto, unfolding(pickle_types::specs::Bounds::least_width, crate::specs::TextRoom::size_of))]
 pub fn array_size(mode: Mode, bits: u64, element: NodeSize) -> NodeSize
     ensures { (type : PokeType) (bound : Bound) → AreSizes element mode type bits → AreSizes result mode (ArrayOf type bound) bits }
@@ -211,7 +211,7 @@ fn least_of_fields(pinned: bool, fields: FieldSizes) -> Option<u64>
     }
 }
 
-/// The sizes of a struct, by those of its fields.
+/// The sizes of a struct, from those of its fields.
 #[tactic(auto, unfolding(pickle_types::specs::Bounds::least_width, crate::specs::TextRoom::size_of))]
 pub fn struct_size(
     mode: Mode,
@@ -230,7 +230,7 @@ pub fn struct_size(
     }
 }
 
-/// The sizes of an integral struct, by those of its fields.
+/// The sizes of an integral struct, from those of its fields.
 #[tactic(auto, unfolding(pickle_types::specs::Bounds::least_width, crate::specs::TextRoom::size_of))]
 pub fn integral_size(
     mode: Mode,
@@ -249,7 +249,7 @@ pub fn integral_size(
     }
 }
 
-/// The sizes of a union, by those of its alternatives.
+/// The sizes of a union, from those of its alternatives.
 #[tactic(auto, unfolding(pickle_types::specs::Bounds::least_width, crate::specs::TextRoom::size_of))]
 pub fn union_size(mode: Mode, bits: u64, name: &Option<Name>, alternatives: PartSizes) -> NodeSize
     ensures { (all : Parts) → ArePartSizes alternatives mode 0 all bits → AreSizes result mode (UnionOf (name_of name.now) all) bits }

@@ -1,18 +1,18 @@
-//! The laws of the bounds of texts. These functions do nothing: the contract of each is a law.
+//! The laws of the bounds of printed values. These functions do nothing: the contract of each is a law.
 
 ghost use Rattle.text_bounds.specs.TextLaws.{TextsAreBounded, PartTextsAreBounded, MeantTextsAreBounded, AnyModeIsBounded, OutputsAreBounded, OutputsUnderTermsAreBounded};
 
-/// A value that fits a type over so many bits has, in each mode, a text of at most as many bytes as the type's bound.
+/// A printed value that fits a type over so many bits has, in each mode, at most as many bytes as the type's bound.
 pub fn texts_are_bounded()
     ensures law { TextsAreBounded }
 {}
 
-/// Each part of such a value has a text of at most as many bytes too.
+/// So has each printed part of such a value.
 pub fn part_texts_are_bounded()
     ensures law { PartTextsAreBounded }
 {}
 
-/// A value that a type means on a file's bits has, in each mode, a text of at most as many bytes as the type's bound.
+/// A printed value that a type means on a file's bits has, in each mode, at most as many bytes as the type's bound.
 pub fn meant_texts_are_bounded()
     ensures law { MeantTextsAreBounded }
 {}
@@ -22,12 +22,12 @@ pub fn any_mode_is_bounded()
     ensures law { AnyModeIsBounded }
 {}
 
-/// What a run of a mapping says has on standard output at most as many bytes as the type's bound.
+/// A run of a mapping writes at most as many bytes to standard output as the type's bound.
 pub fn outputs_are_bounded()
     ensures law { OutputsAreBounded }
 {}
 
-/// What a run of a mapping under terms says, a part that is asked for included, has on standard output at most as many bytes too.
+/// So does a run of a mapping under terms, whether it prints the value or a requested part.
 pub fn outputs_under_terms_are_bounded()
     ensures law { OutputsUnderTermsAreBounded }
 {}

@@ -67,7 +67,7 @@ fn parts_sizes(
     all
 }
 
-/// The size of a node, from those that are known or anew.
+/// The size of a node. It is looked up if it is known, else computed.
 #[cycle(sizes)]
 fn node_size(
     mode: Mode,
@@ -91,7 +91,7 @@ fn node_size(
     shape_size(mode, nodes, roots, known, bits, at)
 }
 
-/// The size of a node, from those of the nodes that it names.
+/// The size of a node, computed from the sizes of the nodes that it uses.
 #[cycle(sizes)]
 fn shape_size(
     mode: Mode,
@@ -137,8 +137,8 @@ fn shape_size(
     }
 }
 
-/// The size of a node on so many bits. `roots` are the nodes of the declared types, in rising order: each is looked at once, and its size
-/// kept in memory that is taken for it.
+/// The size of a node on so many bits. `roots` are the nodes of the declared types, in rising order. The size of each
+/// root is computed once and stored in memory that is allocated for it.
 pub fn type_size(
     alloc: Global,
     mode: Mode,

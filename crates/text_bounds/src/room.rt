@@ -1,4 +1,4 @@
-//! How many bytes the pieces of a text take.
+//! How many bytes the pieces of a printed value take.
 ghost use Rattle.std.specs.Prelude.{◌≡◌, ℤ, ◌+◌, ◌*◌, ◌^◌, ◌<◌, ◌≤◌, length, decimal};
 ghost use Rattle.std.specs.Fmt.{signed_decimal};
 ghost use Rattle.pickle_types.specs.Sound.{IsWidth};
@@ -23,7 +23,7 @@ fn digits(number: u128) -> u128
     Buffer::new().format(number).len() as u128
 }
 
-/// The digits of the number of a type that has the most, and its minus.
+/// The most digits that a number of a type has, with its minus.
 fn longest_digits(ty: IntegerType) -> u128
     requires width { IsWidth ty }
     ensures count { result ≡ length (signed_decimal (longest_number ty)) }
@@ -45,7 +45,7 @@ fn suffix_room(suffix: Suffix) -> u128
     sign + letter
 }
 
-/// What tells the type of an integer beside its digits.
+/// The bytes that name the type of an integer, beside its digits.
 fn type_room(ty: IntegerType) -> u128
     ensures count { (number : ℤ) → length (typed_text (suffix_of ty) ty number) ≡ result + length (signed_decimal number) }
     ensures few { result ≤ 60 }
@@ -64,7 +64,7 @@ fn cast_room(ty: IntegerType) -> u128
     word + 3 + digits(u128::from(ty.width))
 }
 
-/// The longest text of an integer that tells its type.
+/// The longest printed integer with its type.
 #[tactic(auto, unfolding(value_text::specs::ValueText::integer_text))]
 fn typed_room(ty: IntegerType) -> u128
     requires width { IsWidth ty }
@@ -74,7 +74,7 @@ fn typed_room(ty: IntegerType) -> u128
     type_room(ty) + longest_digits(ty)
 }
 
-/// The longest text of an integer.
+/// The longest printed integer.
 pub fn integer_room(mode: Mode, ty: IntegerType) -> u128
     requires width { IsWidth ty }
     ensures count { result ≡ integer_room mode ty }
@@ -97,7 +97,7 @@ fn unit_room(unit: u32) -> u128
     }
 }
 
-/// The longest text of an offset, whose unit is in bits.
+/// The longest printed offset, whose unit is in bits.
 #[tactic(auto, unfolding(value_text::specs::ValueText::offset_text))]
 pub fn offset_room(mode: Mode, ty: IntegerType, unit: u32) -> u128
     requires width { IsWidth ty }
@@ -110,7 +110,7 @@ pub fn offset_room(mode: Mode, ty: IntegerType, unit: u32) -> u128
     }
 }
 
-/// The longest object of an offset.
+/// The longest JSON object of an offset.
 #[tactic(auto, using(crate::proofs::NumberLengths::json_offset_length))]
 fn json_offset_room(ty: IntegerType, unit: u32) -> u128
     requires width { IsWidth ty }
@@ -120,7 +120,7 @@ fn json_offset_room(ty: IntegerType, unit: u32) -> u128
     22 + longest_digits(ty) + digits(u128::from(unit))
 }
 
-/// Quotes, and the longest escape for each byte that so many bits have room for; the last byte is the 0, which isn't written.
+/// Quotes, and the longest escape for each byte that fits into so many bits. The last byte is 0, which isn't printed.
 pub fn string_room(mode: Mode, bits: u64) -> u128
     ensures count { result ≡ string_room mode bits }
     ensures few { result < 2 ^ 65 }
@@ -172,7 +172,8 @@ pub fn titled_room(mode: Mode, sort: &[u8], name: &Option<Name>) -> u128
     }
 }
 
-/// What stands round the text of a value on a line of its own: in lines its start, at most `bits`, and its size, at most `widest`.
+/// What is around a printed value on a line. In the mode `lines` that is its start, at most `bits`, and its size, at
+/// most `widest`.
 pub fn line_room(mode: Mode, bits: u64, widest: u64) -> u128
     ensures count { result ≡ line_room mode bits widest }
     ensures few { result ≤ 88 }
@@ -184,7 +185,7 @@ pub fn line_room(mode: Mode, bits: u64, widest: u64) -> u128
     }
 }
 
-/// What stands before an element.
+/// What is before an element.
 pub fn element_before(mode: Mode, place: u128) -> u128
     ensures count { result ≡ element_before mode place }
 {
@@ -195,7 +196,7 @@ pub fn element_before(mode: Mode, place: u128) -> u128
     }
 }
 
-/// What stands before each line of an element.
+/// What is before each line of an element.
 pub fn element_moves(mode: Mode, place: u128) -> u128
     ensures count { result ≡ element_moves mode place }
 {
@@ -251,7 +252,7 @@ fn key_room(name: &Option<Name>, place: usize) -> u128
     }
 }
 
-/// What stands before a field or an alternative.
+/// What is before a field or an alternative.
 pub fn field_before(mode: Mode, name: &Option<Name>, place: usize) -> u128
     ensures count { result ≡ field_before mode (name_of name.now) place }
 {
@@ -273,7 +274,7 @@ fn step_room(name: &Option<Name>, place: usize) -> u128
     }
 }
 
-/// What stands before each line of a field or an alternative.
+/// What is before each line of a field or an alternative.
 pub fn field_moves(mode: Mode, name: &Option<Name>, place: usize) -> u128
     ensures count { result ≡ field_moves mode (name_of name.now) place }
 {
@@ -284,7 +285,7 @@ pub fn field_moves(mode: Mode, name: &Option<Name>, place: usize) -> u128
     }
 }
 
-/// The line feed behind a text of one line, and the dot that is the path of a value without parts.
+/// The line feed after a text of one line, and the dot that is the path of a value without parts.
 pub fn end_room(mode: Mode) -> u128
     ensures count { result ≡ end_room mode }
 {

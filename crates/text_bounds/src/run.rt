@@ -1,4 +1,4 @@
-//! The run that bounds the text of a value too.
+//! The run that also bounds the printed value.
 ghost use Rattle.std.specs.Prelude.{ℕ, List, IfOk};
 ghost use Rattle.pickle_types.specs.Bounds.{cost, room, IsBound};
 ghost use Rattle.text_bounds.specs.TextRoom.{most_text_for};
@@ -17,8 +17,8 @@ use run_parts::tell::{answer, fail, refuse};
 use std::alloc::{AllocError, Global};
 use std::io::Write;
 
-/// Tells the most steps and slots that a mapping of a type of a pickle over so many bits takes, and the most bytes of its
-/// text in a mode, or whatever the mode where none is named.
+/// Writes the most steps and slots that a mapping of the type `name` takes over a file of `bits` bits, and the most
+/// bytes of its printed value in `mode` or, if that is `None`, in any mode.
 pub fn run_bound_text<O: Write, E: Write>(
     alloc: Global,
     pickle: &[u8],
@@ -41,7 +41,7 @@ pub fn run_bound_text<O: Write, E: Write>(
     }
 }
 
-/// The bounds of a type on so many bits; None for what is 2^128 or more.
+/// The bounds of a type on so many bits. A bound of 2^128 or more is `None`.
 #[derive(Clone, Copy)]
 struct AllBounds {
     steps: Option<u128>,
@@ -70,7 +70,7 @@ fn all_bounds(
     })
 }
 
-// Tells the bounds of a type of a table.
+// Writes the bounds of a type of a table.
 fn bound_found<O: Write, E: Write>(
     alloc: Global,
     table: &Table,

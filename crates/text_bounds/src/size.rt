@@ -1,4 +1,4 @@
-//! Sizes of texts, in checked numbers.
+//! Sizes of texts, with checked arithmetic.
 ghost use Rattle.std.specs.Prelude.{◌≡◌, ℕ, ◌+◌, ◌*◌, max};
 ghost use Rattle.pickle_types.specs.Bounds.{IsBound};
 ghost use Rattle.text_bounds.specs.TextHeld.{HoldsSize};
@@ -7,16 +7,17 @@ ghost use Rattle.text_bounds.specs.TextRoom.{Size, joined, with_parts, moved, no
 use pickle_types::bounds::{greater_of, sum_of};
 use poke_batch::mode::Mode;
 
-/// A bound on the bytes of a text, and one on the lines in it that move where it is that of a part; None from 2^128 on.
+/// A bound on the bytes of a text, and one on the lines in it that get longer if it is the text of a part. `None` for
+/// 2^128 or more.
 #[derive(Clone, Copy, Default)]
 pub struct TextSize {
     /// The bytes.
     pub text: Option<u128>,
-    /// The lines that move.
+    /// The lines that get longer.
     pub lines: Option<u128>,
 }
 
-/// So many times as much.
+/// A product.
 fn times(count: u128, each: Option<u128>) -> Option<u128>
     ensures { (n x : ℕ) → count ≡ n → IsBound each x → IsBound result (n * x) }
 {
@@ -29,7 +30,7 @@ fn times(count: u128, each: Option<u128>) -> Option<u128>
     }
 }
 
-/// What a value has of its own, and what its parts have, or in lines the one or the other.
+/// The sum of what a value has itself and what its parts have. In the mode `lines` it is the greater of the two.
 fn joined(mode: Mode, own: Option<u128>, parts: Option<u128>) -> Option<u128>
     ensures { (x y : ℕ) → IsBound own x → IsBound parts y → IsBound result (joined mode x y) }
 {
@@ -39,7 +40,7 @@ fn joined(mode: Mode, own: Option<u128>, parts: Option<u128>) -> Option<u128>
     }
 }
 
-/// The size of no text.
+/// The size of an empty text.
 pub fn no_size() -> TextSize
     ensures { HoldsSize result no_size }
 {
@@ -49,7 +50,7 @@ pub fn no_size() -> TextSize
     }
 }
 
-/// A value that has so many bytes beside its parts.
+/// The size of a value that has so many bytes beside its parts.
 pub fn with_parts(mode: Mode, own: u128, parts: TextSize) -> TextSize
     ensures { (room : ℕ) (size : Size) → own ≡ room → HoldsSize parts size → HoldsSize result (with_parts mode room size) }
 {
@@ -58,7 +59,7 @@ pub fn with_parts(mode: Mode, own: u128, parts: TextSize) -> TextSize
     TextSize { text, lines }
 }
 
-/// A part with so many bytes before it, and so many before each of its lines.
+/// The size of a part with `before` bytes before it, and `moves` bytes before each of its lines.
 pub fn moved(before: u128, moves: u128, part: TextSize) -> TextSize
     ensures { (x y : ℕ) (size : Size) → before ≡ x → moves ≡ y → HoldsSize part size → HoldsSize result (moved x y size) }
 {
@@ -69,7 +70,7 @@ pub fn moved(before: u128, moves: u128, part: TextSize) -> TextSize
     }
 }
 
-/// The size of two texts, one behind the other.
+/// The size of two texts, one after the other.
 pub fn both(a: TextSize, b: TextSize) -> TextSize
     ensures { (x y : Size) → HoldsSize a x → HoldsSize b y → HoldsSize result (both x y) }
 {
@@ -78,7 +79,7 @@ pub fn both(a: TextSize, b: TextSize) -> TextSize
     TextSize { text, lines }
 }
 
-/// A size that holds either of two texts.
+/// A size that is enough for either of two texts.
 pub fn greater(a: TextSize, b: TextSize) -> TextSize
     ensures { (x y : Size) → HoldsSize a x → HoldsSize b y → HoldsSize result (greater x y) }
 {

@@ -1,4 +1,4 @@
--- Laws of what a writer took of a text.
+-- Laws of what a writer accepted of a text.
 use Rattle.std.proofs.Common.{◌≡◌, ℕ, ◌+◌, ◌-◌, ◌<◌, ◌≤◌, List, ◌++◌, Option, take, drop, length, sym, ◌∙◌, ap, subst, arith, take-add}
 use Rattle.std.specs.Io.KnownBytes.{Appends, Keeps}
 use Rattle.std.proofs.KnownBytes.{Appends-trans, Appends-nil}

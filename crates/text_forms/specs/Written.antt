@@ -1,8 +1,8 @@
--- What a writer took of a text.
+-- What a writer accepted of a text.
 use Rattle.std.specs.Prelude.{◌≡◌, ◌<◌, ℕ, List, ◌++◌, length, Option}
 use Rattle.std.specs.Io.KnownBytes.{Appends}
 
--- known bytes grow by a part of a text, from its front, and not by all of it
+-- known bytes grow by the first bytes of a text, but not by all of them
 pub record AppendsPart (old new : Option (List ℕ)) (text : List ℕ) : Type 0 where
   pub taken : List ℕ
   pub rest : List ℕ

@@ -1,4 +1,4 @@
-//! What texts of values and words of a command line share: modes, hexadecimal digits, and the one loop over `write`.
+//! What printed values and arguments share: modes, hexadecimal digits, and the one loop over `write`.
 #![tactic(auto)]
 
 pub mod hex;

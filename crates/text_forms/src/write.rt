@@ -7,13 +7,13 @@ ghost use Rattle.text_forms.specs.Written.{AppendsPart};
 use std::io::Write;
 use thiserror::Error;
 
-/// The writer gave an error, or took no byte of a text that has some left. It displays the line that tells it.
+/// A failing writer: it returned an error, or accepted no byte of a text that had bytes left. It displays as its line.
 #[derive(Clone, Copy, Debug, Drop, PartialEq, Eq, Error)]
 #[error("fault {}", self.name())]
 pub struct WriteFault;
 
 impl WriteFault {
-    /// The name by which its line tells it.
+    /// The name that its line prints: `Write`.
     pub fn name(self) -> &'static str
         ensures { result.now ≡ codes "Write" }
     {
@@ -21,8 +21,8 @@ impl WriteFault {
     }
 }
 
-/// Writes the bytes of `text`, all of them or, with a fault, some first of them. What the writer took is never offered
-/// to it again. An error of the writer isn't tried again.
+/// Writes all bytes of `text`. With a fault, the writer accepted some of the first bytes, but not all. A byte that the
+/// writer accepted is never offered again, and an error isn't tried again.
 // Not inlined: a caller would clear the large result of a write at each entry.
 #[inline(never)]
 pub fn put<W: Write>(w: &mut W, text: &[u8]) -> Result<(), WriteFault>

@@ -22,7 +22,7 @@ one_digit n h = ap length (decimal_digit n h)
 pub longest : (n : ℕ) → n < 2 ^ 64 → length (decimal n) ≤ 20
 longest n h = length-decimal-le 20 n (omega arith) (omega arith) h
 
--- digits that end at a place where there is just room for them
+-- digits that are laid out right after the first `at` bytes
 pub laid_out : (at from end : ℕ) (old new digits : List ℕ) → at + length digits ≡ end → from + length digits ≡ end → drop from new ≡ digits ++ drop end old → take from new ≡ take from old → take end new ≡ take at old ++ digits
 laid_out at from end old new digits e f written before =
     let same : from ≡ at = omega (arith, e, f) in

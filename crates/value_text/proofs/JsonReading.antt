@@ -1,4 +1,4 @@
--- A text reads as one JSON value only: a reader gives back each value that a text reads as.
+-- A text reads as one JSON value only: a reader returns each value that a text reads as.
 use Rattle.std.proofs.Common.{◌≡◌, ◌≢◌, ℕ, zero, suc, ℤ, pos, ◌+◌, ◌-◌, ◌*◌, ◌<◌, ◌≤◌, Bool, true, false, List, [], ◌∷◌, ◌++◌, length, drop, get_or, refl, sym, ◌∙◌, ap, arith, length-append}
 use Rattle.std.specs.Prelude.{◌==◌, ◌&&◌, ◌||◌, nat_le, nat_lt, if◌then◌else◌, codes}
 use Rattle.std.specs.Str.Parse.{digits_value}
@@ -81,7 +81,7 @@ abbrev after_power : List ℕ → List ℕ
 after_power [] = []
 after_power (byte ∷ rest) = if is_power byte then after_digits (after_sign rest) else byte ∷ rest
 
--- the parts of a number, behind one another
+-- the parts of a number, one after another
 abbrev number_of : (negative : Bool) (whole behind : List ℕ) (power : ℤ) → Json
 number_of negative whole behind power = JsonNumber (signed negative (digits_value 10 (whole ++ behind))) (length behind) power
 
@@ -92,7 +92,7 @@ whole_in negative text =
 abbrev number_in : List ℕ → Json × List ℕ
 number_in text = whole_in (is_first 45 text) (after_minus text)
 
--- what may stand behind a number
+-- what may be after a number
 record Ends (rest : List ℕ) : Type 0 where
   digits : EndsDigits rest
   fraction : (fraction_in rest ≡ []) × (after_fraction rest ≡ rest)
@@ -118,7 +118,7 @@ no_minus_is byte h = grind (arith, h)
 no_plus_is : (byte : ℕ) → IsDigit byte → (byte == 43) ≡ false
 no_plus_is byte h = grind (arith, h)
 
--- digits behind a sign
+-- digits after a sign
 power_digits : (rest : List ℕ) {sign : List ℕ} {negative : Bool} (digit : ℕ) (digits : List ℕ) → IsExponentSign sign negative → IsDigit digit → IsDigits digits → EndsDigits rest
     → (signed (is_first 45 ((sign ++ digit ∷ digits) ++ rest)) (digits_value 10 (digits_in (after_sign ((sign ++ digit ∷ digits) ++ rest)))) ≡ signed negative (digits_value 10 (digit ∷ digits)))
     × (after_digits (after_sign ((sign ++ digit ∷ digits) ++ rest)) ≡ rest)
@@ -174,7 +174,7 @@ hex_value byte = if nat_lt byte 58 then byte - 48 else if nat_lt byte 71 then by
 abbrev hex_at : List ℕ → ℕ → ℕ
 hex_at text place = hex_value (get_or text place 0)
 
--- what stands behind a backslash
+-- what is after a backslash
 abbrev escape_in : List ℕ → ℕ
 escape_in [] = 0
 escape_in (byte ∷ rest) = if byte == 117 then ((hex_at rest 0 * 16 + hex_at rest 1) * 16 + hex_at rest 2) * 16 + hex_at rest 3 else short_value byte
@@ -186,7 +186,7 @@ after_escape (byte ∷ rest) = if byte == 117 then drop 4 rest else rest
 abbrev with_character : ℕ → List ℕ × List ℕ → List ℕ × List ℕ
 with_character character read = (character ∷ read.0, read.1)
 
--- the characters up to a quote, and what is behind it
+-- the characters up to a quote, and what is after it
 abbrev characters_in : (fuel : ℕ) → List ℕ → List ℕ × List ℕ
 characters_in zero text = ([], text)
 characters_in (suc n) [] = ([], [])
@@ -250,7 +250,7 @@ as_object read = (JsonObject read.0, read.1)
 abbrev as_string : List ℕ × List ℕ → Json × List ℕ
 as_string read = (JsonString read.0, read.1)
 
--- an element and what is read behind it, without the bracket at the end
+-- an element and what is read after it, without the bracket at the end
 abbrev element_then : (more : List ℕ → Elements × List ℕ) → Json → (behind : List ℕ) → Elements × List ℕ
 element_then more value behind =
     let next = more (after_blanks (drop 1 behind)) in
@@ -261,7 +261,7 @@ entry_then more key value behind =
     let next = more (after_blanks (drop 1 behind)) in
     if is_first 44 behind then (EntryThen key value next.0, next.1) else (EntryThen key value NoEntries, drop 1 behind)
 
--- a key and what is behind its colon
+-- a key and what is after its colon
 abbrev key_in : List ℕ → List ℕ × List ℕ
 key_in text = characters_in (length text) (drop 1 text)
 
@@ -324,7 +324,7 @@ value_first rest (json.list h) = (refl, refl)
 value_first rest (json.empty_object h) = (refl, refl)
 value_first rest (json.object h) = (refl, refl)
 
--- a number is read where no other value begins
+-- a number is read if no other value begins
 digit_value : (n digit : ℕ) (rest : List ℕ) → IsDigit digit → value_in (suc n) (digit ∷ rest) ≡ number_in (digit ∷ rest)
 digit_value n digit rest h =
     let a : (digit == 34) ≡ false = grind (arith, h) in

@@ -1,4 +1,4 @@
--- Values and their texts in JSON, worked out by hand, against the definition.
+-- Values and their printed forms in JSON, worked out by hand, against the definition.
 use Rattle.std.proofs.Common.{◌≡◌, ℕ, pos, negsuc, refl, false, true, codes, [], ◌∷◌, Some, None}
 use Rattle.std.specs.Fmt.{digits}
 use Rattle.pickle_meaning.specs.Values.{Value, Mapped, Label, IntegerLabel, OffsetLabel, TextLabel, ArrayLabel, StructLabel, UnionLabel, NoMembers, MemberThen, AbsentThen}
@@ -23,7 +23,7 @@ an_offset : json_line (leaf (OffsetLabel (negsuc 1) (record { width = 16; signed
 unfolding digits json_offset
 an_offset = refl
 
--- the short forms, and the ends of what stands for itself
+-- the short forms, and the first and last bytes that are printed as themselves
 a_string : json_line (leaf (TextLabel (8 ∷ 9 ∷ 10 ∷ 12 ∷ 13 ∷ 34 ∷ 92 ∷ 31 ∷ 32 ∷ 126 ∷ 127 ∷ 255 ∷ [])))
     ≡ codes "\"\\u0008\\t\\n\\u000c\\u000d\\\"\\\\\\u001f ~\\u007f\\u00ff\"\n"
 unfolding json_string

@@ -1,4 +1,4 @@
--- Laws of the texts of values in JSON.
+-- Laws of printed values in JSON.
 use Rattle.std.proofs.Common.{◌≡◌, ℕ, add-one, ◌+◌, ◌<◌, ◌≤◌, List, [], ◌++◌, length, take, Some, None, Bool, false, codes, refl, sym, ◌∙◌, ap, subst, arith}
 use Rattle.std.specs.Fmt.{signed_decimal}
 use Rattle.std.specs.List.{prefix_len}

@@ -1,4 +1,4 @@
--- The texts of values in JSON read back to the values.
+-- Values printed in JSON read back as the values.
 use Rattle.std.proofs.Common.{ℕ, zero, ℤ, pos, suc, ◌+◌, ◌^◌, ◌<◌, ◌≤◌, true, false, List, [], ◌∷◌, ◌++◌, Some, None, codes, decimal, sym, ap, subst, arith, get_or}
 use Rattle.std.specs.Prelude.{unsigned_abs}
 use Rattle.std.specs.Fmt.{signed_decimal}
@@ -26,7 +26,7 @@ data MoreEntries : List ℕ → Entries → Type 0 where
   no_entry : MoreEntries [] NoEntries
   more_entries : {text : List ℕ} {entries : Entries} → ReadsEntries text entries → MoreEntries (codes "," ++ text) entries
 
--- what stands in brackets
+-- what is in brackets
 data InList : List ℕ → Elements → Type 0 where
   without_elements : InList [] NoElements
   with_elements : {text : List ℕ} {elements : Elements} → ReadsElements text elements → InList text elements
@@ -63,7 +63,7 @@ name_is [] place h = tt
 name_is (name ∷ names) zero h = h.0
 name_is (name ∷ names) (suc place) h = name_is names place h.1
 
--- the names of members are of bytes
+-- the names of members have bytes below 256
 abbrev HasKeys : Label → Type 0
 HasKeys label = (place : ℕ) → IsNameOfBytes (member_name label place)
 

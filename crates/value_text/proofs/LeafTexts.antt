@@ -15,7 +15,7 @@ leaves_parted steps (Mapped label start end all) h = rw h refl
 pub leaves_alone : (steps : List ℕ) (value : Value) → is_parted (label_of value) (members_of value) ≡ false → leaves_text steps value ≡ leaf_line steps value
 leaves_alone steps (Mapped label start end all) h = rw h refl
 
--- whether there is a member from a place on, by what is told of the one there
+-- whether there is a member from a place on, by what is known of the one there
 pub present_by : (all : Members) (i : ℕ) (told : Option ValueRef) → i < member_count all → option_map value_shown told ≡ member_at all i → is_some told ≡ true
     → any_present (members_from i all) ≡ true
 present_by all i None lt is there = cc

@@ -52,7 +52,7 @@ head_of_union label count e = head_at kind.Union label count e
 
 pub ruleset by_kind = (head_of_integer, head_of_offset, head_of_string, head_of_array, head_of_struct, head_of_union)
 
--- what stands before a part, by the kind of the value that has it
+-- what is before a part, by the kind of the value that has it
 pub prefix_of_element : (label : Label) (place : ℕ) → kind.Array ≡ kind_of label → prefix_text label place ≡ in_brackets place ++ codes "="
 prefix_of_element (IntegerLabel number type) place e = cc
 prefix_of_element (OffsetLabel magnitude type unit) place e = cc
@@ -71,7 +71,7 @@ prefix_of_field (UnionLabel name index alternative) place e = refl
 
 pub ruleset by_prefix = (prefix_of_element, prefix_of_field)
 
--- the lines of a value, from what stands before its head
+-- the lines of a value, from what is before its head
 lines_rest : (level : ℕ) (prefix : List ℕ) (value : Value) → lines_text level prefix value ≡ (indent_text level ++ prefix) ++ rest_text level value
 lines_rest level prefix (Mapped label start end all) = simp append_assoc
 

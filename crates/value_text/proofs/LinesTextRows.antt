@@ -33,7 +33,7 @@ elements : part_lines (Mapped ArrayLabel 0 16
 unfolding integer_text digits
 elements = refl
 
--- a nameless field behind an absent one, and a union in an array
+-- a nameless field after an absent one, and a union in an array
 places : part_lines (Mapped (StructLabel (Some (codes "T")) (Some (codes "f") ∷ None ∷ Some (codes "us") ∷ [])) 0 16
     (AbsentThen (MemberThen (byte_at 0 1) (MemberThen (Mapped ArrayLabel 8 16
     (MemberThen (Mapped (UnionLabel (Some (codes "U")) 1 (Some (codes "b"))) 8 16 (MemberThen (byte_at 8 2) NoMembers)) NoMembers)) NoMembers))))

@@ -1,4 +1,4 @@
--- Laws of the texts of values with members.
+-- Laws of printed values with members.
 use Rattle.std.proofs.Common.{◌≡◌, ℕ, zero, suc, add-one, ◌+◌, ◌<◌, ◌≤◌, [], ◌++◌, Option, Some, None, Bool, false, codes, refl, sym, ◌∙◌, ap, arith}
 use Rattle.std.proofs.lemmas.List.{append_assoc}
 use Rattle.value_store.specs.declared.value.Kind.TheVariants as kind

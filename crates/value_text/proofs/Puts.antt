@@ -42,7 +42,7 @@ module _ {W : Type 0} {contents : W → Option (List ℕ)} where
         (stands_more b.failed start (contents b.writer.now) b.line (before ++ []) x (h.behind start before s)));
   }
 
-  -- what the line holds is written, and a text behind it
+  -- the line is written, and a text after it
   pub puts_written : {A E : Type 0} {a b : Printer W} (result : Result A E) {x : List ℕ} → a.failed ≡ false → b.failed ≡ is_err result → b.line ≡ [] → b.writer.ghost_name ≡ a.writer.ghost_name
       → OnOk result (Appends (contents a.writer.now) (contents b.writer.now) (a.line ++ x)) → OnErr result (AppendsPart (contents a.writer.now) (contents b.writer.now) (a.line ++ x)) → Puts contents a b x
   puts_written {A} {E} {a} {b} result {x} going failed line lent ok err = record {
@@ -50,7 +50,7 @@ module _ {W : Type 0} {contents : W → Option (List ℕ)} where
     behind = λ start before s. rw (failed, line) (stands_written result start (contents a.writer.now) (contents b.writer.now) a.line before x ok err (rw going at s));
   }
 
-  -- a printer that has failed takes no more
+  -- a printer that has failed writes no more
   pub puts_nothing : {a b : Printer W} {x : List ℕ} → a.failed ≡ true → b.failed ≡ true → b.writer ≡ a.writer → Puts contents a b x
   puts_nothing {a} {b} {x} was is w = record {
     lent = ap (λ r. r.ghost_name) w;
@@ -63,7 +63,7 @@ module _ {W : Type 0} {contents : W → Option (List ℕ)} where
     behind = λ start before s. subst (HasPut contents start c) (append_assoc before x y) (g.behind start (before ++ x) (h.behind start before s));
   }
 
--- a text is put but for a rest
+-- a text is put but for a remainder
 pub record Told {W : Type 0} (contents : W → Option (List ℕ)) (old new : Printer W) (rest text : List ℕ) : Type 0 where
   pub told : List ℕ
   pub puts : Puts contents old new told
@@ -80,7 +80,7 @@ module _ {W : Type 0} {contents : W → Option (List ℕ)} where
     whole = append_assoc h.told x left ∙ ap (λ s. h.told ++ s) (sym e) ∙ h.whole;
   }
 
-  -- the rest in other words
+  -- the same remainder
   pub told_same : {a b : Printer W} {rest left text : List ℕ} → rest ≡ left → Told contents a b rest text → Told contents a b left text
   told_same {a} {b} {rest} {left} {text} e h = subst (λ s. Told contents a b s text) e h
 
@@ -90,7 +90,7 @@ module _ {W : Type 0} {contents : W → Option (List ℕ)} where
   pub told_all : {a b : Printer W} {rest text : List ℕ} → rest ≡ [] → Told contents a b rest text → Puts contents a b text
   told_all {a} {b} {rest} {text} e h = subst (Puts contents a b) (sym (append-nil h.told) ∙ ap (λ s. h.told ++ s) (sym e) ∙ h.whole) h.puts
 
-  -- a printer that has failed takes no rest
+  -- a printer that has failed writes no remainder
   pub told_failed : {a b : Printer W} {rest text : List ℕ} → b.failed ≡ true → Told contents a b rest text → Puts contents a b text
   told_failed {a} {b} {rest} {text} is h = told_last h (puts_nothing is is refl)
 
@@ -98,7 +98,7 @@ module _ {W : Type 0} {contents : W → Option (List ℕ)} where
 begun : {W : Type 0} (contents : W → Option (List ℕ)) (a : Printer W) → a.failed ≡ false → a.line ≡ [] → HasPut contents (contents a.writer.now) a []
 begun contents a going line = rw (going, line) (record { taken = []; appends = Appends-nil (contents a.writer.now); whole = refl })
 
--- what was put in all, told of the writer once it is given back
+-- all that was put, about the writer when its borrow ends
 pub printed_all : {W A E : Type 0} (contents : W → Option (List ℕ)) (a b c : Printer W) (result : Result A E) (text : List ℕ) (back : W) → a.failed ≡ false → a.line ≡ []
     → Puts contents a b text → Ends contents b c result → c.writer.now ≡ back → OnOk result (Appends (contents a.writer.now) (contents back) text)
 printed_all contents a b c result text back going line h e given =

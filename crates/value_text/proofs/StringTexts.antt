@@ -17,7 +17,7 @@ bytes_append escape (x ∷ xs) ys = ap (λ s. spelled_byte escape x ++ s) (bytes
 pub bytes_split : (escape : ℕ → List ℕ) (n : ℕ) (bytes : List ℕ) → spelled escape bytes ≡ spelled escape (take n bytes) ++ spelled escape (drop n bytes)
 bytes_split escape n bytes = ap (spelled escape) (sym (take-append-drop n bytes)) ∙ bytes_append escape (take n bytes) (drop n bytes)
 
--- the plain bytes that come first stand for themselves
+-- the plain bytes that come first are printed as themselves
 pub plain_text : (escape : ℕ → List ℕ) (bytes : List ℕ) → spelled escape (take (prefix_len is_plain bytes) bytes) ≡ take (prefix_len is_plain bytes) bytes
 plain_text escape [] = refl
 plain_text escape (b ∷ bytes) = elim (cases_Bool (is_plain b)) [

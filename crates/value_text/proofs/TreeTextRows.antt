@@ -53,7 +53,7 @@ an_absent_field : printed Tree (Mapped (StructLabel (Some (codes "T")) (Some (co
 unfolding integer_text digits
 an_absent_field = refl
 
--- the second alternative was taken, of a union that has a name and of one that has none
+-- the second alternative matched, of a union with a name and of a nameless one
 unions : printed Tree (Mapped (StructLabel None (Some (codes "u") ∷ None ∷ [])) 0 16
     (MemberThen (Mapped (UnionLabel (Some (codes "U")) 1 (Some (codes "b"))) 0 8 (MemberThen (byte 2) NoMembers))
     (MemberThen (Mapped (UnionLabel None 1 None) 8 16 (MemberThen (byte 3) NoMembers)) NoMembers)))

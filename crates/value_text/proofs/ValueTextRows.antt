@@ -1,4 +1,4 @@
--- Values and their texts, worked out by hand, against the definition.
+-- Values and their printed forms, worked out by hand, against the definition.
 use Rattle.std.proofs.Common.{◌≡◌, ℕ, pos, negsuc, refl, true, false, codes, [], ◌∷◌, Some, None}
 use Rattle.std.specs.Fmt.{digits}
 use Rattle.pickle_types.specs.declared.integer.IntegerType.{IntegerType}

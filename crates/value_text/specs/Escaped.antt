@@ -1,4 +1,4 @@
--- Whose escapes the bytes of strings are written with.
+-- The escapes of strings, by language.
 use Rattle.std.specs.Prelude.{ℕ, List}
 use Rattle.value_text.specs.declared.print.escape.Escapes.{Escapes}
 use Rattle.value_text.specs.declared.print.escape.Escapes.TheVariants.{Poke, Json}

@@ -1,4 +1,5 @@
--- The grammar of JSON texts (RFC 8259) over ASCII, and the value that each reads as: other characters stand in strings, as escapes.
+-- The grammar of JSON texts (RFC 8259) over ASCII, and the value that each reads as. Other characters are in strings
+-- alone, as escapes.
 use Rattle.std.specs.Prelude.{◌≢◌, ◌≤◌, ◌<◌, ◌+◌, ◌*◌, ℕ, ℤ, pos, neg_ℤ, Bool, true, false, length, List, [], ◌∷◌, ◌++◌, codes}
 use Rattle.std.specs.Str.Parse.{digits_value}
 use Rattle.value_text.specs.JsonValue.{Json, JsonFalse, JsonTrue, JsonNull, JsonNumber, JsonString, JsonList, JsonObject, Elements, NoElements, ElementThen, Entries, NoEntries, EntryThen}
@@ -66,7 +67,7 @@ pub data IsHexDigit : ℕ → ℕ → Type 0 where
   upper_digit : {value : ℕ} → 10 ≤ value → value < 16 → IsHexDigit (55 + value) value
   lower_digit : {value : ℕ} → 10 ≤ value → value < 16 → IsHexDigit (87 + value) value
 
--- what stands behind a backslash (byte 92) for one character, and that character
+-- what is after a backslash (byte 92) for one character, and that character
 pub data IsShort : ℕ → ℕ → Type 0 where
   quote : IsShort 34 34
   backslash : IsShort 92 92

@@ -1,4 +1,4 @@
--- The text of a value in JSON, in the parts that are written one after the other.
+-- The printed value in JSON, in the parts that are written one after the other.
 use Rattle.std.specs.Prelude.{ℕ, Bool, true, List, ◌++◌, codes}
 use Rattle.pickle_meaning.specs.Values.{Value, label_of, members_of}
 use Rattle.value_store.specs.declared.value.ValueRef.{ValueRef}
@@ -21,18 +21,18 @@ object_json value = codes "{" ++ (fields_json value ++ codes "}")
 abbrev pub element_json : (first : Bool) → Value → List ℕ
 element_json first value = comma first ++ json_text value
 
--- what stands before a field whose name needs no escapes
+-- what is before a field whose name needs no escapes
 abbrev pub plain_key : (first : Bool) → (name : List ℕ) → List ℕ
 plain_key first name = comma first ++ (codes "\"" ++ (name ++ (codes "\"" ++ codes ":")))
 
--- what stands before a field of a name, and before one at a place without a name
+-- what is before a field with a name, and before a nameless one at a place
 abbrev pub name_start : (first : Bool) → (name : List ℕ) → List ℕ
 name_start first name = comma first ++ (json_string name ++ codes ":")
 
 abbrev pub place_start : (first : Bool) → (place : ℕ) → List ℕ
 place_start first place = comma first ++ (place_key place ++ codes ":")
 
--- what stands before the part at a place of a struct or a union
+-- what is before the part at a place of a struct or a union
 abbrev pub start_json : (first : Bool) → ValueRef → (place : ℕ) → List ℕ
 start_json first value place = comma first ++ key_before (label_of (value_shown value)) place
 

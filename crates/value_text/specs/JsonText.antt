@@ -1,4 +1,4 @@
--- The text that a value is printed as in JSON.
+-- The printed value in JSON.
 use Rattle.std.specs.Prelude.{ℕ, ℤ, suc, ◌/◌, ◌%◌, Bool, true, false, List, [], ◌∷◌, ◌++◌, Some, None, ◌==◌, if◌then◌else◌, codes, decimal}
 use Rattle.std.specs.Fmt.{signed_decimal}
 use Rattle.pickle_meaning.specs.Values.{Naming, Label, IntegerLabel, OffsetLabel, TextLabel, ArrayLabel, StructLabel, UnionLabel, Value, Mapped, Members, NoMembers, MemberThen, AbsentThen}
@@ -6,7 +6,7 @@ use Rattle.value_store.specs.Labels.{member_name}
 use Rattle.text_forms.specs.HexDigits.{hex_digit}
 use Rattle.value_text.specs.ValueText.{spelled, comma}
 
--- a byte that doesn't stand for itself, as the character of its number: a short form for these four, else `\u00` and two digits
+-- the escape of a byte, for the character of its number: a short form for these four, else `\u00` and two digits
 abbrev pub json_escape : ℕ → List ℕ
 json_escape byte =
     if byte == 92 then codes "\\\\"
@@ -22,12 +22,12 @@ json_string bytes = codes "\"" ++ (spelled json_escape bytes ++ codes "\"")
 abbrev pub place_key : ℕ → List ℕ
 place_key place = codes "\"" ++ (decimal place ++ codes "\"")
 
--- the key of a field or an alternative: its name, where it has one
+-- the key of a field or an alternative: its name, if it has one
 abbrev pub key_text : Naming → (place : ℕ) → List ℕ
 key_text None place = place_key place
 key_text (Some name) place = json_string name
 
--- what stands before a field or an alternative
+-- what is before a field or an alternative
 abbrev pub key_before : Label → (place : ℕ) → List ℕ
 key_before label place = key_text (member_name label place) place ++ codes ":"
 
@@ -50,7 +50,7 @@ abbrev mutual
   json_text (Mapped (UnionLabel name index alternative) start end members) =
       codes "{" ++ (json_members (key_before (UnionLabel name index alternative)) 0 true members ++ codes "}")
 
-  -- the present members from a place on, each behind what stands before it, joined by commas
+  -- the present members from a place on, each after its key if it has one, joined by commas
   pub json_members : (before : (place : ℕ) → List ℕ) (place : ℕ) (first : Bool) → Members → List ℕ
   json_members before place first NoMembers = []
   json_members before place first (AbsentThen rest) = json_members before (suc place) first rest

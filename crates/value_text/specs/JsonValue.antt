@@ -1,4 +1,4 @@
--- JSON values as data, and the one that a mapped value stands for.
+-- JSON values as data, and the one that a mapped value means.
 use Rattle.std.specs.Prelude.{ℕ, suc, ℤ, pos, List, Some, None, codes, decimal}
 use Rattle.pickle_meaning.specs.Values.{Naming, Label, IntegerLabel, OffsetLabel, TextLabel, ArrayLabel, StructLabel, UnionLabel, Value, Mapped, Members, NoMembers, MemberThen, AbsentThen}
 use Rattle.value_store.specs.Labels.{member_name}
@@ -8,7 +8,7 @@ mutual
     JsonFalse : Json
     JsonTrue : Json
     JsonNull : Json
-    -- an integer, of which so many digits stand behind the point, times ten to a power
+    -- an integer with so many digits after the point, times ten to a power
     JsonNumber : (digits : ℤ) (places : ℕ) (power : ℤ) → Json
     -- characters by their numbers; one beyond 65,535 is two of them, as in UTF-16
     JsonString : (characters : List ℕ) → Json

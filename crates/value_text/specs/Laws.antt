@@ -1,4 +1,4 @@
--- The laws of the texts of values.
+-- The laws of printed values.
 use Rattle.std.specs.Prelude.{◌≡◌, ℕ, false, List, [], ◌++◌}
 use Rattle.pickle_meaning.specs.Values.{Value, label_of, members_of}
 use Rattle.value_text.specs.Json.{Reads, IsJson}

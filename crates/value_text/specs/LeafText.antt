@@ -18,6 +18,6 @@ leaves_at steps value = leaves_text (steps_of steps) (value_shown value)
 abbrev pub branches_at : Steps → ValueRef → List ℕ
 branches_at steps value = branches_text (steps_of steps) (label_of (value_shown value)) 0 (members_of (value_shown value))
 
--- the lines of a part behind one more step
+-- the lines of a part, whose path has one more step
 abbrev pub branch_at : Steps → Step → ValueRef → List ℕ
 branch_at steps step part = leaves_text (steps_of steps ++ text_of step) (value_shown part)

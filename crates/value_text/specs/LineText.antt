@@ -4,7 +4,7 @@ use Rattle.pickle_meaning.specs.Values.{Label, Value, label_of, members_of, memb
 use Rattle.value_store.specs.Labels.{kind_of}
 use Rattle.value_text.specs.TreeText.{indent_text, prefix_text, head_text, has_parts, parts_text}
 
--- what stands before a head
+-- what is before a head
 abbrev pub start_text : (level : ℕ) → Label → (place : ℕ) → List ℕ
 start_text level label place = indent_text level ++ prefix_text label place
 

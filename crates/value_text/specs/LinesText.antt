@@ -1,4 +1,4 @@
--- The text that a value is printed as with a line for each part that has no parts.
+-- The printed value with a line for each part that has no parts itself.
 use Rattle.std.specs.Prelude.{ℕ, suc, ◌-◌, Bool, true, false, ◌&&◌, List, [], ◌++◌, if◌then◌else◌, codes, decimal}
 use Rattle.pickle_meaning.specs.Values.{Label, Value, Mapped, Members, NoMembers, MemberThen, AbsentThen, start_of, end_of}
 use Rattle.value_store.specs.Labels.{kind_of}
@@ -6,7 +6,7 @@ use Rattle.value_text.specs.PathText.{step_text, path_text}
 use Rattle.value_text.specs.TreeText.{has_parts}
 use Rattle.value_text.specs.ValueText.{value_text}
 
--- so many bits behind a tab, as an offset word
+-- so many bits after a tab, as an offset
 abbrev pub bits_cell : ℕ → List ℕ
 bits_cell bits = codes "\t" ++ (decimal bits ++ codes "#b")
 
@@ -26,12 +26,12 @@ any_present NoMembers = false
 any_present (MemberThen value rest) = true
 any_present (AbsentThen rest) = any_present rest
 
--- whether lines stand for the parts of a value
+-- whether the lines of a value are those of its parts
 abbrev pub is_parted : Label → Members → Bool
 is_parted label members = has_parts (kind_of label) && any_present members
 
 abbrev mutual
-  -- the lines of a value to which steps lead: those of its parts, or where it has none its own
+  -- the lines of a value to which steps lead: those of its parts or, if it has none, its own
   pub leaves_text : (steps : List ℕ) → Value → List ℕ
   leaves_text steps (Mapped label start end members) =
       if is_parted label members then branches_text steps label 0 members else leaf_line steps (Mapped label start end members)

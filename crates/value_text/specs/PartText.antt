@@ -1,4 +1,4 @@
--- The text of a value in the parts that are written one after the other.
+-- The printed value in the parts that are written one after the other.
 use Rattle.std.specs.Prelude.{ℕ, Bool, true, false, List, [], ◌∷◌, ◌++◌, codes}
 use Rattle.pickle_types.specs.declared.integer.IntegerType.{IntegerType}
 use Rattle.pickle_meaning.specs.Arithmetic.{with_sign}
@@ -14,7 +14,7 @@ type_of label = record { width = width_of label; signed = signed_of label }
 abbrev pub all_members_text : Value → List ℕ
 all_members_text value = members_text (label_of value) 0 true (members_of value)
 
--- a member with what stands before it
+-- a member with what is before it
 abbrev pub member_text : (first : Bool) → Naming → Value → List ℕ
 member_text first name value = (comma first ++ name_text name) ++ value_text value
 
@@ -22,7 +22,7 @@ member_text first name value = (comma first ++ name_text name) ++ value_text val
 abbrev pub elements_text : Value → List ℕ
 elements_text value = members_text ArrayLabel 0 true (members_of value)
 
--- integers of a type whose binary digits are these bytes
+-- integers of a type whose bits are these bytes
 abbrev pub byte_row_text : IntegerType → (first : Bool) → List ℕ → List ℕ
 byte_row_text type first [] = []
 byte_row_text type first (byte ∷ bytes) = (comma first ++ integer_text type (with_sign type byte)) ++ byte_row_text type false bytes

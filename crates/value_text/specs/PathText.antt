@@ -4,7 +4,7 @@ use Rattle.pickle_meaning.specs.Values.{Naming, Label, ArrayLabel, Value, label_
 use Rattle.value_store.specs.Labels.{member_name}
 use Rattle.text_forms.specs.Brackets.{in_brackets}
 
--- the step to a field or an alternative: its name, or where it has none its place among the declared fields, from 0
+-- the step to a field or an alternative: its name or, if it has none, its place among the declared fields, from 0
 abbrev pub field_step : Naming → (place : ℕ) → List ℕ
 field_step None place = codes "." ++ decimal place
 field_step (Some name) place = codes "." ++ name

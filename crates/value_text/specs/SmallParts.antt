@@ -7,7 +7,7 @@ abbrev pub AreBytes : List ℕ → Type 0
 AreBytes [] = Unit {0}
 AreBytes (byte ∷ bytes) = (byte < 2 ^ 8) × AreBytes bytes
 
--- a name is of bytes, where there is one
+-- a name has bytes below 256, if there is one
 abbrev pub IsNameOfBytes : Naming → Type 0
 IsNameOfBytes None = Unit {0}
 IsNameOfBytes (Some name) = AreBytes name
@@ -16,7 +16,7 @@ abbrev pub AreNamesOfBytes : List Naming → Type 0
 AreNamesOfBytes [] = Unit {0}
 AreNamesOfBytes (name ∷ names) = IsNameOfBytes name × AreNamesOfBytes names
 
--- the numbers of a label are below 2^64 and its bytes below 256, and the places of so many members that have keys
+-- the numbers of a label are below 2^64, its bytes and those of names below 256, and its members are 2^64 at most
 abbrev pub IsSmallLabel : Label → (count : ℕ) → Type 0
 IsSmallLabel (IntegerLabel number type) count = unsigned_abs number < 2 ^ 64
 IsSmallLabel (OffsetLabel magnitude type unit) count = (unsigned_abs magnitude < 2 ^ 64) × (unit < 2 ^ 64)

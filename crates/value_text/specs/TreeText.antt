@@ -1,4 +1,4 @@
--- The text that a value is printed as over lines: a line for each value, and below it those of its parts.
+-- The printed value over lines: a line for each value, and the lines of its parts below it.
 use Rattle.std.specs.Prelude.{ℕ, suc, ◌+◌, ◌*◌, Bool, true, false, List, [], ◌++◌, replicate, if◌then◌else◌, codes}
 use Rattle.value_store.specs.declared.value.Kind.{Kind}
 use Rattle.value_store.specs.declared.value.Kind.TheVariants.{Integer, Offset, Text, Array, Struct, Union}
@@ -11,7 +11,7 @@ use Rattle.value_text.specs.ValueText.{integer_text, offset_text, string_text, t
 abbrev pub indent_text : (level : ℕ) → List ℕ
 indent_text level = replicate (2 * level) 32
 
--- what stands before a part: the place of an element, the name of a field or an alternative if it has one
+-- what is before a part: the place of an element, the name of a field or an alternative if it has one
 abbrev pub prefix_text : Label → (place : ℕ) → List ℕ
 prefix_text ArrayLabel place = in_brackets place ++ codes "="
 prefix_text label place = name_text (member_name label place)

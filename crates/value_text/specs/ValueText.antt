@@ -1,4 +1,4 @@
--- The text that a value is printed as, on one line.
+-- The printed value, on one line.
 use Rattle.std.specs.Prelude.{ℕ, suc, ◌/◌, ◌%◌, ℤ, Bool, true, false, not, ◌&&◌, List, [], ◌∷◌, ◌++◌, Option, Some, None, ◌==◌, nat_le, if◌then◌else◌, codes, decimal}
 use Rattle.std.specs.Fmt.{signed_decimal}
 use Rattle.pickle_types.specs.declared.integer.IntegerType.{IntegerType}
@@ -6,7 +6,7 @@ use Rattle.pickle_meaning.specs.Values.{Naming, Label, IntegerLabel, OffsetLabel
 use Rattle.value_store.specs.Labels.{member_name}
 use Rattle.text_forms.specs.HexDigits.{hex_digit}
 
--- the letter of a width, where it has one; 32 bits need none
+-- the letter of a width, if it has one; 32 bits need none
 abbrev pub width_letter : ℕ → Option (List ℕ)
 width_letter width =
     if width == 32 then Some (codes "")
@@ -16,7 +16,7 @@ width_letter width =
     else if width == 4 then Some (codes "N")
     else None
 
--- what tells the type of an integer behind its digits, where a suffix does: `U` where it has no sign, then its width
+-- the suffix of an integer's type, if it has one: `U` if it is unsigned, then the letter of its width
 abbrev pub with_sign_letter : (signed : Bool) → Option (List ℕ) → Option (List ℕ)
 with_sign_letter signed None = None
 with_sign_letter true (Some letter) = Some letter
@@ -50,7 +50,7 @@ unit_text unit =
 unfoldable pub offset_text : IntegerType → ℕ → ℤ → List ℕ
 offset_text type unit magnitude = integer_text type magnitude ++ (codes "#" ++ unit_text unit)
 
--- whether a byte of a string stands for itself: from the space (32) to `~` (126), but not `"` (34) and `\` (92)
+-- whether a byte of a string is printed as itself: from the space (32) to `~` (126), but not `"` (34) and `\` (92)
 abbrev pub is_plain : ℕ → Bool
 is_plain byte = nat_le 32 byte && nat_le byte 126 && not (byte == 34) && not (byte == 92)
 
@@ -66,7 +66,7 @@ escape_text byte =
 abbrev pub spelled_byte : (escape : ℕ → List ℕ) → ℕ → List ℕ
 spelled_byte escape byte = if is_plain byte then byte ∷ [] else escape byte
 
--- each byte as itself where it is plain, else as an escape
+-- each byte as itself if it is plain, else as an escape
 abbrev pub spelled : (escape : ℕ → List ℕ) → List ℕ → List ℕ
 spelled escape [] = []
 spelled escape (byte ∷ bytes) = spelled_byte escape byte ++ spelled escape bytes
@@ -77,7 +77,7 @@ bytes_text bytes = spelled escape_text bytes
 unfoldable pub string_text : List ℕ → List ℕ
 string_text bytes = codes "\"" ++ (bytes_text bytes ++ codes "\"")
 
--- the name of a type, or its sort where it is nameless
+-- the name of a type, or its sort if it is nameless
 abbrev pub title_text : (sort : List ℕ) → Naming → List ℕ
 title_text sort None = sort
 title_text sort (Some name) = name
@@ -87,7 +87,7 @@ abbrev pub name_text : Naming → List ℕ
 name_text None = []
 name_text (Some name) = name ++ codes "="
 
--- a comma, but before the first
+-- a comma, but not before the first
 abbrev pub comma : (first : Bool) → List ℕ
 comma true = []
 comma false = codes ","
@@ -103,7 +103,7 @@ abbrev mutual
   value_text (Mapped (UnionLabel name index alternative) start end members) =
       title_text (codes "union") name ++ (codes " {" ++ (members_text (UnionLabel name index alternative) 0 true members ++ codes "}"))
 
-  -- the present members from a place on, each behind its name if it has one, joined by commas
+  -- the present members from a place on, each after its name if it has one, joined by commas
   pub members_text : Label → (place : ℕ) (first : Bool) → Members → List ℕ
   members_text label place first NoMembers = []
   members_text label place first (AbsentThen rest) = members_text label (suc place) first rest

@@ -1,14 +1,15 @@
-//! The laws of the texts of values. These functions do nothing: the contract of each is a law.
+//! The laws of printed values. These functions do nothing: the contract of each is a law.
 
 ghost use Rattle.value_text.specs.Laws.{PrintsJson, JsonReadsBack, HasOneReading, LinesNameParts};
 
-/// What is printed in JSON, of a value whose numbers are below 2^64 and whose bytes are below 256, is a text of the grammar of RFC 8259.
+/// A value printed in JSON is a text of the grammar of RFC 8259, if its numbers are below 2^64 and its bytes below 256.
 pub fn prints_json()
     ensures law { PrintsJson }
 {}
 
-/// What is printed in JSON, of such a value, reads as that value: a number for an integer, an object of magnitude and unit for an
-/// offset, a string of a character for each byte, a list for an array, and an object of the present fields for a struct or union.
+/// Such a value printed in JSON reads as that value: an integer as a number, an offset as an object of magnitude and
+/// unit, a string as a string with a character for each byte, an array as a list, and a struct or union as an object of
+/// its present fields.
 pub fn json_reads_back()
     ensures law { JsonReadsBack }
 {}
@@ -18,7 +19,8 @@ pub fn json_has_one_reading()
     ensures law { HasOneReading }
 {}
 
-/// What is printed of a value over lines are lines of parts that have no parts, each behind a path that leads to its part.
+/// A value printed over lines has a line for each part that has no parts itself. Each line begins with the path that
+/// leads to its part.
 pub fn lines_name_parts()
     ensures law { LinesNameParts }
 {}

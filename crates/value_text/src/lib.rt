@@ -1,4 +1,4 @@
-//! Writes mapped values as text, in four modes.
+//! Prints mapped values, in four modes.
 //!
 //! All output goes through one loop over the writer, [`write::put`].
 #![tactic(auto)]

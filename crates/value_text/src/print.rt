@@ -28,7 +28,8 @@ use std::io::Write;
 use text_forms::write::WriteFault;
 use value_store::ValueRef;
 
-/// Writes the text that a value has in a mode. What the writer took before a fault is a part of that, from its front.
+/// Prints a value in a mode. If the writer fails, what it accepted is the first bytes of the printed value, but not all
+/// of them.
 pub fn print<W: Write>(value: ValueRef<'_>, mode: Mode, w: &mut W) -> Result<(), WriteFault>
     ensures ok { OnOk result (Appends (W.contents w.old) (W.contents w.new) (printed mode (value_shown value.entry))) }
     ensures err { OnErr result (AppendsPart (W.contents w.old) (W.contents w.new) (printed mode (value_shown value.entry))) }

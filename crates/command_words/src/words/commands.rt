@@ -9,7 +9,7 @@ pub const PROGRAM: &str = "poke_batch";
 /// The program's version.
 pub const VERSION: &str = "0.1.0";
 
-/// The steps that a mapping may take where no limit is given.
+/// The most steps that a mapping may take if no limit is given.
 pub const DEFAULT_LIMIT: u64 = 1_000_000_000;
 
 const PROGRAM_SHORT_HELP: &str = "\
@@ -189,7 +189,7 @@ fn each<'a>(alloc: Global) -> Result<Command<'a>, AllocError> {
     with_mapping(alloc, command, modes)?.arg(names)?.arg(files)
 }
 
-// The options of a mapping, and the pickle and the type that are mapped.
+// The options of a mapping, its pickle and its type.
 fn with_mapping<'a>(
     alloc: Global,
     command: Command<'a>,

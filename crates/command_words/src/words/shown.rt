@@ -1,11 +1,11 @@
-//! Words as they are shown, on one line and in letters that a terminal prints.
+//! Arguments as messages print them: on one line, in characters that a terminal prints.
 ghost use Rattle.std.specs.Prelude.{◌≡◌, ◌++◌, IfOk, OnOk, string_bytes};
 ghost use Rattle.command_words.specs.WordText.{word_byte, word_text, digits_text};
 
 use std::alloc::{AllocError, Global};
 use text_forms::hex::hex_digit;
 
-/// Words, each with an escape for each byte that isn't printed.
+/// Arguments as messages print them.
 pub fn shown_words(alloc: Global, words: &[String]) -> Result<Vec<String>, AllocError> {
     let mut shown = Vec::new(alloc);
     for word in words {
@@ -14,7 +14,8 @@ pub fn shown_words(alloc: Global, words: &[String]) -> Result<Vec<String>, Alloc
     Ok(shown)
 }
 
-/// A word as it is told: bytes that don't stand for themselves as escapes.
+/// An argument as messages print it: bytes from 0x20 to 0x7e as themselves, a line feed as `\n`, a tab as `\t`, and any
+/// other byte as `\x` and two hexadecimal digits.
 pub fn shown_word(alloc: Global, word: &[u8]) -> Result<String, AllocError>
     ensures { IfOk result (λ text. string_bytes text ≡ word_text word.now) }
 {

@@ -1,4 +1,4 @@
-//! Integers of all widths, in both orders of bytes and at any bit.
+//! Integers of all widths, in both byte orders and at any bit.
 
 pub const TABLE: &str = r#"type P = struct { uint<8> a; uint<16> b; };
   P 0 big 010203 | 5 3 | P {a=1UB,b=515UH}

@@ -1,4 +1,4 @@
-//! Values of many parts, and values far from a file's front.
+//! Values of many parts, and values far from the start of a file.
 
 pub const TABLE: &str = r#"type T = byte[];
   T 0 big «0..8190 01»1234 | 16385 8193 | [«0..8190 1UB,»18UB,52UB]

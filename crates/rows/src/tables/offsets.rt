@@ -1,4 +1,4 @@
-//! Offsets, and what is counted with them.
+//! Offsets, and arithmetic with them.
 
 pub const TABLE: &str =
     r#"type T = struct { offset<uint<8>,B> len; byte[len] data : data'size == len; offset<int<16>,4> o; };

@@ -1,4 +1,4 @@
-//! Unions: which alternative is taken, and what they let pass.
+//! Unions: which alternative matches, and which faults they pass on.
 
 pub const TABLE: &str =
     r#"type OneOfTheseTwoAlternatives = union { byte the_first_alternative : the_first_alternative == 1; ushort the_second_alternative; };

@@ -3,16 +3,17 @@ ghost use Rattle.std.specs.Prelude.{◌≡◌, ◌+◌, ◌≤◌, [], ◌∷◌
 ghost use Rattle.value_text.specs.ValueText.{comma};
 ghost use Rattle.value_text.specs.JsonParts.{plain_key};
 
-/// The room of a line.
+/// The capacity of a line, in bytes.
 pub const LINE_ROOM: usize = 512;
 
-/// Most names have no more bytes.
+/// The most bytes of a short text. Most names are short.
 pub const SHORT: usize = 16;
 
-/// Bytes that are laid out from the front. How many there are is passed on by value, as a register is faster than a field.
+/// A buffer that is filled from the front. How many bytes are in it is passed by value, because a register is faster
+/// than a field.
 pub type Bytes = [u8; LINE_ROOM];
 
-/// Lays out a byte, and tells where it ends.
+/// Lays out a byte, and returns the place after it.
 #[inline(always)]
 pub fn push(bytes: &mut Bytes, at: usize, byte: u8) -> usize
     requires { at + 1 ≤ LINE_ROOM }
@@ -23,7 +24,7 @@ pub fn push(bytes: &mut Bytes, at: usize, byte: u8) -> usize
     at + 1
 }
 
-/// Lays out what stands before a member of a short name, and tells where it ends.
+/// Lays out what is before a member with a short name, and returns the place after it.
 #[inline(always)]
 pub fn push_name(bytes: &mut Bytes, at: usize, first: bool, name: &[u8]) -> usize
     requires short { length name.now ≤ SHORT }
@@ -36,7 +37,7 @@ pub fn push_name(bytes: &mut Bytes, at: usize, first: bool, name: &[u8]) -> usiz
     push(bytes, at, b'=')
 }
 
-/// Lays out what stands before a field of JSON whose name is short and plain, and tells where it ends.
+/// Lays out what is before a field of JSON whose name is short and plain, and returns the place after it.
 #[inline(always)]
 pub fn push_key(bytes: &mut Bytes, at: usize, first: bool, name: &[u8]) -> usize
     requires short { length name.now ≤ SHORT }
@@ -60,7 +61,7 @@ fn push_comma(bytes: &mut Bytes, at: usize, first: bool) -> usize
     if first { at } else { push(bytes, at, b',') }
 }
 
-/// Lays out a short text, and tells where it ends. No loop goes over its bytes, and nothing is called.
+/// Lays out a short text, and returns the place after it. It has no loop over the bytes, and no call.
 #[inline(always)]
 pub fn push_short(bytes: &mut Bytes, at: usize, text: &[u8]) -> usize
     requires short { length text.now ≤ SHORT }
@@ -108,7 +109,7 @@ fn write<const N: usize>(bytes: &mut Bytes, at: usize, piece: [u8; N])
     bytes[at..at + N].copy_from_slice(&piece);
 }
 
-// Lays out a text of a byte at most.
+// Lays out a text of at most one byte.
 #[inline(always)]
 fn push_first(bytes: &mut Bytes, at: usize, text: &[u8]) -> usize
     requires short { length text.now ≤ 1 }

@@ -12,7 +12,7 @@ use crate::print::suffix::Suffix;
 /// A minus, 20 digits and a suffix of two letters.
 pub const LONGEST_NUMBER: usize = 23;
 
-/// Lays out a number of a magnitude with its suffix, and tells where it ends.
+/// Lays out a number, given with its magnitude, and its suffix, and returns the place after it.
 #[inline(always)]
 pub fn push_number(
     bytes: &mut Bytes,
@@ -30,7 +30,7 @@ pub fn push_number(
     push_suffix(bytes, at, suffix)
 }
 
-/// Lays out a number of a magnitude, and tells where it ends.
+/// Lays out a number, given with its magnitude, and returns the place after it.
 #[inline(always)]
 pub fn push_signed(bytes: &mut Bytes, at: usize, number: i128, magnitude: u64) -> usize
     requires room { at + 21 ≤ LINE_ROOM }
@@ -46,7 +46,7 @@ pub fn push_signed(bytes: &mut Bytes, at: usize, number: i128, magnitude: u64) -
     }
 }
 
-/// Lays out a number in brackets, and tells where it ends.
+/// Lays out a number in brackets, and returns the place after it.
 #[inline(always)]
 pub fn push_in_brackets(bytes: &mut Bytes, at: usize, number: u64) -> usize
     requires { at + LONGEST_NUMBER ≤ LINE_ROOM }
@@ -58,7 +58,7 @@ pub fn push_in_brackets(bytes: &mut Bytes, at: usize, number: u64) -> usize
     push(bytes, at, b']')
 }
 
-/// Lays out a number in double quotes, and tells where it ends.
+/// Lays out a number in double quotes, and returns the place after it.
 #[inline(always)]
 pub fn push_place_key(bytes: &mut Bytes, at: usize, place: u64) -> usize
     requires { at + LONGEST_NUMBER ≤ LINE_ROOM }
@@ -70,7 +70,7 @@ pub fn push_place_key(bytes: &mut Bytes, at: usize, place: u64) -> usize
     push(bytes, at, b'"')
 }
 
-/// Lays out a dot and a number, and tells where it ends.
+/// Lays out a dot and a number, and returns the place after it.
 #[inline(always)]
 pub fn push_place(bytes: &mut Bytes, at: usize, place: u64) -> usize
     requires { at + LONGEST_NUMBER ≤ LINE_ROOM }
@@ -81,7 +81,7 @@ pub fn push_place(bytes: &mut Bytes, at: usize, place: u64) -> usize
     push_digits(bytes, at, place)
 }
 
-/// Lays out a tab and so many bits as an offset word, and tells where it ends.
+/// Lays out a tab and so many bits as an offset, such as `8#b`, and returns the place after it.
 #[inline(always)]
 pub fn push_bits(bytes: &mut Bytes, at: usize, bits: u64) -> usize
     requires { at + LONGEST_NUMBER ≤ LINE_ROOM }
@@ -118,7 +118,7 @@ fn digit_count(number: u64) -> usize
     }
 }
 
-/// Lays out a suffix, and tells where it ends.
+/// Lays out a suffix, and returns the place after it.
 #[inline(always)]
 pub fn push_suffix(bytes: &mut Bytes, at: usize, suffix: Suffix) -> usize
     requires { at + 2 ≤ LINE_ROOM }

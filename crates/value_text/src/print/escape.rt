@@ -1,4 +1,4 @@
-//! How the bytes of strings are written that don't stand for themselves.
+//! The escapes of strings.
 ghost use Rattle.std.specs.Prelude.{◌++◌, false};
 ghost use Rattle.value_text.specs.Puts.{Puts};
 ghost use Rattle.value_text.specs.ValueText.{escape_text};
@@ -9,7 +9,7 @@ use super::printer::Printer;
 use crate::hex::hex_digit;
 use std::io::Write;
 
-/// Whose escapes are written.
+/// The language whose escapes are written.
 #[derive(Clone, Copy)]
 pub enum Escapes {
     Poke,

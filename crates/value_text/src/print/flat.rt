@@ -27,7 +27,7 @@ impl<W: Write> Printer<'_, W> {
     }
 
     /// Writes a value.
-    // Inlined, so that a member costs no call of its own where it is an integer.
+    // Inlined, so that a member that is an integer costs no call.
     #[tactic(auto, using(crate::proofs::MemberTexts::by_kind))]
     #[inline(always)]
     #[cycle(flat)]
@@ -88,7 +88,7 @@ impl<W: Write> Printer<'_, W> {
         }
     }
 
-    // Writes the elements of an array that are integers of one type, which is looked at once.
+    // Writes the elements of an array of integers of one type, which is read once.
     fn put_row(&mut self, value: ValueRef<'_>, number: IntegerType)
         requires { AreIntegersOf number (members_of (value_shown value)) }
         ensures { Puts W.contents self.old self.new (elements_text (value_shown value.entry)) }
@@ -106,7 +106,7 @@ impl<W: Write> Printer<'_, W> {
         }
     }
 
-    // Writes elements from their binary digits, a byte each.
+    // Writes elements of at most 8 bits each, from bytes that hold their bits.
     fn put_byte_row(&mut self, number: IntegerType, bytes: &[u8])
         requires width { IsWidth number }
         requires below { All (λ byte. byte < 2 ^ number.width) bytes.now }
@@ -132,7 +132,7 @@ impl<W: Write> Printer<'_, W> {
         self.put_integer(ty, number);
     }
 
-    // Writes a struct or a union, with the word for its sort where it is nameless.
+    // Writes a struct or a union. A nameless one has the word for its sort instead of a name.
     #[tactic(auto, using(crate::proofs::Puts::puts))]
     #[inline(never)]
     #[cycle(flat)]

@@ -23,7 +23,7 @@ impl<W: Write> Printer<'_, W> {
         self.put(b"\n");
     }
 
-    // Inlined, so that a member costs no call of its own where it is an integer.
+    // Inlined, so that a member that is an integer costs no call.
     #[tactic(auto, using(crate::proofs::JsonTexts::by_kind))]
     #[inline(always)]
     #[cycle(json)]
@@ -131,7 +131,7 @@ impl<W: Write> Printer<'_, W> {
         self.put_json_value(field);
     }
 
-    // Writes the key of the part at a place, behind a comma unless it is the first.
+    // Writes the key of the part at a place, after a comma unless it is the first.
     #[inline(always)]
     fn put_key(&mut self, first: bool, value: ValueRef<'_>, place: usize)
         ensures { Puts W.contents self.old self.new (start_json first value.entry place) }

@@ -1,4 +1,4 @@
-//! Gathers small texts, so that the writer is called once for many.
+//! Gathers small texts, so that the writer is called once for many of them.
 ghost use Rattle.std.specs.Prelude.{◌≡◌, ◌+◌, ◌≤◌, ◌++◌, [], true, length, codes, decimal, unsigned_abs};
 ghost use Rattle.std.specs.Fmt.{signed_decimal};
 ghost use Rattle.text_forms.specs.Brackets.{in_brackets};
@@ -13,8 +13,8 @@ use super::digits::{self, LONGEST_NUMBER};
 use super::suffix::Suffix;
 use std::marker::Model;
 
-/// Text that is yet to be written. What lays out numbers and names takes the array and the count and gives a count back, so that the
-/// count stays in a register.
+/// Text that isn't written yet, at most `LINE_ROOM` bytes. The functions that lay out numbers and names take the array
+/// and the count, and return the new count, so that the count stays in a register.
 #[derive(Drop)]
 pub struct Line {
     bytes: [u8; LINE_ROOM],
@@ -24,7 +24,7 @@ pub struct Line {
 impl Model for Line {
     ghost use Rattle.std.specs.Prelude.{ℕ, List, take, ◌≤◌};
 
-    // The bytes that it holds.
+    // The bytes in it.
     ghost Value = { List ℕ };
 
     ghost view = { λ line. take line.len line.bytes };
@@ -88,7 +88,7 @@ impl Line {
         self.len = bytes::push_short(&mut self.bytes, self.len, text);
     }
 
-    /// Adds what stands before a member of a short name.
+    /// Adds what is before a member with a short name.
     #[inline(always)]
     pub fn push_name(&mut self, first: bool, name: &[u8])
         requires short { length name.now ≤ SHORT }
@@ -98,7 +98,7 @@ impl Line {
         self.len = bytes::push_name(&mut self.bytes, self.len, first, name);
     }
 
-    /// Adds what stands before a field of JSON whose name is short and plain.
+    /// Adds what is before a field of JSON whose name is short and plain.
     #[inline(always)]
     pub fn push_key(&mut self, first: bool, name: &[u8])
         requires short { length name.now ≤ SHORT }
@@ -108,7 +108,7 @@ impl Line {
         self.len = bytes::push_key(&mut self.bytes, self.len, first, name);
     }
 
-    /// Adds a number of a magnitude with its suffix.
+    /// Adds a number, given with its magnitude, and its suffix.
     #[inline(always)]
     pub fn push_number(&mut self, number: i128, magnitude: u64, suffix: Suffix)
         requires room { length self.old + LONGEST_NUMBER ≤ LINE_ROOM }
@@ -118,7 +118,7 @@ impl Line {
         self.len = digits::push_number(&mut self.bytes, self.len, number, magnitude, suffix);
     }
 
-    /// Adds a number of a magnitude.
+    /// Adds a number, given with its magnitude.
     #[inline(always)]
     pub fn push_signed(&mut self, number: i128, magnitude: u64)
         requires room { length self.old + LONGEST_NUMBER ≤ LINE_ROOM }
@@ -164,7 +164,7 @@ impl Line {
         self.len = digits::push_place(&mut self.bytes, self.len, place);
     }
 
-    /// Adds a tab and so many bits as an offset word.
+    /// Adds a tab and so many bits as an offset, such as `8#b`.
     #[inline(always)]
     pub fn push_bits(&mut self, bits: u64)
         requires { length self.old + LONGEST_NUMBER ≤ LINE_ROOM }

@@ -13,7 +13,7 @@ use std::io::Write;
 use value_store::ValueRef;
 
 impl<W: Write> Printer<'_, W> {
-    /// Writes a line for each part of a value that has no parts: its path, start, size and text.
+    /// Writes a line for each part of a value that has no parts itself: its path, start, size and text.
     pub fn put_lines(&mut self, value: ValueRef<'_>)
         ensures { Puts W.contents self.old self.new (part_lines (value_shown value.entry)) }
     {
@@ -50,7 +50,7 @@ impl<W: Write> Printer<'_, W> {
         }
     }
 
-    // Writes the lines of a part behind one more step.
+    // Writes the lines of a part, whose path has one more step.
     #[inline(always)]
     #[cycle(lines)]
     fn put_branch(&mut self, steps: &Steps<'_>, step: Step<'_>, part: ValueRef<'_>)
@@ -91,7 +91,7 @@ impl<W: Write> Printer<'_, W> {
     }
 }
 
-// Whether lines stand for the parts of a value.
+// Whether the lines of a value are those of its parts.
 #[inline(always)]
 fn is_parted(value: ValueRef<'_>) -> bool
     ensures { result ≡ is_parted (label_of (value_shown value.entry)) (members_of (value_shown value.entry)) }

@@ -9,7 +9,7 @@ use super::printer::Printer;
 use std::io::Write;
 
 impl<W: Write> Printer<'_, W> {
-    /// Writes the name of a struct or a union, or the word for its sort where it is nameless.
+    /// Writes the name of a struct or a union, or the word for its sort if it is nameless.
     #[inline(always)]
     pub fn put_title(&mut self, sort: &[u8], name: Option<&[u8]>)
         ensures { Puts W.contents self.old self.new (title_text sort.now (lent_name name.entry)) }
@@ -20,7 +20,7 @@ impl<W: Write> Printer<'_, W> {
         }
     }
 
-    /// Writes a field's name, and a comma before it unless the field is the first; the comma alone where it is nameless.
+    /// Writes a field's name, and a comma before it unless the field is the first. A nameless field has only the comma.
     #[inline(always)]
     pub fn put_start(&mut self, first: bool, name: Option<&[u8]>)
         ensures { Puts W.contents self.old self.new (comma first ++ name_text (lent_name name.entry)) }
@@ -44,7 +44,7 @@ impl<W: Write> Printer<'_, W> {
         self.put(b"=");
     }
 
-    /// Writes a comma, but before the first.
+    /// Writes a comma, but not before the first.
     #[inline(always)]
     pub fn put_comma(&mut self, first: bool)
         ensures { Puts W.contents self.old self.new (comma first) }

@@ -1,4 +1,4 @@
-//! What all that is printed goes through.
+//! The printer that all output of a value goes through.
 ghost use Rattle.std.specs.Prelude.{◌≡◌, ◌+◌, ◌≤◌, ◌++◌, [], length, codes, decimal};
 ghost use Rattle.std.specs.Fmt.{signed_decimal};
 ghost use Rattle.text_forms.specs.Brackets.{in_brackets};
@@ -17,18 +17,18 @@ use itoa::Buffer;
 use std::io::Write;
 use text_forms::write::{WriteFault, put};
 
-/// A writer and the text that is yet to be written to it. The first fault of the writer is kept until [`Printer::finish`]
-/// gives it, and what is put after it goes nowhere; so no call that puts a text has a result.
+/// A writer, and the text that isn't written to it yet. After the writer's first fault nothing more is written. The
+/// calls that put a text therefore return nothing; [`Printer::finish`] returns the fault.
 #[derive(Drop)]
 pub struct Printer<'a, W> {
     pub writer: &'a mut W,
     pub line: Line,
-    /// Whether the writer gave a fault.
+    /// Whether the writer has failed.
     pub failed: bool,
 }
 
 impl<W: Write> Printer<'_, W> {
-    /// Puts a text into the line, and writes all where it doesn't fit.
+    /// Puts a text into the line. If it doesn't fit, the line and the text are written.
     #[tactic(auto, using(crate::proofs::Puts::puts))]
     #[inline]
     pub fn put(&mut self, text: &[u8])
@@ -41,7 +41,7 @@ impl<W: Write> Printer<'_, W> {
         }
     }
 
-    // Writes what the line holds, and the text.
+    // Writes the line, and the text.
     #[tactic(auto, using(crate::proofs::Puts::puts))]
     #[inline(never)]
     fn put_past(&mut self, text: &[u8])
@@ -51,7 +51,7 @@ impl<W: Write> Printer<'_, W> {
         self.write(text);
     }
 
-    // Writes what the line holds.
+    // Writes the line.
     #[tactic(auto, using(crate::proofs::Puts::puts))]
     #[inline(never)]
     fn write_line(&mut self)
@@ -64,7 +64,7 @@ impl<W: Write> Printer<'_, W> {
         self.line.clear();
     }
 
-    // Writes a text where the line is empty.
+    // Writes a text. The line is empty.
     #[tactic(auto, using(crate::proofs::Puts::puts))]
     fn write(&mut self, text: &[u8])
         requires { self.old.line ≡ [] }
@@ -88,7 +88,7 @@ impl<W: Write> Printer<'_, W> {
         self.line.push_short(word);
     }
 
-    /// Puts what stands before a member of a short name.
+    /// Puts what is before a member with a short name.
     #[tactic(auto, using(crate::proofs::Puts::puts))]
     #[inline(always)]
     pub fn put_short_name(&mut self, first: bool, name: &[u8])
@@ -99,7 +99,7 @@ impl<W: Write> Printer<'_, W> {
         self.line.push_name(first, name);
     }
 
-    /// Puts what stands before a field of JSON whose name is short and plain.
+    /// Puts what is before a field of JSON whose name is short and plain.
     #[tactic(auto, using(crate::proofs::Puts::puts))]
     #[inline(always)]
     pub fn put_short_key(&mut self, first: bool, name: &[u8])
@@ -125,7 +125,7 @@ impl<W: Write> Printer<'_, W> {
         }
     }
 
-    // Puts a number past 64 bits and its suffix.
+    // Puts a number of more than 64 bits and its suffix.
     #[tactic(auto, using(crate::proofs::Puts::puts))]
     #[inline(never)]
     fn put_wide(&mut self, number: i128, suffix: Suffix)
@@ -204,7 +204,7 @@ impl<W: Write> Printer<'_, W> {
         self.line.push_place(place as u64);
     }
 
-    /// Puts a tab and so many bits as an offset word.
+    /// Puts a tab and so many bits as an offset, such as `8#b`.
     #[tactic(auto, using(crate::proofs::Puts::puts))]
     #[inline(always)]
     pub fn put_bits(&mut self, bits: u64)
@@ -214,7 +214,7 @@ impl<W: Write> Printer<'_, W> {
         self.line.push_bits(bits);
     }
 
-    // Writes what the line holds where a number might not fit.
+    // Writes the line if a number might not fit into it.
     #[tactic(auto, using(crate::proofs::Puts::puts))]
     #[inline]
     fn make_room(&mut self)
@@ -226,7 +226,7 @@ impl<W: Write> Printer<'_, W> {
         }
     }
 
-    /// Writes what the line holds, the last that is done, and gives the writer's fault where it had one.
+    /// Writes the line, as the last call, and returns the writer's fault if it had one.
     #[tactic(auto, using(crate::proofs::Puts::puts))]
     pub fn finish(&mut self) -> Result<(), WriteFault>
         ensures { Ends W.contents self.old self.new result }

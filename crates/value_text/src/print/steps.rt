@@ -20,10 +20,10 @@ pub enum Step<'a> {
     Nameless(usize),
 }
 
-/// The steps to a part. Those before the last lie in the frames of the calls that went down.
+/// The steps to a part. Each call on the way down holds one step in its stack frame, and borrows those before it.
 #[derive(Clone, Copy)]
 pub enum Steps<'a> {
-    /// None: the value itself.
+    /// No step: the value itself.
     Start,
     Then(&'a Steps<'a>, Step<'a>),
 }

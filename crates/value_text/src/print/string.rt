@@ -45,7 +45,8 @@ impl<W: Write> Printer<'_, W> {
         }
     }
 
-    // Writes all the plain bytes that come first, or else the first byte as an escape, and tells how many bytes that were.
+    // Writes all the plain bytes that come first or, if there are none, the escape of the first byte. Returns how many
+    // bytes of the string that was.
     fn put_next(&mut self, escapes: Escapes, bytes: &[u8]) -> usize
         requires { 0 < length bytes.now }
         ensures some { 0 < result }
@@ -63,10 +64,10 @@ impl<W: Write> Printer<'_, W> {
     }
 }
 
-/// How many bytes are looked at together.
+/// How many bytes are tested together.
 const BLOCK: usize = 16;
 
-/// How many plain bytes come first. They are looked at in blocks as far as these are plain, and then one by one.
+/// How many plain bytes come first. They are tested in blocks as long as the blocks are plain, then one by one.
 #[inline(always)]
 pub fn plain_len(bytes: &[u8]) -> usize
     ensures { result ≡ prefix_len is_plain bytes.now }
@@ -78,7 +79,7 @@ pub fn plain_len(bytes: &[u8]) -> usize
     blocks + plain_run(&bytes[blocks..])
 }
 
-// How many bytes the plain blocks have that come first.
+// How many bytes the plain blocks at the front have.
 #[inline(never)]
 fn plain_blocks(bytes: &[u8]) -> usize
     ensures within { result ≤ length bytes.now }
@@ -94,7 +95,8 @@ fn plain_blocks(bytes: &[u8]) -> usize
     done
 }
 
-// Whether all bytes of a block are plain. Each is looked at, whatever the others are, so that no branch stands between two.
+// Whether all bytes of a block are plain. Each byte is tested, whatever the others are, so that there is no branch
+// between two.
 #[inline(always)]
 fn is_plain_block(block: &[u8]) -> bool
     ensures { result ≡ list_all is_plain block.now }

@@ -1,4 +1,4 @@
-//! The letters that tell the type of an integer behind its digits.
+//! The letters after the digits of an integer, which name its type.
 ghost use Rattle.std.specs.Prelude.{◌≡◌};
 ghost use Rattle.std.specs.Option.{option_map};
 ghost use Rattle.value_text.specs.Suffixes.{letter_text, suffix_text};
@@ -6,14 +6,14 @@ ghost use Rattle.value_text.specs.ValueText.{suffix_of, width_letter};
 
 use pickle_types::integer::IntegerType;
 
-/// `U` where the type has no sign, then the letter of its width; 32 bits need none.
+/// `U` if the type is unsigned, then the letter of its width. A width of 32 bits has no letter.
 #[derive(Clone, Copy)]
 pub struct Suffix {
     pub signed: bool,
     pub letter: Option<u8>,
 }
 
-/// The suffix of a type, where it has one.
+/// The suffix of a type, if it has one.
 #[inline]
 pub fn suffix_of(ty: IntegerType) -> Option<Suffix>
     ensures { option_map suffix_text result ≡ suffix_of ty }
@@ -27,7 +27,7 @@ pub fn suffix_of(ty: IntegerType) -> Option<Suffix>
     }
 }
 
-// The letter of a width, where there is one and where it needs it.
+// The letter of a width: the outer `None` if no suffix names the width, the inner one if the width needs no letter.
 #[inline]
 fn width_letter(width: u8) -> Option<Option<u8>>
     ensures { option_map letter_text result ≡ width_letter width }

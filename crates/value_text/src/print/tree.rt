@@ -1,4 +1,4 @@
-//! Prints values over lines, one for each value.
+//! Prints values over lines, one line for each value.
 ghost use Rattle.std.specs.Prelude.{◌≡◌, ◌+◌, ◌^◌, ◌≤◌, ◌++◌, codes};
 ghost use Rattle.value_store.specs.Refs.{value_shown, rank_of};
 ghost use Rattle.value_text.specs.Puts.{Puts};
@@ -27,9 +27,9 @@ impl<W: Write> Printer<'_, W> {
         self.put_rest(0, value)
     }
 
-    // Writes the line of a value of a level from its head on, and the lines below it. Inlined, so that a part costs no call of its own
-    // where it is an integer.
-    // A level has 128 bits, so that a part's is in range whatever the rank of its value.
+    // Writes the line of a value at a level from its head on, and the lines below it. Inlined, so that a part that is
+    // an integer costs no call.
+    // A level has 128 bits, so that the level of a part is in range whatever the rank of its value.
     #[tactic(auto, using(crate::proofs::Puts::puts))]
     #[inline(always)]
     #[cycle(tree)]
@@ -68,7 +68,7 @@ impl<W: Write> Printer<'_, W> {
         }
     }
 
-    // Writes the lines of the parts of a value of a level.
+    // Writes the lines of the parts of a value at a level.
     #[inline(never)]
     #[cycle(tree)]
     fn put_parts(&mut self, level: u128, value: ValueRef<'_>)
@@ -86,7 +86,7 @@ impl<W: Write> Printer<'_, W> {
         }
     }
 
-    // Writes the lines of a part, which has a level and is at a place of a value.
+    // Writes the lines of the part at a place of a value, at a level.
     #[tactic(auto, using(crate::proofs::Puts::puts))]
     #[inline(always)]
     #[cycle(tree)]
@@ -98,7 +98,7 @@ impl<W: Write> Printer<'_, W> {
         self.put_rest(level, part);
     }
 
-    // Writes what stands before the head of the part at a place of a value.
+    // Writes what is before the head of the part at a place of a value.
     #[tactic(auto, using(crate::proofs::Puts::puts))]
     #[inline(always)]
     fn put_line_start(&mut self, level: u128, value: ValueRef<'_>, place: usize)

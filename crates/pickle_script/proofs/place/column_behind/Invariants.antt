@@ -1,4 +1,4 @@
--- The column is that behind the bytes so far, and at most one more than their number.
+-- The column is that after the bytes so far, and at most one more than their number.
 use Rattle.std.proofs.Common.{◌≡◌, ◌+◌, ◌≤◌, take, fold}
 use Rattle.pickle_script.specs.Places.{next_column}
 use Rattle.pickle_script.proofs.place.column_behind.Given as goal

@@ -1,4 +1,4 @@
--- The text is what it was, with the bytes so far shown behind it, and stays plain.
+-- The text is what it was, with the escaped bytes so far after it, and stays plain.
 use Rattle.std.proofs.Common.{◌≡◌, take, fold}
 use Rattle.pickle_script.specs.Places.{shown_behind, IsPlain}
 use Rattle.pickle_script.proofs.text.Text.show.Given as goal
