@@ -68,12 +68,12 @@ chec p ==> usage
 
 /// Arguments that request help, and parts of its text.
 const HELP: &str = "\
-    --help ==> Statuses: & [default: 1000000000] & Example:\n\
-    -h ==> Statuses: & map & dump\n\
+    --help ==> Exit status: & [default: 1000000000] & Example:\n\
+    -h ==> Usage: & map & dump & --files0-from\n\
     map --help ==> Usage: poke_batch map & [default: 0#b] & [default: big]\n\
-    bound --help ==> Statuses: & BITS & Example:\n\
-    check --help ==> Statuses: & PICKLE & Example:\n\
-    dump --help ==> Statuses: & [default: 0#B] & [default: 128#B]";
+    bound --help ==> Exit status: & BITS & Example:\n\
+    check --help ==> Exit status: & PICKLE & Example:\n\
+    dump --help ==> Exit status: & [default: 0#B] & [default: 128#B]";
 
 fn words_of(alloc: Global, text: &str) -> Result<Vec<String>, Fail> {
     let mut words = Vec::new(alloc);
