@@ -71,6 +71,13 @@ impl FileSpace {
             Err(OpenFault::TooLong)
         }
     }
+
+    /// How many of its reads failed.
+    pub fn failures(&self) -> u64
+        ensures { result ≡ (⟦<FileSpace as Space>⟧.view self.now).failures }
+    {
+        self.failures
+    }
 }
 
 // Refuses files of a kind that has no length.
@@ -101,6 +108,3 @@ impl Space for FileSpace {
         Err(DeviceFault)
     }
 }
-
-#[cfg(test)]
-mod tests;

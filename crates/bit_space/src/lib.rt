@@ -20,6 +20,3 @@ pub use number::{BitFault, read_number};
 pub use order::Order;
 pub use paged::Paged;
 pub use space::{DeviceFault, Space};
-
-#[cfg(test)]
-mod spaces;

@@ -223,6 +223,3 @@ fn turn(cut: u64, width: u8) -> u64
     }
     turned
 }
-
-#[cfg(test)]
-mod tests;

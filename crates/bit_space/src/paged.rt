@@ -167,6 +167,3 @@ impl<S: Space> Space for Paged<S> {
         self.read_across(at, into)
     }
 }
-
-#[cfg(test)]
-mod tests;

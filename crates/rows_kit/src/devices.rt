@@ -43,7 +43,7 @@ pub struct Failing<'a> {
     bytes: &'a [u8],
     pub reads: u64,
     failing: u64,
-    failures: u64,
+    pub failures: u64,
     pub ghost short: { length bytes.now < 2 ^ 60 },
 }
 

@@ -1,7 +1,8 @@
 //! Values that were computed elsewhere, refusals, and one read for a number.
 
-use crate::spaces::{Counted, Shifting, memory, reads};
-use crate::{BitFault, Meter, Order, Space};
+use crate::reading::{big, little, memory, numbered, reads};
+use bit_space::{BitFault, Meter, Order, Space, read_number};
+use rows_kit::devices::{Failing, Shifting};
 use std::test::Fail;
 
 /// Bit position, width, and the big-endian and the little-endian number, worked out from the groups.
@@ -60,20 +61,14 @@ fn numbers_at_any_bit(rt: HostRuntime) -> Result<(), Fail> {
     ];
     let mut space = memory(rt.alloc(), &bytes).ok_or("memory")?;
     let mut meter = Meter::new(88);
-    for (pos, width, big, little) in NUMBERS {
+    for (pos, width, as_big, as_little) in NUMBERS {
+        reads(&rt, &mut space, &mut meter, big(pos, width), Ok(as_big));
         reads(
             &rt,
             &mut space,
-            (pos, width, Order::Big),
             &mut meter,
-            Ok(big),
-        );
-        reads(
-            &rt,
-            &mut space,
-            (pos, width, Order::Little),
-            &mut meter,
-            Ok(little),
+            little(pos, width),
+            Ok(as_little),
         );
     }
     assert_eq!(rt; meter.steps(), 88);
@@ -84,110 +79,112 @@ fn numbers_at_any_bit(rt: HostRuntime) -> Result<(), Fail> {
 fn numbers_worked_by_hand(rt: HostRuntime) -> Result<(), Fail> {
     let mut meter = Meter::new(6);
     let mut space = memory(rt.alloc(), &[0x34, 0x12]).ok_or("memory")?;
-    reads(&rt, &mut space, (0, 12, Order::Big), &mut meter, Ok(833));
-    reads(&rt, &mut space, (0, 12, Order::Little), &mut meter, Ok(308));
+    reads(&rt, &mut space, &mut meter, big(0, 12), Ok(833));
+    reads(&rt, &mut space, &mut meter, little(0, 12), Ok(308));
     let mut space = memory(rt.alloc(), &[0x12, 0x34]).ok_or("memory")?;
-    reads(
-        &rt,
-        &mut space,
-        (0, 16, Order::Little),
-        &mut meter,
-        Ok(13330),
-    );
-    reads(&rt, &mut space, (0, 16, Order::Big), &mut meter, Ok(4660));
+    reads(&rt, &mut space, &mut meter, little(0, 16), Ok(13330));
+    reads(&rt, &mut space, &mut meter, big(0, 16), Ok(4660));
     let bytes = [0x01, 0x23, 0x45, 0x67, 0x89, 0xab, 0xcd, 0xef, 0x01];
     let mut space = memory(rt.alloc(), &bytes).ok_or("memory")?;
     let wanted = Ok(1_311_768_467_463_790_320);
-    reads(&rt, &mut space, (4, 64, Order::Big), &mut meter, wanted);
+    reads(&rt, &mut space, &mut meter, big(4, 64), wanted);
     Ok(())
 }
+
+/// Bit position and width, why no number is read, and the steps that are then taken.
+const REFUSED: [(u64, u8, BitFault, u64); 4] = [
+    (1, 16, BitFault::End, 2),
+    (u64::MAX, 64, BitFault::End, 3),
+    (0, 16, BitFault::Limit, 3),
+    (u64::MAX, 64, BitFault::Limit, 3),
+];
 
 #[test]
 fn refuses_in_order(rt: HostRuntime) -> Result<(), Fail> {
     let mut space = memory(rt.alloc(), &[0xff, 0xfe]).ok_or("memory")?;
     let mut meter = Meter::new(3);
-    assert_eq!(rt; meter.limit(), 3);
-    reads(&rt, &mut space, (0, 16, Order::Big), &mut meter, Ok(0xfffe));
-    assert!(rt; meter.made() < meter.steps());
-    meter.note_made();
-    assert_eq!(rt; meter.made(), 1);
-    reads(
-        &rt,
-        &mut space,
-        (1, 16, Order::Big),
-        &mut meter,
-        Err(BitFault::End),
-    );
-    reads(
-        &rt,
-        &mut space,
-        (u64::MAX, 64, Order::Big),
-        &mut meter,
-        Err(BitFault::End),
-    );
-    assert_eq!(rt; meter.steps(), 3);
-    reads(
-        &rt,
-        &mut space,
-        (0, 16, Order::Big),
-        &mut meter,
-        Err(BitFault::Limit),
-    );
-    reads(
-        &rt,
-        &mut space,
-        (u64::MAX, 64, Order::Big),
-        &mut meter,
-        Err(BitFault::Limit),
-    );
-    assert_eq!(rt; meter.steps(), 3);
-    assert!(rt; meter.tick().is_err());
+    reads(&rt, &mut space, &mut meter, big(0, 16), Ok(0xfffe));
+    for (pos, width, fault, steps) in REFUSED {
+        reads(&rt, &mut space, &mut meter, big(pos, width), Err(fault));
+        assert_eq!(rt; meter.steps(), steps);
+    }
     let mut empty = memory(rt.alloc(), &[]).ok_or("memory")?;
     assert_eq!(rt; empty.len(), 0);
+    let mut meter = Meter::new(1);
     reads(
         &rt,
         &mut empty,
-        (0, 1, Order::Little),
-        &mut Meter::new(1),
+        &mut meter,
+        little(0, 1),
         Err(BitFault::End),
     );
     Ok(())
 }
 
 #[test]
+fn counts_to_its_limit(rt: HostRuntime) {
+    let mut meter = Meter::new(1);
+    assert!(rt; meter.tick().is_ok());
+    assert!(rt; meter.made() < meter.steps());
+    meter.note_made();
+    assert_eq!(rt; (meter.steps(), meter.made(), meter.limit()), (1, 1, 1));
+    assert!(rt; meter.tick().is_err());
+    assert_eq!(rt; (meter.steps(), meter.made(), meter.limit()), (1, 1, 1));
+}
+
+#[test]
 fn reads_once(rt: HostRuntime) -> Result<(), Fail> {
     let mut meter = Meter::new(100);
-    let mut space = Shifting::new(16);
+    let mut space = Shifting {
+        len: 16,
+        reads: 0,
+        failing: 0,
+        failures: 0,
+    };
     reads(
         &rt,
         &mut space,
-        (4, 64, Order::Big),
         &mut meter,
+        big(4, 64),
         Ok(0x1010_1010_1010_1010),
     );
     reads(
         &rt,
         &mut space,
-        (4, 64, Order::Big),
         &mut meter,
+        big(4, 64),
         Ok(0x2020_2020_2020_2020),
     );
-    let mut space = Counted::new(memory(rt.alloc(), &[1, 2, 3]).ok_or("memory")?);
+    let mut space = Failing::new(&[1, 2, 3], 0)?;
+    reads(&rt, &mut space, &mut meter, little(3, 17), Ok(0x1008));
+    assert_eq!(rt; space.reads, 1);
     reads(
         &rt,
         &mut space,
-        (3, 17, Order::Little),
         &mut meter,
-        Ok(0x1008),
-    );
-    assert_eq!(rt; space.reads(), 1);
-    reads(
-        &rt,
-        &mut space,
-        (9, 16, Order::Little),
-        &mut meter,
+        little(9, 16),
         Err(BitFault::End),
     );
-    assert_eq!(rt; space.reads(), 1);
+    assert_eq!(rt; space.reads, 1);
+    Ok(())
+}
+
+#[test]
+fn fails_at_one_read(rt: HostRuntime) -> Result<(), Fail> {
+    let bytes = numbered(rt.alloc(), 9000).ok_or("memory")?;
+    for failing in 1..=4u64 {
+        let mut meter = Meter::new(1000);
+        let mut space = Failing::new(&bytes, failing)?;
+        for read in 1..=5u64 {
+            let number = read_number(&mut space, 4088 * 8, 64, Order::Big, &mut meter);
+            assert_eq!(rt;
+                number.is_err(),
+                read == failing,
+                "read {read} of {failing}"
+            );
+            assert_eq!(rt; space.failures, u64::from(read >= failing));
+            assert_eq!(rt; meter.steps(), read);
+        }
+    }
     Ok(())
 }
