@@ -5,6 +5,7 @@ pub mod Rules
 pub mod Widths
 pub mod Meanings
 pub mod Looks
+pub mod NamedTypes
 pub mod Sums
 pub mod Bounded
 pub mod Steps

@@ -1,8 +1,7 @@
 -- Looking up the name of a type.
-use Rattle.std.proofs.Common.{◌≡◌, ℕ, suc, ◌+◌, ◌<◌, List, [], ◌∷◌, ◌++◌, map, drop, get_or, length, Option, Some, None, Bool, true, false, refl, sym, ap, ◌∙◌, arith}
+use Rattle.std.proofs.Common.{◌≡◌, ℕ, suc, List, [], ◌∷◌, ◌++◌, map, Option, Some, None, Bool, true, false, refl, sym, ap, ◌∙◌, arith}
 use Rattle.std.specs.Prelude.{option_map, if◌then◌else◌, All, IfSome}
 use Rattle.std.specs.Str.{bytes_eq}
-use Rattle.std.proofs.lemmas.List.{drop_more}
 use Rattle.pickle_types.specs.declared.node.Node.{Node}
 use Rattle.pickle_types.specs.declared.names.Declared.{Declared}
 use Rattle.pickle_types.specs.declared.names.Named.{Named}
@@ -53,14 +52,3 @@ module _ (word : List ℕ) where
   declared_push [] d none = refl
   declared_push (e ∷ ds) d none =
       push_step (bytes_eq word e.word.items) (bytes_eq word d.word.items) e.declared d.declared (declared_as word ds) (declared_as word (ds ++ d ∷ [])) none (declared_push ds d)
-
-  -- a search that goes on at a name
-  module _ (ds : List Named) (i : ℕ) (d : Named) (lt : i < length ds) (is : d ≡ get_or ds i d) where
-    left : declared_as word (drop i ds) ≡ declared_as word (d ∷ drop (i + 1) ds)
-    left = ap (declared_as word) (drop_more ds i d lt ∙ ap (λ (x : Named). x ∷ drop (i + 1) ds) (sym is))
-
-    pub declared_here : bytes_eq word d.word.items ≡ true → declared_as word (drop i ds) ≡ Some d.declared
-    declared_here here = left ∙ rw here refl
-
-    pub declared_passed : bytes_eq word d.word.items ≡ false → declared_as word (drop i ds) ≡ declared_as word (drop (i + 1) ds)
-    declared_passed passed = left ∙ rw passed refl

@@ -17,6 +17,7 @@ use Rattle.pickle_types.specs.Built.{declared_as}
 use Rattle.pickle_types.specs.Numbers.{numbered, number_in, at_number, in_map, declared_in, IsNaming}
 use Rattle.pickle_types.proofs.Placed.{placed_is, placed_new, place_new}
 use Rattle.pickle_types.proofs.Looks.{declared_push}
+use Rattle.pickle_types.proofs.NamedTypes.{single_more}
 use Rattle.pickle_types.proofs.Numbered.{numbered_more, numbered_put}
 
 module _ (words : List (List ℕ)) (word : List ℕ) (none : number_in words word ≡ None) where
@@ -39,6 +40,7 @@ pub named_more : (words : List (List ℕ)) (word : List ℕ) (old new : PlacesBy
 named_more words word old new types h none put = record {
   number = rw (map_push (λ (x : List ℕ). Some x) words word) (placed_new (numbered words) (Some word) old new h.number (other words word none) put);
   type = numbered_more words (declared_in types) (λ w. declared_as w (values types)) h.type (word ∷ []);
+  single = h.single;
 }
 
 declared_if : (b : Bool) (d : Named) (o : Option Named) → option_map (λ (x : Named). x.declared) (if b then Some d else o) ≡ (if b then Some d.declared else option_map (λ (x : Named). x.declared) o)
@@ -64,6 +66,7 @@ module _ (words : List (List ℕ)) (numbers : PlacesByName) (types : IndexMap �
     number = h.number;
     type = numbered_put words (declared_in types) (λ w. declared_as w (values types)) h.type word number d.declared (declared_in more) (λ w. declared_as w (values more)) is
         (λ n. ap (option_map (λ (x : Named). x.declared)) (put n) ∙ declared_if (nat_eq number n) d (in_map types n)) found;
+    single = rw all (single_more (values types) d h.single (ap (λ w. declared_as w (values types)) same ∙ none));
   }
     where
       found : (w : List ℕ) → declared_as w (values more) ≡ (if bytes_eq word w then Some d.declared else declared_as w (values types))

@@ -8,6 +8,7 @@ pub mod Innermost
 pub mod PlacesByName
 pub mod FieldNames
 pub mod FieldLists
+pub mod NamedTypes
 pub mod Names
 pub mod Hashes
 pub mod Numbers
@@ -22,4 +23,5 @@ pub mod Building
 pub mod Calls
 pub mod Holds
 pub mod TypeTable
+pub mod NodeParts
 pub mod DeclaredTypes

@@ -7,6 +7,7 @@ use Rattle.pickle_types.specs.declared.number_hasher.ByNumber.{ByNumber}
 use Rattle.pickle_types.specs.declared.places_by_name.PlacesByName.{PlacesByName}
 use Rattle.pickle_types.specs.FieldNames.{place_named, ArePlaced}
 use Rattle.pickle_types.specs.Built.{declared_as}
+use Rattle.pickle_types.specs.NamedTypes.{AreSingle}
 
 -- names that are numbered, each by its place among them
 abbrev pub numbered : List (List ℕ) → List (Option (List ℕ))
@@ -38,7 +39,8 @@ in_map kept number = get nat_eq kept number
 abbrev pub declared_in : IndexMap ℕ Named ByNumber → ℕ → Option Declared
 declared_in types number = option_map (λ d. d.declared) (in_map types number)
 
--- each name has its number, and each type is stored under the number of its name
+-- each name has its number, each type is stored under the number of its name, and no two types have the same name
 pub record IsNaming (words : List (List ℕ)) (numbers : PlacesByName) (types : IndexMap ℕ Named ByNumber) : Type 0 where
   pub number : ArePlaced (numbered words) numbers
   pub type : IsNumbered words (declared_in types) (λ word. declared_as word (values types))
+  pub single : AreSingle (values types)

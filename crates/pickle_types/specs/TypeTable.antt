@@ -19,7 +19,7 @@ roots_of t = t.roots.items
 
 -- the predeclared and the declared types, each with its name
 abbrev pub types_of : Table → Names
-types_of t = listed_of t.nodes.items t.names.items
+types_of t = listed_of t.nodes.items t.names
 
 -- how many types are declared
 abbrev pub count_of : Table → ℕ

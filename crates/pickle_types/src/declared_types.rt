@@ -44,9 +44,10 @@ impl Table {
     {
         let known = known_bounds(alloc, &self.nodes, &self.roots, 0, self.nodes.len())?;
         let mut told = Vec::new(alloc);
+        let list = self.names.as_slice();
         let mut place = PREDECLARED.len();
-        while place < self.names.len() {
-            let named = &self.names[place];
+        while place < list.len() {
+            let named = &list[place];
             told.push(tell(&self.nodes, &self.roots, known.as_slice(), named))?;
             place += 1;
         }

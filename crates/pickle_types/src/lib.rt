@@ -10,6 +10,7 @@ mod known_bounds;
 pub mod laws;
 pub(crate) mod many_fields;
 pub(crate) mod name;
+pub(crate) mod named_types;
 pub mod names;
 pub(crate) mod node;
 pub(crate) mod number_hasher;

@@ -1,11 +1,11 @@
 //! Numbers the names of a pickle, and finds the types that have names.
 
 ghost use Rattle.std.specs.Prelude.{◌≡◌, ℕ, List, [], None, Some, map, IfSome, IfOk, IfErr, OnOk, nat_eq};
-ghost use Rattle.std.specs.Str.{bytes_eq};
 ghost use Rattle.indexmap.specs.IndexMap.{values, get};
 ghost use Rattle.pickle_types.specs.Names.{find_type};
 ghost use Rattle.pickle_types.specs.Numbers.{number_in, Extends, IsNaming};
-ghost use Rattle.pickle_types.specs.Built.{Known, types_in, words_in, names_of, listed_of, declared_as, AreNamed, AreListed, IsFound, IsNamed, AddsName};
+ghost use Rattle.pickle_types.specs.Built.{Known, types_in, words_in, names_of, declared_as, AreNamed, IsFound, IsNamed, AddsName};
+ghost use Rattle.pickle_types.specs.NamedTypes.{AreSingle};
 ghost use Rattle.pickle_types.specs.declared.node.Node.{Node};
 ghost use Rattle.pickle_types.specs.declared.names.Named.{Named};
 
@@ -121,9 +121,10 @@ impl<'n> Names<'n> {
         Ok(())
     }
 
-    /// The named types, in the order of their declarations.
+    /// The named types, in the order of their declarations. No two have the same name.
     pub fn into_list(self, alloc: Global) -> Result<Vec<Named>, FaultKind>
         ensures ok { IfOk result (λ list. list.items ≡ types_in self.entry) }
+        ensures single { IfOk result (λ list. AreSingle list.items) }
         ensures err { IfErr result (λ e. e ≡ FaultKind.Memory) }
     {
         let Names {
@@ -144,23 +145,4 @@ pub fn find_name(names: &Names, word: &[u8]) -> Option<Declared>
     let number = names.number_of(word)?;
     let named = types.get(&number)?;
     Some(named.declared)
-}
-
-fn is_named(named: &Named, word: &[u8]) -> bool
-    ensures { result ≡ bytes_eq word.now named.now.word.items }
-{
-    word == named.word.as_slice()
-}
-
-/// The type of that name. It compares one name after another.
-pub fn find_listed(list: &[Named], word: &[u8]) -> Option<Declared>
-    ensures found { (nodes : List Node) → IsFound nodes result (find_type word.now (listed_of nodes list.now)) }
-    ensures named { (nodes : List Node) → AreListed nodes list.now → IfSome result (IsNamed nodes) }
-{
-    for named in list {
-        if is_named(named, word) {
-            return Some(named.declared);
-        }
-    }
-    None
 }

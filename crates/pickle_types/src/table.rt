@@ -14,7 +14,7 @@ ghost use Rattle.pickle_types.specs.Wrong.{first_wrong, TellsPlace};
 use crate::bounds::type_bounds;
 use crate::check::builder::Builder;
 use crate::fault::{FaultKind, TypeFault};
-use crate::names::{Named, find_listed};
+use crate::named_types::NamedTypes;
 use crate::node::Node;
 use crate::predeclared::PREDECLARED;
 use pickle_tree::tree::Pickle;
@@ -32,11 +32,11 @@ pub struct Table {
     pub(crate) nodes: Vec<Node>,
     /// The nodes of the declared types, in rising order. A declaration whose type has a node already adds none.
     pub(crate) roots: Vec<usize>,
-    pub(crate) names: Vec<Named>,
+    pub(crate) names: NamedTypes,
     declared: usize,
     // The nodes are a table's, and each name has a node.
     pub ghost sound: { IsTable nodes.items } by { IsTable-prop nodes.items },
-    pub ghost named: { AreListed nodes.items names.items } by { AreListed-prop nodes.items names.items },
+    pub ghost named: { AreListed nodes.items names } by { AreListed-prop nodes.items names },
 }
 
 impl Table {
@@ -61,20 +61,21 @@ impl Table {
             nodes,
             seen: _,
         } = builder;
+        let list = names.into_list(alloc)?;
         Ok(Table {
             nodes: nodes.into_nodes(),
             roots,
-            names: names.into_list(alloc)?,
+            names: NamedTypes::new(alloc, list)?,
             declared: pickle.declarations.len(),
         })
     }
 
-    /// The type of a declared or predeclared name. It compares one name after another.
+    /// The type of a declared or predeclared name. The names are in order, so it compares few of them.
     pub fn find(&self, name: &[u8]) -> Option<TypeId>
         ensures found { IsTypeFound self.now result (find_type name.now (types_of self.now)) }
         ensures inside { IfSome result (IsInTable self.now) }
     {
-        match find_listed(&self.names, name) {
+        match self.names.find(name) {
             Some(declared) => Some(TypeId {
                 node: declared.node,
             }),

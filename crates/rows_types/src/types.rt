@@ -177,6 +177,32 @@ fn finds_types(rt: HostRuntime) -> Result<(), Fail> {
     Ok(())
 }
 
+/// Whether each of so many types is found by its name, with a later node than those before, and no other name is found.
+fn finds_each_type(rt: &impl Abort, alloc: Global, count: u8) -> Result<(), Fail> {
+    let text = format!(in alloc; "«0..{count} type f~ = byte[~]; »")?;
+    let table = table_of(alloc, &bytes_of(alloc, &text)?)?;
+    let mut least = 0;
+    for i in 0..count {
+        let name = format!(in alloc; "f{i}")?;
+        let found = table.find(name.as_bytes()).ok_or("no type")?;
+        assert!(rt; least <= found.node, "{name}");
+        least = found.node.saturating_add(1);
+        let longer = format!(in alloc; "f{i}_")?;
+        assert!(rt; table.find(longer.as_bytes()).is_none(), "{longer}");
+    }
+    let next = format!(in alloc; "f{count}")?;
+    assert!(rt; table.find(next.as_bytes()).is_none(), "{next}");
+    Ok(())
+}
+
+#[test]
+fn finds_each_of_some_types(rt: HostRuntime) -> Result<(), Fail> {
+    for count in [0, 1, 2, 3, 100, 255] {
+        finds_each_type(&rt, rt.alloc(), count)?;
+    }
+    Ok(())
+}
+
 /// Expects an answer for a pickle in two parts. The first part is left as it was.
 fn expect_behind(
     rt: &impl Abort,

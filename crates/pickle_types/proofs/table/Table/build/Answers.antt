@@ -32,10 +32,10 @@ pub returns-clause-ok : goal.returns-clause-ok
 returns-clause-ok c =
     let k : known_types c.predeclare.new.self ≡ predeclared = rw c.new-builder.ensures.none at c.in_ok-predeclare.ensures.known in
     let h = rw (k, c.deref.ensures.value) at c.in_ok-roots.ensures.ok in
-    rw (c.in_ok-into_list.ensures.ok, c.into_nodes.ensures) (rules_sound (pickle_tree c.args.pickle.now) predeclared _ h)
+    rw (c.in_ok-new.ensures.ok, c.in_ok-list.ensures.ok, c.into_nodes.ensures) (rules_sound (pickle_tree c.args.pickle.now) predeclared _ h)
 
 pub invariant_of-result-clause-sound : goal.invariant_of-result-clause-sound
 invariant_of-result-clause-sound c = rw c.into_nodes.ensures c.in_ok-roots.ensures.ready.table
 
 pub invariant_of-result-clause-named : goal.invariant_of-result-clause-named
-invariant_of-result-clause-named c = rw (c.in_ok-into_list.ensures.ok, c.into_nodes.ensures) c.in_ok-roots.ensures.ready.named
+invariant_of-result-clause-named c = rw (c.in_ok-new.ensures.ok, c.in_ok-list.ensures.ok, c.into_nodes.ensures) c.in_ok-roots.ensures.ready.named

@@ -1,4 +1,4 @@
-use Rattle.std.proofs.Common.{◌∙◌, arith}
+use Rattle.std.proofs.Common.{length, ap, ◌∙◌, arith}
 use Rattle.pickle_types.specs.Built.{named_of}
 use Rattle.pickle_types.specs.DeclaredTypes.{told_of, told_as}
 use Rattle.pickle_types.proofs.DeclaredTypes.{named_inside, all_told, told_behind}
@@ -6,10 +6,14 @@ use Rattle.pickle_types.proofs.table.Table.declared_types.Goals as goal
 
 pub tell-requires-clause-inside : goal.tell-requires-clause-inside
 tell-requires-clause-inside c =
-    rw c.deref-in-loop-place.ensures.value (named_inside c.args.self.now.nodes.items c.args.self.now.names.items c.loop-place.place c.index-named.result.now c.args.self.now.named (omega arith) c.index-named.ensures)
+    let names = c.args.self.now.names in
+    let same = ap length c.as_slice-list.ensures in
+    rw c.deref-in-loop-place.ensures.value (named_inside c.args.self.now.nodes.items names c.loop-place.place c.index-list-place.result c.args.self.now.named (omega arith) (rw c.as_slice-list.ensures at c.index-list-place.is))
 
 pub returns : goal.returns
 returns c =
     let at = named_of c.args.self.now.nodes.items in
-    all_told told_of (λ named. told_as (at named)) c.loop-place.told.items c.args.self.now.names.items c.loop-place.place _ (omega arith) c.loop-place.invariant
-    ∙ told_behind told_as at 18 c.args.self.now.names.items
+    let names = c.args.self.now.names in
+    let same = ap length c.as_slice-list.ensures in
+    all_told told_of (λ named. told_as (at named)) c.loop-place.told.items names c.loop-place.place _ (omega arith) c.loop-place.invariant
+    ∙ told_behind told_as at 18 names

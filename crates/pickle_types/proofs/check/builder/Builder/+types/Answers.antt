@@ -1,13 +1,13 @@
-use Rattle.std.proofs.Common.{◌≡◌, [], ◌∷◌, ◌+◌, length, drop, refl, sym, ap, ◌∙◌, arith, eqb-true}
+use Rattle.std.proofs.Common.{◌≡◌, [], ◌∷◌, ◌+◌, ◌-◌, Ok, length, drop, refl, sym, ap, ◌∙◌, arith, eqb-true}
 use Rattle.std.proofs.lemmas.Bool.{eqb-false}
 use Rattle.std.proofs.lemmas.List.{drop_all, length-append, take_all}
 use Rattle.std.proofs.lemmas.List.Elements.{All-append}
 use Rattle.std.proofs.lemmas.Result.{err_from_is_err_and}
 use Rattle.pickle_tree.specs.Tree.{Plain, StringForm, OffsetForm, reference_tree, boxed_tree, form_tree, fields_tree}
 use Rattle.pickle_types.specs.declared.check.builder.Builder.{Builder}
-use Rattle.pickle_types.specs.Types.{depth}
+use Rattle.pickle_types.specs.Types.{depth, StructOf}
 use Rattle.pickle_types.specs.Table.{type_of, IsSoundField}
-use Rattle.pickle_types.specs.Meaning.{meaning}
+use Rattle.pickle_types.specs.Meaning.{meaning, fields_meaning, struct_place}
 use Rattle.pickle_types.specs.Built.{bytes_now, words_in}
 use Rattle.pickle_types.specs.Building.{known_types, visible_in}
 use Rattle.pickle_types.proofs.Forms.{reference_form, string_form, offset_form}
@@ -85,7 +85,8 @@ struct_at-returns-in_err-fields-clause-builds t c =
     let b = c.args.self.now in
     let m = meaning_struct (known_types b) (visible_in b) c.args.levels (bytes_now c.args.title.name) c.args.room c.args.pinned (fields_tree c.args.written.now) (omega arith) in
     let h = rw c.struct_place.ensures at c.in_err-fields.ensures.builds in
-    rw (p.1, p.2, m) (fails_bind _ _ _ h)
+    let meant = fields_meaning (known_types b) (struct_place c.args.pinned) (visible_in b) c.args.levels (c.args.room - 1) [] (fields_tree c.args.written.now) in
+    rw (p.1, p.2, m) (fails_bind _ meant (λ fs. Ok (StructOf (bytes_now c.args.title.name) c.args.pinned fs)) h)
 
 pub struct_at-push-requires-clause-depth : goal.struct_at-push-requires-clause-depth
 struct_at-push-requires-clause-depth t c =
