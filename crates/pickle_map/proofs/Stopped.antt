@@ -17,9 +17,9 @@ use Rattle.pickle_map.specs.declared.mapper.stop.Stop.{Stop}
 use Rattle.pickle_map.specs.declared.mapper.stop.Stop.TheVariants.{Fault, Limit, Device, Memory}
 use Rattle.pickle_meaning.specs.Answer.{Answer}
 use Rattle.pickle_map.specs.FaultKinds.{IsMeant}
-use Rattle.pickle_map.specs.Follows.{World, HasRoom, Follows}
+use Rattle.pickle_map.specs.Follows.{World, Done, HasRoom, Follows}
 use Rattle.pickle_map.specs.Framed.{Runs}
-use Rattle.pickle_map.specs.Mapped.{told, FaultMeans, CountsToThere, UnlessBreaks, EndsRun}
+use Rattle.pickle_map.specs.Mapped.{told, fault_finish, FaultMeans, UnlessBreaks, EndsRun}
 use Rattle.mapping_plans.specs.Mapping.{plan}
 use Rattle.pickle_map.specs.Stops.{stop_finish}
 use Rattle.pickle_meaning.specs.Clauses.{FaultAt}
@@ -56,18 +56,18 @@ no_run fault.Limit m r = m
 no_run fault.Device m r = m
 no_run fault.Memory m r = m
 
-meant_counts : (space : SpaceView) (meter meter' : Meter) (store store' : Held) (p : Plan (Result Value FaultAt)) (kind : MapFaultKind) → IsMeant kind → CountsToThere kind space meter meter' store store' p
-meant_counts space meter meter' store store' p fault.End m = tt
-meant_counts space meter meter' store store' p fault.Constraint m = tt
-meant_counts space meter meter' store store' p fault.Bounds m = tt
-meant_counts space meter meter' store store' p fault.NoBits m = tt
-meant_counts space meter meter' store store' p fault.Zero m = tt
-meant_counts space meter meter' store store' p fault.Overflow m = tt
-meant_counts space meter meter' store store' p fault.Absent m = tt
-meant_counts space meter meter' store store' p fault.Index m = tt
-meant_counts space meter meter' store store' p fault.Limit m = tt
-meant_counts space meter meter' store store' p fault.Device m = absurd m
-meant_counts space meter meter' store store' p fault.Memory m = absurd m
+meant_counts : (space : SpaceView) (meter meter' : Meter) (store store' : Held) (p : Plan (Result Value FaultAt)) (kind : MapFaultKind) (at : ℕ) → IsMeant kind → Runs space meter meter' store store' p (Done (Err (kind, at))) → Runs space meter meter' store store' p (fault_finish kind at)
+meant_counts space meter meter' store store' p fault.End at m h = h
+meant_counts space meter meter' store store' p fault.Constraint at m h = h
+meant_counts space meter meter' store store' p fault.Bounds at m h = h
+meant_counts space meter meter' store store' p fault.NoBits at m h = h
+meant_counts space meter meter' store store' p fault.Zero at m h = h
+meant_counts space meter meter' store store' p fault.Overflow at m h = h
+meant_counts space meter meter' store store' p fault.Absent at m h = h
+meant_counts space meter meter' store store' p fault.Index at m h = h
+meant_counts space meter meter' store store' p fault.Limit at m h = absurd m
+meant_counts space meter meter' store store' p fault.Device at m h = absurd m
+meant_counts space meter meter' store store' p fault.Memory at m h = absurd m
 
 module _ {world : World} {limit : ℕ} (m : ℕ) (ty : PokeType) (order : Order) (s : ℕ) {k j k' j' : ℕ} where
   -- a fault that ends a run has the mapping's start as its place
@@ -97,11 +97,11 @@ module _ {world : World} {limit : ℕ} (m : ℕ) (ty : PokeType) (order : Order)
   told_device Device h e = refl
   told_device Memory h e = cc
 
--- what was counted when the mapping was broken off
+-- the run along the plan, to the fault
 module _ (m : ℕ) (ty : PokeType) (order : Order) (s : ℕ) (space : SpaceView) (meter meter' : Meter) (store store' : Held) where
-  pub told_counts : (stop : Stop) → Runs space meter meter' store store' (plan m ty order no_values s) (stop_finish stop) → CountsToThere (told stop s).kind space meter meter' store store' (plan m ty order no_values s)
-  told_counts (Fault kind place) h = meant_counts space meter meter' store store' _ kind (followed_kind m ty order no_values s h)
-  told_counts Limit h = tt
+  pub told_counts : (stop : Stop) → Runs space meter meter' store store' (plan m ty order no_values s) (stop_finish stop) → Runs space meter meter' store store' (plan m ty order no_values s) (fault_finish (told stop s).kind (told stop s).at)
+  told_counts (Fault kind place) h = meant_counts space meter meter' store store' _ kind place (followed_kind m ty order no_values s h) h
+  told_counts Limit h = h
   told_counts Device h = h
   told_counts Memory h = h
 

@@ -3,7 +3,7 @@ use Rattle.std.specs.Prelude.{◌≡◌, ℕ, ◌+◌, ◌-◌, ◌*◌, ◌<◌
 use Rattle.bit_space.specs.declared.meter.Meter.{Meter}
 use Rattle.bit_space.specs.declared.order.Order.{Order}
 use Rattle.bit_space.specs.Bits.{bits_of}
-use Rattle.bit_space.specs.SpaceView.{SpaceView, HasRisen}
+use Rattle.bit_space.specs.SpaceView.{SpaceView, known_bits, HasRisen}
 use Rattle.pickle_types.specs.declared.node.Node.{Node}
 use Rattle.pickle_types.specs.declared.table.Table.{Table}
 use Rattle.pickle_types.specs.declared.table.TypeId.{TypeId}
@@ -19,10 +19,9 @@ use Rattle.pickle_meaning.specs.Answer.{Answer, BrokenOff}
 use Rattle.pickle_meaning.specs.Clauses.{FaultAt}
 use Rattle.pickle_meaning.specs.Fits.{Fits}
 use Rattle.pickle_meaning.specs.Room.{Slot, NodeSlot, ByteSlot, value_slots, slots}
-use Rattle.pickle_map.specs.Follows.{Broken, NoRoom}
+use Rattle.pickle_map.specs.Follows.{World, Finish, Done, NoSteps, Broken, NoRoom, Follows}
 use Rattle.pickle_map.specs.Framed.{Runs}
 use Rattle.mapping_plans.specs.Mapping.{plan}
-use Rattle.mapping_plans.specs.Plan.{Plan}
 use Rattle.mapping_plans.specs.Kept.{KeepsBy}
 use Rattle.value_store.specs.declared.store.room.Growth.TheVariants.{Never}
 use Rattle.value_store.specs.declared.store.room.Room.{Room}
@@ -51,12 +50,12 @@ FaultMeans bits ty order s limit faults.Device at k j = BrokenOff bits ty order 
 FaultMeans bits ty order s limit faults.Memory at k j = BrokenOff bits ty order s limit k j
 FaultMeans bits ty order s limit kind at k j = Answer bits ty order s limit (Err (kind, at)) k j
 
--- Where a device or an allocation failure broke a mapping off, its calls counted the steps and the values of its plan
--- up to the read that failed, or up to what didn't fit.
-abbrev pub CountsToThere : MapFaultKind → SpaceView → (meter meter' : Meter) → (store store' : Held) → Plan (Result Value FaultAt) → Type 0
-CountsToThere faults.Device space meter meter' store store' p = Runs space meter meter' store store' p Broken
-CountsToThere faults.Memory space meter meter' store store' p = Runs space meter meter' store store' p NoRoom
-CountsToThere kind space meter meter' store store' p = Unit {0}
+-- how a plan is left with a fault: it ends with it, no step is left, a read failed, or something didn't fit
+abbrev pub fault_finish : {A : Type 0} → MapFaultKind → (at : ℕ) → Finish (Result A FaultAt)
+fault_finish faults.Limit at = NoSteps
+fault_finish faults.Device at = Broken
+fault_finish faults.Memory at = NoRoom
+fault_finish kind at = Done (Err (kind, at))
 
 -- on these bytes, within the steps that are left: vectors of this capacity hold all that the mapping of a type stores
 abbrev pub HasRoomFor : Room → (capacity : Marks) → PokeType → Order → (start : ℕ) → SpaceView → Meter → (bytes : List ℕ) → Type 0
@@ -105,9 +104,13 @@ module _ (type : PokeType) (order : Order) (start : ℕ) (space : SpaceView) (me
       (bytes : List ℕ) → space.bytes ≡ Some bytes →
       IfErr result (λ f. FaultMeans (bits_of bytes) type order start (meter.limit - meter.steps) f.kind f.at (meter'.steps - meter.steps) (meter'.made - meter.made))
 
-  -- a mapping that was broken off counted its steps and values up to the read that failed, or to what didn't fit
-  abbrev pub CountsThere : (store store' : Held) → Result (Unit {0}) MapFault → Type 0
-  CountsThere store store' result = IfErr result (λ f. CountsToThere f.kind space meter meter' store store' (plan (8 * space.len) type order no_values start))
+  -- Whatever the space gives: the mapping runs along its type's plan on the numbers that were read, to this value or
+  -- fault. Its steps and values made are those of the run.
+  abbrev pub RunsPlan : List Node → (store store' : Held) → Result (Unit {0}) MapFault → Type 0
+  RunsPlan nodes store store' (Ok u) =
+      Gives nodes store' (λ v. Runs space meter meter' store store' (plan (8 * space.len) type order no_values start) (Done (Ok v)))
+  RunsPlan nodes store store' (Err f) =
+      Runs space meter meter' store store' (plan (8 * space.len) type order no_values start) (fault_finish f.kind f.at)
 
 module _ (nodes : List Node) (store' : Held) where
   -- a value fits its type by the stored parts
@@ -146,8 +149,8 @@ pub record IsMapped (nodes : List Node) (type : PokeType) (order : Order) (start
   pub limit : ReachesLimit type space meter meter' result
   pub memory : LacksBound type space store result
   pub device : IfErr result (λ f. f.kind ≡ faults.Device → HasRisen space.failures space'.failures)
-  -- A mapping that was broken off counted its steps and values up to the read that failed, or to what didn't fit.
-  pub counts : CountsThere type order start space meter meter' store store' result
+  -- Whatever the space gives: it runs along its type's plan on the numbers that were read, to this value or fault.
+  pub counts : RunsPlan type order start space meter meter' nodes store store' result
   -- In the end there is capacity for all that was to be stored. `Memory` is returned only where there was too little
   -- before.
   pub kept : KeptInRoom type order start space meter store store' result
@@ -165,7 +168,21 @@ pub record IsMapped (nodes : List Node) (type : PokeType) (order : Order) (start
   pub bytes : space'.bytes ≡ space.bytes
   pub failures : space.failures ≤ space'.failures
 
--- the same for a type of a table
+-- a mapping of a type of a table runs along its plan
+abbrev pub RunsNamed : Table → TypeId → Order → (start : ℕ) → SpaceView → (meter meter' : Meter) → (store store' : Held) → Result (Unit {0}) MapFault → Type 0
+RunsNamed table id order start space meter meter' store store' result =
+    RunsPlan (type_named table id) order start space meter meter' (nodes_of table) store store' result
+
+-- a run along the plan of a type from the bit `start` on, under a limit, on numbers that were read of a space, whatever
+-- they were: it comes to this fault
+pub record RunsToFault (space : SpaceView) (type : PokeType) (order : Order) (start limit : ℕ) (kind : MapFaultKind) (at : ℕ) : Type 0 where
+  pub world : World
+  pub known : world.known ≡ known_bits space
+  pub steps : ℕ
+  pub made : ℕ
+  pub follows : Follows world limit (plan (8 * space.len) type order no_values start) 0 0 steps made (fault_finish kind at)
+
+-- what a mapping of a type of a table does
 abbrev pub MapsNamed : Table → TypeId → Order → (start : ℕ) → (space space' : SpaceView) → (meter meter' : Meter) → (store store' : Held) → Result (Unit {0}) MapFault → Type 0
 MapsNamed table id order start space space' meter meter' store store' result =
     IsMapped (nodes_of table) (type_named table id) order start space space' meter meter' store store' result

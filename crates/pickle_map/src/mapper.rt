@@ -4,7 +4,7 @@ ghost use Rattle.std.specs.Prelude.{◌≡◌, ◌+◌, ◌*◌, ◌≤◌, IfEr
 ghost use Rattle.bit_space.specs.SpaceView.{HasRisen};
 ghost use Rattle.pickle_types.specs.Bounds.{cost, room};
 ghost use Rattle.pickle_types.specs.TypeTable.{nodes_of, type_named, IsInTable};
-ghost use Rattle.pickle_map.specs.Mapped.{MeansValue, MeansFault, FitsType, CountsParts, ReachesLimit, LacksBound, CountsThere, KeptInRoom, WantedMore, EndsRun, HoldsAtMost, MapsNamed, told};
+ghost use Rattle.pickle_map.specs.Mapped.{MeansValue, MeansFault, FitsType, CountsParts, ReachesLimit, LacksBound, RunsNamed, KeptInRoom, WantedMore, EndsRun, HoldsAtMost, MapsNamed, told};
 ghost use Rattle.value_store.specs.Slots.{emptied, HoldsInRoom, KeepsRoom};
 
 pub(crate) mod blame;
@@ -57,8 +57,9 @@ pub fn map<S: Space>(
     ensures limit { ReachesLimit (type_named table.now id) (S.view space.old) meter.old meter.new result }
     ensures memory { LacksBound (type_named table.now id) (S.view space.old) store.old result }
     ensures device { IfErr result (λ f. f.kind ≡ MapFaultKind.Device → HasRisen (S.view space.old).failures (S.view space.new).failures) }
-    // A mapping that was broken off counted its steps and values up to the read that failed, or to what didn't fit.
-    ensures counts { CountsThere (type_named table.now id) order start (S.view space.old) meter.old meter.new store.old store.new result }
+    // Whatever the space gives: the mapping runs along its type's plan on the numbers that were read, to this value or
+    // fault, in the steps and with the values made of that run.
+    ensures counts { RunsNamed table.now id order start (S.view space.old) meter.old meter.new store.old store.new result }
     // In the end there is capacity for all that was to be stored. `Memory` is returned only where there was too little
     // before.
     ensures kept { KeptInRoom (type_named table.now id) order start (S.view space.old) meter.old store.old store.new result }

@@ -41,7 +41,7 @@ returns-in-Ok g c =
       limit = tt;
       memory = tt;
       device = tt;
-      counts = tt;
+      counts = record { value = m.value; keeps = keeps; holds = h };
       kept = λ bytes known. room_when_done (bits_of bytes) c.args.meter.now.limit (ap (option_map bits_of) known) h;
       asked = λ bytes known. tt;
       place = tt;
