@@ -12,9 +12,6 @@ use Rattle.std.proofs.lemmas.Str.Parse.{not_in_digits, numerals_by_value, tells_
 use Rattle.std.proofs.lemmas.Option.{none-some, same_Some}
 use Rattle.std.proofs.lemmas.Bool.Decides.{nat_tests}
 use Rattle.std.proofs.Math.Nat.{mul-le-mul_left}
-use Rattle.std.specs.Str.{IsUtf8}
-use Rattle.std.proofs.lemmas.Str.{IsUtf8-from_ascii}
-use Rattle.std.proofs.lemmas.Fmt.{IsAscii-from_digits}
 use Rattle.command_words.specs.OffsetWord.{IsOffsetWord, IsUnit}
 
 -- no digit is a `#`
@@ -145,10 +142,6 @@ word_from_parts w k m u e numeral is unit = record {
   counts = unit;
   product = ap (λ y. y * u) (sym is);
 }
-
--- digits are text
-pub numeral_is_text : (ds : List ℕ) → IsNumeral 10 ds → IsUtf8 ds
-numeral_is_text ds h = IsUtf8-from_ascii ds (IsAscii-from_digits ds h.1)
 
 pub word_where_some : (w : List ℕ) (k m u n : ℕ) (r : Option ℕ) → position (λ byte. byte == 35) w ≡ Some k → IsNumeral 10 (take k w) → m ≡ digits_value 10 (take k w) → IsUnit (drop (k + 1) w) u → SomeIff r (m * u < n) (m * u) → IfSome r (IsOffsetWord w)
 word_where_some w k m u n None e numeral is unit h = tt

@@ -2,7 +2,10 @@
 #![tactic(auto)]
 
 pub mod ask;
+pub mod color;
+pub mod numerals;
 pub mod offset_word;
 pub mod path;
+pub mod start;
 pub mod terms;
 pub mod words;

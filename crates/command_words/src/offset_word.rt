@@ -1,7 +1,8 @@
 //! Offsets as arguments, such as `8#B`.
-ghost use Rattle.std.specs.Prelude.{◌≡◌, ℕ, ◌<◌, ◌≤◌, ◌^◌, ◌==◌, IfNone, IfSome, SomeIff, position};
-ghost use Rattle.std.specs.Str.Parse.{IsNumeral, digits_value};
+ghost use Rattle.std.specs.Prelude.{◌≡◌, ℕ, ◌≤◌, ◌^◌, ◌==◌, IfNone, IfSome, position};
 ghost use Rattle.command_words.specs.OffsetWord.{IsOffsetWord, IsUnit};
+
+use crate::numerals::decimal;
 
 const LARGEST_UNIT: u64 = 4_294_967_295;
 
@@ -16,7 +17,7 @@ pub fn offset_word(word: &[u8]) -> Option<u64>
     ensures none { IfNone result ((bits : ℕ) → IsOffsetWord word.now bits → 2 ^ 64 ≤ bits) }
 {
     let hash = hash_place(word)?;
-    let magnitude = number(&word[..hash])?;
+    let magnitude = decimal(&word[..hash])?;
     let unit = unit_bits(&word[hash + 1..])?;
     magnitude.checked_mul(unit)
 }
@@ -34,16 +35,6 @@ fn unit_bits(unit: &[u8]) -> Option<u64>
     match unit {
         b"b" => Some(1),
         b"B" => Some(8),
-        digits => number(digits).filter(|bits| *bits >= 1 && *bits <= LARGEST_UNIT),
+        digits => decimal(digits).filter(|bits| *bits >= 1 && *bits <= LARGEST_UNIT),
     }
-}
-
-// The value of decimal digits, if it is below 2^64.
-fn number(digits: &[u8]) -> Option<u64>
-    ensures { SomeIff result (IsNumeral 10 digits.now × (digits_value 10 digits.now < 2 ^ 64)) (digits_value 10 digits.now) }
-{
-    if digits.first() == Some(&b'+') {
-        return None;
-    }
-    std::str::from_utf8(digits).ok()?.parse().ok()
 }

@@ -1,28 +1,37 @@
 //! Reads the arguments.
+mod bytes;
 mod commands;
 mod found;
 mod shown;
+mod style;
+mod usage;
 
-ghost use Rattle.std.specs.Prelude.{◌≡◌, ◌≢◌, ◌*◌, [], Some, codes, map, string_bytes, MatchResult, IfOk, IfErr, OnErr, true, false};
+ghost use Rattle.std.specs.Prelude.{◌≡◌, ◌≢◌, ◌⊎◌, [], Some, codes, map, string_bytes, MatchResult, IfOk, IfErr, true, false};
 ghost use Rattle.clap.specs.Matches.{found_of, first_value, subcommand_name_of};
-ghost use Rattle.command_words.specs.OffsetWord.{IsOffsetWord};
 ghost use Rattle.command_words.specs.Paths.{path_text};
 ghost use Rattle.command_words.specs.Words.{IsCheckOf, IsBareCheckOf, NamesMode, NamesModeIfAny};
-ghost use Rattle.command_words.specs.Found.{word_in, HasTerms, no_terms, NamesOrder, NamesFiles, PathIfAny, Asks, IsJobOf, IsNoOffset, IsNoByteOffset, IsNoRange};
+ghost use Rattle.command_words.specs.Found.{word_in, NumberIn, HasTerms, no_terms, NamesOrder, NamesFiles, PathIfAny, StartsNowhere};
+ghost use Rattle.command_words.specs.Found.{Asks, IsJobOf, IsNoRange, IsNoBound};
 ghost use Rattle.command_words.specs.declared.words.WordFault.TheVariants.{Memory};
 
-use crate::offset_word::offset_word;
+use crate::color::Color;
 use crate::path::{Path, PathFault, read_path};
+use crate::start::Start;
 use crate::terms::Terms;
 use bit_space::Order;
+use bytes::{bytes_in, start_of};
 use clap::ArgMatches;
 use clap::error::ErrorKind;
-use commands::{DEFAULT_LIMIT, PROGRAM, program};
+use clap::parser::ValueSource;
+use commands::{DEFAULT_LIMIT, PROGRAM, SHOWN_ELEMENTS, program};
 use found::{flag_of, number_if_any, number_of, word, word_of};
-use shown::{shown_word, shown_words};
+use shown::shown_words;
 use std::alloc::{AllocError, Global};
+use style::{color_of, style_of};
 use text_forms::mode::Mode;
+use text_forms::style::{Chars, Numbers, Style};
 use thiserror::Error;
+use usage::invalid_value;
 
 /// The usage error for arguments that are wrong, but whose escaped forms clap accepts.
 const WRONG_WORD: &str = "error: a word has bytes that aren't printed\n";
@@ -40,9 +49,10 @@ pub enum Job {
         name: String,
         file: String,
     },
-    /// Map a type over a file, from the bit `at` on, and print the value if it meets the terms. At least one is given.
+    /// Map a type over a file, and print the value if it meets the terms. At least one is given, or a start that is
+    /// counted from the file's end.
     MapUnder {
-        at: u64,
+        start: Start,
         order: Order,
         limit: u64,
         mode: Mode,
@@ -51,13 +61,25 @@ pub enum Job {
         name: String,
         file: String,
     },
-    /// Map a type over one file after another, and print a line for each.
+    /// Map a type over a file, and show the value to the eye.
+    Show {
+        start: Start,
+        order: Order,
+        limit: u64,
+        terms: Terms,
+        color: Color,
+        pickle: String,
+        name: String,
+        file: String,
+    },
+    /// Map a type over one file after another, and print a line for each. With `flush` each line is written at once.
     Each {
-        at: u64,
+        start: Start,
         order: Order,
         limit: u64,
         mode: Mode,
         terms: Terms,
+        flush: bool,
         pickle: String,
         name: String,
         files: FileNames,
@@ -69,12 +91,13 @@ pub enum Job {
         bits: u64,
     },
     /// Print the most steps and slots that a mapping of a type over `bits` bits takes, and the most bytes of its
-    /// printed value in `mode`, or in every mode.
+    /// printed value in `mode`, or in every mode, in a style.
     BoundText {
         pickle: String,
         name: String,
         bits: u64,
         mode: Option<Mode>,
+        style: Style,
     },
     /// Check a pickle.
     Check {
@@ -136,6 +159,8 @@ pub struct Asked {
     pub job: Job,
     /// Whether `--why` was given.
     pub why: bool,
+    /// Whether the job is a dump of which no size was given.
+    pub default_size: bool,
 }
 
 /// Reads the arguments, without the program's name, as a job. Without arguments the job is a check of standard input,
@@ -159,15 +184,18 @@ pub fn read_asked(alloc: Global, words: Vec<String>) -> Result<Asked, WordFault>
         return Ok(Asked {
             job: Job::Check { pickle },
             why: false,
+            default_size: false,
         });
     }
-    let named = after_name(alloc, words.as_slice())?;
+    let words = without_help_of_help(words.as_slice());
+    let named = after_name(alloc, words)?;
     match program(alloc)?.try_get_matches_from(named.as_slice()) {
         Ok(matches) => Ok(Asked {
             job: read_command(alloc, &matches)?,
             why: asks_why(&matches),
+            default_size: has_no_size(&matches),
         }),
-        Err(error) => match told(alloc, &error, words.as_slice()) {
+        Err(error) => match told(alloc, &error, words) {
             Ok(fault) => Err(fault),
             Err(AllocError) => Err(WordFault::Memory),
         },
@@ -179,6 +207,32 @@ fn asks_why(matches: &ArgMatches<'_>) -> bool {
     match matches.subcommand() {
         Some(("map" | "each" | "bound" | "check" | "types", found)) => found.get_flag("why"),
         _ => false,
+    }
+}
+
+// Whether a dump has no size among its arguments.
+fn has_no_size(matches: &ArgMatches<'_>) -> bool {
+    match matches.subcommand() {
+        Some(("dump", found)) => {
+            found.value_source("size") != Some(ValueSource::CommandLine)
+                && !found.contains_id("length")
+        }
+        _ => false,
+    }
+}
+
+// The arguments without the request for help that is the last argument of the command `help`. clap would take it for the
+// name of a command.
+fn without_help_of_help(words: &[String]) -> &[String] {
+    let [rest @ .., last] = words else {
+        return words;
+    };
+    let Some(first) = rest.first() else {
+        return words;
+    };
+    match (first.as_str(), last.as_str()) {
+        ("help", "-h" | "--help") => rest,
+        _ => words,
     }
 }
 
@@ -231,6 +285,7 @@ fn read_command(alloc: Global, matches: &ArgMatches<'_>) -> Result<Job, WordFaul
 {
     match matches.subcommand() {
         Some(("map", found)) => read_map(alloc, found),
+        Some(("show", found)) => read_show(alloc, found),
         Some(("each", found)) => read_each(alloc, found),
         Some(("bound", found)) => read_bound(alloc, found),
         Some(("types", found)) => read_types(alloc, found),
@@ -254,18 +309,18 @@ fn order_of(word: &str) -> Order
 fn read_map(alloc: Global, found: &ArgMatches<'_>) -> Result<Job, WordFault>
     ensures asks { IfOk result (Asks (found_of found.now)) }
     ensures command { IfOk result (IsJobOf (Some (codes "map"))) }
-    ensures offset { IfErr result (λ fault. fault ≡ WordFault.Offset → IsNoOffset (word_in (found_of found.now) (codes "at"))) }
+    ensures offset { IfErr result (λ fault. fault ≡ WordFault.Offset → StartsNowhere (found_of found.now)) }
 {
-    let terms = terms_of(alloc, found)?;
-    let at = bits_of(word(found, "at"))?;
+    let terms = terms_of(alloc, found, None)?;
+    let start = start_of(found)?;
     let order = order_of(word(found, "endian"));
-    let limit = number_of(found, "limit", DEFAULT_LIMIT);
+    let limit = limit_of(alloc, found)?;
     let mode = mode_of(word(found, "mode"));
     let pickle = word_of(alloc, found, "PICKLE")?;
     let name = word_of(alloc, found, "TYPE")?;
     let file = word_of(alloc, found, "FILE")?;
-    if has_no_terms(&terms) {
-        return Ok(Job::Map {
+    match start {
+        Start::Bit(at) if has_no_terms(&terms) => Ok(Job::Map {
             at,
             order,
             limit,
@@ -273,35 +328,61 @@ fn read_map(alloc: Global, found: &ArgMatches<'_>) -> Result<Job, WordFault>
             pickle,
             name,
             file,
-        });
+        }),
+        _ => Ok(Job::MapUnder {
+            start,
+            order,
+            limit,
+            mode,
+            terms,
+            pickle,
+            name,
+            file,
+        }),
     }
-    Ok(Job::MapUnder {
-        at,
-        order,
-        limit,
-        mode,
-        terms,
-        pickle,
-        name,
-        file,
+}
+
+fn read_show(alloc: Global, found: &ArgMatches<'_>) -> Result<Job, WordFault>
+    ensures asks { IfOk result (Asks (found_of found.now)) }
+    ensures command { IfOk result (IsJobOf (Some (codes "show"))) }
+    ensures offset { IfErr result (λ fault. fault ≡ WordFault.Offset → StartsNowhere (found_of found.now)) }
+{
+    Ok(Job::Show {
+        start: start_of(found)?,
+        order: order_of(word(found, "endian")),
+        limit: limit_of(alloc, found)?,
+        terms: terms_of(alloc, found, Some(SHOWN_ELEMENTS))?,
+        color: color_of(word(found, "color")),
+        pickle: word_of(alloc, found, "PICKLE")?,
+        name: word_of(alloc, found, "TYPE")?,
+        file: word_of(alloc, found, "FILE")?,
     })
 }
 
 fn read_each(alloc: Global, found: &ArgMatches<'_>) -> Result<Job, WordFault>
     ensures asks { IfOk result (Asks (found_of found.now)) }
     ensures command { IfOk result (IsJobOf (Some (codes "each"))) }
-    ensures offset { IfErr result (λ fault. fault ≡ WordFault.Offset → IsNoOffset (word_in (found_of found.now) (codes "at"))) }
+    ensures offset { IfErr result (λ fault. fault ≡ WordFault.Offset → StartsNowhere (found_of found.now)) }
 {
     Ok(Job::Each {
-        at: bits_of(word(found, "at"))?,
+        start: start_of(found)?,
         order: order_of(word(found, "endian")),
-        limit: number_of(found, "limit", DEFAULT_LIMIT),
+        limit: limit_of(alloc, found)?,
         mode: mode_of(word(found, "mode")),
-        terms: terms_of(alloc, found)?,
+        terms: terms_of(alloc, found, None)?,
+        flush: flag_of(found, "flush"),
         pickle: word_of(alloc, found, "PICKLE")?,
         name: word_of(alloc, found, "TYPE")?,
         files: names_in(alloc, found)?,
     })
+}
+
+// The most steps of a mapping.
+fn limit_of(alloc: Global, found: &ArgMatches<'_>) -> Result<u64, WordFault>
+    ensures ok { IfOk result (NumberIn (first_value (found_of found.now) (codes "limit")) 1000000000) }
+    ensures fault { IfErr result (λ fault. fault ≢ WordFault.Offset) }
+{
+    number_of(alloc, found, "limit", "--limit <N>", DEFAULT_LIMIT)
 }
 
 fn names_in(alloc: Global, found: &ArgMatches<'_>) -> Result<FileNames, AllocError>
@@ -324,16 +405,22 @@ fn copies(alloc: Global, words: &[&str]) -> Result<Vec<String>, AllocError>
     Ok(copies)
 }
 
-// The terms that the options request.
-fn terms_of(alloc: Global, found: &ArgMatches<'_>) -> Result<Terms, WordFault>
-    ensures terms { IfOk result (HasTerms (found_of found.now)) }
+// The terms that the options request. Without a request, printed arrays have at most `most_elements`.
+fn terms_of(
+    alloc: Global,
+    found: &ArgMatches<'_>,
+    most_elements: Option<u64>,
+) -> Result<Terms, WordFault>
+    ensures terms { IfOk result (HasTerms (found_of found.now) most_elements) }
     ensures path { IfErr result (λ fault. fault ≡ WordFault.Offset → ⊥) }
 {
     Ok(Terms {
         whole: flag_of(found, "whole"),
-        most_output: number_if_any(found, "max-output"),
+        most_output: number_if_any(alloc, found, "max-output", "--max-output <N>")?,
         part: part_of(alloc, found)?,
-        most_slots: number_if_any(found, "slots"),
+        most_slots: number_if_any(alloc, found, "slots", "--slots <N>")?,
+        style: style_of(alloc, found, most_elements)?,
+        look: None,
     })
 }
 
@@ -346,6 +433,12 @@ fn has_no_terms(terms: &Terms) -> bool
             most_output: None,
             part: None,
             most_slots: None,
+            style: Style {
+                numbers: Numbers::Decimal,
+                chars: Chars::Numbers,
+                elements: None,
+            },
+            look: None,
         } => true,
         _ => false,
     }
@@ -369,16 +462,11 @@ fn path_of(alloc: Global, word: &str) -> Result<Path, WordFault>
 {
     match read_path(alloc, word.as_bytes()) {
         Ok(path) => Ok(path),
-        Err(PathFault::Form) => Err(WordFault::Usage(no_path(alloc, word)?)),
+        Err(PathFault::Form) => {
+            Err(WordFault::Usage(invalid_value(alloc, word, "--get <PATH>", "not a path")?))
+        }
         Err(PathFault::Memory) => Err(WordFault::Memory),
     }
-}
-
-fn no_path(alloc: Global, word: &str) -> Result<String, AllocError> {
-    let word = shown_word(alloc, word.as_bytes())?;
-    format!(in alloc;
-        "error: invalid value '{word}' for '--get <PATH>': not a path\n\nFor more information, try '--help'.\n"
-    )
 }
 
 // The mode that an argument names: the default, `flat`, for any but the three others.
@@ -396,17 +484,19 @@ fn mode_of(word: &str) -> Mode
 fn read_bound(alloc: Global, found: &ArgMatches<'_>) -> Result<Job, WordFault>
     ensures asks { IfOk result (Asks (found_of found.now)) }
     ensures command { IfOk result (IsJobOf (Some (codes "bound"))) }
-    ensures memory { IfErr result (λ fault. fault ≡ Memory) }
+    ensures usage { IfErr result (λ fault. (fault ≡ Memory) ⊎ IsNoBound (found_of found.now)) }
+    ensures fault { IfErr result (λ fault. fault ≢ WordFault.Offset) }
 {
     let pickle = word_of(alloc, found, "PICKLE")?;
     let name = word_of(alloc, found, "TYPE")?;
-    let bits = number_of(found, "BITS", 0);
+    let bits = number_of(alloc, found, "BITS", "<BITS>", 0)?;
     if flag_of(found, "text") {
         return Ok(Job::BoundText {
             pickle,
             name,
             bits,
             mode: mode_in(found),
+            style: style_of(alloc, found, None)?,
         });
     }
     Ok(Job::Bound { pickle, name, bits })
@@ -446,37 +536,12 @@ fn read_dump(alloc: Global, found: &ArgMatches<'_>) -> Result<Job, WordFault>
     ensures command { IfOk result (IsJobOf (Some (codes "dump"))) }
     ensures offset { IfErr result (λ fault. fault ≡ WordFault.Offset → IsNoRange (found_of found.now)) }
 {
-    let from = bytes_of(word(found, "from"))?;
-    let size = bytes_of(word(found, "size"))?;
+    let from = bytes_in(found, "skip", "from")?;
+    let size = bytes_in(found, "length", "size")?;
     Ok(Job::Dump {
         from,
         size,
         ruler: !flag_of(found, "no-ruler"),
         file: word_of(alloc, found, "FILE")?,
     })
-}
-
-// The number of bits that an argument names.
-fn bits_of(word: &str) -> Result<u64, WordFault>
-    ensures ok { IfOk result (IsOffsetWord word.now) }
-    ensures err { IfErr result (λ fault. fault ≡ WordFault.Offset) }
-    ensures refused { OnErr result (IsNoOffset word.now) }
-{
-    match offset_word(word.as_bytes()) {
-        Some(bits) => Ok(bits),
-        None => Err(WordFault::Offset),
-    }
-}
-
-// The number of bytes that an argument names, if it names whole bytes.
-fn bytes_of(word: &str) -> Result<u64, WordFault>
-    ensures ok { IfOk result (λ bytes. IsOffsetWord word.now (8 * bytes)) }
-    ensures err { IfErr result (λ fault. fault ≡ WordFault.Offset) }
-    ensures refused { OnErr result (IsNoByteOffset word.now) }
-{
-    let bits = bits_of(word)?;
-    if bits % 8 != 0 {
-        return Err(WordFault::Offset);
-    }
-    Ok(bits / 8)
 }

@@ -12,10 +12,11 @@ use crate::alternatives::enter_alternatives;
 use crate::digits::is_in_digits;
 use crate::elements::{enter_array, is_own_array};
 use crate::fields::enter_fields;
-use crate::mapped::{check_constraint, is_fault, map_part};
+use crate::mapped::{check_constraint, is_fault, map_part_watched};
 use crate::part::{Entered, Part};
 use bit_space::{Meter, Order, Space};
 use pickle_map::mapper::stop::Stop;
+use pickle_map::mapper::watch::{Unwatched, Watch};
 use pickle_meaning::faults::MapFault;
 use pickle_types::table::{Table, TypeId};
 use pickle_types::view::{Node, Shape};
@@ -44,19 +45,65 @@ pub fn arises<S: Space>(
     ensures is { IsTrue result → OnBits (S.view space.old) (ArisesFrom (type_named table.now id) order start fault path.now) }
     ensures emptied { store.new ≡ emptied store.new }
 {
+    let found = find_there(
+        table,
+        id,
+        order,
+        start,
+        fault,
+        path,
+        space,
+        meter,
+        store,
+        &mut Unwatched,
+    );
+    store.clear();
+    found
+}
+
+/// What [`arises`] returns. Afterwards the store holds what was mapped, a frame for each part that the path goes
+/// through.
+///
+/// The watcher gets an `open` for each part that the path goes through, and `blame` for the bound of each array and the
+/// label of each field on it. Their stop has the kind of the fault, and the bit from which the bound or label counts.
+/// Then it gets what the part itself does when it is mapped.
+pub fn find_there<S: Space, W: Watch>(
+    table: &Table,
+    id: TypeId,
+    order: Order,
+    start: u64,
+    fault: MapFault,
+    path: &[usize],
+    space: &mut S,
+    meter: &mut Meter,
+    store: &mut Store,
+    watch: &mut W,
+) -> bool
+    requires known { IsInTable table.now id }
+    requires empty { store.old ≡ emptied store.old }
+    ensures leaves { Leaves (S.view space.old) (S.view space.new) meter.old meter.new }
+    ensures is { IsTrue result → OnBits (S.view space.old) (ArisesFrom (type_named table.now id) order start fault path.now) }
+{
     let whole = Part {
         node: id.node,
         order,
         start: u128::from(start),
         constraint: None,
     };
-    let found = follow(table.nodes(), whole, fault, path, space, meter, store);
-    store.clear();
-    found
+    follow(
+        table.nodes(),
+        whole,
+        fault,
+        path,
+        space,
+        meter,
+        store,
+        watch,
+    )
 }
 
 /// Whether the fault arises in the part of `whole` to which a path leads.
-fn follow<S: Space>(
+fn follow<S: Space, W: Watch>(
     nodes: &[Node],
     whole: Part<'_>,
     fault: MapFault,
@@ -64,6 +111,7 @@ fn follow<S: Space>(
     space: &mut S,
     meter: &mut Meter,
     store: &mut Store,
+    watch: &mut W,
 ) -> bool
     requires table { IsTable nodes.now }
     requires part { IsPart nodes.now (level_count store.old) whole }
@@ -85,17 +133,18 @@ fn follow<S: Space>(
                 store,
             );
         }
-        match enter(nodes, part, *place, fault, space, meter, store) {
+        watch.open(part.node);
+        match enter(nodes, part, *place, fault, space, meter, store, watch) {
             Entered::Part(next) => part = next,
             Entered::There => return step + 1 == path.len(),
             Entered::Nowhere => return false,
         }
     }
-    is_own(nodes, part, fault, space, meter, store)
+    is_own(nodes, part, fault, space, meter, store, watch)
 }
 
 /// Enters the part of a part at a place.
-fn enter<'a, S: Space>(
+fn enter<'a, S: Space, W: Watch>(
     nodes: &'a [Node],
     part: Part<'_>,
     place: usize,
@@ -103,6 +152,7 @@ fn enter<'a, S: Space>(
     space: &mut S,
     meter: &mut Meter,
     store: &mut Store,
+    watch: &mut W,
 ) -> Entered<'a>
     requires table { IsTable nodes.now }
     requires part { IsPart nodes.now (level_count store.old) part }
@@ -118,7 +168,7 @@ fn enter<'a, S: Space>(
         Shape::Struct { pinned, fields, .. } => {
             store.open_level();
             enter_fields(
-                nodes, *pinned, fields, part.order, start, place, fault, space, meter, store,
+                nodes, *pinned, fields, part.order, start, place, fault, space, meter, store, watch,
             )
         }
         Shape::Union { alternatives, .. } => {
@@ -138,6 +188,7 @@ fn enter<'a, S: Space>(
         Shape::Array(element, bound) => {
             enter_array(
                 nodes, *element, bound, part.order, part.start, place, fault, space, meter, store,
+                watch,
             )
         }
         Shape::Integer(_) | Shape::Offset(..) | Shape::Integral { .. } | Shape::String => {
@@ -154,21 +205,22 @@ fn is_integral(nodes: &[Node], at: usize) -> bool
 }
 
 /// Whether a fault arises in a part itself: in its constraint, or in its type.
-fn is_own<S: Space>(
+fn is_own<S: Space, W: Watch>(
     nodes: &[Node],
     part: Part<'_>,
     fault: MapFault,
     space: &mut S,
     meter: &mut Meter,
     store: &mut Store,
+    watch: &mut W,
 ) -> bool
     requires table { IsTable nodes.now }
     requires part { IsPart nodes.now (level_count store.old) part }
     ensures leaves { Leaves (S.view space.old) (S.view space.new) meter.old meter.new }
     ensures is { IsTrue result → OnBits (S.view space.old) (PartHas nodes.now part.entry fault store.old []) }
 {
-    match map_part(
-        nodes, part.node, part.order, part.start, space, meter, store,
+    match map_part_watched(
+        nodes, part.node, part.order, part.start, space, meter, store, watch,
     ) {
         Ok(_) => is_refused(nodes, part, fault, meter, store),
         Err(stop) => {

@@ -14,13 +14,14 @@ use crate::part::{Entered, Part};
 use bit_space::{Meter, Order, Space};
 use pickle_map::mapper::clauses::find_extent;
 use pickle_map::mapper::stop::Stop;
+use pickle_map::mapper::watch::{Clause, Watch};
 use pickle_meaning::extent::Extent;
 use pickle_meaning::faults::{MapFault, MapFaultKind};
 use pickle_types::view::{Extent as Bound, Node};
 use value_store::store::Store;
 
 /// Enters the element of an array at a place, after those before it.
-pub fn enter_array<'a, S: Space>(
+pub fn enter_array<'a, S: Space, W: Watch>(
     nodes: &[Node],
     element: usize,
     bound: &Bound,
@@ -31,6 +32,7 @@ pub fn enter_array<'a, S: Space>(
     space: &mut S,
     meter: &mut Meter,
     store: &mut Store,
+    watch: &mut W,
 ) -> Entered<'a>
     requires table { IsTable nodes.now }
     requires element { element < length nodes.now }
@@ -43,6 +45,7 @@ pub fn enter_array<'a, S: Space>(
     if u128::from(8 * space.len()) < start {
         return Entered::Nowhere;
     }
+    blame_bound(nodes, bound, store, Stop::Fault(fault.kind, start), watch);
     let Ok(extent) = find_extent(bound, store, start, meter) else {
         return Entered::Nowhere;
     };
@@ -59,6 +62,17 @@ pub fn enter_array<'a, S: Space>(
         meter,
         store,
     )
+}
+
+/// Tells the watcher the bound of an array on the path.
+fn blame_bound<W: Watch>(nodes: &[Node], bound: &Bound, store: &Store, stop: Stop, watch: &mut W)
+    requires sound { IsSoundBound (bound_of bound.now) }
+{
+    match bound {
+        Bound::Unbounded => (),
+        Bound::Count(e) => watch.blame(Clause::Count, e, nodes, store, stop),
+        Bound::Size(e) => watch.blame(Clause::Size, e, nodes, store, stop),
+    }
 }
 
 /// Enters an element of an array whose frame is open, after those before it.

@@ -1,7 +1,8 @@
 //! Fields of a struct, on the path to one of them.
 
 ghost use Rattle.std.specs.Prelude.{◌≡◌, All, IfOk};
-ghost use Rattle.pickle_types.specs.Table.{IsTable};
+ghost use Rattle.pickle_types.specs.Sound.{IsSoundClause};
+ghost use Rattle.pickle_types.specs.Table.{IsTable, optional_term};
 ghost use Rattle.pickle_map.specs.Mappable.{IsFieldOf};
 ghost use Rattle.value_store.specs.Slots.{levels, level_count};
 ghost use Rattle.fault_check.specs.Calls.{EntersFields, Passes};
@@ -12,12 +13,13 @@ use crate::part::{Entered, Part};
 use bit_space::{Meter, Order, Space};
 use pickle_map::mapper::stop::Stop;
 use pickle_map::mapper::types::ordered;
+use pickle_map::mapper::watch::{Clause, Watch};
 use pickle_meaning::faults::MapFault;
-use pickle_types::view::{Field, Node};
+use pickle_types::view::{Field, Node, Resolved};
 use value_store::store::Store;
 
 /// Enters the field at a place of a struct, which starts at the bit `start`, after those before it.
-pub fn enter_fields<'a, S: Space>(
+pub fn enter_fields<'a, S: Space, W: Watch>(
     nodes: &[Node],
     pinned: bool,
     fields: &'a [Field],
@@ -28,6 +30,7 @@ pub fn enter_fields<'a, S: Space>(
     space: &mut S,
     meter: &mut Meter,
     store: &mut Store,
+    watch: &mut W,
 ) -> Entered<'a>
     requires table { IsTable nodes.now }
     requires fields { All (IsFieldOf nodes.now (level_count store.old)) fields.now }
@@ -39,7 +42,7 @@ pub fn enter_fields<'a, S: Space>(
     for (index, field) in fields.iter().enumerate() {
         if index == place {
             return enter_field(
-                nodes, pinned, field, order, start, behind, fault, meter, store,
+                nodes, pinned, field, order, start, behind, fault, meter, store, watch,
             );
         }
         match pass_field(
@@ -88,7 +91,7 @@ fn pass_field<S: Space>(
 }
 
 /// Enters a field. Where its condition or its label stops with the fault, the fault arises there.
-fn enter_field<'a>(
+fn enter_field<'a, W: Watch>(
     nodes: &[Node],
     pinned: bool,
     field: &'a Field,
@@ -98,6 +101,7 @@ fn enter_field<'a>(
     fault: MapFault,
     meter: &mut Meter,
     store: &Store,
+    watch: &mut W,
 ) -> Entered<'a>
     requires field { IsFieldOf nodes.now (level_count store.now) field.now }
     ensures limit { meter.new.limit ≡ meter.old.limit }
@@ -109,6 +113,8 @@ fn enter_field<'a>(
         Ok(false) => return Entered::Nowhere,
         Err(stop) => return there_if(stop, fault),
     }
+    let stop = Stop::Fault(fault.kind, u128::from(start));
+    blame_label(nodes, &field.label, store, stop, watch);
     match find_start(pinned, &field.label, start, behind, meter, store) {
         Ok(place) => Entered::Part(Part {
             node: field.node,
@@ -117,5 +123,21 @@ fn enter_field<'a>(
             constraint: Some(&field.constraint),
         }),
         Err(stop) => there_if(stop, fault),
+    }
+}
+
+/// Tells the watcher the label of a field on the path, if it has one.
+fn blame_label<W: Watch>(
+    nodes: &[Node],
+    label: &Option<Box<Resolved>>,
+    store: &Store,
+    stop: Stop,
+    watch: &mut W,
+)
+    requires sound { IsSoundClause (optional_term label.now) }
+{
+    match label {
+        None => (),
+        Some(e) => watch.blame(Clause::Label, e, nodes, store, stop),
     }
 }

@@ -17,7 +17,7 @@ use bit_space::{Meter, Order, Space};
 use pickle_map::mapper::clauses;
 use pickle_map::mapper::state::Mapper;
 use pickle_map::mapper::stop::Stop;
-use pickle_map::mapper::watch::Unwatched;
+use pickle_map::mapper::watch::{Unwatched, Watch};
 use pickle_meaning::faults::MapFault;
 use pickle_types::view::{Node, Resolved};
 use value_store::store::Store;
@@ -41,11 +41,43 @@ pub fn map_part<S: Space>(
     ensures level { AddsToLevel nodes.now store.old store.new result }
     ensures outer { outer_of (levels nodes.now store.new) ≡ outer_of (levels nodes.now store.old) }
 {
+    map_part_watched(
+        nodes,
+        node,
+        order,
+        start,
+        space,
+        meter,
+        store,
+        &mut Unwatched,
+    )
+}
+
+/// Maps as [`map_part`] does, and reports to a watcher.
+pub fn map_part_watched<S: Space, W: Watch>(
+    nodes: &[Node],
+    node: usize,
+    order: Order,
+    start: u128,
+    space: &mut S,
+    meter: &mut Meter,
+    store: &mut Store,
+    watch: &mut W,
+) -> Result<u64, Stop>
+    requires table { IsTable nodes.now }
+    requires at { node < length nodes.now }
+    requires open { level_count store.old + depth (type_of nodes.now node) ≤ 65 }
+    ensures frame { Frame (S.view space.old) (S.view space.new) meter.old meter.new store.old store.new 0 result }
+    ensures ends { IfOk result (IsEnd start (S.view space.old)) }
+    ensures is { OnBits (S.view space.old) (MapsType nodes.now node order start store.old store.new result) }
+    ensures level { AddsToLevel nodes.now store.old store.new result }
+    ensures outer { outer_of (levels nodes.now store.new) ≡ outer_of (levels nodes.now store.old) }
+{
     let mut mapper = Mapper {
         nodes,
         meter,
         store,
-        watch: &mut Unwatched,
+        watch,
     };
     mapper.map_type(node, order, start, space)
 }

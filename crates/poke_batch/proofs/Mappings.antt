@@ -11,9 +11,12 @@ use Rattle.pickle_types.specs.Names.{Names, find_type}
 use Rattle.pickle_types.specs.Types.{PokeType}
 use Rattle.pickle_meaning.specs.Answer.{Answer}
 use Rattle.pickle_meaning.specs.Clauses.{FaultAt}
-use Rattle.pickle_map.specs.Mapped.{FaultMeans, EndsRun, Gives}
+use Rattle.bit_space.specs.declared.meter.Meter.{Meter}
+use Rattle.mapping_plans.specs.Mapping.{plan}
+use Rattle.pickle_map.specs.Framed.{Runs, world_of}
+use Rattle.pickle_map.specs.Mapped.{FaultMeans, EndsRun, Gives, fault_finish, RunsToFault}
 use Rattle.value_store.specs.Slots.{Held, levels}
-use Rattle.pickle_meaning.specs.Values.{Value, value_at}
+use Rattle.pickle_meaning.specs.Values.{Value, no_values, value_at}
 use Rattle.pickle_meaning.specs.declared.faults.MapFaultKind.{MapFaultKind}
 use Rattle.pickle_meaning.specs.declared.faults.MapFaultKind.TheVariants as fault
 use Rattle.run_parts.specs.Accepted.{IsAccepted}
@@ -41,41 +44,57 @@ has_answer bytes type order start limit most used answer k j same none means = r
 stopped : (pickle : List ℕ) (ask : Ask) (before after : SpaceView) (type : PokeType) (at most used taken k j : ℕ) (kind : MapFaultKind)
     → most ≡ ask.limit → used ≡ 0 → IsAsked pickle ask.name.now type
     → ((bytes : List ℕ) → before.bytes ≡ Some bytes → Answer (bits_of bytes) type ask.order ask.start (most - used) (Err (kind, at)) k j)
+    → RunsToFault before type ask.order ask.start ask.limit kind at
     → (kind ≡ fault.Limit → (taken ≡ most) × (most < used + cost type (8 * before.len))) → (EndsRun kind → at ≡ ask.start)
     → kind ≢ fault.Device → kind ≢ fault.Memory
     → MapsAs pickle ask before after (Line Fault (fault_at_line (fault_kind kind) at))
-stopped pickle ask before after type at most used taken k j kind same none a means over place not_device not_memory =
+stopped pickle ask before after type at most used taken k j kind same none a means run over place not_device not_memory =
     stops a not_device not_memory
     (λ bytes known. has_answer bytes type ask.order ask.start ask.limit most used (Err (kind, at)) k j same none (means bytes known))
+    run
     (λ e. (place (subst EndsRun (sym e) tt), omega (arith, (over e).1, same, none)))
+
+-- the run of a mapping whose meter took no step and made no value before
+pub run_to_fault : (space : SpaceView) (type : PokeType) (order : Order) (start limit : ℕ) (meter meter' : Meter) (store store' : Held) (kind : MapFaultKind) (at : ℕ)
+    → meter.limit ≡ limit → meter.steps ≡ 0 → meter.made ≡ 0
+    → Runs space meter meter' store store' (plan (8 * space.len) type order no_values start) (fault_finish kind at)
+    → RunsToFault space type order start limit kind at
+run_to_fault space type order start limit meter meter' store store' kind at same none nothing run = record {
+  world = world_of space store store';
+  known = refl;
+  steps = meter'.steps;
+  made = meter'.made;
+  follows = rw (same, none, nothing) at run;
+}
 
 -- what a mapping says of its fault
 pub fault_says : (pickle : List ℕ) (ask : Ask) (before after : SpaceView) (type : PokeType) (at most used taken k j : ℕ) (kind : MapFaultKind)
     → most ≡ ask.limit → used ≡ 0 → IsAsked pickle ask.name.now type
     → ((bytes : List ℕ) → before.bytes ≡ Some bytes → FaultMeans (bits_of bytes) type ask.order ask.start (most - used) kind at k j)
+    → RunsToFault before type ask.order ask.start ask.limit kind at
     → (kind ≡ fault.Limit → (taken ≡ most) × (most < used + cost type (8 * before.len))) → (EndsRun kind → at ≡ ask.start)
     → (kind ≡ fault.Device → HasRisen before.failures after.failures)
     → MapsAs pickle ask before after (fault_saying kind at)
-fault_says pickle ask before after type at most used taken k j fault.End same none a means over place risen =
-    stopped pickle ask before after type at most used taken k j fault.End same none a means over place (λ e. cc) (λ e. cc)
-fault_says pickle ask before after type at most used taken k j fault.Constraint same none a means over place risen =
-    stopped pickle ask before after type at most used taken k j fault.Constraint same none a means over place (λ e. cc) (λ e. cc)
-fault_says pickle ask before after type at most used taken k j fault.Bounds same none a means over place risen =
-    stopped pickle ask before after type at most used taken k j fault.Bounds same none a means over place (λ e. cc) (λ e. cc)
-fault_says pickle ask before after type at most used taken k j fault.NoBits same none a means over place risen =
-    stopped pickle ask before after type at most used taken k j fault.NoBits same none a means over place (λ e. cc) (λ e. cc)
-fault_says pickle ask before after type at most used taken k j fault.Zero same none a means over place risen =
-    stopped pickle ask before after type at most used taken k j fault.Zero same none a means over place (λ e. cc) (λ e. cc)
-fault_says pickle ask before after type at most used taken k j fault.Overflow same none a means over place risen =
-    stopped pickle ask before after type at most used taken k j fault.Overflow same none a means over place (λ e. cc) (λ e. cc)
-fault_says pickle ask before after type at most used taken k j fault.Absent same none a means over place risen =
-    stopped pickle ask before after type at most used taken k j fault.Absent same none a means over place (λ e. cc) (λ e. cc)
-fault_says pickle ask before after type at most used taken k j fault.Index same none a means over place risen =
-    stopped pickle ask before after type at most used taken k j fault.Index same none a means over place (λ e. cc) (λ e. cc)
-fault_says pickle ask before after type at most used taken k j fault.Limit same none a means over place risen =
-    stopped pickle ask before after type at most used taken k j fault.Limit same none a means over place (λ e. cc) (λ e. cc)
-fault_says pickle ask before after type at most used taken k j fault.Device same none a means over place risen = device a (risen refl)
-fault_says pickle ask before after type at most used taken k j fault.Memory same none a means over place risen = no_memory
+fault_says pickle ask before after type at most used taken k j fault.End same none a means run over place risen =
+    stopped pickle ask before after type at most used taken k j fault.End same none a means run over place (λ e. cc) (λ e. cc)
+fault_says pickle ask before after type at most used taken k j fault.Constraint same none a means run over place risen =
+    stopped pickle ask before after type at most used taken k j fault.Constraint same none a means run over place (λ e. cc) (λ e. cc)
+fault_says pickle ask before after type at most used taken k j fault.Bounds same none a means run over place risen =
+    stopped pickle ask before after type at most used taken k j fault.Bounds same none a means run over place (λ e. cc) (λ e. cc)
+fault_says pickle ask before after type at most used taken k j fault.NoBits same none a means run over place risen =
+    stopped pickle ask before after type at most used taken k j fault.NoBits same none a means run over place (λ e. cc) (λ e. cc)
+fault_says pickle ask before after type at most used taken k j fault.Zero same none a means run over place risen =
+    stopped pickle ask before after type at most used taken k j fault.Zero same none a means run over place (λ e. cc) (λ e. cc)
+fault_says pickle ask before after type at most used taken k j fault.Overflow same none a means run over place risen =
+    stopped pickle ask before after type at most used taken k j fault.Overflow same none a means run over place (λ e. cc) (λ e. cc)
+fault_says pickle ask before after type at most used taken k j fault.Absent same none a means run over place risen =
+    stopped pickle ask before after type at most used taken k j fault.Absent same none a means run over place (λ e. cc) (λ e. cc)
+fault_says pickle ask before after type at most used taken k j fault.Index same none a means run over place risen =
+    stopped pickle ask before after type at most used taken k j fault.Index same none a means run over place (λ e. cc) (λ e. cc)
+fault_says pickle ask before after type at most used taken k j fault.Limit same none a means run over place risen =
+    stopped pickle ask before after type at most used taken k j fault.Limit same none a means run over place (λ e. cc) (λ e. cc)
+fault_says pickle ask before after type at most used taken k j fault.Device same none a means run over place risen = device a (risen refl)
+fault_says pickle ask before after type at most used taken k j fault.Memory same none a means run over place risen = no_memory
 
 -- the value that a store gives, as the value that is shown at its root
 pub root_given : {nodes : List Node} {store : Held} {P : Value → Type 0} (g : Gives nodes store P) → value_at (levels nodes store) 0 0 ≡ Some g.value

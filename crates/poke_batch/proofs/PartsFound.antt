@@ -1,9 +1,21 @@
 -- Laws of the parts to which paths lead.
-use Rattle.std.proofs.Common.{◌≡◌, ◌∙◌, ℕ, suc, ◌+◌, ◌-◌, ◌<◌, true, false, List, [], ◌∷◌, Some, None, drop, refl, sym, ap, subst, arith}
+use Rattle.std.proofs.Common.{◌≡◌, ◌∙◌, ℕ, suc, Bool, ◌+◌, ◌-◌, ◌<◌, true, false, List, [], ◌∷◌, Option, Some, None, drop, refl, sym, ap, subst, arith}
 use Rattle.value_store.specs.Labels.{member_name}
-use Rattle.pickle_meaning.specs.Values.{Label, Value}
+use Rattle.pickle_meaning.specs.Values.{Label, Value, label_of, members_of, member_at}
 use Rattle.command_words.specs.declared.path.Step.{Step}
-use Rattle.poke_batch.specs.PathParts.{is_named, place_named, step_to, part_from, part_of}
+use Rattle.command_words.specs.declared.path.Step.TheVariants.{Field, Place, Element}
+use Rattle.command_words.specs.declared.ask.Ask.{Ask}
+use Rattle.command_words.specs.declared.terms.Terms.{Terms}
+use Rattle.pickle_types.specs.declared.node.Node.{Node}
+use Rattle.pickle_types.specs.declared.table.Table.{Table}
+use Rattle.pickle_types.specs.declared.table.TypeId.{TypeId}
+use Rattle.pickle_types.specs.NodeParts.{char_node_of}
+use Rattle.pickle_types.specs.TypeTable.{nodes_of}
+use Rattle.value_text.specs.declared.typed.Typed.{Typed}
+use Rattle.value_text.specs.TypedValue.{nodes_in, char_node_in, types_in, node_in, mapped_in}
+use Rattle.poke_batch.specs.PathNodes.{node_of}
+use Rattle.poke_batch.specs.RunsUnder.{text_in, typed_text, part_text}
+use Rattle.poke_batch.specs.PathParts.{is_array, is_named, is_nameless_at, place_named, place_if, place_of, member_if, member_there, node_there, node_from, node_at, step_to, part_from, part_of}
 
 named_first : (name : List ℕ) (label : Label) (more place : ℕ) → is_named name (member_name label place) ≡ true
     → place_named name label (suc more) place ≡ Some place
@@ -37,3 +49,41 @@ pub lost : (steps : List Step) (i : ℕ) (step : Step) (given reached : Value) �
     → drop i steps ≡ step ∷ drop (i + 1) steps → None ≡ step_to step reached → None ≡ part_of steps given
 lost steps i step given reached so_far next none =
     sym (so_far ∙ ap (λ s. part_from s (Some reached)) next ∙ ap (part_from (drop (i + 1) steps)) (sym none) ∙ nowhere (drop (i + 1) steps))
+
+-- one step further
+pub further_part : (step : Step) (steps : List Step) {left : List Step} (value part : Value) → left ≡ step ∷ steps → Some part ≡ step_to step value → part_of left value ≡ part_of steps part
+further_part step steps value part next found = ap (λ s. part_from s (Some value)) next ∙ ap (part_from steps) (sym found)
+
+pub further_node : (nodes : List Node) (step : Step) (steps : List Step) {left : List Step} (of : Option ℕ) (value : Value) (to : Option ℕ) (part : Value) → left ≡ step ∷ steps
+    → Some part ≡ step_to step value → to ≡ node_there nodes of value (place_of step value) → node_from nodes left of (Some value) ≡ node_from nodes steps to (Some part)
+further_node nodes step steps of value to part next found node =
+    ap (λ s. node_from nodes s of (Some value)) next
+    ∙ ap (node_from nodes steps (node_there nodes of value (place_of step value))) (sym found)
+    ∙ ap (λ n. node_from nodes steps n (Some part)) (sym node)
+
+-- a step leads to the member at its place
+pub step_there : (step : Step) (value : Value) → member_there value (place_of step value) ≡ step_to step value
+step_there (Field name) value = refl
+step_there (Place place) value = chosen (is_nameless_at value place)
+  where
+    chosen : (hit : Bool) → member_there value (place_if hit place) ≡ member_if hit (member_at (members_of value) place)
+    chosen true = refl
+    chosen false = refl
+step_there (Element place) value = chosen (is_array (label_of value))
+  where
+    chosen : (hit : Bool) → member_there value (place_if hit place) ≡ member_if hit (member_at (members_of value) place)
+    chosen true = refl
+    chosen false = refl
+
+-- a part is printed as the part of a value of a table
+pub part_printed : (table : Table) (id : TypeId) (ask : Ask) (terms : Terms) (whole part : Typed)
+    → nodes_in (types_in whole) ≡ nodes_of table → char_node_in (types_in whole) ≡ char_node_of table → node_in whole ≡ Some id.node
+    → types_in part ≡ types_in whole → node_in part ≡ node_of terms.part whole
+    → typed_text terms.look terms.style ask.mode part ≡ part_text table id ask terms (mapped_in whole) (mapped_in part)
+part_printed table id ask terms whole part nodes chars of same node =
+    let text = λ (ns : List Node) (letters n : Option ℕ). text_in terms.look terms.style ask.mode ns letters n (mapped_in part) in
+    ap (λ types. text (nodes_in types) (char_node_in types) (node_in part)) same
+    ∙ ap (λ n. text (nodes_in (types_in whole)) (char_node_in (types_in whole)) n) node
+    ∙ ap (λ n. text (nodes_in (types_in whole)) (char_node_in (types_in whole)) (node_at (nodes_in (types_in whole)) terms.part n (mapped_in whole))) of
+    ∙ ap (λ c. text (nodes_in (types_in whole)) c (node_at (nodes_in (types_in whole)) terms.part (Some id.node) (mapped_in whole))) chars
+    ∙ ap (λ ns. text ns (char_node_of table) (node_at ns terms.part (Some id.node) (mapped_in whole))) nodes

@@ -91,7 +91,7 @@ refusal_not_done refusal.Memory = tt
 
 map_not_done : {pickle : List ℕ} {ask : Ask} {before after : SpaceView} {saying : Saying} → MapsAs pickle ask before after saying → LineHas IsNotDone saying
 map_not_done (value asked means fits) = tt
-map_not_done (stops asked no_device not_memory means limit) = tt
+map_not_done (stops asked no_device not_memory means run limit) = tt
 map_not_done (device asked risen) = tt
 map_not_done (unknown accepted none) = tt
 map_not_done (refused_map {refusal} refuses) = refusal_not_done refusal
@@ -121,7 +121,7 @@ refusal_no_device refusal.Memory h = apart 68 77 (omega arith) (sym h)
 
 map_no_device : {pickle : List ℕ} {ask : Ask} {before after : SpaceView} {saying : Saying} → before.failures ≡ 0 → after.failures ≡ 0 → MapsAs pickle ask before after saying → TellsDevice saying → ⊥
 map_no_device b a (value asked means fits) h = h
-map_no_device b a (stops asked no_device not_memory means limit) h = h
+map_no_device b a (stops asked no_device not_memory means run limit) h = h
 map_no_device b a (device asked risen) h = not_risen _ _ b a risen
 map_no_device b a (unknown accepted none) h = h
 map_no_device b a (refused_map {refusal} refuses) h = refusal_no_device refusal h

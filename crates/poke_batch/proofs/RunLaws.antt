@@ -1,5 +1,5 @@
 -- The laws of what runs write.
-use Rattle.std.proofs.Common.{◌≡◌, ◌*◌, ℕ, zero, suc, Bool, true, false, List, Option, Some, None, Ok, length, codes, inl, inr, refl, sym, subst}
+use Rattle.std.proofs.Common.{◌≡◌, ◌*◌, ℕ, zero, suc, Bool, true, false, List, Option, Some, None, Ok, length, codes, inl, inr, refl, sym, ap, ◌∙◌, subst}
 use Rattle.std.specs.Prelude.{nat_le, if◌then◌else◌}
 use Rattle.std.specs.Io.KnownBytes.{Appends}
 use Rattle.bit_space.specs.SpaceView.{SpaceView}
@@ -16,20 +16,33 @@ use Rattle.command_words.specs.declared.terms.Terms.{Terms}
 use Rattle.value_text.specs.Json.{Reads}
 use Rattle.value_text.specs.JsonValue.{json_of}
 use Rattle.run_parts.specs.Lines.{fault_at_line}
-use Rattle.poke_batch.specs.PathParts.{part_at}
+use Rattle.poke_batch.specs.PathParts.{part_at, node_at}
 use Rattle.value_text.specs.Printed.{printed}
 use Rattle.poke_batch.specs.RunLaws.{MappedPartsAreSmall, WritesJson, MappedJsonReadsBack, PartJsonReadsBack}
 use Rattle.poke_batch.specs.Runs.{IsAsked, HasAnswer, MapsAs, value, stops, device, unknown, refused_map, no_memory}
-use Rattle.poke_batch.specs.RunsUnder.{text_saying, is_left, part_saying, kept_saying, value_saying, MapsUnder, mapped_under, ended_under, slots_under}
+use Rattle.poke_batch.specs.RunsUnder.{text_in, text_saying, is_left, part_saying, part_text, kept_saying, value_saying, MapsUnder, mapped_under, ended_under, slots_under}
 use Rattle.value_text.specs.SmallParts.{HasSmallParts, AreSmallParts}
 use Rattle.run_parts.specs.Told.{Saying, Text, Line, IsSaid, IsTold, IsWritten}
 use Rattle.value_text.proofs.JsonValues.{json_reads_back}
+use Rattle.value_text.proofs.PlainTexts.{prints_plain}
+use Rattle.text_forms.specs.Styles.{plain}
+use Rattle.pickle_types.specs.declared.table.Table.{Table}
+use Rattle.pickle_types.specs.declared.table.TypeId.{TypeId}
+use Rattle.pickle_types.specs.NodeParts.{char_node_of}
+use Rattle.pickle_types.specs.TypeTable.{nodes_of}
 use Rattle.poke_batch.proofs.PartsKept.{same_value, part_keeps}
 use Rattle.poke_batch.proofs.SmallTypes.{accepted_small}
 use Rattle.poke_batch.proofs.SmallValues.{value_small}
 
 pub parts_small : MappedPartsAreSmall
 parts_small pickle name m type levels start mapped asked fits = value_small m type levels start mapped (accepted_small pickle asked.declarations asked.types name type asked.accepted asked.found) fits
+
+-- in the plain style a part is printed as without a style
+pub plain_part : (table : Table) (id : TypeId) (ask : Ask) (terms : Terms) (whole part : Value) → terms.style ≡ plain → terms.look ≡ None → part_text table id ask terms whole part ≡ printed ask.mode part
+plain_part table id ask terms whole part e none =
+    ap (λ look. text_in look terms.style ask.mode (nodes_of table) (char_node_of table) (node_at (nodes_of table) terms.part (Some id.node) whole) part) none
+    ∙ ap (λ style. text_in None style ask.mode (nodes_of table) (char_node_of table) (node_at (nodes_of table) terms.part (Some id.node) whole) part) e
+    ∙ prints_plain (nodes_of table) (char_node_of table) (node_at (nodes_of table) terms.part (Some id.node) whole) ask.mode part
 
 not_outside : {status : Status} → status ≡ Done → status ≡ Outside → ⊥
 not_outside done outside = cc
@@ -91,22 +104,26 @@ module _ (pickle : List ℕ) (ask : Ask) (before : SpaceView) (status : Status) 
         chosen true h = text_reads part found h
         chosen false h = no_line Fault _ (λ e. cc) h
 
-    part_reads : (most : Option ℕ) (found : Option Value) → part_at path mapped ≡ found → IsSaidHere (part_saying ask most found) → WritesJson pickle ask path before out out'
+    part_reads : (most : Option ℕ) (found : Option Value) → part_at path mapped ≡ found → IsSaidHere (part_saying ask most (printed ask.mode) found) → WritesJson pickle ask path before out out'
     part_reads most None is h = no_line Fault _ (λ e. cc) h
     part_reads most (Some part) is h = kept_reads most part is h
 
-  value_reads : (terms : Terms) {type : PokeType} {mapped : Value} → IsAsked pickle ask.name.now type
+  value_reads : (terms : Terms) → terms.style ≡ plain → terms.look ≡ None → (table : Table) (id : TypeId) {type : PokeType} {mapped : Value} → IsAsked pickle ask.name.now type
       → ((bytes : List ℕ) → before.bytes ≡ Some bytes → HasAnswer bytes type ask.order ask.start ask.limit (Ok mapped)) → Fits (8 * before.len) type no_values ask.start mapped
-      → IsSaidHere (value_saying ask terms (8 * before.len) mapped) → WritesJson pickle ask terms.part before out out'
-  value_reads terms {mapped = mapped} asked means fits h = chosen (is_left terms.whole (end_of mapped) (8 * before.len)) h
+      → IsSaidHere (value_saying table id ask terms (8 * before.len) mapped) → WritesJson pickle ask terms.part before out out'
+  value_reads terms is none table id {mapped = mapped} asked means fits h = chosen (is_left terms.whole (end_of mapped) (8 * before.len)) h
     where
-      chosen : (left : Bool) → IsSaidHere (if left then Line Fault (fault_at_line (codes "Left") (end_of mapped)) else kept_saying ask terms mapped) → WritesJson pickle ask terms.part before out out'
+      as_plain : (found : Option Value) → IsSaidHere (part_saying ask terms.most_output (part_text table id ask terms mapped) found) → IsSaidHere (part_saying ask terms.most_output (printed ask.mode) found)
+      as_plain None h = h
+      as_plain (Some part) h = subst (λ text. IsSaidHere (text_saying terms.most_output ask.start text)) (plain_part table id ask terms mapped part is none) h
+
+      chosen : (left : Bool) → IsSaidHere (if left then Line Fault (fault_at_line (codes "Left") (end_of mapped)) else kept_saying table id ask terms mapped) → WritesJson pickle ask terms.part before out out'
       chosen true h = no_line Fault _ (λ e. cc) h
-      chosen false h = part_reads terms.part asked means fits terms.most_output (part_at terms.part mapped) refl h
+      chosen false h = part_reads terms.part asked means fits terms.most_output (part_at terms.part mapped) refl (as_plain (part_at terms.part mapped) h)
 
   json_written : (after : SpaceView) (saying : Saying) → MapsAs pickle ask before after saying → IsSaidHere saying → WritesJson pickle ask None before out out'
   json_written after saying (value {mapped = mapped} asked means fits) h = text_reads None asked means fits mapped refl h
-  json_written after saying (stops asked a b c d) h = no_line Fault _ (λ e. cc) h
+  json_written after saying (stops asked a b c run d) h = no_line Fault _ (λ e. cc) h
   json_written after saying (device asked a) h = no_line Outside _ (λ e. cc) h
   json_written after saying (unknown a b) h = no_line Refused _ (λ e. cc) h
   json_written after saying (refused_map {refusal = refusal.Tokens kind at} a) h = no_line Refused _ (λ e. cc) h
@@ -120,7 +137,7 @@ module _ (pickle : List ℕ) (ask : Ask) (before : SpaceView) (status : Status) 
   -- no line of a mapping is printed with the exit status of one that is done
   line_is : (after : SpaceView) (saying : Saying) → MapsAs pickle ask before after saying → (line_status : Status) (line : List ℕ) → saying ≡ Line line_status line → line_status ≡ Done → ⊥
   line_is after _ (value asked means fits) line_status line is e = cc
-  line_is after _ (stops asked a b c d) line_status line is e = cc
+  line_is after _ (stops asked a b c run d) line_status line is e = cc
   line_is after _ (device asked a) line_status line is e = cc
   line_is after _ (unknown a b) line_status line is e = cc
   line_is after _ (refused_map {refusal = refusal.Tokens kind at} a) line_status line is e = cc
@@ -131,13 +148,13 @@ module _ (pickle : List ℕ) (ask : Ask) (before : SpaceView) (status : Status) 
   line_is after _ (refused_map {refusal = refusal.Memory} a) line_status line is e = cc
   line_is after _ no_memory line_status line is e = cc
 
-  part_written : (terms : Terms) (after : SpaceView) (saying : Saying) → MapsUnder pickle ask terms before after saying → IsSaidHere saying → WritesJson pickle ask terms.part before out out'
-  part_written terms after saying (mapped_under asked means fits) h = value_reads terms asked means fits h
-  part_written terms after saying (ended_under {status = line_status} {line = line} right) h = no_line line_status line (line_is after (Line line_status line) right line_status line refl) h
-  part_written terms after saying (slots_under asked most few) h = no_line Fault _ (λ e. cc) h
+  part_written : (terms : Terms) → terms.style ≡ plain → terms.look ≡ None → (after : SpaceView) (saying : Saying) → MapsUnder pickle ask terms before after saying → IsSaidHere saying → WritesJson pickle ask terms.part before out out'
+  part_written terms is none after saying (mapped_under table id named asked means fits) h = value_reads terms is none table id asked means fits h
+  part_written terms is none after saying (ended_under {status = line_status} {line = line} right) h = no_line line_status line (line_is after (Line line_status line) right line_status line refl) h
+  part_written terms is none after saying (slots_under asked most few) h = no_line Fault _ (λ e. cc) h
 
 pub mapped_json : MappedJsonReadsBack
 mapped_json pickle ask before after status out out' err err' mode done h = json_written pickle ask before status out out' err err' mode done after h.saying h.right h.said
 
 pub part_json : PartJsonReadsBack
-part_json pickle ask terms before after status out out' err err' mode done h = part_written pickle ask before status out out' err err' mode done terms after h.saying h.right h.said
+part_json pickle ask terms before after status out out' err err' mode is none done h = part_written pickle ask before status out out' err err' mode done terms is none after h.saying h.right h.said

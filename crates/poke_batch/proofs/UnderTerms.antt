@@ -26,6 +26,12 @@ use Rattle.run_parts.specs.FaultLines.{fault_saying}
 use Rattle.poke_batch.specs.Runs.{MapsAs, value, refused_map, no_memory}
 use Rattle.poke_batch.specs.RunsUnder.{MapsUnder, mapped_under, ended_under, slots_under, IsStoreOf, end_saying, SaysIt, said_so, no_memory_for_it, is_left, text_saying, part_saying, kept_saying, value_saying}
 use Rattle.run_parts.specs.Told.{Saying, Text, Line, Says}
+use Rattle.pickle_types.specs.declared.table.Table.{Table}
+use Rattle.pickle_types.specs.declared.table.TypeId.{TypeId}
+use Rattle.pickle_types.specs.NodeParts.{char_node_of}
+use Rattle.pickle_types.specs.TypeTable.{nodes_of}
+use Rattle.text_forms.specs.Styles.{plain}
+use Rattle.value_text.proofs.PlainTexts.{prints_plain}
 
 -- a value that fits starts where it was to start
 pub fits_start : (m : ℕ) (ty : PokeType) (levels : Levels) (s : ℕ) (v : Value) → Fits m ty levels s v → start_of v ≡ s
@@ -98,29 +104,30 @@ long_saying most start text more =
     subst (λ b. SaysIt (if b then Text text else Line Fault (fault_at_line (codes "Output") start)) (Line Fault (fault_at_line (codes "Output") start))) (sym (lt-leb (length text) most more)) said_so
 
 -- a value without the requested part
-pub no_part_saying : (ask : Ask) (most : Option ℕ) (found : Option Value) → found ≡ None → SaysIt (part_saying ask most found) (Line Fault (fault_line (codes "NoSuchPart")))
-no_part_saying ask most found none = subst (λ o. SaysIt (part_saying ask most o) (Line Fault (fault_line (codes "NoSuchPart")))) (sym none) said_so
+pub no_part_saying : (ask : Ask) (most : Option ℕ) (text : Value → List ℕ) (found : Option Value) → found ≡ None → SaysIt (part_saying ask most text found) (Line Fault (fault_line (codes "NoSuchPart")))
+no_part_saying ask most text found none = subst (λ o. SaysIt (part_saying ask most text o) (Line Fault (fault_line (codes "NoSuchPart")))) (sym none) said_so
 
 -- a value that ends before its file
-pub left_saying : (ask : Ask) (terms : Terms) (bits : ℕ) (mapped : Value) (end : ℕ) → end ≡ end_of mapped → is_left terms.whole end bits ≡ true
-    → SaysIt (value_saying ask terms bits mapped) (Line Fault (fault_at_line (codes "Left") end))
-left_saying ask terms bits mapped end same left =
+pub left_saying : (table : Table) (id : TypeId) (ask : Ask) (terms : Terms) (bits : ℕ) (mapped : Value) (end : ℕ) → end ≡ end_of mapped → is_left terms.whole end bits ≡ true
+    → SaysIt (value_saying table id ask terms bits mapped) (Line Fault (fault_at_line (codes "Left") end))
+left_saying table id ask terms bits mapped end same left =
     let t : is_left terms.whole (end_of mapped) bits ≡ true = subst (λ e. is_left terms.whole e bits ≡ true) same left in
-    subst (λ e. SaysIt (value_saying ask terms bits mapped) (Line Fault (fault_at_line (codes "Left") e))) (sym same)
-    (subst (λ b. SaysIt (if b then Line Fault (fault_at_line (codes "Left") (end_of mapped)) else kept_saying ask terms mapped) (Line Fault (fault_at_line (codes "Left") (end_of mapped)))) (sym t) said_so)
+    subst (λ e. SaysIt (value_saying table id ask terms bits mapped) (Line Fault (fault_at_line (codes "Left") e))) (sym same)
+    (subst (λ b. SaysIt (if b then Line Fault (fault_at_line (codes "Left") (end_of mapped)) else kept_saying table id ask terms mapped) (Line Fault (fault_at_line (codes "Left") (end_of mapped)))) (sym t) said_so)
 
 -- what is printed of a value is what a mapping under terms prints
-pub said_under : (pickle : List ℕ) (ask : Ask) (terms : Terms) (before after : SpaceView) (mapped : Value)
-    → MapsUnder pickle ask terms before after (value_saying ask terms (8 * before.len) mapped)
-    → (saying : Saying) → SaysIt (value_saying ask terms (8 * before.len) mapped) saying
+pub said_under : (table : Table) (id : TypeId) (pickle : List ℕ) (ask : Ask) (terms : Terms) (before after : SpaceView) (mapped : Value)
+    → MapsUnder pickle ask terms before after (value_saying table id ask terms (8 * before.len) mapped)
+    → (saying : Saying) → SaysIt (value_saying table id ask terms (8 * before.len) mapped) saying
     → MapsUnder pickle ask terms before after saying
-said_under pickle ask terms before after mapped right saying said_so = right
-said_under pickle ask terms before after mapped right saying no_memory_for_it = ended_under no_memory
+said_under table id pickle ask terms before after mapped right saying said_so = right
+said_under table id pickle ask terms before after mapped right saying no_memory_for_it = ended_under no_memory
 
 -- without terms a mapping prints what it prints under none
 pub without_terms : (pickle : List ℕ) (ask : Ask) (before after : SpaceView) (saying : Saying)
-    → MapsUnder pickle ask (record { whole = false; most_output = None; part = None; most_slots = None }) before after saying → MapsAs pickle ask before after saying
-without_terms pickle ask before after saying (mapped_under asked answer fits) = value asked answer fits
+    → MapsUnder pickle ask (record { whole = false; most_output = None; part = None; most_slots = None; style = plain; look = None }) before after saying → MapsAs pickle ask before after saying
+without_terms pickle ask before after saying (mapped_under {mapped = mapped} table id named asked answer fits) =
+    subst (λ text. MapsAs pickle ask before after (Text text)) (sym (prints_plain (nodes_of table) (char_node_of table) (Some id.node) ask.mode mapped)) (value asked answer fits)
 without_terms pickle ask before after saying (ended_under ends) = ends
 without_terms pickle ask before after saying (slots_under asked e less) = absurd cc
 

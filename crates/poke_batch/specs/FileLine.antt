@@ -7,6 +7,7 @@ use Rattle.run_parts.specs.Told.{Saying, Says}
 use Rattle.value_text.specs.ValueText.{is_plain, escape_text}
 use Rattle.poke_batch.specs.declared.each.Kept.{Kept}
 use Rattle.std.specs.Io.KnownBytes.{Appends}
+use Rattle.std.specs.Str.{bytes_eq}
 
 -- a byte of a name, as in a string, but for `"` (34), which isn't escaped
 abbrev pub name_byte : ℕ → List ℕ
@@ -30,14 +31,13 @@ status_text Outside = codes "\t3\t"
 abbrev pub file_line : (name : List ℕ) → Status → (written : List ℕ) → List ℕ
 file_line name status written = shown_name name ++ (status_text status ++ written)
 
--- what a run wrote: its text if it is done, else its line; a text that an allocation failure cut off becomes the line
--- of that failure
+-- what a run wrote: its text if it is done, else its line; where the environment failed, that is an allocation if it
+-- isn't the file
 abbrev pub written_of : Status → (text line : List ℕ) → List ℕ
 written_of Done text line = text
 written_of Fault text line = line
 written_of Refused text line = line
-written_of Outside [] line = line
-written_of Outside (byte ∷ text) line = fault_line (codes "Memory")
+written_of Outside text line = if bytes_eq line (fault_line (codes "Device")) then line else fault_line (codes "Memory")
 
 -- the line of a file has what its run says, if the run's two writers got a text and a line
 pub record TellsFile (IsRight : Saying → Type 0) (Takes : Option (List ℕ) → Option (List ℕ) → List ℕ → Type 0) (name : List ℕ) (status : Status) (old new : Option (List ℕ)) : Type 0 where

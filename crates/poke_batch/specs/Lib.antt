@@ -33,5 +33,6 @@ pub use Rattle.command_words.specs.WordText
 pub use Rattle.command_words.specs.Words
 pub use Rattle.command_words.specs.Paths
 pub mod PathParts
+pub mod PathNodes
 pub use Rattle.value_text.specs.JsonValue
 pub use Rattle.value_text.specs.SmallParts

@@ -2,7 +2,9 @@
 use Rattle.std.specs.Prelude.{ℕ, zero, suc, ◌+◌, Bool, true, false, List, [], ◌∷◌, Option, Some, None, if◌then◌else◌}
 use Rattle.std.specs.Str.{bytes_eq}
 use Rattle.pickle_meaning.specs.Values.{Naming, Label, IntegerLabel, OffsetLabel, TextLabel, ArrayLabel, StructLabel, UnionLabel, Value, label_of, members_of, member_at, member_count}
+use Rattle.pickle_types.specs.declared.node.Node.{Node}
 use Rattle.value_store.specs.Labels.{member_name}
+use Rattle.value_text.specs.PartTypes.{part_node}
 use Rattle.command_words.specs.declared.path.Path.{Path}
 use Rattle.command_words.specs.declared.path.Step.{Step}
 use Rattle.command_words.specs.declared.path.Step.TheVariants.{Field, Place, Element}
@@ -63,3 +65,29 @@ part_of steps value = part_from steps (Some value)
 abbrev pub part_at : Option Path → Value → Option Value
 part_at None value = Some value
 part_at (Some path) value = part_of path.steps.items value
+
+abbrev pub place_if : Bool → (place : ℕ) → Option ℕ
+place_if true place = Some place
+place_if false place = None
+
+-- the place of the member to which a step leads
+abbrev pub place_of : Step → Value → Option ℕ
+place_of (Field name) value = place_named name.items (label_of value) (member_count (members_of value)) 0
+place_of (Place place) value = place_if (is_nameless_at value place) place
+place_of (Element place) value = place_if (is_array (label_of value)) place
+
+-- the node of the type of the member at a place of a value whose type has this node
+abbrev pub node_there : List Node → (of : Option ℕ) → Value → (place : Option ℕ) → Option ℕ
+node_there nodes of value None = None
+node_there nodes of value (Some place) = part_node nodes of (label_of value) place
+
+-- the node of the type of the part to which steps lead
+abbrev pub node_from : List Node → List Step → (of : Option ℕ) → Option Value → Option ℕ
+node_from nodes [] of found = of
+node_from nodes (step ∷ steps) of None = None
+node_from nodes (step ∷ steps) of (Some value) = node_from nodes steps (node_there nodes of value (place_of step value)) (step_to step value)
+
+-- the node of the type of the part that is requested
+abbrev pub node_at : List Node → Option Path → (of : Option ℕ) → Value → Option ℕ
+node_at nodes None of value = of
+node_at nodes (Some path) of value = node_from nodes path.steps.items of (Some value)

@@ -7,6 +7,7 @@ use Rattle.pickle_meaning.specs.Fits.{Fits}
 use Rattle.pickle_meaning.specs.Values.{Value, Levels, no_values}
 use Rattle.command_words.specs.declared.ask.Ask.{Ask}
 use Rattle.text_forms.specs.declared.mode.Mode.TheVariants.{Json}
+use Rattle.text_forms.specs.Styles.{plain}
 use Rattle.command_words.specs.declared.path.Path.{Path}
 use Rattle.run_parts.specs.declared.status.Status.{Status}
 use Rattle.run_parts.specs.declared.status.Status.TheVariants.{Done}
@@ -43,7 +44,7 @@ abbrev pub MappedJsonReadsBack : Type 0
 MappedJsonReadsBack = (pickle : List ℕ) (ask : Ask) (before after : SpaceView) (status : Status) (out out' err err' : Option (List ℕ))
     → ask.mode ≡ Json → status ≡ Done → Says (MapsAs pickle ask before after) status out out' err err' → WritesJson pickle ask None before out out'
 
--- and under terms the part that they request
+-- and under terms in the plain style and without a look the part that they request
 abbrev pub PartJsonReadsBack : Type 0
 PartJsonReadsBack = (pickle : List ℕ) (ask : Ask) (terms : Terms) (before after : SpaceView) (status : Status) (out out' err err' : Option (List ℕ))
-    → ask.mode ≡ Json → status ≡ Done → Says (MapsUnder pickle ask terms before after) status out out' err err' → WritesJson pickle ask terms.part before out out'
+    → ask.mode ≡ Json → terms.style ≡ plain → terms.look ≡ None → status ≡ Done → Says (MapsUnder pickle ask terms before after) status out out' err err' → WritesJson pickle ask terms.part before out out'

@@ -19,6 +19,7 @@ use Rattle.run_parts.specs.declared.status.Status.TheVariants.{Fault, Refused, O
 use Rattle.run_parts.specs.Accepted.{IsAccepted, Refuses, refusal_saying}
 use Rattle.run_parts.specs.BoundText.{bound_line, bound_text}
 use Rattle.pickle_meaning.specs.FaultNames.{fault_kind}
+use Rattle.pickle_map.specs.Mapped.{RunsToFault}
 use Rattle.run_parts.specs.Lines.{refused_line, fault_line, fault_at_line}
 use Rattle.run_parts.specs.Told.{Saying, Text, Line}
 use Rattle.value_text.specs.Printed.{printed}
@@ -60,9 +61,11 @@ pub data MapsAs (pickle : List ℕ) (ask : Ask) (before after : SpaceView) : Say
       → ((bytes : List ℕ) → before.bytes ≡ Some bytes → HasAnswer bytes type ask.order ask.start ask.limit (Ok mapped))
       → Fits (8 * before.len) type no_values ask.start mapped
       → MapsAs pickle ask before after (Text (printed ask.mode mapped))
-  -- the fault that the type means there; over any space Limit only if the type can take more steps than the limit
+  -- the fault that the type means there; over any space the fault of a run on the numbers that were read, and Limit only
+  -- if the type can take more steps than the limit
   stops : {type : PokeType} {kind : MapFaultKind} {at : ℕ} → IsAsked pickle ask.name.now type → kind ≢ fault.Device → kind ≢ fault.Memory
       → ((bytes : List ℕ) → before.bytes ≡ Some bytes → HasAnswer bytes type ask.order ask.start ask.limit (Err (kind, at)))
+      → RunsToFault before type ask.order ask.start ask.limit kind at
       → (kind ≡ fault.Limit → (at ≡ ask.start) × (ask.limit < cost type (8 * before.len)))
       → MapsAs pickle ask before after (Line Fault (fault_at_line (fault_kind kind) at))
   device : {type : PokeType} → IsAsked pickle ask.name.now type → HasRisen before.failures after.failures

@@ -1,6 +1,10 @@
 -- What a run must print for a pickle under terms.
 use Rattle.std.specs.Prelude.{◌*◌, ◌<◌, ◌≡◌, ℕ, Bool, ◌&&◌, List, Option, Some, None, Ok, length, nat_le, nat_lt, if◌then◌else◌, codes}
 use Rattle.bit_space.specs.SpaceView.{SpaceView}
+use Rattle.pickle_types.specs.declared.table.Table.{Table}
+use Rattle.pickle_types.specs.declared.table.TypeId.{TypeId}
+use Rattle.pickle_types.specs.NodeParts.{char_node_of}
+use Rattle.pickle_types.specs.TypeTable.{nodes_of, type_named}
 use Rattle.pickle_types.specs.Types.{PokeType}
 use Rattle.pickle_types.specs.Bounds.{room}
 use Rattle.pickle_meaning.specs.Fits.{Fits}
@@ -15,8 +19,15 @@ use Rattle.run_parts.specs.declared.status.Status.{Status}
 use Rattle.run_parts.specs.declared.status.Status.TheVariants.{Fault, Outside}
 use Rattle.command_words.specs.declared.terms.Terms.{Terms}
 use Rattle.run_parts.specs.Lines.{fault_line, fault_at_line}
-use Rattle.poke_batch.specs.PathParts.{part_at}
-use Rattle.value_text.specs.Printed.{printed}
+use Rattle.poke_batch.specs.PathParts.{part_at, node_at}
+use Rattle.pickle_types.specs.declared.node.Node.{Node}
+use Rattle.text_forms.specs.declared.mode.Mode.{Mode}
+use Rattle.text_forms.specs.declared.style.Style.{Style}
+use Rattle.text_forms.specs.declared.style.Look.{Look}
+use Rattle.value_text.specs.declared.typed.Typed.{Typed}
+use Rattle.value_text.specs.TypedValue.{nodes_in, char_node_in, types_in, node_in, mapped_in}
+use Rattle.value_text.specs.ShowParts.{shown_in}
+use Rattle.value_text.specs.Styled.{styled_printed}
 use Rattle.poke_batch.specs.Runs.{HasAnswer, IsAsked, MapsAs}
 use Rattle.run_parts.specs.Told.{Saying, Text, Line}
 
@@ -30,19 +41,33 @@ abbrev pub is_left : (whole : Bool) (end bits : ℕ) → Bool
 is_left whole end bits = whole && nat_lt end bits
 
 -- what is printed of the requested part, if the value has it
-abbrev pub part_saying : Ask → (most : Option ℕ) → Option Value → Saying
-part_saying ask most None = Line Fault (fault_line (codes "NoSuchPart"))
-part_saying ask most (Some part) = text_saying most ask.start (printed ask.mode part)
+abbrev pub part_saying : Ask → (most : Option ℕ) → (text : Value → List ℕ) → Option Value → Saying
+part_saying ask most text None = Line Fault (fault_line (codes "NoSuchPart"))
+part_saying ask most text (Some part) = text_saying most ask.start (text part)
+
+-- the text of a value by the types of a table: shown to the eye if a look is given, else in a mode and a style
+abbrev pub text_in : Option Look → Style → Mode → List Node → (chars node : Option ℕ) → Value → List ℕ
+text_in None style mode nodes chars node value = styled_printed nodes chars node style mode value
+text_in (Some look) style mode nodes chars node value = shown_in look nodes chars node value
+
+-- the same of a value beside its type
+abbrev pub typed_text : Option Look → Style → Mode → Typed → List ℕ
+typed_text look style mode typed = text_in look style mode (nodes_in (types_in typed)) (char_node_in (types_in typed)) (node_in typed) (mapped_in typed)
+
+-- the text of the requested part of a value that has a type of a table
+abbrev pub part_text : Table → TypeId → Ask → Terms → (value part : Value) → List ℕ
+part_text table id ask terms value part =
+    text_in terms.look terms.style ask.mode (nodes_of table) (char_node_of table) (node_at (nodes_of table) terms.part (Some id.node) value) part
 
 -- what is printed of a value that ends where it must
-abbrev pub kept_saying : Ask → Terms → Value → Saying
-kept_saying ask terms value = part_saying ask terms.most_output (part_at terms.part value)
+abbrev pub kept_saying : Table → TypeId → Ask → Terms → Value → Saying
+kept_saying table id ask terms value = part_saying ask terms.most_output (part_text table id ask terms value) (part_at terms.part value)
 
 -- what is printed of a value mapped from a file of so many bits: the first term that it fails to meet, or its text
-abbrev pub value_saying : Ask → Terms → (bits : ℕ) → Value → Saying
-value_saying ask terms bits value =
+abbrev pub value_saying : Table → TypeId → Ask → Terms → (bits : ℕ) → Value → Saying
+value_saying table id ask terms bits value =
     if is_left terms.whole (end_of value) bits then Line Fault (fault_at_line (codes "Left") (end_of value))
-    else kept_saying ask terms value
+    else kept_saying table id ask terms value
 
 -- that is printed, or that memory didn't suffice to print it
 pub data SaysIt (saying : Saying) : Saying → Type 0 where
@@ -52,11 +77,11 @@ pub data SaysIt (saying : Saying) : Saying → Type 0 where
 -- what a mapping under terms prints
 pub data MapsUnder (pickle : List ℕ) (ask : Ask) (terms : Terms) (before after : SpaceView) : Saying → Type 0 where
   -- what the terms make of the value that the type means on the file's bits, if these are known; over any space, of one
-  -- that fits
-  mapped_under : {type : PokeType} {mapped : Value} → IsAsked pickle ask.name.now type
+  -- that fits; it is printed by a table that has the type
+  mapped_under : {type : PokeType} {mapped : Value} (table : Table) (id : TypeId) → type_named table id ≡ type → IsAsked pickle ask.name.now type
       → ((bytes : List ℕ) → before.bytes ≡ Some bytes → HasAnswer bytes type ask.order ask.start ask.limit (Ok mapped))
       → Fits (8 * before.len) type no_values ask.start mapped
-      → MapsUnder pickle ask terms before after (value_saying ask terms (8 * before.len) mapped)
+      → MapsUnder pickle ask terms before after (value_saying table id ask terms (8 * before.len) mapped)
   -- without a value: what a mapping without terms prints
   ended_under : {status : Status} {line : List ℕ} → MapsAs pickle ask before after (Line status line)
       → MapsUnder pickle ask terms before after (Line status line)

@@ -2,18 +2,18 @@
 
 ghost use Rattle.std.specs.Prelude.{◌≡◌, ◌<◌, ◌≤◌, Some, length, codes, IsOk, IfOk, IfErr, OnOk, OnErr};
 ghost use Rattle.std.specs.Io.KnownBytes.{Appends};
-ghost use Rattle.value_store.specs.Refs.{value_shown};
-ghost use Rattle.value_text.specs.Printed.{printed};
+ghost use Rattle.poke_batch.specs.RunsUnder.{typed_text};
 ghost use Rattle.text_forms.specs.Written.{AppendsPart};
 
-use pickle_map::ValueRef;
+use command_words::terms::Terms;
 use std::alloc::Global;
 use std::io;
 use std::io::Write;
 use text_forms::mode::Mode;
 use text_forms::write::WriteFault;
 use thiserror::Error;
-use value_text::print::print;
+use value_text::print::{print_shown, print_styled};
+use value_text::typed::Typed;
 
 /// Why a text isn't gathered. It displays as the name that its line prints.
 #[derive(Clone, Copy, Debug, Drop, PartialEq, Eq, Error)]
@@ -60,25 +60,43 @@ impl Write for Draft {
     }
 }
 
-/// The printed value in a mode, if it has at most `most` bytes. No more bytes than that are stored.
+/// The value as it is printed under terms, if its text has at most `most` bytes. No more bytes than that are stored.
 ///
 /// `TooLong` means that the printed value has more bytes; `Memory` means that an allocation failed.
 pub fn gather(
     alloc: Global,
-    value: ValueRef<'_>,
+    value: Typed<'_>,
     mode: Mode,
+    terms: &Terms,
     most: u64,
 ) -> Result<Vec<u8>, DraftFault>
-    ensures text { IfOk result (λ text. text.items ≡ printed mode (value_shown value.entry)) }
+    ensures text { IfOk result (λ text. text.items ≡ typed_text terms.now.look terms.now.style mode value.entry) }
     ensures fits { IfOk result (λ text. length text.items ≤ most) }
-    ensures err { IfErr result (λ fault. fault ≡ DraftFault.TooLong → most < length (printed mode (value_shown value.entry))) }
+    ensures err { IfErr result (λ fault. fault ≡ DraftFault.TooLong → most < length (typed_text terms.now.look terms.now.style mode value.entry)) }
 {
     let mut draft = Draft {
         bytes: Vec::new(alloc),
         most,
     };
-    let printed = print(value, mode, &mut draft);
+    let printed = print_under(value, mode, terms, &mut draft);
     judge(printed, draft.bytes, most)
+}
+
+/// Prints a value in a mode and the style of the terms or, if they have a look, shows it to the eye. If the writer fails,
+/// what it accepted is the first bytes of the text, but not all of them.
+pub fn print_under<W: Write>(
+    value: Typed<'_>,
+    mode: Mode,
+    terms: &Terms,
+    w: &mut W,
+) -> Result<(), WriteFault>
+    ensures ok { OnOk result (Appends (W.contents w.old) (W.contents w.new) (typed_text terms.now.look terms.now.style mode value.entry)) }
+    ensures err { OnErr result (AppendsPart (W.contents w.old) (W.contents w.new) (typed_text terms.now.look terms.now.style mode value.entry)) }
+{
+    match terms.look {
+        None => print_styled(value, mode, terms.style, w),
+        Some(look) => print_shown(value, look, w),
+    }
 }
 
 // Decides between the text and its fault, from the bytes that were stored.

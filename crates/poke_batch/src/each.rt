@@ -93,14 +93,17 @@ pub fn run_file<S: Space, W: Write>(
     Ok(status)
 }
 
-// What a run wrote, by its status: its text or its line. A text that stopped at an allocation failure is replaced by
-// the line of that failure.
+// The line of a run whose file can't be read.
+const DEVICE_LINE: &[u8] = b"fault Device\n";
+
+// What a run wrote, by its status: its text or its line. The run wrote into memory, so that of the environment only the
+// file and allocations fail. A text or a line that stopped at a failed allocation is replaced by the line of that.
 fn written<'a>(status: Status, text: &'a [u8], line: &'a [u8]) -> &'a [u8]
     ensures { result.now ≡ written_of status text.now line.now }
 {
     match status {
         Status::Done => text,
-        Status::Outside if !text.is_empty() => b"fault Memory\n",
+        Status::Outside if line != DEVICE_LINE => b"fault Memory\n",
         _ => line,
     }
 }

@@ -24,4 +24,4 @@ pub use run_parts::{accept, bound, fault, pickle, status, tell, types};
 pub use value_text::mode::Mode;
 pub use value_text::print::print;
 pub use value_text::write::WriteFault;
-pub use value_text::{hex, laws, mode, write};
+pub use value_text::{hex, laws, mode, style, write};

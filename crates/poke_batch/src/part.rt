@@ -1,17 +1,22 @@
 //! The part of a value to which a path leads.
 
-ghost use Rattle.std.specs.Prelude.{◌≡◌};
+ghost use Rattle.std.specs.Prelude.{◌≡◌, IfSome};
 ghost use Rattle.std.specs.Option.{option_map};
 ghost use Rattle.value_store.specs.Refs.{value_shown};
 ghost use Rattle.pickle_meaning.specs.Values.{label_of, members_of, member_count};
-ghost use Rattle.poke_batch.specs.PathParts.{is_array, is_named, is_nameless_at, place_named, step_to, part_of, part_at};
+ghost use Rattle.poke_batch.specs.PathParts.{is_array, is_named, is_nameless_at, place_named, place_of, step_to, part_of, part_at};
+ghost use Rattle.poke_batch.specs.PathNodes.{node_of, node_after, node_through};
+ghost use Rattle.value_text.specs.TypedValue.{mapped_in, types_in, node_in};
 
 use command_words::path::{Path, Step};
 use pickle_map::{Kind, ValueRef};
+use value_text::typed::Typed;
 
-/// The part to which a path leads, if the value has it. Without a path it is the value itself.
-pub fn part_at<'a>(value: ValueRef<'a>, path: &Option<Path>) -> Option<ValueRef<'a>>
-    ensures { option_map value_shown result ≡ part_at path.now (value_shown value.entry) }
+/// The part to which a path leads, beside its type, if the value has it. Without a path it is the value itself.
+pub fn part_at<'a>(value: Typed<'a>, path: &Option<Path>) -> Option<Typed<'a>>
+    ensures value { option_map mapped_in result ≡ part_at path.now (mapped_in value.entry) }
+    ensures types { IfSome result (λ part. types_in part ≡ types_in value.entry) }
+    ensures node { IfSome result (λ part. node_in part ≡ node_of path.now value.entry) }
 {
     match path {
         Some(path) => part_of(value, path.steps.as_slice()),
@@ -19,12 +24,14 @@ pub fn part_at<'a>(value: ValueRef<'a>, path: &Option<Path>) -> Option<ValueRef<
     }
 }
 
-fn part_of<'a>(value: ValueRef<'a>, steps: &[Step]) -> Option<ValueRef<'a>>
-    ensures { option_map value_shown result ≡ part_of steps.now (value_shown value.entry) }
+fn part_of<'a>(value: Typed<'a>, steps: &[Step]) -> Option<Typed<'a>>
+    ensures value { option_map mapped_in result ≡ part_of steps.now (mapped_in value.entry) }
+    ensures types { IfSome result (λ part. types_in part ≡ types_in value.entry) }
+    ensures node { IfSome result (λ part. node_in part ≡ node_after steps.now value.entry) }
 {
     let mut part = value;
     for step in steps {
-        match step_to(part, step) {
+        match step_beside(part, step) {
             Some(next) => part = next,
             None => return None,
         }
@@ -32,14 +39,36 @@ fn part_of<'a>(value: ValueRef<'a>, steps: &[Step]) -> Option<ValueRef<'a>>
     Some(part)
 }
 
+// The part to which a step leads, beside its type, if the value has it.
+fn step_beside<'a>(value: Typed<'a>, step: &Step) -> Option<Typed<'a>>
+    ensures value { option_map mapped_in result ≡ step_to step.now (mapped_in value.entry) }
+    ensures types { IfSome result (λ part. types_in part ≡ types_in value.entry) }
+    ensures node { IfSome result (λ part. node_in part ≡ node_through step.now value.entry) }
+{
+    match place_of(value.value(), step) {
+        Some(place) => value.child(place),
+        None => None,
+    }
+}
+
 /// The part to which a step leads, if the value has it.
 pub fn step_to<'a>(value: ValueRef<'a>, step: &Step) -> Option<ValueRef<'a>>
     ensures { option_map value_shown result ≡ step_to step.now (value_shown value.entry) }
 {
+    match place_of(value, step) {
+        Some(place) => value.child(place),
+        None => None,
+    }
+}
+
+// The place of the member to which a step leads.
+fn place_of(value: ValueRef<'_>, step: &Step) -> Option<usize>
+    ensures { result ≡ place_of step.now (value_shown value.entry) }
+{
     match step {
-        Step::Field(name) => value.child(place_named(value, name.as_slice())?),
-        Step::Place(place) if is_nameless(value, *place as usize) => value.child(*place as usize),
-        Step::Element(place) if is_array(value) => value.child(*place as usize),
+        Step::Field(name) => place_named(value, name.as_slice()),
+        Step::Place(place) if is_nameless(value, *place as usize) => Some(*place as usize),
+        Step::Element(place) if is_array(value) => Some(*place as usize),
         _ => None,
     }
 }

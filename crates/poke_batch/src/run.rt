@@ -190,7 +190,7 @@ pub fn map_stored<S: Space, O: Write, E: Write>(
     let bytes = space.len();
     let mut meter = Meter::new(ask.limit);
     match map(table, id, ask.order, ask.start, space, &mut meter, store) {
-        Ok(()) => tell_root(alloc, store, table, ask, terms, bytes, out, err),
+        Ok(()) => tell_root(alloc, store, table, id, ask, terms, bytes, out, err),
         Err(fault) => tell_end(err, fault, terms.most_slots, ask.start),
     }
 }
@@ -221,6 +221,7 @@ fn tell_root<O: Write, E: Write>(
     alloc: Global,
     store: &Store,
     table: &Table,
+    id: TypeId,
     ask: &Ask<'_>,
     terms: &Terms,
     bytes: u64,
@@ -231,11 +232,14 @@ fn tell_root<O: Write, E: Write>(
     requires forward { (value : Value) → value_at (levels (nodes_of table.now) store.now) 0 0 ≡ Some value
         → start_of value ≤ end_of value }
     ensures { (value : Value) → value_at (levels (nodes_of table.now) store.now) 0 0 ≡ Some value
-        → Says (SaysIt (value_saying ask.now terms.now (8 * bytes) value)) result
+        → Says (SaysIt (value_saying table.now id ask.now terms.now (8 * bytes) value)) result
         (O.contents out.old) (O.contents out.new) (E.contents err.old) (E.contents err.new) }
 {
     match store.root(table) {
-        Some(value) => tell_value(alloc, value, ask, terms, 8 * u128::from(bytes), out, err),
+        Some(value) => {
+            let bits = 8 * u128::from(bytes);
+            tell_value(alloc, table, id, value, ask, terms, bits, out, err)
+        }
         None => unreachable!(),
     }
 }

@@ -12,7 +12,8 @@ pub fn mapped_json_reads_back()
     ensures law { MappedJsonReadsBack }
 {}
 
-/// If a mapping under terms in JSON is done, what it wrote reads as the requested part of the value that was mapped.
+/// If a mapping under terms in JSON and in the plain style is done, what it wrote reads as the requested part of the value
+/// that was mapped.
 pub fn part_json_reads_back()
     ensures law { PartJsonReadsBack }
 {}

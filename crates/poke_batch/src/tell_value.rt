@@ -4,26 +4,28 @@ ghost use Rattle.std.specs.Prelude.{◌≡◌, ◌≤◌, codes, length, nat_le,
 ghost use Rattle.value_store.specs.Refs.{value_shown};
 ghost use Rattle.pickle_meaning.specs.Values.{start_of, end_of};
 ghost use Rattle.run_parts.specs.Lines.{fault_at_line};
-ghost use Rattle.value_text.specs.Printed.{printed};
-ghost use Rattle.poke_batch.specs.RunsUnder.{SaysIt, is_left, text_saying, kept_saying, value_saying};
+ghost use Rattle.poke_batch.specs.RunsUnder.{SaysIt, is_left, text_saying, kept_saying, value_saying, typed_text};
 ghost use Rattle.run_parts.specs.Told.{Says};
 
-use crate::draft::{DraftFault, gather};
+use crate::draft::{DraftFault, gather, print_under};
 use crate::part::part_at;
 use command_words::ask::Ask;
 use command_words::terms::Terms;
 use pickle_map::ValueRef;
+use pickle_types::{Table, TypeId};
 use run_parts::fault::tell_plain_fault;
 use run_parts::status::Status;
 use run_parts::tell::{answer, fail, fault_at};
 use std::alloc::Global;
 use std::io::Write;
 use text_forms::write::put;
-use value_text::print::print;
+use value_text::typed::{Typed, Types};
 
 /// Writes the printed value, mapped from a file of so many bits, or the line of the first term that it fails to meet.
 pub fn tell_value<O: Write, E: Write>(
     alloc: Global,
+    table: &Table,
+    id: TypeId,
     value: ValueRef<'_>,
     ask: &Ask<'_>,
     terms: &Terms,
@@ -32,14 +34,14 @@ pub fn tell_value<O: Write, E: Write>(
     err: &mut E,
 ) -> Status
     requires { start_of (value_shown value) ≤ end_of (value_shown value) }
-    ensures { Says (SaysIt (value_saying ask.now terms.now bits (value_shown value.entry))) result
+    ensures { Says (SaysIt (value_saying table.now id ask.now terms.now bits (value_shown value.entry))) result
         (O.contents out.old) (O.contents out.new) (E.contents err.old) (E.contents err.new) }
 {
     let end = u128::from(value.start()) + u128::from(value.size());
     if is_left(terms.whole, end, bits) {
         fault_at(err, b"Left", end)
     } else {
-        tell_kept(alloc, value, ask, terms, out, err)
+        tell_kept(alloc, table, id, value, ask, terms, out, err)
     }
 }
 
@@ -53,17 +55,21 @@ fn is_left(whole: bool, end: u128, bits: u128) -> bool
 // Writes the requested part of a value that ends where it must.
 fn tell_kept<O: Write, E: Write>(
     alloc: Global,
+    table: &Table,
+    id: TypeId,
     value: ValueRef<'_>,
     ask: &Ask<'_>,
     terms: &Terms,
     out: &mut O,
     err: &mut E,
 ) -> Status
-    ensures { Says (SaysIt (kept_saying ask.now terms.now (value_shown value.entry))) result
+    ensures { Says (SaysIt (kept_saying table.now id ask.now terms.now (value_shown value.entry))) result
         (O.contents out.old) (O.contents out.new) (E.contents err.old) (E.contents err.new) }
 {
-    match part_at(value, &terms.part) {
-        Some(part) => tell_text(alloc, part, ask, terms.most_output, out, err),
+    let types = Types::new(table);
+    let whole = Typed::new(value, &types, Some(id.node));
+    match part_at(whole, &terms.part) {
+        Some(part) => tell_text(alloc, part, ask, terms, out, err),
         None => tell_plain_fault(err, b"NoSuchPart"),
     }
 }
@@ -71,34 +77,35 @@ fn tell_kept<O: Write, E: Write>(
 // Writes the printed value if it has no more bytes than the most.
 fn tell_text<O: Write, E: Write>(
     alloc: Global,
-    value: ValueRef<'_>,
+    value: Typed<'_>,
     ask: &Ask<'_>,
-    most: Option<u64>,
+    terms: &Terms,
     out: &mut O,
     err: &mut E,
 ) -> Status
-    ensures { Says (SaysIt (text_saying most ask.now.start (printed ask.now.mode (value_shown value.entry)))) result
+    ensures { Says (SaysIt (text_saying terms.now.most_output ask.now.start (typed_text terms.now.look terms.now.style ask.now.mode value.entry))) result
         (O.contents out.old) (O.contents out.new) (E.contents err.old) (E.contents err.new) }
 {
-    match most {
-        None => answer(print(value, ask.mode, out), err),
-        Some(most) => tell_short(alloc, value, ask, most, out, err),
+    match terms.most_output {
+        None => answer(print_under(value, ask.mode, terms, out), err),
+        Some(most) => tell_short(alloc, value, ask, terms, most, out, err),
     }
 }
 
 // The same with a most: the text is gathered first.
 fn tell_short<O: Write, E: Write>(
     alloc: Global,
-    value: ValueRef<'_>,
+    value: Typed<'_>,
     ask: &Ask<'_>,
+    terms: &Terms,
     most: u64,
     out: &mut O,
     err: &mut E,
 ) -> Status
-    ensures { Says (SaysIt (text_saying (Some most) ask.now.start (printed ask.now.mode (value_shown value.entry)))) result
+    ensures { Says (SaysIt (text_saying (Some most) ask.now.start (typed_text terms.now.look terms.now.style ask.now.mode value.entry))) result
         (O.contents out.old) (O.contents out.new) (E.contents err.old) (E.contents err.new) }
 {
-    match gather(alloc, value, ask.mode, most) {
+    match gather(alloc, value, ask.mode, terms, most) {
         Ok(text) => answer(put(out, &text), err),
         Err(DraftFault::TooLong) => {
             fault_at(

@@ -13,8 +13,8 @@ types p ==> Types { pickle: "p" }
 bound p T 25 ==> Bound { pickle: "p", name: "T", bits: 25 }
 bound p T 4294967321 ==> Bound { pickle: "p", name: "T", bits: 4294967321 }
 bound p T 18446744073709551615 ==> Bound { pickle: "p", name: "T", bits: 18446744073709551615 }
-bound --text p T 25 ==> BoundText { pickle: "p", name: "T", bits: 25, mode: None }
-bound p --text T --mode tree 25 ==> BoundText { pickle: "p", name: "T", bits: 25, mode: Some(Tree) }
+bound --text p T 25 ==> BoundText { pickle: "p", name: "T", bits: 25, mode: None, style: Style { numbers: Decimal, chars: Numbers, elements: None } }
+bound p --text T --mode tree 25 ==> BoundText { pickle: "p", name: "T", bits: 25, mode: Some(Tree), style: Style { numbers: Decimal, chars: Numbers, elements: None } }
 dump f ==> Dump { from: 0, size: 128, ruler: true, file: "f" }
 dump - ==> Dump { from: 0, size: 128, ruler: true, file: "-" }
 dump --from 2#4 --size=16#b --no-ruler f ==> Dump { from: 1, size: 2, ruler: false, file: "f" }
@@ -22,18 +22,30 @@ map --at 4#b p T f ==> Map { at: 4, order: Big, limit: 1000000000, mode: Flat, p
 map p T f ==> Map { at: 0, order: Big, limit: 1000000000, mode: Flat, pickle: "p", name: "T", file: "f" }
 map p --endian=little T --at=2#B f --limit 7 --mode flat ==> Map { at: 16, order: Little, limit: 7, mode: Flat, pickle: "p", name: "T", file: "f" }
 map --limit 18446744073709551615 -- p T f ==> Map { at: 0, order: Big, limit: 18446744073709551615, mode: Flat, pickle: "p", name: "T", file: "f" }
-map --limit +5 p T f ==> Map { at: 0, order: Big, limit: 5, mode: Flat, pickle: "p", name: "T", file: "f" }
 map --mode tree p T f ==> Map { at: 0, order: Big, limit: 1000000000, mode: Tree, pickle: "p", name: "T", file: "f" }
 map --mode json p T f ==> Map { at: 0, order: Big, limit: 1000000000, mode: Json, pickle: "p", name: "T", file: "f" }
 map --mode=lines p T f ==> Map { at: 0, order: Big, limit: 1000000000, mode: Lines, pickle: "p", name: "T", file: "f" }
-map --slots 7 p T f ==> MapUnder { at: 0, order: Big, limit: 1000000000, mode: Flat, terms: Terms { whole: false, most_output: None, part: None, most_slots: Some(7) }, pickle: "p", name: "T", file: "f" }
-each --mode json p T f ==> Each { at: 0, order: Big, limit: 1000000000, mode: Json, terms: Terms { whole: false, most_output: None, part: None, most_slots: None }, pickle: "p", name: "T", files: Words(["f"]) }
-each p T f g ==> Each { at: 0, order: Big, limit: 1000000000, mode: Flat, terms: Terms { whole: false, most_output: None, part: None, most_slots: None }, pickle: "p", name: "T", files: Words(["f", "g"]) }
-each --files0-from - --whole p T ==> Each { at: 0, order: Big, limit: 1000000000, mode: Flat, terms: Terms { whole: true, most_output: None, part: None, most_slots: None }, pickle: "p", name: "T", files: EndedByZero("-") }
-map --whole p T f ==> MapUnder { at: 0, order: Big, limit: 1000000000, mode: Flat, terms: Terms { whole: true, most_output: None, part: None, most_slots: None }, pickle: "p", name: "T", file: "f" }
-map --max-output 5 p T f ==> MapUnder { at: 0, order: Big, limit: 1000000000, mode: Flat, terms: Terms { whole: false, most_output: Some(5), part: None, most_slots: None }, pickle: "p", name: "T", file: "f" }
-map --get . p T f ==> MapUnder { at: 0, order: Big, limit: 1000000000, mode: Flat, terms: Terms { whole: false, most_output: None, part: Some(Path { steps: [] }), most_slots: None }, pickle: "p", name: "T", file: "f" }
-map --get .a[2].0 p T f ==> MapUnder { at: 0, order: Big, limit: 1000000000, mode: Flat, terms: Terms { whole: false, most_output: None, part: Some(Path { steps: [Field([97]), Element(2), Place(0)] }), most_slots: None }, pickle: "p", name: "T", file: "f" }"#;
+map --slots 7 p T f ==> MapUnder { start: Bit(0), order: Big, limit: 1000000000, mode: Flat, terms: Terms { whole: false, most_output: None, part: None, most_slots: Some(7), style: Style { numbers: Decimal, chars: Numbers, elements: None }, look: None }, pickle: "p", name: "T", file: "f" }
+each --mode json p T f ==> Each { start: Bit(0), order: Big, limit: 1000000000, mode: Json, terms: Terms { whole: false, most_output: None, part: None, most_slots: None, style: Style { numbers: Decimal, chars: Numbers, elements: None }, look: None }, flush: false, pickle: "p", name: "T", files: Words(["f"]) }
+each p T f g ==> Each { start: Bit(0), order: Big, limit: 1000000000, mode: Flat, terms: Terms { whole: false, most_output: None, part: None, most_slots: None, style: Style { numbers: Decimal, chars: Numbers, elements: None }, look: None }, flush: false, pickle: "p", name: "T", files: Words(["f", "g"]) }
+each --files0-from - --whole p T ==> Each { start: Bit(0), order: Big, limit: 1000000000, mode: Flat, terms: Terms { whole: true, most_output: None, part: None, most_slots: None, style: Style { numbers: Decimal, chars: Numbers, elements: None }, look: None }, flush: false, pickle: "p", name: "T", files: EndedByZero("-") }
+map --whole p T f ==> MapUnder { start: Bit(0), order: Big, limit: 1000000000, mode: Flat, terms: Terms { whole: true, most_output: None, part: None, most_slots: None, style: Style { numbers: Decimal, chars: Numbers, elements: None }, look: None }, pickle: "p", name: "T", file: "f" }
+map --max-output 5 p T f ==> MapUnder { start: Bit(0), order: Big, limit: 1000000000, mode: Flat, terms: Terms { whole: false, most_output: Some(5), part: None, most_slots: None, style: Style { numbers: Decimal, chars: Numbers, elements: None }, look: None }, pickle: "p", name: "T", file: "f" }
+map --get . p T f ==> MapUnder { start: Bit(0), order: Big, limit: 1000000000, mode: Flat, terms: Terms { whole: false, most_output: None, part: Some(Path { steps: [] }), most_slots: None, style: Style { numbers: Decimal, chars: Numbers, elements: None }, look: None }, pickle: "p", name: "T", file: "f" }
+map --get .a[2].0 p T f ==> MapUnder { start: Bit(0), order: Big, limit: 1000000000, mode: Flat, terms: Terms { whole: false, most_output: None, part: Some(Path { steps: [Field([97]), Element(2), Place(0)] }), most_slots: None, style: Style { numbers: Decimal, chars: Numbers, elements: None }, look: None }, pickle: "p", name: "T", file: "f" }
+map --numbers hex p T f ==> MapUnder { start: Bit(0), order: Big, limit: 1000000000, mode: Flat, terms: Terms { whole: false, most_output: None, part: None, most_slots: None, style: Style { numbers: Hexadecimal, chars: Numbers, elements: None }, look: None }, pickle: "p", name: "T", file: "f" }
+map --chars text p T f ==> MapUnder { start: Bit(0), order: Big, limit: 1000000000, mode: Flat, terms: Terms { whole: false, most_output: None, part: None, most_slots: None, style: Style { numbers: Decimal, chars: Text, elements: None }, look: None }, pickle: "p", name: "T", file: "f" }
+map --elements 0 p T f ==> MapUnder { start: Bit(0), order: Big, limit: 1000000000, mode: Flat, terms: Terms { whole: false, most_output: None, part: None, most_slots: None, style: Style { numbers: Decimal, chars: Numbers, elements: Some(0) }, look: None }, pickle: "p", name: "T", file: "f" }
+map --elements 18446744073709551615 p T f ==> MapUnder { start: Bit(0), order: Big, limit: 1000000000, mode: Flat, terms: Terms { whole: false, most_output: None, part: None, most_slots: None, style: Style { numbers: Decimal, chars: Numbers, elements: Some(18446744073709551615) }, look: None }, pickle: "p", name: "T", file: "f" }
+map --numbers decimal --chars numbers --elements all p T f ==> Map { at: 0, order: Big, limit: 1000000000, mode: Flat, pickle: "p", name: "T", file: "f" }
+map --byte 446 p T f ==> Map { at: 3568, order: Big, limit: 1000000000, mode: Flat, pickle: "p", name: "T", file: "f" }
+map --byte=0x1Be p T f ==> Map { at: 3568, order: Big, limit: 1000000000, mode: Flat, pickle: "p", name: "T", file: "f" }
+map --byte 2305843009213693951 p T f ==> Map { at: 18446744073709551608, order: Big, limit: 1000000000, mode: Flat, pickle: "p", name: "T", file: "f" }
+map --byte -512 p T f ==> MapUnder { start: BytesFromEnd(512), order: Big, limit: 1000000000, mode: Flat, terms: Terms { whole: false, most_output: None, part: None, most_slots: None, style: Style { numbers: Decimal, chars: Numbers, elements: None }, look: None }, pickle: "p", name: "T", file: "f" }
+map --byte -0x200 p T f ==> MapUnder { start: BytesFromEnd(512), order: Big, limit: 1000000000, mode: Flat, terms: Terms { whole: false, most_output: None, part: None, most_slots: None, style: Style { numbers: Decimal, chars: Numbers, elements: None }, look: None }, pickle: "p", name: "T", file: "f" }
+map --byte -0 p T f ==> MapUnder { start: BytesFromEnd(0), order: Big, limit: 1000000000, mode: Flat, terms: Terms { whole: false, most_output: None, part: None, most_slots: None, style: Style { numbers: Decimal, chars: Numbers, elements: None }, look: None }, pickle: "p", name: "T", file: "f" }
+each --flush --byte -1 p T f ==> Each { start: BytesFromEnd(1), order: Big, limit: 1000000000, mode: Flat, terms: Terms { whole: false, most_output: None, part: None, most_slots: None, style: Style { numbers: Decimal, chars: Numbers, elements: None }, look: None }, flush: true, pickle: "p", name: "T", files: Words(["f"]) }
+dump -s 0x1b0 -n 80 f ==> Dump { from: 432, size: 80, ruler: true, file: "f" }"#;
 
 /// Arguments that aren't a job.
 const WRONG: &str = r#"map --at 8 p T f ==> refused offset
@@ -41,7 +53,36 @@ map --at 18446744073709551616#b p T f ==> refused offset
 dump --from 3#b f ==> refused offset
 dump --size 4#b f ==> refused offset
 dump --size "" f ==> refused offset
+map --byte 8#b p T f ==> refused offset
+map --byte 0x p T f ==> refused offset
+map --byte +1 p T f ==> refused offset
+map --byte --1 p T f ==> refused offset
+map --byte -+1 p T f ==> refused offset
+map --byte 0X10 p T f ==> refused offset
+map --byte 0xfg p T f ==> refused offset
+map --byte "" p T f ==> refused offset
+map --byte - p T f ==> refused offset
+map --byte 2305843009213693952 p T f ==> refused offset
+each --byte -2305843009213693952 p T f ==> refused offset
+dump -s 1#B f ==> refused offset
+dump -n -1 f ==> usage
+dump -s 0 --from 0#B f ==> usage
+dump -n 1 --size 1#B f ==> usage
+map --at 0#b --byte 0 p T f ==> usage
 map --limit 18446744073709551616 p T f ==> usage
+map --limit +5 p T f ==> usage
+map --max-output +5 p T f ==> usage
+map --slots +5 p T f ==> usage
+bound p T +5 ==> usage
+map --elements -1 p T f ==> usage
+map --elements +1 p T f ==> usage
+map --elements ALL p T f ==> usage
+map --elements 18446744073709551616 p T f ==> usage
+map --numbers octal p T f ==> usage
+map --chars hex p T f ==> usage
+map --flush p T f ==> usage
+bound --text --numbers hex p T 25 ==> usage
+bound --text --elements all p T 25 ==> usage
 map --at 8 --limit x p T f ==> usage
 map --at -1#b p T f ==> usage
 map --at 1#b --at 1#b p T f ==> usage
@@ -70,6 +111,8 @@ chec p ==> usage
 const HELP: &str = "\
     --help ==> Exit status: & [default: 1000000000] & Example:\n\
     -h ==> Usage: & map & dump & --files0-from\n\
+    help --help ==> Exit status: & [default: 1000000000] & Example:\n\
+    help bound -h ==> Exit status: & BITS & Example:\n\
     map --help ==> Usage: poke_batch map & [default: 0#b] & [default: big]\n\
     bound --help ==> Exit status: & BITS & Example:\n\
     check --help ==> Exit status: & PICKLE & Example:\n\

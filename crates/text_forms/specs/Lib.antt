@@ -1,3 +1,4 @@
 pub mod HexDigits
 pub mod Brackets
 pub mod Written
+pub mod Styles

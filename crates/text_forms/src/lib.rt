@@ -3,4 +3,5 @@
 
 pub mod hex;
 pub mod mode;
+pub mod style;
 pub mod write;

@@ -3,7 +3,7 @@
 ghost use Rattle.std.specs.Prelude.{◌≡◌, ℕ, ◌<◌, ◌-◌, IfSome};
 ghost use Rattle.std.specs.Option.{option_map};
 ghost use Rattle.pickle_meaning.specs.Values.{label_of, start_of, end_of, members_of, member_count, member_at};
-ghost use Rattle.value_store.specs.Labels.{kind_of, number_of, signed_of, width_of, unit_of, bytes_of, name_of, member_name};
+ghost use Rattle.value_store.specs.Labels.{kind_of, number_of, signed_of, width_of, unit_of, bytes_of, taken_of, name_of, member_name};
 ghost use Rattle.value_store.specs.MemberNames.{name_among};
 
 mod members;
@@ -123,6 +123,13 @@ impl<'a> ValueRef<'a> {
             }),
             None => None,
         }
+    }
+
+    /// The number of the alternative of a union that matched, counted from 0; None for other values.
+    pub fn taken(&self) -> Option<u16>
+        ensures { result ≡ taken_of (label_of (value_shown self.now)) }
+    {
+        self.stored.taken()
     }
 
     /// The name that a struct or a union is printed with; None where its type is nameless, and for other values.

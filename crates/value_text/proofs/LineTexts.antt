@@ -1,54 +1,61 @@
 -- Laws of the lines of values.
-use Rattle.std.proofs.Common.{◌≡◌, ◌≢◌, ℕ, suc, add-one, ◌+◌, ◌-◌, ◌*◌, ◌<◌, ◌≤◌, List, [], ◌++◌, Some, None, codes, refl, sym, ◌∙◌, ap, replicate, take, arith}
+use Rattle.std.proofs.Common.{◌≡◌, ◌≢◌, ℕ, suc, add-one, ◌+◌, ◌-◌, ◌*◌, ◌<◌, ◌≤◌, List, [], ◌++◌, Option, Some, None, true, false, codes, refl, sym, ◌∙◌, ap, replicate, take, arith}
 use Rattle.std.proofs.lemmas.List.{append_assoc, replicate-append-replicate, take-replicate}
 use Rattle.value_store.specs.declared.value.Kind.{Kind}
 use Rattle.value_store.specs.declared.value.Kind.TheVariants as kind
 use Rattle.pickle_meaning.specs.Values.{Value, Mapped, Label, IntegerLabel, OffsetLabel, TextLabel, ArrayLabel, StructLabel, UnionLabel, Members, member_count, member_at}
 use Rattle.value_store.specs.Labels.{kind_of, number_of, unit_of, bytes_of, name_of, member_name}
-use Rattle.value_text.specs.ValueText.{integer_text, offset_text, string_text, title_text, name_text}
+use Rattle.text_forms.specs.declared.style.Style.{Style}
+use Rattle.value_text.specs.declared.print.escape.Escapes.TheVariants.{Poke}
+use Rattle.value_text.specs.ValueText.{title_text, name_text}
+use Rattle.value_text.specs.Escaped.{quoted_by}
+use Rattle.value_text.specs.StyledNumbers.{integer_in, offset_in}
+use Rattle.value_text.specs.CutArrays.{is_past, kept_count, left_text, more_line}
 use Rattle.value_text.specs.PartText.{type_of}
 use Rattle.text_forms.specs.Brackets.{in_brackets}
-use Rattle.value_text.specs.TreeText.{indent_text, prefix_text, head_text, lines_text, parts_text, tree_text}
+use Rattle.value_text.specs.TreeText.{indent_text, prefix_text}
+use Rattle.value_text.specs.StyledTree.{styled_head, styled_lines, styled_parts, styled_tree}
 use Rattle.value_text.specs.LineText.{rest_text, part_text}
-use Rattle.value_text.proofs.MemberTexts.{members_from, with_member, from_at, from_end}
+use Rattle.value_text.proofs.MemberTexts.{members_from, with_member, from_at}
+use Rattle.value_text.proofs.Cuts.{left_is}
 
 -- the head of a label, by its kind
-abbrev head_by : Kind → Label → ℕ → List ℕ
-head_by kind.Integer label count = integer_text (type_of label) (number_of label)
-head_by kind.Offset label count = offset_text (type_of label) (unit_of label) (number_of label)
-head_by kind.Text label count = string_text (bytes_of label)
-head_by kind.Array label count = in_brackets count
-head_by kind.Struct label count = title_text (codes "struct") (name_of label)
-head_by kind.Union label count = title_text (codes "union") (name_of label)
+abbrev head_by : Style → Kind → Label → ℕ → List ℕ
+head_by style kind.Integer label count = integer_in style.numbers (type_of label) (number_of label)
+head_by style kind.Offset label count = offset_in style.numbers (type_of label) (unit_of label) (number_of label)
+head_by style kind.Text label count = quoted_by Poke (bytes_of label)
+head_by style kind.Array label count = in_brackets count
+head_by style kind.Struct label count = title_text (codes "struct") (name_of label)
+head_by style kind.Union label count = title_text (codes "union") (name_of label)
 
-head_is : (label : Label) (count : ℕ) → head_text label count ≡ head_by (kind_of label) label count
-head_is (IntegerLabel number type) count = refl
-head_is (OffsetLabel magnitude type unit) count = refl
-head_is (TextLabel bytes) count = refl
-head_is ArrayLabel count = refl
-head_is (StructLabel name fields) count = refl
-head_is (UnionLabel name index alternative) count = refl
+head_is : (style : Style) (label : Label) (count : ℕ) → styled_head style label count ≡ head_by style (kind_of label) label count
+head_is style (IntegerLabel number type) count = refl
+head_is style (OffsetLabel magnitude type unit) count = refl
+head_is style (TextLabel bytes) count = refl
+head_is style ArrayLabel count = refl
+head_is style (StructLabel name fields) count = refl
+head_is style (UnionLabel name index alternative) count = refl
 
-head_at : (of : Kind) (label : Label) (count : ℕ) → of ≡ kind_of label → head_text label count ≡ head_by of label count
-head_at of label count e = head_is label count ∙ ap (λ k. head_by k label count) (sym e)
+head_at : (style : Style) (of : Kind) (label : Label) (count : ℕ) → of ≡ kind_of label → styled_head style label count ≡ head_by style of label count
+head_at style of label count e = head_is style label count ∙ ap (λ k. head_by style k label count) (sym e)
 
-pub head_of_integer : (label : Label) (count : ℕ) → kind.Integer ≡ kind_of label → head_text label count ≡ integer_text (type_of label) (number_of label)
-head_of_integer label count e = head_at kind.Integer label count e
+pub head_of_integer : (style : Style) (label : Label) (count : ℕ) → kind.Integer ≡ kind_of label → styled_head style label count ≡ integer_in style.numbers (type_of label) (number_of label)
+head_of_integer style label count e = head_at style kind.Integer label count e
 
-pub head_of_offset : (label : Label) (count : ℕ) → kind.Offset ≡ kind_of label → head_text label count ≡ offset_text (type_of label) (unit_of label) (number_of label)
-head_of_offset label count e = head_at kind.Offset label count e
+pub head_of_offset : (style : Style) (label : Label) (count : ℕ) → kind.Offset ≡ kind_of label → styled_head style label count ≡ offset_in style.numbers (type_of label) (unit_of label) (number_of label)
+head_of_offset style label count e = head_at style kind.Offset label count e
 
-pub head_of_string : (label : Label) (count : ℕ) → kind.Text ≡ kind_of label → head_text label count ≡ string_text (bytes_of label)
-head_of_string label count e = head_at kind.Text label count e
+pub head_of_string : (style : Style) (label : Label) (count : ℕ) → kind.Text ≡ kind_of label → styled_head style label count ≡ quoted_by Poke (bytes_of label)
+head_of_string style label count e = head_at style kind.Text label count e
 
-pub head_of_array : (label : Label) (count : ℕ) → kind.Array ≡ kind_of label → head_text label count ≡ in_brackets count
-head_of_array label count e = head_at kind.Array label count e
+pub head_of_array : (style : Style) (label : Label) (count : ℕ) → kind.Array ≡ kind_of label → styled_head style label count ≡ in_brackets count
+head_of_array style label count e = head_at style kind.Array label count e
 
-pub head_of_struct : (label : Label) (count : ℕ) → kind.Struct ≡ kind_of label → head_text label count ≡ title_text (codes "struct") (name_of label)
-head_of_struct label count e = head_at kind.Struct label count e
+pub head_of_struct : (style : Style) (label : Label) (count : ℕ) → kind.Struct ≡ kind_of label → styled_head style label count ≡ title_text (codes "struct") (name_of label)
+head_of_struct style label count e = head_at style kind.Struct label count e
 
-pub head_of_union : (label : Label) (count : ℕ) → kind.Union ≡ kind_of label → head_text label count ≡ title_text (codes "union") (name_of label)
-head_of_union label count e = head_at kind.Union label count e
+pub head_of_union : (style : Style) (label : Label) (count : ℕ) → kind.Union ≡ kind_of label → styled_head style label count ≡ title_text (codes "union") (name_of label)
+head_of_union style label count e = head_at style kind.Union label count e
 
 pub ruleset by_kind = (head_of_integer, head_of_offset, head_of_string, head_of_array, head_of_struct, head_of_union)
 
@@ -72,28 +79,48 @@ prefix_of_field (UnionLabel name index alternative) place e = refl
 pub ruleset by_prefix = (prefix_of_element, prefix_of_field)
 
 -- the lines of a value, from what is before its head
-lines_rest : (level : ℕ) (prefix : List ℕ) (value : Value) → lines_text level prefix value ≡ (indent_text level ++ prefix) ++ rest_text level value
-lines_rest level prefix (Mapped label start end all) = simp append_assoc
+lines_rest : (style : Style) (level : ℕ) (prefix : List ℕ) (value : Value) → styled_lines style level prefix value ≡ (indent_text level ++ prefix) ++ rest_text style level value
+lines_rest style level prefix (Mapped label start end all) = simp append_assoc
 
-pub tree_rest : (value : Value) → tree_text value ≡ rest_text 0 value
-tree_rest value = lines_rest 0 [] value
+pub tree_rest : (style : Style) (value : Value) → styled_tree style value ≡ rest_text style 0 value
+tree_rest style value = lines_rest style 0 [] value
+
+-- a part that isn't past the limit, and one that is
+line_before : (style : Style) (limit : Option ℕ) (level : ℕ) (label : Label) (i : ℕ) (value : Value) (rest : Members) → is_past limit i ≡ false
+    → styled_parts style limit level label i (with_member (Some value) rest) ≡ styled_lines style level (prefix_text label i) value ++ styled_parts style limit level label (suc i) rest
+line_before style limit level label i value rest before = rw before refl
+
+absent_before : (style : Style) (limit : Option ℕ) (level : ℕ) (label : Label) (i : ℕ) (rest : Members) → is_past limit i ≡ false
+    → styled_parts style limit level label i (with_member None rest) ≡ styled_parts style limit level label (suc i) rest
+absent_before style limit level label i rest before = rw before refl
+
+line_past : (style : Style) (limit : Option ℕ) (level : ℕ) (label : Label) (i : ℕ) (member : Option Value) (rest : Members) → is_past limit i ≡ true
+    → styled_parts style limit level label i (with_member member rest) ≡ more_line level (suc (member_count rest))
+line_past style limit level label i None rest past = rw past refl
+line_past style limit level label i (Some value) rest past = rw past refl
 
 -- a part that is there
-pub lines_present : (level : ℕ) (label : Label) (all : Members) (i : ℕ) (value : Value) → i < member_count all → Some value ≡ member_at all i
-    → parts_text level label i (members_from i all) ≡ part_text level label i value ++ parts_text level label (i + 1) (members_from (i + 1) all)
-lines_present level label all i value lt is =
-    ap (parts_text level label i) (from_at all i lt ∙ ap (λ o. with_member o (members_from (i + 1) all)) (sym is))
-    ∙ ap (λ s. s ++ parts_text level label (suc i) (members_from (i + 1) all)) (lines_rest level (prefix_text label i) value)
-    ∙ ap (λ n. part_text level label i value ++ parts_text level label n (members_from (i + 1) all)) (sym (add-one i))
+pub lines_present : (style : Style) (limit : Option ℕ) (level : ℕ) (label : Label) (all : Members) (i : ℕ) (value : Value) → i < member_count all → is_past limit i ≡ false → Some value ≡ member_at all i
+    → styled_parts style limit level label i (members_from i all) ≡ part_text style level label i value ++ styled_parts style limit level label (i + 1) (members_from (i + 1) all)
+lines_present style limit level label all i value lt before is =
+    ap (styled_parts style limit level label i) (from_at all i lt ∙ ap (λ o. with_member o (members_from (i + 1) all)) (sym is))
+    ∙ line_before style limit level label i value (members_from (i + 1) all) before
+    ∙ ap (λ s. s ++ styled_parts style limit level label (suc i) (members_from (i + 1) all)) (lines_rest style level (prefix_text label i) value)
+    ∙ ap (λ n. part_text style level label i value ++ styled_parts style limit level label n (members_from (i + 1) all)) (sym (add-one i))
 
-pub lines_absent : (level : ℕ) (label : Label) (all : Members) (i : ℕ) → i < member_count all → None ≡ member_at all i
-    → parts_text level label i (members_from i all) ≡ parts_text level label (i + 1) (members_from (i + 1) all)
-lines_absent level label all i lt is =
-    ap (parts_text level label i) (from_at all i lt ∙ ap (λ o. with_member o (members_from (i + 1) all)) (sym is))
-    ∙ ap (λ n. parts_text level label n (members_from (i + 1) all)) (sym (add-one i))
+pub lines_absent : (style : Style) (limit : Option ℕ) (level : ℕ) (label : Label) (all : Members) (i : ℕ) → i < member_count all → is_past limit i ≡ false → None ≡ member_at all i
+    → styled_parts style limit level label i (members_from i all) ≡ styled_parts style limit level label (i + 1) (members_from (i + 1) all)
+lines_absent style limit level label all i lt before is =
+    ap (styled_parts style limit level label i) (from_at all i lt ∙ ap (λ o. with_member o (members_from (i + 1) all)) (sym is))
+    ∙ absent_before style limit level label i (members_from (i + 1) all) before
+    ∙ ap (λ n. styled_parts style limit level label n (members_from (i + 1) all)) (sym (add-one i))
 
-pub lines_end : (level : ℕ) (label : Label) (all : Members) (i : ℕ) → member_count all ≤ i → parts_text level label i (members_from i all) ≡ []
-lines_end level label all i h = ap (parts_text level label i) (from_end all i h)
+-- the end of those that are printed
+pub lines_left : (style : Style) (limit : Option ℕ) (level : ℕ) (label : Label) (all : Members) (i : ℕ) → i ≡ kept_count limit (member_count all)
+    → styled_parts style limit level label i (members_from i all) ≡ left_text (more_line level) (member_count all - i)
+lines_left style limit level label all i e =
+    left_is limit (λ place. styled_parts style limit level label place) (more_line level) (λ place. refl)
+    (λ place member rest past. line_past style limit level label place member rest past) all i e
 
 -- the blanks of more than 32 levels begin with those of 32
 pub blanks_first : (left : ℕ) → 32 < left → replicate {A = ℕ} (2 * left) 32 ≡ replicate 64 32 ++ replicate (2 * (left - 32)) 32

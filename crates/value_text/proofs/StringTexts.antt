@@ -1,11 +1,15 @@
 -- Laws of the texts of strings.
 use Rattle.std.proofs.Common.{◌≡◌, ℕ, suc, true, ◌+◌, ◌-◌, ◌<◌, ◌≤◌, List, [], ◌∷◌, ◌++◌, take, drop, length, refl, sym, ◌∙◌, ap, arith, inl, inr}
-use Rattle.std.specs.Prelude.{slice_index}
+use Rattle.std.specs.Prelude.{slice_index, codes}
 use Rattle.std.specs.List.{list_all, prefix_len, slice_range}
 use Rattle.std.proofs.lemmas.Bool.{cases_Bool, false≢true}
 use Rattle.std.proofs.lemmas.List.{append_assoc, take-append-drop, drop-drop, length-take, length-drop}
 use Rattle.std.proofs.lemmas.List.Folds.{drop_split}
-use Rattle.value_text.specs.ValueText.{spelled, spelled_byte, is_plain}
+use Rattle.value_text.specs.declared.print.escape.Escapes.{Escapes}
+use Rattle.value_text.specs.declared.print.escape.Escapes.TheVariants.{Poke, Json}
+use Rattle.value_text.specs.ValueText.{spelled, spelled_byte, is_plain, string_text}
+use Rattle.value_text.specs.JsonText.{json_string}
+use Rattle.value_text.specs.Escaped.{spelled_by, quoted_by}
 
 one_more : (n : ℕ) → 1 + n ≡ suc n
 one_more n = omega arith
@@ -55,3 +59,9 @@ escape_then escape (b ∷ bytes) e lt = elim (cases_Bool (is_plain b)) [
 -- what is left after some first bytes of what was left
 pub bytes_next : (escape : ℕ → List ℕ) (k n : ℕ) (bytes : List ℕ) → spelled escape (drop k bytes) ≡ spelled escape (take n (drop k bytes)) ++ spelled escape (drop (k + n) bytes)
 bytes_next escape k n bytes = bytes_split escape n (drop k bytes) ∙ ap (λ s. spelled escape (take n (drop k bytes)) ++ spelled escape s) (drop-drop n k bytes)
+
+-- a string in double quotes, by the language of its escapes
+pub quotes_are : (escapes : Escapes) (bytes : List ℕ) → codes "\"" ++ (spelled_by escapes bytes ++ codes "\"") ≡ quoted_by escapes bytes
+unfolding string_text json_string
+quotes_are Poke bytes = refl
+quotes_are Json bytes = refl

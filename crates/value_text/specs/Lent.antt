@@ -2,9 +2,10 @@
 use denote.Bor.{Bor}
 use Rattle.std.specs.Prelude.{ℕ, Bool, List, Option}
 use Rattle.std.specs.Option.{option_map}
+use Rattle.text_forms.specs.declared.style.Style.{Style}
 use Rattle.pickle_meaning.specs.Values.{Naming, label_of}
-use Rattle.value_store.specs.declared.value.ValueRef.{ValueRef}
-use Rattle.value_store.specs.Refs.{value_shown}
+use Rattle.value_text.specs.declared.typed.Typed.{Typed}
+use Rattle.value_text.specs.TypedValue.{typed_shown}
 use Rattle.value_text.specs.LineText.{start_text, part_text}
 use Rattle.value_text.specs.PartText.{member_text}
 use Rattle.value_text.specs.TreeText.{prefix_text}
@@ -13,17 +14,17 @@ abbrev pub lent_name : Option (Bor (List ℕ)) → Naming
 lent_name name = option_map (λ letters. letters.now) name
 
 -- a member with what is before it
-abbrev pub lent_member : (first : Bool) → Option (Bor (List ℕ)) → ValueRef → List ℕ
-lent_member first name member = member_text first (lent_name name) (value_shown member)
+abbrev pub lent_member : Style → (first : Bool) → Option (Bor (List ℕ)) → Typed → List ℕ
+lent_member style first name member = member_text style first (lent_name name) (typed_shown member)
 
 -- what is before the part at a place of a value
-abbrev pub lent_prefix : ValueRef → (place : ℕ) → List ℕ
-lent_prefix value place = prefix_text (label_of (value_shown value)) place
+abbrev pub lent_prefix : Typed → (place : ℕ) → List ℕ
+lent_prefix value place = prefix_text (label_of (typed_shown value)) place
 
 -- the same on a separate line
-abbrev pub lent_start : (level : ℕ) → ValueRef → (place : ℕ) → List ℕ
-lent_start level value place = start_text level (label_of (value_shown value)) place
+abbrev pub lent_start : (level : ℕ) → Typed → (place : ℕ) → List ℕ
+lent_start level value place = start_text level (label_of (typed_shown value)) place
 
 -- the lines of the part at a place of a value
-abbrev pub lent_part : (level : ℕ) → ValueRef → (place : ℕ) → ValueRef → List ℕ
-lent_part level value place part = part_text level (label_of (value_shown value)) place (value_shown part)
+abbrev pub lent_part : Style → (level : ℕ) → Typed → (place : ℕ) → Typed → List ℕ
+lent_part style level value place part = part_text style level (label_of (typed_shown value)) place (typed_shown part)

@@ -33,3 +33,13 @@ abbrev mutual
   AreSmallParts NoMembers = Unit {0}
   AreSmallParts (MemberThen value rest) = HasSmallParts value × AreSmallParts rest
   AreSmallParts (AbsentThen rest) = AreSmallParts rest
+
+abbrev mutual
+  -- no value has 2^64 members or more
+  pub HasFewMembers : Value → Type 0
+  HasFewMembers (Mapped label start end members) = (member_count members < 2 ^ 64) × HaveFewMembers members
+
+  pub HaveFewMembers : Members → Type 0
+  HaveFewMembers NoMembers = Unit {0}
+  HaveFewMembers (MemberThen value rest) = HasFewMembers value × HaveFewMembers rest
+  HaveFewMembers (AbsentThen rest) = HaveFewMembers rest

@@ -1,9 +1,10 @@
-//! Prints mapped values, in four modes.
+//! Prints mapped values: in four modes, and for the eye.
 //!
 //! All output goes through one loop over the writer, [`write::put`].
 #![tactic(auto)]
 
 pub mod laws;
 pub mod print;
+pub mod typed;
 
-pub use text_forms::{hex, mode, write};
+pub use text_forms::{hex, mode, style, write};

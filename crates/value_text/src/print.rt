@@ -1,5 +1,7 @@
 //! Prints mapped values.
 mod bytes;
+mod chars;
+mod cut;
 mod digits;
 mod escape;
 mod flat;
@@ -9,19 +11,25 @@ mod lines;
 mod name;
 mod number;
 mod printer;
+pub mod show;
 mod steps;
 mod string;
 pub mod suffix;
 mod tree;
 
-ghost use Rattle.std.specs.Prelude.{OnOk, OnErr};
+ghost use Rattle.std.specs.Prelude.{◌≡◌, OnOk, OnErr};
 ghost use Rattle.std.specs.Io.KnownBytes.{Appends};
 ghost use Rattle.value_store.specs.Refs.{value_shown};
 ghost use Rattle.text_forms.specs.Written.{AppendsPart};
 ghost use Rattle.value_text.specs.Puts.{Puts};
 ghost use Rattle.value_text.specs.Printed.{printed};
+ghost use Rattle.value_text.specs.ShowParts.{shown_at};
+ghost use Rattle.value_text.specs.Styled.{styled, with_chars_in, typed_printed};
+ghost use Rattle.value_text.specs.TypedValue.{typed_shown};
 
 use crate::mode::Mode;
+use crate::style::{Chars, Look, Style};
+use crate::typed::{Typed, Types};
 use line::Line;
 use printer::Printer;
 use std::io::Write;
@@ -34,24 +42,64 @@ pub fn print<W: Write>(value: ValueRef<'_>, mode: Mode, w: &mut W) -> Result<(),
     ensures ok { OnOk result (Appends (W.contents w.old) (W.contents w.new) (printed mode (value_shown value.entry))) }
     ensures err { OnErr result (AppendsPart (W.contents w.old) (W.contents w.new) (printed mode (value_shown value.entry))) }
 {
+    let types = Types::none();
+    print_styled(Typed::new(value, &types, None), mode, Style::plain(), w)
+}
+
+/// Prints a value beside its type, in a mode and a style. If the writer fails, what it accepted is the first bytes of
+/// the printed value, but not all of them.
+pub fn print_styled<W: Write>(
+    value: Typed<'_>,
+    mode: Mode,
+    style: Style,
+    w: &mut W,
+) -> Result<(), WriteFault>
+    ensures ok { OnOk result (Appends (W.contents w.old) (W.contents w.new) (typed_printed style mode value.entry)) }
+    ensures err { OnErr result (AppendsPart (W.contents w.old) (W.contents w.new) (typed_printed style mode value.entry)) }
+{
     let mut printer = Printer {
         writer: w,
         line: Line::new(),
         failed: false,
     };
-    printer.put_printed(mode, value);
+    printer.put_printed(mode, style, with_chars(style.chars, value));
     printer.finish()
 }
 
+/// Prints a value beside its type for the eye. If the writer fails, what it accepted is the first bytes of the text, but
+/// not all of them. The text may change between versions.
+pub fn print_shown<W: Write>(value: Typed<'_>, look: Look, w: &mut W) -> Result<(), WriteFault>
+    ensures ok { OnOk result (Appends (W.contents w.old) (W.contents w.new) (shown_at look value.entry)) }
+    ensures err { OnErr result (AppendsPart (W.contents w.old) (W.contents w.new) (shown_at look value.entry)) }
+{
+    let mut printer = Printer {
+        writer: w,
+        line: Line::new(),
+        failed: false,
+    };
+    printer.put_show(look, value);
+    printer.finish()
+}
+
+// The value with its type where its arrays of chars are texts, else without it.
+fn with_chars(chars: Chars, value: Typed<'_>) -> Typed<'_>
+    ensures { typed_shown result ≡ with_chars_in chars value.entry }
+{
+    match chars {
+        Chars::Numbers => value.untyped(),
+        Chars::Text => value,
+    }
+}
+
 impl<W: Write> Printer<'_, W> {
-    fn put_printed(&mut self, mode: Mode, value: ValueRef<'_>)
-        ensures { Puts W.contents self.old self.new (printed mode (value_shown value.entry)) }
+    fn put_printed(&mut self, mode: Mode, style: Style, value: Typed<'_>)
+        ensures { Puts W.contents self.old self.new (styled style mode (typed_shown value.entry)) }
     {
         match mode {
-            Mode::Flat => self.put_flat(value),
-            Mode::Tree => self.put_tree(value),
-            Mode::Json => self.put_json(value),
-            Mode::Lines => self.put_lines(value),
+            Mode::Flat => self.put_flat(style, value),
+            Mode::Tree => self.put_tree(style, value),
+            Mode::Json => self.put_json(style, value),
+            Mode::Lines => self.put_lines(style, value),
         }
     }
 }

@@ -12,9 +12,11 @@ pub const VERSION: &str = "0.1.0";
 /// The most steps that a mapping may take if no limit is given.
 pub const DEFAULT_LIMIT: u64 = 1_000_000_000;
 
+/// The most elements that are shown of an array if nothing else is requested.
+pub const SHOWN_ELEMENTS: u64 = 16;
+
 const PROGRAM_SHORT_HELP: &str = "\
 Many files, one line each:
-  poke_batch each PICKLE TYPE FILE..
   find . -name '*.png' -print0 | poke_batch each --files0-from - +png Png
 
 PICKLE is a path, - for standard input, or +NAME for a pickle that is installed: `poke_batch formats`.
@@ -25,18 +27,28 @@ PICKLE is a path, - for standard input, or +NAME for a pickle that is installed,
 these. They are in the folder that POKE_BATCH_PICKLES names, else in ../share/poke_batch/pickles from the program.
 OFFSET is a number, # and a unit: b for bits, B for bytes, or a number of bits, as 8#b, 1#B or 2#4.
 
-Options of map and each:
+Options of map, show and each:
   --at OFFSET      where the value begins [default: 0#b]
+  --byte N         the same in bytes, as 446, 0x1be or, from the end of FILE, -512
   --endian ORDER   byte order, big or little [default: big]
   --limit N        the most steps of the mapping, 0 to 18446744073709551615 [default: 1000000000]
-  --mode MODE      how the value is printed: flat, tree, json or lines; each: flat or json [default: flat]
   --whole          accept only a value that ends where FILE does [default: any end]
   --max-output N   the most bytes of the printed value, 0 to 18446744073709551615 [default: any length]
   --slots N        the most slots of the mapping, of each kind, 0 to 18446744073709551615 [default: any number]
   --get PATH       print a part of the value: . or steps of .name, .place, [place] [default: .]
+  --elements N     the most elements that are printed of an array, or all [default: all; show: 16]
+
+Options of map and each:
+  --mode MODE      how the value is printed: flat, tree, json or lines; each: flat or json [default: flat]
+  --numbers FORM   how numbers are printed, decimal or hex [default: decimal]
+  --chars FORM     how arrays of char are printed, numbers or text [default: numbers]
+
+Options of show:
+  --color WHEN     print colors: auto, always or never [default: auto]
 
 Options of each:
   --files0-from PATH  read the names of the files from PATH, or from standard input for -, each ended by a byte 0
+  --flush          write the line of a file before the next file is mapped [default: when there is much to write]
 
 Options of map, each, bound, check and types:
   --why            explain why a pickle or a type's name is refused, or what stops a mapping [default: no]
@@ -48,6 +60,8 @@ Options of bound:
 Options of dump:
   --from OFFSET    the first byte, in whole bytes [default: 0#B]
   --size OFFSET    how much to dump at most, in whole bytes [default: 128#B]
+  -s, --skip BYTES    the first byte, as 446 or 0x1be
+  -n, --length BYTES  how many bytes to dump at most
   --no-ruler       leave out the line above the bytes [default: it is printed]
 
 Without arguments the program runs `check -`.
@@ -71,6 +85,21 @@ Example:
 
 Exit status:
   0  the value was printed
+  1  the mapping has a fault, or its value is rejected, which is reported with its place
+  2  refused: the arguments, an offset, the pickle or the type's name
+  3  memory, a file, standard input or an output failed";
+
+const SHOW_HELP: &str = "\
+Shows the value with its places, its numbers in decimal and hexadecimal, and its texts, and explains a fault. The form may
+change with the version; programs read the output of map. OFFSET is a number, # and a unit: b for bits, B for bytes, or a
+number of bits, as 8#b, 1#B or 2#4. Without --color, NO_COLOR in the environment leaves colors out.
+
+Example:
+  printf '\\001\\002\\003' > three.bin
+  echo 'type P = struct { uint<8> a; uint<16> b; };' | poke_batch show - P three.bin
+
+Exit status:
+  0  the value was shown
   1  the mapping has a fault, or its value is rejected, which is reported with its place
   2  refused: the arguments, an offset, the pickle or the type's name
   3  memory, a file, standard input or an output failed";
@@ -134,11 +163,12 @@ Exit status:
   3  memory, the folder, a file or an output failed";
 
 const DUMP_HELP: &str = "\
-OFFSET is a number, # and a unit: b for bits, B for bytes, or a number of bits, as 16#B or 2#4.
+OFFSET is a number, # and a unit: b for bits, B for bytes, or a number of bits, as 16#B or 2#4. BYTES is a number of bytes,
+as 446 or 0x1be.
 
 Example:
   printf 'Hello' > hello.bin
-  poke_batch dump --size 16#B hello.bin
+  poke_batch dump -n 16 hello.bin
 
 Exit status:
   0  the bytes were printed
@@ -154,6 +184,7 @@ pub fn program<'a>(alloc: Global) -> Result<Command<'a>, AllocError> {
         .after_long_help(PROGRAM_HELP)
         .subcommand_required(true)
         .subcommand(map(alloc)?)?
+        .subcommand(show(alloc)?)?
         .subcommand(each(alloc)?)?
         .subcommand(bound(alloc)?)?
         .subcommand(check(alloc)?)?
@@ -167,7 +198,24 @@ fn map<'a>(alloc: Global) -> Result<Command<'a>, AllocError> {
     let command = Command::new(alloc, "map")
         .about("Maps a type over a file and prints the value")
         .after_long_help(MAP_HELP);
-    with_mapping(alloc, command, modes)?.arg(file(alloc))
+    with_style(alloc, with_mapping(alloc, command)?, modes)?
+        .arg(why(alloc))?
+        .arg(pickle(alloc))?
+        .arg(name(alloc))?
+        .arg(file(alloc))
+}
+
+fn show<'a>(alloc: Global) -> Result<Command<'a>, AllocError> {
+    let times = ["auto", "always", "never"].as_slice();
+    let command = Command::new(alloc, "show")
+        .about("Maps a type over a file and shows the value, or what a fault is about, to the eye")
+        .after_long_help(SHOW_HELP);
+    with_mapping(alloc, command)?
+        .arg(elements(alloc, "16"))?
+        .arg(option(alloc, "color", "WHEN", "When colors are printed", "auto").value_parser(times))?
+        .arg(pickle(alloc))?
+        .arg(name(alloc))?
+        .arg(file(alloc))
 }
 
 fn each<'a>(alloc: Global) -> Result<Command<'a>, AllocError> {
@@ -183,21 +231,28 @@ fn each<'a>(alloc: Global) -> Result<Command<'a>, AllocError> {
         .help(
             "Read the names of the files from PATH, or from standard input for -, each ended by a byte 0",
         );
+    let flush = Arg::new(alloc, "flush")
+        .long("flush")
+        .action(ArgAction::SetTrue)
+        .help("Write the line of a file before the next file is mapped [default: no]");
     let command = Command::new(alloc, "each")
         .about("Maps a type over many files, one after the other, and prints a line for each")
         .after_long_help(EACH_HELP);
-    with_mapping(alloc, command, modes)?.arg(names)?.arg(files)
+    with_style(alloc, with_mapping(alloc, command)?, modes)?
+        .arg(why(alloc))?
+        .arg(flush)?
+        .arg(names)?
+        .arg(pickle(alloc))?
+        .arg(name(alloc))?
+        .arg(files)
 }
 
-// The options of a mapping, its pickle and its type.
-fn with_mapping<'a>(
-    alloc: Global,
-    command: Command<'a>,
-    modes: &'a [&'a str],
-) -> Result<Command<'a>, AllocError> {
+// The options of a mapping. The short help leaves out those that few need.
+fn with_mapping<'a>(alloc: Global, command: Command<'a>) -> Result<Command<'a>, AllocError> {
     let orders = ["big", "little"].as_slice();
     command
         .arg(offset(alloc, "at", "Where the value begins in FILE", "0#b"))?
+        .arg(byte(alloc)?)?
         .arg(option(alloc, "endian", "ORDER", "The byte order", "big").value_parser(orders))?
         .arg(option(
             alloc,
@@ -207,14 +262,36 @@ fn with_mapping<'a>(
             "1000000000",
         )
         .value_parser(clap::value_parser!(u64)))?
-        .arg(option(alloc, "mode", "MODE", "How the value is printed", "flat").value_parser(modes))?
         .arg(whole(alloc))?
         .arg(max_output(alloc))?
         .arg(slots(alloc))?
-        .arg(part(alloc))?
-        .arg(why(alloc))?
-        .arg(pickle(alloc))?
-        .arg(name(alloc))
+        .arg(part(alloc))
+}
+
+// The options of a printed value.
+fn with_style<'a>(
+    alloc: Global,
+    command: Command<'a>,
+    modes: &'a [&'a str],
+) -> Result<Command<'a>, AllocError> {
+    command
+        .arg(option(alloc, "mode", "MODE", "How the value is printed", "flat").value_parser(modes))?
+        .arg(numbers(alloc))?
+        .arg(chars(alloc))?
+        .arg(elements(alloc, "all"))
+}
+
+fn byte<'a>(alloc: Global) -> Result<Arg<'a>, AllocError> {
+    Ok(
+        Arg::new(alloc, "byte")
+            .long("byte")
+            .value_name("N")
+            .allow_hyphen_values(true)
+            .conflicts_with("at")?
+            .help(
+                "The byte where the value begins, as 446, 0x1be or, from the end of FILE, -512 [default: 0]",
+            ),
+    )
 }
 
 fn whole<'a>(alloc: Global) -> Arg<'a> {
@@ -232,6 +309,7 @@ fn slots<'a>(alloc: Global) -> Arg<'a> {
             "The most slots of the mapping, of each kind, reserved before it, 0 to 18446744073709551615 [default: any number]",
         )
         .value_parser(clap::value_parser!(u64))
+        .hide_short_help(true)
 }
 
 fn max_output<'a>(alloc: Global) -> Arg<'a> {
@@ -242,12 +320,42 @@ fn max_output<'a>(alloc: Global) -> Arg<'a> {
             "The most bytes of the printed value, 0 to 18446744073709551615 [default: any length]",
         )
         .value_parser(clap::value_parser!(u64))
+        .hide_short_help(true)
 }
 
 fn part<'a>(alloc: Global) -> Arg<'a> {
     Arg::new(alloc, "get").long("get").value_name("PATH").help(
         "Print a part of the value: . or steps of .name, .place, [place] [default: .]",
     )
+}
+
+fn numbers<'a>(alloc: Global) -> Arg<'a> {
+    let forms = ["decimal", "hex"].as_slice();
+    option(
+        alloc,
+        "numbers",
+        "FORM",
+        "How numbers are printed",
+        "decimal",
+    )
+    .value_parser(forms)
+}
+
+fn chars<'a>(alloc: Global) -> Arg<'a> {
+    let forms = ["numbers", "text"].as_slice();
+    option(
+        alloc,
+        "chars",
+        "FORM",
+        "How arrays of char are printed",
+        "numbers",
+    )
+    .value_parser(forms)
+}
+
+fn elements<'a>(alloc: Global, default: &'a str) -> Arg<'a> {
+    let help = "The most elements that are printed of an array, or all";
+    option(alloc, "elements", "N", help, default)
 }
 
 fn bound<'a>(alloc: Global) -> Result<Command<'a>, AllocError> {
@@ -316,6 +424,8 @@ fn dump<'a>(alloc: Global) -> Result<Command<'a>, AllocError> {
             "How much to dump at most, in whole bytes",
             "128#B",
         ))?
+        .arg(count(alloc, "skip", 's', "The first byte, as 446 or 0x1be").conflicts_with("from")?)?
+        .arg(count(alloc, "length", 'n', "How many bytes to dump at most").conflicts_with("size")?)?
         .arg(no_ruler)?
         .arg(file(alloc))
 }
@@ -336,6 +446,14 @@ fn option<'a>(
 
 fn offset<'a>(alloc: Global, name: &'a str, help: &'a str, default: &'a str) -> Arg<'a> {
     option(alloc, name, "OFFSET", help, default)
+}
+
+fn count<'a>(alloc: Global, name: &'a str, letter: char, help: &'a str) -> Arg<'a> {
+    Arg::new(alloc, name)
+        .short(letter)
+        .long(name)
+        .value_name("BYTES")
+        .help(help)
 }
 
 fn why<'a>(alloc: Global) -> Arg<'a> {

@@ -1,8 +1,13 @@
 //! What clap found for the arguments of a command.
-ghost use Rattle.std.specs.Prelude.{◌≡◌, IfOk, string_bytes};
+ghost use Rattle.std.specs.Prelude.{◌≡◌, ◌≢◌, ◌⊎◌, IfOk, IfErr, string_bytes};
 ghost use Rattle.clap.specs.Matches.{found_of, first_value, one_text};
-ghost use Rattle.command_words.specs.Found.{word_in, NumberIn, NumberIfAny, FlagIn};
+ghost use Rattle.command_words.specs.Numerals.{IsNumber, IsNoNumber};
+ghost use Rattle.command_words.specs.Found.{word_in, NumberIn, NumberIfAny, IsNoNumberIfAny, FlagIn};
+ghost use Rattle.command_words.specs.declared.words.WordFault.TheVariants.{Memory};
 
+use crate::numerals::decimal;
+use crate::words::WordFault;
+use crate::words::usage::{NO_NUMBER, invalid_value};
 use clap::ArgMatches;
 use std::alloc::{AllocError, Global};
 
@@ -20,18 +25,51 @@ pub fn word_of(alloc: Global, found: &ArgMatches<'_>, name: &str) -> Result<Stri
     String::from_str(alloc, word(found, name))
 }
 
-/// The number that an argument is, if it was given.
-pub fn number_if_any(found: &ArgMatches<'_>, name: &str) -> Option<u64>
-    ensures { NumberIfAny (one_text (found_of found.now) name.now) result }
+/// The number that an argument is, if it was given. `place` is how messages name the argument.
+pub fn number_if_any(
+    alloc: Global,
+    found: &ArgMatches<'_>,
+    name: &str,
+    place: &str,
+) -> Result<Option<u64>, WordFault>
+    ensures ok { IfOk result (NumberIfAny (first_value (found_of found.now) name.now)) }
+    ensures err { IfErr result (λ fault. (fault ≡ Memory) ⊎ IsNoNumberIfAny (first_value (found_of found.now) name.now)) }
+    ensures fault { IfErr result (λ fault. fault ≢ WordFault.Offset) }
 {
-    found.get_one::<u64>(name)
+    match found.get_str(name) {
+        Some(word) => Ok(Some(number_of_word(alloc, word, place)?)),
+        None => Ok(None),
+    }
 }
 
 /// The number that an argument is, or the default if it wasn't given.
-pub fn number_of(found: &ArgMatches<'_>, name: &str, default: u64) -> u64
-    ensures { NumberIn (one_text (found_of found.now) name.now) default result }
+pub fn number_of(
+    alloc: Global,
+    found: &ArgMatches<'_>,
+    name: &str,
+    place: &str,
+    default: u64,
+) -> Result<u64, WordFault>
+    ensures ok { IfOk result (NumberIn (first_value (found_of found.now) name.now) default) }
+    ensures err { IfErr result (λ fault. (fault ≡ Memory) ⊎ IsNoNumberIfAny (first_value (found_of found.now) name.now)) }
+    ensures fault { IfErr result (λ fault. fault ≢ WordFault.Offset) }
 {
-    number_if_any(found, name).unwrap_or(default)
+    match found.get_str(name) {
+        Some(word) => number_of_word(alloc, word, place),
+        None => Ok(default),
+    }
+}
+
+// The number that a text is. clap's own numbers may have a plus before them.
+fn number_of_word(alloc: Global, word: &str, place: &str) -> Result<u64, WordFault>
+    ensures ok { IfOk result (IsNumber word.now) }
+    ensures err { IfErr result (λ fault. (fault ≡ Memory) ⊎ IsNoNumber word.now) }
+    ensures fault { IfErr result (λ fault. fault ≢ WordFault.Offset) }
+{
+    match decimal(word.as_bytes()) {
+        Some(number) => Ok(number),
+        None => Err(WordFault::Usage(invalid_value(alloc, word, place, NO_NUMBER)?)),
+    }
 }
 
 /// Whether a flag was given.

@@ -36,6 +36,14 @@ impl<'a> Members<'a> {
         }
     }
 
+    /// The value that the members belong to.
+    #[inline(always)]
+    pub fn owner(&self) -> ValueRef<'a>
+        ensures { result ≡ owner_of self.now }
+    {
+        self.value
+    }
+
     /// The type of the members, where they are the packed integers of an array. It is found once for all of them.
     pub fn row_type(&self) -> Option<IntegerType>
         ensures { IfSome result (λ number. AreIntegersOf number (members_of (value_shown (owner_of self.now)))) }

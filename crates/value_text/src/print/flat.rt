@@ -1,123 +1,139 @@
 //! Prints values on one line.
-ghost use Rattle.std.specs.Prelude.{◌^◌, ◌<◌, true, ◌++◌, All, codes};
+ghost use Rattle.std.specs.Prelude.{◌≡◌, ◌^◌, ◌<◌, true, false, ◌++◌, All, codes};
 ghost use Rattle.value_store.specs.Integers.{AreIntegersOf};
-ghost use Rattle.value_store.specs.Refs.{value_shown};
+ghost use Rattle.value_text.specs.TypedValue.{typed_shown};
 ghost use Rattle.pickle_types.specs.Sound.{IsWidth};
-ghost use Rattle.pickle_meaning.specs.Values.{members_of};
+ghost use Rattle.pickle_meaning.specs.Values.{members_of, member_count};
 ghost use Rattle.value_text.specs.Puts.{Puts};
-ghost use Rattle.value_text.specs.ValueText.{flat_text, value_text, integer_text, comma};
+ghost use Rattle.value_text.specs.ValueText.{comma};
+ghost use Rattle.value_text.specs.StyledNumbers.{integer_in};
+ghost use Rattle.value_text.specs.StyledValue.{styled_flat, styled_value};
+ghost use Rattle.value_text.specs.CutArrays.{is_cut, left_text, more_text, more_member};
 ghost use Rattle.value_text.specs.PartText.{array_text, elements_text, byte_row_text, titled_text, all_members_text};
 ghost use Rattle.value_text.specs.Lent.{lent_member};
 
+use super::cut::{is_cut, kept_count};
+use super::escape::Escapes;
 use super::number::type_of;
 use super::printer::Printer;
+use crate::style::{Numbers, Style};
+use crate::typed::{Parts, Typed};
 use pickle_types::integer::IntegerType;
 use std::io::Write;
+use value_store::Kind;
 use value_store::ranges::with_sign;
-use value_store::{Kind, ValueRef};
 
 impl<W: Write> Printer<'_, W> {
     /// Writes a value and a line feed.
     #[tactic(auto, using(crate::proofs::Puts::puts))]
-    pub fn put_flat(&mut self, value: ValueRef<'_>)
-        ensures { Puts W.contents self.old self.new (flat_text (value_shown value.entry)) }
+    pub fn put_flat(&mut self, style: Style, value: Typed<'_>)
+        ensures { Puts W.contents self.old self.new (styled_flat style (typed_shown value.entry)) }
     {
-        self.put_value(value);
+        self.put_value(style, value);
         self.put(b"\n");
     }
 
     /// Writes a value.
     // Inlined, so that a member that is an integer costs no call.
-    #[tactic(auto, using(crate::proofs::MemberTexts::by_kind))]
+    #[tactic(auto, using(crate::proofs::StyledTexts::by_kind))]
     #[inline(always)]
     #[cycle(flat)]
-    pub fn put_value(&mut self, value: ValueRef<'_>)
-        ensures { Puts W.contents self.old self.new (value_text (value_shown value.entry)) }
+    pub fn put_value(&mut self, style: Style, value: Typed<'_>)
+        ensures { Puts W.contents self.old self.new (styled_value style (typed_shown value.entry)) }
     {
         match value.kind() {
-            Kind::Integer => self.put_integer(type_of(value), value.number()),
-            Kind::Offset => self.put_offset(type_of(value), value.unit(), value.number()),
-            Kind::Text => self.put_string(value.bytes()),
-            Kind::Array => self.put_array(value),
-            Kind::Struct => self.put_titled(value, b"struct"),
-            Kind::Union => self.put_titled(value, b"union"),
+            Kind::Integer => self.put_integer(style.numbers, type_of(value), value.number()),
+            Kind::Offset => {
+                self.put_offset(style.numbers, type_of(value), value.unit(), value.number())
+            }
+            Kind::Text => self.put_text(Escapes::Poke, value),
+            Kind::Array => self.put_array(style, value),
+            Kind::Struct => self.put_titled(style, value, b"struct"),
+            Kind::Union => self.put_titled(style, value, b"union"),
         }
     }
 
     #[tactic(auto, using(crate::proofs::Puts::puts))]
     #[inline(never)]
     #[cycle(flat)]
-    fn put_array(&mut self, value: ValueRef<'_>)
-        ensures { Puts W.contents self.old self.new (array_text (value_shown value.entry)) }
+    fn put_array(&mut self, style: Style, value: Typed<'_>)
+        ensures { Puts W.contents self.old self.new (array_text style (typed_shown value.entry)) }
     {
         self.put(b"[");
-        self.put_elements(value);
+        self.put_elements(style, value);
         self.put(b"]");
     }
 
     // Writes the elements of an array, which have no names.
     #[cycle(flat)]
-    fn put_elements(&mut self, value: ValueRef<'_>)
-        ensures { Puts W.contents self.old self.new (elements_text (value_shown value.entry)) }
+    fn put_elements(&mut self, style: Style, value: Typed<'_>)
+        ensures { Puts W.contents self.old self.new (elements_text style (typed_shown value.entry)) }
     {
-        let elements = value.members();
+        let elements = Parts::new(value);
+        if is_cut(style.elements, elements.len()) {
+            return self.put_each(style, value);
+        }
         if let Some((number, bytes)) = elements.byte_row() {
-            return self.put_byte_row(number, bytes);
+            return self.put_byte_row(style.numbers, number, bytes);
         }
         match elements.row_type() {
-            Some(number) => self.put_row(value, number),
-            None => self.put_each(value),
+            Some(number) => self.put_row(style, value, number),
+            None => self.put_each(style, value),
         }
     }
 
-    // Writes elements, each by its kind.
+    // Writes elements, each by its kind, and how many are left out.
     #[cycle(flat)]
-    fn put_each(&mut self, value: ValueRef<'_>)
-        ensures { Puts W.contents self.old self.new (elements_text (value_shown value.entry)) }
+    fn put_each(&mut self, style: Style, value: Typed<'_>)
+        ensures { Puts W.contents self.old self.new (elements_text style (typed_shown value.entry)) }
     {
-        let elements = value.members();
+        let elements = Parts::new(value);
+        let count = elements.len();
+        let kept = kept_count(style.elements, count);
         let mut first = true;
-        for place in 0..elements.len() {
+        for place in 0..kept {
             if self.failed {
                 return;
             }
             if let Some(element) = elements.get(place) {
-                self.put_member(first, None, element);
+                self.put_member(style, first, None, element);
                 first = false;
             }
         }
+        self.put_left(first, count - kept);
     }
 
     // Writes the elements of an array of integers of one type, which is read once.
-    fn put_row(&mut self, value: ValueRef<'_>, number: IntegerType)
-        requires { AreIntegersOf number (members_of (value_shown value)) }
-        ensures { Puts W.contents self.old self.new (elements_text (value_shown value.entry)) }
+    fn put_row(&mut self, style: Style, value: Typed<'_>, number: IntegerType)
+        requires integers { AreIntegersOf number (members_of (typed_shown value)) }
+        requires whole { is_cut style.elements (member_count (members_of (typed_shown value))) ≡ false }
+        ensures { Puts W.contents self.old self.new (elements_text style (typed_shown value.entry)) }
     {
-        let elements = value.members();
+        let elements = Parts::new(value);
         let mut first = true;
         for place in 0..elements.len() {
             if self.failed {
                 return;
             }
             if let Some(element) = elements.get(place) {
-                self.put_item(first, number, element.number());
+                self.put_item(style.numbers, first, number, element.number());
                 first = false;
             }
         }
     }
 
     // Writes elements of at most 8 bits each, from bytes that hold their bits.
-    fn put_byte_row(&mut self, number: IntegerType, bytes: &[u8])
+    fn put_byte_row(&mut self, numbers: Numbers, number: IntegerType, bytes: &[u8])
         requires width { IsWidth number }
         requires below { All (λ byte. byte < 2 ^ number.width) bytes.now }
-        ensures { Puts W.contents self.old self.new (byte_row_text number true bytes.now) }
+        ensures { Puts W.contents self.old self.new (byte_row_text numbers number true bytes.now) }
     {
         let mut first = true;
         for byte in bytes {
             if self.failed {
                 return;
             }
-            self.put_item(first, number, with_sign(number, u64::from(*byte)));
+            self.put_item(numbers, first, number, with_sign(number, u64::from(*byte)));
             first = false;
         }
     }
@@ -125,31 +141,54 @@ impl<W: Write> Printer<'_, W> {
     // Writes an integer of a row.
     #[tactic(auto, using(crate::proofs::Puts::puts))]
     #[inline(always)]
-    fn put_item(&mut self, first: bool, ty: IntegerType, number: i128)
-        ensures { Puts W.contents self.old self.new (comma first ++ integer_text ty number) }
+    fn put_item(&mut self, numbers: Numbers, first: bool, ty: IntegerType, number: i128)
+        ensures { Puts W.contents self.old self.new (comma first ++ integer_in numbers ty number) }
     {
         self.put_comma(first);
-        self.put_integer(ty, number);
+        self.put_integer(numbers, ty, number);
+    }
+
+    // Writes how many elements are left out, if any are.
+    #[tactic(auto, using(crate::proofs::Puts::puts))]
+    #[inline(always)]
+    fn put_left(&mut self, first: bool, left: usize)
+        ensures { Puts W.contents self.old self.new (left_text (more_member first) left) }
+    {
+        if left == 0 {
+            return;
+        }
+        self.put_comma(first);
+        self.put_more(left);
+    }
+
+    /// Writes how many more there are.
+    #[tactic(auto, using(crate::proofs::Puts::puts))]
+    #[inline(never)]
+    pub fn put_more(&mut self, left: usize)
+        ensures { Puts W.contents self.old self.new (more_text left) }
+    {
+        self.put(b"..+");
+        self.put_count(left);
     }
 
     // Writes a struct or a union. A nameless one has the word for its sort instead of a name.
     #[tactic(auto, using(crate::proofs::Puts::puts))]
     #[inline(never)]
     #[cycle(flat)]
-    fn put_titled(&mut self, value: ValueRef<'_>, sort: &[u8])
-        ensures { Puts W.contents self.old self.new (titled_text sort.now (value_shown value.entry)) }
+    fn put_titled(&mut self, style: Style, value: Typed<'_>, sort: &[u8])
+        ensures { Puts W.contents self.old self.new (titled_text style sort.now (typed_shown value.entry)) }
     {
         self.put_title(sort, value.type_name());
         self.put(b" {");
-        self.put_members(value);
+        self.put_members(style, value);
         self.put(b"}");
     }
 
     #[cycle(flat)]
-    fn put_members(&mut self, value: ValueRef<'_>)
-        ensures { Puts W.contents self.old self.new (all_members_text (value_shown value.entry)) }
+    fn put_members(&mut self, style: Style, value: Typed<'_>)
+        ensures { Puts W.contents self.old self.new (all_members_text style (typed_shown value.entry)) }
     {
-        let members = value.members();
+        let members = Parts::new(value);
         let names = value.member_names();
         let mut first = true;
         for place in 0..members.len() {
@@ -157,7 +196,7 @@ impl<W: Write> Printer<'_, W> {
                 return;
             }
             if let Some(member) = members.get(place) {
-                self.put_member(first, names.get(place), member);
+                self.put_member(style, first, names.get(place), member);
                 first = false;
             }
         }
@@ -166,10 +205,10 @@ impl<W: Write> Printer<'_, W> {
     #[tactic(auto, using(crate::proofs::Puts::puts))]
     #[inline(always)]
     #[cycle(flat)]
-    fn put_member(&mut self, first: bool, name: Option<&[u8]>, member: ValueRef<'_>)
-        ensures { Puts W.contents self.old self.new (lent_member first name.entry member.entry) }
+    fn put_member(&mut self, style: Style, first: bool, name: Option<&[u8]>, member: Typed<'_>)
+        ensures { Puts W.contents self.old self.new (lent_member style first name.entry member.entry) }
     {
         self.put_start(first, name);
-        self.put_value(member);
+        self.put_value(style, member);
     }
 }

@@ -1,25 +1,31 @@
 //! Prints values in JSON.
 ghost use Rattle.std.specs.Prelude.{◌≡◌, ◌≤◌, ◌++◌, true, length};
 ghost use Rattle.std.specs.List.{prefix_len};
-ghost use Rattle.value_store.specs.Refs.{value_shown};
+ghost use Rattle.value_text.specs.TypedValue.{typed_shown};
 ghost use Rattle.value_text.specs.Puts.{Puts};
 ghost use Rattle.value_text.specs.ValueText.{is_plain};
-ghost use Rattle.value_text.specs.JsonText.{json_line, json_text, json_offset};
+ghost use Rattle.value_text.specs.StyledNumbers.{json_number, json_offset_in, quoted_hex};
+ghost use Rattle.value_text.specs.StyledJson.{styled_json_line, styled_json};
+ghost use Rattle.value_text.specs.CutArrays.{left_text, more_item};
 ghost use Rattle.value_text.specs.JsonParts.{array_json, elements_json, object_json, fields_json, element_json, start_json, field_json, name_start, place_start};
 
 use super::bytes::SHORT;
+use super::cut::kept_count;
+use super::escape::Escapes;
 use super::printer::Printer;
 use super::string::plain_len;
+use crate::style::{Numbers, Style};
+use crate::typed::{Parts, Typed};
 use std::io::Write;
-use value_store::{Kind, ValueRef};
+use value_store::Kind;
 
 impl<W: Write> Printer<'_, W> {
     /// Writes a value in JSON, and a line feed.
     #[tactic(auto, using(crate::proofs::Puts::puts))]
-    pub fn put_json(&mut self, value: ValueRef<'_>)
-        ensures { Puts W.contents self.old self.new (json_line (value_shown value.entry)) }
+    pub fn put_json(&mut self, style: Style, value: Typed<'_>)
+        ensures { Puts W.contents self.old self.new (styled_json_line style (typed_shown value.entry)) }
     {
-        self.put_json_value(value);
+        self.put_json_value(style, value);
         self.put(b"\n");
     }
 
@@ -27,27 +33,48 @@ impl<W: Write> Printer<'_, W> {
     #[tactic(auto, using(crate::proofs::JsonTexts::by_kind))]
     #[inline(always)]
     #[cycle(json)]
-    fn put_json_value(&mut self, value: ValueRef<'_>)
-        ensures { Puts W.contents self.old self.new (json_text (value_shown value.entry)) }
+    fn put_json_value(&mut self, style: Style, value: Typed<'_>)
+        ensures { Puts W.contents self.old self.new (styled_json style (typed_shown value.entry)) }
     {
         match value.kind() {
-            Kind::Integer => self.put_number(value.number()),
-            Kind::Offset => self.put_json_offset(value.number(), value.unit()),
-            Kind::Text => self.put_json_string(value.bytes()),
-            Kind::Array => self.put_json_array(value),
-            Kind::Struct => self.put_object(value),
-            Kind::Union => self.put_object(value),
+            Kind::Integer => self.put_json_number(style.numbers, value.number()),
+            Kind::Offset => self.put_json_offset(style.numbers, value.number(), value.unit()),
+            Kind::Text => self.put_text(Escapes::Json, value),
+            Kind::Array => self.put_json_array(style, value),
+            Kind::Struct => self.put_object(style, value),
+            Kind::Union => self.put_object(style, value),
         }
     }
 
-    // Writes an offset of so many units, of a number of bits each.
-    #[tactic(auto, using(crate::proofs::Puts::puts), unfolding(crate::specs::JsonText::json_offset))]
+    #[inline(always)]
+    fn put_json_number(&mut self, numbers: Numbers, number: i128)
+        ensures { Puts W.contents self.old self.new (json_number numbers number) }
+    {
+        match numbers {
+            Numbers::Decimal => self.put_number(number),
+            Numbers::Hexadecimal => self.put_quoted_hex(number),
+        }
+    }
+
+    // Writes a number as a string of hexadecimal digits.
+    #[tactic(auto, using(crate::proofs::Puts::puts), unfolding(crate::specs::StyledNumbers::quoted_hex))]
     #[inline(never)]
-    fn put_json_offset(&mut self, magnitude: i128, unit: u32)
-        ensures { Puts W.contents self.old self.new (json_offset magnitude unit) }
+    fn put_quoted_hex(&mut self, number: i128)
+        ensures { Puts W.contents self.old self.new (quoted_hex number) }
+    {
+        self.put(b"\"");
+        self.put_signed_hex(number);
+        self.put(b"\"");
+    }
+
+    // Writes an offset of so many units, of a number of bits each.
+    #[tactic(auto, using(crate::proofs::Puts::puts), unfolding(crate::specs::StyledNumbers::json_offset_in))]
+    #[inline(never)]
+    fn put_json_offset(&mut self, numbers: Numbers, magnitude: i128, unit: u32)
+        ensures { Puts W.contents self.old self.new (json_offset_in numbers magnitude unit) }
     {
         self.put(b"{\"magnitude\":");
-        self.put_number(magnitude);
+        self.put_json_number(numbers, magnitude);
         self.put(b",\"unit\":");
         self.put_digits(unit);
         self.put(b"}");
@@ -56,65 +83,91 @@ impl<W: Write> Printer<'_, W> {
     #[tactic(auto, using(crate::proofs::Puts::puts))]
     #[inline(never)]
     #[cycle(json)]
-    fn put_json_array(&mut self, value: ValueRef<'_>)
-        ensures { Puts W.contents self.old self.new (array_json (value_shown value.entry)) }
+    fn put_json_array(&mut self, style: Style, value: Typed<'_>)
+        ensures { Puts W.contents self.old self.new (array_json style (typed_shown value.entry)) }
     {
         self.put(b"[");
-        self.put_json_elements(value);
+        self.put_json_elements(style, value);
         self.put(b"]");
     }
 
     #[cycle(json)]
-    fn put_json_elements(&mut self, value: ValueRef<'_>)
-        ensures { Puts W.contents self.old self.new (elements_json (value_shown value.entry)) }
+    fn put_json_elements(&mut self, style: Style, value: Typed<'_>)
+        ensures { Puts W.contents self.old self.new (elements_json style (typed_shown value.entry)) }
     {
-        let elements = value.members();
+        let elements = Parts::new(value);
+        let count = elements.len();
+        let kept = kept_count(style.elements, count);
         let mut first = true;
-        for place in 0..elements.len() {
+        for place in 0..kept {
             if self.failed {
                 return;
             }
             if let Some(element) = elements.get(place) {
-                self.put_json_element(first, element);
+                self.put_json_element(style, first, element);
                 first = false;
             }
         }
+        self.put_left_item(first, count - kept);
+    }
+
+    // Writes how many elements are left out, if any are.
+    #[tactic(auto, using(crate::proofs::Puts::puts))]
+    #[inline(always)]
+    fn put_left_item(&mut self, first: bool, left: usize)
+        ensures { Puts W.contents self.old self.new (left_text (more_item first) left) }
+    {
+        if left == 0 {
+            return;
+        }
+        self.put_more_item(first, left);
+    }
+
+    #[tactic(auto, using(crate::proofs::Puts::puts))]
+    #[inline(never)]
+    fn put_more_item(&mut self, first: bool, left: usize)
+        ensures { Puts W.contents self.old self.new (more_item first left) }
+    {
+        self.put_comma(first);
+        self.put(b"{\"..\":");
+        self.put_count(left);
+        self.put(b"}");
     }
 
     #[tactic(auto, using(crate::proofs::Puts::puts))]
     #[inline(always)]
     #[cycle(json)]
-    fn put_json_element(&mut self, first: bool, element: ValueRef<'_>)
-        ensures { Puts W.contents self.old self.new (element_json first (value_shown element.entry)) }
+    fn put_json_element(&mut self, style: Style, first: bool, element: Typed<'_>)
+        ensures { Puts W.contents self.old self.new (element_json style first (typed_shown element.entry)) }
     {
         self.put_comma(first);
-        self.put_json_value(element);
+        self.put_json_value(style, element);
     }
 
     // Writes a struct or a union.
     #[tactic(auto, using(crate::proofs::Puts::puts))]
     #[inline(never)]
     #[cycle(json)]
-    fn put_object(&mut self, value: ValueRef<'_>)
-        ensures { Puts W.contents self.old self.new (object_json (value_shown value.entry)) }
+    fn put_object(&mut self, style: Style, value: Typed<'_>)
+        ensures { Puts W.contents self.old self.new (object_json style (typed_shown value.entry)) }
     {
         self.put(b"{");
-        self.put_fields(value);
+        self.put_fields(style, value);
         self.put(b"}");
     }
 
     #[cycle(json)]
-    fn put_fields(&mut self, value: ValueRef<'_>)
-        ensures { Puts W.contents self.old self.new (fields_json (value_shown value.entry)) }
+    fn put_fields(&mut self, style: Style, value: Typed<'_>)
+        ensures { Puts W.contents self.old self.new (fields_json style (typed_shown value.entry)) }
     {
-        let fields = value.members();
+        let fields = Parts::new(value);
         let mut first = true;
         for place in 0..fields.len() {
             if self.failed {
                 return;
             }
             if let Some(field) = fields.get(place) {
-                self.put_field(first, value, place, field);
+                self.put_field(style, first, value, place, field);
                 first = false;
             }
         }
@@ -124,16 +177,23 @@ impl<W: Write> Printer<'_, W> {
     #[tactic(auto, using(crate::proofs::Puts::puts))]
     #[inline(always)]
     #[cycle(json)]
-    fn put_field(&mut self, first: bool, value: ValueRef<'_>, place: usize, field: ValueRef<'_>)
-        ensures { Puts W.contents self.old self.new (field_json first value.entry place field.entry) }
+    fn put_field(
+        &mut self,
+        style: Style,
+        first: bool,
+        value: Typed<'_>,
+        place: usize,
+        field: Typed<'_>,
+    )
+        ensures { Puts W.contents self.old self.new (field_json style first value.entry place field.entry) }
     {
         self.put_key(first, value, place);
-        self.put_json_value(field);
+        self.put_json_value(style, field);
     }
 
     // Writes the key of the part at a place, after a comma unless it is the first.
     #[inline(always)]
-    fn put_key(&mut self, first: bool, value: ValueRef<'_>, place: usize)
+    fn put_key(&mut self, first: bool, value: Typed<'_>, place: usize)
         ensures { Puts W.contents self.old self.new (start_json first value.entry place) }
     {
         match value.field_name(place) {
@@ -168,7 +228,7 @@ impl<W: Write> Printer<'_, W> {
         ensures { Puts W.contents self.old self.new (name_start first name.now) }
     {
         self.put_comma(first);
-        self.put_json_string(name);
+        self.put_quoted(Escapes::Json, name);
         self.put(b":");
     }
 

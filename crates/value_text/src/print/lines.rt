@@ -1,80 +1,122 @@
 //! Prints values with a line for each part that has no parts.
-ghost use Rattle.std.specs.Prelude.{◌≡◌, ◌++◌, true, false};
-ghost use Rattle.pickle_meaning.specs.Values.{label_of, members_of};
-ghost use Rattle.value_store.specs.Refs.{value_shown};
+ghost use Rattle.std.specs.Prelude.{◌≡◌, ◌-◌, ◌<◌, ◌++◌, true, false};
+ghost use Rattle.pickle_meaning.specs.Values.{label_of, members_of, member_count, start_of, end_of};
+ghost use Rattle.value_text.specs.TypedValue.{typed_shown};
 ghost use Rattle.value_text.specs.Puts.{Puts};
-ghost use Rattle.value_text.specs.LinesText.{part_lines, place_cells, text_cell, is_parted, any_present};
-ghost use Rattle.value_text.specs.LeafText.{leaf_at, leaves_at, branches_at, branch_at};
+ghost use Rattle.value_text.specs.LinesText.{place_cells, is_parted, any_present};
+ghost use Rattle.value_text.specs.StyledLeaves.{styled_part_lines, styled_text_cell, more_step, more_cells, start_from};
+ghost use Rattle.value_text.specs.LeafText.{leaf_at, leaves_at, branches_at, branch_at, more_leaf_at};
 
+use super::cut::{kept_count, limit_of};
 use super::printer::Printer;
 use super::steps::{Step, Steps, step_to};
 use super::tree::has_parts;
+use crate::style::Style;
+use crate::typed::{Parts, Typed};
 use std::io::Write;
-use value_store::ValueRef;
 
 impl<W: Write> Printer<'_, W> {
     /// Writes a line for each part of a value that has no parts itself: its path, start, size and text.
-    pub fn put_lines(&mut self, value: ValueRef<'_>)
-        ensures { Puts W.contents self.old self.new (part_lines (value_shown value.entry)) }
+    pub fn put_lines(&mut self, style: Style, value: Typed<'_>)
+        ensures { Puts W.contents self.old self.new (styled_part_lines style (typed_shown value.entry)) }
     {
-        self.put_leaves(&Steps::Start, value)
+        self.put_leaves(style, &Steps::Start, value)
     }
 
     // Writes the lines of a value to which steps lead.
     #[inline(always)]
     #[cycle(lines)]
-    fn put_leaves(&mut self, steps: &Steps<'_>, value: ValueRef<'_>)
-        ensures { Puts W.contents self.old self.new (leaves_at steps.now value.entry) }
+    fn put_leaves(&mut self, style: Style, steps: &Steps<'_>, value: Typed<'_>)
+        ensures { Puts W.contents self.old self.new (leaves_at style steps.now value.entry) }
     {
         if is_parted(value) {
-            self.put_branches(steps, value)
+            self.put_branches(style, steps, value)
         } else {
-            self.put_leaf(steps, value)
+            self.put_leaf(style, steps, value)
         }
     }
 
     // Writes the lines of the parts of a value.
     #[inline(never)]
     #[cycle(lines)]
-    fn put_branches(&mut self, steps: &Steps<'_>, value: ValueRef<'_>)
-        ensures { Puts W.contents self.old self.new (branches_at steps.now value.entry) }
+    fn put_branches(&mut self, style: Style, steps: &Steps<'_>, value: Typed<'_>)
+        ensures { Puts W.contents self.old self.new (branches_at style steps.now value.entry) }
     {
-        let parts = value.members();
-        for place in 0..parts.len() {
+        let parts = Parts::new(value);
+        let count = parts.len();
+        let kept = kept_count(limit_of(style, value), count);
+        for place in 0..kept {
             if self.failed {
                 return;
             }
             if let Some(part) = parts.get(place) {
-                self.put_branch(steps, step_to(value, place), part);
+                self.put_branch(style, steps, step_to(value, place), part);
             }
+        }
+        if kept < count {
+            self.put_more_leaf(steps, value, kept, count - kept);
         }
     }
 
     // Writes the lines of a part, whose path has one more step.
     #[inline(always)]
     #[cycle(lines)]
-    fn put_branch(&mut self, steps: &Steps<'_>, step: Step<'_>, part: ValueRef<'_>)
-        ensures { Puts W.contents self.old self.new (branch_at steps.now step.entry part.entry) }
+    fn put_branch(&mut self, style: Style, steps: &Steps<'_>, step: Step<'_>, part: Typed<'_>)
+        ensures { Puts W.contents self.old self.new (branch_at style steps.now step.entry part.entry) }
     {
-        self.put_leaves(&Steps::Then(&*steps, step), part)
+        self.put_leaves(style, &Steps::Then(&*steps, step), part)
     }
 
     // Writes the line of a part.
     #[tactic(auto, using(crate::proofs::Puts::puts))]
     #[inline(never)]
-    fn put_leaf(&mut self, steps: &Steps<'_>, value: ValueRef<'_>)
-        ensures { Puts W.contents self.old self.new (leaf_at steps.now value.entry) }
+    fn put_leaf(&mut self, style: Style, steps: &Steps<'_>, value: Typed<'_>)
+        ensures { Puts W.contents self.old self.new (leaf_at style steps.now value.entry) }
     {
         self.put_path(steps);
         self.put_place_cells(value);
-        self.put_text_cell(value);
+        self.put_text_cell(style, value);
+    }
+
+    // Writes the line of the elements that are left out of an array from a place on.
+    #[tactic(auto, using(crate::proofs::Puts::puts))]
+    #[inline(never)]
+    fn put_more_leaf(&mut self, steps: &Steps<'_>, value: Typed<'_>, place: usize, left: usize)
+        requires { place < member_count (members_of (typed_shown value)) }
+        ensures { Puts W.contents self.old self.new (more_leaf_at steps.now value.entry place left) }
+    {
+        self.put_steps(steps);
+        self.put_more_step(place);
+        self.put_more_cells(value, start_at(value, place));
+        self.put(b"\t");
+        self.put_more(left);
+        self.put(b"\n");
+    }
+
+    // Writes the step to the elements from a place on.
+    #[tactic(auto, using(crate::proofs::Puts::puts))]
+    fn put_more_step(&mut self, place: usize)
+        ensures { Puts W.contents self.old self.new (more_step place) }
+    {
+        self.put(b"[");
+        self.put_count(place);
+        self.put(b"..]");
+    }
+
+    // Writes where the elements of an array from a bit on are.
+    #[tactic(auto, using(crate::proofs::Puts::puts))]
+    fn put_more_cells(&mut self, value: Typed<'_>, from: u64)
+        ensures { Puts W.contents self.old self.new (more_cells (typed_shown value.entry) from) }
+    {
+        self.put_bits(from);
+        self.put_bits(size_from(value, from));
     }
 
     // Writes where a value starts and how large it is.
     #[tactic(auto, using(crate::proofs::Puts::puts))]
     #[inline(always)]
-    fn put_place_cells(&mut self, value: ValueRef<'_>)
-        ensures { Puts W.contents self.old self.new (place_cells (value_shown value.entry)) }
+    fn put_place_cells(&mut self, value: Typed<'_>)
+        ensures { Puts W.contents self.old self.new (place_cells (typed_shown value.entry)) }
     {
         self.put_bits(value.start());
         self.put_bits(value.size());
@@ -82,31 +124,51 @@ impl<W: Write> Printer<'_, W> {
 
     #[tactic(auto, using(crate::proofs::Puts::puts))]
     #[inline(always)]
-    fn put_text_cell(&mut self, value: ValueRef<'_>)
-        ensures { Puts W.contents self.old self.new (text_cell (value_shown value.entry)) }
+    fn put_text_cell(&mut self, style: Style, value: Typed<'_>)
+        ensures { Puts W.contents self.old self.new (styled_text_cell style (typed_shown value.entry)) }
     {
         self.put(b"\t");
-        self.put_value(value);
+        self.put_value(style, value);
         self.put(b"\n");
     }
 }
 
 // Whether the lines of a value are those of its parts.
 #[inline(always)]
-fn is_parted(value: ValueRef<'_>) -> bool
-    ensures { result ≡ is_parted (label_of (value_shown value.entry)) (members_of (value_shown value.entry)) }
+fn is_parted(value: Typed<'_>) -> bool
+    ensures { result ≡ is_parted (label_of (typed_shown value.entry)) (members_of (typed_shown value.entry)) }
 {
     has_parts(value.kind()) && any_present(value)
 }
 
-fn any_present(value: ValueRef<'_>) -> bool
-    ensures { result ≡ any_present (members_of (value_shown value.entry)) }
+fn any_present(value: Typed<'_>) -> bool
+    ensures { result ≡ any_present (members_of (typed_shown value.entry)) }
 {
-    let members = value.members();
+    let members = Parts::new(value);
     for place in 0..members.len() {
         if members.get(place).is_some() {
             return true;
         }
     }
     false
+}
+
+// The bit at which the element at a place starts, or the array if the element is absent.
+fn start_at(value: Typed<'_>, place: usize) -> u64
+    requires { place < member_count (members_of (typed_shown value)) }
+    ensures { result ≡ start_from (typed_shown value.entry) place }
+{
+    match Parts::new(value).get(place) {
+        Some(element) => element.start(),
+        None => value.start(),
+    }
+}
+
+// The size of a value, in bits, without what is before a bit of it.
+fn size_from(value: Typed<'_>, from: u64) -> u64
+    ensures { result ≡ end_of (typed_shown value.entry) - start_of (typed_shown value.entry) - (from - start_of (typed_shown value.entry)) }
+{
+    value
+        .size()
+        .saturating_sub(from.saturating_sub(value.start()))
 }

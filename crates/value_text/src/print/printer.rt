@@ -135,8 +135,9 @@ impl<W: Write> Printer<'_, W> {
         self.put_suffix(suffix);
     }
 
+    /// Puts a suffix.
     #[tactic(auto, using(crate::proofs::Puts::puts))]
-    fn put_suffix(&mut self, suffix: Suffix)
+    pub fn put_suffix(&mut self, suffix: Suffix)
         ensures { Puts W.contents self.old self.new (suffix_text suffix) }
     {
         self.make_room();
@@ -172,6 +173,14 @@ impl<W: Write> Printer<'_, W> {
     {
         let mut digits = Buffer::new();
         self.put(digits.format(number).as_bytes());
+    }
+
+    /// Puts a count.
+    pub fn put_count(&mut self, count: usize)
+        ensures { Puts W.contents self.old self.new (decimal count) }
+    {
+        let mut digits = Buffer::new();
+        self.put(digits.format(count as u64).as_bytes());
     }
 
     /// Puts a number in brackets.

@@ -2,14 +2,15 @@
 ghost use Rattle.std.specs.Prelude.{◌≡◌, ◌≢◌, ◌++◌, [], codes};
 ghost use Rattle.pickle_meaning.specs.Values.{label_of};
 ghost use Rattle.value_store.specs.Labels.{member_name};
-ghost use Rattle.value_store.specs.Refs.{value_shown};
+ghost use Rattle.value_text.specs.TypedValue.{typed_shown};
 ghost use Rattle.value_text.specs.Puts.{Puts};
 ghost use Rattle.value_text.specs.PathText.{field_step, step_text, path_text};
 ghost use Rattle.value_text.specs.Steps.{text_of, steps_of, steps_with};
 
 use super::printer::Printer;
+use crate::typed::Typed;
 use std::io::Write;
-use value_store::{Kind, ValueRef};
+use value_store::Kind;
 
 /// A step from a value to one of its parts.
 #[derive(Clone, Copy)]
@@ -31,8 +32,8 @@ pub enum Steps<'a> {
 /// The step from a value to its part at a place.
 #[tactic(auto, using(crate::proofs::Paths::by_kind))]
 #[inline(always)]
-pub fn step_to(value: ValueRef<'_>, place: usize) -> Step<'_>
-    ensures { text_of result ≡ step_text (label_of (value_shown value.entry)) place }
+pub fn step_to(value: Typed<'_>, place: usize) -> Step<'_>
+    ensures { text_of result ≡ step_text (label_of (typed_shown value.entry)) place }
 {
     match value.kind() {
         Kind::Array => Step::Element(place),
@@ -41,8 +42,8 @@ pub fn step_to(value: ValueRef<'_>, place: usize) -> Step<'_>
 }
 
 #[inline(always)]
-fn step_to_field(value: ValueRef<'_>, place: usize) -> Step<'_>
-    ensures { text_of result ≡ field_step (member_name (label_of (value_shown value.entry)) place) place }
+fn step_to_field(value: Typed<'_>, place: usize) -> Step<'_>
+    ensures { text_of result ≡ field_step (member_name (label_of (typed_shown value.entry)) place) place }
 {
     match value.field_name(place) {
         Some(name) => Step::Field(name),
@@ -82,7 +83,7 @@ impl<W: Write> Printer<'_, W> {
 
     #[tactic(auto, using(crate::proofs::Puts::puts))]
     #[cycle(steps)]
-    fn put_steps(&mut self, steps: &Steps<'_>)
+    pub fn put_steps(&mut self, steps: &Steps<'_>)
         ensures { Puts W.contents self.old self.new (steps_of steps.now) }
     {
         match steps {

@@ -2,9 +2,8 @@
 ghost use Rattle.std.specs.Prelude.{◌≡◌, ◌+◌, ◌<◌, ◌≤◌, ◌++◌, false, take, drop, length, slice_index};
 ghost use Rattle.std.specs.List.{list_all, prefix_len};
 ghost use Rattle.value_text.specs.Puts.{Puts};
-ghost use Rattle.value_text.specs.ValueText.{string_text, is_plain};
-ghost use Rattle.value_text.specs.JsonText.{json_string};
-ghost use Rattle.value_text.specs.Escaped.{spelled_by};
+ghost use Rattle.value_text.specs.ValueText.{spelled_byte, is_plain};
+ghost use Rattle.value_text.specs.Escaped.{escape_of, spelled_by, quoted_by};
 
 use super::escape::Escapes;
 use super::printer::Printer;
@@ -12,25 +11,25 @@ use std::io::Write;
 
 impl<W: Write> Printer<'_, W> {
     /// Writes a string in double quotes.
-    #[tactic(auto, using(crate::proofs::Puts::puts), unfolding(crate::specs::ValueText::string_text))]
     #[inline(never)]
-    pub fn put_string(&mut self, bytes: &[u8])
-        ensures { Puts W.contents self.old self.new (string_text bytes.now) }
+    pub fn put_quoted(&mut self, escapes: Escapes, bytes: &[u8])
+        ensures { Puts W.contents self.old self.new (quoted_by escapes bytes.now) }
     {
         self.put(b"\"");
-        self.put_bytes(Escapes::Poke, bytes);
+        self.put_bytes(escapes, bytes);
         self.put(b"\"");
     }
 
-    /// Writes a string of JSON.
-    #[tactic(auto, using(crate::proofs::Puts::puts), unfolding(crate::specs::JsonText::json_string))]
-    #[inline(never)]
-    pub fn put_json_string(&mut self, bytes: &[u8])
-        ensures { Puts W.contents self.old self.new (json_string bytes.now) }
+    /// Writes a byte of a string.
+    #[inline(always)]
+    pub fn put_spelled(&mut self, escapes: Escapes, byte: u8)
+        ensures { Puts W.contents self.old self.new (spelled_byte (escape_of escapes) byte) }
     {
-        self.put(b"\"");
-        self.put_bytes(Escapes::Json, bytes);
-        self.put(b"\"");
+        if is_plain(byte) {
+            self.put(&[byte]);
+        } else {
+            self.put_escape(escapes, byte);
+        }
     }
 
     fn put_bytes(&mut self, escapes: Escapes, bytes: &[u8])
@@ -114,7 +113,8 @@ fn plain_run(bytes: &[u8]) -> usize
     bytes.iter().take_while(|byte| is_plain(**byte)).count()
 }
 
-fn is_plain(byte: u8) -> bool
+/// Whether a byte is printed as itself.
+pub fn is_plain(byte: u8) -> bool
     ensures { result ≡ is_plain byte }
 {
     32 <= byte && byte <= 126 && byte != b'"' && byte != b'\\'

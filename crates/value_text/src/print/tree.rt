@@ -1,17 +1,24 @@
 //! Prints values over lines, one line for each value.
 ghost use Rattle.std.specs.Prelude.{◌≡◌, ◌+◌, ◌^◌, ◌≤◌, ◌++◌, codes};
-ghost use Rattle.value_store.specs.Refs.{value_shown, rank_of};
+ghost use Rattle.value_store.specs.Refs.{rank_of};
+ghost use Rattle.value_text.specs.TypedValue.{value_in, typed_shown};
 ghost use Rattle.value_text.specs.Puts.{Puts};
 ghost use Rattle.value_text.specs.ValueText.{name_text};
 ghost use Rattle.text_forms.specs.Brackets.{in_brackets};
-ghost use Rattle.value_text.specs.TreeText.{tree_text, indent_text, has_parts};
+ghost use Rattle.value_text.specs.TreeText.{indent_text, has_parts};
+ghost use Rattle.value_text.specs.StyledTree.{styled_tree};
+ghost use Rattle.value_text.specs.CutArrays.{left_text, more_line};
 ghost use Rattle.value_text.specs.Lent.{lent_prefix, lent_start, lent_part};
 ghost use Rattle.value_text.specs.LineText.{head_of, rest_text, below_text, all_parts_text};
 
+use super::cut::{kept_count, limit_of};
+use super::escape::Escapes;
 use super::number::type_of;
 use super::printer::Printer;
+use crate::style::Style;
+use crate::typed::{Parts, Typed};
 use std::io::Write;
-use value_store::{Kind, ValueRef};
+use value_store::Kind;
 
 /// The blanks of so many levels.
 const BLANKS: [u8; 64] = [b' '; 64];
@@ -21,10 +28,10 @@ const LEVELS: u128 = 32;
 impl<W: Write> Printer<'_, W> {
     /// Writes the line of a value, and below it the lines of its parts.
     #[tactic(auto, using(crate::proofs::LineTexts::tree_rest))]
-    pub fn put_tree(&mut self, value: ValueRef<'_>)
-        ensures { Puts W.contents self.old self.new (tree_text (value_shown value.entry)) }
+    pub fn put_tree(&mut self, style: Style, value: Typed<'_>)
+        ensures { Puts W.contents self.old self.new (styled_tree style (typed_shown value.entry)) }
     {
-        self.put_rest(0, value)
+        self.put_rest(style, 0, value)
     }
 
     // Writes the line of a value at a level from its head on, and the lines below it. Inlined, so that a part that is
@@ -33,24 +40,26 @@ impl<W: Write> Printer<'_, W> {
     #[tactic(auto, using(crate::proofs::Puts::puts))]
     #[inline(always)]
     #[cycle(tree)]
-    fn put_rest(&mut self, level: u128, value: ValueRef<'_>)
-        requires { level + rank_of value ≤ 2 ^ 64 }
-        ensures { Puts W.contents self.old self.new (rest_text level (value_shown value.entry)) }
+    fn put_rest(&mut self, style: Style, level: u128, value: Typed<'_>)
+        requires { level + rank_of (value_in value) ≤ 2 ^ 64 }
+        ensures { Puts W.contents self.old self.new (rest_text style level (typed_shown value.entry)) }
     {
-        self.put_head(value);
+        self.put_head(style, value);
         self.put(b"\n");
-        self.put_below(level, value);
+        self.put_below(style, level, value);
     }
 
     #[tactic(auto, using(crate::proofs::LineTexts::by_kind))]
     #[inline(always)]
-    fn put_head(&mut self, value: ValueRef<'_>)
-        ensures { Puts W.contents self.old self.new (head_of (value_shown value.entry)) }
+    fn put_head(&mut self, style: Style, value: Typed<'_>)
+        ensures { Puts W.contents self.old self.new (head_of style (typed_shown value.entry)) }
     {
         match value.kind() {
-            Kind::Integer => self.put_integer(type_of(value), value.number()),
-            Kind::Offset => self.put_offset(type_of(value), value.unit(), value.number()),
-            Kind::Text => self.put_string(value.bytes()),
+            Kind::Integer => self.put_integer(style.numbers, type_of(value), value.number()),
+            Kind::Offset => {
+                self.put_offset(style.numbers, type_of(value), value.unit(), value.number())
+            }
+            Kind::Text => self.put_text(Escapes::Poke, value),
             Kind::Array => self.put_in_brackets(value.len()),
             Kind::Struct => self.put_title(b"struct", value.type_name()),
             Kind::Union => self.put_title(b"union", value.type_name()),
@@ -59,49 +68,81 @@ impl<W: Write> Printer<'_, W> {
 
     #[inline(always)]
     #[cycle(tree)]
-    fn put_below(&mut self, level: u128, value: ValueRef<'_>)
-        requires { level + rank_of value ≤ 2 ^ 64 }
-        ensures { Puts W.contents self.old self.new (below_text level (value_shown value.entry)) }
+    fn put_below(&mut self, style: Style, level: u128, value: Typed<'_>)
+        requires { level + rank_of (value_in value) ≤ 2 ^ 64 }
+        ensures { Puts W.contents self.old self.new (below_text style level (typed_shown value.entry)) }
     {
         if has_parts(value.kind()) {
-            self.put_parts(level, value);
+            self.put_parts(style, level, value);
         }
     }
 
     // Writes the lines of the parts of a value at a level.
     #[inline(never)]
     #[cycle(tree)]
-    fn put_parts(&mut self, level: u128, value: ValueRef<'_>)
-        requires { level + rank_of value ≤ 2 ^ 64 }
-        ensures { Puts W.contents self.old self.new (all_parts_text level (value_shown value.entry)) }
+    fn put_parts(&mut self, style: Style, level: u128, value: Typed<'_>)
+        requires { level + rank_of (value_in value) ≤ 2 ^ 64 }
+        ensures { Puts W.contents self.old self.new (all_parts_text style level (typed_shown value.entry)) }
     {
-        let parts = value.members();
-        for place in 0..parts.len() {
+        let parts = Parts::new(value);
+        let count = parts.len();
+        let kept = kept_count(limit_of(style, value), count);
+        for place in 0..kept {
             if self.failed {
                 return;
             }
             if let Some(part) = parts.get(place) {
-                self.put_part(level + 1, value, place, part);
+                self.put_part(style, level + 1, value, place, part);
             }
         }
+        self.put_left_line(level + 1, count - kept);
+    }
+
+    // Writes how many elements are left out, if any are.
+    #[tactic(auto, using(crate::proofs::Puts::puts))]
+    #[inline(always)]
+    fn put_left_line(&mut self, level: u128, left: usize)
+        ensures { Puts W.contents self.old self.new (left_text (more_line level) left) }
+    {
+        if left == 0 {
+            return;
+        }
+        self.put_more_line(level, left);
+    }
+
+    #[tactic(auto, using(crate::proofs::Puts::puts))]
+    #[inline(never)]
+    fn put_more_line(&mut self, level: u128, left: usize)
+        ensures { Puts W.contents self.old self.new (more_line level left) }
+    {
+        self.put_indent(level);
+        self.put_more(left);
+        self.put(b"\n");
     }
 
     // Writes the lines of the part at a place of a value, at a level.
     #[tactic(auto, using(crate::proofs::Puts::puts))]
     #[inline(always)]
     #[cycle(tree)]
-    fn put_part(&mut self, level: u128, value: ValueRef<'_>, place: usize, part: ValueRef<'_>)
-        requires { level + rank_of part ≤ 2 ^ 64 }
-        ensures { Puts W.contents self.old self.new (lent_part level value.entry place part.entry) }
+    fn put_part(
+        &mut self,
+        style: Style,
+        level: u128,
+        value: Typed<'_>,
+        place: usize,
+        part: Typed<'_>,
+    )
+        requires { level + rank_of (value_in part) ≤ 2 ^ 64 }
+        ensures { Puts W.contents self.old self.new (lent_part style level value.entry place part.entry) }
     {
         self.put_line_start(level, value, place);
-        self.put_rest(level, part);
+        self.put_rest(style, level, part);
     }
 
     // Writes what is before the head of the part at a place of a value.
     #[tactic(auto, using(crate::proofs::Puts::puts))]
     #[inline(always)]
-    fn put_line_start(&mut self, level: u128, value: ValueRef<'_>, place: usize)
+    fn put_line_start(&mut self, level: u128, value: Typed<'_>, place: usize)
         ensures { Puts W.contents self.old self.new (lent_start level value.entry place) }
     {
         self.put_indent(level);
@@ -110,7 +151,7 @@ impl<W: Write> Printer<'_, W> {
 
     #[tactic(auto, using(crate::proofs::LineTexts::by_prefix))]
     #[inline(always)]
-    fn put_prefix(&mut self, value: ValueRef<'_>, place: usize)
+    fn put_prefix(&mut self, value: Typed<'_>, place: usize)
         ensures { Puts W.contents self.old self.new (lent_prefix value.entry place) }
     {
         match value.kind() {
@@ -128,9 +169,9 @@ impl<W: Write> Printer<'_, W> {
         self.put(b"=");
     }
 
-    // Writes two blanks for each level.
+    /// Writes two blanks for each level.
     #[inline(always)]
-    fn put_indent(&mut self, level: u128)
+    pub fn put_indent(&mut self, level: u128)
         ensures { Puts W.contents self.old self.new (indent_text level) }
     {
         let mut left = level;

@@ -1,16 +1,14 @@
 use Rattle.std.proofs.Common.{◌≤◌, ◌∙◌, codes, length, refl, subst, sym}
-use Rattle.value_store.specs.Refs.{value_shown}
 use Rattle.run_parts.specs.declared.status.Status.TheVariants.{Fault, Outside}
 use Rattle.run_parts.specs.Lines.{fault_line, fault_at_line}
-use Rattle.value_text.specs.Printed.{printed}
-use Rattle.poke_batch.specs.RunsUnder.{no_memory_for_it}
+use Rattle.poke_batch.specs.RunsUnder.{no_memory_for_it, typed_text}
 use Rattle.run_parts.proofs.Sayings.{line_says, text_says}
 use Rattle.poke_batch.proofs.UnderTerms.{short_saying, long_saying}
 use Rattle.poke_batch.proofs.tell_value.tell_short.Goals as goal
 
 pub returns-in-Ok : goal.returns-in-Ok
 returns-in-Ok g c =
-    let text = printed c.args.ask.now.mode (value_shown c.args.value) in
+    let text = typed_text c.args.terms.now.look c.args.terms.now.style c.args.ask.now.mode c.args.value in
     let few = subst (λ l. length l ≤ c.args.most) (sym c.deref.ensures.value) c.in-Ok.ensures.fits in
     text_says _ c.deref.result.now _ _ _ _ _ c.put.result
     (short_saying c.args.most c.args.ask.now.start c.deref.result.now text (c.deref.ensures.value ∙ c.in-Ok.ensures.text) few)
@@ -18,7 +16,7 @@ returns-in-Ok g c =
 
 pub returns-in-Err-TooLong : goal.returns-in-Err-TooLong
 returns-in-Err-TooLong g c =
-    let text = printed c.args.ask.now.mode (value_shown c.args.value) in
+    let text = typed_text c.args.terms.now.look c.args.terms.now.style c.args.ask.now.mode c.args.value in
     let named = c.as_bytes.ensures.value ∙ c.name.ensures.too_long refl in
     let told = rw c.from.ensures at rw named at c.fault_at.ensures in
     line_says _ Fault (fault_at_line (codes "Output") c.args.ask.now.start) _ _ _ _

@@ -17,5 +17,5 @@ returns-then-is_left g c =
     let end = c.from.result + c.from-2.result in
     let same : end ≡ end_of (value_shown c.args.value) = omega (arith, start, size, from, over, forward) in
     line_says _ Fault (fault_at_line (codes "Left") end) _ _ _ _
-    (left_saying c.args.ask.now c.args.terms.now c.args.bits (value_shown c.args.value) end same (sym c.is_left.ensures ∙ c.if-is_left.true))
+    (left_saying c.args.table.now c.args.id c.args.ask.now c.args.terms.now c.args.bits (value_shown c.args.value) end same (sym c.is_left.ensures ∙ c.if-is_left.true))
     c.fault_at.ensures

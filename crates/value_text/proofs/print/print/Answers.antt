@@ -1,9 +1,8 @@
-use Rattle.std.proofs.Common.{rules}
-use Rattle.value_text.proofs.Puts.{printed_all, printed_part}
+use Rattle.value_text.proofs.PlainTexts.{plain_typed}
 use Rattle.value_text.proofs.print.print.Goals as goal
 
 pub returns-clause-ok : goal.returns-clause-ok
-returns-clause-ok g c = printed_all g.W.Write.contents _ _ _ c.finish.result _ _ (search rules) (search rules) c.put_printed.ensures c.finish.ensures (search rules)
+returns-clause-ok g c = rw (plain_typed c.plain.result c.new.result c.args.value c.args.mode c.plain.ensures c.new.ensures.value) at c.print_styled.ensures.ok
 
 pub returns-clause-err : goal.returns-clause-err
-returns-clause-err g c = printed_part g.W.Write.contents _ _ _ c.finish.result _ _ (search rules) (search rules) c.put_printed.ensures c.finish.ensures (search rules)
+returns-clause-err g c = rw (plain_typed c.plain.result c.new.result c.args.value c.args.mode c.plain.ensures c.new.ensures.value) at c.print_styled.ensures.err

@@ -1,37 +1,45 @@
-use Rattle.std.proofs.Common.{◌+◌, ◌*◌}
-use Rattle.pickle_meaning.specs.Values.{ArrayLabel, label_of, members_of}
-use Rattle.value_store.specs.Refs.{value_shown, rank_of}
-use Rattle.value_text.specs.ValueText.{members_text}
+use Rattle.std.proofs.Common.{◌+◌, ◌*◌, ◌≤◌, None}
+use Rattle.pickle_meaning.specs.Values.{ArrayLabel, label_of, members_of, member_count}
+use Rattle.value_store.specs.Refs.{rank_of}
+use Rattle.value_text.specs.TypedValue.{value_in, typed_shown}
+use Rattle.value_text.specs.StyledValue.{styled_members}
+use Rattle.value_text.specs.CutArrays.{kept_count}
 use Rattle.value_text.specs.PartText.{all_members_text, elements_text}
 use Rattle.value_text.proofs.Puts.{Told}
 use Rattle.value_text.proofs.MemberTexts.{members_from}
 use Rattle.value_text.proofs.print.printer.Printer.+flat.Given as goal
 
 abbrev pub decreases-put_array : goal.decreases-put_array
-decreases-put_array g l = 5 * rank_of l.value + 3
+decreases-put_array g l = 5 * rank_of (value_in l.value) + 3
 
 abbrev pub decreases-put_elements : goal.decreases-put_elements
-decreases-put_elements g l = 5 * rank_of l.value + 2
+decreases-put_elements g l = 5 * rank_of (value_in l.value) + 2
 
 abbrev pub decreases-put_each : goal.decreases-put_each
-decreases-put_each g l = 5 * rank_of l.value + 1
+decreases-put_each g l = 5 * rank_of (value_in l.value) + 1
 
 abbrev pub decreases-put_member : goal.decreases-put_member
-decreases-put_member g l = 5 * rank_of l.member + 5
+decreases-put_member g l = 5 * rank_of (value_in l.member) + 5
 
 abbrev pub decreases-put_members : goal.decreases-put_members
-decreases-put_members g l = 5 * rank_of l.value + 1
+decreases-put_members g l = 5 * rank_of (value_in l.value) + 1
 
 abbrev pub decreases-put_titled : goal.decreases-put_titled
-decreases-put_titled g l = 5 * rank_of l.value + 3
+decreases-put_titled g l = 5 * rank_of (value_in l.value) + 3
 
 abbrev pub decreases-put_value : goal.decreases-put_value
-decreases-put_value g l = 5 * rank_of l.value + 4
+decreases-put_value g l = 5 * rank_of (value_in l.value) + 4
 
 abbrev pub invariant-put_members-loop-place : goal.invariant-put_members-loop-place
 invariant-put_members-loop-place g l =
-    Told g.W.Write.contents l.initial.self l.self (members_text (label_of (value_shown l.fn.value)) l.place l.first (members_from l.place (members_of (value_shown l.fn.value)))) (all_members_text (value_shown l.fn.value))
+    Told g.W.Write.contents l.initial.self l.self
+    (styled_members l.fn.style None (label_of (typed_shown l.fn.value)) l.place l.first (members_from l.place (members_of (typed_shown l.fn.value))))
+    (all_members_text l.fn.style (typed_shown l.fn.value))
 
 abbrev pub invariant-put_each-loop-place : goal.invariant-put_each-loop-place
-invariant-put_each-loop-place g l =
-    Told g.W.Write.contents l.initial.self l.self (members_text ArrayLabel l.place l.first (members_from l.place (members_of (value_shown l.fn.value)))) (elements_text (value_shown l.fn.value))
+invariant-put_each-loop-place g l = record {
+  within : l.place ≤ kept_count l.fn.style.elements (member_count (members_of (typed_shown l.fn.value)));
+  told : Told g.W.Write.contents l.initial.self l.self
+      (styled_members l.fn.style l.fn.style.elements ArrayLabel l.place l.first (members_from l.place (members_of (typed_shown l.fn.value))))
+      (elements_text l.fn.style (typed_shown l.fn.value));
+}

@@ -1,50 +1,78 @@
-use Rattle.std.proofs.Common.{◌≡◌, arith, subst, Some, None}
+use Rattle.std.proofs.Common.{◌≡◌, ◌∙◌, ◌<◌, ap, sym, arith, Some, None, false, refl}
 use Rattle.pickle_meaning.specs.Values.{label_of, members_of, member_at, member_count}
-use Rattle.value_store.specs.Refs.{value_shown}
+use Rattle.value_text.specs.TypedValue.{typed_shown}
 use Rattle.value_text.specs.JsonText.{key_before, no_key}
-use Rattle.value_text.proofs.Puts.{told_next, told_same, told_all, told_failed}
-use Rattle.value_text.proofs.JsonTexts.{element_present, json_present, json_absent, json_end}
+use Rattle.value_text.specs.CutArrays.{is_past, kept_count}
+use Rattle.value_text.proofs.Cuts.{kept_before, kept_within}
+use Rattle.value_text.proofs.Puts.{told_none, told_next, told_same, told_last, told_all, told_failed}
+use Rattle.value_text.proofs.JsonTexts.{element_present, json_present, json_absent, json_left, json_end}
 use Rattle.value_text.proofs.print.printer.Printer.+json.Goals.{put_fields-in-Some, put_fields-in_default, put_json_elements-in-Some, put_json_elements-in_default}
 use Rattle.value_text.proofs.print.printer.Printer.+json.Goals as goal
 
 pub put_json_elements-loop-place-preserved : goal.put_json_elements-loop-place-preserved
 put_json_elements-loop-place-preserved g t c =
-    let len : c.len-place-end.result ≡ member_count (members_of (value_shown c.args.value)) = subst (λ v. c.len-place-end.result ≡ member_count (members_of (value_shown v))) c.members-elements.ensures c.len-place-end.ensures in
-    let all = members_of (value_shown c.args.value) in
+    let all = members_of (typed_shown c.args.value) in
+    let len : c.len-count.result ≡ member_count all = c.len-count.ensures ∙ ap (λ v. member_count (members_of (typed_shown v))) c.new-elements.ensures in
+    let limit = c.args.style.elements in
+    let kept : c.kept_count-kept.result ≡ kept_count limit (member_count all) = c.kept_count-kept.ensures.is ∙ ap (kept_count limit) len in
     let i = c.loop-place.place in
+    let before : is_past limit i ≡ false = kept_before limit (member_count all) i (omega (arith, kept, c.loop-place-test.true)) in
+    let lt : i < member_count all = omega (arith, kept, kept_within limit (member_count all), c.loop-place-test.true) in
     elim c.match-get.branch [
       | put_json_elements-in-Some w ↦
-          (let is : Some (value_shown w.in-Some.element) ≡ member_at all i = subst (λ v. Some (value_shown w.in-Some.element) ≡ member_at (members_of (value_shown v)) i) c.members-elements.ensures w.in-Some.ensures.member in
-          rw (w.self-is, w.first-is) (told_next (element_present all i c.loop-place.first _ (omega (arith, len, c.loop-place-test.true)) is) c.loop-place.invariant w.put_json_element.ensures))
+          (let is : Some (typed_shown w.in-Some.element) ≡ member_at all i = w.in-Some.ensures.member ∙ ap (λ v. member_at (members_of (typed_shown v)) i) c.new-elements.ensures in
+          rw (w.self-is, w.first-is) (record {
+            within = omega (arith, kept, c.loop-place-test.true);
+            told = told_next (element_present c.args.style limit all i c.loop-place.first _ lt before is) c.loop-place.invariant.told w.put_json_element.ensures;
+          }))
       | put_json_elements-in_default w ↦
-          rw (w.self-is, w.first-is) (told_same (json_absent no_key all i c.loop-place.first (omega (arith, len, c.loop-place-test.true)) (subst (λ v. None ≡ member_at (members_of (value_shown v)) i) c.members-elements.ensures w.in_default.ensures.member)) c.loop-place.invariant)
+          rw (w.self-is, w.first-is) (record {
+            within = omega (arith, kept, c.loop-place-test.true);
+            told = told_same (json_absent c.args.style limit no_key all i c.loop-place.first lt before
+                (w.in_default.ensures.member ∙ ap (λ v. member_at (members_of (typed_shown v)) i) c.new-elements.ensures)) c.loop-place.invariant.told;
+          })
     ]
 
 pub put_json_elements-returns : goal.put_json_elements-returns
 put_json_elements-returns g t c =
-    let len : c.len-place-end.result ≡ member_count (members_of (value_shown c.args.value)) = subst (λ v. c.len-place-end.result ≡ member_count (members_of (value_shown v))) c.members-elements.ensures c.len-place-end.ensures in
-    told_all (json_end no_key (members_of (value_shown c.args.value)) c.loop-place.place c.loop-place.first (omega (arith, len, c.loop-place-test.false))) c.loop-place.invariant
+    let all = members_of (typed_shown c.args.value) in
+    let len : c.len-count.result ≡ member_count all = c.len-count.ensures ∙ ap (λ v. member_count (members_of (typed_shown v))) c.new-elements.ensures in
+    let limit = c.args.style.elements in
+    let kept : c.kept_count-kept.result ≡ kept_count limit (member_count all) = c.kept_count-kept.ensures.is ∙ ap (kept_count limit) len in
+    let end : c.loop-place.place ≡ kept_count limit (member_count all) = omega (arith, kept, c.loop-place.invariant.within, c.loop-place-test.false) in
+    told_last (told_same (json_left c.args.style limit no_key all c.loop-place.place c.loop-place.first end) c.loop-place.invariant.told) (rw (end, sym kept, sym len) c.put_left_item.ensures)
 
 pub put_fields-loop-place-preserved : goal.put_fields-loop-place-preserved
 put_fields-loop-place-preserved g t c =
-    let len : c.len-place-end.result ≡ member_count (members_of (value_shown c.args.value)) = subst (λ v. c.len-place-end.result ≡ member_count (members_of (value_shown v))) c.members-fields.ensures c.len-place-end.ensures in
-    let all = members_of (value_shown c.args.value) in
+    let all = members_of (typed_shown c.args.value) in
+    let before = key_before (label_of (typed_shown c.args.value)) in
+    let len : c.len-place-end.result ≡ member_count all = c.len-place-end.ensures ∙ ap (λ v. member_count (members_of (typed_shown v))) c.new-fields.ensures in
     let i = c.loop-place.place in
+    let lt : i < member_count all = omega (arith, len, c.loop-place-test.true) in
     elim c.match-get.branch [
       | put_fields-in-Some w ↦
-          (let is : Some (value_shown w.in-Some.field) ≡ member_at all i = subst (λ v. Some (value_shown w.in-Some.field) ≡ member_at (members_of (value_shown v)) i) c.members-fields.ensures w.in-Some.ensures.member in
-          rw (w.self-is, w.first-is) (told_next (json_present (key_before (label_of (value_shown c.args.value))) all i c.loop-place.first _ (omega (arith, len, c.loop-place-test.true)) is) c.loop-place.invariant w.put_field.ensures))
+          (let is : Some (typed_shown w.in-Some.field) ≡ member_at all i = w.in-Some.ensures.member ∙ ap (λ v. member_at (members_of (typed_shown v)) i) c.new-fields.ensures in
+          rw (w.self-is, w.first-is) (told_next (json_present c.args.style None before all i c.loop-place.first _ lt refl is) c.loop-place.invariant w.put_field.ensures))
       | put_fields-in_default w ↦
-          rw (w.self-is, w.first-is) (told_same (json_absent (key_before (label_of (value_shown c.args.value))) all i c.loop-place.first (omega (arith, len, c.loop-place-test.true)) (subst (λ v. None ≡ member_at (members_of (value_shown v)) i) c.members-fields.ensures w.in_default.ensures.member)) c.loop-place.invariant)
+          rw (w.self-is, w.first-is) (told_same (json_absent c.args.style None before all i c.loop-place.first lt refl
+          (w.in_default.ensures.member ∙ ap (λ v. member_at (members_of (typed_shown v)) i) c.new-fields.ensures)) c.loop-place.invariant)
     ]
 
 pub put_fields-returns : goal.put_fields-returns
 put_fields-returns g t c =
-    let len : c.len-place-end.result ≡ member_count (members_of (value_shown c.args.value)) = subst (λ v. c.len-place-end.result ≡ member_count (members_of (value_shown v))) c.members-fields.ensures c.len-place-end.ensures in
-    told_all (json_end (key_before (label_of (value_shown c.args.value))) (members_of (value_shown c.args.value)) c.loop-place.place c.loop-place.first (omega (arith, len, c.loop-place-test.false))) c.loop-place.invariant
+    let len : c.len-place-end.result ≡ member_count (members_of (typed_shown c.args.value)) =
+    c.len-place-end.ensures ∙ ap (λ v. member_count (members_of (typed_shown v))) c.new-fields.ensures in
+    told_all (json_end c.args.style None (key_before (label_of (typed_shown c.args.value))) (members_of (typed_shown c.args.value)) c.loop-place.place c.loop-place.first (omega (arith, len, c.loop-place-test.false)))
+    c.loop-place.invariant
 
 pub put_json_elements-returns-then-self : goal.put_json_elements-returns-then-self
-put_json_elements-returns-then-self g t c = told_failed c.if-self.true c.loop-place.invariant
+put_json_elements-returns-then-self g t c = told_failed c.if-self.true c.loop-place.invariant.told
 
 pub put_fields-returns-then-self : goal.put_fields-returns-then-self
 put_fields-returns-then-self g t c = told_failed c.if-self.true c.loop-place.invariant
+
+pub put_json_elements-loop-place-init : goal.put_json_elements-loop-place-init
+put_json_elements-loop-place-init g t c = record { within = omega arith; told = told_none }
+
+pub put_fields-loop-place-init : goal.put_fields-loop-place-init
+put_fields-loop-place-init g t c = told_none

@@ -1,0 +1,44 @@
+-- How a printed value looks, as arguments request it.
+use Rattle.std.specs.Prelude.{◌≡◌, ◌≢◌, ℕ, List, Option, Some, None, codes}
+use Rattle.command_words.specs.Numerals.{IsNumber, IsNoNumber}
+use Rattle.command_words.specs.declared.color.Color.{Color}
+use Rattle.command_words.specs.declared.color.Color.TheVariants.{Auto, Always, Never}
+use Rattle.text_forms.specs.declared.style.Numbers.{Numbers}
+use Rattle.text_forms.specs.declared.style.Numbers.TheVariants.{Decimal, Hexadecimal}
+use Rattle.text_forms.specs.declared.style.Chars.{Chars}
+use Rattle.text_forms.specs.declared.style.Chars.TheVariants as chars
+
+-- `hex` is hexadecimal, any other text decimal
+abbrev pub NamesNumbers : List ℕ → Numbers → Type 0
+NamesNumbers word Decimal = word ≢ codes "hex"
+NamesNumbers word Hexadecimal = word ≡ codes "hex"
+
+-- `text` is a text, any other text numbers
+abbrev pub NamesChars : List ℕ → Chars → Type 0
+NamesChars word chars.Numbers = word ≢ codes "text"
+NamesChars word chars.Text = word ≡ codes "text"
+
+-- `all` is no limit, decimal digits are the most elements
+abbrev pub NamesElements : List ℕ → Option ℕ → Type 0
+NamesElements word None = word ≡ codes "all"
+NamesElements word (Some most) = IsNumber word most
+
+-- an argument is neither `all` nor a number below 2^64
+abbrev pub IsNoElements : List ℕ → Type 0
+IsNoElements word = (word ≢ codes "all") × IsNoNumber word
+
+-- the most elements that an argument names, or the default if it wasn't given
+abbrev pub NamesElementsOr : Option ℕ → Option (List ℕ) → Option ℕ → Type 0
+NamesElementsOr default None most = most ≡ default
+NamesElementsOr default (Some word) most = NamesElements word most
+
+-- an argument was given, and is neither
+abbrev pub IsNoElementsIfAny : Option (List ℕ) → Type 0
+IsNoElementsIfAny None = ⊥
+IsNoElementsIfAny (Some word) = IsNoElements word
+
+-- `always` and `never` name themselves, any other text is `auto`
+abbrev pub NamesColor : List ℕ → Color → Type 0
+NamesColor word Auto = (word ≢ codes "always") × (word ≢ codes "never")
+NamesColor word Always = word ≡ codes "always"
+NamesColor word Never = word ≡ codes "never"

@@ -1,0 +1,84 @@
+//! How a printed value looks, as arguments request it.
+ghost use Rattle.std.specs.Prelude.{◌≡◌, ◌≢◌, ◌⊎◌, IfOk, IfErr, codes};
+ghost use Rattle.clap.specs.Matches.{found_of, first_value};
+ghost use Rattle.command_words.specs.Styles.{NamesNumbers, NamesChars, NamesElements, IsNoElements, IsNoElementsIfAny, NamesColor};
+ghost use Rattle.command_words.specs.Found.{NamesStyle};
+ghost use Rattle.command_words.specs.declared.words.WordFault.TheVariants.{Offset, Memory};
+
+use crate::color::Color;
+use crate::numerals::decimal;
+use crate::words::WordFault;
+use crate::words::found::word;
+use crate::words::usage::invalid_value;
+use clap::ArgMatches;
+use std::alloc::Global;
+use text_forms::style::{Chars, Numbers, Style};
+
+/// The style that the options request. Without a request, arrays have at most `most_elements`.
+pub fn style_of(
+    alloc: Global,
+    found: &ArgMatches<'_>,
+    most_elements: Option<u64>,
+) -> Result<Style, WordFault>
+    ensures style { IfOk result (NamesStyle (found_of found.now) most_elements) }
+    ensures usage { IfErr result (λ fault. (fault ≡ Memory) ⊎ IsNoElementsIfAny (first_value (found_of found.now) (codes "elements"))) }
+    ensures fault { IfErr result (λ fault. fault ≢ Offset) }
+{
+    Ok(Style {
+        numbers: numbers_of(word(found, "numbers")),
+        chars: chars_of(word(found, "chars")),
+        elements: match found.get_str("elements") {
+            Some(word) => elements_of(alloc, word)?,
+            None => most_elements,
+        },
+    })
+}
+
+/// When colors are printed, as an argument names it: `auto`, the default, for any other than `always` and `never`.
+pub fn color_of(word: &str) -> Color
+    ensures { NamesColor word.now result }
+{
+    match word {
+        "always" => Color::Always,
+        "never" => Color::Never,
+        _ => Color::Auto,
+    }
+}
+
+// The form of numbers that an argument names: decimal, the default, for any other than `hex`.
+fn numbers_of(word: &str) -> Numbers
+    ensures { NamesNumbers word.now result }
+{
+    match word {
+        "hex" => Numbers::Hexadecimal,
+        _ => Numbers::Decimal,
+    }
+}
+
+// The form of arrays of `char` that an argument names: numbers, the default, for any other than `text`.
+fn chars_of(word: &str) -> Chars
+    ensures { NamesChars word.now result }
+{
+    match word {
+        "text" => Chars::Text,
+        _ => Chars::Numbers,
+    }
+}
+
+// The most elements that an argument names.
+fn elements_of(alloc: Global, word: &str) -> Result<Option<u64>, WordFault>
+    ensures ok { IfOk result (NamesElements word.now) }
+    ensures usage { IfErr result (λ fault. (fault ≡ Memory) ⊎ IsNoElements word.now) }
+    ensures fault { IfErr result (λ fault. fault ≢ Offset) }
+{
+    if word == "all" {
+        return Ok(None);
+    }
+    match decimal(word.as_bytes()) {
+        Some(most) => Ok(Some(most)),
+        None => {
+            let why = "neither a number below 2^64 nor all";
+            Err(WordFault::Usage(invalid_value(alloc, word, "--elements <N>", why)?))
+        }
+    }
+}

@@ -1,0 +1,196 @@
+//! Shows values to the eye: a line for each part, with its place, name, type and value.
+//!
+//! This text may change between versions.
+mod dump;
+mod hex;
+mod inline;
+mod number;
+mod place;
+mod text;
+mod title;
+mod types;
+
+ghost use Rattle.std.specs.Prelude.{◌≡◌, ◌+◌, ◌^◌, ◌≤◌};
+ghost use Rattle.pickle_meaning.specs.Values.{label_of, members_of, member_count};
+ghost use Rattle.value_store.specs.Refs.{value_shown, rank_of};
+ghost use Rattle.value_text.specs.Puts.{Puts};
+ghost use Rattle.value_text.specs.TypedValue.{value_in, types_in, node_in, mapped_in};
+ghost use Rattle.value_text.specs.ShowText.{cut_of, at_most, is_array, is_text, are_few};
+ghost use Rattle.value_text.specs.ShowParts.{look_at, shown_at, type_at, whole_text, rest_text, body_text, bytes_at, below_text, all_parts_text, lent_part, lent_start};
+
+use super::printer::Printer;
+use crate::typed::Typed;
+use dump::is_bytes;
+use inline::is_inline;
+use std::io::Write;
+use text_forms::style::Look;
+use value_store::{Kind, ValueRef};
+
+impl<W: Write> Printer<'_, W> {
+    /// Writes the lines of a value.
+    #[tactic(auto, using(crate::proofs::ShowLines::show_is))]
+    pub fn put_show(&mut self, look: Look, value: Typed<'_>)
+        ensures { Puts W.contents self.old self.new (shown_at look value.entry) }
+    {
+        self.put_whole(look, value)
+    }
+
+    #[tactic(auto, using(crate::proofs::Puts::puts))]
+    #[inline(always)]
+    fn put_whole(&mut self, look: Look, value: Typed<'_>)
+        ensures { Puts W.contents self.old self.new (whole_text (look_at look value.entry) (node_in value.entry) (mapped_in value.entry)) }
+    {
+        self.put_margin(0, value.value());
+        self.put_shown_rest(look, 0, false, value);
+    }
+
+    // Writes what is after the name of a value at a level, and the lines of its parts. `inner` is whether it is an
+    // element.
+    // A level has 128 bits, so that the level of a part is in range whatever the rank of its value.
+    #[tactic(auto, using(crate::proofs::Puts::puts))]
+    #[inline(always)]
+    #[cycle(show)]
+    fn put_shown_rest(&mut self, look: Look, level: u128, inner: bool, value: Typed<'_>)
+        requires { level + rank_of (value_in value) ≤ 2 ^ 64 }
+        ensures { Puts W.contents self.old self.new (rest_text (look_at look value.entry) level inner (node_in value.entry) (mapped_in value.entry)) }
+    {
+        self.put_type(look, inner, value);
+        self.put_shown_body(look, level, value);
+    }
+
+    #[cycle(show)]
+    fn put_shown_body(&mut self, look: Look, level: u128, value: Typed<'_>)
+        requires { level + rank_of (value_in value) ≤ 2 ^ 64 }
+        ensures { Puts W.contents self.old self.new (body_text (look_at look value.entry) level (node_in value.entry) (mapped_in value.entry)) }
+    {
+        if is_inline(value.value()) {
+            self.put_value_cell(look, value.value())
+        } else if is_bytes(value.value()) {
+            self.put_bytes_body(look, level, value)
+        } else {
+            self.put_shown_below(look, level, value)
+        }
+    }
+
+    // Writes an array of bytes: as a text, or as a dump.
+    fn put_bytes_body(&mut self, look: Look, level: u128, value: Typed<'_>)
+        requires { level ≤ 2 ^ 64 }
+        ensures { Puts W.contents self.old self.new (bytes_at (look_at look value.entry) level (node_in value.entry) (mapped_in value.entry)) }
+    {
+        if is_text(look, value) {
+            self.put_text_below(value.value())
+        } else {
+            self.put_dump_below(look, level + 1, value.value())
+        }
+    }
+
+    // Writes the lines of the parts of a value.
+    #[tactic(auto, using(crate::proofs::Puts::puts))]
+    #[inline(always)]
+    #[cycle(show)]
+    fn put_shown_below(&mut self, look: Look, level: u128, value: Typed<'_>)
+        requires { level + rank_of (value_in value) ≤ 2 ^ 64 }
+        ensures { Puts W.contents self.old self.new (below_text (look_at look value.entry) level (node_in value.entry) (mapped_in value.entry)) }
+    {
+        self.put(b"\n");
+        self.put_shown_parts(look, level, value);
+        self.put_cut_line(cut_of(look, value.value()), level + 1, value.value());
+    }
+
+    #[cycle(show)]
+    fn put_shown_parts(&mut self, look: Look, level: u128, value: Typed<'_>)
+        requires { level + rank_of (value_in value) ≤ 2 ^ 64 }
+        ensures { Puts W.contents self.old self.new (all_parts_text (look_at look value.entry) level (node_in value.entry) (mapped_in value.entry)) }
+    {
+        let parts = value.value().members();
+        for place in 0..part_count(look, value.value()) {
+            if self.failed {
+                return;
+            }
+            if let Some(part) = parts.get(place) {
+                self.put_shown_part(look, level + 1, value, place, part);
+            }
+        }
+    }
+
+    // Writes the lines of the part at a place of a value, at a level.
+    #[tactic(auto, using(crate::proofs::Puts::puts))]
+    #[inline(always)]
+    #[cycle(show)]
+    fn put_shown_part(
+        &mut self,
+        look: Look,
+        level: u128,
+        value: Typed<'_>,
+        place: usize,
+        part: ValueRef<'_>,
+    )
+        requires { level + rank_of part ≤ 2 ^ 64 }
+        ensures { Puts W.contents self.old self.new (lent_part (look_at look value.entry) level value.entry place part.entry) }
+    {
+        self.put_part_start(level, value.value(), place, part);
+        self.put_shown_rest(
+            look,
+            level,
+            is_array(value.value()),
+            value.beside(place, part),
+        );
+    }
+
+    #[tactic(auto, using(crate::proofs::Puts::puts))]
+    #[inline(always)]
+    fn put_part_start(&mut self, level: u128, value: ValueRef<'_>, place: usize, part: ValueRef<'_>)
+        ensures { Puts W.contents self.old self.new (lent_start level value.entry place part.entry) }
+    {
+        self.put_margin(level, part);
+        self.put_name_cell(value, place);
+    }
+}
+
+// Whether an array of bytes is shown as a text.
+fn is_text(look: Look, value: Typed<'_>) -> bool
+    ensures { let it = mapped_in value.entry in result ≡ is_text (look_at look value.entry) (node_in value.entry) (label_of it) (members_of it) }
+{
+    value.is_of_chars() && are_few(look.elements, value.value().len())
+}
+
+// Whether so many characters are shown as a text.
+fn are_few(most: Option<u64>, count: usize) -> bool
+    ensures { result ≡ are_few most count }
+{
+    match most {
+        Some(most) => count as u128 <= 16 * u128::from(most),
+        None => true,
+    }
+}
+
+// How many members aren't cut off.
+fn part_count(look: Look, value: ValueRef<'_>) -> usize
+    ensures { result ≡ at_most (cut_of look.elements (label_of (value_shown value.entry))) (member_count (members_of (value_shown value.entry))) }
+{
+    match cut_of(look, value) {
+        Some(most) => value.len().min(most as usize),
+        None => value.len(),
+    }
+}
+
+// The most members that are shown of a value: arrays alone are cut.
+#[tactic(auto, using(crate::proofs::ShowLines::by_cut))]
+fn cut_of(look: Look, value: ValueRef<'_>) -> Option<u64>
+    ensures { result ≡ cut_of look.elements (label_of (value_shown value.entry)) }
+{
+    match value.kind() {
+        Kind::Array => look.elements,
+        _ => None,
+    }
+}
+
+#[tactic(auto, using(crate::proofs::ShowLines::by_array))]
+fn is_array(value: ValueRef<'_>) -> bool
+    ensures { result ≡ is_array (label_of (value_shown value.entry)) }
+{
+    match value.kind() {
+        Kind::Array => true,
+        _ => false,
+    }
+}

@@ -1,0 +1,182 @@
+//! Writes values on the line of their names.
+ghost use Rattle.std.specs.Prelude.{◌≡◌, ◌++◌, codes};
+ghost use Rattle.pickle_meaning.specs.Values.{members_of, member_at};
+ghost use Rattle.value_store.specs.Refs.{value_shown, rank_of};
+ghost use Rattle.value_text.specs.LinesText.{any_present};
+ghost use Rattle.value_text.specs.Puts.{Puts};
+ghost use Rattle.value_text.specs.ShowText.{is_inline, are_inline, separator, opening, closing, inline_text, value_cell};
+ghost use Rattle.value_text.specs.ShowParts.{is_inline_if, all_inline_text, lent_inline, inline_title, lent_inline_name};
+
+use super::super::printer::Printer;
+use super::super::tree::has_parts;
+use std::io::Write;
+use text_forms::style::Look;
+use value_store::{Kind, ValueRef};
+
+/// Whether a value goes on the line of its name: a number, an offset, a string, a struct of at most 64 bits whose
+/// fields all do, and a union whose alternative does.
+#[tactic(auto, using(crate::proofs::ShowLines::by_line))]
+#[cycle(inline)]
+pub fn is_inline(value: ValueRef<'_>) -> bool
+    ensures { result ≡ is_inline (value_shown value.entry) }
+{
+    match value.kind() {
+        Kind::Integer | Kind::Offset | Kind::Text => true,
+        Kind::Array => false,
+        Kind::Struct => value.size() <= 64 && any_present(value) && are_inline(value),
+        Kind::Union => are_inline(value),
+    }
+}
+
+#[cycle(inline)]
+fn are_inline(value: ValueRef<'_>) -> bool
+    ensures { result ≡ are_inline (members_of (value_shown value.entry)) }
+{
+    for place in 0..value.len() {
+        if !is_inline_at(value, place) {
+            return false;
+        }
+    }
+    true
+}
+
+// Whether the member at a place goes on the line, if there is one.
+#[cycle(inline)]
+fn is_inline_at(value: ValueRef<'_>, place: usize) -> bool
+    ensures { result ≡ is_inline_if (member_at (members_of (value_shown value.entry)) place) }
+{
+    match value.members().get(place) {
+        Some(member) => is_inline(member),
+        None => true,
+    }
+}
+
+fn any_present(value: ValueRef<'_>) -> bool
+    ensures { result ≡ any_present (members_of (value_shown value.entry)) }
+{
+    let members = value.members();
+    for place in 0..members.len() {
+        if members.get(place).is_some() {
+            return true;
+        }
+    }
+    false
+}
+
+impl<W: Write> Printer<'_, W> {
+    /// Writes a value after ` = `, and a line feed.
+    #[tactic(auto, using(crate::proofs::Puts::puts))]
+    #[inline(always)]
+    pub fn put_value_cell(&mut self, look: Look, value: ValueRef<'_>)
+        ensures { Puts W.contents self.old self.new (value_cell (inline_text look.elements (value_shown value.entry))) }
+    {
+        self.put(b" = ");
+        self.put_inline(look.elements, value);
+        self.put(b"\n");
+    }
+
+    #[tactic(auto, using(crate::proofs::ShowLines::by_inline))]
+    #[inline(always)]
+    #[cycle(inline_text)]
+    fn put_inline(&mut self, most: Option<u64>, value: ValueRef<'_>)
+        ensures { Puts W.contents self.old self.new (inline_text most (value_shown value.entry)) }
+    {
+        match value.kind() {
+            Kind::Integer => self.put_shown_number(value.number()),
+            Kind::Offset => self.put_shown_offset(value.unit(), value.number()),
+            Kind::Text => self.put_shown_string(most, value.bytes()),
+            Kind::Array => {}
+            Kind::Struct => self.put_inline_members(most, value),
+            Kind::Union => self.put_inline_members(most, value),
+        }
+    }
+
+    #[inline(never)]
+    #[cycle(inline_text)]
+    fn put_inline_members(&mut self, most: Option<u64>, value: ValueRef<'_>)
+        ensures { Puts W.contents self.old self.new (all_inline_text most (value_shown value.entry)) }
+    {
+        let members = value.members();
+        let mut first = true;
+        for place in 0..members.len() {
+            if self.failed {
+                return;
+            }
+            if let Some(member) = members.get(place) {
+                self.put_inline_part(most, first, value.field_name(place), member);
+                first = false;
+            }
+        }
+    }
+
+    #[tactic(auto, using(crate::proofs::Puts::puts))]
+    #[cycle(inline_text)]
+    fn put_inline_part(
+        &mut self,
+        most: Option<u64>,
+        first: bool,
+        name: Option<&[u8]>,
+        member: ValueRef<'_>,
+    )
+        ensures { Puts W.contents self.old self.new (lent_inline most first name.entry member.entry) }
+    {
+        self.put_inline_title(first, name);
+        self.put_opening(member);
+        self.put_inline(most, member);
+        self.put_closing(member);
+    }
+
+    #[tactic(auto, using(crate::proofs::Puts::puts))]
+    fn put_inline_title(&mut self, first: bool, name: Option<&[u8]>)
+        ensures { Puts W.contents self.old self.new (inline_title first name.entry) }
+    {
+        self.put_separator(first);
+        self.put_inline_name(name);
+    }
+
+    #[inline(always)]
+    fn put_separator(&mut self, first: bool)
+        ensures { Puts W.contents self.old self.new (separator first) }
+    {
+        if !first {
+            self.put(b", ");
+        }
+    }
+
+    #[inline(always)]
+    fn put_inline_name(&mut self, name: Option<&[u8]>)
+        ensures { Puts W.contents self.old self.new (lent_inline_name name.entry) }
+    {
+        match name {
+            Some(name) => self.put_word_blank(name),
+            None => {}
+        }
+    }
+
+    #[tactic(auto, using(crate::proofs::Puts::puts))]
+    #[inline(always)]
+    fn put_word_blank(&mut self, word: &[u8])
+        ensures { Puts W.contents self.old self.new (word.now ++ codes " ") }
+    {
+        self.put_word(word);
+        self.put(b" ");
+    }
+
+    #[inline(always)]
+    fn put_opening(&mut self, value: ValueRef<'_>)
+        ensures { Puts W.contents self.old self.new (opening (value_shown value.entry)) }
+    {
+        if has_parts(value.kind()) {
+            self.put(b"{");
+        }
+    }
+
+    #[inline(always)]
+    fn put_closing(&mut self, value: ValueRef<'_>)
+        ensures { Puts W.contents self.old self.new (closing (value_shown value.entry)) }
+    {
+        if has_parts(value.kind()) {
+            self.put(b"}");
+        }
+    }
+}
