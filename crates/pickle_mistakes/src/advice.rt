@@ -1,141 +1,697 @@
 //! What to write instead of what GNU poke or C has and a pickle of this program doesn't.
 
 use crate::expected::Expected;
+use crate::pattern::{Around, Pattern, is_reserved};
 
-/// The tokens around the token that is refused.
-#[derive(Clone, Copy)]
-pub struct Around<'t> {
-    /// The token that is refused, as the pickle has it. Empty at the pickle's end.
-    pub found: &'t [u8],
-    /// The tokens before and after it.
-    pub before: &'t [u8],
-    pub next: &'t [u8],
-    /// Whether a label or a condition is before it in its field.
-    pub is_labelled: bool,
-    /// The first token of the declaration or field that it is in.
-    pub opening: &'t [u8],
-}
+/// What to write for an enumeration.
+const ENUM: &str =
+    "enumerations are left out: write an integer with a constraint, as `byte kind : kind == 1 || kind == 2;`";
+
+/// What to write for a line of C's preprocessor.
+const PREPROCESSOR: &str = "there is no preprocessor: leave out this line";
+
+/// What to write for a statement.
+const STATEMENT: &str = "statements are left out: a pickle declares types alone";
+
+/// What to write for the declarations of another file.
+const LOAD: &str =
+    "`$3` is left out: copy the declarations of that pickle to the front of this one";
+
+/// What a name of a unit may be.
+const UNITS: &str =
+    "units are `b`, `B` and whole numbers of bits: 1 KB is 8000, 1 KiB 8192, 1 MB 8000000, 1 MiB 8388608";
+
+/// How a comment is written.
+const COMMENTS: &str = "comments are `/* .. */`, or `//` up to the end of the line";
+
+/// Where a declaration begins.
+static DECLARATIONS: [Pattern; 22] = [
+    Pattern {
+        tokens: [b"", b"", b"load", b"", b"", b""],
+        help: LOAD,
+    },
+    Pattern {
+        tokens: [b"", b"", b"import", b"", b"", b""],
+        help: LOAD,
+    },
+    Pattern {
+        tokens: [b"", b"", b"include", b"", b"", b""],
+        help: LOAD,
+    },
+    Pattern {
+        tokens: [b"", b"", b"struct", b"NAME", b"{", b""],
+        help: "write `type $4 = struct { .. };`",
+    },
+    Pattern {
+        tokens: [b"", b"", b"union", b"NAME", b"{", b""],
+        help: "write `type $4 = union { .. };`",
+    },
+    Pattern {
+        tokens: [b"", b"", b"struct", b"", b"", b""],
+        help: "write `type NAME = struct { .. };`",
+    },
+    Pattern {
+        tokens: [b"", b"", b"union", b"", b"", b""],
+        help: "write `type NAME = union { .. };`",
+    },
+    Pattern {
+        tokens: [b"", b"", b"pinned", b"", b"", b""],
+        help: "write `type NAME = pinned struct { .. };`",
+    },
+    Pattern {
+        tokens: [b"", b"", b"typedef", b"struct", b"", b""],
+        help: "write `type NAME = struct { .. };`",
+    },
+    Pattern {
+        tokens: [b"", b"", b"typedef", b"NAME", b"NAME", b";"],
+        help: "write `type $5 = $4;`",
+    },
+    Pattern {
+        tokens: [b"", b"", b"typedef", b"", b"", b""],
+        help: "write `type NAME = TYPE;`",
+    },
+    Pattern {
+        tokens: [b"", b"", b"enum", b"", b"", b""],
+        help: ENUM,
+    },
+    Pattern {
+        tokens: [b"", b"", b"}", b"", b"", b""],
+        help: "this brace closes nothing",
+    },
+    Pattern {
+        tokens: [b"", b"", b";", b"", b"", b""],
+        help: "leave out this `;`",
+    },
+    Pattern {
+        tokens: [b"", b"", b"#", b"define", b"", b""],
+        help: "there is no `#define`: leave out this line, and write the number where `$5` is used",
+    },
+    Pattern {
+        tokens: [b"", b"", b"#", b"include", b"", b""],
+        help: "there is no `#include`: leave out this line, and copy the declarations of that file to its place",
+    },
+    Pattern {
+        tokens: [b"", b"", b"#", b"if", b"", b""],
+        help: PREPROCESSOR,
+    },
+    Pattern {
+        tokens: [b"", b"", b"#", b"ifdef", b"", b""],
+        help: PREPROCESSOR,
+    },
+    Pattern {
+        tokens: [b"", b"", b"#", b"ifndef", b"", b""],
+        help: PREPROCESSOR,
+    },
+    Pattern {
+        tokens: [b"", b"", b"#", b"endif", b"", b""],
+        help: PREPROCESSOR,
+    },
+    Pattern {
+        tokens: [b"", b"", b"#", b"pragma", b"", b""],
+        help: PREPROCESSOR,
+    },
+    Pattern {
+        tokens: [b"", b"", b"#", b"", b"", b""],
+        help: COMMENTS,
+    },
+];
+
+/// The first word of a declaration or field, in the place of the refused token.
+static OPENINGS: [Pattern; 25] = [
+    Pattern {
+        tokens: [b"", b"", b"var", b"NAME", b"=", b""],
+        help: "variables are left out: write the value where `$0` is used",
+    },
+    Pattern {
+        tokens: [b"", b"", b"var", b"", b"", b""],
+        help: "variables are left out: write their value where it is used",
+    },
+    Pattern {
+        tokens: [b"", b"", b"fun", b"", b"", b""],
+        help: "functions are left out: write the expression where it is used",
+    },
+    Pattern {
+        tokens: [b"", b"", b"method", b"", b"", b""],
+        help: "methods are left out, and nothing stands for one: a pickle tells only where values lie",
+    },
+    Pattern {
+        tokens: [b"", b"", b"computed", b"", b"", b""],
+        help: "computed fields are left out: write the expression where the field is used",
+    },
+    Pattern {
+        tokens: [b"", b"", b"assert", b"", b"", b""],
+        help: "`assert` is left out: write a constraint behind a field's name, as `byte b : b > a;`",
+    },
+    Pattern {
+        tokens: [b"", b"", b"unit", b"", b"", b""],
+        help: "`unit` declarations are left out: write a unit as its number of bits, as in `offset<uint<32>,4096>`",
+    },
+    Pattern {
+        tokens: [b"", b"", b"immutable", b"", b"", b""],
+        help: "`immutable` is left out: nothing stands for it",
+    },
+    Pattern {
+        tokens: [b"", b"", b"const", b"", b"", b""],
+        help: "leave out `const`: nothing is written here",
+    },
+    Pattern {
+        tokens: [b"", b"", b"volatile", b"", b"", b""],
+        help: "leave out `volatile`",
+    },
+    Pattern {
+        tokens: [b"", b"", b"static", b"", b"", b""],
+        help: "leave out `static`",
+    },
+    Pattern {
+        tokens: [b"", b"", b"enum", b"", b"", b""],
+        help: ENUM,
+    },
+    Pattern {
+        tokens: [b"", b"", b"if", b"", b"", b""],
+        help: "a condition stands behind its field: `TYPE NAME if CONDITION;`",
+    },
+    Pattern {
+        tokens: [b"", b"", b"unsigned", b"", b"", b""],
+        help: "write the integer type alone, as `uint<32>` or `int<32>`",
+    },
+    Pattern {
+        tokens: [b"", b"", b"signed", b"", b"", b""],
+        help: "write the integer type alone, as `uint<32>` or `int<32>`",
+    },
+    Pattern {
+        tokens: [b"", b"", b"for", b"", b"", b""],
+        help: STATEMENT,
+    },
+    Pattern {
+        tokens: [b"", b"", b"while", b"", b"", b""],
+        help: STATEMENT,
+    },
+    Pattern {
+        tokens: [b"", b"", b"return", b"", b"", b""],
+        help: STATEMENT,
+    },
+    Pattern {
+        tokens: [b"", b"", b"print", b"", b"", b""],
+        help: STATEMENT,
+    },
+    Pattern {
+        tokens: [b"", b"", b"printf", b"", b"", b""],
+        help: STATEMENT,
+    },
+    Pattern {
+        tokens: [b"", b"", b"try", b"", b"", b""],
+        help: STATEMENT,
+    },
+    Pattern {
+        tokens: [b"", b"", b"raise", b"", b"", b""],
+        help: STATEMENT,
+    },
+    Pattern {
+        tokens: [b"", b"", b"until", b"", b"", b""],
+        help: STATEMENT,
+    },
+    Pattern {
+        tokens: [b"", b"", b"else", b"", b"", b""],
+        help: STATEMENT,
+    },
+    Pattern {
+        tokens: [b"", b"", b"switch", b"", b"", b""],
+        help: STATEMENT,
+    },
+];
+
+/// Tokens in a row, wherever they are.
+static ANYWHERE: [Pattern; 58] = [
+    Pattern {
+        tokens: [b"APART", b"NAME", b"in", b"[", b"", b","],
+        help: "`in` is left out: write `($2 == $5 || $2 == $7)`, and so on",
+    },
+    Pattern {
+        tokens: [b"APART", b"NAME", b"in", b"[", b"", b"]"],
+        help: "`in` is left out: write `$2 == $5`",
+    },
+    Pattern {
+        tokens: [b"", b"", b"in", b"", b"", b""],
+        help: "`in` is left out: write `(x == 1 || x == 2)`",
+    },
+    Pattern {
+        tokens: [b"", b"", b"isa", b"", b"", b""],
+        help: "`isa` is left out, and nothing stands for it",
+    },
+    Pattern {
+        tokens: [b"", b"", b"and", b"", b"", b""],
+        help: "write `&&`",
+    },
+    Pattern {
+        tokens: [b"", b"", b"or", b"", b"", b""],
+        help: "write `||`",
+    },
+    Pattern {
+        tokens: [b"", b"", b"mod", b"", b"", b""],
+        help: "write `%`",
+    },
+    Pattern {
+        tokens: [b"", b"", b"not", b"", b"", b""],
+        help: "write `!`",
+    },
+    Pattern {
+        tokens: [b"", b"not", b"NAME", b"", b"", b""],
+        help: "write `!$3`",
+    },
+    Pattern {
+        tokens: [b"", b"not", b"", b"", b"", b""],
+        help: "write `!(..)` for `not`",
+    },
+    Pattern {
+        tokens: [b"", b"", b"else", b"", b"", b""],
+        help: STATEMENT,
+    },
+    Pattern {
+        tokens: [b"", b"", b"for", b"", b"", b""],
+        help: STATEMENT,
+    },
+    Pattern {
+        tokens: [b"", b"", b"while", b"", b"", b""],
+        help: STATEMENT,
+    },
+    Pattern {
+        tokens: [b"", b"", b"unmap", b"", b"", b""],
+        help: "it is left out: write a constraint behind the field's name, as `byte b : b > 1;`",
+    },
+    Pattern {
+        tokens: [b"", b"", b"where", b"", b"", b""],
+        help: "it is left out: write a constraint behind the field's name, as `byte b : b > 1;`",
+    },
+    Pattern {
+        tokens: [b"", b"*", b"*", b"", b"", b""],
+        help: "`**` is left out: write the product, or `1 << n` for powers of 2",
+    },
+    Pattern {
+        tokens: [b"", b"/", b"^", b"", b"", b""],
+        help: "`/^` is left out: write `(a + b - 1) / b`",
+    },
+    Pattern {
+        tokens: [b"", b"<<", b".", b"", b"", b""],
+        help: "write `<<`",
+    },
+    Pattern {
+        tokens: [b"", b".", b">>", b"", b"", b""],
+        help: "write `>>`",
+    },
+    Pattern {
+        tokens: [b"", b"<", b">", b"", b"", b""],
+        help: "write `!=`",
+    },
+    Pattern {
+        tokens: [b"", b"sizeof", b"(", b"NAME", b")", b""],
+        help: "`sizeof` is left out: for a field write `$4'size`, for a type its number of bits, as in `64#b`",
+    },
+    Pattern {
+        tokens: [b"", b"sizeof", b"(", b"", b"", b""],
+        help: "`sizeof` is left out: for a field write `NAME'size`, for a type its number of bits, as in `64#b`",
+    },
+    Pattern {
+        tokens: [b"", b"type", b"=", b"", b"", b""],
+        help: "write `type NAME = TYPE;`",
+    },
+    Pattern {
+        tokens: [b"type", b"NAME", b"", b"", b"", b""],
+        help: "write `type $2 = TYPE;`",
+    },
+    Pattern {
+        tokens: [b"", b"enum", b"", b"", b"", b""],
+        help: ENUM,
+    },
+    Pattern {
+        tokens: [b"enum", b"", b"", b"", b"", b""],
+        help: ENUM,
+    },
+    Pattern {
+        tokens: [b"", b"packed", b"struct", b"", b"", b""],
+        help: "leave out `packed`: nothing is aligned",
+    },
+    Pattern {
+        tokens: [b"", b"struct", b"[", b"", b"", b""],
+        help: "write `struct { .. }`, with braces",
+    },
+    Pattern {
+        tokens: [b"", b"struct", b"(", b"", b"", b""],
+        help: "write `struct { .. }`, with braces",
+    },
+    Pattern {
+        tokens: [b"", b"union", b"[", b"", b"", b""],
+        help: "write `union { .. }`, with braces",
+    },
+    Pattern {
+        tokens: [b"", b"union", b"(", b"", b"", b""],
+        help: "write `union { .. }`, with braces",
+    },
+    Pattern {
+        tokens: [b"struct", b"NAME", b"[", b"", b"", b""],
+        help: "write `struct { .. }`, or for one integer that is cut into fields `struct uint<32> { .. }`",
+    },
+    Pattern {
+        tokens: [b"struct", b"NAME", b"NAME", b"", b"", b""],
+        help: "leave out `struct`: write `$2 $3`",
+    },
+    Pattern {
+        tokens: [b"struct", b"NAME", b"*", b"", b"", b""],
+        help: POINTER,
+    },
+    Pattern {
+        tokens: [b"", b"union", b"NAME", b"{", b"", b""],
+        help: "write `union { .. }`, without the name: a field's name stands behind the brace, as `union { .. } x;`",
+    },
+    Pattern {
+        tokens: [b"", b"union", b"NAME", b"NAME", b"", b""],
+        help: "leave out `union`: write `$3 $4`",
+    },
+    Pattern {
+        tokens: [b"", b"union", b"INTEGER", b"", b"", b""],
+        help: "a union is no integer: write `union { .. }`",
+    },
+    Pattern {
+        tokens: [b"", b"INTEGER", b"NAME", b">", b"", b""],
+        help: "a width is a number, as in `uint<8>`; a number of elements may be a field, as in `byte[$3]`",
+    },
+    Pattern {
+        tokens: [b"INTEGER", b"NUMBER", b">=", b"=", b"", b""],
+        help: "part the signs by a blank: write `$1$2> ==`",
+    },
+    Pattern {
+        tokens: [b"INTEGER", b"NUMBER", b"NAME", b"", b"", b""],
+        help: "is a `>` missing behind `$2`?",
+    },
+    Pattern {
+        tokens: [b"", b"bit", b"<", b"NUMBER", b">", b""],
+        help: "write `uint<$4>`",
+    },
+    Pattern {
+        tokens: [b"", b"bits", b"<", b"NUMBER", b">", b""],
+        help: "write `uint<$4>`",
+    },
+    Pattern {
+        tokens: [b"", b"string", b"<", b"NUMBER", b">", b""],
+        help: "write `char[$4]`",
+    },
+    Pattern {
+        tokens: [b"", b"[", b"*", b"]", b"", b""],
+        help: "write `[]` for as many elements as there are",
+    },
+    Pattern {
+        tokens: [b"", b"[", b".", b"", b"", b""],
+        help: "write `[]` for as many elements as there are",
+    },
+    Pattern {
+        tokens: [b"NUMBER", b".", b"NUMBER", b"", b"", b""],
+        help: "there are no fractions: write whole numbers",
+    },
+    Pattern {
+        tokens: [b"OPEN", b"NAME", b"INTEGER", b"NUMBER", b">", b";"],
+        help: "the type stands before the name: write `$9 $2;`",
+    },
+    Pattern {
+        tokens: [b"OPEN", b"NAME", b"string", b";", b"", b""],
+        help: "the type stands before the name: write `$9 $2;`",
+    },
+    Pattern {
+        tokens: [b"NAME", b":", b"INTEGER", b"NUMBER", b">", b";"],
+        help: "the type stands before the name: write `$9 $1;`",
+    },
+    Pattern {
+        tokens: [b"NAME", b":", b"string", b";", b"", b""],
+        help: "the type stands before the name: write `$9 $1;`",
+    },
+    Pattern {
+        tokens: [b"NAME", b"=", b"ORDER", b"", b"", b""],
+        help: "a declared type has no byte order: leave out `$3`, and write it where the type is used, as `$3 $1 x;`",
+    },
+    Pattern {
+        tokens: [b"OPEN", b"NAME", b"=", b"", b"", b""],
+        help: "computed fields are left out: write the expression where `$2` is used",
+    },
+    Pattern {
+        tokens: [b"", b"]", b"[", b"", b"", b""],
+        help: "one array suffix a type: declare the inner array, as `type Row = byte[4];`, and write `Row[2]`",
+    },
+    Pattern {
+        tokens: [b"", b"<", b"<", b"", b"", b""],
+        help: "write a width as a number, as in `uint<8>`",
+    },
+    Pattern {
+        tokens: [b"", b"#", b"byte", b"", b"", b""],
+        help: "write `#B` for bytes",
+    },
+    Pattern {
+        tokens: [b"", b"#", b"bytes", b"", b"", b""],
+        help: "write `#B` for bytes",
+    },
+    Pattern {
+        tokens: [b"", b"#", b"bit", b"", b"", b""],
+        help: "write `#b` for bits",
+    },
+    Pattern {
+        tokens: [b"", b"#", b"bits", b"", b"", b""],
+        help: "write `#b` for bits",
+    },
+];
+
+/// What to write for a pointer.
+const POINTER: &str =
+    "there are no pointers: write the place as an integer, as `uint<32> at;`, and what is there behind it, as `byte x @ at#B;`";
+
+/// In the place of an operand.
+static VALUES: [Pattern; 15] = [
+    Pattern {
+        tokens: [b"", b"", b"#", b"", b"", b""],
+        help: "an offset has a magnitude: write `1#B`",
+    },
+    Pattern {
+        tokens: [b"", b"", b"[", b"", b"", b""],
+        help: "array literals are left out, and nothing stands for one: compare the elements one by one, as `a[0] == 1 && a[1] == 2`",
+    },
+    Pattern {
+        tokens: [b"", b":", b":", b"", b"", b""],
+        help: "leave out this `:`",
+    },
+    Pattern {
+        tokens: [b"", b"", b"=", b"", b"", b""],
+        help: "to compare write `==`",
+    },
+    Pattern {
+        tokens: [b"", b"", b"&", b"", b"", b""],
+        help: "nothing has an address here",
+    },
+    Pattern {
+        tokens: [b"", b"", b".", b"", b"", b""],
+        help: "a path begins with the name of a field",
+    },
+    Pattern {
+        tokens: [b"", b"", b"'length", b"", b"", b""],
+        help: "a path begins with the name of a field",
+    },
+    Pattern {
+        tokens: [b"", b"", b"'size", b"", b"", b""],
+        help: "a path begins with the name of a field",
+    },
+    Pattern {
+        tokens: [b"", b"", b"INTEGER", b"", b"", b""],
+        help: CONVERT,
+    },
+    Pattern {
+        tokens: [b"", b"", b"offset<", b"", b"", b""],
+        help: CONVERT,
+    },
+    Pattern {
+        tokens: [b"", b"", b"struct", b"", b"", b""],
+        help: CONVERT,
+    },
+    Pattern {
+        tokens: [b"", b"", b"union", b"", b"", b""],
+        help: CONVERT,
+    },
+    Pattern {
+        tokens: [b"", b"", b"string", b"", b"", b""],
+        help: CONVERT,
+    },
+    Pattern {
+        tokens: [b"", b"", b"type", b"", b"", b""],
+        help: TYPE_INSIDE,
+    },
+    Pattern {
+        tokens: [b"", b"", b"RESERVED", b"", b"", b""],
+        help: NO_NAME,
+    },
+];
+
+/// What to write for a conversion as in C.
+const CONVERT: &str = "a type stands behind `as`: `x as uint<16>`";
+
+/// What to write for `type` inside a type.
+const TYPE_INSIDE: &str = "`type` is a reserved word; types are declared outside of other types";
+
+/// What to write for a reserved word.
+const NO_NAME: &str = "`$3` is a reserved word, and no name: choose another, as `$3_`";
+
+/// Behind an operand.
+static OPERANDS: [Pattern; 9] = [
+    Pattern {
+        tokens: [b"", b"", b"=", b">", b"", b""],
+        help: "`=>` is left out: write `!a || b`",
+    },
+    Pattern {
+        tokens: [b"APART", b"NAME", b":", b":", b":", b"NAME"],
+        help: "`:::` is left out: for two bytes write `($2 as uint<16> << 8 | $6)`",
+    },
+    Pattern {
+        tokens: [b"APART", b"NAME", b":", b":", b"NAME", b""],
+        help: "there is no `::`: for two bytes in a row write `($2 as uint<16> << 8 | $5)`",
+    },
+    Pattern {
+        tokens: [b"", b"", b":", b":", b"", b""],
+        help: "`:::` is left out: for two bytes write `(a as uint<16> << 8 | b)`",
+    },
+    Pattern {
+        tokens: [b"", b"", b"=", b"", b"", b""],
+        help: "to compare write `==`",
+    },
+    Pattern {
+        tokens: [b"", b"", b"(", b"", b"", b""],
+        help: "functions are left out: nothing is called",
+    },
+    Pattern {
+        tokens: [b"", b"", b"{", b"", b"", b""],
+        help: "struct literals are left out, and nothing stands for one: compare the fields one by one",
+    },
+    Pattern {
+        tokens: [b"", b"", b":", b"", b"", b""],
+        help: "trimming an array is left out, and nothing stands for it; in a choice write `c ? x : y`",
+    },
+    Pattern {
+        tokens: [b"", b"", b"!", b"", b"", b""],
+        help: "write `!=`, or `!(..)` before the operand",
+    },
+];
+
+/// Behind a type or a name, or in the place of one.
+static FORMS: [Pattern; 19] = [
+    Pattern {
+        tokens: [b"", b"NAME", b"=", b"", b";", b""],
+        help: "initial values are left out: write the value as a constraint, as `$8 : $2 == $4;`",
+    },
+    Pattern {
+        tokens: [b"", b"", b"=", b"", b"", b""],
+        help: "initial values are left out: write the value as a constraint, as `byte b : b == 1;`",
+    },
+    Pattern {
+        tokens: [b"", b"NAME", b"==", b"", b"", b""],
+        help: CONSTRAINT,
+    },
+    Pattern {
+        tokens: [b"", b"NAME", b"!=", b"", b"", b""],
+        help: CONSTRAINT,
+    },
+    Pattern {
+        tokens: [b"", b"NAME", b"<=", b"", b"", b""],
+        help: CONSTRAINT,
+    },
+    Pattern {
+        tokens: [b"", b"NAME", b">=", b"", b"", b""],
+        help: CONSTRAINT,
+    },
+    Pattern {
+        tokens: [b"NAME", b"NAME", b"[", b"", b"]", b""],
+        help: "the bound stands behind the type: write `$1[$4] $2`",
+    },
+    Pattern {
+        tokens: [b"", b"", b"[", b"", b"", b""],
+        help: "the bound stands behind the type: `byte[4] b`",
+    },
+    Pattern {
+        tokens: [b"", b"", b",", b"", b"", b""],
+        help: "write each declaration and each field of its own, with a `;`",
+    },
+    Pattern {
+        tokens: [b"", b"int", b"<", b"", b"", b""],
+        help: NO_BLANK,
+    },
+    Pattern {
+        tokens: [b"", b"uint", b"<", b"", b"", b""],
+        help: NO_BLANK,
+    },
+    Pattern {
+        tokens: [b"", b"offset", b"<", b"", b"", b""],
+        help: NO_BLANK,
+    },
+    Pattern {
+        tokens: [b"", b"", b"<", b"NUMBER", b"", b""],
+        help: "only `int<`, `uint<` and `offset<` have a width: write `uint<$4>`",
+    },
+    Pattern {
+        tokens: [b"", b"", b"<", b"", b"", b""],
+        help: NO_BLANK,
+    },
+    Pattern {
+        tokens: [b"", b"", b"*", b"", b"", b""],
+        help: POINTER,
+    },
+    Pattern {
+        tokens: [b"", b"", b"(", b"", b"", b""],
+        help: "functions and calls are left out",
+    },
+    Pattern {
+        tokens: [b"", b"}", b"NAME", b"", b"", b""],
+        help: "the name of a type stands before it: `type $3 = struct { .. };`",
+    },
+    Pattern {
+        tokens: [b"", b"", b"ORDER", b"NAME", b"", b""],
+        help: "the byte order stands first: write `$3 $8 $4`",
+    },
+    Pattern {
+        tokens: [b"", b"", b"RESERVED", b"", b"", b""],
+        help: NO_NAME,
+    },
+];
+
+/// What to write for a comparison without `:`.
+const CONSTRAINT: &str = "a constraint stands behind `:`: write `$8 : $2 $9;`";
+
+/// What to write for `int <`.
+const NO_BLANK: &str = "write `int<`, `uint<` and `offset<` without a blank before the `<`";
 
 /// What to write instead of the token that is refused.
-pub fn advice(around: Around<'_>, expected: Expected) -> Option<&'static str> {
-    if expected.declaration {
-        if let Some(help) = at_declaration(around.found) {
-            return Some(help);
-        }
-    }
-    let help = of_opening(around.opening).or(of_word(around.found));
-    match help.or(of_pair(around)) {
+pub fn advice(around: Around<'_, '_>, expected: Expected) -> Option<&'static str> {
+    let help = if expected.declaration {
+        around.find(DECLARATIONS.as_slice())
+    } else {
+        None
+    };
+    let help = help.or(of_opening(around)).or(of_unit(around));
+    match help.or(around.find(ANYWHERE.as_slice())) {
         Some(help) => Some(help),
-        None if expected.value => in_place_of_value(around),
+        None if expected.value => around.find(VALUES.as_slice()),
         None if expected.operator => behind_operand(around),
         None => behind_form(around, expected),
     }
 }
 
-/// The advice for a word where a declaration begins.
-fn at_declaration(found: &[u8]) -> Option<&'static str> {
-    match found {
-        b"load" => Some(
-            "`load` is left out: copy the declarations of that pickle to the front of this one",
-        ),
-        b"struct" | b"union" | b"pinned" => Some("write `type NAME = struct { .. };`"),
-        b"typedef" => Some("write `type NAME = TYPE;`"),
-        b"enum" => Some(
-            "enumerations are left out: write an integer with a constraint, as `byte kind : kind == 1 || kind == 2;`",
-        ),
-        b"}" => Some("this brace closes nothing"),
-        b";" => Some("leave out this `;`"),
-        _ => of_statement(found).or(of_hash(found)),
+/// The advice for the first word of a declaration or field, if it isn't the name of a declared type.
+fn of_opening(around: Around<'_, '_>) -> Option<&'static str> {
+    if around.script.declared(around.opening()).is_some() {
+        return None;
     }
+    let first = Around {
+        script: around.script,
+        token: around.first,
+        first: around.first,
+    };
+    first.find(OPENINGS.as_slice())
 }
 
-/// The advice for a statement of GNU poke.
-fn of_statement(word: &[u8]) -> Option<&'static str> {
-    match word {
-        b"var" => Some("variables are left out: write their value where it is used"),
-        b"fun" => Some("functions are left out: write the expression where it is used"),
-        b"method" => Some(
-            "methods are left out, and nothing stands for one: a pickle tells only where values lie",
-        ),
-        b"computed" => Some(
-            "computed fields are left out: write the expression where the field is used",
-        ),
-        b"assert" => Some(
-            "`assert` is left out: write a constraint behind a field's name, as `byte b : b > a;`",
-        ),
-        b"unit" => Some(
-            "`unit` declarations are left out: write a unit as its number of bits, as in `offset<uint<32>,4096>`",
-        ),
-        b"immutable" => Some("`immutable` is left out: nothing stands for it"),
-        b"for"
-        | b"while"
-        | b"return"
-        | b"print"
-        | b"printf"
-        | b"try"
-        | b"raise"
-        | b"until"
-        | b"else"
-        | b"switch" => Some("statements are left out: a pickle declares types alone"),
-        _ => None,
-    }
-}
-
-/// The advice for the first word of a field.
-fn of_opening(word: &[u8]) -> Option<&'static str> {
-    match word {
-        b"if" => Some("a condition stands behind its field: `TYPE NAME if CONDITION;`"),
-        b"enum" => Some(
-            "enumerations are left out: write an integer with a constraint, as `byte kind : kind == 1 || kind == 2;`",
-        ),
-        b"unsigned" | b"signed" | b"const" => Some(
-            "write the integer type alone, as `uint<32>` or `int<32>`",
-        ),
-        _ => of_statement(word),
-    }
-}
-
-/// The advice for a word, wherever it is.
-fn of_word(found: &[u8]) -> Option<&'static str> {
-    match found {
-        b"in" => Some("`in` is left out: write `(x == 1 || x == 2)`"),
-        b"isa" => Some("`isa` is left out, and nothing stands for it"),
-        b"and" => Some("write `&&`"),
-        b"or" => Some("write `||`"),
-        b"not" => Some("write `!`"),
-        b"mod" => Some("write `%`"),
-        b"else" | b"for" | b"while" => of_statement(found),
-        b"unmap" | b"where" => Some(
-            "it is left out: write a constraint behind the field's name, as `byte b : b > 1;`",
-        ),
-        _ => None,
-    }
-}
-
-fn of_hash(found: &[u8]) -> Option<&'static str> {
-    match found {
-        b"#" => Some("comments are `/* .. */`, or `//` up to the end of the line"),
-        _ => None,
-    }
-}
-
-/// The advice for two tokens in a row.
-fn of_pair(around: Around<'_>) -> Option<&'static str> {
-    match (around.before, around.found) {
-        (b"*", b"*") => Some("`**` is left out: write the product, or `1 << n` for powers of 2"),
-        (b"/", b"^") => Some("`/^` is left out: write `(a + b - 1) / b`"),
-        (b"sizeof", b"(") => Some(
-            "`sizeof` is left out: write the size of a field as `NAME'size`, that of a type as a number of bits, as in `64#b`",
-        ),
-        (b"type", b"=") => Some("write `type NAME = TYPE;`"),
-        (b"#", b"!") => Some("comments are `/* .. */`, or `//` up to the end of the line"),
-        (b"]", b"[") => Some(
-            "one array suffix a type: declare the inner array, as `type Row = byte[4];`, and write `Row[2]`",
-        ),
-        (b"<", b"<") => Some("write a width as a number, as in `uint<8>`"),
-        (b"#", found) | (b",", found) if is_unit_word(found) => Some(
-            "units are `b`, `B` and whole numbers of bits: 1 KB is 8000, 1 KiB 8192, 1 MB 8000000, 1 MiB 8388608",
-        ),
+/// The advice for a name of a unit.
+fn of_unit(around: Around<'_, '_>) -> Option<&'static str> {
+    match (around.script.text_before(around.token), around.found()) {
+        (b"#" | b",", found) if is_unit_word(found) => Some(UNITS),
         _ => None,
     }
 }
@@ -158,84 +714,29 @@ fn is_unit_word(word: &[u8]) -> bool {
     )
 }
 
-/// The advice for a token where an operand must be.
-fn in_place_of_value(around: Around<'_>) -> Option<&'static str> {
-    match around.found {
-        b"#" => Some("an offset has a magnitude: write `1#B`"),
-        b"[" => Some(
-            "array literals are left out, and nothing stands for one: compare the elements one by one, as `a[0] == 1 && a[1] == 2`",
-        ),
-        b"=" => Some("to compare write `==`"),
-        b"&" => Some("nothing has an address here"),
-        b"." | b"'length" | b"'size" => Some("a path begins with the name of a field"),
-        b"struct" | b"union" | b"int<" | b"uint<" | b"offset<" | b"string" => Some(
-            "a type stands behind `as`: `x as uint<16>`",
-        ),
-        _ => of_reserved(around.found),
-    }
-}
-
 /// The advice for a token after an operand.
-fn behind_operand(around: Around<'_>) -> Option<&'static str> {
-    match (around.found, around.next) {
-        (b"=", b">") => return Some("`=>` is left out: write `!a || b`"),
-        (b":", b":") => return Some("`:::` is left out: write `(a << 8) | b`"),
-        (b":" | b"@", _) if around.is_labelled => {
-            return Some("the order is `TYPE NAME : CONSTRAINT @ LABEL if CONDITION;`");
+fn behind_operand(around: Around<'_, '_>) -> Option<&'static str> {
+    let labelled = (around.first..around.token).any(|before| {
+        matches!(around.script.text(before), b"@" | b"if")
+    });
+    match around.found() {
+        b":" | b"@" if labelled => {
+            Some("the order is `TYPE NAME : CONSTRAINT @ LABEL if CONDITION;`")
         }
-        _ => {}
-    }
-    match around.found {
-        b"=" => Some("to compare write `==`"),
-        b"(" => Some("functions are left out: nothing is called"),
-        b"{" => Some(
-            "struct literals are left out, and nothing stands for one: compare the fields one by one",
-        ),
-        b":" => Some(
-            "trimming an array is left out, and nothing stands for it; in a choice write `c ? x : y`",
-        ),
-        b"!" => Some("write `!=`, or `!(..)` before the operand"),
-        _ => None,
+        _ => around.find(OPERANDS.as_slice()),
     }
 }
 
 /// The advice for a token after a type or a name, or where a type or a name must be.
-fn behind_form(around: Around<'_>, expected: Expected) -> Option<&'static str> {
-    match around.found {
-        b"=" => Some(
-            "initial values are left out: write the value as a constraint, as `byte b : b == 1;`",
-        ),
-        b"==" | b"!=" | b"<=" | b">=" => Some(
-            "write a constraint behind `:`, with the field's name, as `byte b : b == 1;`",
-        ),
-        b"[" => Some("the bound stands behind the type: `byte[4] b`"),
-        b"," => Some("write each declaration and each field of its own, with a `;`"),
-        b"<" => Some("write `int<`, `uint<` and `offset<` without a blank before the `<`"),
-        b">>" => Some("part the two `>` by a blank"),
-        b":" if around.opening == b"type".as_slice() => Some(
+fn behind_form(around: Around<'_, '_>, expected: Expected) -> Option<&'static str> {
+    match around.found() {
+        b":" if around.opening() == b"type".as_slice() => Some(
             "a type has no constraint of its own: write it behind each field of the type, as `T x : x > 0;`",
         ),
-        b"(" => Some("functions and calls are left out"),
-        b"type" if !expected.name => None,
-        _ if expected.form || expected.name => of_reserved(around.found),
-        _ if around.before == b"}".as_slice() && is_word(around.found) => Some(
-            "the name of a type stands before it: `type NAME = struct { .. };`",
-        ),
-        _ => None,
-    }
-}
-
-fn is_word(found: &[u8]) -> bool {
-    matches!(found.first(), Some(b'a'..=b'z' | b'A'..=b'Z' | b'_'))
-}
-
-/// The advice for a reserved word.
-fn of_reserved(word: &[u8]) -> Option<&'static str> {
-    match word {
-        b"type" => Some("`type` is a reserved word; types are declared outside of other types"),
-        b"struct" | b"union" | b"pinned" | b"big" | b"little" | b"if" | b"as" | b"string" => Some(
-            "this word is reserved, and no name",
-        ),
+        b"type" if expected.name => Some(TYPE_INSIDE),
+        _ if expected.form || expected.name || !is_reserved(around.found()) => {
+            around.find(FORMS.as_slice())
+        }
         _ => None,
     }
 }

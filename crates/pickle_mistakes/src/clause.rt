@@ -3,7 +3,7 @@
 use crate::nodes::{Node, token_count};
 use crate::probe::Probe;
 use crate::search::Clause;
-use crate::sorts::{Sort, say_sort, sort_of};
+use crate::sorts::{Sort, say_of_sort, say_sort, sort_of};
 use crate::types::{name_of, unknown_type};
 use pickle_script::script::{Part, Script};
 use pickle_script::site::Purpose;
@@ -100,8 +100,16 @@ fn in_expression(
     of_node(alloc, script, clause, node)
 }
 
+/// Whether an expression has no fault.
 fn is_meant(script: &Script<'_>, clause: &Clause, node: Node<'_, '_>) -> Result<bool, AllocError> {
-    clause.probe.is_meant(script.slice(node.part()))
+    let expression = script.slice(node.part());
+    if node.is_number() {
+        Ok(true)
+    } else if node.is_path() {
+        clause.probe.is_path(expression)
+    } else {
+        clause.probe.is_value(expression)
+    }
 }
 
 /// The first operand that has a fault itself.
@@ -153,7 +161,7 @@ fn whole(alloc: Global, script: &Script<'_>, clause: &Clause) -> Result<Finding,
 /// An integer with the unit of bytes after it.
 fn with_unit(alloc: Global, script: &Script<'_>, part: Part) -> Result<Vec<u8>, AllocError> {
     let expression = script.slice(part);
-    if part.first.saturating_add(1) == part.end {
+    if !(part.first..part.end).any(|token| is_operator(script.text(token))) {
         return Ok(Text::new(alloc).say(expression)?.say(b"#B")?.into_bytes());
     }
     Ok(
@@ -163,6 +171,14 @@ fn with_unit(alloc: Global, script: &Script<'_>, part: Part) -> Result<Vec<u8>, 
             .say(b")#B")?
             .into_bytes(),
     )
+}
+
+/// Whether a token binds weaker than a unit behind it.
+fn is_operator(token: &[u8]) -> bool {
+    !matches!(
+        token,
+        [b'a'..=b'z' | b'A'..=b'Z' | b'_' | b'0'..=b'9' | b'.' | b'\'', ..]
+    ) || token == b"as".as_slice()
 }
 
 /// What is wrong with an expression whose operands have no fault.
@@ -240,6 +256,11 @@ impl<'a, 't> Place<'a, 't> {
         say_sort(text, &self.clause.probe, self.script.slice(part))
     }
 
+    /// Adds to the text what some tokens are as an expression of a sort.
+    fn say_of(self, text: Text, part: Part, sort: Sort) -> Result<Text, AllocError> {
+        say_of_sort(text, &self.clause.probe, self.script.slice(part), sort)
+    }
+
     /// What some tokens are as an expression.
     pub fn sort(self, part: Part) -> Result<Sort, AllocError> {
         sort_of(&self.clause.probe, self.script.slice(part))
@@ -254,9 +275,13 @@ impl<'a, 't> Place<'a, 't> {
         let text = Text::new(self.alloc)
             .quote(self.script.slice(sign))?
             .say(b" between ")?;
-        let text = self.say_sort(text, left)?.say(b" and ")?;
-        let text = self.say_sort(text, right)?;
-        let help = match (self.sort(left)?, self.sort(right)?) {
+        let sorts = (self.sort(left)?, self.sort(right)?);
+        let text = self.say_of(text, left, sorts.0)?.say(b" and ")?;
+        let text = self.say_of(text, right, sorts.1)?;
+        let help = match sorts {
+            (Sort::Integer | Sort::Offset, Sort::Struct) if self.is_sum(sign) => {
+                Some(self.size_help(left, right, sorts.0)?)
+            }
             (Sort::Integer, Sort::Offset) => Some(self.unit_help(left)?),
             (Sort::Offset, Sort::Integer) => Some(self.unit_help(right)?),
             (Sort::Offset, Sort::Offset) => Some(Text::new(self.alloc).say(
@@ -275,6 +300,24 @@ impl<'a, 't> Place<'a, 't> {
             _ => None,
         };
         self.finding(sign, text, help)
+    }
+
+    /// Whether a sign is that of a sum or difference.
+    fn is_sum(self, sign: Part) -> bool {
+        matches!(self.script.slice(sign), b"+" | b"-")
+    }
+
+    /// The help for a struct where its size is meant.
+    fn size_help(self, left: Part, right: Part, sort: Sort) -> Result<Text, AllocError> {
+        let text = Text::new(self.alloc).say(b"for its size write `")?;
+        let text = if sort == Sort::Integer {
+            text.show(with_unit(self.alloc, self.script, left)?.as_slice())?
+        } else {
+            text.show(self.script.slice(left))?
+        };
+        let sign = Part::single(left.end);
+        let text = text.say(b" ")?.show(self.script.slice(sign))?.say(b" ")?;
+        text.show(self.script.slice(right))?.say(b"'size`")
     }
 
     /// The help for an integer that should be an offset.

@@ -4,7 +4,12 @@ use pickle_notes::note::Note;
 use pickle_script::script::cut;
 use pickle_script::text::Text;
 use pickle_syntax::lexer::fault::LexFaultKind;
+use pickle_syntax::lexer::lex;
 use std::alloc::{AllocError, Global};
+use text_forms::hex::hex_digit;
+
+/// How many bytes a pickle is looked through for bytes that no text has.
+const FRONT: usize = 64;
 
 /// What is wrong with the bytes of a pickle from a place on.
 pub fn lexical_note(
@@ -23,14 +28,10 @@ pub fn lexical_note(
         LexFaultKind::Memory => text.say(b"there was no memory")?,
     };
     let help = match kind {
-        LexFaultKind::BadByte => help_byte(rest),
-        LexFaultKind::Unclosed => help_unclosed(rest),
-        LexFaultKind::BadNumber => help_number(rest),
+        LexFaultKind::BadByte => help_byte(alloc, pickle, at)?,
+        LexFaultKind::Unclosed => fixed(alloc, help_unclosed(rest))?,
+        LexFaultKind::BadNumber => help_number(alloc, pickle, at)?,
         LexFaultKind::TooLong | LexFaultKind::Memory => None,
-    };
-    let help = match help {
-        Some(help) => Some(Text::new(alloc).say(help.as_bytes())?.into_bytes()),
-        None => None,
     };
     Ok(Note {
         at,
@@ -38,6 +39,11 @@ pub fn lexical_note(
         sentence: text.into_bytes(),
         help,
     })
+}
+
+/// A help that is always the same.
+fn fixed(alloc: Global, help: &str) -> Result<Option<Vec<u8>>, AllocError> {
+    Ok(Some(Text::new(alloc).say(help.as_bytes())?.into_bytes()))
 }
 
 /// How many bytes are marked.
@@ -67,11 +73,11 @@ fn is_word_byte(byte: u8) -> bool {
 
 fn say_byte(text: Text, rest: &[u8]) -> Result<Text, AllocError> {
     match rest {
+        [b'\'', b'\\', ..] | [b'\\', ..] => text.say(
+            b"no escape begins here: the escapes are `\\\\`, `\\'`, `\\\"`, `\\n`, `\\t` and `\\x` with two hexadecimal digits",
+        ),
         [b'\'', ..] => text.say(
             b"this is neither a character, as `'a'`, nor one of the attributes `'length` and `'size`",
-        ),
-        [b'\\', ..] => text.say(
-            b"no escape begins here: the escapes are `\\\\`, `\\'`, `\\\"`, `\\n`, `\\t` and `\\x` with two hexadecimal digits",
         ),
         [byte, ..] => text
             .say(b"the byte ")?
@@ -81,24 +87,115 @@ fn say_byte(text: Text, rest: &[u8]) -> Result<Text, AllocError> {
     }
 }
 
-fn help_byte(rest: &[u8]) -> Option<&'static str> {
-    match rest {
-        [b'\'', b'o', b'f', b'f', b's', b'e', b't', ..] => Some(
-            "`'offset` is left out: write the place where it is known, as `(a'size + b'size)`",
-        ),
-        [b'\'', b'm', ..] | [b'\'', b's', b't', ..] => Some(
-            "of the attributes there are `'length` and `'size`; nothing stands for the others",
-        ),
-        [b'\'', ..] => Some(
-            "a character is one byte in quotes; `'length` is that of an array, `'size` that of any field",
-        ),
-        [b'\\', b'0'..=b'7', ..] => Some(
-            "octal escapes are left out: write `\\x` with two hexadecimal digits, as `\\x0a`",
-        ),
-        [b'$', ..] => Some("nothing stands for `$`: an array's last index is `a'length - 1`"),
-        [byte, ..] if 0x80 <= *byte => Some("letters outside of ASCII stand only in comments"),
+/// What to write instead of a byte that begins no token.
+fn help_byte(alloc: Global, pickle: &[u8], at: usize) -> Result<Option<Vec<u8>>, AllocError> {
+    let help = match cut(pickle, at, pickle.len()) {
+        [b'\'', b'\\', escape @ ..] | [b'\\', escape @ ..] => {
+            return help_escape(alloc, escape);
+        }
+        [b'\'', b'o', b'f', b'f', b's', b'e', b't', ..] => {
+            "`'offset` is left out: write the place where it is known, as `(a'size + b'size)`"
+        }
+        [b'\'', quoted @ ..] => return help_quoted(alloc, quoted),
+        [b'$', ..] => "nothing stands for `$`: an array's last index is `a'length - 1`",
+        [0xef, 0xbb, 0xbf, ..] => "leave out the byte order mark: it is 3 bytes that editors hide",
+        [0xff, 0xfe, ..] | [0xfe, 0xff, ..] if at == 0 =>
+            "write the pickle as UTF-8 or ASCII, not as UTF-16",
+        _ if is_binary(pickle, at) => {
+            "a pickle is text, and this begins as other files do: are PICKLE and FILE swapped?"
+        }
+        [byte, ..] if 0x80 <= *byte => "letters outside of ASCII stand only in comments",
+        _ => return Ok(None),
+    };
+    fixed(alloc, help)
+}
+
+/// Whether the byte at a place is near the front, and among bytes that no text has.
+fn is_binary(pickle: &[u8], at: usize) -> bool {
+    let front = cut(pickle, 0, FRONT.min(pickle.len()));
+    let is_text = matches!(front, [b't', b'y', b'p', b'e', ..] | [b'/', ..]);
+    !is_text && at < FRONT && front.iter().any(|byte| is_control(*byte))
+        || at == 0 && matches!(pickle, [0x80..=0xff, ..])
+}
+
+fn is_control(byte: u8) -> bool {
+    byte < 0x20 && !matches!(byte, b'\t' | b'\n' | b'\r' | 0x0c)
+}
+
+/// What to write instead of an escape. `escape` is what stands behind its backslash.
+fn help_escape(alloc: Global, escape: &[u8]) -> Result<Option<Vec<u8>>, AllocError> {
+    let Some(byte) = escaped(escape) else {
+        return Ok(None);
+    };
+    let text = Text::new(alloc).say(b"write `")?;
+    let text = say_hexadecimal(text.say(b"\\x")?, &[byte])?;
+    Ok(Some(text.say(b"`")?.into_bytes()))
+}
+
+/// The byte that an escape of C stands for.
+fn escaped(escape: &[u8]) -> Option<u8> {
+    match escape {
+        [b'a', ..] => Some(7),
+        [b'b', ..] => Some(8),
+        [b'e', ..] => Some(27),
+        [b'f', ..] => Some(12),
+        [b'r', ..] => Some(13),
+        [b'v', ..] => Some(11),
+        [b'x' | b'X', digit, ..] => digit_value(*digit),
+        [
+            first @ b'0'..=b'3',
+            second @ b'0'..=b'7',
+            third @ b'0'..=b'7',
+            ..
+        ] => { Some((*first & 7) << 6 | (*second & 7) << 3 | (*third & 7)) }
+        [first @ b'0'..=b'7', second @ b'0'..=b'7', ..] => {
+            Some((*first & 7) << 3 | (*second & 7))
+        }
+        [first @ b'0'..=b'7', ..] => Some(*first & 7),
         _ => None,
     }
+}
+
+/// The value of a hexadecimal digit.
+fn digit_value(digit: u8) -> Option<u8> {
+    match digit {
+        b'0'..=b'9' => Some(digit & 15),
+        b'a'..=b'f' | b'A'..=b'F' => Some((digit & 7).saturating_add(9)),
+        _ => None,
+    }
+}
+
+/// Adds the hexadecimal digits of some bytes to the text.
+fn say_hexadecimal(text: Text, bytes: &[u8]) -> Result<Text, AllocError> {
+    let mut text = text;
+    for byte in bytes {
+        text = text.say(&[hex_digit(*byte >> 4), hex_digit(*byte & 15)])?;
+    }
+    Ok(text)
+}
+
+/// What to write instead of a quote that begins no character. `quoted` is what stands behind it.
+fn help_quoted(alloc: Global, quoted: &[u8]) -> Result<Option<Vec<u8>>, AllocError> {
+    let end = quoted
+        .iter()
+        .position(|byte| matches!(*byte, b'\'' | b'\n' | b'\\'));
+    let word = cut(quoted, 0, end.unwrap_or(0));
+    let is_number = quoted.get(word.len()) == Some(&b'\'');
+    if is_number && 1 < word.len() && word.len() <= 8 {
+        let text = Text::new(alloc).say(b"a character is one byte: write these ")?;
+        let text = text.say_number(word.len())?.say(b" as the number `0x")?;
+        let text = say_hexadecimal(text, word)?;
+        return Ok(Some(text.say(b"`")?.into_bytes()));
+    }
+    fixed(
+        alloc,
+        match quoted {
+            [b'm', ..] | [b's', b't', ..] =>
+                "of the attributes there are `'length` and `'size`; nothing stands for the others",
+            _ =>
+                "a character is one byte in quotes; `'length` is that of an array, `'size` that of any field",
+        },
+    )
 }
 
 fn unclosed(rest: &[u8]) -> &'static str {
@@ -108,10 +205,10 @@ fn unclosed(rest: &[u8]) -> &'static str {
     }
 }
 
-fn help_unclosed(rest: &[u8]) -> Option<&'static str> {
+fn help_unclosed(rest: &[u8]) -> &'static str {
     match rest {
-        [b'"', ..] => Some("a text stands in one line: write a line feed in it as `\\n`"),
-        _ => Some("comments do not nest: write `*/` at its end"),
+        [b'"', ..] => "a text stands in one line: write a line feed in it as `\\n`",
+        _ => "comments do not nest: write `*/` at its end",
     }
 }
 
@@ -122,19 +219,71 @@ fn say_number(text: Text, rest: &[u8]) -> Result<Text, AllocError> {
     )
 }
 
-fn help_number(rest: &[u8]) -> Option<&'static str> {
-    match cut(rest, 0, word_length(rest)) {
-        [.., b'K' | b'M' | b'G', b'b' | b'B'] | [.., b'i', b'b' | b'B'] => Some(
-            "units are `b`, `B` and whole numbers of bits behind `#`: write 4 KiB as `4#8192`",
-        ),
-        [b'0', b'x' | b'X', ..] => Some(
-            "a number ends with `U` for one without a sign and `N`, `B`, `H` or `L` for 4, 8, 16 or 64 bits, which hold it",
-        ),
-        [b'0', b'b' | b'B' | b'o' | b'O', ..] => Some(
-            "behind `0b` stand 0 and 1, behind `0o` 0 to 7",
-        ),
-        _ => Some(
-            "write 0 to 18446744073709551615; a suffix `U` is for one without a sign, `N`, `B`, `H` or `L` for 4, 8, 16 or 64 bits, which have to hold it",
-        ),
+/// What to write instead of a number.
+fn help_number(alloc: Global, pickle: &[u8], at: usize) -> Result<Option<Vec<u8>>, AllocError> {
+    let rest = cut(pickle, at, pickle.len());
+    let word = cut(rest, 0, word_length(rest));
+    let help = match word {
+        [.., b'K' | b'M' | b'G', b'b' | b'B'] | [.., b'i', b'b' | b'B'] => {
+            "units are `b`, `B` and whole numbers of bits behind `#`: write 4 KiB as `4#8192`"
+        }
+        [b'0', b'b' | b'B' | b'o' | b'O', ..] => "behind `0b` stand 0 and 1, behind `0o` 0 to 7",
+        _ => return help_suffix(alloc, word, is_negated(pickle, at)),
+    };
+    fixed(alloc, help)
+}
+
+/// Whether a minus sign stands before a number.
+fn is_negated(pickle: &[u8], at: usize) -> bool {
+    cut(pickle, at.saturating_sub(1), at) == b"-".as_slice()
+}
+
+/// The number with another suffix, if it is a number then.
+fn help_suffix(alloc: Global, word: &[u8], negated: bool) -> Result<Option<Vec<u8>>, AllocError> {
+    let unsigned = Text::new(alloc).say(word)?.say(b"U")?.into_bytes();
+    let has_suffix = matches!(
+        word,
+        [
+            ..,
+            b'U' | b'u' | b'N' | b'n' | b'B' | b'b' | b'H' | b'h' | b'L' | b'l'
+        ]
+    );
+    let shorter = cut(word, 0, word.len().saturating_sub(1));
+    let shortest = cut(word, 0, word.len().saturating_sub(2));
+    let first = if negated {
+        shorter
+    } else {
+        unsigned.as_slice()
+    };
+    for other in [first, unsigned.as_slice(), shorter, shortest] {
+        if (has_suffix || word.len() < other.len()) && is_number(alloc, other)? {
+            let text = Text::new(alloc).say(b"write ")?.quote(other)?;
+            return Ok(Some(text.into_bytes()));
+        }
+    }
+    fixed(
+        alloc,
+        if is_digits(word) {
+            "a number has at most 64 bits: the greatest is `18446744073709551615U`"
+        } else {
+            "behind the digits stand `U` for a number without a sign, and `N`, `B`, `H` or `L` for 4, 8, 16 or 64 bits"
+        },
+    )
+}
+
+/// Whether a word is digits alone, with their base.
+fn is_digits(word: &[u8]) -> bool {
+    match word {
+        [b'0', b'x' | b'X', digits @ ..] => digits.iter().all(|byte| byte.is_ascii_hexdigit()),
+        digits => digits.iter().all(|byte| byte.is_ascii_digit()),
+    }
+}
+
+/// Whether bytes are a number, which the lexer decides.
+fn is_number(alloc: Global, word: &[u8]) -> Result<bool, AllocError> {
+    match lex(alloc, word) {
+        Ok(tokens) => Ok(tokens.len() == 1),
+        Err(fault) if fault.kind == LexFaultKind::Memory => Err(AllocError),
+        Err(_) => Ok(false),
     }
 }

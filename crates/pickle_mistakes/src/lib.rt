@@ -3,12 +3,15 @@
 
 mod advice;
 mod clause;
+mod context;
 mod expected;
+mod foreign;
 pub mod lexical;
 pub mod limits;
 mod names;
 pub mod near;
 mod nodes;
+mod pattern;
 mod probe;
 mod search;
 mod sorts;

@@ -6,6 +6,9 @@ use pickle_script::text::Text;
 use run_parts::accept::{Refusal, read_syntax};
 use std::alloc::{AllocError, Global};
 
+/// Half of the levels that there may be.
+const HALF: usize = 32;
+
 /// A limit of the syntax.
 #[derive(Clone, Copy, Debug, PartialEq, Eq)]
 pub enum Limit {
@@ -24,7 +27,7 @@ pub fn limit_note(alloc: Global, script: &Script<'_>, limit: Limit) -> Result<No
             "a struct or union ends with its 1024th field at the latest, a pickle with its 4096th declaration",
     };
     let help = match limit {
-        Limit::Depth => "leave out brackets, or declare an inner type by a name",
+        Limit::Depth => way_out(script, token),
         Limit::Count => "declare some of the fields as a type of their own",
     };
     Ok(Note {
@@ -59,4 +62,29 @@ fn is_passed(alloc: Global, front: &[u8], limit: Limit) -> Result<bool, AllocErr
         (Err(Refusal::TooDeep), Limit::Depth) | (Err(Refusal::TooMany), Limit::Count) => Ok(true),
         _ => Ok(false),
     }
+}
+
+/// What to write instead of an expression, or of types in one another, with too many levels.
+fn way_out(script: &Script<'_>, token: usize) -> &'static str {
+    if HALF < open_count(script, token, b"{", b"}") {
+        return "declare an inner type by a name";
+    }
+    if HALF < open_count(script, token, b"(", b")") {
+        return "leave out brackets";
+    }
+    "each operator in a row is a level more: put brackets round each 30 parts, as in `(a + b) + (c + d)`"
+}
+
+/// How many brackets of a kind are open at a token.
+fn open_count(script: &Script<'_>, token: usize, open: &[u8], close: &[u8]) -> usize {
+    let mut count: usize = 0;
+    for before in 0..token {
+        let text = script.text(before);
+        if text == open {
+            count = count.saturating_add(1);
+        } else if text == close {
+            count = count.saturating_sub(1);
+        }
+    }
+    count
 }

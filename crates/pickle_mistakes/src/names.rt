@@ -1,51 +1,67 @@
 //! Names that an expression doesn't see, and the names that it sees.
 
 use crate::clause::{Finding, Place};
+use crate::context::{Words, context, fields_seen};
 use crate::expected::say_list;
 use crate::near::nearest;
+use crate::probe::Probe;
 use crate::sorts::Sort;
 use crate::syntax::opening;
 use crate::types::is_declared_as;
-use pickle_script::script::{Part, Script};
+use pickle_script::anatomy::field_parts;
+use pickle_script::script::{Part, Script, cut};
+use pickle_script::site::Purpose;
 use pickle_script::text::Text;
 use std::alloc::{AllocError, Global};
 
 /// The most names that are tried.
-const MOST_TRIED: usize = 128;
+const MOST_TRIED: usize = 16;
 
-/// The most names that are tried after a long start of a pickle.
-const FEW_TRIED: usize = 16;
-
-/// A start of a pickle with more bytes is long.
-const LONG: usize = 65_536;
+/// The most names of fields of a type among which a near one is searched.
+const MOST_FIELDS: usize = 1024;
 
 /// The most names that are printed.
 const MOST_TOLD: usize = 8;
 
-/// The names among some tokens, each once, in order, and at most so many of them.
-pub fn names_in<'t>(
+/// The names of fields among some tokens, each once, in order.
+fn field_names<'t>(
     alloc: Global,
     script: &Script<'t>,
     part: Part,
-    most: usize,
 ) -> Result<Vec<&'t [u8]>, AllocError> {
     let mut names: Vec<&'t [u8]> = Vec::new(alloc);
     for token in part.first..part.end {
-        if most <= names.len() {
-            return Ok(names);
-        }
         let word = script.text(token);
-        if script.is_name(token) && !names.as_slice().contains(&word) {
+        if names.len() < MOST_FIELDS
+            && is_field(script, token)
+            && !names.as_slice().contains(&word)
+        {
             names.push(word)?;
         }
     }
     Ok(names)
 }
 
+/// Whether a token is a name, as a field has one.
+fn is_field(script: &Script<'_>, token: usize) -> bool {
+    let next = script.text(token.saturating_add(1));
+    script.is_name(token) && matches!(next, b":" | b"@" | b"if" | b";")
+}
+
 impl<'a, 't> Place<'a, 't> {
     /// The finding for a name that no visible field has.
     pub fn unknown_name(self, word: &[u8]) -> Result<Finding, AllocError> {
-        let seen = self.seen_names(self.before(), b"")?;
+        let mut among = fields_seen(
+            self.alloc,
+            self.script,
+            self.before().first.saturating_add(3),
+            self.clause.scope.field.first,
+        )?;
+        if self.clause.purpose == Purpose::Constraint {
+            let parts = field_parts(self.script, self.clause.scope.field);
+            among.push(self.script.slice(parts.name))?;
+        }
+        let seen = self.seen_names(among.as_slice(), b"", word)?;
         let text = Text::new(self.alloc)
             .say(b"no field ")?
             .quote(word)?
@@ -64,23 +80,46 @@ impl<'a, 't> Place<'a, 't> {
         if self.sort(operand)? != Sort::Struct {
             let text = Text::new(self.alloc).say(b"only structs and unions have fields, ")?;
             let text = text.quote(written)?.say(b" is ")?;
-            return self.finding(name, self.say_sort(text, operand)?, None);
+            let help = self.attribute_help(operand, word)?;
+            return self.finding(name, self.say_sort(text, operand)?, help);
         }
         let dotted = Text::new(self.alloc).say(written)?.say(b".")?.into_bytes();
-        let among = self.fields_of(operand);
-        let seen = self.seen_names(among, dotted.as_slice())?;
+        let among = field_names(self.alloc, self.script, self.fields_of(operand))?;
+        let seen = self.seen_names(among.as_slice(), dotted.as_slice(), word)?;
         let text = self
             .say_type(Text::new(self.alloc), operand)?
             .say(b" has no field ")?;
         let text = text.quote(word)?;
         let text = self.say_names(text, word, seen.as_slice(), b"; it has ")?;
-        self.finding(name, text, None)
+        self.finding(name, text, self.attribute_help(operand, word)?)
+    }
+
+    /// The help for `.length` and `.size`.
+    fn attribute_help(self, operand: Part, word: &[u8]) -> Result<Option<Text>, AllocError> {
+        let attribute: &[u8] = match word {
+            b"size" | b"sizeof" => b"'size",
+            b"length" | b"len" | b"count" => b"'length",
+            _ => return Ok(None),
+        };
+        let text = Text::new(self.alloc)
+            .say(self.script.slice(operand))?
+            .say(attribute)?
+            .into_bytes();
+        if !self.clause.probe.asked(text.as_slice(), b") == 0#b")?
+            && !self.clause.probe.asked(text.as_slice(), b")")?
+        {
+            return Ok(None);
+        }
+        let help = Text::new(self.alloc)
+            .say(b"write ")?
+            .quote(text.as_slice())?;
+        Ok(Some(help))
     }
 
     /// The tokens of the declaration before the expression.
     fn before(self) -> Part {
         Part {
-            first: last_type(self.script, self.part.first),
+            first: self.clause.scope.declaration.first,
             end: self.part.first,
         }
     }
@@ -103,18 +142,57 @@ impl<'a, 't> Place<'a, 't> {
         }
     }
 
-    /// The names among some tokens that have a meaning after the start of an expression.
-    fn seen_names(self, among: Part, front: &[u8]) -> Result<Vec<&'t [u8]>, AllocError> {
-        let long = LONG < self.clause.probe.front.len();
-        let most = if long { FEW_TRIED } else { MOST_TRIED };
+    /// Those of some names that have a meaning after the start of an expression. The nearest to a word and the first
+    /// ones are tried.
+    fn seen_names(
+        self,
+        among: &[&'t [u8]],
+        front: &[u8],
+        word: &[u8],
+    ) -> Result<Vec<&'t [u8]>, AllocError> {
+        let mut tried = Vec::new(self.alloc);
+        for name in among.iter().take(MOST_TRIED) {
+            tried.push(*name)?;
+        }
+        if let Some(near) = nearest(self.alloc, word, among)? {
+            if !tried.as_slice().contains(&near) {
+                tried.push(near)?;
+            }
+        }
+        let probe = self.probe_with(tried.as_slice())?;
         let mut seen = Vec::new(self.alloc);
-        for word in names_in(self.alloc, self.script, among, most)? {
-            let path = Text::new(self.alloc).say(front)?.say(word)?.into_bytes();
-            if self.clause.probe.is_meant(path.as_slice())? {
-                seen.push(word)?;
+        for name in tried {
+            let path = Text::new(self.alloc).say(front)?.say(name)?.into_bytes();
+            if probe.is_path(path.as_slice())? {
+                seen.push(name)?;
             }
         }
         Ok(seen)
+    }
+
+    /// The probe of the expression, with what some names stand for before it.
+    fn probe_with(self, names: &[&'t [u8]]) -> Result<Probe, AllocError> {
+        let scope = self.clause.scope;
+        let probe = &self.clause.probe;
+        let mut words = Words::of(self.alloc, self.script, scope.field)?;
+        for name in names {
+            words.add(name)?;
+        }
+        let front = context(
+            self.alloc,
+            self.script,
+            scope.declaration,
+            scope.field,
+            &mut words,
+        )?;
+        let front = Text::new(self.alloc).say(front.as_slice())?;
+        let behind = cut(probe.front.as_slice(), scope.known, probe.front.len());
+        Ok(Probe {
+            alloc: self.alloc,
+            kind: probe.kind,
+            front: front.say(behind)?.into_bytes(),
+            back: Vec::from_slice(self.alloc, probe.back.as_slice())?,
+        })
     }
 
     /// Adds to the text the nearest of some names or, if none is near, the first of them.
@@ -153,7 +231,55 @@ impl<'a, 't> Place<'a, 't> {
                 .say(b" stands later: only the fields before are seen")?;
             return Ok(Some(text));
         }
+        match self.closed_help(word)? {
+            Some(help) => Ok(Some(help)),
+            None => self.user_help(word, end),
+        }
+    }
+
+    /// The help for a field inside an earlier field.
+    fn closed_help(self, word: &[u8]) -> Result<Option<Text>, AllocError> {
+        let before = self.before();
+        let Some(token) = (before.first..before.end).find(|token| self.script.text(*token) == word
+            && is_field(self.script, *token)) else {
+            return Ok(None);
+        };
+        let behind = close_behind(self.script, token, before.end).saturating_add(1);
+        let text = Text::new(self.alloc);
+        if self.script.text(behind) == b";".as_slice() && behind < before.end {
+            let text = text.say(
+                b"the struct with this field has no name: write `} inner;` at its end, and `inner.",
+            )?;
+            return Ok(Some(text.show(word)?.say(b"` here")?));
+        }
+        let path = Text::new(self.alloc)
+            .say(self.script.text(behind))?
+            .say(b".")?;
+        let path = path.say(word)?.into_bytes();
+        let probe = self.probe_with(&[self.script.text(behind)])?;
+        if behind < before.end && probe.is_path(path.as_slice())? {
+            return Ok(Some(text.say(b"write ")?.quote(path.as_slice())?));
+        }
         Ok(None)
+    }
+
+    /// The help for a field of a type that uses this one. `end` is the end of this declaration.
+    fn user_help(self, word: &[u8], end: usize) -> Result<Option<Text>, AllocError> {
+        let own = self.before().first.saturating_add(1);
+        let Some(token) = (end..self.script.len()).find(|token| self.script.text(*token) == word
+            && is_field(self.script, *token)) else {
+            return Ok(None);
+        };
+        let user = last_type(self.script, token).saturating_add(1);
+        let text = Text::new(self.alloc).quote(word)?.say(b" is a field of ")?;
+        let text = text.quote(self.script.text(user))?;
+        let text = text.say(b", and a named type sees nothing outside: write `")?;
+        let head: &[u8] = if self.script.text(own.saturating_add(2)) == b"union".as_slice() {
+            b"union"
+        } else {
+            b"struct"
+        };
+        Ok(Some(text.say(head)?.say(b" { .. } x;` there in its place")?))
     }
 
     /// Whether a name is that of the field with the expression: it is before a sign of the field, or after the bound.
@@ -193,8 +319,22 @@ impl<'a, 't> Place<'a, 't> {
     }
 }
 
+/// The `}` that closes the innermost braces around a token, or `end`.
+fn close_behind(script: &Script<'_>, token: usize, end: usize) -> usize {
+    let mut depth: usize = 0;
+    for next in token..end {
+        match script.text(next) {
+            b"{" => depth = depth.saturating_add(1),
+            b"}" if depth == 0 => return next,
+            b"}" => depth = depth.saturating_sub(1),
+            _ => {}
+        }
+    }
+    end
+}
+
 /// The last `type` before a token, or the first token.
-fn last_type(script: &Script<'_>, token: usize) -> usize {
+pub fn last_type(script: &Script<'_>, token: usize) -> usize {
     for back in 0..token {
         let first = token - back;
         if script.text(first) == b"type".as_slice() {

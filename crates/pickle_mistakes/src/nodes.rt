@@ -112,8 +112,34 @@ impl<'a, 't> Node<'a, 't> {
         Ok(operands)
     }
 
+    /// Whether it is a path, which any type has.
+    pub fn is_path(self) -> bool {
+        is_path(self.expression)
+    }
+
+    /// Whether it is a number or a character.
+    pub fn is_number(self) -> bool {
+        matches!(
+            self.expression,
+            Expression::Number(_) | Expression::Character(_)
+        )
+    }
+
     /// Whether it is a text.
     pub fn is_text(self) -> bool {
         matches!(self.expression, Expression::Text(_))
+    }
+}
+
+/// Whether an expression is a path.
+fn is_path(expression: &Expression<'_>) -> bool {
+    match expression {
+        Expression::Name(_) => true,
+        Expression::Bracket(inner) => is_path(inner),
+        Expression::Index(element) => is_path(&element.operand),
+        Expression::After(after) => {
+            matches!(after.suffix, Suffix::Select(_)) && is_path(&after.operand)
+        }
+        _ => false,
     }
 }

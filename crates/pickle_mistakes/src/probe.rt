@@ -45,12 +45,13 @@ impl Probe {
         ))
     }
 
-    /// Whether a path, a number or an offset in this place has no fault.
-    pub fn is_meant(&self, expression: &[u8]) -> Result<bool, AllocError> {
-        let path = self.asked(expression, b")'size >= 0#b")?;
-        if path {
-            return Ok(true);
-        }
+    /// Whether a path in this place has no fault.
+    pub fn is_path(&self, path: &[u8]) -> Result<bool, AllocError> {
+        self.asked(path, b")'size >= 0#b")
+    }
+
+    /// Whether an integer or offset in this place has no fault.
+    pub fn is_value(&self, expression: &[u8]) -> Result<bool, AllocError> {
         let text = Text::new(self.alloc).say(expression)?.say(b") == (")?;
         let text = text.say(expression)?.say(b")")?.into_bytes();
         self.asked(text.as_slice(), b"")

@@ -4,16 +4,6 @@ use crate::probe::Probe;
 use pickle_script::text::Text;
 use std::alloc::{AllocError, Global};
 
-/// The longest start of a pickle for which the width of an integer is searched, in bytes.
-const MOST_BYTES: usize = 65_536;
-
-/// Widths in bits, the usual ones first.
-const WIDTHS: [u8; 64] = [
-    8, 16, 32, 64, 1, 2, 3, 4, 5, 6, 7, 9, 10, 11, 12, 13, 14, 15, 17, 18, 19, 20, 21, 22, 23, 24,
-    25, 26, 27, 28, 29, 30, 31, 33, 34, 35, 36, 37, 38, 39, 40, 41, 42, 43, 44, 45, 46, 47, 48, 49,
-    50, 51, 52, 53, 54, 55, 56, 57, 58, 59, 60, 61, 62, 63,
-];
-
 /// Units of offsets, the usual ones first.
 const UNITS: [&[u8]; 14] = [
     b"B", b"b", b"16", b"32", b"64", b"4", b"128", b"256", b"512", b"1024", b"2048", b"4096",
@@ -55,7 +45,18 @@ pub fn sort_of(probe: &Probe, expression: &[u8]) -> Result<Sort, AllocError> {
 
 /// Adds what an expression is to the text, as in "int<32>".
 pub fn say_sort(text: Text, probe: &Probe, expression: &[u8]) -> Result<Text, AllocError> {
-    match sort_of(probe, expression)? {
+    let sort = sort_of(probe, expression)?;
+    say_of_sort(text, probe, expression, sort)
+}
+
+/// Adds what an expression of a sort is to the text.
+pub fn say_of_sort(
+    text: Text,
+    probe: &Probe,
+    expression: &[u8],
+    sort: Sort,
+) -> Result<Text, AllocError> {
+    match sort {
         Sort::Integer => say_integer(text, probe, expression, b"an integer"),
         Sort::Offset => say_offset(text, probe, expression),
         Sort::Array => text.say(b"an array"),
@@ -112,28 +113,44 @@ fn say_integer(
     }
 }
 
-/// The type of an integer, as pickles write it. `None` if it isn't searched.
+/// The type of an integer, as pickles write it. `None` if it isn't found.
 fn integer_type(probe: &Probe, expression: &[u8]) -> Result<Option<Vec<u8>>, AllocError> {
-    if MOST_BYTES < probe.front.len() {
-        return Ok(None);
-    }
-    for width in WIDTHS {
-        let unsigned = written(probe.alloc, b"uint<", width)?;
-        if is_of_type(probe, expression, unsigned.as_slice())? {
-            return Ok(Some(unsigned));
-        }
-        let signed = written(probe.alloc, b"int<", width)?;
-        if is_of_type(probe, expression, signed.as_slice())? {
-            return Ok(Some(signed));
+    let width = width_of(probe, expression)?;
+    for opener in [b"uint<".as_slice(), b"int<".as_slice()] {
+        let found = written(probe.alloc, opener, width)?;
+        if is_of_type(probe, expression, found.as_slice())? {
+            return Ok(Some(found));
         }
     }
     Ok(None)
 }
 
-fn written(alloc: Global, opener: &[u8], width: u8) -> Result<Vec<u8>, AllocError> {
-    let text = Text::new(alloc)
-        .say(opener)?
-        .say_number(usize::from(width))?;
+/// The width of an integer, in bits.
+fn width_of(probe: &Probe, expression: &[u8]) -> Result<usize, AllocError> {
+    let mut low: usize = 1;
+    let mut high: usize = 64;
+    for _ in 0..6 {
+        let middle = low.saturating_add(high.saturating_sub(low) / 2);
+        if low < high && is_within(probe, expression, middle)? {
+            high = middle;
+        } else {
+            low = middle.saturating_add(1).min(high);
+        }
+    }
+    Ok(low)
+}
+
+/// Whether an integer has a width or a lesser one: then its sum with an unsigned integer of that width has the type of
+/// that one.
+fn is_within(probe: &Probe, expression: &[u8], width: usize) -> Result<bool, AllocError> {
+    let wide = written(probe.alloc, b"uint<", width)?;
+    let sum = Text::new(probe.alloc).say(b"(")?.say(expression)?;
+    let sum = sum.say(b") + (0 as ")?.say(wide.as_slice())?.say(b")")?;
+    is_of_type(probe, sum.into_bytes().as_slice(), wide.as_slice())
+}
+
+fn written(alloc: Global, opener: &[u8], width: usize) -> Result<Vec<u8>, AllocError> {
+    let text = Text::new(alloc).say(opener)?.say_number(width)?;
     Ok(text.say(b">")?.into_bytes())
 }
 

@@ -1,10 +1,11 @@
 //! Sentences about a token at which no pickle can go on.
 
-use crate::advice::{Around, advice};
+use crate::advice::advice;
 use crate::expected::{Expected, goes_on, say_expected};
 use crate::near::nearest;
+use crate::pattern::Around;
 use pickle_notes::note::Note;
-use pickle_script::script::{Script, cut};
+use pickle_script::script::{Part, Script, cut};
 use pickle_script::text::Text;
 use std::alloc::{AllocError, Global};
 
@@ -48,22 +49,115 @@ fn help(
     token: usize,
     expected: Expected,
 ) -> Result<Option<Vec<u8>>, AllocError> {
-    let first = opening(script, token);
+    let text = Text::new(alloc);
     let around = Around {
-        found: script.text(token),
-        before: script.text_before(token),
-        next: script.text(token.saturating_add(1)),
-        is_labelled: (first..token).any(|before| matches!(script.text(before), b"@" | b"if")),
-        opening: script.text(first),
+        script,
+        token,
+        first: opening(script, token),
     };
-    if let Some(help) = advice(around, expected) {
-        return Ok(Some(Text::new(alloc).say(help.as_bytes())?.into_bytes()));
-    }
-    if let Some(near) = near_word(alloc, script, token)? {
-        let text = Text::new(alloc).say(b"is ")?.quote(near)?.say(b" meant?")?;
+    if is_behind_comments(script, token) {
+        let text = text.say(
+            b"comments do not nest: the comment before this ends at its first `*/`",
+        )?;
         return Ok(Some(text.into_bytes()));
     }
-    missing(alloc, script, token)
+    if let Some(help) = closing_help(alloc, script, token)? {
+        return Ok(Some(help.into_bytes()));
+    }
+    if let Some(help) = advice(around, expected) {
+        return Ok(Some(around.say(text, help.as_bytes())?.into_bytes()));
+    }
+    if let Some(near) = near_word(alloc, script, token)? {
+        let text = text.say(b"is ")?.quote(near)?.say(b" meant?")?;
+        return Ok(Some(text.into_bytes()));
+    }
+    match missing(alloc, script, token)? {
+        Some(help) => Ok(Some(help)),
+        None => left_over(alloc, script, token),
+    }
+}
+
+/// Whether a token stands behind a comment with the start of another in it.
+fn is_behind_comments(script: &Script<'_>, token: usize) -> bool {
+    let from = match token.checked_sub(1) {
+        Some(before) => script.behind(before),
+        None => 0,
+    };
+    let between = cut(script.bytes, from, script.first(token));
+    let mut starts: usize = 0;
+    for at in 0..between.len() {
+        if cut(between, at, at.saturating_add(2)) == b"/*".as_slice() {
+            starts = starts.saturating_add(1);
+        }
+    }
+    1 < starts
+}
+
+/// What to write for a `>` or `>>` that is refused.
+fn closing_help(
+    alloc: Global,
+    script: &Script<'_>,
+    token: usize,
+) -> Result<Option<Text>, AllocError> {
+    let front = cut(script.bytes, 0, script.first(token));
+    let (unit, first): (&[u8], &[u8]) = match script.text(token) {
+        b">" => (b", B >", b""),
+        b">>" => (b">, B >", b">"),
+        _ => return Ok(None),
+    };
+    if goes_on(alloc, front, unit)? {
+        let text = Text::new(alloc).say(b"an offset has a unit: write `")?;
+        let text = text.show(script.slice(offset_before(script, token)))?;
+        return Ok(Some(text.say(first)?.say(b",B>`")?));
+    }
+    let parted = Text::new(alloc).say(b"> > ")?;
+    let parted = parted
+        .say(script.text(token.saturating_add(1)))?
+        .into_bytes();
+    if first.is_empty() || !goes_on(alloc, front, parted.as_slice())? {
+        return Ok(None);
+    }
+    Ok(Some(Text::new(alloc).say(b"part the two `>` by a blank")?))
+}
+
+/// The tokens from the last `offset<` before a token on.
+fn offset_before(script: &Script<'_>, token: usize) -> Part {
+    let back = (0..token)
+        .find(|back| script.text_before(token.saturating_sub(*back)) == b"offset<".as_slice())
+        .unwrap_or(0);
+    Part {
+        first: token.saturating_sub(back).saturating_sub(1),
+        end: token,
+    }
+}
+
+/// The help for a sign without which the pickle goes on.
+fn left_over(
+    alloc: Global,
+    script: &Script<'_>,
+    token: usize,
+) -> Result<Option<Vec<u8>>, AllocError> {
+    let found = script.text(token);
+    let less: &[u8] = match found {
+        b"}" | b")" | b"]" | b">" | b";" => b"",
+        b">>" => b"> ",
+        _ => return Ok(None),
+    };
+    let front = cut(script.bytes, 0, script.first(token));
+    let text = Text::new(alloc)
+        .say(less)?
+        .say(script.text(token.saturating_add(1)))?
+        .into_bytes();
+    if !goes_on(alloc, front, text.as_slice())? {
+        return Ok(None);
+    }
+    let text = Text::new(alloc).say(b"leave out ")?;
+    let text = if less.is_empty() {
+        text.say(b"this ")?.quote(found)?
+    } else {
+        text.say(b"one `>`")?
+    };
+    Ok(Some(text.into_bytes()))
 }
 
 /// The first token of the declaration or field that a token is in.
@@ -136,12 +230,13 @@ fn missing(
         return Ok(None);
     };
     let between = cut(script.bytes, script.behind(before), script.first(token));
-    let closing = matches!(script.text(token), b"}" | b";" | b"{" | b")" | b"");
+    let found = script.text(token);
+    let closing = matches!(found, b"}" | b";" | b"{" | b")" | b"type" | b"");
     if !between.contains(&b'\n') && !closing {
         return Ok(None);
     }
     let front = cut(script.bytes, 0, script.first(token));
-    match missing_sign(alloc, front)? {
+    match missing_sign(alloc, front, found)? {
         Some(sign) => {
             let text = Text::new(alloc)
                 .say(b"is a ")?
@@ -154,10 +249,15 @@ fn missing(
     }
 }
 
-/// The closing sign that may be after the start of a pickle.
-fn missing_sign(alloc: Global, front: &[u8]) -> Result<Option<&'static [u8]>, AllocError> {
+/// The closing sign that may be after the start of a pickle, and before a token.
+fn missing_sign(
+    alloc: Global,
+    front: &[u8],
+    found: &[u8],
+) -> Result<Option<&'static [u8]>, AllocError> {
     for sign in CLOSING {
-        if goes_on(alloc, front, sign)? {
+        let text = Text::new(alloc).say(sign)?.say(b" ")?.say(found)?;
+        if goes_on(alloc, front, text.into_bytes().as_slice())? {
             return Ok(Some(sign));
         }
     }

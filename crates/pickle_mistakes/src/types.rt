@@ -1,11 +1,14 @@
 //! Sentences about types that the type checker refuses.
 
 use crate::clause::{Finding, clause_finding};
+use crate::context::{brace_around, integral_brace};
+use crate::foreign::of_foreign;
+use crate::names::last_type;
 use crate::near::nearest;
 use crate::probe::Probe;
 use crate::search::{Located, locate};
 use pickle_notes::note::Note;
-use pickle_script::anatomy::{FieldParts, declaration};
+use pickle_script::anatomy::{FieldParts, base, declaration, opening_brace};
 use pickle_script::place::place_behind;
 use pickle_script::script::{Part, Script, cut};
 use pickle_script::text::Text;
@@ -47,17 +50,7 @@ fn finding(
     if kind == FaultKind::DuplicateType {
         return declared_twice(alloc, script, name);
     }
-    let form = Part {
-        first: whole.first.saturating_add(3),
-        end: whole.end,
-    };
-    let probe = Probe {
-        alloc,
-        kind,
-        front: Vec::from_slice(alloc, cut(script.bytes, 0, script.first(form.first)))?,
-        back: Vec::from_slice(alloc, b";")?,
-    };
-    match locate(script, form, probe)? {
+    match locate(alloc, script, kind, whole)? {
         Located::Body(form, probe) => of_body(alloc, script, name, form, &probe),
         Located::Base(base, probe) => of_base(alloc, script, base, &probe),
         Located::Field(parts, probe) => of_field(alloc, script, &parts, &probe),
@@ -272,6 +265,12 @@ pub fn unknown_type(alloc: Global, script: &Script<'_>, name: Part) -> Result<Fi
     known.extend_from_slice(PREDECLARED.as_slice())?;
     let later = (name.end..script.len()).find(|token| is_declared_as(script, *token, word));
     let help = match (of_foreign(word), later) {
+        _ if script.text_before(name.first) == b"struct".as_slice() => {
+            Some(Text::new(alloc).say(NAMELESS.as_bytes())?)
+        }
+        _ if is_type_behind(script, name, known.as_slice()) => {
+            Some(turned_round(alloc, script, name)?)
+        }
         (Some(help), _) => Some(Text::new(alloc).say(help.as_bytes())?),
         (None, Some(token)) => {
             let text = Text::new(alloc).say(b"it is declared in line ")?;
@@ -288,6 +287,34 @@ pub fn unknown_type(alloc: Global, script: &Script<'_>, name: Part) -> Result<Fi
             None => None,
         },
     })
+}
+
+/// What to write for a struct with a name before its brace.
+const NAMELESS: &str =
+    "write `struct { .. }`, without the name: a field's name stands behind the brace, as `struct { .. } x;`";
+
+/// The first token behind a name, or behind a `:` that follows it.
+fn token_behind(script: &Script<'_>, name: Part) -> usize {
+    if script.text(name.end) == b":".as_slice() {
+        name.end.saturating_add(1)
+    } else {
+        name.end
+    }
+}
+
+/// Whether a type stands behind a name, where the name of a field would.
+fn is_type_behind(script: &Script<'_>, name: Part, known: &[&[u8]]) -> bool {
+    let behind = token_behind(script, name);
+    let ends = script.text(behind.saturating_add(1)) == b";".as_slice();
+    ends && known.contains(&script.text(behind))
+}
+
+/// The help for a field with its name before its type.
+fn turned_round(alloc: Global, script: &Script<'_>, name: Part) -> Result<Text, AllocError> {
+    let form = script.text(token_behind(script, name));
+    let text = Text::new(alloc).say(b"the type stands before the name: write `")?;
+    let text = text.show(form)?.say(b" ")?.show(script.slice(name))?;
+    text.say(b";`")
 }
 
 fn near_type(
@@ -331,35 +358,6 @@ const PREDECLARED: [&[u8]; 18] = [
     b"int8", b"int16", b"int32", b"int64", b"uint8", b"uint16", b"uint32", b"uint64",
 ];
 
-/// The advice for a type of GNU poke, C or another language.
-fn of_foreign(word: &[u8]) -> Option<&'static str> {
-    match word {
-        b"any" | b"void" => Some(
-            "it is left out, and nothing stands for it: write `byte[n]` for bytes of any meaning",
-        ),
-        b"float" | b"double" => Some(
-            "there are no floating point numbers: write `uint<32>` or `uint<64>` for their bits",
-        ),
-        b"bool" | b"boolean" => Some("write an integer, as `byte` or `uint<1>`"),
-        b"uint8_t" | b"u8" | b"u1" | b"BYTE" | b"UBYTE" | b"uchar" => Some(
-            "write `uint<8>` or `byte`",
-        ),
-        b"uint16_t" | b"u16" | b"u2" | b"WORD" | b"USHORT" => Some("write `uint<16>`"),
-        b"uint32_t" | b"u32" | b"u4" | b"DWORD" => Some("write `uint<32>`"),
-        b"uint64_t" | b"u64" | b"QWORD" => Some("write `uint<64>`"),
-        b"int8_t" | b"i8" | b"s8" | b"s1" => Some("write `int<8>`"),
-        b"int16_t" | b"i16" | b"s16" | b"s2" => Some("write `int<16>`"),
-        b"int32_t" | b"i32" | b"s32" | b"s4" => Some("write `int<32>`"),
-        b"int64_t" | b"i64" | b"s64" | b"s8_t" => Some("write `int<64>`"),
-        b"u16le" | b"u2le" | b"le16" => Some("write `little uint<16>`"),
-        b"u32le" | b"u4le" | b"le32" => Some("write `little uint<32>`"),
-        b"u16be" | b"u2be" | b"be16" => Some("write `big uint<16>`"),
-        b"u32be" | b"u4be" | b"be32" => Some("write `big uint<32>`"),
-        b"str" | b"strz" | b"stringz" => Some("write `string` for bytes up to a 0, or `char[n]`"),
-        _ => None,
-    }
-}
-
 /// What is wrong with a field as a whole.
 fn of_field(
     alloc: Global,
@@ -384,11 +382,103 @@ fn of_field(
         FaultKind::NotHere => misplaced(script, parts, probe)?,
         kind => (parts.whole, rule_of(kind)),
     };
+    let help = match probe.kind {
+        FaultKind::NotHere => misplaced_help(alloc, script, parts, part)?,
+        _ => None,
+    };
     Ok(Finding {
         part,
         sentence: Text::new(alloc).say(sentence.as_bytes())?.into_bytes(),
-        help: None,
+        help: match help {
+            Some(help) => Some(help.into_bytes()),
+            None => None,
+        },
     })
+}
+
+/// What to write instead of a part of a field that may not be there.
+fn misplaced_help(
+    alloc: Global,
+    script: &Script<'_>,
+    parts: &FieldParts,
+    part: Part,
+) -> Result<Option<Text>, AllocError> {
+    let text = Text::new(alloc);
+    let help = if part == parts.order {
+        order_help(text, script, parts)?
+    } else if part == parts.condition && is_in_union(script, parts.whole.first) {
+        condition_help(text, script, parts)?
+    } else if part == parts.condition {
+        text.say(b"leave it out: an integral struct has all of its fields")?
+    } else if part == parts.label {
+        text.say(b"leave it out, or write a `struct`, whose fields have labels")?
+    } else {
+        return Ok(None);
+    };
+    Ok(Some(help))
+}
+
+/// The help for a byte order where none may be.
+fn order_help(text: Text, script: &Script<'_>, parts: &FieldParts) -> Result<Text, AllocError> {
+    let order = script.slice(parts.order);
+    let base = base(script, parts.form);
+    if let Some(brace) = integral_brace(script, parts.whole.first) {
+        return integral_order_help(text, script, order, brace);
+    }
+    if script.text(parts.form.first) == b"string".as_slice() {
+        return text.say(b"leave it out: the bytes of a string have no order");
+    }
+    if base.end < parts.form.end && opening_brace(script, base).is_none() {
+        let text = text.say(b"write `struct { ")?.show(order)?.say(b" ")?;
+        let text = text.show(script.slice(base))?.say(b" x; }")?;
+        let suffix = Part {
+            first: base.end,
+            end: parts.name.end,
+        };
+        return text.show(script.slice(suffix))?.say(b";`");
+    }
+    text.say(b"write it before the fields inside")
+}
+
+/// The help for an alternative with a condition.
+fn condition_help(text: Text, script: &Script<'_>, parts: &FieldParts) -> Result<Text, AllocError> {
+    let named = Part {
+        first: parts.whole.first,
+        end: parts.name.end,
+    };
+    let text = text.say(b"write it as a constraint: `")?;
+    let text = text.show(script.slice(named))?.say(b" : ")?;
+    let text = if parts.constraint.first < parts.constraint.end {
+        let text = text.say(b"(")?.show(script.slice(parts.constraint))?;
+        let text = text.say(b") && (")?.show(script.slice(parts.condition))?;
+        text.say(b")")?
+    } else {
+        text.show(script.slice(parts.condition))?
+    };
+    text.say(b";`")
+}
+
+/// Whether the innermost braces around a token are those of a union.
+fn is_in_union(script: &Script<'_>, token: usize) -> bool {
+    match brace_around(script, token) {
+        Some(brace) => script.text_before(brace) == b"union".as_slice(),
+        None => false,
+    }
+}
+
+/// The help for a byte order inside an integral struct with its `{` at `brace`.
+fn integral_order_help(
+    text: Text,
+    script: &Script<'_>,
+    order: &[u8],
+    brace: usize,
+) -> Result<Text, AllocError> {
+    if brace_around(script, brace).is_some() {
+        return text.say(b"leave it out here, and write it before the `struct` around it");
+    }
+    let name = script.text(last_type(script, brace).saturating_add(1));
+    let text = text.say(b"leave it out here, and write it where the type is used, as `")?;
+    text.show(order)?.say(b" ")?.show(name)?.say(b" x;`")
 }
 
 /// What may not be in a field. The type checker is asked about the field without it.
@@ -417,7 +507,7 @@ fn misplaced(
     if parts.order.first < parts.order.end && probe.fails(script.slice(ordered))? {
         return Ok((
             parts.order,
-            "`big` and `little` stand only before integers, offsets and integral structs, and not inside an integral struct: write them before the fields inside",
+            "`big` and `little` stand only before integers, offsets and integral structs, and not inside an integral struct",
         ));
     }
     if parts.label.first < parts.label.end {

@@ -1,0 +1,140 @@
+//! Tokens in a row at which no pickle can go on, and sentences that have these tokens in them.
+
+use pickle_script::script::{Part, Script, cut};
+use pickle_script::text::Text;
+use std::alloc::AllocError;
+
+/// The most bytes of a part of a pickle that a sentence has.
+const MOST_SHOWN: usize = 64;
+
+/// Tokens in a row, and what to write instead of them.
+#[derive(Clone, Copy)]
+pub struct Pattern {
+    /// Two tokens before the refused one, the refused one, and three behind it. An empty one is any token. A word in
+    /// capitals is any token of a kind: `NAME`, `NUMBER`, `INTEGER`, `ORDER`, `RESERVED`, `OPEN`, `APART`.
+    pub tokens: [&'static [u8]; 6],
+    /// The sentence. `$` and a digit stand for a part of the pickle: `$1` to `$6` for the six tokens, `$7` for the one
+    /// behind them, `$0` for the second of the declaration or field. `$8` is the declaration or field up to the refused
+    /// token, and `$9` its end from that token on.
+    pub help: &'static str,
+}
+
+/// A token that is refused, in its pickle.
+#[derive(Clone, Copy)]
+pub struct Around<'a, 't> {
+    pub script: &'a Script<'t>,
+    pub token: usize,
+    /// The first token of the declaration or field that it is in.
+    pub first: usize,
+}
+
+impl<'a, 't> Around<'a, 't> {
+    /// The token that is refused, as the pickle has it. Empty at the pickle's end.
+    pub fn found(self) -> &'t [u8] {
+        self.script.text(self.token)
+    }
+
+    /// The first token of the declaration or field that it is in.
+    pub fn opening(self) -> &'t [u8] {
+        self.script.text(self.first)
+    }
+
+    /// The sentence of the first pattern that fits.
+    pub fn find(self, patterns: &[Pattern]) -> Option<&'static str> {
+        for pattern in patterns {
+            if self.fits(pattern) {
+                return Some(pattern.help);
+            }
+        }
+        None
+    }
+
+    fn fits(self, pattern: &Pattern) -> bool {
+        for (place, word) in pattern.tokens.iter().enumerate() {
+            if !self.is_like(place, word) {
+                return false;
+            }
+        }
+        true
+    }
+
+    /// Whether the token at a place of a pattern is like the pattern's word.
+    fn is_like(self, place: usize, word: &[u8]) -> bool {
+        if word.is_empty() {
+            return true;
+        }
+        let Some(token) = self.token.saturating_add(place).checked_sub(2) else {
+            return false;
+        };
+        let text = self.script.text(token);
+        match word {
+            b"NAME" => self.script.is_name(token),
+            b"NUMBER" => self.script.is_number(token),
+            b"INTEGER" => matches!(text, b"int<" | b"uint<"),
+            b"ORDER" => matches!(text, b"big" | b"little"),
+            b"RESERVED" => is_reserved(text),
+            b"OPEN" => matches!(text, b"{" | b";"),
+            b"APART" => text != b".".as_slice(),
+            word => text == word,
+        }
+    }
+
+    /// Adds the sentence of a pattern to the text.
+    pub fn say(self, text: Text, help: &[u8]) -> Result<Text, AllocError> {
+        let mut text = text;
+        let mut is_part = false;
+        for byte in help {
+            text = match *byte {
+                digit if is_part => say_part(text, self.part(digit))?,
+                b'$' => text,
+                byte => text.say(&[byte])?,
+            };
+            is_part = *byte == b'$' && !is_part;
+        }
+        Ok(text)
+    }
+
+    /// The part of the pickle for which a digit stands in a sentence.
+    fn part(self, digit: u8) -> &'t [u8] {
+        let part = match digit {
+            b'0' => Part::single(self.first.saturating_add(1)),
+            b'8' => Part {
+                first: self.first,
+                end: self.token,
+            },
+            b'9' => Part {
+                first: self.token,
+                end: field_end(self.script, self.token),
+            },
+            digit => Part::single(
+                self.token
+                    .saturating_add(usize::from(digit.saturating_sub(b'0')))
+                    .saturating_sub(3),
+            ),
+        };
+        self.script.slice(part)
+    }
+}
+
+/// The first `;` from a token on, or the end.
+fn field_end(script: &Script<'_>, token: usize) -> usize {
+    (token..script.len())
+        .find(|next| script.text(*next) == b";".as_slice())
+        .unwrap_or(script.len())
+}
+
+/// Adds a part of a pickle to the text, at most 64 bytes of it.
+fn say_part(text: Text, part: &[u8]) -> Result<Text, AllocError> {
+    if part.len() <= MOST_SHOWN {
+        return text.show(part);
+    }
+    text.show(cut(part, 0, MOST_SHOWN))?.say(b"..")
+}
+
+/// Whether a token is a reserved word other than `type`.
+pub fn is_reserved(text: &[u8]) -> bool {
+    matches!(
+        text,
+        b"struct" | b"union" | b"pinned" | b"big" | b"little" | b"if" | b"as" | b"string"
+    )
+}
