@@ -1,5 +1,6 @@
 -- What is printed about why a mapping stops.
-use Rattle.std.specs.Prelude.{◌≡◌, ℕ, List, [], ◌++◌, Option, Some, Result, Vec, IfOk, IfSome, codes}
+use Rattle.std.specs.Prelude.{◌≡◌, ℕ, List, [], ◌++◌, Option, Some, Result, Vec, IfOk, IfSome, codes, eqb, true}
+use Rattle.std.specs.List.{starts_with}
 use Rattle.std.specs.declared.alloc.Global.{Global}
 use Rattle.bit_space.specs.SpaceView.{SpaceView}
 use Rattle.pickle_types.specs.Types.{PokeType}
@@ -30,17 +31,29 @@ pub data TellsArray (type : PokeType) : List ℕ → Type 0 where
   tells_array : {places path text : List ℕ} {part : PokeType} (rest : List ℕ) → IsWayTo type places path part
       → text ≡ codes "  " ++ (path ++ (codes " ended after " ++ rest)) → TellsArray type text
 
--- lines on arrays that ended early, and how many more did
+-- how arrays end whose next element begins otherwise
+abbrev pub planned_ending : List ℕ
+planned_ending = codes " ended where the next element's first number doesn't match\n"
+
+-- lines on arrays that ended early, how many more did, and how many ended where the next element begins otherwise
 pub data TellsArrays (type : PokeType) : List ℕ → Type 0 where
   no_more : TellsArrays type []
   one_more : {lines line : List ℕ} → TellsArrays type lines → TellsArray type line → TellsArrays type (lines ++ line)
   uncounted : {lines : List ℕ} (count : List ℕ) → TellsArrays type lines
       → TellsArrays type (lines ++ (codes "  " ++ (count ++ codes " ended early before these\n")))
+  planned : {lines : List ℕ} (count : List ℕ) → TellsArrays type lines → TellsArrays type (lines ++ (codes "  " ++ (count ++ planned_ending)))
 
 -- for a run that ended with NoSuchPart, how far the path to the requested part leads; or nothing
 pub data TellsMissing (part : Option Path) (line : List ℕ) : List ℕ → Type 0 where
   none_missing : TellsMissing part line []
   tells_missing : {path : Path} (missing : List ℕ) → part ≡ Some path → line ≡ fault_line (codes "NoSuchPart") → TellsMissing part line missing
+
+-- for a run whose value fails to meet a term, a line on that term; or nothing
+pub data TellsTerm (part : Option Path) (line : List ℕ) : List ℕ → Type 0 where
+  untold : TellsTerm part line []
+  tells_part : {text : List ℕ} → TellsMissing part line text → TellsTerm part line text
+  tells_left : {text : List ℕ} → starts_with eqb line (codes "fault Left ") ≡ true → TellsTerm part line text
+  tells_output : {text : List ℕ} → starts_with eqb line (codes "fault Output ") ≡ true → TellsTerm part line text
 
 -- a finished run: the file, what the run was given, its terms, and the line with which it ended
 pub record Run : Type 0 where
@@ -59,14 +72,14 @@ pub data TellsFault (run : Run) (type : PokeType) (fault : MapFault) : List ℕ 
   tells_fault : {places text : List ℕ} → IsFaultAt run.space type run.ask fault places → TellsPart type places text → TellsFault run type fault text
 
 -- What is printed about a run that ended with a line, or with none: for a fault the part and the arrays, for a value
--- the arrays. The line is that of the fault which the type has on the file's bits.
+-- the term that it fails to meet, if any, and the arrays. The line is that of the fault which the type has on the file's bits.
 pub data TellsWhy (run : Run) (type : PokeType) : List ℕ → Type 0 where
   nothing : TellsWhy run type []
   of_fault : {fault : MapFault} {part arrays : List ℕ} → HasFault run.space type run.ask fault
       → end_saying run.terms.most_slots run.ask.start fault.kind fault.at ≡ Line Faulty run.line
       → TellsFault run type fault part → TellsArrays type arrays → TellsWhy run type (part ++ arrays)
-  of_value : {missing arrays : List ℕ} → HasValue run.space type run.ask
-      → TellsMissing run.terms.part run.line missing → TellsArrays type arrays → TellsWhy run type (missing ++ arrays)
+  of_value : {term arrays : List ℕ} → HasValue run.space type run.ask
+      → TellsTerm run.terms.part run.line term → TellsArrays type arrays → TellsWhy run type (term ++ arrays)
 
 -- the text is about a run's fault, if the stored part has it
 abbrev pub TellsOfPart : {E : Type 0} → PokeType → Option Fault → Result Text E → Type 0

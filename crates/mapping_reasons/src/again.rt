@@ -6,7 +6,8 @@ ghost use Rattle.pickle_types.specs.TypeTable.{IsInTable, type_named};
 ghost use Rattle.mapping_reasons.specs.Found.{KeepsPart};
 ghost use Rattle.mapping_reasons.specs.Meant.{HasFault, HasValue};
 
-use crate::cause::{Ended, Fault};
+use crate::cause::Fault;
+use crate::endings::Endings;
 use crate::part::part_with;
 use crate::watcher::Told;
 use bit_space::{Meter, Space};
@@ -21,10 +22,10 @@ use std::alloc::{AllocError, Global};
 pub struct Kept {
     /// The part with the fault that ended the mapping, if it is known.
     pub fault: Option<Fault>,
-    /// The last arrays that ended early.
-    pub ended: Vec<Ended>,
-    /// How many arrays ended early.
-    pub ended_count: usize,
+    /// The arrays that ended inside an element.
+    pub broken: Endings,
+    /// The arrays whose next element begins otherwise.
+    pub planned: Endings,
 }
 
 /// How a mapping ended, and what the watcher stored of it.
@@ -50,15 +51,15 @@ pub fn map_again<S: Space>(
     ensures keeps { Keeps (S.view space.old) (S.view space.new) }
 {
     store.clear();
-    let mut told = Told::new(alloc);
+    let mut told = Told::new(alloc, table.nodes());
     let mut meter = Meter::new(ask.limit);
     let end = map_watched(
         table, id, ask.order, ask.start, space, &mut meter, store, &mut told,
     );
     let Kept {
         fault,
-        ended,
-        ended_count,
+        broken,
+        planned,
     } = told.into_kept()?;
     let fault = match &end {
         Ok(()) => None,
@@ -68,8 +69,8 @@ pub fn map_again<S: Space>(
         end,
         kept: Kept {
             fault,
-            ended,
-            ended_count,
+            broken,
+            planned,
         },
     })
 }

@@ -3,10 +3,11 @@
 ghost use Rattle.pickle_types.specs.Sound.{IsSoundTerm};
 ghost use Rattle.pickle_types.specs.Table.{term_of};
 
-use crate::cause::Blamed;
-use crate::flat::{say_known, say_number};
+use crate::cause::{Blamed, Lead, Said};
+use crate::flat::{Base, say_known, say_number};
 use crate::names::named_values;
 use crate::seen::Seen;
+use crate::way::Way;
 use pickle_map::MapFaultKind;
 use pickle_map::known::Known;
 use pickle_map::mapper::stop::Stop;
@@ -29,9 +30,54 @@ pub fn blamed(
     };
     Ok(Some(Blamed {
         clause,
+        decimal: said(seen.in_base(Base::Ten), e, kind)?,
+        hexadecimal: said(seen.in_base(Base::Sixteen), e, kind)?,
+    }))
+}
+
+/// What is wrong with an expression, and the values of its names.
+fn said(seen: Seen<'_>, e: &Resolved, kind: MapFaultKind) -> Result<Said, AllocError>
+    requires { IsSoundTerm (term_of e.now) }
+{
+    Ok(Said {
         wrong: wrong(seen, e, kind)?.into_bytes(),
         names: named_values(seen, e)?,
+    })
+}
+
+/// A bound or a label on the way to a part, with its value. `None` if it has no value, or no names that have any.
+pub fn lead(
+    seen: Seen<'_>,
+    clause: Clause,
+    e: &Resolved,
+    way: Way,
+    start: u128,
+) -> Result<Option<Lead>, AllocError>
+    requires { IsSoundTerm (term_of e.now) }
+{
+    let decimal = valued(seen.in_base(Base::Ten), e)?;
+    if decimal.names.is_empty() || seen.known(e).is_none() {
+        return Ok(None);
+    }
+    Ok(Some(Lead {
+        way,
+        start,
+        value: Blamed {
+            clause,
+            decimal,
+            hexadecimal: valued(seen.in_base(Base::Sixteen), e)?,
+        },
     }))
+}
+
+/// The value of an expression, and those of its names.
+fn valued(seen: Seen<'_>, e: &Resolved) -> Result<Said, AllocError>
+    requires { IsSoundTerm (term_of e.now) }
+{
+    Ok(Said {
+        wrong: say_value(seen, Text::new(seen.alloc), e)?.into_bytes(),
+        names: named_values(seen, e)?,
+    })
 }
 
 /// What is wrong with an expression, such as `is 0`.
@@ -55,7 +101,7 @@ fn say_value(seen: Seen<'_>, text: Text, e: &Resolved) -> Result<Text, AllocErro
     requires { IsSoundTerm (term_of e.now) }
 {
     match seen.known(e) {
-        Some(known) => say_known(seen.alloc, text.say(b"is ")?, known),
+        Some(known) => say_known(seen.alloc, text.say(b"is ")?, known, seen.base),
         None => text.say(b"has no value"),
     }
 }

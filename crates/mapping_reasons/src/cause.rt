@@ -1,6 +1,7 @@
 //! What failed where a mapping stopped.
 
 use crate::way::Way;
+use bit_space::Order;
 use pickle_map::MapFault;
 use pickle_map::extent::Extent;
 use pickle_map::mapper::stop::Stop;
@@ -14,17 +15,69 @@ pub struct Fault {
     pub way: Way,
     pub stop: Stop,
     pub cause: Cause,
+    pub around: Around,
 }
 
 impl Fault {
-    /// A fault of the type itself, for a walk that went into no part.
-    pub fn of_type(alloc: Global, fault: MapFault) -> Fault {
+    /// A part with a fault, with nothing known of what is around it.
+    pub fn new(alloc: Global, way: Way, stop: Stop, cause: Cause) -> Fault {
         Fault {
-            way: Way::new(alloc),
-            stop: Stop::Fault(fault.kind, fault.at),
-            cause: Cause::Plain,
+            way,
+            stop,
+            cause,
+            around: Around::new(alloc),
         }
     }
+
+    /// What failed.
+    pub fn into_cause(self) -> Cause {
+        let Fault {
+            way: _,
+            stop: _,
+            cause,
+            around: _,
+        } = self;
+        cause
+    }
+
+    /// A fault of the type itself, for a walk that went into no part.
+    pub fn of_type(alloc: Global, fault: MapFault) -> Fault {
+        let stop = Stop::Fault(fault.kind, fault.at);
+        Fault::new(alloc, Way::new(alloc), stop, Cause::Plain)
+    }
+}
+
+/// What is around a part with a fault.
+#[derive(Drop)]
+pub struct Around {
+    /// The last bounds and labels on the way to the part, the outermost first.
+    pub leads: Vec<Lead>,
+    /// The last fields in front of the part, each with its value, such as `n=2UB`.
+    pub front: Vec<Vec<u8>>,
+    /// The byte order in which the part's constraint would hold, if that is the other one.
+    pub fits: Option<Order>,
+}
+
+impl Around {
+    /// Nothing.
+    pub fn new(alloc: Global) -> Around {
+        Around {
+            leads: Vec::new(alloc),
+            front: Vec::new(alloc),
+            fits: None,
+        }
+    }
+}
+
+/// A bound or a label on the way to a part.
+#[derive(Drop)]
+pub struct Lead {
+    /// The path to the array or field that has it.
+    pub way: Way,
+    /// The bit from which it counts.
+    pub start: u128,
+    /// Its value.
+    pub value: Blamed,
 }
 
 /// What failed.
@@ -44,6 +97,14 @@ pub enum Cause {
 #[derive(Drop)]
 pub struct Blamed {
     pub clause: Clause,
+    /// What is printed of it in base ten, and in base sixteen.
+    pub decimal: Said,
+    pub hexadecimal: Said,
+}
+
+/// What is printed of an expression.
+#[derive(Drop)]
+pub struct Said {
     /// What is wrong with it, such as `is 0`.
     pub wrong: Vec<u8>,
     /// The names in it that have values, each with its value, such as `n=2UB`.
@@ -71,6 +132,8 @@ pub struct Miss {
     /// The path to the part with the fault.
     pub way: Way,
     pub stop: Stop,
+    /// The expression that isn't met, if it was looked at.
+    pub blamed: Option<Blamed>,
 }
 
 /// An array without a bound that a fault of an element ended.

@@ -1,8 +1,8 @@
 //! Values printed on one line, cut if that is long.
 
 use itoa::Buffer;
-use pickle_map::ValueRef;
 use pickle_map::known::Known;
+use pickle_map::{Kind, ValueRef};
 use pickle_script::script::cut;
 use pickle_script::text::Text;
 use pickle_types::integer::IntegerType;
@@ -18,6 +18,15 @@ const MOST_SHOWN: usize = 60;
 
 /// How many bytes of a printed value are stored: one more than are printed, and the line feed.
 const ROOM: usize = MOST_SHOWN + 2;
+
+/// The base in which numbers are printed.
+#[derive(Clone, Copy, Debug, PartialEq, Eq)]
+pub enum Base {
+    Ten,
+    /// Sixteen, with as many digits as the number's type has. A negative number is printed in base ten, and so is one
+    /// of `int<8>`, whose suffix is a hexadecimal digit.
+    Sixteen,
+}
 
 /// The first bytes of a text.
 #[derive(Drop)]
@@ -39,17 +48,43 @@ impl Write for Front {
 }
 
 /// Adds the value of an expression to the text, on one line. A long value is cut, with `..` after it.
-pub fn say_known(alloc: Global, text: Text, known: Known<'_>) -> Result<Text, AllocError> {
+pub fn say_known(
+    alloc: Global,
+    text: Text,
+    known: Known<'_>,
+    base: Base,
+) -> Result<Text, AllocError> {
     match known {
-        Known::Integer(number, of) => say_integer(text, of, number),
-        Known::Offset(magnitude, of, unit) => say_offset(text, of, unit, magnitude),
+        Known::Integer(number, of) => say_integer(alloc, text, of, number, base),
+        Known::Offset(magnitude, of, unit) => say_offset(alloc, text, of, unit, magnitude, base),
         Known::Text(_) => text.say(b".."),
-        Known::Value(value) => say_value(alloc, text, value),
+        Known::Value(value) => match (base, value.kind()) {
+            (Base::Sixteen, Kind::Integer) => {
+                say_integer(alloc, text, type_of(value), value.number(), base)
+            }
+            (Base::Sixteen, Kind::Offset) => say_offset(
+                alloc,
+                text,
+                type_of(value),
+                value.unit(),
+                value.number(),
+                base,
+            ),
+            _ => say_value(alloc, text, value),
+        },
     }
 }
 
-/// Adds a printed value to the text.
-fn say_value(alloc: Global, text: Text, value: ValueRef<'_>) -> Result<Text, AllocError> {
+/// The type of an integer, or of an offset's magnitude.
+fn type_of(value: ValueRef<'_>) -> IntegerType {
+    IntegerType {
+        width: value.width(),
+        signed: value.signed(),
+    }
+}
+
+/// Adds a printed value to the text, on one line. A long value is cut, with `..` after it.
+pub fn say_value(alloc: Global, text: Text, value: ValueRef<'_>) -> Result<Text, AllocError> {
     let mut front = Front {
         bytes: Vec::new(alloc),
     };
@@ -69,28 +104,67 @@ fn say_value(alloc: Global, text: Text, value: ValueRef<'_>) -> Result<Text, All
 }
 
 /// Adds a number to the text, as values of its type are printed.
-fn say_integer(text: Text, of: IntegerType, number: i128) -> Result<Text, AllocError> {
+fn say_integer(
+    alloc: Global,
+    text: Text,
+    of: IntegerType,
+    number: i128,
+    base: Base,
+) -> Result<Text, AllocError> {
     match suffix_of(of) {
-        Some(suffix) => say_suffix(say_number(text, number)?, suffix),
+        Some(suffix) => say_suffix(say_digits(alloc, text, of, number, base)?, suffix),
         None => {
             let word: &[u8] = if of.signed { b"(int<" } else { b"(uint<" };
             let text = text
                 .say(word)?
                 .say_number(usize::from(of.width))?
                 .say(b">) ")?;
-            say_number(text, number)
+            say_digits(alloc, text, of, number, base)
         }
     }
 }
 
 /// Adds an offset to the text, as values of its type are printed.
-fn say_offset(text: Text, of: IntegerType, unit: u32, magnitude: i128) -> Result<Text, AllocError> {
-    let text = say_integer(text, of, magnitude)?.say(b"#")?;
+fn say_offset(
+    alloc: Global,
+    text: Text,
+    of: IntegerType,
+    unit: u32,
+    magnitude: i128,
+    base: Base,
+) -> Result<Text, AllocError> {
+    let text = say_integer(alloc, text, of, magnitude, base)?.say(b"#")?;
     match unit {
         1 => text.say(b"b"),
         8 => text.say(b"B"),
         _ => text.say_number(unit as usize),
     }
+}
+
+/// Adds the digits of a number to the text.
+fn say_digits(
+    alloc: Global,
+    text: Text,
+    of: IntegerType,
+    number: i128,
+    base: Base,
+) -> Result<Text, AllocError> {
+    let is_signed_byte = of.signed && of.width == 8;
+    match (base, u64::try_from(number)) {
+        (Base::Sixteen, Ok(number)) if !is_signed_byte => say_hex(alloc, text, of.width, number),
+        _ => say_number(text, number),
+    }
+}
+
+/// Adds the hexadecimal digits of a number to the text, as many as its type has.
+fn say_hex(alloc: Global, text: Text, width: u8, number: u64) -> Result<Text, AllocError> {
+    let digits = format!(in alloc; "{number:x}")?;
+    let count = usize::from(width).div_ceil(4);
+    let mut text = text.say(b"0x")?;
+    for _ in digits.len()..count {
+        text = text.say(b"0")?;
+    }
+    text.say(digits.as_bytes())
 }
 
 /// Adds the decimal digits of a number to the text.

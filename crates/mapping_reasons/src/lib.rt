@@ -13,15 +13,21 @@ ghost use Rattle.mapping_reasons.specs.Found.{scene_type};
 ghost use Rattle.mapping_reasons.specs.Why.{run_of, ExplainsRun, TellsOfFault, TellsOfPart, TellsOfValue, TellsWhy};
 
 mod again;
+mod approach;
 mod blame;
 mod cause;
+mod endings;
 mod flat;
+mod front;
 mod lines;
 mod missing;
 mod names;
+mod other;
 mod part;
+mod place;
 mod scene;
 mod seen;
+mod term;
 mod trail;
 mod watcher;
 mod way;
@@ -29,10 +35,10 @@ mod way;
 use crate::again::{Again, Kept, map_again};
 use crate::cause::Fault;
 use crate::lines::{arrays_text, fault_text};
-use crate::missing::missing_text;
 use crate::scene::Scene;
+use crate::term::term_text;
 use bit_space::Space;
-use pickle_map::{MapFault, ValueRef};
+use pickle_map::{MapFault, Store};
 use pickle_script::script::Script;
 use pickle_script::text::Text;
 use pickle_types::table::{Table, TypeId};
@@ -42,6 +48,8 @@ use poke_batch::terms::Terms;
 use run_parts::accept::accept;
 use run_parts::status::Status;
 use std::alloc::{AllocError, Global};
+use text_forms::mode::Mode;
+use value_text::typed::{Typed, Types};
 
 /// The lines that say why a mapping of a type over a file ended with `line` or, if `line` is empty, which arrays ended
 /// early. `path` is the path of the pickle. Bytes outside 0x20 to 0x7e are escaped in these lines.
@@ -93,10 +101,25 @@ pub fn reasons_in<S: Space>(
     let Again { end, kept } = map_again(alloc, table, id, ask, space, &mut store)?;
     let scene = scene_of(alloc, pickle, path, table, id, ask, 8 * space.len())?;
     let text = match end {
-        Ok(()) => value_reasons(&scene, store.root(table), terms, &kept, line)?,
+        Ok(()) => {
+            let types = Types::new(table);
+            let value = root_of(&store, table, &types, id);
+            value_reasons(&scene, value, terms, ask.mode, &kept, line)?
+        }
         Err(fault) => fault_reasons(&scene, ask, terms, fault, &kept, line)?,
     };
     Ok(text)
+}
+
+/// The value of a type that a store holds, beside its type.
+fn root_of<'a>(
+    store: &'a Store,
+    table: &'a Table,
+    types: &'a Types<'a>,
+    id: TypeId,
+) -> Option<Typed<'a>> {
+    let value = store.root(table)?;
+    Some(Typed::new(value, types, Some(id.node)))
 }
 
 /// What the reasons are printed from.
@@ -130,8 +153,9 @@ fn scene_of<'p, 't>(
 /// meet.
 fn value_reasons(
     scene: &Scene<'_, '_>,
-    value: Option<ValueRef<'_>>,
+    value: Option<Typed<'_>>,
     terms: &Terms,
+    mode: Mode,
     kept: &Kept,
     line: &[u8],
 ) -> Result<Vec<u8>, AllocError>
@@ -142,8 +166,8 @@ fn value_reasons(
     if !is_of_value(line) {
         return Ok(Vec::new(scene.alloc));
     }
-    let missing = missing_text(scene.alloc, value, &terms.part, line)?;
-    let text = joined(missing, arrays_text(scene, kept)?)?;
+    let term = term_text(scene.alloc, value, terms, mode, scene.bits, line)?;
+    let text = joined(term, arrays_text(scene, kept, !line.is_empty())?)?;
     Ok(text)
 }
 
@@ -162,7 +186,7 @@ fn fault_reasons(
 {
     if is_told(scene.alloc, ask, terms, fault, line) {
         let part = part_text(scene, &kept.fault)?;
-        let text = joined(part, arrays_text(scene, kept)?)?;
+        let text = joined(part, arrays_text(scene, kept, true)?)?;
         Ok(text)
     } else {
         Ok(Vec::new(scene.alloc))

@@ -3,12 +3,14 @@
 ghost use Rattle.std.specs.Prelude.{◌≡◌, ◌<◌, ◌++◌, length, codes, IfOk};
 ghost use Rattle.pickle_types.specs.Table.{IsTable};
 ghost use Rattle.mapping_reasons.specs.Found.{scene_type, way_places};
-ghost use Rattle.mapping_reasons.specs.Why.{TellsPart, TellsArray, TellsArrays};
+ghost use Rattle.mapping_reasons.specs.Why.{TellsPart, TellsArray, TellsArrays, planned_ending};
 
 use crate::again::Kept;
-use crate::cause::{Blamed, Cause, Ended, Fault, Miss, Misses};
-use crate::scene::{Scene, say_bit};
+use crate::cause::{Blamed, Cause, Ended, Fault, Lead, Miss, Misses, Said};
+use crate::endings::Endings;
+use crate::scene::{Scene, purpose_of};
 use crate::way::{Found, Way};
+use bit_space::Order;
 use itoa::Buffer;
 use pickle_map::MapFaultKind;
 use pickle_map::extent::Extent;
@@ -59,9 +61,27 @@ fn about(scene: &Scene<'_, '_>, fault: &Fault, found: &Found) -> Result<Text, Al
     requires table { IsTable scene.now.nodes.now }
     requires root { scene.now.root < length scene.now.nodes.now }
 {
-    let text = scene
-        .say_part(Text::new(scene.alloc), &fault.way)?
-        .say(b"\n")?;
+    let text = scene.say_part(Text::new(scene.alloc), &fault.way)?;
+    let text = match fault.stop {
+        Stop::Fault(_, at) => scene.say_at(text.say(b",")?, at)?,
+        Stop::Limit | Stop::Device | Stop::Memory => text,
+    };
+    let text = say_cause(scene, text.say(b"\n")?, fault, found)?;
+    let text = say_leads(scene, text, fault.around.leads.as_slice())?;
+    let text = say_front(scene, text, fault)?;
+    say_order(text, fault.around.fits)
+}
+
+/// Adds the lines on what failed to the text.
+fn say_cause(
+    scene: &Scene<'_, '_>,
+    text: Text,
+    fault: &Fault,
+    found: &Found,
+) -> Result<Text, AllocError>
+    requires table { IsTable scene.now.nodes.now }
+    requires root { scene.now.root < length scene.now.nodes.now }
+{
     match (&fault.cause, fault.stop) {
         (Cause::Expression(blamed), _) => say_blamed(scene, text, &fault.way, blamed),
         (Cause::Outgrown(extent, end), Stop::Fault(_, start)) => {
@@ -81,17 +101,113 @@ fn say_blamed(
     way: &Way,
     blamed: &Blamed,
 ) -> Result<Text, AllocError> {
-    let (word, purpose) = match blamed.clause {
-        Clause::Constraint => ("constraint", Purpose::Constraint),
-        Clause::Condition => ("condition", Purpose::Condition),
-        Clause::Label => ("label", Purpose::Label),
-        Clause::Count => ("count", Purpose::Bound),
-        Clause::Size => ("size", Purpose::Bound),
+    let text = text.say(b"  the ")?.say(word_of(blamed.clause))?;
+    let text = scene.say_clause(text, way, purpose_of(blamed.clause))?;
+    say_said(text.say(b" ")?, scene.said(blamed, way)?)?.say(b"\n")
+}
+
+/// What a clause is called.
+fn word_of(clause: Clause) -> &'static [u8] {
+    match clause {
+        Clause::Constraint => b"constraint",
+        Clause::Condition => b"condition",
+        Clause::Label => b"label",
+        Clause::Count => b"count",
+        Clause::Size => b"size",
+    }
+}
+
+/// Adds what is wrong with an expression, and the values of its names, to the text.
+fn say_said(text: Text, said: &Said) -> Result<Text, AllocError> {
+    say_names(text.say(said.wrong.as_slice())?, said.names.as_slice())
+}
+
+/// Adds the lines on the bounds and labels on the way to a part to the text, the innermost first.
+fn say_leads(scene: &Scene<'_, '_>, text: Text, leads: &[Lead]) -> Result<Text, AllocError>
+    requires table { IsTable scene.now.nodes.now }
+    requires root { scene.now.root < length scene.now.nodes.now }
+{
+    let mut text = text;
+    for lead in leads.iter().rev() {
+        text = say_lead(scene, text, lead)?;
+    }
+    Ok(text)
+}
+
+/// Adds the line on a bound or a label to the text.
+fn say_lead(scene: &Scene<'_, '_>, text: Text, lead: &Lead) -> Result<Text, AllocError>
+    requires table { IsTable scene.now.nodes.now }
+    requires root { scene.now.root < length scene.now.nodes.now }
+{
+    let Some(found) = scene.find(&lead.way)? else {
+        return Ok(text);
     };
-    let text = text.say(b"  the ")?.say(word.as_bytes())?;
-    let text = scene.say_clause(text, way, purpose)?.say(b" ")?;
-    let text = text.say(blamed.wrong.as_slice())?;
-    say_names(text, blamed.names.as_slice())?.say(b"\n")
+    let clause = lead.value.clause;
+    let text = text.say(b"  the ")?.say(word_of(clause))?;
+    let text = scene.say_clause(text, &lead.way, purpose_of(clause))?;
+    let text = text.say(b" of ")?.say(found.path.as_slice())?.say(b" ")?;
+    let text = say_said(text, scene.said(&lead.value, &lead.way)?)?;
+    let left = u128::from(scene.bits).saturating_sub(lead.start);
+    say_room(text.say(b", and ")?, left)?.say(b"\n")
+}
+
+/// Adds how many bytes are left to the text, or how many bits if the last of them isn't a whole byte.
+pub fn say_room(text: Text, bits: u128) -> Result<Text, AllocError> {
+    if bits & 7 != 0 {
+        let are: &[u8] = if bits == 1 { b" is left" } else { b" are left" };
+        return say_bits(text, bits)?.say(are);
+    }
+    match bits >> 3 {
+        0 => text.say(b"no byte is left"),
+        1 => text.say(b"1 byte is left"),
+        bytes => say_count(text, bytes)?.say(b" bytes are left"),
+    }
+}
+
+/// Adds a line on the fields in front of a part to the text, except those that are in it already.
+fn say_front(scene: &Scene<'_, '_>, text: Text, fault: &Fault) -> Result<Text, AllocError> {
+    let mut line = Text::new(scene.alloc);
+    for name in fault.around.front.as_slice() {
+        if !is_said(fault, name.as_slice()) {
+            let link: &[u8] = if line.len() == 0 {
+                b"  before it: "
+            } else {
+                b", "
+            };
+            line = line.say(link)?.say(name.as_slice())?;
+        }
+    }
+    if line.len() == 0 {
+        return Ok(text);
+    }
+    text.say(line.into_bytes().as_slice())?.say(b"\n")
+}
+
+/// Whether a name with its value is in what is printed of the expressions.
+fn is_said(fault: &Fault, name: &[u8]) -> bool {
+    let is_blamed = match &fault.cause {
+        Cause::Expression(blamed) => has_name(blamed, name),
+        _ => false,
+    };
+    is_blamed
+        || fault
+            .around
+            .leads
+            .iter()
+            .any(|lead| has_name(&lead.value, name))
+}
+
+fn has_name(blamed: &Blamed, name: &[u8]) -> bool {
+    blamed.decimal.names.iter().any(|it| it.as_slice() == name)
+}
+
+/// Adds a line to the text that says in which byte order the file fits.
+fn say_order(text: Text, fits: Option<Order>) -> Result<Text, AllocError> {
+    match fits {
+        None => Ok(text),
+        Some(Order::Big) => text.say(b"  fits in big-endian: --endian big\n"),
+        Some(Order::Little) => text.say(b"  fits in little-endian: --endian little\n"),
+    }
 }
 
 /// Adds names with their values to the text.
@@ -122,9 +238,11 @@ fn say_outgrown(
     let Extent::Size(size) = extent else {
         return Ok(text);
     };
-    let text = say_bit(text.say(b"  its elements end at ")?, u128::from(end))?;
+    let text = scene.say_at(text.say(b"  its elements end")?, u128::from(end))?;
     let text = scene.say_clause(text.say(b", its size")?, way, Purpose::Bound)?;
-    say_bit(text.say(b" ends at ")?, start.saturating_add(size))?.say(b"\n")
+    scene
+        .say_at(text.say(b" ends")?, start.saturating_add(size))?
+        .say(b"\n")
 }
 
 /// Adds a line on a part that is cut off by the end of the file to the text.
@@ -207,23 +325,81 @@ fn say_miss(scene: &Scene<'_, '_>, text: Text, miss: &Miss) -> Result<Text, Allo
         text = text.say(b"  ")?;
     }
     let text = miss.way.say_nth(text, scene.nodes, miss.of)?;
-    scene
-        .say_stop(text.say(b": ")?, miss.stop, &miss.way, &found)?
-        .say(b"\n")
+    let text = scene.say_stop(text.say(b": ")?, miss.stop, &miss.way, &found)?;
+    let text = match &miss.blamed {
+        Some(blamed) => say_unmet(scene, text, &miss.way, blamed)?,
+        None => text,
+    };
+    text.say(b"\n")
 }
 
-/// The lines on the arrays that ended early.
-pub fn arrays_text(scene: &Scene<'_, '_>, kept: &Kept) -> Result<Text, AllocError>
+/// Adds the expression that an alternative doesn't meet to the text.
+fn say_unmet(
+    scene: &Scene<'_, '_>,
+    text: Text,
+    way: &Way,
+    blamed: &Blamed,
+) -> Result<Text, AllocError> {
+    let text = scene.say_clause(text.say(b":")?, way, purpose_of(blamed.clause))?;
+    say_said(text.say(b" ")?, scene.said(blamed, way)?)
+}
+
+/// The lines on the arrays that ended early. Those whose next element begins otherwise stand behind those that ended
+/// inside an element. For a run without a fault these are only counted.
+pub fn arrays_text(scene: &Scene<'_, '_>, kept: &Kept, is_faulty: bool) -> Result<Text, AllocError>
     requires table { IsTable scene.now.nodes.now }
     requires root { scene.now.root < length scene.now.nodes.now }
     ensures arrays { IfOk result (λ text. TellsArrays (scene_type scene.now) text.bytes.items) }
 {
-    let mut text = Text::new(scene.alloc);
-    for ended in kept.ended.as_slice() {
+    let text = say_endings(scene, Text::new(scene.alloc), &kept.broken)?;
+    let text = if is_faulty {
+        say_endings(scene, text, &kept.planned)?
+    } else {
+        say_planned(scene, text, kept.planned.count)?
+    };
+    Ok(text)
+}
+
+/// Adds the line that counts the arrays whose next element begins otherwise to the text.
+fn say_planned(scene: &Scene<'_, '_>, text: Text, count: usize) -> Result<Text, AllocError>
+    requires said { TellsArrays (scene_type scene.now) text.bytes.items }
+    ensures arrays { IfOk result (λ text. TellsArrays (scene_type scene.now) text.bytes.items) }
+{
+    if count == 0 {
+        return Ok(text);
+    }
+    let count = array_count(scene, count)?;
+    let line = planned_line(scene, count.as_slice())?.into_bytes();
+    let text = text.say(line.as_slice())?;
+    Ok(text)
+}
+
+/// The line that says how many arrays ended where the next element begins otherwise.
+fn planned_line(scene: &Scene<'_, '_>, count: &[u8]) -> Result<Text, AllocError>
+    ensures { IfOk result (λ text. text.bytes.items ≡ codes "  " ++ (count.now ++ planned_ending)) }
+{
+    laid(
+        scene.alloc,
+        b"  ",
+        count,
+        b" ended where the next element's first number doesn't match\n",
+        b"",
+    )
+}
+
+/// Adds the lines on some arrays that ended early to the text.
+fn say_endings(scene: &Scene<'_, '_>, text: Text, endings: &Endings) -> Result<Text, AllocError>
+    requires table { IsTable scene.now.nodes.now }
+    requires root { scene.now.root < length scene.now.nodes.now }
+    requires said { TellsArrays (scene_type scene.now) text.bytes.items }
+    ensures arrays { IfOk result (λ text. TellsArrays (scene_type scene.now) text.bytes.items) }
+{
+    let mut text = text;
+    for ended in endings.last.as_slice() {
         let line = array_line(scene, ended)?.into_bytes();
         text = text.say(line.as_slice())?;
     }
-    match kept.ended_count.checked_sub(kept.ended.len()) {
+    match endings.count.checked_sub(endings.last.len()) {
         None | Some(0) => Ok(text),
         Some(more) => {
             let count = array_count(scene, more)?;

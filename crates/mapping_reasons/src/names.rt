@@ -92,7 +92,7 @@ fn tell<'a>(seen: Seen<'a>, e: &'a Resolved, names: &mut Vec<Vec<u8>>) -> Result
     let Some(called) = seen.called(e)? else {
         return Ok(false);
     };
-    let text = say_known(seen.alloc, called.text.say(b"=")?, known)?.into_bytes();
+    let text = say_known(seen.alloc, called.text.say(b"=")?, known, seen.base)?.into_bytes();
     let is_new = names.len() < MOST_NAMES && !has(names, &text);
     if is_new {
         names.push(text)?;

@@ -5,12 +5,15 @@ ghost use Rattle.bit_space.specs.SpaceView.{Keeps};
 ghost use Rattle.pickle_types.specs.TypeTable.{IsInTable, type_named};
 ghost use Rattle.pickle_map.specs.Mapped.{EndsRun};
 ghost use Rattle.value_store.specs.Slots.{emptied};
-ghost use Rattle.mapping_reasons.specs.Found.{HasThere};
+ghost use Rattle.mapping_reasons.specs.Found.{HasThere, way_places};
 ghost use Rattle.mapping_reasons.specs.Meant.{IsFaultAt};
 
-use crate::cause::Fault;
-use bit_space::{Meter, Space};
-use fault_check::arises::arises;
+use crate::approach::{Approach, Approached};
+use crate::cause::{Around, Cause, Fault};
+use crate::front::front;
+use crate::other::other_order;
+use bit_space::{Meter, Order, Space};
+use fault_check::arises::find_there;
 use pickle_map::mapper::told;
 use pickle_map::{MapFault, MapFaultKind, Store};
 use pickle_types::table::{Table, TypeId};
@@ -47,11 +50,32 @@ pub fn part_with<S: Space>(
         return Ok(None);
     }
     let places = part.way.places(alloc)?;
-    if is_at(table, id, ask, fault, places.as_slice(), space, store) {
-        Ok(Some(part))
-    } else {
-        Ok(None)
+    if ends_run(fault.kind) {
+        return Ok(Some(part));
     }
+    let mut watch = Approach::new(
+        alloc,
+        table.nodes(),
+        part.way.steps(),
+        matches!(part.cause, Cause::NoneFits(_)),
+    );
+    if !is_at(
+        table,
+        id,
+        ask,
+        fault,
+        places.as_slice(),
+        space,
+        store,
+        &mut watch,
+    ) {
+        return Ok(None);
+    }
+    let approached = watch.into_approached()?;
+    let front = front_of(alloc, table, store, &part)?;
+    store.clear();
+    let fits = other_order(table, id, ask, fault, &part, space, store);
+    Ok(Some(seen_near(part, approached, front, fits)))
 }
 
 /// Whether the check finds that a fault is that of the part to which places lead.
@@ -63,6 +87,7 @@ fn is_at<S: Space>(
     places: &[usize],
     space: &mut S,
     store: &mut Store,
+    watch: &mut Approach<'_>,
 ) -> bool
     requires known { IsInTable table.now id }
     requires empty { store.old ≡ emptied store.old }
@@ -70,13 +95,50 @@ fn is_at<S: Space>(
         IsTrue result → IsFaultAt (S.view space.old) type ask.now fault places.now }
     ensures keeps { Keeps (S.view space.old) (S.view space.new) }
 {
-    if ends_run(fault.kind) {
-        return true;
-    }
     let mut meter = Meter::new(ask.limit.saturating_mul(MOST_TIMES));
-    arises(
-        table, id, ask.order, ask.start, fault, places, space, &mut meter, store,
+    find_there(
+        table, id, ask.order, ask.start, fault, places, space, &mut meter, store, watch,
     )
+}
+
+/// The last fields in front of a part.
+fn front_of(
+    alloc: Global,
+    table: &Table,
+    store: &Store,
+    part: &Fault,
+) -> Result<Vec<Vec<u8>>, AllocError> {
+    let inner = match &part.cause {
+        Cause::Outgrown(_, _) => 1,
+        _ => 0,
+    };
+    front(alloc, table.nodes(), store, part.way.steps(), inner)
+}
+
+/// A part, with what was seen near it.
+fn seen_near(part: Fault, approached: Approached, front: Vec<Vec<u8>>, fits: Option<Order>) -> Fault
+    ensures { way_places result.way ≡ way_places part.way }
+{
+    let Fault {
+        way,
+        stop,
+        cause,
+        around: _,
+    } = part;
+    let Approached {
+        leads,
+        cause: watched,
+    } = approached;
+    let cause = match watched {
+        Some(Cause::NoneFits(misses)) => Cause::NoneFits(misses),
+        _ => cause,
+    };
+    Fault {
+        way,
+        stop,
+        cause,
+        around: Around { leads, front, fits },
+    }
 }
 
 /// Whether a fault ends a run, and isn't one that a type means.

@@ -4,11 +4,13 @@ ghost use Rattle.std.specs.Prelude.{◌<◌, length, IfOk, IfSome};
 ghost use Rattle.pickle_types.specs.Table.{IsTable};
 ghost use Rattle.mapping_reasons.specs.Found.{IsPartOf};
 
+use crate::cause::{Blamed, Said};
+use crate::place::say_bit;
 use crate::way::{Found, Way};
-use itoa::Buffer;
 use pickle_map::mapper::stop::Stop;
+use pickle_map::mapper::watch::Clause;
 use pickle_script::excerpt::excerpt;
-use pickle_script::script::Script;
+use pickle_script::script::{Part, Script};
 use pickle_script::site::{Purpose, Site};
 use pickle_script::text::Text;
 use pickle_types::view::Node;
@@ -72,7 +74,7 @@ impl<'p, 't> Scene<'p, 't> {
         found: &Found,
     ) -> Result<Text, AllocError> {
         let text = match stop {
-            Stop::Fault(kind, at) => say_bit(text.say(kind.name().as_bytes())?.say(b" at ")?, at)?,
+            Stop::Fault(kind, at) => self.say_at(text.say(kind.name().as_bytes())?, at)?,
             Stop::Limit => text.say(b"Limit")?,
             Stop::Device => text.say(b"Device")?,
             Stop::Memory => text.say(b"Memory")?,
@@ -84,13 +86,35 @@ impl<'p, 't> Scene<'p, 't> {
         }
     }
 
+    /// Adds a bit of the file to the text, after `at`.
+    pub fn say_at(&self, text: Text, bit: u128) -> Result<Text, AllocError> {
+        say_bit(self.alloc, text.say(b" at ")?, bit)
+    }
+
+    /// What is printed of an expression of a part: in base sixteen if a number in it is written so.
+    pub fn said<'b>(&self, blamed: &'b Blamed, way: &Way) -> Result<&'b Said, AllocError> {
+        let Some(part) = self.clause(way, purpose_of(blamed.clause))? else {
+            return Ok(&blamed.decimal);
+        };
+        if is_hexadecimal(&self.script, part) {
+            Ok(&blamed.hexadecimal)
+        } else {
+            Ok(&blamed.decimal)
+        }
+    }
+
+    /// An expression of a part in the pickle. `None` if the part has no such expression.
+    fn clause(&self, way: &Way, purpose: Purpose) -> Result<Option<Part>, AllocError> {
+        match self.site(way)? {
+            Some(site) => Ok(site.clause(&self.script, purpose)),
+            None => Ok(None),
+        }
+    }
+
     /// Adds to the text an expression of a part as the pickle has it, in backquotes. Adds nothing if the part has no
     /// such expression.
     pub fn say_clause(&self, text: Text, way: &Way, purpose: Purpose) -> Result<Text, AllocError> {
-        let Some(site) = self.site(way)? else {
-            return Ok(text);
-        };
-        let Some(part) = site.clause(&self.script, purpose) else {
+        let Some(part) = self.clause(way, purpose)? else {
             return Ok(text);
         };
         let written = excerpt(self.alloc, &self.script, part)?;
@@ -115,8 +139,22 @@ fn say_kind(text: Text, kind: &[u8]) -> Result<Text, AllocError> {
     text.say(article)?.say(kind)
 }
 
-/// Adds a bit of the file to the text, such as `8#b`.
-pub fn say_bit(text: Text, bit: u128) -> Result<Text, AllocError> {
-    let mut digits = Buffer::new();
-    text.say(digits.format(bit).as_bytes())?.say(b"#b")
+/// What a clause is for.
+pub fn purpose_of(clause: Clause) -> Purpose {
+    match clause {
+        Clause::Constraint => Purpose::Constraint,
+        Clause::Condition => Purpose::Condition,
+        Clause::Label => Purpose::Label,
+        Clause::Count | Clause::Size => Purpose::Bound,
+    }
+}
+
+/// Whether a number among some tokens is written in base sixteen.
+fn is_hexadecimal(script: &Script<'_>, part: Part) -> bool {
+    for token in part.first..part.end {
+        if script.is_number(token) && matches!(script.text(token), [b'0', b'x' | b'X', ..]) {
+            return true;
+        }
+    }
+    false
 }

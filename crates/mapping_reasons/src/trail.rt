@@ -11,7 +11,26 @@ pub struct Level {
     /// How many of its parts have begun; the last of them is under way.
     pub begun: usize,
     /// How many arrays had ended early when that part began.
-    pub ended: usize,
+    pub ended: Counts,
+}
+
+/// How many arrays have ended early.
+#[derive(Clone, Copy)]
+pub struct Counts {
+    /// Those that ended inside an element.
+    pub broken: usize,
+    /// Those whose next element begins otherwise.
+    pub planned: usize,
+}
+
+impl Counts {
+    /// No arrays.
+    pub fn none() -> Counts {
+        Counts {
+            broken: 0,
+            planned: 0,
+        }
+    }
 }
 
 /// The levels that a walk is in, the outermost first.
@@ -49,13 +68,23 @@ impl Trail {
         self.levels.push(Level {
             node,
             begun: 0,
-            ended: 0,
+            ended: Counts::none(),
+        })?;
+        Ok(())
+    }
+
+    /// Goes into the node where a step starts, to the part to which the step leads.
+    pub fn go(&mut self, step: Step) -> Result<(), AllocError> {
+        self.levels.push(Level {
+            node: step.node,
+            begun: step.place.saturating_add(1),
+            ended: Counts::none(),
         })?;
         Ok(())
     }
 
     /// Goes on to the next part of the innermost level, when so many arrays had ended early.
-    pub fn next(&mut self, ended: usize) {
+    pub fn next(&mut self, ended: Counts) {
         if let Some(level) = self.levels.as_mut_slice().last_mut() {
             level.begun = level.begun.saturating_add(1);
             level.ended = ended;

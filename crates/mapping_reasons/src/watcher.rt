@@ -8,17 +8,16 @@ ghost use Rattle.pickle_types.specs.Table.{term_of};
 use crate::again::Kept;
 use crate::blame::blamed;
 use crate::cause::{Cause, Ended, Fault, Miss, Misses};
+use crate::endings::Endings;
 use crate::seen::Seen;
-use crate::trail::Trail;
+use crate::trail::{Counts, Trail};
+use crate::way::{Step, is_array};
 use pickle_map::Store;
 use pickle_map::extent::Extent;
 use pickle_map::mapper::stop::Stop;
 use pickle_map::mapper::watch::{Clause, Watch};
 use pickle_types::view::{Extent as Bound, Node, Resolved, Shape};
 use std::alloc::{AllocError, Global};
-
-/// The most arrays that are printed because they ended early.
-pub const MOST_ENDED: usize = 16;
 
 /// The most alternatives of a union that are printed.
 pub const MOST_MISSES: usize = 16;
@@ -28,44 +27,72 @@ pub const MOST_MISSES: usize = 16;
 /// After a fault the trail is still whole when the first of `stop`, `end`, `miss` and `refuse` is called. That call
 /// stores the way to the part, and the later calls find it stored.
 #[derive(Drop)]
-pub struct Told {
+pub struct Told<'t> {
     alloc: Global,
+    nodes: &'t [Node],
     trail: Trail,
+    /// From how many levels on the expressions of alternatives that don't match are looked at. `None` if they aren't.
+    near: Option<usize>,
     /// The fault that is under way.
     fault: Option<Fault>,
     /// The alternatives that didn't match, of the unions that the walk is in, the outermost first.
     misses: Vec<Miss>,
-    /// The last arrays that ended early.
-    ended: Vec<Ended>,
-    /// How many arrays have ended early.
-    ended_count: usize,
+    /// The arrays that ended inside an element.
+    broken: Endings,
+    /// The arrays whose next element begins otherwise.
+    planned: Endings,
     /// Whether an allocation failed for any of these.
     starved: bool,
 }
 
-impl Told {
+impl<'t> Told<'t> {
     /// A watcher that hasn't been notified yet.
-    pub fn new(alloc: Global) -> Told {
+    pub fn new(alloc: Global, nodes: &'t [Node]) -> Told<'t> {
         Told {
             alloc,
+            nodes,
             trail: Trail::new(alloc),
+            near: None,
             fault: None,
             misses: Vec::new(alloc),
-            ended: Vec::new(alloc),
-            ended_count: 0,
+            broken: Endings::new(alloc),
+            planned: Endings::new(alloc),
             starved: false,
         }
+    }
+
+    /// The same, for a walk that looks at the expressions of alternatives that don't match.
+    pub fn near(alloc: Global, nodes: &'t [Node]) -> Told<'t> {
+        Told {
+            near: Some(0),
+            ..Told::new(alloc, nodes)
+        }
+    }
+
+    /// Goes along a step, to a part in which the walk begins. From there on it looks at the expressions of alternatives
+    /// that don't match, except in arrays.
+    pub fn go(&mut self, step: Step) {
+        let gone = self.trail.go(step);
+        self.note(gone);
+        self.near = Some(self.trail.depth());
+    }
+
+    /// The levels that the walk is in.
+    pub fn trail(&self) -> &Trail {
+        &self.trail
     }
 
     /// What was stored. An error if an allocation for it failed.
     pub fn into_kept(self) -> Result<Kept, AllocError> {
         let Told {
             alloc: _,
+            nodes: _,
             trail: _,
+            near: _,
             fault,
             misses: _,
-            ended,
-            ended_count,
+            broken,
+            planned,
             starved,
         } = self;
         if starved {
@@ -73,8 +100,8 @@ impl Told {
         }
         Ok(Kept {
             fault,
-            ended,
-            ended_count,
+            broken,
+            planned,
         })
     }
 
@@ -102,11 +129,8 @@ impl Told {
     /// Stores the fault of the part that is under way, unless one is stored.
     fn keep(&mut self, stop: Stop) -> Result<(), AllocError> {
         if self.fault.is_none() {
-            self.fault = Some(Fault {
-                way: self.trail.way(self.alloc)?,
-                stop,
-                cause: Cause::Plain,
-            });
+            let way = self.trail.way(self.alloc)?;
+            self.fault = Some(Fault::new(self.alloc, way, stop, Cause::Plain));
         }
         Ok(())
     }
@@ -131,7 +155,7 @@ impl Told {
         requires { IsSoundTerm (term_of e.now) }
     {
         let way = self.trail.way(self.alloc)?;
-        let cause = if self.is_caught(table, stop) {
+        let cause = if self.is_caught(table, stop) && !self.is_near() {
             Cause::Plain
         } else {
             let seen = Seen::new(self.alloc, table, store, &self.trail, clause);
@@ -140,8 +164,17 @@ impl Told {
                 None => Cause::Plain,
             }
         };
-        self.fault = Some(Fault { way, stop, cause });
+        self.fault = Some(Fault::new(self.alloc, way, stop, cause));
         Ok(())
+    }
+
+    /// Whether the walk is where it looks at the expressions of alternatives that don't match.
+    fn is_near(&self) -> bool {
+        let Some(depth) = self.near else {
+            return false;
+        };
+        let mut inner = self.trail.levels().iter().skip(depth);
+        !inner.any(|level| is_array(self.nodes, level.node))
     }
 
     /// Whether a fault only means that an alternative doesn't match, or that an array ends, of a union or array that
@@ -154,11 +187,9 @@ impl Told {
     }
 
     fn keep_outgrown(&mut self, extent: Extent, end: u64, stop: Stop) -> Result<(), AllocError> {
-        self.fault = Some(Fault {
-            way: self.trail.way_to_innermost(self.alloc)?,
-            stop,
-            cause: Cause::Outgrown(extent, end),
-        });
+        let way = self.trail.way_to_innermost(self.alloc)?;
+        let cause = Cause::Outgrown(extent, end);
+        self.fault = Some(Fault::new(self.alloc, way, stop, cause));
         Ok(())
     }
 
@@ -168,37 +199,63 @@ impl Told {
             Some(level) => level.begun,
             None => 0,
         };
+        let array = self.trail.way_to_innermost(self.alloc)?;
+        let is_planned = self.is_planned(&fault, array.steps().len().saturating_add(1));
         let ended = Ended {
-            number: self.ended_count,
-            array: self.trail.way_to_innermost(self.alloc)?,
+            number: 0,
+            array,
             count: begun.saturating_sub(1),
             way: fault.way,
             stop: fault.stop,
         };
-        if MOST_ENDED <= self.ended.len() {
-            let _first = self.ended.remove(0);
+        if is_planned {
+            self.planned.add(ended)
+        } else {
+            self.broken.add(ended)
         }
-        self.ended.push(ended)?;
-        self.ended_count = self.ended_count.saturating_add(1);
-        Ok(())
+    }
+
+    /// Whether an element, to which so many steps lead, doesn't match in its first number.
+    fn is_planned(&self, fault: &Fault, count: usize) -> bool {
+        let is_first = fault.stop.misses() && fault.way.is_first(self.nodes, count);
+        match &fault.cause {
+            Cause::NoneFits(misses) => {
+                let mut told = misses.told.iter();
+                is_first && told.all(|miss| miss.way.is_first(self.nodes, count))
+            }
+            _ => is_first,
+        }
     }
 
     fn keep_miss(&mut self, stop: Stop) -> Result<(), AllocError> {
-        let Fault { way, stop, cause } = self.take(stop)?;
+        let Fault {
+            way,
+            stop,
+            cause,
+            around: _,
+        } = self.take(stop)?;
         if let Some(level) = self.trail.level(0) {
             self.forget_ended(level.ended);
         }
         let depth = self.trail.depth();
-        self.add_miss(Miss {
+        let miss = Miss {
             depth,
             of: depth,
             inside: 0,
             way,
             stop,
-        })?;
+            blamed: None,
+        };
         match cause {
-            Cause::NoneFits(misses) => self.add_inner(depth, misses.told),
-            _ => Ok(()),
+            Cause::Expression(blamed) => self.add_miss(Miss {
+                blamed: Some(blamed),
+                ..miss
+            }),
+            Cause::NoneFits(misses) => {
+                self.add_miss(miss)?;
+                self.add_inner(depth, misses.told)
+            }
+            _ => self.add_miss(miss),
         }
     }
 
@@ -225,15 +282,18 @@ impl Told {
         Ok(())
     }
 
-    /// Forgets the arrays that ended early in an alternative that didn't match. Before it, `count` arrays had ended so.
-    fn forget_ended(&mut self, count: usize) {
-        let kept = self
-            .ended
-            .iter()
-            .take_while(|ended| ended.number < count)
-            .count();
-        self.ended.truncate(kept);
-        self.ended_count = count;
+    /// Forgets the arrays that ended early in an alternative that didn't match. Before it, so many had.
+    fn forget_ended(&mut self, counts: Counts) {
+        self.broken.forget(counts.broken);
+        self.planned.forget(counts.planned);
+    }
+
+    /// How many arrays have ended early.
+    fn counts(&self) -> Counts {
+        Counts {
+            broken: self.broken.count,
+            planned: self.planned.count,
+        }
     }
 
     fn keep_refused(&mut self, stop: Stop) -> Result<(), AllocError> {
@@ -243,11 +303,9 @@ impl Told {
             Some(level) => level.begun,
             None => 0,
         };
-        self.fault = Some(Fault {
-            way: self.trail.way_to_innermost(self.alloc)?,
-            stop,
-            cause: Cause::NoneFits(Misses { told, count }),
-        });
+        let way = self.trail.way_to_innermost(self.alloc)?;
+        let cause = Cause::NoneFits(Misses { told, count });
+        self.fault = Some(Fault::new(self.alloc, way, stop, cause));
         Ok(())
     }
 }
@@ -264,14 +322,15 @@ fn catches(table: &[Node], at: usize, stop: Stop) -> bool {
     }
 }
 
-impl Watch for Told {
+impl Watch for Told<'_> {
     fn open(&mut self, at: usize) {
         let opened = self.trail.open(at);
         self.note(opened);
     }
 
     fn next(&mut self) {
-        self.trail.next(self.ended_count);
+        let counts = self.counts();
+        self.trail.next(counts);
     }
 
     fn close(&mut self) {

@@ -74,6 +74,19 @@ impl Way {
         Ok(())
     }
 
+    /// Its steps.
+    pub fn steps(&self) -> &[Step] {
+        self.steps.as_slice()
+    }
+
+    /// Whether it leads on to the first number of what its first `count` steps lead to.
+    pub fn is_first(&self, nodes: &[Node], count: usize) -> bool {
+        self.steps
+            .iter()
+            .skip(count)
+            .all(|step| step.place == 0 || is_one_place(nodes, step.node))
+    }
+
     /// The places of its steps.
     pub fn places(&self, alloc: Global) -> Result<Vec<usize>, AllocError>
         ensures { IfOk result (λ places. places.items ≡ way_places self.now) }
@@ -221,8 +234,16 @@ fn joint_of(name: &Option<Name>) -> Joint<'_>
     }
 }
 
+/// Whether all parts of the node at a place of the table begin with the same number.
+fn is_one_place(nodes: &[Node], at: usize) -> bool {
+    match nodes.get(at) {
+        Some(node) => matches!(node.shape, Shape::Union { .. } | Shape::Integral { .. }),
+        None => false,
+    }
+}
+
 /// Whether the node at a place of the table is an array.
-fn is_array(nodes: &[Node], at: usize) -> bool {
+pub fn is_array(nodes: &[Node], at: usize) -> bool {
     match nodes.get(at) {
         Some(node) => matches!(node.shape, Shape::Array(_, _)),
         None => false,

@@ -1,15 +1,5 @@
-use Rattle.mapping_reasons.specs.Why.{no_more, one_more, uncounted}
+use Rattle.mapping_reasons.specs.Why.{no_more}
 use Rattle.mapping_reasons.proofs.lines.arrays_text.Goals as goal
 
-pub loop-ended-init : goal.loop-ended-init
-loop-ended-init c = rw c.new-text.ensures no_more
-
-pub loop-ended-preserved : goal.loop-ended-preserved
-loop-ended-preserved c = rw (c.in_ok-text.ensures.added, c.as_slice.ensures.value, c.into_bytes-line.ensures) (one_more c.loop-ended.invariant c.in_ok-array_line.ensures.array)
-
-pub returns-in_ok-text-in-Some : goal.returns-in_ok-text-in-Some
-returns-in_ok-text-in-Some c =
-    record {
-      arrays = rw (c.in_ok-text-in-Some.ensures.added, c.as_slice-in-Some-2.ensures.value, c.into_bytes-line-in-Some.ensures, c.in_ok-more_line-in-Some.ensures)
-          (uncounted c.as_slice-in-Some.result.now c.loop-ended.invariant);
-    }
+pub say_endings-requires-clause-said : goal.say_endings-requires-clause-said
+say_endings-requires-clause-said c = rw c.new.ensures no_more

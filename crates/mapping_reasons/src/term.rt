@@ -1,0 +1,86 @@
+//! The term that a value fails to meet.
+
+ghost use Rattle.std.specs.Prelude.{IfOk};
+ghost use Rattle.mapping_reasons.specs.Why.{TellsTerm};
+
+use crate::lines::say_room;
+use crate::missing::missing_text;
+use pickle_map::ValueRef;
+use pickle_script::text::Text;
+use poke_batch::draft::print_under;
+use poke_batch::part::part_at;
+use poke_batch::terms::Terms;
+use std::alloc::{AllocError, Global};
+use std::io;
+use std::io::Write;
+use text_forms::mode::Mode;
+use value_text::typed::Typed;
+
+/// A writer that counts the bytes that are written to it.
+#[derive(Drop)]
+struct Counter {
+    bytes: u64,
+}
+
+impl Write for Counter {
+    fn write(&mut self, buf: &[u8]) -> io::Result<usize> {
+        self.bytes = self.bytes.saturating_add(buf.len() as u64);
+        Ok(buf.len())
+    }
+
+    fn flush(&mut self) -> io::Result<()> {
+        Ok(())
+    }
+}
+
+/// The line on the term that a value fails to meet, for a run that ended with such a line. Empty for any other run.
+/// `bits` is how many bits the file has.
+pub fn term_text(
+    alloc: Global,
+    value: Option<Typed<'_>>,
+    terms: &Terms,
+    mode: Mode,
+    bits: u64,
+    line: &[u8],
+) -> Result<Text, AllocError>
+    ensures { IfOk result (λ text. TellsTerm terms.now.part line.now text.bytes.items) }
+{
+    let Some(value) = value else {
+        return Ok(Text::new(alloc));
+    };
+    if line.starts_with(b"fault Left ") {
+        return left_text(alloc, value.value(), bits);
+    }
+    if line.starts_with(b"fault Output ") {
+        return output_text(alloc, value, terms, mode);
+    }
+    let text = missing_text(alloc, Some(value.value()), &terms.part, line)?;
+    Ok(text)
+}
+
+/// The line that says how many bytes are left behind a value.
+fn left_text(alloc: Global, value: ValueRef<'_>, bits: u64) -> Result<Text, AllocError> {
+    let end = u128::from(value.start()) + u128::from(value.size());
+    let left = u128::from(bits).saturating_sub(end);
+    say_room(Text::new(alloc).say(b"  ")?, left)?.say(b"\n")
+}
+
+/// The line that says how many bytes a value, or the requested part of it, has when it is printed.
+fn output_text(
+    alloc: Global,
+    value: Typed<'_>,
+    terms: &Terms,
+    mode: Mode,
+) -> Result<Text, AllocError> {
+    let Some(part) = part_at(value, &terms.part) else {
+        return Ok(Text::new(alloc));
+    };
+    let mut counter = Counter { bytes: 0 };
+    match print_under(part, mode, terms, &mut counter) {
+        Ok(()) => {
+            let text = Text::new(alloc).say(b"  the text has ")?;
+            text.say_number(counter.bytes as usize)?.say(b" bytes\n")
+        }
+        Err(_) => Ok(Text::new(alloc)),
+    }
+}
