@@ -2,14 +2,14 @@
 ghost use Rattle.pickle_types.specs.TypeTable.{IsInTable};
 ghost use Rattle.poke_batch.specs.RunsUnder.{IsStoreOf};
 
+use crate::Line;
 use crate::files::open_space;
+use crate::mapping::Mapping;
 use crate::mappings::is_mapped;
-use arrayvec::ArrayVec;
 use bit_space::{Memory, OpenFault, Space};
 use mapping_reasons::reasons_in;
 use pickle_types::table::{Table, TypeId};
 use poke_batch::accept::{accept, tell_refusal};
-use poke_batch::ask::Ask;
 use poke_batch::each::{Kept, run_file};
 use poke_batch::file_line::{put_file_line, put_name};
 use poke_batch::status::Status;
@@ -68,22 +68,32 @@ pub struct WhyFiles<'a, A: Write> {
     pub asked: bool,
 }
 
+/// The options of a run over many files, apart from those of each mapping.
+#[derive(Clone, Copy)]
+pub struct EachOptions<'a> {
+    /// What the value of each file must meet, and how it looks.
+    pub terms: &'a Terms,
+    /// Whether the line of a file is written before the next file is mapped.
+    pub flush: bool,
+}
+
 /// What the mapping of every file uses.
 #[derive(Clone, Copy)]
 struct Typed<'a> {
     pickle: &'a [u8],
     table: &'a Table,
     id: TypeId,
-    ask: &'a Ask<'a>,
+    mapping: &'a Mapping<'a>,
     terms: &'a Terms,
+    flush: bool,
 }
 
 /// Maps a type over one file after another, and writes a line for each. Returns the greatest exit status of all.
 pub fn run_each<R: Files<File = File> + Input + AllocGlobal, A: Write, O: Write, E: Write>(
     rt: &R,
     pickle: &[u8],
-    ask: &Ask<'_>,
-    terms: &Terms,
+    mapping: &Mapping<'_>,
+    options: EachOptions<'_>,
     files: &FileNames,
     why: &mut WhyFiles<'_, A>,
     out: &mut O,
@@ -93,15 +103,16 @@ pub fn run_each<R: Files<File = File> + Input + AllocGlobal, A: Write, O: Write,
         Ok(table) => table,
         Err(refusal) => return tell_refusal(err, refusal),
     };
-    let Some(id) = table.find(ask.name) else {
+    let Some(id) = table.find(mapping.name) else {
         return refuse(err, b"NoSuchType");
     };
     let typed = Typed {
         pickle,
         table: &table,
         id,
-        ask,
-        terms,
+        mapping,
+        terms: options.terms,
+        flush: options.flush,
     };
     match run_files(rt, typed, files, why, out) {
         Ok(status) => status,
@@ -167,6 +178,10 @@ fn run_list<R: Files<File = File> + Input + AllocGlobal, L: Read + Drop, A: Writ
     let mut greatest = Status::Done;
     // (the end of the list ends the loop: no list has as many names)
     for _ in 0..u64::MAX {
+        // Nothing that is finished waits for the rest of the list.
+        if !list.buffer().contains(&0) {
+            flush(out)?;
+        }
         if !read_name(&mut list, &mut name)? {
             break;
         }
@@ -209,14 +224,25 @@ fn run_name<R: Files<File = File> + AllocGlobal, A: Write, O: Write>(
         Ok(path) => open_space(rt, path),
         Err(_) => Err(OpenFault::NotOpened.into()),
     };
-    match opened {
-        Ok(mut space) => run_space(rt.alloc(), typed, kept, name, &mut space, why, out),
+    let status = match opened {
+        Ok(mut space) => run_space(rt.alloc(), typed, kept, name, &mut space, why, out)?,
         Err(fault) => {
-            let mut line: ArrayVec<u8, 128> = ArrayVec::new();
+            let mut line = Line::new();
             let status = fail(&mut line, fault.name().as_bytes());
             put_file_line(out, name, status, line.as_slice())?;
-            Ok(status)
+            status
         }
+    };
+    if typed.flush {
+        flush(out)?;
+    }
+    Ok(status)
+}
+
+fn flush<O: Write>(out: &mut O) -> Result<(), WriteFault> {
+    match out.flush() {
+        Ok(()) => Ok(()),
+        Err(_) => Err(WriteFault),
     }
 }
 
@@ -238,9 +264,16 @@ fn run_space<S: Space, A: Write, O: Write>(
         pickle,
         table,
         id,
-        ask,
+        mapping,
         terms,
+        ..
     } = typed;
+    let Some(ask) = &mapping.ask_in(space) else {
+        let mut line = Line::new();
+        let status = refuse(&mut line, b"offset");
+        put_file_line(out, name, status, line.as_slice())?;
+        return Ok(status);
+    };
     let status = run_file(table, id, ask, terms, kept, name, space, out)?;
     if why.asked && is_mapped(status) {
         let line = kept.line();
@@ -264,9 +297,7 @@ fn put_reasons<A: Write, O: Write>(
     if lines.is_empty() {
         return Ok(());
     }
-    if out.flush().is_err() {
-        return Err(WriteFault);
-    }
+    flush(out)?;
     // The file's exit status is that of its line, even if its reasons can't be written.
     let mut text = Vec::new(alloc);
     if gather_reasons(&mut text, name, lines).is_ok() {

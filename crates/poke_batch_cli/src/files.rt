@@ -1,10 +1,11 @@
 //! The files that a job names.
-use bit_space::{FileSpace, Memory, OpenFault, Paged};
+use bit_space::{FileSpace, Memory, OpenFault, Paged, Space};
 use poke_batch::DumpFault;
 use poke_batch::pickle::{PickleFault, read_pickle};
 use std::alloc::AllocError;
-use std::fs::File;
+use std::fs::{self, File};
 use std::io::Input;
+use std::os::unix::fs::MetadataExt;
 use std::rt::Files;
 use thiserror::Error;
 
@@ -78,11 +79,22 @@ pub fn read_pickle_of<R: Files + Input + AllocGlobal>(
     }
 }
 
-/// Opens a file, and reads it through pages.
+/// Opens a file, and reads it through pages. A file of /proc is opened only if it says its length.
 pub fn open_space<R: Files<File = File> + AllocGlobal>(
     rt: &R,
     path: &str,
 ) -> Result<Paged<FileSpace>, FileFault> {
     let space = FileSpace::open(rt, path)?;
+    if space.len() == 0 && is_in_proc(rt, path) {
+        return Err(OpenFault::NotOpened.into());
+    }
     Ok(Paged::new(rt.alloc(), space)?)
+}
+
+// Whether a file is in /proc. The system makes those up as they are read, and most of them say that they are empty.
+fn is_in_proc<R: Files>(rt: &R, path: &str) -> bool {
+    match (fs::metadata(rt, "/proc/self"), fs::metadata(rt, path)) {
+        (Ok(proc), Ok(file)) => proc.dev() == file.dev(),
+        _ => false,
+    }
 }

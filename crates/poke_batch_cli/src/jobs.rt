@@ -1,12 +1,12 @@
 //! Each job, over its files and a writer for its answer.
 use crate::Line;
-use crate::files::{FileFault, open_space};
+use crate::dumps::{Range, dump_file};
+use crate::files::FileFault;
 use crate::formats::list_formats;
 use crate::installed::tell_missing;
 use crate::mappings::run_mapping;
 use crate::pickles::{bound_text, bound_type, check_pickle, tell_types};
 use crate::why::Why;
-use poke_batch::dump;
 use poke_batch::pickle::PickleFault;
 use poke_batch::status::Status;
 use poke_batch::tell::fail;
@@ -33,7 +33,7 @@ pub fn do_job<
         text: reason,
         asked: asked.why,
     };
-    let status = match run_job(rt, &asked.job, &mut out, err, aside, &mut why) {
+    let status = match run_job(rt, &asked, &mut out, err, aside, &mut why) {
         Ok(status) => status,
         Err(fault) => {
             explain_fault(rt, &asked.job, fault, &mut why);
@@ -75,6 +75,7 @@ fn pickle_of(job: &Job) -> Option<&str> {
     match job {
         Job::Map { pickle, .. }
         | Job::MapUnder { pickle, .. }
+        | Job::Show { pickle, .. }
         | Job::Each { pickle, .. }
         | Job::Bound { pickle, .. }
         | Job::BoundText { pickle, .. }
@@ -86,12 +87,13 @@ fn pickle_of(job: &Job) -> Option<&str> {
 
 fn run_job<R: Files<File = File> + Env + Input + AllocGlobal + Clone + Drop, O: Write, A: Write>(
     rt: &R,
-    job: &Job,
+    asked: &Asked,
     out: &mut O,
     err: &mut Line,
     aside: &mut A,
     why: &mut Why<'_>,
 ) -> Result<Status, FileFault> {
+    let job = &asked.job;
     match job {
         Job::Bound { pickle, name, bits } => {
             bound_type(rt, pickle, name.as_bytes(), *bits, out, err, why)
@@ -101,6 +103,7 @@ fn run_job<R: Files<File = File> + Env + Input + AllocGlobal + Clone + Drop, O: 
             name,
             bits,
             mode,
+            style: _,
         } => bound_text(rt, pickle, name.as_bytes(), *bits, *mode, out, err, why),
         Job::Check { pickle } => check_pickle(rt, pickle, out, err, why),
         Job::Types { pickle } => tell_types(rt, pickle, out, err, why),
@@ -110,23 +113,16 @@ fn run_job<R: Files<File = File> + Env + Input + AllocGlobal + Clone + Drop, O: 
             size,
             ruler,
             file,
-        } => dump_file(rt, file, *from, *size, *ruler, out),
-        Job::Map { .. } | Job::MapUnder { .. } | Job::Each { .. } => {
+        } => {
+            let range = Range {
+                from: *from,
+                size: *size,
+            };
+            let tells_rest = asked.default_size;
+            dump_file(rt, file, range, *ruler, tells_rest, out, why.text)
+        }
+        Job::Map { .. } | Job::MapUnder { .. } | Job::Show { .. } | Job::Each { .. } => {
             run_mapping(rt, job, out, err, aside, why)
         }
     }
-}
-
-// Dumps bytes of the file at a path, from a byte on.
-fn dump_file<R: Files<File = File> + AllocGlobal, O: Write>(
-    rt: &R,
-    path: &str,
-    from: u64,
-    size: u64,
-    ruler: bool,
-    out: &mut O,
-) -> Result<Status, FileFault> {
-    let mut space = open_space(rt, path)?;
-    dump(&mut space, from, size, ruler, out)?;
-    Ok(Status::Done)
 }

@@ -1,12 +1,15 @@
 //! The program `poke_batch`: its arguments, files and standard streams. The library of that name makes the output.
 #![tactic(auto)]
 
+mod dumps;
 mod each;
 mod files;
 mod formats;
 mod given;
 mod installed;
 mod jobs;
+mod looks;
+mod mapping;
 mod mappings;
 mod pickles;
 mod why;
@@ -14,17 +17,23 @@ mod why;
 use arrayvec::ArrayVec;
 use given::given_words;
 use jobs::do_job;
+use looks::give_look;
 use poke_batch::status::Status;
 use poke_batch::tell::{answer, fail, refuse};
 use poke_batch::words::{Asked, FileNames, Job, WordFault, read_asked, read_words};
 use poke_batch::write::put;
 use std::alloc::{AllocError, Global};
+use std::env;
 use std::io::{IsTerminal, Write};
 use std::process::ExitCode;
+use std::rt::Env;
 
 /// The usage error for two arguments that are both standard input.
 const INPUT_TWICE: &str =
     "error: PICKLE and --files0-from can't both be standard input\n\nFor more information, try '--help'.\n";
+
+/// The environment variable that is 1 if reasons are always requested.
+const WHY_VARIABLE: &str = "POKE_BATCH_WHY";
 
 /// The line that a job prints to standard error. The longest has 62 bytes.
 pub type Line = ArrayVec<u8, 128>;
@@ -61,12 +70,24 @@ fn read_job(rt: &HostRuntime) -> Result<Asked, WordFault> {
     if words.is_empty() && rt.stdin().is_terminal() {
         show_help(rt.alloc(), &mut rt.stderr())?;
     }
-    let asked = read_asked(rt.alloc(), words)?;
+    let mut asked = read_asked(rt.alloc(), words)?;
+    asked.why |= always_explains(rt);
+    give_look(rt, &rt.stdout(), &mut asked);
+    // What a dump leaves out is told to somebody at a terminal only.
+    asked.default_size &= rt.stderr().is_terminal();
     if reads_input_twice(&asked.job) {
         let text = String::from_str(rt.alloc(), INPUT_TWICE)?;
         return Err(WordFault::Usage(text));
     }
     Ok(asked)
+}
+
+// Whether the environment requests reasons, as `--why` does.
+fn always_explains<R: Env + AllocGlobal>(rt: &R) -> bool {
+    match env::var(rt, WHY_VARIABLE) {
+        Ok(value) => value.as_str() == "1",
+        Err(_) => false,
+    }
 }
 
 // Whether a job reads two things from standard input. The second would find nothing.

@@ -1,0 +1,44 @@
+//! The job that dumps a file.
+use crate::files::{FileFault, open_space};
+use bit_space::Space;
+use poke_batch::dump;
+use poke_batch::status::Status;
+use std::alloc::{AllocError, Global};
+use std::fs::File;
+use std::io::Write;
+use std::rt::Files;
+
+/// The bytes of a file that a job dumps.
+#[derive(Clone, Copy)]
+pub struct Range {
+    /// The first byte.
+    pub from: u64,
+    /// How many bytes at most.
+    pub size: u64,
+}
+
+/// Dumps bytes of the file at a path. With `tells_rest`, `note` gets a line on the bytes that the size leaves out.
+pub fn dump_file<R: Files<File = File> + AllocGlobal, O: Write>(
+    rt: &R,
+    path: &str,
+    range: Range,
+    ruler: bool,
+    tells_rest: bool,
+    out: &mut O,
+    note: &mut Vec<u8>,
+) -> Result<Status, FileFault> {
+    let mut space = open_space(rt, path)?;
+    dump(&mut space, range.from, range.size, ruler, out)?;
+    let there = space.len().saturating_sub(range.from);
+    if tells_rest && there > range.size {
+        *note = rest_line(rt.alloc(), there, range.size)?;
+    }
+    Ok(Status::Done)
+}
+
+// The line on the bytes that a dump leaves out, of which there are more than it has.
+fn rest_line(alloc: Global, there: u64, size: u64) -> Result<Vec<u8>, AllocError> {
+    let rest = there.saturating_sub(size);
+    let line = format!(in alloc; "{rest} more bytes are left out; -n {there} prints them too\n")?;
+    Ok(line.into_bytes())
+}

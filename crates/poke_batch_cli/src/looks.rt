@@ -1,0 +1,36 @@
+//! How a job that shows a value to the eye looks.
+use command_words::color::Color;
+use poke_batch::style::Look;
+use poke_batch::words::{Asked, Job};
+use std::env;
+use std::io::IsTerminal;
+use std::rt::Env;
+
+/// The environment variable that asks for no colour, if it is there and isn't empty.
+const NO_COLOR: &str = "NO_COLOR";
+
+/// Gives a job that shows a value its look. Such a job explains a fault too.
+pub fn give_look<R: Env + AllocGlobal, O: IsTerminal>(rt: &R, out: &O, asked: &mut Asked) {
+    if let Job::Show { terms, color, .. } = &mut asked.job {
+        terms.look = Some(Look {
+            elements: terms.style.elements,
+            dim: has_colors(rt, out, *color),
+        });
+        asked.why = true;
+    }
+}
+
+fn has_colors<R: Env + AllocGlobal, O: IsTerminal>(rt: &R, out: &O, color: Color) -> bool {
+    match color {
+        Color::Always => true,
+        Color::Never => false,
+        Color::Auto => out.is_terminal() && !wants_no_color(rt),
+    }
+}
+
+fn wants_no_color<R: Env + AllocGlobal>(rt: &R) -> bool {
+    match env::var(rt, NO_COLOR) {
+        Ok(value) => !value.is_empty(),
+        Err(_) => false,
+    }
+}
