@@ -1,0 +1,1 @@
+map acpi.pk Table acpi_fadt.aml

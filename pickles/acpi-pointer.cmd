@@ -1,0 +1,1 @@
+map acpi.pk Pointer acpi_pointer.bin

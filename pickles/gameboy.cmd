@@ -1,0 +1,1 @@
+map gameboy.pk Cartridge gameboy.gb

@@ -1,0 +1,1 @@
+map nvme.pk Namespace nvme_namespace.bin

@@ -1,0 +1,1 @@
+map nvme.pk Controller nvme.bin

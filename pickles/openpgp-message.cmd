@@ -1,0 +1,1 @@
+map --whole openpgp.pk Packets openpgp_message.gpg

@@ -1,0 +1,1 @@
+map smbios.pk Dump smbios.bin

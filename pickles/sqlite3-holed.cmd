@@ -1,0 +1,1 @@
+map sqlite3.pk Database sqlite3_holed.db

@@ -1,0 +1,1 @@
+map --whole tls.pk Records tls_server.bin

@@ -1,0 +1,1 @@
+map x509.pk Certificate der.der
