@@ -3,20 +3,23 @@
 
 # The options of a command.
 _poke_batch_options() {
-    local mapping='--at --endian --limit --mode --whole --max-output --slots --get --why'
+    local mapping='--at --byte --endian --limit --whole --max-output --slots --get --elements --help'
+    local style='--mode --numbers --chars --why'
     case $1 in
-        map) echo "$mapping --help" ;;
-        each) echo "$mapping --files0-from --help" ;;
+        map) echo "$mapping $style" ;;
+        show) echo "$mapping --color" ;;
+        each) echo "$mapping $style --flush --files0-from" ;;
         bound) echo '--text --mode --why --help' ;;
         check | types) echo '--why --help' ;;
         formats) echo '--help' ;;
-        dump) echo '--from --size --no-ruler --help' ;;
+        dump) echo '--from --size --skip --length --no-ruler --help' ;;
         '') echo '--help --version' ;;
     esac
 }
 
 _poke_batch_takes_value() {
-    [[ $1 == --@(at|endian|limit|mode|max-output|slots|get|files0-from|from|size) ]]
+    local mapping='at|byte|endian|limit|mode|max-output|slots|get|elements|numbers|chars|color|files0-from'
+    [[ $1 =~ ^(--($mapping|from|size|skip|length)|-[sn])$ ]]
 }
 
 # A word as the program gets it, where it has plain quotes or backslashes.
@@ -121,6 +124,9 @@ _poke_batch() {
     fi
     case $option in
         --endian) _poke_batch_words "$current" 'big little' ;;
+        --numbers) _poke_batch_words "$current" 'decimal hex' ;;
+        --chars) _poke_batch_words "$current" 'numbers text' ;;
+        --color) _poke_batch_words "$current" 'auto always never' ;;
         --mode)
             case $command in
                 each) _poke_batch_words "$current" 'flat json' ;;
@@ -129,18 +135,18 @@ _poke_batch() {
             ;;
         --at | --from | --size) _poke_batch_offsets "$current" ;;
         --files0-from) _poke_batch_files "$current" ;;
-        --*) ;;
+        --* | -s | -n) ;;
         *)
             if [[ -z $ended && $current == -* ]]; then
                 _poke_batch_words "$current" "$(_poke_batch_options "$command")"
                 return
             fi
             case $command/${#arguments[@]} in
-                /*) _poke_batch_words "$current" 'map each bound check types formats dump help' ;;
-                help/0) _poke_batch_words "$current" 'map each bound check types formats dump help' ;;
-                map/0 | each/0 | bound/0 | check/0 | types/0) _poke_batch_pickles "$program" "$current" ;;
-                map/1 | each/1 | bound/1) _poke_batch_types "$program" "${arguments[0]}" "$current" ;;
-                map/2 | each/* | dump/0) _poke_batch_files "$current" ;;
+                /*) _poke_batch_words "$current" 'map show each bound check types formats dump help' ;;
+                help/0) _poke_batch_words "$current" 'map show each bound check types formats dump help' ;;
+                map/0 | show/0 | each/0 | bound/0 | check/0 | types/0) _poke_batch_pickles "$program" "$current" ;;
+                map/1 | show/1 | each/1 | bound/1) _poke_batch_types "$program" "${arguments[0]}" "$current" ;;
+                map/2 | show/2 | each/* | dump/0) _poke_batch_files "$current" ;;
             esac
             ;;
     esac

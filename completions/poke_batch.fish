@@ -11,7 +11,8 @@ function __poke_batch_arguments
             printf '%s\n' $it
         else if test $it = --
             set ended yes
-        else if contains -- $it --at --endian --limit --mode --max-output --slots --get --files0-from --from --size
+        else if contains -- $it --at --byte --endian --limit --mode --numbers --chars --color --elements --max-output --slots --get \
+                --files0-from --from --size --skip --length -s -n
             set value yes
         end
     end
@@ -70,6 +71,7 @@ complete -c poke_batch -n '__poke_batch_has 0' -l version -s V -d 'Print the ver
 complete -c poke_batch -n 'not __poke_batch_is help' -l help -s h -d 'Print the help'
 
 complete -c poke_batch -n '__poke_batch_has 0' -a map -d 'Map a type over a file and print the value'
+complete -c poke_batch -n '__poke_batch_has 0' -a show -d 'Map a type over a file and show the value to the eye'
 complete -c poke_batch -n '__poke_batch_has 0' -a each -d 'Map a type over many files and print a line for each'
 complete -c poke_batch -n '__poke_batch_has 0' -a bound -d 'Print the most steps and slots that a mapping takes'
 complete -c poke_batch -n '__poke_batch_has 0' -a check -d 'Check a pickle and print the number of its types'
@@ -77,24 +79,32 @@ complete -c poke_batch -n '__poke_batch_has 0' -a types -d 'Print the name, the 
 complete -c poke_batch -n '__poke_batch_has 0' -a formats -d 'List the installed pickles'
 complete -c poke_batch -n '__poke_batch_has 0' -a dump -d 'Print the bytes of a file'
 complete -c poke_batch -n '__poke_batch_has 0' -a help -d 'Print the help of the program or of a command'
-complete -c poke_batch -n '__poke_batch_has 1 help' -a 'map each bound check types formats dump help'
+complete -c poke_batch -n '__poke_batch_has 1 help' -a 'map show each bound check types formats dump help'
 
-complete -c poke_batch -n '__poke_batch_is map each' -l at -xa '(__poke_batch_offsets)' -d 'Where the value begins'
-complete -c poke_batch -n '__poke_batch_is map each' -l endian -xa 'big little' -d 'The byte order'
-complete -c poke_batch -n '__poke_batch_is map each' -l limit -x -d 'The most steps of the mapping'
+complete -c poke_batch -n '__poke_batch_is map show each' -l at -xa '(__poke_batch_offsets)' -d 'Where the value begins'
+complete -c poke_batch -n '__poke_batch_is map show each' -l byte -x -d 'The byte where the value begins'
+complete -c poke_batch -n '__poke_batch_is map show each' -l endian -xa 'big little' -d 'The byte order'
+complete -c poke_batch -n '__poke_batch_is map show each' -l limit -x -d 'The most steps of the mapping'
 complete -c poke_batch -n '__poke_batch_is map bound' -l mode -xa 'flat tree json lines' -d 'How the value is printed'
 complete -c poke_batch -n '__poke_batch_is each' -l mode -xa 'flat json' -d 'How the value is printed'
-complete -c poke_batch -n '__poke_batch_is map each' -l whole -d 'Accept only a value that ends where the file does'
-complete -c poke_batch -n '__poke_batch_is map each' -l max-output -x -d 'The most bytes of the printed value'
-complete -c poke_batch -n '__poke_batch_is map each' -l slots -x -d 'The most slots of each kind'
-complete -c poke_batch -n '__poke_batch_is map each' -l get -x -d 'Print a part of the value'
+complete -c poke_batch -n '__poke_batch_is map show each' -l whole -d 'Accept only a value that ends where the file does'
+complete -c poke_batch -n '__poke_batch_is map show each' -l max-output -x -d 'The most bytes of the printed value'
+complete -c poke_batch -n '__poke_batch_is map show each' -l slots -x -d 'The most slots of each kind'
+complete -c poke_batch -n '__poke_batch_is map show each' -l get -x -d 'Print a part of the value'
+complete -c poke_batch -n '__poke_batch_is map each' -l numbers -xa 'decimal hex' -d 'How numbers are printed'
+complete -c poke_batch -n '__poke_batch_is map each' -l chars -xa 'numbers text' -d 'How arrays of char are printed'
+complete -c poke_batch -n '__poke_batch_is map show each' -l elements -x -d 'The most elements of a printed array'
+complete -c poke_batch -n '__poke_batch_is show' -l color -xa 'auto always never' -d 'When types are dimmed'
+complete -c poke_batch -n '__poke_batch_is each' -l flush -d 'Write each line before the next file'
 complete -c poke_batch -n '__poke_batch_is each' -l files0-from -rF -d 'Read the names of the files from a list'
 complete -c poke_batch -n '__poke_batch_is bound' -l text -d 'Print the most bytes of the printed value too'
 complete -c poke_batch -n '__poke_batch_is map each bound check types' -l why -d 'Explain a refusal or a fault'
 complete -c poke_batch -n '__poke_batch_is dump' -l from -xa '(__poke_batch_offsets)' -d 'The first byte'
 complete -c poke_batch -n '__poke_batch_is dump' -l size -xa '(__poke_batch_offsets)' -d 'The most bytes to print'
+complete -c poke_batch -n '__poke_batch_is dump' -l skip -s s -x -d 'The first byte'
+complete -c poke_batch -n '__poke_batch_is dump' -l length -s n -x -d 'The most bytes to print'
 complete -c poke_batch -n '__poke_batch_is dump' -l no-ruler -d 'Leave out the line above the bytes'
 
-complete -c poke_batch -n '__poke_batch_has 1 map each bound check types' -a '(__poke_batch_pickles)'
-complete -c poke_batch -n '__poke_batch_has 2 map each bound' -a '(__poke_batch_types)'
-complete -c poke_batch -n '__poke_batch_has 3 map; or __poke_batch_has 3+ each; or __poke_batch_has 1 dump' -F
+complete -c poke_batch -n '__poke_batch_has 1 map show each bound check types' -a '(__poke_batch_pickles)'
+complete -c poke_batch -n '__poke_batch_has 2 map show each bound' -a '(__poke_batch_types)'
+complete -c poke_batch -n '__poke_batch_has 3 map show; or __poke_batch_has 3+ each; or __poke_batch_has 1 dump' -F

@@ -38,7 +38,7 @@ saying_bounded : (pickle : List ℕ) (ask : Ask) (before after : SpaceView) (say
     → MapsAs pickle ask before after saying → IsSaid saying status out out' err err' → OutputIsBounded pickle ask before.len out out'
 saying_bounded pickle ask before after saying status out out' err err' (value {type = type} {mapped = mapped} asked means fits) h =
     inr (type, asked, written_within (printed ask.mode mapped) status out out' err err' _ (text_bounded ask.mode (8 * before.len) type _ ask.start mapped fits) h)
-saying_bounded pickle ask before after saying status out out' err err' (stops asked a b c d) h = inl h.0
+saying_bounded pickle ask before after saying status out out' err err' (stops asked a b c d e) h = inl h.0
 saying_bounded pickle ask before after saying status out out' err err' (device asked a) h = inl h.0
 saying_bounded pickle ask before after saying status out out' err err' (unknown a b) h = inl h.0
 saying_bounded pickle ask before after saying status out out' err err' (refused_map {refusal = refusal.Tokens kind at} a) h = inl h.0

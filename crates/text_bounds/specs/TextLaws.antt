@@ -1,5 +1,5 @@
 -- The laws of the bounds on printed values.
-use Rattle.std.specs.Prelude.{◌≡◌, ◌≤◌, ℕ, List, Option, Some, Ok, length}
+use Rattle.std.specs.Prelude.{◌≡◌, ◌≤◌, ℕ, List, Option, Some, None, Ok, length}
 use Rattle.bit_space.specs.declared.order.Order.{Order}
 use Rattle.bit_space.specs.Bits.{bits_of}
 use Rattle.bit_space.specs.SpaceView.{SpaceView}
@@ -12,6 +12,7 @@ use Rattle.text_forms.specs.declared.mode.Mode.{Mode}
 use Rattle.command_words.specs.declared.path.Path.{Path}
 use Rattle.run_parts.specs.declared.status.Status.{Status}
 use Rattle.command_words.specs.declared.terms.Terms.{Terms}
+use Rattle.text_forms.specs.Styles.{plain}
 use Rattle.text_bounds.specs.OutputRoom.{OutputIsBounded}
 use Rattle.value_text.specs.Printed.{printed}
 use Rattle.poke_batch.specs.PathParts.{part_at}
@@ -43,7 +44,7 @@ abbrev pub OutputsAreBounded : Type 0
 OutputsAreBounded = (pickle : List ℕ) (ask : Ask) (before after : SpaceView) (status : Status) (out out' err err' : Option (List ℕ))
     → Says (MapsAs pickle ask before after) status out out' err err' → OutputIsBounded pickle ask before.len out out'
 
--- nor does one under terms, which may print a part
+-- nor does one under terms in the plain style, which may print a part
 abbrev pub OutputsUnderTermsAreBounded : Type 0
 OutputsUnderTermsAreBounded = (pickle : List ℕ) (ask : Ask) (terms : Terms) (before after : SpaceView) (status : Status) (out out' err err' : Option (List ℕ))
-    → Says (MapsUnder pickle ask terms before after) status out out' err err' → OutputIsBounded pickle ask before.len out out'
+    → terms.style ≡ plain → terms.look ≡ None → Says (MapsUnder pickle ask terms before after) status out out' err err' → OutputIsBounded pickle ask before.len out out'

@@ -27,7 +27,7 @@ pub fn outputs_are_bounded()
     ensures law { OutputsAreBounded }
 {}
 
-/// So does a run of a mapping under terms, whether it prints the value or a requested part.
+/// So does a run of a mapping under terms in the plain style, whether it prints the value or a requested part.
 pub fn outputs_under_terms_are_bounded()
     ensures law { OutputsUnderTermsAreBounded }
 {}
