@@ -5,5 +5,5 @@ use Rattle.mapping_reasons.proofs.part.part_with.Goals as goal
 
 pub returns-clause-part : goal.returns-clause-part
 returns-clause-part g c =
-  rw (c.seen_near.ensures, ← c.in_ok-places.ensures, ← c.as_slice.ensures.value)
+    rw (c.seen_near.ensures, ← c.in_ok-places.ensures, ← c.as_slice.ensures.value)
     (c.is_at.ensures.at c.if-not-is_at.false)
