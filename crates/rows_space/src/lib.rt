@@ -11,3 +11,5 @@ mod numbers;
 mod pages;
 #[cfg(test)]
 mod reading;
+#[cfg(test)]
+mod streams;
