@@ -5,4 +5,3 @@ pub mod LineRows
 pub mod Refusing
 pub mod TypeLines
 pub mod Sayings
-pub mod Faults

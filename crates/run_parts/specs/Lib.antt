@@ -6,3 +6,5 @@ pub mod BoundText
 pub mod DumpText
 pub mod TypesText
 pub mod Taken
+pub mod Reports
+pub mod Outcomes

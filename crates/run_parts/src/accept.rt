@@ -11,11 +11,8 @@ ghost use Rattle.pickle_types.specs.Meaning.{declared};
 ghost use Rattle.pickle_types.specs.Names.{predeclared};
 ghost use Rattle.pickle_types.specs.Wrong.{first_wrong, TellsPlace};
 ghost use Rattle.pickle_types.specs.TypeTable.{IsWellTyped};
-ghost use Rattle.run_parts.specs.Accepted.{HasSyntax, IsTableOf, Refuses, refusal_kind, refusal_saying, place_of};
-ghost use Rattle.run_parts.specs.Told.{IsSaid};
+ghost use Rattle.run_parts.specs.Accepted.{HasSyntax, IsTableOf, Refuses, refusal_kind, place_of};
 
-use crate::status::Status;
-use crate::tell::{fail, refuse, refuse_at, refuse_in};
 use pickle_syntax::lexer::fault::{LexFault, LexFaultKind};
 use pickle_syntax::lexer::{Tokens, lex};
 use pickle_syntax::parser::fault::ParseFault;
@@ -24,7 +21,6 @@ use pickle_syntax::tree::Pickle;
 use pickle_types::fault::{FaultKind, TypeFault};
 use pickle_types::table::Table;
 use std::alloc::Global;
-use std::io::Write;
 use thiserror::Error;
 
 /// Why bytes are no pickle, at a byte counted from 0; or why its types are not well typed, in a declaration counted
@@ -126,20 +122,5 @@ fn place(tokens: &Tokens<'_>, token: usize, count: usize) -> usize
     match tokens.span(token) {
         Some((first, _)) => first,
         None => count,
-    }
-}
-
-/// Reports a refusal.
-pub fn tell_refusal<E: Write>(err: &mut E, refusal: Refusal) -> Status
-    ensures { (out : Option (List ℕ)) → IsSaid (refusal_saying refusal) result out out (E.contents err.old) (E.contents err.new) }
-{
-    let name = refusal.name().as_bytes();
-    match refusal {
-        Refusal::Tokens(_, at) => refuse_at(err, name, at),
-        Refusal::Syntax(at) => refuse_at(err, name, at),
-        Refusal::TooDeep => refuse(err, name),
-        Refusal::TooMany => refuse(err, name),
-        Refusal::Types(_, declaration) => refuse_in(err, name, declaration),
-        Refusal::Memory => fail(err, name),
     }
 }

@@ -6,8 +6,8 @@
 pub mod accept;
 pub mod bound;
 pub mod dump;
-pub mod fault;
 pub mod lines;
+pub mod outcome;
 pub mod pickle;
 pub mod status;
 pub mod tell;

@@ -1,74 +1,100 @@
-//! The lines that report a refusal or a fault. `kind` is the name of the fault. A line feed ends each line.
+//! The line that reports a refusal or a fault, in words or as a JSON object. A line feed ends it.
 
-ghost use Rattle.std.specs.Prelude.{◌∷◌, [], ◌++◌, decimal, OnOk, OnErr};
+ghost use Rattle.std.specs.Prelude.{◌≡◌, ◌++◌, decimal, OnOk, OnErr};
 ghost use Rattle.std.specs.Io.KnownBytes.{Appends};
 ghost use Rattle.text_forms.specs.Written.{AppendsPart};
-ghost use Rattle.run_parts.specs.Lines.{refused_line, refused_at_line, refused_in_line, fault_line, fault_at_line};
+ghost use Rattle.run_parts.specs.Reports.{json_lead, lead, report_json, report_line};
 
+use crate::status::Status;
 use itoa::Buffer;
 use std::io::Write;
 use text_forms::write::{WriteFault, put};
 
-/// Writes the line of a refusal without a place.
-pub fn put_refused<W: Write>(w: &mut W, kind: &[u8]) -> Result<(), WriteFault>
-    ensures ok { OnOk result (Appends (W.contents w.old) (W.contents w.new) (refused_line kind.now)) }
-    ensures err { OnErr result (AppendsPart (W.contents w.old) (W.contents w.new) (refused_line kind.now)) }
-{
-    put_plain(w, b"refused ", kind)
+/// Where a run ended.
+#[derive(Clone, Copy, Debug, Drop, PartialEq, Eq)]
+pub enum Place {
+    /// Nowhere in its pickle or its file.
+    Nowhere,
+    /// At a byte of the pickle, counted from 0.
+    Byte(usize),
+    /// In a declaration of the pickle, counted from 1.
+    Declaration(usize),
+    /// At a bit of the file, counted from 0.
+    Bit(u128),
 }
 
-/// Writes the line of a refusal at a byte of the pickle, counted from 0.
-pub fn put_refused_at<W: Write>(w: &mut W, kind: &[u8], byte: usize) -> Result<(), WriteFault>
-    ensures ok { OnOk result (Appends (W.contents w.old) (W.contents w.new) (refused_at_line kind.now byte)) }
-    ensures err { OnErr result (AppendsPart (W.contents w.old) (W.contents w.new) (refused_at_line kind.now byte)) }
-{
-    put_placed(w, b"refused ", kind, b" at byte ", byte as u128, b"\n")
-}
-
-/// Writes the line of a refusal in a declaration, counted from 1.
-pub fn put_refused_in<W: Write>(
+/// Writes the line of a run that ended with a status other than `Done`. `kind` is the name of the refusal or fault.
+pub fn put_report<W: Write>(
     w: &mut W,
+    status: Status,
     kind: &[u8],
-    declaration: usize,
+    place: Place,
 ) -> Result<(), WriteFault>
-    ensures ok { OnOk result (Appends (W.contents w.old) (W.contents w.new) (refused_in_line kind.now declaration)) }
-    ensures err { OnErr result (AppendsPart (W.contents w.old) (W.contents w.new) (refused_in_line kind.now declaration)) }
+    ensures ok { OnOk result (Appends (W.contents w.old) (W.contents w.new) (report_line status kind.now place)) }
+    ensures err { OnErr result (AppendsPart (W.contents w.old) (W.contents w.new) (report_line status kind.now place)) }
 {
-    put_placed(
-        w,
-        b"refused ",
-        kind,
-        b" in type ",
-        declaration as u128,
-        b"\n",
-    )
+    let lead = lead(status);
+    match place {
+        Place::Nowhere => put_plain(w, lead, kind, b"\n"),
+        Place::Byte(byte) => put_placed(w, lead, kind, b" at byte ", byte as u128, b"\n"),
+        Place::Declaration(declaration) => {
+            put_placed(w, lead, kind, b" in type ", declaration as u128, b"\n")
+        }
+        Place::Bit(bit) => put_placed(w, lead, kind, b" at ", bit, b"#b\n"),
+    }
 }
 
-/// Writes the line of a fault of a device, of memory, of a reader or of a writer.
-pub fn put_fault<W: Write>(w: &mut W, kind: &[u8]) -> Result<(), WriteFault>
-    ensures ok { OnOk result (Appends (W.contents w.old) (W.contents w.new) (fault_line kind.now)) }
-    ensures err { OnErr result (AppendsPart (W.contents w.old) (W.contents w.new) (fault_line kind.now)) }
+/// Writes the JSON object of a run that ended with a status other than `Done`, on a line. `kind` is the name of the refusal
+/// or fault, in letters.
+pub fn put_report_json<W: Write>(
+    w: &mut W,
+    status: Status,
+    kind: &[u8],
+    place: Place,
+) -> Result<(), WriteFault>
+    ensures ok { OnOk result (Appends (W.contents w.old) (W.contents w.new) (report_json status kind.now place)) }
+    ensures err { OnErr result (AppendsPart (W.contents w.old) (W.contents w.new) (report_json status kind.now place)) }
 {
-    put_plain(w, b"fault ", kind)
+    let lead = json_lead(status);
+    match place {
+        Place::Nowhere => put_plain(w, lead, kind, b"\"}\n"),
+        Place::Byte(byte) => put_placed(w, lead, kind, b"\",\"byte\":", byte as u128, b"}\n"),
+        Place::Declaration(declaration) => {
+            put_placed(w, lead, kind, b"\",\"type\":", declaration as u128, b"}\n")
+        }
+        Place::Bit(bit) => put_placed(w, lead, kind, b"\",\"at\":", bit, b"}\n"),
+    }
 }
 
-/// Writes the line of a fault of a mapping, at a bit of the file.
-pub fn put_fault_at<W: Write>(w: &mut W, kind: &[u8], bit: u128) -> Result<(), WriteFault>
-    ensures ok { OnOk result (Appends (W.contents w.old) (W.contents w.new) (fault_at_line kind.now bit)) }
-    ensures err { OnErr result (AppendsPart (W.contents w.old) (W.contents w.new) (fault_at_line kind.now bit)) }
+// The word with which the line of a status begins.
+fn lead(status: Status) -> &'static [u8]
+    ensures { result.now ≡ lead status }
 {
-    put_placed(w, b"fault ", kind, b" at ", bit, b"#b\n")
+    match status {
+        Status::Refused => b"refused ",
+        Status::Done | Status::Fault | Status::Outside => b"fault ",
+    }
 }
 
-// `lead`, the kind, and the line's end
+// The start of the object of a status, up to the name.
+fn json_lead(status: Status) -> &'static [u8]
+    ensures { result.now ≡ json_lead status }
+{
+    match status {
+        Status::Refused => b"{\"refused\":\"",
+        Status::Done | Status::Fault | Status::Outside => b"{\"fault\":\"",
+    }
+}
+
+// `lead`, the kind, and `tail`
 #[tactic(auto, using(text_forms::proofs::Parts::written))]
-fn put_plain<W: Write>(w: &mut W, lead: &[u8], kind: &[u8]) -> Result<(), WriteFault>
-    ensures ok { OnOk result (Appends (W.contents w.old) (W.contents w.new) (lead.now ++ (kind.now ++ 10 ∷ []))) }
-    ensures err { OnErr result (AppendsPart (W.contents w.old) (W.contents w.new) (lead.now ++ (kind.now ++ 10 ∷ []))) }
+fn put_plain<W: Write>(w: &mut W, lead: &[u8], kind: &[u8], tail: &[u8]) -> Result<(), WriteFault>
+    ensures ok { OnOk result (Appends (W.contents w.old) (W.contents w.new) (lead.now ++ (kind.now ++ tail.now))) }
+    ensures err { OnErr result (AppendsPart (W.contents w.old) (W.contents w.new) (lead.now ++ (kind.now ++ tail.now))) }
 {
     put(w, lead)?;
     put(w, kind)?;
-    put(w, b"\n")?;
+    put(w, tail)?;
     Ok(())
 }
 

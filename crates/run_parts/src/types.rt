@@ -3,13 +3,15 @@
 ghost use Rattle.std.specs.Prelude.{◌≡◌, OnOk, OnErr};
 ghost use Rattle.std.specs.Io.KnownBytes.{Appends};
 ghost use Rattle.pickle_types.specs.DeclaredTypes.{told_of};
+ghost use Rattle.run_parts.specs.Outcomes.{EndsAs};
 ghost use Rattle.run_parts.specs.Told.{Says};
 ghost use Rattle.run_parts.specs.TypesText.{kind_column, width_number, width_text, type_line, told_lines, TypesAs};
 ghost use Rattle.text_forms.specs.Written.{AppendsPart};
 
-use crate::accept::{accept, tell_refusal};
+use crate::accept::accept;
+use crate::outcome::{Failure, Outcome};
 use crate::status::Status;
-use crate::tell::{answer, fail};
+use crate::tell::{answer, tell};
 use itoa::Buffer;
 use pickle_types::declared_types::{DeclaredType, TypeKind};
 use std::alloc::Global;
@@ -31,13 +33,20 @@ pub fn run_types<O: Write, E: Write>(
     ensures { Says (TypesAs pickle.now) result
         (O.contents out.old) (O.contents out.new) (E.contents err.old) (E.contents err.new) }
 {
+    tell(types_outcome(alloc, pickle, out), err)
+}
+
+/// Does what [`run_types`] does, and returns the outcome in place of writing its line.
+pub fn types_outcome<O: Write>(alloc: Global, pickle: &[u8], out: &mut O) -> Outcome
+    ensures { EndsAs (TypesAs pickle.now) result (O.contents out.old) (O.contents out.new) }
+{
     let table = match accept(alloc, pickle) {
         Ok(table) => table,
-        Err(refusal) => return tell_refusal(err, refusal),
+        Err(refusal) => return Outcome::Refused(refusal),
     };
     match table.declared_types(alloc) {
-        Ok(types) => answer(put_types(out, types.as_slice()), err),
-        Err(_) => fail(err, b"Memory"),
+        Ok(types) => answer(put_types(out, types.as_slice())),
+        Err(_) => Outcome::Failed(Failure::Memory),
     }
 }
 

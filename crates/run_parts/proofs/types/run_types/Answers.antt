@@ -1,24 +1,5 @@
-use Rattle.std.proofs.Common.{◌∙◌, ap, subst, sym}
-use Rattle.std.specs.Prelude.{codes}
-use Rattle.pickle_types.specs.TypeTable.{types_of}
-use Rattle.run_parts.specs.Accepted.{refusal_saying, no_memory}
-use Rattle.run_parts.specs.declared.status.Status.TheVariants.{Outside}
-use Rattle.run_parts.specs.Lines.{fault_line}
-use Rattle.run_parts.specs.Told.{Text}
-use Rattle.run_parts.specs.TypesText.{TypesAs, told_types, refused_types, told_lines}
-use Rattle.run_parts.proofs.Sayings.{line_says, said_says, text_says}
-use Rattle.run_parts.proofs.TypeLines.{lines_same}
+use Rattle.run_parts.proofs.Sayings.{ends_says}
 use Rattle.run_parts.proofs.types.run_types.Goals as goal
 
-pub returns-in-Err : goal.returns-in-Err
-returns-in-Err g c = said_says _ (refusal_saying c.in-Err.refusal) _ _ _ _ _ (refused_types c.in-Err.ensures.err) (c.tell_refusal.ensures _)
-
-pub returns-in-Ok-declared_types : goal.returns-in-Ok-declared_types
-returns-in-Ok-declared_types g c =
-    let same = ap told_lines c.as_slice.ensures.value ∙ lines_same c.in-Ok-declared_types.types.items (types_of c.in-Ok.table) c.in-Ok-declared_types.ensures in
-    text_says _ (told_lines c.as_slice.result.now) _ _ _ _ _ c.put_types.result
-    (subst (λ text. TypesAs c.args.pickle.now (Text text)) (sym same) (told_types c.in-Ok.ensures.ok.1))
-    c.put_types.ensures.ok c.put_types.ensures.err c.answer.ensures.done c.answer.ensures.failed
-
 pub returns : goal.returns
-returns g c = line_says _ Outside (fault_line (codes "Memory")) _ _ _ _ (refused_types no_memory) c.fail.ensures
+returns g c = ends_says _ c.types_outcome.result _ _ _ _ _ c.types_outcome.ensures c.tell.ensures

@@ -1,0 +1,42 @@
+-- The line that reports a refusal or a fault, by its status, its name and its place.
+use Rattle.std.specs.Prelude.{ℕ, List, [], ◌∷◌, ◌++◌, codes, decimal}
+use Rattle.run_parts.specs.declared.lines.Place.{Place}
+use Rattle.run_parts.specs.declared.lines.Place.TheVariants.{Nowhere, Byte, Declaration, Bit}
+use Rattle.run_parts.specs.declared.status.Status.{Status}
+use Rattle.run_parts.specs.declared.status.Status.TheVariants.{Done, Fault, Refused, Outside}
+
+-- the word with which a line begins
+abbrev pub lead : Status → List ℕ
+lead Done = codes "fault "
+lead Fault = codes "fault "
+lead Refused = codes "refused "
+lead Outside = codes "fault "
+
+-- the place after the name, and the end of the line
+abbrev pub place_text : Place → List ℕ
+place_text Nowhere = 10 ∷ []
+place_text (Byte byte) = codes " at byte " ++ (decimal byte ++ 10 ∷ [])
+place_text (Declaration declaration) = codes " in type " ++ (decimal declaration ++ 10 ∷ [])
+place_text (Bit bit) = codes " at " ++ (decimal bit ++ codes "#b\n")
+
+-- the whole line
+abbrev pub report_line : Status → (kind : List ℕ) → Place → List ℕ
+report_line status kind place = lead status ++ (kind ++ place_text place)
+
+-- the same as a JSON object: its start, up to the name
+abbrev pub json_lead : Status → List ℕ
+json_lead Done = codes "{\"fault\":\""
+json_lead Fault = codes "{\"fault\":\""
+json_lead Refused = codes "{\"refused\":\""
+json_lead Outside = codes "{\"fault\":\""
+
+-- the place after the name, and the end of the object
+abbrev pub json_place : Place → List ℕ
+json_place Nowhere = codes "\"}\n"
+json_place (Byte byte) = codes "\",\"byte\":" ++ (decimal byte ++ codes "}\n")
+json_place (Declaration declaration) = codes "\",\"type\":" ++ (decimal declaration ++ codes "}\n")
+json_place (Bit bit) = codes "\",\"at\":" ++ (decimal bit ++ codes "}\n")
+
+-- the whole object, on a line
+abbrev pub report_json : Status → (kind : List ℕ) → Place → List ℕ
+report_json status kind place = json_lead status ++ (kind ++ json_place place)
