@@ -10,17 +10,25 @@ use Rattle.text_forms.specs.declared.style.Style.{Style}
 use Rattle.text_forms.specs.Styles.{plain}
 use Rattle.command_words.specs.Numerals.{IsNumber, IsNoNumber}
 use Rattle.command_words.specs.Starts.{NamesStart, IsNoStart, NamesBytes, IsNoBytes}
-use Rattle.command_words.specs.Paths.{path_text}
-use Rattle.command_words.specs.Styles.{NamesNumbers, NamesChars, NamesElementsOr, IsNoElementsIfAny, NamesColor}
+use Rattle.command_words.specs.Paths.{steps_of, IsPath}
+use Rattle.command_words.specs.Styles.{NamesNumbers, NamesChars, NamesElementsOr, IsNoElementsIfAny, NamesColor, NamesFaults}
 use Rattle.command_words.specs.Words.{NamesMode, NamesModeIfAny}
 use Rattle.command_words.specs.declared.path.Path.{Path}
 use Rattle.command_words.specs.declared.start.Start.{Start}
 use Rattle.command_words.specs.declared.start.Start.TheVariants.{Bit}
 use Rattle.command_words.specs.declared.terms.Terms.{Terms}
 use Rattle.command_words.specs.declared.words.Job.{Job}
-use Rattle.command_words.specs.declared.words.Job.TheVariants.{Map, MapUnder, Show, Each, Bound, BoundText, Check, Types, Formats, Dump}
-use Rattle.command_words.specs.declared.words.FileNames.{FileNames}
-use Rattle.command_words.specs.declared.words.FileNames.TheVariants.{Words, EndedByZero}
+use Rattle.command_words.specs.declared.words.Job.TheVariants as job
+use Rattle.command_words.specs.declared.words.Job.TheVariants.{Map, Bound, BoundText, Check, Types, Formats, Dump}
+use Rattle.command_words.specs.declared.request.Request.{Request}
+use Rattle.command_words.specs.declared.fault_form.FaultForm.{FaultForm}
+use Rattle.command_words.specs.declared.fault_form.FaultForm.TheVariants.{Text}
+use Rattle.command_words.specs.declared.request.Form.{Form}
+use Rattle.command_words.specs.declared.request.Form.TheVariants.{Printed, Shown}
+use Rattle.command_words.specs.declared.request.Over.{Over}
+use Rattle.command_words.specs.declared.request.Over.TheVariants.{File, Files}
+use Rattle.command_words.specs.declared.request.FileNames.{FileNames}
+use Rattle.command_words.specs.declared.request.FileNames.TheVariants.{Words, EndedByZero}
 
 -- the text of an argument, empty if it wasn't given
 abbrev pub word_in : Found → List ℕ → List ℕ
@@ -56,7 +64,7 @@ NamesOrder word Little = word ≡ codes "little"
 abbrev pub PathIfAny : Option (List ℕ) → Option Path → Type 0
 PathIfAny None path = path ≡ None
 PathIfAny (Some word) None = ⊥
-PathIfAny (Some word) (Some path) = path_text path.steps.items ≡ word
+PathIfAny (Some word) (Some path) = IsPath word (steps_of path.steps.items)
 
 -- how a printed value looks, with so many elements by default
 pub record NamesStyle (found : Found) (default : Option ℕ) (style : Style) : Type 0 where
@@ -88,6 +96,10 @@ pub record AsksMapping (found : Found) (start : Start) (order : Order) (limit : 
   pub read_from : pickle ≡ word_in found (codes "PICKLE")
   pub type_named : name ≡ word_in found (codes "TYPE")
 
+-- the most bytes that are read of a file without a length, if such a file is read
+abbrev pub Spools : Found → Option ℕ → Type 0
+Spools found most = NumberIfAny (first_value found (codes "spool")) most
+
 -- how the value is printed
 abbrev pub IsInMode : Found → Mode → Type 0
 IsInMode found mode = NamesMode (word_in found (codes "mode")) mode
@@ -104,6 +116,35 @@ NamesFiles found (Words names) = (first_value found (codes "files0-from") ≡ No
     × (map string_bytes names.items ≡ option_map_or raw_values (matched_of found (codes "FILE")) [])
 NamesFiles found (EndedByZero path) = first_value found (codes "files0-from") ≡ Some (string_bytes path)
 
+-- how a refusal or a fault is written
+abbrev pub ReportsIn : Found → FaultForm → Type 0
+ReportsIn found faults = NamesFaults (word_in found (codes "faults")) faults
+
+-- how a value is written: printed in a mode, beside the form of refusals and faults, or shown with colors
+abbrev pub IsInForm : Found → Form → Type 0
+IsInForm found (Printed mode faults) = IsInMode found mode × ReportsIn found faults
+IsInForm found (Shown color) = NamesColor (word_in found (codes "color")) color
+
+-- the most elements of an array that are written by default: all, or 16 for the eye
+abbrev pub elements_by_default : Form → Option ℕ
+elements_by_default (Printed mode faults) = None
+elements_by_default (Shown color) = Some 16
+
+-- what a type is mapped over: the one file that an argument names, or many, of which each line may be written at once, and
+-- how many are done may be shown
+abbrev pub IsOver : Found → Over → Type 0
+IsOver found (File file) = string_bytes file ≡ word_in found (codes "FILE")
+IsOver found (Files names flush progress) = NamesFiles found names × FlagIn (one_text found (codes "flush")) flush
+    × FlagIn (one_text found (codes "progress")) progress
+
+-- a request is what arguments request
+pub record AsksRequest (found : Found) (request : Request) : Type 0 where
+  pub mapping : AsksMapping found request.start request.order request.limit (string_bytes request.pickle) (string_bytes request.name)
+  pub spools : Spools found request.spool
+  pub terms : HasTerms found (elements_by_default request.form) request.terms
+  pub form : IsInForm found request.form
+  pub over : IsOver found request.over
+
 -- the first byte of a dump
 abbrev pub DumpsFrom : Found → ℕ → Type 0
 DumpsFrom found from = NamesBytes (first_value found (codes "skip")) (word_in found (codes "from")) from
@@ -115,13 +156,9 @@ DumpsBytes found size = NamesBytes (first_value found (codes "length")) (word_in
 -- a job is what the arguments of its command request
 abbrev pub Asks : Found → Job → Type 0
 Asks found (Map at order limit mode pickle name file) = AsksMapping found (Bit at) order limit (string_bytes pickle) (string_bytes name)
-    × IsInMode found mode × HasTerms found None no_terms × (string_bytes file ≡ word_in found (codes "FILE"))
-Asks found (MapUnder start order limit mode terms pickle name file) = AsksMapping found start order limit (string_bytes pickle) (string_bytes name)
-    × IsInMode found mode × HasTerms found None terms × (string_bytes file ≡ word_in found (codes "FILE"))
-Asks found (Show start order limit terms color pickle name file) = AsksMapping found start order limit (string_bytes pickle) (string_bytes name)
-    × HasTerms found (Some 16) terms × NamesColor (word_in found (codes "color")) color × (string_bytes file ≡ word_in found (codes "FILE"))
-Asks found (Each start order limit mode terms flush pickle name files) = AsksMapping found start order limit (string_bytes pickle) (string_bytes name)
-    × IsInMode found mode × HasTerms found None terms × FlagIn (one_text found (codes "flush")) flush × NamesFiles found files
+    × IsInMode found mode × ReportsIn found Text × Spools found None × HasTerms found None no_terms
+    × (string_bytes file ≡ word_in found (codes "FILE"))
+Asks found (job.Request request) = AsksRequest found request
 Asks found (Bound pickle name bits) = AsksBound found (string_bytes pickle) (string_bytes name) bits × FlagIn (one_text found (codes "text")) false
 Asks found (BoundText pickle name bits mode style) = AsksBound found (string_bytes pickle) (string_bytes name) bits
     × FlagIn (one_text found (codes "text")) true × NamesModeIfAny (first_value found (codes "mode")) mode × NamesStyle found None style
@@ -135,12 +172,17 @@ Asks found (Dump from size ruler file) = DumpsFrom found from × DumpsBytes foun
 abbrev pub IsOther : Option (List ℕ) → List ℕ → Type 0
 IsOther command name = command ≢ Some name
 
+-- the command that writes in a form, over one file or many; none shows many files to the eye
+abbrev pub IsRequestOf : Option (List ℕ) → Form → Over → Type 0
+IsRequestOf command (Printed mode faults) (File file) = command ≡ Some (codes "map")
+IsRequestOf command (Shown color) (File file) = command ≡ Some (codes "show")
+IsRequestOf command (Printed mode faults) (Files names flush progress) = command ≡ Some (codes "each")
+IsRequestOf command (Shown color) (Files names flush progress) = ⊥
+
 -- a job is of the command of a name
 abbrev pub IsJobOf : Option (List ℕ) → Job → Type 0
 IsJobOf command (Map at order limit mode pickle name file) = command ≡ Some (codes "map")
-IsJobOf command (MapUnder start order limit mode terms pickle name file) = command ≡ Some (codes "map")
-IsJobOf command (Show start order limit terms color pickle name file) = command ≡ Some (codes "show")
-IsJobOf command (Each start order limit mode terms flush pickle name files) = command ≡ Some (codes "each")
+IsJobOf command (job.Request request) = IsRequestOf command request.form request.over
 IsJobOf command (Bound pickle name bits) = command ≡ Some (codes "bound")
 IsJobOf command (BoundText pickle name bits mode style) = command ≡ Some (codes "bound")
 IsJobOf command (Types pickle) = command ≡ Some (codes "types")

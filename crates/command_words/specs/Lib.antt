@@ -4,5 +4,7 @@ pub mod Starts
 pub mod WordText
 pub mod Words
 pub mod Paths
+pub mod StepCuts
 pub mod Styles
 pub mod Found
+pub mod Requests

@@ -4,14 +4,12 @@ use Rattle.text_forms.specs.declared.mode.Mode.{Mode}
 use Rattle.text_forms.specs.declared.mode.Mode.TheVariants.{Flat, Tree, Json, Lines}
 use Rattle.command_words.specs.declared.words.Asked.{Asked}
 use Rattle.command_words.specs.declared.words.Job.{Job}
-use Rattle.command_words.specs.declared.words.Job.TheVariants.{Map, MapUnder, Show, Each, Bound, BoundText, Check, Types, Formats, Dump}
+use Rattle.command_words.specs.declared.words.Job.TheVariants.{Map, Request, Bound, BoundText, Check, Types, Formats, Dump}
 
 -- a check of the pickle with this name
 abbrev pub IsCheckOf : List ℕ → Job → Type 0
 IsCheckOf name (Map at order limit mode pickle type file) = ⊥
-IsCheckOf name (MapUnder start order limit mode terms pickle type file) = ⊥
-IsCheckOf name (Show start order limit terms color pickle type file) = ⊥
-IsCheckOf name (Each start order limit mode terms flush pickle type files) = ⊥
+IsCheckOf name (Request request) = ⊥
 IsCheckOf name (Bound pickle type bits) = ⊥
 IsCheckOf name (BoundText pickle type bits mode style) = ⊥
 IsCheckOf name (Check pickle) = string_bytes pickle ≡ name

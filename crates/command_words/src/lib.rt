@@ -3,9 +3,11 @@
 
 pub mod ask;
 pub mod color;
+pub mod fault_form;
 pub mod numerals;
 pub mod offset_word;
 pub mod path;
+pub mod request;
 pub mod start;
 pub mod terms;
 pub mod words;

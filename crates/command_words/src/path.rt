@@ -1,9 +1,11 @@
 //! Paths to the parts of a value, as arguments.
 
-ghost use Rattle.std.specs.Prelude.{◌≡◌, ◌≤◌, ◌<◌, [], ◌∷◌, ◌++◌, length, codes, decimal, IfOk, IfSome, OnOk};
-ghost use Rattle.command_words.specs.Paths.{step_text, steps_text, path_text};
+ghost use Rattle.std.specs.Prelude.{◌≡◌, ◌≢◌, ℕ, ◌≤◌, ◌<◌, ◌^◌, true, false, List, [], ◌∷◌, ◌++◌, length, drop, slice_index, EachIndex, codes, decimal, IfOk, IfSome, IfNone, OnOk, IsTrue, ◌↔◌};
+ghost use Rattle.command_words.specs.Paths.{PathStep, step_of, steps_of, is_name_byte, IsName, IsStepText, AreStepsText, IsPath, HasOnePath};
+ghost use Rattle.command_words.specs.StepCuts.{is_mark, IsFirstMark, MayFollow};
 ghost use Rattle.command_words.specs.declared.path.PathFault.TheVariants.{Memory};
 
+use crate::numerals::decimal as decimal_number;
 use itoa::Buffer;
 use std::alloc::{AllocError, Global};
 use thiserror::Error;
@@ -53,9 +55,11 @@ impl From<AllocError> for PathFault {
 /// - `[place]` leads to an element.
 ///
 /// A name has letters, digits and `_`, and doesn't begin with a digit. A place is below 2^64, in decimal digits without
-/// leading zeros. This form is this project's own; the mode `lines` prints it.
+/// leading zeros. This form is this project's own; the mode `lines` prints it. The fault is `Form` only where no steps
+/// have this path.
 pub fn read_path(alloc: Global, word: &[u8]) -> Result<Path, PathFault>
-    ensures { IfOk result (λ path. path_text path.steps.items ≡ word.now) }
+    ensures ok { IfOk result (λ path. IsPath word.now (steps_of path.steps.items)) }
+    ensures form { result ≡ Err PathFault.Form → (steps : List PathStep) → ¬ (IsPath word.now steps) }
 {
     match word {
         b"" => Err(PathFault::Form),
@@ -68,8 +72,14 @@ pub fn read_path(alloc: Global, word: &[u8]) -> Result<Path, PathFault>
     }
 }
 
+/// A path has one reading. This function does nothing: its contract is a law.
+pub fn has_one_path()
+    ensures law { HasOnePath }
+{}
+
 fn read_steps(alloc: Global, text: &[u8]) -> Result<Vec<Step>, PathFault>
-    ensures { IfOk result (λ steps. steps_text steps.items ≡ text.now) }
+    ensures ok { IfOk result (λ steps. AreStepsText text.now (steps_of steps.items)) }
+    ensures form { result ≡ Err PathFault.Form → (steps : List PathStep) → ¬ (AreStepsText text.now steps) }
 {
     let mut steps = Vec::new(alloc);
     let mut done = 0;
@@ -83,7 +93,8 @@ fn read_steps(alloc: Global, text: &[u8]) -> Result<Vec<Step>, PathFault>
 }
 
 fn add(steps: &mut Vec<Step>, step: Step) -> Result<(), PathFault>
-    ensures { OnOk result (steps.new.items ≡ steps.old.items ++ step ∷ []) }
+    ensures ok { OnOk result (steps.new.items ≡ steps.old.items ++ step ∷ []) }
+    ensures fault { result ≢ Err PathFault.Form }
 {
     match steps.push(step) {
         Ok(()) => Ok(()),
@@ -96,18 +107,26 @@ fn step_len(text: &[u8]) -> usize
     requires { 0 < length text.now }
     ensures least { 0 < result }
     ensures most { result ≤ length text.now }
+    ensures within { (k : ℕ) → 0 < k → k < result → is_mark (slice_index text.now k) ≡ false }
+    ensures next { MayFollow (drop result text.now) }
 {
-    let next = text[1..]
-        .iter()
-        .position(|byte| *byte == b'.' || *byte == b'[');
-    match next {
+    match mark_place(&text[1..]) {
         Some(place) => place + 1,
         None => text.len(),
     }
 }
 
+// The place of the first byte that begins a step.
+fn mark_place(text: &[u8]) -> Option<usize>
+    ensures some { IfSome result (IsFirstMark text.now) }
+    ensures none { IfNone result (EachIndex text.now (λ k. is_mark (slice_index text.now k) ≡ false)) }
+{
+    text.iter().position(|byte| *byte == b'.' || *byte == b'[')
+}
+
 fn read_step(alloc: Global, word: &[u8]) -> Result<Step, PathFault>
-    ensures { IfOk result (λ step. step_text step ≡ word.now) }
+    ensures ok { IfOk result (λ step. IsStepText word.now (step_of step)) }
+    ensures form { result ≡ Err PathFault.Form → (step : PathStep) → ¬ (IsStepText word.now step) }
 {
     match word.split_first() {
         Some((b'.', name)) => read_field(alloc, name),
@@ -118,7 +137,8 @@ fn read_step(alloc: Global, word: &[u8]) -> Result<Step, PathFault>
 
 // The step whose text is a dot and these bytes.
 fn read_field(alloc: Global, name: &[u8]) -> Result<Step, PathFault>
-    ensures { IfOk result (λ step. step_text step ≡ codes "." ++ name.now) }
+    ensures ok { IfOk result (λ step. IsStepText (codes "." ++ name.now) (step_of step)) }
+    ensures form { result ≡ Err PathFault.Form → (step : PathStep) → ¬ (IsStepText (codes "." ++ name.now) step) }
 {
     if is_name(name) {
         return Ok(Step::Field(copy(alloc, name)?));
@@ -138,18 +158,27 @@ fn copy(alloc: Global, bytes: &[u8]) -> Result<Vec<u8>, AllocError>
 }
 
 // Whether bytes are a name: letters, digits and `_`, the first not a digit.
-fn is_name(bytes: &[u8]) -> bool {
-    match bytes.first() {
-        Some(first) if !first.is_ascii_digit() => bytes
-            .iter()
-            .all(|byte| byte.is_ascii_alphanumeric() || *byte == b'_'),
-        _ => false,
+fn is_name(bytes: &[u8]) -> bool
+    ensures { IsTrue result ↔ IsName bytes.now }
+{
+    match bytes.split_first() {
+        Some((first, _)) => !first.is_ascii_digit() && are_name_bytes(bytes),
+        None => false,
     }
+}
+
+fn are_name_bytes(bytes: &[u8]) -> bool
+    ensures { IsTrue result ↔ EachIndex bytes.now (λ k. is_name_byte (slice_index bytes.now k) ≡ true) }
+{
+    bytes
+        .iter()
+        .all(|byte| byte.is_ascii_alphanumeric() || *byte == b'_')
 }
 
 // The step whose text is a bracket and these bytes.
 fn read_element(place: &[u8]) -> Result<Step, PathFault>
-    ensures { IfOk result (λ step. step_text step ≡ codes "[" ++ place.now) }
+    ensures ok { IfOk result (λ step. IsStepText (codes "[" ++ place.now) (step_of step)) }
+    ensures form { result ≡ Err PathFault.Form → (step : PathStep) → ¬ (IsStepText (codes "[" ++ place.now) step) }
 {
     match place.split_last() {
         Some((b']', digits)) => match number(digits) {
@@ -162,9 +191,10 @@ fn read_element(place: &[u8]) -> Result<Step, PathFault>
 
 // The number with these decimal digits, if it is below 2^64 and they have no leading zeros.
 fn number(digits: &[u8]) -> Option<u64>
-    ensures { IfSome result (λ number. decimal number ≡ digits.now) }
+    ensures some { IfSome result (λ number. decimal number ≡ digits.now) }
+    ensures none { IfNone result ((number : ℕ) → number < 2 ^ 64 → decimal number ≢ digits.now) }
 {
-    let number: u64 = std::str::from_utf8(digits).ok()?.parse().ok()?;
+    let number = decimal_number(digits)?;
     let mut buffer = Buffer::new();
     if buffer.format(number).as_bytes() == digits {
         Some(number)

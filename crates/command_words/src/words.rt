@@ -8,14 +8,15 @@ mod usage;
 
 ghost use Rattle.std.specs.Prelude.{◌≡◌, ◌≢◌, ◌⊎◌, [], Some, codes, map, string_bytes, MatchResult, IfOk, IfErr, true, false};
 ghost use Rattle.clap.specs.Matches.{found_of, first_value, subcommand_name_of};
-ghost use Rattle.command_words.specs.Paths.{path_text};
+ghost use Rattle.command_words.specs.Paths.{steps_of, IsPath};
 ghost use Rattle.command_words.specs.Words.{IsCheckOf, IsBareCheckOf, NamesMode, NamesModeIfAny};
-ghost use Rattle.command_words.specs.Found.{word_in, NumberIn, HasTerms, no_terms, NamesOrder, NamesFiles, PathIfAny, StartsNowhere};
+ghost use Rattle.command_words.specs.Found.{word_in, NumberIn, NumberIfAny, HasTerms, no_terms, NamesOrder, NamesFiles, PathIfAny, StartsNowhere};
 ghost use Rattle.command_words.specs.Found.{Asks, IsJobOf, IsNoRange, IsNoBound};
 ghost use Rattle.command_words.specs.declared.words.WordFault.TheVariants.{Memory};
 
-use crate::color::Color;
+use crate::fault_form::FaultForm;
 use crate::path::{Path, PathFault, read_path};
+use crate::request::{FileNames, Form, Over, Request};
 use crate::start::Start;
 use crate::terms::Terms;
 use bit_space::Order;
@@ -27,7 +28,7 @@ use commands::{DEFAULT_LIMIT, PROGRAM, SHOWN_ELEMENTS, program};
 use found::{flag_of, number_if_any, number_of, word, word_of};
 use shown::shown_words;
 use std::alloc::{AllocError, Global};
-use style::{color_of, style_of};
+use style::{color_of, faults_of, style_of};
 use text_forms::mode::Mode;
 use text_forms::style::{Chars, Numbers, Style};
 use thiserror::Error;
@@ -49,41 +50,9 @@ pub enum Job {
         name: String,
         file: String,
     },
-    /// Map a type over a file, and print the value if it meets the terms. At least one is given, or a start that is
-    /// counted from the file's end.
-    MapUnder {
-        start: Start,
-        order: Order,
-        limit: u64,
-        mode: Mode,
-        terms: Terms,
-        pickle: String,
-        name: String,
-        file: String,
-    },
-    /// Map a type over a file, and show the value to the eye.
-    Show {
-        start: Start,
-        order: Order,
-        limit: u64,
-        terms: Terms,
-        color: Color,
-        pickle: String,
-        name: String,
-        file: String,
-    },
-    /// Map a type over one file after another, and print a line for each. With `flush` each line is written at once.
-    Each {
-        start: Start,
-        order: Order,
-        limit: u64,
-        mode: Mode,
-        terms: Terms,
-        flush: bool,
-        pickle: String,
-        name: String,
-        files: FileNames,
-    },
+    /// Map a type over one file or many, as a request says. A map of one file has at least one term, a start that is
+    /// counted from the file's end, refusals and faults in JSON, or a limit on the bytes of a file without a length.
+    Request(Request),
     /// Print the most steps and slots that a mapping of a type over `bits` bits takes.
     Bound {
         pickle: String,
@@ -116,15 +85,6 @@ pub enum Job {
         ruler: bool,
         file: String,
     },
-}
-
-/// Where the names of many files are.
-#[derive(Debug, Drop, PartialEq, Eq)]
-pub enum FileNames {
-    /// In the arguments.
-    Words(Vec<String>),
-    /// In the file of this name, or in standard input for `-`. Each name ends with a byte 0.
-    EndedByZero(String),
 }
 
 /// Why arguments aren't a job.
@@ -312,33 +272,33 @@ fn read_map(alloc: Global, found: &ArgMatches<'_>) -> Result<Job, WordFault>
     ensures offset { IfErr result (λ fault. fault ≡ WordFault.Offset → StartsNowhere (found_of found.now)) }
 {
     let terms = terms_of(alloc, found, None)?;
-    let start = start_of(found)?;
-    let order = order_of(word(found, "endian"));
-    let limit = limit_of(alloc, found)?;
-    let mode = mode_of(word(found, "mode"));
-    let pickle = word_of(alloc, found, "PICKLE")?;
-    let name = word_of(alloc, found, "TYPE")?;
-    let file = word_of(alloc, found, "FILE")?;
-    match start {
-        Start::Bit(at) if has_no_terms(&terms) => Ok(Job::Map {
-            at,
-            order,
-            limit,
-            mode,
-            pickle,
-            name,
-            file,
-        }),
-        _ => Ok(Job::MapUnder {
+    let spool = spool_of(alloc, found)?;
+    match (start_of(found)?, faults_of(word(found, "faults"))) {
+        (Start::Bit(at), FaultForm::Text) if spool.is_none() && has_no_terms(&terms) => Ok(
+            Job::Map {
+                at,
+                order: order_of(word(found, "endian")),
+                limit: limit_of(alloc, found)?,
+                mode: mode_of(word(found, "mode")),
+                pickle: word_of(alloc, found, "PICKLE")?,
+                name: word_of(alloc, found, "TYPE")?,
+                file: word_of(alloc, found, "FILE")?,
+            },
+        ),
+        (start, faults) => Ok(Job::Request(Request {
             start,
-            order,
-            limit,
-            mode,
+            order: order_of(word(found, "endian")),
+            limit: limit_of(alloc, found)?,
+            spool,
             terms,
-            pickle,
-            name,
-            file,
-        }),
+            form: Form::Printed {
+                mode: mode_of(word(found, "mode")),
+                faults,
+            },
+            pickle: word_of(alloc, found, "PICKLE")?,
+            name: word_of(alloc, found, "TYPE")?,
+            over: Over::File(word_of(alloc, found, "FILE")?),
+        })),
     }
 }
 
@@ -347,16 +307,17 @@ fn read_show(alloc: Global, found: &ArgMatches<'_>) -> Result<Job, WordFault>
     ensures command { IfOk result (IsJobOf (Some (codes "show"))) }
     ensures offset { IfErr result (λ fault. fault ≡ WordFault.Offset → StartsNowhere (found_of found.now)) }
 {
-    Ok(Job::Show {
+    Ok(Job::Request(Request {
         start: start_of(found)?,
         order: order_of(word(found, "endian")),
         limit: limit_of(alloc, found)?,
+        spool: spool_of(alloc, found)?,
         terms: terms_of(alloc, found, Some(SHOWN_ELEMENTS))?,
-        color: color_of(word(found, "color")),
+        form: Form::Shown(color_of(word(found, "color"))),
         pickle: word_of(alloc, found, "PICKLE")?,
         name: word_of(alloc, found, "TYPE")?,
-        file: word_of(alloc, found, "FILE")?,
-    })
+        over: Over::File(word_of(alloc, found, "FILE")?),
+    }))
 }
 
 fn read_each(alloc: Global, found: &ArgMatches<'_>) -> Result<Job, WordFault>
@@ -364,17 +325,24 @@ fn read_each(alloc: Global, found: &ArgMatches<'_>) -> Result<Job, WordFault>
     ensures command { IfOk result (IsJobOf (Some (codes "each"))) }
     ensures offset { IfErr result (λ fault. fault ≡ WordFault.Offset → StartsNowhere (found_of found.now)) }
 {
-    Ok(Job::Each {
+    Ok(Job::Request(Request {
         start: start_of(found)?,
         order: order_of(word(found, "endian")),
         limit: limit_of(alloc, found)?,
-        mode: mode_of(word(found, "mode")),
+        spool: spool_of(alloc, found)?,
         terms: terms_of(alloc, found, None)?,
-        flush: flag_of(found, "flush"),
+        form: Form::Printed {
+            mode: mode_of(word(found, "mode")),
+            faults: faults_of(word(found, "faults")),
+        },
         pickle: word_of(alloc, found, "PICKLE")?,
         name: word_of(alloc, found, "TYPE")?,
-        files: names_in(alloc, found)?,
-    })
+        over: Over::Files {
+            names: names_in(alloc, found)?,
+            flush: flag_of(found, "flush"),
+            progress: flag_of(found, "progress"),
+        },
+    }))
 }
 
 // The most steps of a mapping.
@@ -383,6 +351,14 @@ fn limit_of(alloc: Global, found: &ArgMatches<'_>) -> Result<u64, WordFault>
     ensures fault { IfErr result (λ fault. fault ≢ WordFault.Offset) }
 {
     number_of(alloc, found, "limit", "--limit <N>", DEFAULT_LIMIT)
+}
+
+// The most bytes that are read of a file without a length, if such a file is read.
+fn spool_of(alloc: Global, found: &ArgMatches<'_>) -> Result<Option<u64>, WordFault>
+    ensures ok { IfOk result (NumberIfAny (first_value (found_of found.now) (codes "spool"))) }
+    ensures fault { IfErr result (λ fault. fault ≢ WordFault.Offset) }
+{
+    number_if_any(alloc, found, "spool", "--spool <BYTES>")
 }
 
 fn names_in(alloc: Global, found: &ArgMatches<'_>) -> Result<FileNames, AllocError>
@@ -457,7 +433,7 @@ fn part_of(alloc: Global, found: &ArgMatches<'_>) -> Result<Option<Path>, WordFa
 
 // The path that an argument is.
 fn path_of(alloc: Global, word: &str) -> Result<Path, WordFault>
-    ensures path { IfOk result (λ path. path_text path.steps.items ≡ word.now) }
+    ensures path { IfOk result (λ path. IsPath word.now (steps_of path.steps.items)) }
     ensures fault { IfErr result (λ fault. fault ≡ WordFault.Offset → ⊥) }
 {
     match read_path(alloc, word.as_bytes()) {

@@ -37,11 +37,13 @@ Options of map, show and each:
   --slots N        the most slots of the mapping, of each kind, 0 to 18446744073709551615 [default: any number]
   --get PATH       print a part of the value: . or steps of .name, .place, [place] [default: .]
   --elements N     the most elements that are printed of an array, or all [default: all; show: 16]
+  --spool BYTES    read a FILE without a length, as a pipe, into memory, up to so many bytes [default: it isn't opened]
 
 Options of map and each:
   --mode MODE      how the value is printed: flat, tree, json or lines; each: flat or json [default: flat]
   --numbers FORM   how numbers are printed, decimal or hex [default: decimal]
   --chars FORM     how arrays of char are printed, numbers or text [default: numbers]
+  --faults FORM    how a refusal or a fault is printed, text or json [default: text]
 
 Options of show:
   --color WHEN     print colors: auto, always or never [default: auto]
@@ -49,6 +51,7 @@ Options of show:
 Options of each:
   --files0-from PATH  read the names of the files from PATH, or from standard input for -, each ended by a byte 0
   --flush          write the line of a file before the next file is mapped [default: when there is much to write]
+  --progress       show how many files are done, if standard error is a terminal [default: no]
 
 Options of map, each, bound, check and types:
   --why            explain why a pickle or a type's name is refused, or what stops a mapping [default: no]
@@ -56,6 +59,9 @@ Options of map, each, bound, check and types:
 Options of bound:
   --text           print the most bytes of the printed value too
   --mode MODE      with --text, in this mode alone [default: in any]
+  --numbers FORM   with --text, for numbers in this form [default: decimal]
+  --chars FORM     with --text, for arrays of char in this form [default: numbers]
+  --elements N     with --text, for so many elements of an array, or all [default: all]
 
 Options of dump:
   --from OFFSET    the first byte, in whole bytes [default: 0#B]
@@ -235,12 +241,18 @@ fn each<'a>(alloc: Global) -> Result<Command<'a>, AllocError> {
         .long("flush")
         .action(ArgAction::SetTrue)
         .help("Write the line of a file before the next file is mapped [default: no]");
+    let progress = Arg::new(alloc, "progress")
+        .long("progress")
+        .action(ArgAction::SetTrue)
+        .help("Show how many files are done, if standard error is a terminal [default: no]")
+        .hide_short_help(true);
     let command = Command::new(alloc, "each")
         .about("Maps a type over many files, one after the other, and prints a line for each")
         .after_long_help(EACH_HELP);
     with_style(alloc, with_mapping(alloc, command)?, modes)?
         .arg(why(alloc))?
         .arg(flush)?
+        .arg(progress)?
         .arg(names)?
         .arg(pickle(alloc))?
         .arg(name(alloc))?
@@ -265,7 +277,8 @@ fn with_mapping<'a>(alloc: Global, command: Command<'a>) -> Result<Command<'a>, 
         .arg(whole(alloc))?
         .arg(max_output(alloc))?
         .arg(slots(alloc))?
-        .arg(part(alloc))
+        .arg(part(alloc))?
+        .arg(spool(alloc))
 }
 
 // The options of a printed value.
@@ -278,7 +291,8 @@ fn with_style<'a>(
         .arg(option(alloc, "mode", "MODE", "How the value is printed", "flat").value_parser(modes))?
         .arg(numbers(alloc))?
         .arg(chars(alloc))?
-        .arg(elements(alloc, "all"))
+        .arg(elements(alloc, "all"))?
+        .arg(faults(alloc))
 }
 
 fn byte<'a>(alloc: Global) -> Result<Arg<'a>, AllocError> {
@@ -323,6 +337,17 @@ fn max_output<'a>(alloc: Global) -> Arg<'a> {
         .hide_short_help(true)
 }
 
+fn spool<'a>(alloc: Global) -> Arg<'a> {
+    Arg::new(alloc, "spool")
+        .long("spool")
+        .value_name("BYTES")
+        .help(
+            "Read a FILE without a length, as a pipe, into memory, up to so many bytes, 0 to 18446744073709551615 [default: it isn't opened]",
+        )
+        .value_parser(clap::value_parser!(u64))
+        .hide_short_help(true)
+}
+
 fn part<'a>(alloc: Global) -> Arg<'a> {
     Arg::new(alloc, "get").long("get").value_name("PATH").help(
         "Print a part of the value: . or steps of .name, .place, [place] [default: .]",
@@ -353,6 +378,19 @@ fn chars<'a>(alloc: Global) -> Arg<'a> {
     .value_parser(forms)
 }
 
+fn faults<'a>(alloc: Global) -> Arg<'a> {
+    let forms = ["text", "json"].as_slice();
+    option(
+        alloc,
+        "faults",
+        "FORM",
+        "How a refusal or a fault is printed",
+        "text",
+    )
+    .value_parser(forms)
+    .hide_short_help(true)
+}
+
 fn elements<'a>(alloc: Global, default: &'a str) -> Arg<'a> {
     let help = "The most elements that are printed of an array, or all";
     option(alloc, "elements", "N", help, default)
@@ -374,15 +412,38 @@ fn bound<'a>(alloc: Global) -> Result<Command<'a>, AllocError> {
         .help("With --text, in this mode alone [default: in any]")
         .value_parser(modes)
         .requires_arg("text")?;
-    Command::new(alloc, "bound")
+    let command = Command::new(alloc, "bound")
         .about("Prints the most steps and slots that mapping a type over so many bits takes")
         .after_long_help(BOUND_HELP)
         .arg(text)?
-        .arg(mode)?
+        .arg(mode)?;
+    with_bound_style(alloc, command)?
         .arg(why(alloc))?
         .arg(pickle(alloc))?
         .arg(name(alloc))?
         .arg(bits)
+}
+
+// The options of the style that a bound is for. They say nothing without the bound on the printed value.
+fn with_bound_style<'a>(alloc: Global, command: Command<'a>) -> Result<Command<'a>, AllocError> {
+    let number_forms = ["decimal", "hex"].as_slice();
+    let char_forms = ["numbers", "text"].as_slice();
+    let numbers = bound_option(alloc, "numbers", "FORM")
+        .help("With --text, for numbers in this form [default: decimal]")
+        .value_parser(number_forms)
+        .requires_arg("text")?;
+    let chars = bound_option(alloc, "chars", "FORM")
+        .help("With --text, for arrays of char in this form [default: numbers]")
+        .value_parser(char_forms)
+        .requires_arg("text")?;
+    let elements = bound_option(alloc, "elements", "N")
+        .help("With --text, for so many elements of an array, or all [default: all]")
+        .requires_arg("text")?;
+    command.arg(numbers)?.arg(chars)?.arg(elements)
+}
+
+fn bound_option<'a>(alloc: Global, name: &'a str, value: &'a str) -> Arg<'a> {
+    Arg::new(alloc, name).long(name).value_name(value)
 }
 
 fn check<'a>(alloc: Global) -> Result<Command<'a>, AllocError> {

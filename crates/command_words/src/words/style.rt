@@ -1,11 +1,12 @@
 //! How a printed value looks, as arguments request it.
 ghost use Rattle.std.specs.Prelude.{◌≡◌, ◌≢◌, ◌⊎◌, IfOk, IfErr, codes};
 ghost use Rattle.clap.specs.Matches.{found_of, first_value};
-ghost use Rattle.command_words.specs.Styles.{NamesNumbers, NamesChars, NamesElements, IsNoElements, IsNoElementsIfAny, NamesColor};
+ghost use Rattle.command_words.specs.Styles.{NamesNumbers, NamesChars, NamesElements, IsNoElements, IsNoElementsIfAny, NamesColor, NamesFaults};
 ghost use Rattle.command_words.specs.Found.{NamesStyle};
 ghost use Rattle.command_words.specs.declared.words.WordFault.TheVariants.{Offset, Memory};
 
 use crate::color::Color;
+use crate::fault_form::FaultForm;
 use crate::numerals::decimal;
 use crate::words::WordFault;
 use crate::words::found::word;
@@ -42,6 +43,16 @@ pub fn color_of(word: &str) -> Color
         "always" => Color::Always,
         "never" => Color::Never,
         _ => Color::Auto,
+    }
+}
+
+/// How a refusal or a fault is written, as an argument names it: in words, the default, for any other than `json`.
+pub fn faults_of(word: &str) -> FaultForm
+    ensures { NamesFaults word.now result }
+{
+    match word {
+        "json" => FaultForm::Json,
+        _ => FaultForm::Text,
     }
 }
 

@@ -1,9 +1,14 @@
-use Rattle.std.proofs.Common.{◌≡◌, ◌-◌, ◌≤◌, length, take}
-use Rattle.command_words.specs.Paths.{steps_text}
+use Rattle.std.proofs.Common.{◌≡◌, ◌-◌, ◌≤◌, ◌⊎◌, length, take, drop}
+use Rattle.command_words.specs.Paths.{steps_of, AreStepsText}
+use Rattle.command_words.specs.StepCuts.{MayFollow}
 use Rattle.command_words.proofs.path.read_steps.Given as goal
 
 abbrev pub invariant-loop-done : goal.invariant-loop-done
-invariant-loop-done l = (l.done ≤ length l.text) × (steps_text l.steps.items ≡ take l.done l.text)
+invariant-loop-done l = record {
+  within : l.done ≤ length l.text;
+  so_far : AreStepsText (take l.done l.text) (steps_of l.steps.items);
+  begins : (l.done ≡ 0) ⊎ MayFollow (drop l.done l.text);
+}
 
 abbrev pub decreases-loop-done : goal.decreases-loop-done
 decreases-loop-done l = length l.text - l.done
