@@ -1,6 +1,7 @@
 pub mod FileLines
 pub mod SmallTypes
 pub mod SmallValues
+pub mod FewMembers
 pub mod RunLaws
 pub mod Counted
 pub mod Mappings

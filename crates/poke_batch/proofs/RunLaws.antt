@@ -1,5 +1,5 @@
 -- The laws of what runs write.
-use Rattle.std.proofs.Common.{◌≡◌, ◌*◌, ℕ, zero, suc, Bool, true, false, List, Option, Some, None, Ok, length, codes, inl, inr, refl, sym, ap, ◌∙◌, subst}
+use Rattle.std.proofs.Common.{◌≡◌, ◌*◌, ◌^◌, ◌<◌, ℕ, zero, suc, Bool, true, false, List, Option, Some, None, Ok, length, codes, inl, inr, refl, sym, ap, ◌∙◌, subst, arith}
 use Rattle.std.specs.Prelude.{nat_le, if◌then◌else◌}
 use Rattle.std.specs.Io.KnownBytes.{Appends}
 use Rattle.bit_space.specs.SpaceView.{SpaceView}
@@ -18,24 +18,33 @@ use Rattle.value_text.specs.JsonValue.{json_of}
 use Rattle.run_parts.specs.Lines.{fault_at_line}
 use Rattle.poke_batch.specs.PathParts.{part_at, node_at}
 use Rattle.value_text.specs.Printed.{printed}
-use Rattle.poke_batch.specs.RunLaws.{MappedPartsAreSmall, WritesJson, MappedJsonReadsBack, PartJsonReadsBack}
+use Rattle.poke_batch.specs.RunLaws.{MappedPartsAreSmall, part_json, WritesJson, WritesStyledJson, MappedJsonReadsBack, PartJsonReadsBack, StyledPartJsonReadsBack}
 use Rattle.poke_batch.specs.Runs.{IsAsked, HasAnswer, MapsAs, value, stops, device, unknown, refused_map, no_memory}
 use Rattle.poke_batch.specs.RunsUnder.{text_in, text_saying, is_left, part_saying, part_text, kept_saying, value_saying, MapsUnder, mapped_under, ended_under, slots_under}
-use Rattle.value_text.specs.SmallParts.{HasSmallParts, AreSmallParts}
+use Rattle.value_text.specs.SmallParts.{HasSmallParts, AreSmallParts, HasFewMembers, HaveFewMembers}
 use Rattle.run_parts.specs.Told.{Saying, Text, Line, IsSaid, IsTold, IsWritten}
 use Rattle.value_text.proofs.JsonValues.{json_reads_back}
+use Rattle.value_text.proofs.StyledJsonValues.{styled_json_reads_back}
 use Rattle.value_text.proofs.PlainTexts.{prints_plain}
 use Rattle.text_forms.specs.Styles.{plain}
 use Rattle.pickle_types.specs.declared.table.Table.{Table}
 use Rattle.pickle_types.specs.declared.table.TypeId.{TypeId}
 use Rattle.pickle_types.specs.NodeParts.{char_node_of}
-use Rattle.pickle_types.specs.TypeTable.{nodes_of}
+use Rattle.pickle_types.specs.TypeTable.{nodes_of, type_named}
 use Rattle.poke_batch.proofs.PartsKept.{same_value, part_keeps}
-use Rattle.poke_batch.proofs.SmallTypes.{accepted_small}
+use Rattle.poke_batch.proofs.SmallTypes.{IsSmallType, accepted_small}
 use Rattle.poke_batch.proofs.SmallValues.{value_small}
+use Rattle.poke_batch.proofs.FewMembers.{value_few}
+
+type_small : (pickle name : List ℕ) (type : PokeType) → IsAsked pickle name type → IsSmallType type
+type_small pickle name type asked = accepted_small pickle asked.declarations asked.types name type asked.accepted asked.found
 
 pub parts_small : MappedPartsAreSmall
-parts_small pickle name m type levels start mapped asked fits = value_small m type levels start mapped (accepted_small pickle asked.declarations asked.types name type asked.accepted asked.found) fits
+parts_small pickle name m type levels start mapped asked fits = value_small m type levels start mapped (type_small pickle name type asked) fits
+
+-- the node of the type of the requested part
+abbrev part_node : Table → TypeId → Terms → (mapped : Value) → Option ℕ
+part_node table id terms mapped = node_at (nodes_of table) terms.part (Some id.node) mapped
 
 -- in the plain style a part is printed as without a style
 pub plain_part : (table : Table) (id : TypeId) (ask : Ask) (terms : Terms) (whole part : Value) → terms.style ≡ plain → terms.look ≡ None → part_text table id ask terms whole part ≡ printed ask.mode part
@@ -69,70 +78,55 @@ part_small = part_keeps HasSmallParts one
     one : (whole part : Value) (place : ℕ) → HasSmallParts whole → member_at (members_of whole) place ≡ Some part → HasSmallParts part
     one (Mapped label start end members) part place h e = member_small members place part h.1 e
 
-module _ (pickle : List ℕ) (ask : Ask) (before : SpaceView) (status : Status) (out out' err err' : Option (List ℕ)) (mode : ask.mode ≡ Json) (done : status ≡ Done) where
+member_few : (members : Members) (place : ℕ) (part : Value) → HaveFewMembers members → member_at members place ≡ Some part → HasFewMembers part
+member_few NoMembers place part h e = cc
+member_few (MemberThen v rest) zero part h e = subst HasFewMembers (same_value v part e) h.0
+member_few (MemberThen v rest) (suc place) part h e = member_few rest place part h.1 e
+member_few (AbsentThen rest) zero part h e = cc
+member_few (AbsentThen rest) (suc place) part h e = member_few rest place part h e
+
+part_few : (path : Option Path) (whole part : Value) → HasFewMembers whole → part_at path whole ≡ Some part → HasFewMembers part
+part_few = part_keeps HasFewMembers one
+  where
+    one : (whole part : Value) (place : ℕ) → HasFewMembers whole → member_at (members_of whole) place ≡ Some part → HasFewMembers part
+    one (Mapped label start end members) part place h e = member_few members place part h.1 e
+
+module _ (pickle : List ℕ) (ask : Ask) (before : SpaceView) (status : Status) (out out' err err' : Option (List ℕ)) (done : status ≡ Done) where
   abbrev IsSaidHere : Saying → Type 0
   IsSaidHere saying = IsSaid saying status out out' err err'
+
+  -- the value is what the type means on the file's bits, where these are known
+  abbrev IsMeant : PokeType → Value → Type 0
+  IsMeant type mapped = (bytes : List ℕ) → before.bytes ≡ Some bytes → HasAnswer bytes type ask.order ask.start ask.limit (Ok mapped)
 
   -- no line is printed
   no_line : {A : Type 0} (line_status : Status) (line : List ℕ) → (line_status ≡ Done → ⊥) → IsSaidHere (Line line_status line) → A
   no_line line_status line other h = absurd (other (nothing_told line_status line status err err' done h.1))
 
-  module _ (path : Option Path) {type : PokeType} {mapped : Value} (asked : IsAsked pickle ask.name.now type)
-      (means : (bytes : List ℕ) → before.bytes ≡ Some bytes → HasAnswer bytes type ask.order ask.start ask.limit (Ok mapped)) (fits : Fits (8 * before.len) type no_values ask.start mapped) where
-    text_reads : (part : Value) → part_at path mapped ≡ Some part → IsSaidHere (Text (printed ask.mode part)) → WritesJson pickle ask path before out out'
-    text_reads part found h = record {
-      type = type;
-      asked = asked;
-      mapped = mapped;
-      means = means;
-      fits = fits;
-      part = part;
-      found = found;
-      text = printed ask.mode part;
-      written = whole_written (printed ask.mode part) status out out' err err' done h;
-      reads = subst (λ m. Reads (printed m part) (json_of part)) (sym mode) (json_reads_back part (part_small path mapped part small found));
-    }
-      where
-        small : HasSmallParts mapped
-        small = parts_small pickle ask.name.now (8 * before.len) type no_values ask.start mapped asked fits
+  -- what follows from a part's text that was written follows from what is said of the part
+  module _ {A : Type 0} (path : Option Path) (mapped : Value) (text : Value → List ℕ) (follows : (part : Value) → part_at path mapped ≡ Some part → Appends out out' (text part) → A) where
+    text_said : (part : Value) → part_at path mapped ≡ Some part → IsSaidHere (Text (text part)) → A
+    text_said part found h = follows part found (whole_written (text part) status out out' err err' done h)
 
-    kept_reads : (most : Option ℕ) (part : Value) → part_at path mapped ≡ Some part → IsSaidHere (text_saying most ask.start (printed ask.mode part)) → WritesJson pickle ask path before out out'
-    kept_reads None part found h = text_reads part found h
-    kept_reads (Some most) part found h = chosen (nat_le (length (printed ask.mode part)) most) h
+    kept_said : (most : Option ℕ) (part : Value) → part_at path mapped ≡ Some part → IsSaidHere (text_saying most ask.start (text part)) → A
+    kept_said None part found h = text_said part found h
+    kept_said (Some most) part found h = chosen (nat_le (length (text part)) most) h
       where
-        chosen : (short : Bool) → IsSaidHere (if short then Text (printed ask.mode part) else Line Fault (fault_at_line (codes "Output") ask.start)) → WritesJson pickle ask path before out out'
-        chosen true h = text_reads part found h
+        chosen : (short : Bool) → IsSaidHere (if short then Text (text part) else Line Fault (fault_at_line (codes "Output") ask.start)) → A
+        chosen true h = text_said part found h
         chosen false h = no_line Fault _ (λ e. cc) h
 
-    part_reads : (most : Option ℕ) (found : Option Value) → part_at path mapped ≡ found → IsSaidHere (part_saying ask most (printed ask.mode) found) → WritesJson pickle ask path before out out'
-    part_reads most None is h = no_line Fault _ (λ e. cc) h
-    part_reads most (Some part) is h = kept_reads most part is h
+    part_said : (most : Option ℕ) (found : Option Value) → part_at path mapped ≡ found → IsSaidHere (part_saying ask most text found) → A
+    part_said most None is h = no_line Fault _ (λ e. cc) h
+    part_said most (Some part) is h = kept_said most part is h
 
-  value_reads : (terms : Terms) → terms.style ≡ plain → terms.look ≡ None → (table : Table) (id : TypeId) {type : PokeType} {mapped : Value} → IsAsked pickle ask.name.now type
-      → ((bytes : List ℕ) → before.bytes ≡ Some bytes → HasAnswer bytes type ask.order ask.start ask.limit (Ok mapped)) → Fits (8 * before.len) type no_values ask.start mapped
-      → IsSaidHere (value_saying table id ask terms (8 * before.len) mapped) → WritesJson pickle ask terms.part before out out'
-  value_reads terms is none table id {mapped = mapped} asked means fits h = chosen (is_left terms.whole (end_of mapped) (8 * before.len)) h
+  value_said : {A : Type 0} (table : Table) (id : TypeId) (terms : Terms) (mapped : Value) → ((part : Value) → part_at terms.part mapped ≡ Some part → Appends out out' (part_text table id ask terms mapped part) → A)
+      → IsSaidHere (value_saying table id ask terms (8 * before.len) mapped) → A
+  value_said {A} table id terms mapped follows h = chosen (is_left terms.whole (end_of mapped) (8 * before.len)) h
     where
-      as_plain : (found : Option Value) → IsSaidHere (part_saying ask terms.most_output (part_text table id ask terms mapped) found) → IsSaidHere (part_saying ask terms.most_output (printed ask.mode) found)
-      as_plain None h = h
-      as_plain (Some part) h = subst (λ text. IsSaidHere (text_saying terms.most_output ask.start text)) (plain_part table id ask terms mapped part is none) h
-
-      chosen : (left : Bool) → IsSaidHere (if left then Line Fault (fault_at_line (codes "Left") (end_of mapped)) else kept_saying table id ask terms mapped) → WritesJson pickle ask terms.part before out out'
+      chosen : (left : Bool) → IsSaidHere (if left then Line Fault (fault_at_line (codes "Left") (end_of mapped)) else kept_saying table id ask terms mapped) → A
       chosen true h = no_line Fault _ (λ e. cc) h
-      chosen false h = part_reads terms.part asked means fits terms.most_output (part_at terms.part mapped) refl (as_plain (part_at terms.part mapped) h)
-
-  json_written : (after : SpaceView) (saying : Saying) → MapsAs pickle ask before after saying → IsSaidHere saying → WritesJson pickle ask None before out out'
-  json_written after saying (value {mapped = mapped} asked means fits) h = text_reads None asked means fits mapped refl h
-  json_written after saying (stops asked a b c run d) h = no_line Fault _ (λ e. cc) h
-  json_written after saying (device asked a) h = no_line Outside _ (λ e. cc) h
-  json_written after saying (unknown a b) h = no_line Refused _ (λ e. cc) h
-  json_written after saying (refused_map {refusal = refusal.Tokens kind at} a) h = no_line Refused _ (λ e. cc) h
-  json_written after saying (refused_map {refusal = refusal.Syntax at} a) h = no_line Refused _ (λ e. cc) h
-  json_written after saying (refused_map {refusal = refusal.TooDeep} a) h = no_line Refused _ (λ e. cc) h
-  json_written after saying (refused_map {refusal = refusal.TooMany} a) h = no_line Refused _ (λ e. cc) h
-  json_written after saying (refused_map {refusal = refusal.Types kind declaration} a) h = no_line Refused _ (λ e. cc) h
-  json_written after saying (refused_map {refusal = refusal.Memory} a) h = no_line Outside _ (λ e. cc) h
-  json_written after saying no_memory h = no_line Outside _ (λ e. cc) h
+      chosen false h = part_said terms.part mapped (part_text table id ask terms mapped) follows terms.most_output (part_at terms.part mapped) refl h
 
   -- no line of a mapping is printed with the exit status of one that is done
   line_is : (after : SpaceView) (saying : Saying) → MapsAs pickle ask before after saying → (line_status : Status) (line : List ℕ) → saying ≡ Line line_status line → line_status ≡ Done → ⊥
@@ -148,13 +142,93 @@ module _ (pickle : List ℕ) (ask : Ask) (before : SpaceView) (status : Status) 
   line_is after _ (refused_map {refusal = refusal.Memory} a) line_status line is e = cc
   line_is after _ no_memory line_status line is e = cc
 
-  part_written : (terms : Terms) → terms.style ≡ plain → terms.look ≡ None → (after : SpaceView) (saying : Saying) → MapsUnder pickle ask terms before after saying → IsSaidHere saying → WritesJson pickle ask terms.part before out out'
-  part_written terms is none after saying (mapped_under table id named asked means fits) h = value_reads terms is none table id asked means fits h
-  part_written terms is none after saying (ended_under {status = line_status} {line = line} right) h = no_line line_status line (line_is after (Line line_status line) right line_status line refl) h
-  part_written terms is none after saying (slots_under asked most few) h = no_line Fault _ (λ e. cc) h
+  -- what follows from each text of a part that is written under terms follows from what is said
+  under_said : {A : Type 0} (terms : Terms) (after : SpaceView) (saying : Saying) → MapsUnder pickle ask terms before after saying → IsSaidHere saying
+      → ((table : Table) (id : TypeId) (type : PokeType) (mapped : Value) → type_named table id ≡ type → IsAsked pickle ask.name.now type → IsMeant type mapped → Fits (8 * before.len) type no_values ask.start mapped
+      → (part : Value) → part_at terms.part mapped ≡ Some part → Appends out out' (part_text table id ask terms mapped part) → A)
+      → A
+  under_said terms after saying (mapped_under {type = type} {mapped = mapped} table id named asked means fits) h follows =
+      value_said table id terms mapped (follows table id type mapped named asked means fits) h
+  under_said terms after saying (ended_under {status = line_status} {line = line} right) h follows = no_line line_status line (line_is after (Line line_status line) right line_status line refl) h
+  under_said terms after saying (slots_under asked most few) h follows = no_line Fault _ (λ e. cc) h
+
+  module _ (mode : ask.mode ≡ Json) where
+    json_reads : (path : Option Path) (type : PokeType) (mapped : Value) → IsAsked pickle ask.name.now type → IsMeant type mapped → Fits (8 * before.len) type no_values ask.start mapped
+        → (part : Value) → part_at path mapped ≡ Some part → Appends out out' (printed ask.mode part) → WritesJson pickle ask path before out out'
+    json_reads path type mapped asked means fits part found h = record {
+      type = type;
+      asked = asked;
+      mapped = mapped;
+      means = means;
+      fits = fits;
+      part = part;
+      found = found;
+      text = printed ask.mode part;
+      written = h;
+      reads = subst (λ m. Reads (printed m part) (json_of part)) (sym mode) (json_reads_back part (part_small path mapped part small found));
+    }
+      where
+        small : HasSmallParts mapped
+        small = parts_small pickle ask.name.now (8 * before.len) type no_values ask.start mapped asked fits
+
+    json_written : (after : SpaceView) (saying : Saying) → MapsAs pickle ask before after saying → IsSaidHere saying → WritesJson pickle ask None before out out'
+    json_written after saying (value {type = type} {mapped = mapped} asked means fits) h =
+        text_said None mapped (printed ask.mode) (json_reads None type mapped asked means fits) mapped refl h
+    json_written after saying (stops asked a b c run d) h = no_line Fault _ (λ e. cc) h
+    json_written after saying (device asked a) h = no_line Outside _ (λ e. cc) h
+    json_written after saying (unknown a b) h = no_line Refused _ (λ e. cc) h
+    json_written after saying (refused_map {refusal = refusal.Tokens kind at} a) h = no_line Refused _ (λ e. cc) h
+    json_written after saying (refused_map {refusal = refusal.Syntax at} a) h = no_line Refused _ (λ e. cc) h
+    json_written after saying (refused_map {refusal = refusal.TooDeep} a) h = no_line Refused _ (λ e. cc) h
+    json_written after saying (refused_map {refusal = refusal.TooMany} a) h = no_line Refused _ (λ e. cc) h
+    json_written after saying (refused_map {refusal = refusal.Types kind declaration} a) h = no_line Refused _ (λ e. cc) h
+    json_written after saying (refused_map {refusal = refusal.Memory} a) h = no_line Outside _ (λ e. cc) h
+    json_written after saying no_memory h = no_line Outside _ (λ e. cc) h
+
+    plain_written : (terms : Terms) → terms.style ≡ plain → terms.look ≡ None → (table : Table) (id : TypeId) (type : PokeType) (mapped : Value) → type_named table id ≡ type → IsAsked pickle ask.name.now type → IsMeant type mapped
+        → Fits (8 * before.len) type no_values ask.start mapped
+        → (part : Value) → part_at terms.part mapped ≡ Some part → Appends out out' (part_text table id ask terms mapped part) → WritesJson pickle ask terms.part before out out'
+    plain_written terms is none table id type mapped named asked means fits part found h =
+        json_reads terms.part type mapped asked means fits part found (subst (Appends out out') (plain_part table id ask terms mapped part is none) h)
+
+    styled_written : (terms : Terms) → terms.look ≡ None → before.len < 2 ^ 60 → (table : Table) (id : TypeId) (type : PokeType) (mapped : Value) → type_named table id ≡ type → IsAsked pickle ask.name.now type → IsMeant type mapped
+        → Fits (8 * before.len) type no_values ask.start mapped
+        → (part : Value) → part_at terms.part mapped ≡ Some part → Appends out out' (part_text table id ask terms mapped part) → WritesStyledJson pickle ask terms before out out'
+    styled_written terms none short table id type mapped named asked means fits part found h = record {
+      type = type;
+      asked = asked;
+      table = table;
+      id = id;
+      named = named;
+      mapped = mapped;
+      means = means;
+      fits = fits;
+      part = part;
+      found = found;
+      text = part_text table id ask terms mapped part;
+      written = h;
+      reads = subst (λ text. Reads text (part_json table id terms mapped part)) (sym same)
+          (styled_json_reads_back (nodes_of table) (char_node_of table) (part_node table id terms mapped) terms.style part (part_small terms.part mapped part small found) (part_few terms.part mapped part few found));
+    }
+      where
+        same : part_text table id ask terms mapped part ≡ text_in None terms.style Json (nodes_of table) (char_node_of table) (part_node table id terms mapped) part
+        same =
+            ap (λ look. text_in look terms.style ask.mode (nodes_of table) (char_node_of table) (part_node table id terms mapped) part) none
+            ∙ ap (λ m. text_in None terms.style m (nodes_of table) (char_node_of table) (part_node table id terms mapped) part) mode
+
+        small : HasSmallParts mapped
+        small = parts_small pickle ask.name.now (8 * before.len) type no_values ask.start mapped asked fits
+
+        few : HasFewMembers mapped
+        few = value_few (8 * before.len) (omega (arith, short)) type no_values ask.start mapped (type_small pickle ask.name.now type asked) fits
 
 pub mapped_json : MappedJsonReadsBack
-mapped_json pickle ask before after status out out' err err' mode done h = json_written pickle ask before status out out' err err' mode done after h.saying h.right h.said
+mapped_json pickle ask before after status out out' err err' mode done h = json_written pickle ask before status out out' err err' done mode after h.saying h.right h.said
 
-pub part_json : PartJsonReadsBack
-part_json pickle ask terms before after status out out' err err' mode is none done h = part_written pickle ask before status out out' err err' mode done terms is none after h.saying h.right h.said
+pub part_json_back : PartJsonReadsBack
+part_json_back pickle ask terms before after status out out' err err' mode is none done h =
+    under_said pickle ask before status out out' err err' done terms after h.saying h.right h.said (plain_written pickle ask before status out out' err err' done mode terms is none)
+
+pub styled_part_json : StyledPartJsonReadsBack
+styled_part_json pickle ask terms before after status out out' err err' mode none short done h =
+    under_said pickle ask before status out out' err err' done terms after h.saying h.right h.said (styled_written pickle ask before status out out' err err' done mode terms none short)

@@ -33,8 +33,8 @@ abbrev mutual
   IsSmallType (OffsetOf type unit) = (type.width ≤ 64) × (unit < 2 ^ 64)
   IsSmallType StringOf = Unit {0}
   IsSmallType (ArrayOf element bound) = IsSmallType element
-  IsSmallType (StructOf name pinned fields) = (length (field_names fields) ≤ 2 ^ 64) × AreNamesOfBytes (field_names fields) × AreSmallFields fields
-  IsSmallType (IntegralOf name type fields) = (length (part_names fields) ≤ 2 ^ 64) × AreNamesOfBytes (part_names fields) × AreSmallTypes fields
+  IsSmallType (StructOf name pinned fields) = (length (field_names fields) < 2 ^ 64) × AreNamesOfBytes (field_names fields) × AreSmallFields fields
+  IsSmallType (IntegralOf name type fields) = (length (part_names fields) < 2 ^ 64) × AreNamesOfBytes (part_names fields) × AreSmallTypes fields
   IsSmallType (UnionOf name alternatives) = AreNamesOfBytes (part_names alternatives) × AreSmallTypes alternatives
 
   pub AreSmallFields : Fields → Type 0

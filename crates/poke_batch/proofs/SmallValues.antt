@@ -41,7 +41,7 @@ text_small (b ∷ bytes) h = (h.1, text_small bytes h.2)
 abbrev HasSmallTop : Levels → Type 0
 HasSmallTop levels = AreSmallParts (gathered (top_of levels))
 
-abbrev top_count : Levels → ℕ
+abbrev pub top_count : Levels → ℕ
 top_count levels = member_count (gathered (top_of levels))
 
 some_gathered : (top : List (Option Value)) (v : Value) → AreSmallParts (gathered top) → HasSmallParts v → AreSmallParts (gathered (top ++ Some v ∷ []))
@@ -68,7 +68,7 @@ none_pushed : (levels : Levels) → HasSmallTop levels → HasSmallTop (pushed l
 none_pushed [] h = tt
 none_pushed (top ∷ outer) h = none_gathered top h
 
-count_pushed : (levels : Levels) (v : Option Value) → top_count (pushed levels v) ≡ top_count levels + 1
+pub count_pushed : (levels : Levels) (v : Option Value) → top_count (pushed levels v) ≡ top_count levels + 1
 count_pushed [] None = refl
 count_pushed [] (Some v) = refl
 count_pushed (top ∷ outer) v = one_more top v

@@ -1,5 +1,5 @@
 -- Laws of what a mapping says under terms.
-use Rattle.std.proofs.Common.{◌≡◌, ◌∙◌, ◌+◌, ◌*◌, ◌<◌, ◌≤◌, max, length, ℕ, Bool, true, false, List, Option, Some, None, refl, sym, ap, subst, inl, inr, arith}
+use Rattle.std.proofs.Common.{◌≡◌, ◌≢◌, ◌∙◌, ◌+◌, ◌*◌, ◌<◌, ◌≤◌, max, length, ℕ, Bool, true, false, List, Option, Some, None, refl, sym, ap, subst, inl, inr, arith}
 use Rattle.std.specs.Prelude.{if◌then◌else◌, codes}
 use Rattle.std.proofs.lemmas.Bool.{le-leb, lt-leb}
 use Rattle.pickle_types.specs.Types.{PokeType, IntegerOf, OffsetOf, StringOf, ArrayOf, StructOf, IntegralOf, UnionOf, Fields, NoFields, FieldThen, Parts, NoParts, PartThen}
@@ -24,7 +24,7 @@ use Rattle.run_parts.specs.Lines.{fault_line, fault_at_line}
 use Rattle.run_parts.specs.Accepted.{Refuses, refusal_saying}
 use Rattle.run_parts.specs.FaultLines.{fault_saying}
 use Rattle.poke_batch.specs.Runs.{MapsAs, value, refused_map, no_memory}
-use Rattle.poke_batch.specs.RunsUnder.{MapsUnder, mapped_under, ended_under, slots_under, IsStoreOf, end_saying, SaysIt, said_so, no_memory_for_it, is_left, text_saying, part_saying, kept_saying, value_saying}
+use Rattle.poke_batch.specs.RunsUnder.{MapsUnder, mapped_under, ended_under, slots_under, IsStoreOf, end_saying, fixed_saying, SaysIt, said_so, no_memory_for_it, is_left, text_saying, part_saying, kept_saying, value_saying}
 use Rattle.run_parts.specs.Told.{Saying, Text, Line, Says}
 use Rattle.pickle_types.specs.declared.table.Table.{Table}
 use Rattle.pickle_types.specs.declared.table.TypeId.{TypeId}
@@ -178,6 +178,20 @@ end_by pickle ask terms before after (Some n) fault.Index at e asked less right 
 end_by pickle ask terms before after (Some n) fault.Limit at e asked less right = right
 end_by pickle ask terms before after (Some n) fault.Device at e asked less right = right
 end_by pickle ask terms before after (Some n) fault.Memory at e asked less right = slots_under asked e (less refl n refl)
+
+-- a fault in a store of the most slots, other than an allocation failure
+pub fixed_as_fault : (start : ℕ) (kind : MapFaultKind) (at : ℕ) → kind ≢ fault.Memory → fault_saying kind at ≡ fixed_saying start kind at
+fixed_as_fault start fault.End at other = refl
+fixed_as_fault start fault.Constraint at other = refl
+fixed_as_fault start fault.Bounds at other = refl
+fixed_as_fault start fault.NoBits at other = refl
+fixed_as_fault start fault.Zero at other = refl
+fixed_as_fault start fault.Overflow at other = refl
+fixed_as_fault start fault.Absent at other = refl
+fixed_as_fault start fault.Index at other = refl
+fixed_as_fault start fault.Limit at other = refl
+fixed_as_fault start fault.Device at other = refl
+fixed_as_fault start fault.Memory at other = absurd (other refl)
 
 -- in a store of the most slots an allocation failure is the fault `Slots`
 pub end_under : (pickle : List ℕ) (ask : Ask) (terms : Terms) (before after : SpaceView) {type : PokeType} (kind : MapFaultKind) (at : ℕ)

@@ -2,6 +2,8 @@ pub use Rattle.run_parts.specs.DumpText
 pub use Rattle.run_parts.specs.BoundText
 pub use Rattle.run_parts.specs.Taken
 pub use Rattle.run_parts.specs.Lines
+pub use Rattle.run_parts.specs.Reports
+pub use Rattle.run_parts.specs.Outcomes
 pub use Rattle.run_parts.specs.Told
 pub use Rattle.run_parts.specs.FaultLines
 pub mod FileLine

@@ -1,20 +1,26 @@
 -- The laws of what runs write.
-use Rattle.std.specs.Prelude.{◌≡◌, ◌*◌, ℕ, List, Option, Some, None, Ok}
+use Rattle.std.specs.Prelude.{◌≡◌, ◌*◌, ◌^◌, ◌<◌, ℕ, List, Option, Some, None, Ok}
 use Rattle.std.specs.Io.KnownBytes.{Appends}
 use Rattle.bit_space.specs.SpaceView.{SpaceView}
+use Rattle.pickle_types.specs.declared.table.Table.{Table}
+use Rattle.pickle_types.specs.declared.table.TypeId.{TypeId}
+use Rattle.pickle_types.specs.NodeParts.{char_node_of}
+use Rattle.pickle_types.specs.TypeTable.{nodes_of, type_named}
 use Rattle.pickle_types.specs.Types.{PokeType}
 use Rattle.pickle_meaning.specs.Fits.{Fits}
 use Rattle.pickle_meaning.specs.Values.{Value, Levels, no_values}
 use Rattle.command_words.specs.declared.ask.Ask.{Ask}
-use Rattle.text_forms.specs.declared.mode.Mode.TheVariants.{Json}
+use Rattle.text_forms.specs.declared.mode.Mode.TheVariants as mode
 use Rattle.text_forms.specs.Styles.{plain}
 use Rattle.command_words.specs.declared.path.Path.{Path}
 use Rattle.run_parts.specs.declared.status.Status.{Status}
 use Rattle.run_parts.specs.declared.status.Status.TheVariants.{Done}
 use Rattle.command_words.specs.declared.terms.Terms.{Terms}
 use Rattle.value_text.specs.Json.{Reads}
-use Rattle.value_text.specs.JsonValue.{json_of}
-use Rattle.poke_batch.specs.PathParts.{part_at}
+use Rattle.value_text.specs.JsonValue.{Json, json_of}
+use Rattle.value_text.specs.Styled.{with_chars}
+use Rattle.value_text.specs.StyledJsonValue.{styled_json_of}
+use Rattle.poke_batch.specs.PathParts.{part_at, node_at}
 use Rattle.poke_batch.specs.Runs.{IsAsked, HasAnswer, MapsAs}
 use Rattle.poke_batch.specs.RunsUnder.{MapsUnder}
 use Rattle.value_text.specs.SmallParts.{HasSmallParts}
@@ -42,9 +48,35 @@ pub record WritesJson (pickle : List ℕ) (ask : Ask) (path : Option Path) (befo
 -- a mapping in JSON that is done wrote the value that was mapped
 abbrev pub MappedJsonReadsBack : Type 0
 MappedJsonReadsBack = (pickle : List ℕ) (ask : Ask) (before after : SpaceView) (status : Status) (out out' err err' : Option (List ℕ))
-    → ask.mode ≡ Json → status ≡ Done → Says (MapsAs pickle ask before after) status out out' err err' → WritesJson pickle ask None before out out'
+    → ask.mode ≡ mode.Json → status ≡ Done → Says (MapsAs pickle ask before after) status out out' err err' → WritesJson pickle ask None before out out'
 
 -- and under terms in the plain style and without a look the part that they request
 abbrev pub PartJsonReadsBack : Type 0
 PartJsonReadsBack = (pickle : List ℕ) (ask : Ask) (terms : Terms) (before after : SpaceView) (status : Status) (out out' err err' : Option (List ℕ))
-    → ask.mode ≡ Json → terms.style ≡ plain → terms.look ≡ None → status ≡ Done → Says (MapsUnder pickle ask terms before after) status out out' err err' → WritesJson pickle ask terms.part before out out'
+    → ask.mode ≡ mode.Json → terms.style ≡ plain → terms.look ≡ None → status ≡ Done → Says (MapsUnder pickle ask terms before after) status out out' err err' → WritesJson pickle ask terms.part before out out'
+
+-- the JSON value of a part of a mapped value in a style, by the types of a table
+abbrev pub part_json : Table → TypeId → Terms → (mapped part : Value) → Json
+part_json table id terms mapped part =
+    styled_json_of terms.style (with_chars terms.style.chars (nodes_of table) (char_node_of table) (node_at (nodes_of table) terms.part (Some id.node) mapped) part)
+
+-- The same as `WritesJson` in the style of terms: the text reads as the part in that style, by a table that has the type.
+pub record WritesStyledJson (pickle : List ℕ) (ask : Ask) (terms : Terms) (before : SpaceView) (out out' : Option (List ℕ)) : Type 0 where
+  pub type : PokeType
+  pub asked : IsAsked pickle ask.name.now type
+  pub table : Table
+  pub id : TypeId
+  pub named : type_named table id ≡ type
+  pub mapped : Value
+  pub means : (bytes : List ℕ) → before.bytes ≡ Some bytes → HasAnswer bytes type ask.order ask.start ask.limit (Ok mapped)
+  pub fits : Fits (8 * before.len) type no_values ask.start mapped
+  pub part : Value
+  pub found : part_at terms.part mapped ≡ Some part
+  pub text : List ℕ
+  pub written : Appends out out' text
+  pub reads : Reads text (part_json table id terms mapped part)
+
+-- in every style, of a space of fewer than 2^60 bytes, as each space is
+abbrev pub StyledPartJsonReadsBack : Type 0
+StyledPartJsonReadsBack = (pickle : List ℕ) (ask : Ask) (terms : Terms) (before after : SpaceView) (status : Status) (out out' err err' : Option (List ℕ))
+    → ask.mode ≡ mode.Json → terms.look ≡ None → before.len < 2 ^ 60 → status ≡ Done → Says (MapsUnder pickle ask terms before after) status out out' err err' → WritesStyledJson pickle ask terms before out out'

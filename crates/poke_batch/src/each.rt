@@ -4,7 +4,7 @@ ghost use Rattle.std.specs.Prelude.{◌≡◌, ℕ, List, [], IfOk, OnErr};
 ghost use Rattle.std.specs.Io.KnownBytes.{Appends};
 ghost use Rattle.bit_space.specs.SpaceView.{Keeps};
 ghost use Rattle.pickle_types.specs.TypeTable.{type_named, IsInTable};
-ghost use Rattle.poke_batch.specs.FileLine.{TellsFile, TellsKept, written_of};
+ghost use Rattle.poke_batch.specs.FileLine.{TellsFile, TellsKept, in_memory};
 ghost use Rattle.poke_batch.specs.Runs.{IsAsked};
 ghost use Rattle.poke_batch.specs.RunsUnder.{MapsUnder, IsStoreOf};
 ghost use Rattle.text_forms.specs.Written.{AppendsPart};
@@ -14,9 +14,11 @@ use crate::file_line::put_file_line;
 use crate::run::{map_stored, store_of};
 use bit_space::{Memory, Space};
 use command_words::ask::Ask;
+use command_words::fault_form::FaultForm;
 use command_words::terms::Terms;
 use pickle_map::Store;
 use pickle_types::table::{Table, TypeId};
+use run_parts::outcome::{Failure, Outcome};
 use run_parts::status::Status;
 use std::alloc::Global;
 use std::io::Write;
@@ -28,7 +30,7 @@ pub struct Kept {
     alloc: Global,
     store: Store,
     text: Vec<u8>,
-    line: Vec<u8>,
+    outcome: Outcome,
 }
 
 impl Kept {
@@ -41,25 +43,26 @@ impl Kept {
             alloc,
             store: store_of(alloc, most_slots)?,
             text: Vec::new(alloc),
-            line: Vec::new(alloc),
+            outcome: Outcome::Done,
         })
     }
 
-    /// The line of the last run. It is empty if that run wrote a value.
-    pub fn line(&self) -> &[u8]
-        ensures { result.now ≡ self.now.line.items }
+    /// The outcome of the last run.
+    pub fn outcome(&self) -> Outcome
+        ensures { result ≡ self.now.outcome }
     {
-        self.line.as_slice()
+        self.outcome
     }
 }
 
 /// Maps a type of a table over a file, and writes the file's line: its name, the exit status of its run, and what
-/// [`run_map_under`](crate::run::run_map_under) writes for it. Returns that status.
+/// [`run_map_under`](crate::run::run_map_under) writes for it, with a refusal or fault in a form. Returns that status.
 pub fn run_file<S: Space, W: Write>(
     table: &Table,
     id: TypeId,
     ask: &Ask<'_>,
     terms: &Terms,
+    faults: FaultForm,
     kept: &mut Kept,
     name: &[u8],
     space: &mut S,
@@ -69,16 +72,15 @@ pub fn run_file<S: Space, W: Write>(
     requires store { IsStoreOf terms.now.most_slots kept.old.store }
     ensures store { IsStoreOf terms.now.most_slots kept.new.store }
     ensures ok { (pickle : List ℕ) → IsAsked pickle ask.now.name.now (type_named table.now id)
-        → IfOk result (λ status. TellsFile (MapsUnder pickle ask.now terms.now (S.view space.old) (S.view space.new)) Appends name.now status (W.contents w.old) (W.contents w.new)) }
+        → IfOk result (λ status. TellsFile faults (MapsUnder pickle ask.now terms.now (S.view space.old) (S.view space.new)) Appends name.now status (W.contents w.old) (W.contents w.new)) }
     ensures err { (pickle : List ℕ) → IsAsked pickle ask.now.name.now (type_named table.now id)
-        → OnErr result ((status : Status) × TellsFile (MapsUnder pickle ask.now terms.now (S.view space.old) (S.view space.new)) AppendsPart name.now status (W.contents w.old) (W.contents w.new)) }
+        → OnErr result ((status : Status) × TellsFile faults (MapsUnder pickle ask.now terms.now (S.view space.old) (S.view space.new)) AppendsPart name.now status (W.contents w.old) (W.contents w.new)) }
     // What is written is what is stored.
-    ensures kept { IfOk result (λ status. TellsKept kept.new name.now status (W.contents w.old) (W.contents w.new)) }
+    ensures kept { IfOk result (λ status. TellsKept faults kept.new name.now status (W.contents w.old) (W.contents w.new)) }
     ensures keeps { Keeps (S.view space.old) (S.view space.new) }
 {
     kept.text.clear();
-    kept.line.clear();
-    let status = map_stored(
+    let ended = map_stored(
         kept.alloc,
         table,
         id,
@@ -87,23 +89,18 @@ pub fn run_file<S: Space, W: Write>(
         &mut kept.store,
         space,
         &mut kept.text,
-        &mut kept.line,
     );
-    put_file_line(w, name, status, written(status, &kept.text, &kept.line))?;
-    Ok(status)
+    kept.outcome = in_memory(ended);
+    put_file_line(w, name, kept.outcome, faults, &kept.text)?;
+    Ok(kept.outcome.status())
 }
 
-// The line of a run whose file can't be read.
-const DEVICE_LINE: &[u8] = b"fault Device\n";
-
-// What a run wrote, by its status: its text or its line. The run wrote into memory, so that of the environment only the
-// file and allocations fail. A text or a line that stopped at a failed allocation is replaced by the line of that.
-fn written<'a>(status: Status, text: &'a [u8], line: &'a [u8]) -> &'a [u8]
-    ensures { result.now ≡ written_of status text.now line.now }
+// The outcome of a run that wrote into memory: a text that wasn't written whole lacked memory.
+fn in_memory(outcome: Outcome) -> Outcome
+    ensures { result ≡ in_memory outcome }
 {
-    match status {
-        Status::Done => text,
-        Status::Outside if line != DEVICE_LINE => b"fault Memory\n",
-        _ => line,
+    match outcome {
+        Outcome::Failed(Failure::Write) => Outcome::Failed(Failure::Memory),
+        _ => outcome,
     }
 }

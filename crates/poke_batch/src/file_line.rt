@@ -3,29 +3,50 @@
 ghost use Rattle.std.specs.Prelude.{◌≡◌, ◌<◌, ◌≤◌, ◌++◌, take, length, IfOk, OnErr, OnOk};
 ghost use Rattle.std.specs.Io.KnownBytes.{Appends};
 ghost use Rattle.text_forms.specs.Written.{AppendsPart};
-ghost use Rattle.poke_batch.specs.FileLine.{name_byte, shown_name, status_text, file_line};
+ghost use Rattle.poke_batch.specs.FileLine.{name_byte, shown_name, status_text, file_line, written_of};
 
+use crate::report::put_outcome;
+use command_words::fault_form::FaultForm;
+use run_parts::outcome::Outcome;
 use run_parts::status::Status;
 use std::io::Write;
 use text_forms::hex::hex_digit;
 use text_forms::write::{WriteFault, put};
 
-/// Writes the line of a file: its name, an exit status, and what its run wrote, with a tab between them. In the name,
-/// `\` and bytes outside 0x20 to 0x7e are escaped as in strings. What the run wrote ends with a line feed.
+/// Writes the line of a file: its name, the exit status of its run, and what the run wrote, with a tab between them.
+/// That is `text` for a run that is done, and otherwise what reports its outcome. In the name, `\` and bytes outside 0x20
+/// to 0x7e are escaped as in strings. `text` ends with a line feed.
 #[tactic(auto, using(text_forms::proofs::Parts::written))]
 pub fn put_file_line<W: Write>(
     w: &mut W,
     name: &[u8],
-    status: Status,
-    written: &[u8],
+    outcome: Outcome,
+    faults: FaultForm,
+    text: &[u8],
 ) -> Result<(), WriteFault>
-    ensures ok { OnOk result (Appends (W.contents w.old) (W.contents w.new) (file_line name.now status written.now)) }
-    ensures err { OnErr result (AppendsPart (W.contents w.old) (W.contents w.new) (file_line name.now status written.now)) }
+    ensures ok { OnOk result (Appends (W.contents w.old) (W.contents w.new) (file_line faults name.now outcome text.now)) }
+    ensures err { OnErr result (AppendsPart (W.contents w.old) (W.contents w.new) (file_line faults name.now outcome text.now)) }
 {
     put_name(w, name)?;
-    put(w, column(status))?;
-    put(w, written)?;
+    put(w, column(outcome.status()))?;
+    put_written(w, outcome, faults, text)?;
     Ok(())
+}
+
+// What a run wrote: its text if it is done, else what reports its outcome.
+fn put_written<W: Write>(
+    w: &mut W,
+    outcome: Outcome,
+    faults: FaultForm,
+    text: &[u8],
+) -> Result<(), WriteFault>
+    ensures ok { OnOk result (Appends (W.contents w.old) (W.contents w.new) (written_of faults outcome text.now)) }
+    ensures err { OnErr result (AppendsPart (W.contents w.old) (W.contents w.new) (written_of faults outcome text.now)) }
+{
+    match outcome {
+        Outcome::Done => put(w, text),
+        _ => put_outcome(w, outcome, faults),
+    }
 }
 
 fn column(status: Status) -> &'static [u8]

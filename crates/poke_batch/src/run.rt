@@ -5,7 +5,8 @@ ghost use Rattle.std.specs.Io.KnownBytes.{Appends};
 ghost use Rattle.bit_space.specs.SpaceView.{Keeps};
 ghost use Rattle.pickle_types.specs.TypeTable.{nodes_of, type_named, IsInTable};
 ghost use Rattle.pickle_meaning.specs.Values.{Value, value_at, start_of, end_of};
-ghost use Rattle.run_parts.specs.Told.{Says, IsSaid};
+ghost use Rattle.run_parts.specs.Outcomes.{EndsAs, outcome_saying};
+ghost use Rattle.run_parts.specs.Told.{Says};
 ghost use Rattle.poke_batch.specs.Runs.{ChecksAs, BoundsAs, IsAsked, MapsAs, types_text};
 ghost use Rattle.poke_batch.specs.RunsUnder.{MapsUnder, IsStoreOf, end_saying, fixed_saying, SaysIt, value_saying};
 ghost use Rattle.text_forms.specs.Written.{AppendsPart};
@@ -17,11 +18,11 @@ use command_words::ask::Ask;
 use command_words::terms::Terms;
 use pickle_map::{MapFault, MapFaultKind, Store, map};
 use pickle_types::table::{Table, TypeId};
-use run_parts::accept::{accept, tell_refusal};
+use run_parts::accept::accept;
 use run_parts::bound::{put_bounds, put_line};
-use run_parts::fault::tell_fault;
+use run_parts::outcome::{Failure, Outcome};
 use run_parts::status::Status;
-use run_parts::tell::{answer, fail, fault_at, refuse};
+use run_parts::tell::{answer, tell};
 use std::alloc::Global;
 use std::io::Write;
 use text_forms::write::WriteFault;
@@ -37,9 +38,16 @@ pub fn run_check<O: Write, E: Write>(
     ensures { Says (ChecksAs pickle.now) result
         (O.contents out.old) (O.contents out.new) (E.contents err.old) (E.contents err.new) }
 {
+    tell(check_outcome(alloc, pickle, out), err)
+}
+
+/// Does what [`run_check`] does, and returns the outcome instead of writing its line.
+pub fn check_outcome<O: Write>(alloc: Global, pickle: &[u8], out: &mut O) -> Outcome
+    ensures { EndsAs (ChecksAs pickle.now) result (O.contents out.old) (O.contents out.new) }
+{
     match accept(alloc, pickle) {
-        Ok(table) => answer(put_types(out, table.len()), err),
-        Err(refusal) => tell_refusal(err, refusal),
+        Ok(table) => answer(put_types(out, table.len())),
+        Err(refusal) => Outcome::Refused(refusal),
     }
 }
 
@@ -64,16 +72,29 @@ pub fn run_bound<O: Write, E: Write>(
     ensures { Says (BoundsAs pickle.now name.now bits) result
         (O.contents out.old) (O.contents out.new) (E.contents err.old) (E.contents err.new) }
 {
+    tell(bound_outcome(alloc, pickle, name, bits, out), err)
+}
+
+/// Does what [`run_bound`] does, and returns the outcome instead of writing its line.
+pub fn bound_outcome<O: Write>(
+    alloc: Global,
+    pickle: &[u8],
+    name: &[u8],
+    bits: u64,
+    out: &mut O,
+) -> Outcome
+    ensures { EndsAs (BoundsAs pickle.now name.now bits) result (O.contents out.old) (O.contents out.new) }
+{
     let table = match accept(alloc, pickle) {
         Ok(table) => table,
-        Err(refusal) => return tell_refusal(err, refusal),
+        Err(refusal) => return Outcome::Refused(refusal),
     };
     match table.find(name) {
         Some(ty) => match table.bounds(alloc, ty, bits) {
-            Ok(bounds) => answer(put_bounds(out, bounds.steps, bounds.slots), err),
-            Err(_) => fail(err, b"Memory"),
+            Ok(bounds) => answer(put_bounds(out, bounds.steps, bounds.slots)),
+            Err(_) => Outcome::Failed(Failure::Memory),
         },
-        None => refuse(err, b"NoSuchType"),
+        None => Outcome::NoSuchType,
     }
 }
 
@@ -121,18 +142,34 @@ pub fn run_map_under<S: Space, O: Write, E: Write>(
         (O.contents out.old) (O.contents out.new) (E.contents err.old) (E.contents err.new) }
     ensures keeps { Keeps (S.view space.old) (S.view space.new) }
 {
+    tell(map_outcome(alloc, pickle, ask, terms, space, out), err)
+}
+
+/// Does what [`run_map_under`] does, and returns the outcome instead of writing its line.
+pub fn map_outcome<S: Space, O: Write>(
+    alloc: Global,
+    pickle: &[u8],
+    ask: &Ask<'_>,
+    terms: &Terms,
+    space: &mut S,
+    out: &mut O,
+) -> Outcome
+    ensures ends { EndsAs (MapsUnder pickle.now ask.now terms.now (S.view space.old) (S.view space.new)) result
+        (O.contents out.old) (O.contents out.new) }
+    ensures keeps { Keeps (S.view space.old) (S.view space.new) }
+{
     let table = match accept(alloc, pickle) {
         Ok(table) => table,
-        Err(refusal) => return tell_refusal(err, refusal),
+        Err(refusal) => return Outcome::Refused(refusal),
     };
     match table.find(ask.name) {
-        Some(id) => map_new(alloc, &table, id, ask, terms, space, out, err),
-        None => refuse(err, b"NoSuchType"),
+        Some(id) => map_new(alloc, &table, id, ask, terms, space, out),
+        None => Outcome::NoSuchType,
     }
 }
 
 // Maps a type of a table into a new store.
-fn map_new<S: Space, O: Write, E: Write>(
+fn map_new<S: Space, O: Write>(
     alloc: Global,
     table: &Table,
     id: TypeId,
@@ -140,17 +177,16 @@ fn map_new<S: Space, O: Write, E: Write>(
     terms: &Terms,
     space: &mut S,
     out: &mut O,
-    err: &mut E,
-) -> Status
+) -> Outcome
     requires known { IsInTable table.now id }
-    ensures says { (pickle : List ℕ) → IsAsked pickle ask.now.name.now (type_named table.now id)
-        → Says (MapsUnder pickle ask.now terms.now (S.view space.old) (S.view space.new)) result
-        (O.contents out.old) (O.contents out.new) (E.contents err.old) (E.contents err.new) }
+    ensures ends { (pickle : List ℕ) → IsAsked pickle ask.now.name.now (type_named table.now id)
+        → EndsAs (MapsUnder pickle ask.now terms.now (S.view space.old) (S.view space.new)) result
+        (O.contents out.old) (O.contents out.new) }
     ensures keeps { Keeps (S.view space.old) (S.view space.new) }
 {
     match store_of(alloc, terms.most_slots) {
-        Ok(mut store) => map_stored(alloc, table, id, ask, terms, &mut store, space, out, err),
-        Err(Memory) => fail(err, b"Memory"),
+        Ok(mut store) => map_stored(alloc, table, id, ask, terms, &mut store, space, out),
+        Err(Memory) => Outcome::Failed(Failure::Memory),
     }
 }
 
@@ -165,9 +201,9 @@ pub fn store_of(alloc: Global, most: Option<u64>) -> Result<Store, Memory>
     }
 }
 
-/// Maps a type of a table into a store, which is emptied first. Writes the printed value to `out`, or the line of the
-/// fault to `err`.
-pub fn map_stored<S: Space, O: Write, E: Write>(
+/// Maps a type of a table into a store, which is emptied first. Writes the printed value to `out`, if the mapping has
+/// no fault.
+pub fn map_stored<S: Space, O: Write>(
     alloc: Global,
     table: &Table,
     id: TypeId,
@@ -176,48 +212,47 @@ pub fn map_stored<S: Space, O: Write, E: Write>(
     store: &mut Store,
     space: &mut S,
     out: &mut O,
-    err: &mut E,
-) -> Status
+) -> Outcome
     requires known { IsInTable table.now id }
     requires store { IsStoreOf terms.now.most_slots store.old }
     ensures store { IsStoreOf terms.now.most_slots store.new }
-    ensures says { (pickle : List ℕ) → IsAsked pickle ask.now.name.now (type_named table.now id)
-        → Says (MapsUnder pickle ask.now terms.now (S.view space.old) (S.view space.new)) result
-        (O.contents out.old) (O.contents out.new) (E.contents err.old) (E.contents err.new) }
+    ensures ends { (pickle : List ℕ) → IsAsked pickle ask.now.name.now (type_named table.now id)
+        → EndsAs (MapsUnder pickle ask.now terms.now (S.view space.old) (S.view space.new)) result
+        (O.contents out.old) (O.contents out.new) }
     ensures keeps { Keeps (S.view space.old) (S.view space.new) }
 {
     store.clear();
     let bytes = space.len();
     let mut meter = Meter::new(ask.limit);
     match map(table, id, ask.order, ask.start, space, &mut meter, store) {
-        Ok(()) => tell_root(alloc, store, table, id, ask, terms, bytes, out, err),
-        Err(fault) => tell_end(err, fault, terms.most_slots, ask.start),
+        Ok(()) => tell_root(alloc, store, table, id, ask, terms, bytes, out),
+        Err(fault) => end_outcome(fault, terms.most_slots, ask.start),
     }
 }
 
-/// Writes the line of a fault of a mapping that began at the bit `start`. With `most` the store has no more than so
-/// many slots of each kind, and an allocation failure is reported as `Slots`.
-pub fn tell_end<E: Write>(err: &mut E, fault: MapFault, most: Option<u64>, start: u64) -> Status
-    ensures { (out : Option (List ℕ)) → IsSaid (end_saying most start fault.kind fault.at) result out out (E.contents err.old) (E.contents err.new) }
+/// The outcome of a mapping that began at the bit `start` and has a fault. With `most` the store has no more than so many
+/// slots of each kind, and an allocation failure is reported as `Slots`.
+pub fn end_outcome(fault: MapFault, most: Option<u64>, start: u64) -> Outcome
+    ensures { outcome_saying result ≡ end_saying most start fault.kind fault.at }
 {
     match most {
-        None => tell_fault(err, fault),
-        Some(_) => tell_fixed(err, fault, start),
+        None => Outcome::Fault(fault),
+        Some(_) => fixed_outcome(fault, start),
     }
 }
 
 // The same in a store with a fixed number of slots.
-fn tell_fixed<E: Write>(err: &mut E, fault: MapFault, start: u64) -> Status
-    ensures { (out : Option (List ℕ)) → IsSaid (fixed_saying start fault.kind fault.at) result out out (E.contents err.old) (E.contents err.new) }
+fn fixed_outcome(fault: MapFault, start: u64) -> Outcome
+    ensures { outcome_saying result ≡ fixed_saying start fault.kind fault.at }
 {
     match fault.kind {
-        MapFaultKind::Memory => fault_at(err, b"Slots", u128::from(start)),
-        _ => tell_fault(err, fault),
+        MapFaultKind::Memory => Outcome::Slots(start),
+        _ => Outcome::Fault(fault),
     }
 }
 
 // Writes the value that a store holds, mapped from a file of so many bytes.
-fn tell_root<O: Write, E: Write>(
+fn tell_root<O: Write>(
     alloc: Global,
     store: &Store,
     table: &Table,
@@ -226,19 +261,18 @@ fn tell_root<O: Write, E: Write>(
     terms: &Terms,
     bytes: u64,
     out: &mut O,
-    err: &mut E,
-) -> Status
+) -> Outcome
     requires held { IsSome (value_at (levels (nodes_of table.now) store.now) 0 0) }
     requires forward { (value : Value) → value_at (levels (nodes_of table.now) store.now) 0 0 ≡ Some value
         → start_of value ≤ end_of value }
     ensures { (value : Value) → value_at (levels (nodes_of table.now) store.now) 0 0 ≡ Some value
-        → Says (SaysIt (value_saying table.now id ask.now terms.now (8 * bytes) value)) result
-        (O.contents out.old) (O.contents out.new) (E.contents err.old) (E.contents err.new) }
+        → EndsAs (SaysIt (value_saying table.now id ask.now terms.now (8 * bytes) value)) result
+        (O.contents out.old) (O.contents out.new) }
 {
     match store.root(table) {
         Some(value) => {
             let bits = 8 * u128::from(bytes);
-            tell_value(alloc, table, id, value, ask, terms, bits, out, err)
+            tell_value(alloc, table, id, value, ask, terms, bits, out)
         }
         None => unreachable!(),
     }

@@ -1,10 +1,9 @@
-use Rattle.std.specs.Prelude.{codes}
-use Rattle.run_parts.specs.declared.status.Status.TheVariants.{Outside}
-use Rattle.run_parts.specs.Lines.{fault_line}
+use Rattle.run_parts.specs.declared.outcome.Failure.TheVariants.{Memory}
+use Rattle.run_parts.specs.declared.outcome.Outcome.TheVariants.{Failed}
 use Rattle.poke_batch.specs.Runs.{no_memory}
 use Rattle.poke_batch.specs.RunsUnder.{ended_under}
-use Rattle.run_parts.proofs.Sayings.{line_says}
+use Rattle.run_parts.proofs.Sayings.{line_ends}
 use Rattle.poke_batch.proofs.run.map_new.Goals as goal
 
-pub returns-in-Err-clause-says : goal.returns-in-Err-clause-says
-returns-in-Err-clause-says g c = λ pickle asked. line_says _ Outside (fault_line (codes "Memory")) _ _ _ _ (ended_under no_memory) c.fail.ensures
+pub returns-in-Err-clause-ends : goal.returns-in-Err-clause-ends
+returns-in-Err-clause-ends g c = λ pickle asked. line_ends _ (Failed Memory) _ (ended_under no_memory)

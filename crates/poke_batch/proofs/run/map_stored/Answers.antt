@@ -2,10 +2,10 @@ use Rattle.std.proofs.Common.{◌≤◌, ◌∙◌, refl, subst, sym}
 use Rattle.std.proofs.lemmas.Option.{same_Some}
 use Rattle.pickle_types.specs.TypeTable.{nodes_of, type_named}
 use Rattle.pickle_meaning.specs.Values.{start_of, end_of, no_values}
-use Rattle.poke_batch.specs.RunsUnder.{mapped_under, end_saying}
+use Rattle.poke_batch.specs.RunsUnder.{MapsUnder, mapped_under}
 use Rattle.poke_batch.proofs.Mappings.{fault_says, run_to_fault, value_answers, root_given}
-use Rattle.run_parts.proofs.Sayings.{said_says}
-use Rattle.poke_batch.proofs.UnderTerms.{starts_before_end, says_more, said_under, fault_under, end_under, least_of}
+use Rattle.run_parts.proofs.Sayings.{ends_more, line_ends}
+use Rattle.poke_batch.proofs.UnderTerms.{starts_before_end, said_under, fault_under, end_under, least_of}
 use Rattle.poke_batch.proofs.run.map_stored.Goals as goal
 
 pub tell_root-requires-clause-forward : goal.tell_root-requires-clause-forward
@@ -15,23 +15,23 @@ tell_root-requires-clause-forward g c =
     subst (λ v. start_of v ≤ end_of v) (same_Some given.value value (sym (root_given given) ∙ found))
     (starts_before_end _ (type_named c.args.table.now c.args.id) no_values c.args.ask.now.start given.value given.holds)
 
-pub returns-in-Ok-clause-says : goal.returns-in-Ok-clause-says
-returns-in-Ok-clause-says g c =
+pub returns-in-Ok-clause-ends : goal.returns-in-Ok-clause-ends
+returns-in-Ok-clause-ends g c =
     let given = c.in-Ok.ensures.fits in
     let told = rw c.len-bytes.ensures at c.tell_root.ensures given.value (root_given given) in
     λ pickle asked.
-    says_more (said_under c.args.table.now c.args.id pickle c.args.ask.now c.args.terms.now _ _ given.value
+    ends_more (said_under c.args.table.now c.args.id pickle c.args.ask.now c.args.terms.now _ _ given.value
     (mapped_under c.args.table.now c.args.id refl asked
     (value_answers (type_named c.args.table.now c.args.id) c.args.ask.now.order c.args.ask.now.start c.args.ask.now.limit c.new-meter.result.limit c.new-meter.result.steps _ _ _ (nodes_of c.args.table.now) c.map.new.store given.value c.new-meter.ensures.limit c.new-meter.ensures.steps c.in-Ok.ensures.value (root_given given))
     given.holds))
     told
 
-pub returns-in-Err-clause-says : goal.returns-in-Err-clause-says
-returns-in-Err-clause-says g c =
+pub returns-in-Err-clause-ends : goal.returns-in-Err-clause-ends
+returns-in-Err-clause-ends g c =
     λ pickle asked.
-    said_says _ (end_saying c.args.terms.now.most_slots c.args.ask.now.start c.in-Err.fault.kind c.in-Err.fault.at) _ _ _ _ _
+    line_ends _ c.end_outcome.result _
+    (subst (MapsUnder pickle c.args.ask.now c.args.terms.now _ _) (sym c.end_outcome.ensures)
     (end_under pickle c.args.ask.now c.args.terms.now _ _ c.in-Err.fault.kind c.in-Err.fault.at asked
     (λ memory. least_of c.args.terms.now.most_slots _ _ c.requires.store c.clear.ensures.empty (c.in-Err.ensures.memory memory))
     (fault_under pickle c.args.ask.now c.args.terms.now _ _ c.in-Err.fault.kind c.in-Err.fault.at
-    (fault_says pickle c.args.ask.now _ _ (type_named c.args.table.now c.args.id) c.in-Err.fault.at c.new-meter.result.limit c.new-meter.result.steps _ _ _ c.in-Err.fault.kind c.new-meter.ensures.limit c.new-meter.ensures.steps asked c.in-Err.ensures.fault (run_to_fault _ (type_named c.args.table.now c.args.id) c.args.ask.now.order c.args.ask.now.start c.args.ask.now.limit c.new-meter.result c.map.new.meter c.clear.new.self c.map.new.store c.in-Err.fault.kind c.in-Err.fault.at c.new-meter.ensures.limit c.new-meter.ensures.steps c.new-meter.ensures.made c.in-Err.ensures.counts) c.in-Err.ensures.limit c.in-Err.ensures.place c.in-Err.ensures.device)))
-    (c.tell_end.ensures _)
+    (fault_says pickle c.args.ask.now _ _ (type_named c.args.table.now c.args.id) c.in-Err.fault.at c.new-meter.result.limit c.new-meter.result.steps _ _ _ c.in-Err.fault.kind c.new-meter.ensures.limit c.new-meter.ensures.steps asked c.in-Err.ensures.fault (run_to_fault _ (type_named c.args.table.now c.args.id) c.args.ask.now.order c.args.ask.now.start c.args.ask.now.limit c.new-meter.result c.map.new.meter c.clear.new.self c.map.new.store c.in-Err.fault.kind c.in-Err.fault.at c.new-meter.ensures.limit c.new-meter.ensures.steps c.new-meter.ensures.made c.in-Err.ensures.counts) c.in-Err.ensures.limit c.in-Err.ensures.place c.in-Err.ensures.device))))

@@ -1,9 +1,8 @@
-use Rattle.std.proofs.Common.{◌≡◌, ◌+◌, ◌∙◌, codes, arith, sym}
+use Rattle.std.proofs.Common.{◌≡◌, ◌+◌, ◌∙◌, arith, sym}
 use Rattle.value_store.specs.Refs.{value_shown}
 use Rattle.pickle_meaning.specs.Values.{end_of}
-use Rattle.run_parts.specs.declared.status.Status.TheVariants.{Fault}
-use Rattle.run_parts.specs.Lines.{fault_at_line}
-use Rattle.run_parts.proofs.Sayings.{line_says}
+use Rattle.run_parts.specs.declared.outcome.Outcome.TheVariants.{Left}
+use Rattle.run_parts.proofs.Sayings.{line_ends}
 use Rattle.poke_batch.proofs.UnderTerms.{left_saying}
 use Rattle.poke_batch.proofs.tell_value.tell_value.Goals as goal
 
@@ -16,6 +15,5 @@ returns-then-is_left g c =
     let forward = c.requires in
     let end = c.from.result + c.from-2.result in
     let same : end ≡ end_of (value_shown c.args.value) = omega (arith, start, size, from, over, forward) in
-    line_says _ Fault (fault_at_line (codes "Left") end) _ _ _ _
+    line_ends _ (Left end) _
     (left_saying c.args.table.now c.args.id c.args.ask.now c.args.terms.now c.args.bits (value_shown c.args.value) end same (sym c.is_left.ensures ∙ c.if-is_left.true))
-    c.fault_at.ensures
