@@ -6,6 +6,7 @@ use Rattle.run_parts.specs.declared.accept.Refusal.TheVariants as refusal
 use Rattle.command_words.specs.declared.ask.Ask.{Ask}
 use Rattle.text_forms.specs.declared.mode.Mode.TheVariants.{Flat, Tree, Json, Lines}
 use Rattle.run_parts.specs.declared.status.Status.{Status}
+use Rattle.text_forms.specs.Styles.{plain}
 use Rattle.text_bounds.specs.OutputRoom.{GrowsWithin, OutputIsBounded}
 use Rattle.value_text.specs.Printed.{printed}
 use Rattle.poke_batch.specs.Runs.{MapsAs, value, stops, device, unknown, refused_map, no_memory}
@@ -23,10 +24,10 @@ meant_text_bounded mode bytes ty order levels s v k j means =
 
 pub any_mode_bounded : AnyModeIsBounded
 unfolding most_text_in_any
-any_mode_bounded Flat ty m = omega arith
-any_mode_bounded Tree ty m = omega arith
-any_mode_bounded Json ty m = omega arith
-any_mode_bounded Lines ty m = omega arith
+any_mode_bounded style Flat ty m = omega arith
+any_mode_bounded style Tree ty m = omega arith
+any_mode_bounded style Json ty m = omega arith
+any_mode_bounded style Lines ty m = omega arith
 
 pub written_within : (text : List ℕ) (status : Status) (out out' err err' : Option (List ℕ)) (most : ℕ) → length text ≤ most → IsWritten text status out out' err err' → GrowsWithin out out' most
 written_within text status out out' err err' most le (inl h) = record { taken = text; appends = h.1; few = le }
@@ -35,7 +36,7 @@ written_within text status out out' err err' most le (inr h) =
     record { taken = part.taken; appends = part.appends; few = omega (arith, le, ap length part.whole, length-append part.taken part.rest) }
 
 saying_bounded : (pickle : List ℕ) (ask : Ask) (before after : SpaceView) (saying : Saying) (status : Status) (out out' err err' : Option (List ℕ))
-    → MapsAs pickle ask before after saying → IsSaid saying status out out' err err' → OutputIsBounded pickle ask before.len out out'
+    → MapsAs pickle ask before after saying → IsSaid saying status out out' err err' → OutputIsBounded pickle ask plain before.len out out'
 saying_bounded pickle ask before after saying status out out' err err' (value {type = type} {mapped = mapped} asked means fits) h =
     inr (type, asked, written_within (printed ask.mode mapped) status out out' err err' _ (text_bounded ask.mode (8 * before.len) type _ ask.start mapped fits) h)
 saying_bounded pickle ask before after saying status out out' err err' (stops asked a b c d e) h = inl h.0

@@ -1,5 +1,7 @@
 pub mod NumberLengths
+pub mod Within
 pub mod Sizes
+pub mod TextSizes
 pub mod SizesFit
 pub mod PartSizes
 pub mod BoundedParts

@@ -1,34 +1,54 @@
--- A part of a value is no larger than the value.
-use Rattle.std.proofs.Common.{◌≡◌, ℕ, zero, suc, ◌+◌, ◌-◌, ◌≤◌, Option, Some, ap, arith}
-use Rattle.pickle_meaning.specs.Values.{Label, Value, Mapped, Members, NoMembers, MemberThen, AbsentThen, member_at, member_count, members_of}
-use Rattle.text_forms.specs.declared.mode.Mode.{Mode}
-use Rattle.text_forms.specs.declared.mode.Mode.TheVariants.{Flat, Tree, Json, Lines}
+-- The sizes of a value's parts.
+use Rattle.std.proofs.Common.{◌≡◌, ℕ, zero, suc, ◌≤◌, Option, Some, None, arith, subst}
+use Rattle.pickle_meaning.specs.Values.{Value, Mapped, Members, NoMembers, MemberThen, AbsentThen, member_at, members_of}
 use Rattle.command_words.specs.declared.path.Path.{Path}
 use Rattle.poke_batch.specs.PathParts.{part_at}
-use Rattle.poke_batch.proofs.PartsKept.{part_keeps}
-use Rattle.text_bounds.specs.TextRoom.{joined, line_room}
-use Rattle.text_bounds.proofs.Sizes.{own_room, size_in, members_in}
+use Rattle.poke_batch.proofs.PartsKept.{same_value, part_keeps}
+use Rattle.text_bounds.specs.declared.form.Form.{Form}
+use Rattle.text_bounds.specs.TextRoom.{Size}
+use Rattle.text_bounds.proofs.Within.{Within}
+use Rattle.text_bounds.proofs.Sizes.{size_in}
 
-parts_inside : (mode : Mode) (own parts : ℕ) → parts ≤ joined mode own parts
-parts_inside Flat own parts = omega arith
-parts_inside Tree own parts = omega arith
-parts_inside Json own parts = omega arith
-parts_inside Lines own parts = omega arith
+module _ (form : Form) where
+  abbrev mutual
+    -- a value and all its parts have at most so many bytes
+    pub AllWithin : (most : ℕ) → Value → Type 0
+    AllWithin most (Mapped label start end members) = ((size_in form (Mapped label start end members)).text ≤ most) × PartsWithin most members
 
-same_part : (value part : Value) → Some value ≡ Some part → value ≡ part
-same_part value part e = cc
+    pub PartsWithin : (most : ℕ) → Members → Type 0
+    PartsWithin most NoMembers = Unit {0}
+    PartsWithin most (AbsentThen rest) = PartsWithin most rest
+    PartsWithin most (MemberThen value rest) = AllWithin most value × PartsWithin most rest
 
-member_inside : (mode : Mode) (label : Label) (at : ℕ) (members : Members) (place : ℕ) (part : Value) → member_at members place ≡ Some part → (size_in mode part).text ≤ (members_in mode label at members).text
-member_inside mode label at NoMembers place part e = cc
-member_inside mode label at (MemberThen value rest) zero part e = let same = ap (λ v. (size_in mode v).text) (same_part value part e) in omega (arith, same)
-member_inside mode label at (MemberThen value rest) (suc place) part e = omega (arith, member_inside mode label (suc at) rest place part e)
-member_inside mode label at (AbsentThen rest) zero part e = cc
-member_inside mode label at (AbsentThen rest) (suc place) part e = member_inside mode label (suc at) rest place part e
+  mutual
+    pub all_more : (a b : ℕ) → a ≤ b → (value : Value) → AllWithin a value → AllWithin b value
+    all_more a b le (Mapped label start end members) h = (omega (arith, le, h.0), parts_more a b le members h.1)
 
-part_inside : (mode : Mode) (value part : Value) (place : ℕ) → member_at (members_of value) place ≡ Some part → (size_in mode part).text ≤ (size_in mode value).text
-part_inside mode (Mapped label start end members) part place e =
-    omega (arith, member_inside mode label 0 members place part e, parts_inside mode (own_room mode label (member_count members) + line_room mode start (end - start)) (members_in mode label 0 members).text)
+    pub parts_more : (a b : ℕ) → a ≤ b → (members : Members) → PartsWithin a members → PartsWithin b members
+    parts_more a b le NoMembers h = tt
+    parts_more a b le (AbsentThen rest) h = parts_more a b le rest h
+    parts_more a b le (MemberThen value rest) h = (all_more a b le value h.0, parts_more a b le rest h.1)
 
-pub asked_inside : (mode : Mode) (path : Option Path) (value part : Value) → part_at path value ≡ Some part → (size_in mode part).text ≤ (size_in mode value).text
-asked_inside mode path value part e =
-    part_keeps (λ v. (size_in mode v).text ≤ (size_in mode value).text) (λ v u place le is. omega (arith, le, part_inside mode v u place is)) path value part (omega arith) e
+  -- a value within a size, whose parts have no more bytes
+  pub record IsBounded (value : Value) (room : Size) : Type 0 where
+    pub size : Within (size_in form value) room
+    pub parts : PartsWithin room.text (members_of value)
+
+  pub all_of : (value : Value) {room : Size} → IsBounded value room → AllWithin room.text value
+  all_of (Mapped label start end members) h = (h.size.text, h.parts)
+
+  member_within : (most : ℕ) (members : Members) (place : ℕ) (part : Value) → PartsWithin most members → member_at members place ≡ Some part → AllWithin most part
+  member_within most NoMembers place part h e = cc
+  member_within most (MemberThen value rest) zero part h e = subst (AllWithin most) (same_value value part e) h.0
+  member_within most (MemberThen value rest) (suc place) part h e = member_within most rest place part h.1 e
+  member_within most (AbsentThen rest) zero part h e = cc
+  member_within most (AbsentThen rest) (suc place) part h e = member_within most rest place part h e
+
+  part_within : (most : ℕ) (value part : Value) (place : ℕ) → AllWithin most value → member_at (members_of value) place ≡ Some part → AllWithin most part
+  part_within most (Mapped label start end members) part place h e = member_within most members place part h.1 e
+
+  within : (most : ℕ) (value : Value) → AllWithin most value → (size_in form value).text ≤ most
+  within most (Mapped label start end _) h = h.0
+
+  pub asked_within : (most : ℕ) (path : Option Path) (value part : Value) → AllWithin most value → part_at path value ≡ Some part → (size_in form part).text ≤ most
+  asked_within most path value part h e = within most part (part_keeps (AllWithin most) (part_within most) path value part h e)

@@ -3,6 +3,7 @@ use Rattle.std.specs.Prelude.{◌≤◌, ◌*◌, ◌⊎◌, ℕ, List, Option, 
 use Rattle.std.specs.Io.KnownBytes.{Appends, Keeps}
 use Rattle.pickle_types.specs.Types.{PokeType}
 use Rattle.command_words.specs.declared.ask.Ask.{Ask}
+use Rattle.text_forms.specs.declared.style.Style.{Style}
 use Rattle.poke_batch.specs.Runs.{IsAsked}
 use Rattle.text_bounds.specs.TextRoom.{most_text}
 
@@ -12,7 +13,8 @@ pub record GrowsWithin (old new : Option (List ℕ)) (most : ℕ) : Type 0 where
   pub appends : Appends old new taken
   pub few : length taken ≤ most
 
--- nothing is written, or at most as many bytes as a printed value of the requested type can have over so many bytes
-abbrev pub OutputIsBounded : (pickle : List ℕ) → Ask → (len : ℕ) → (out out' : Option (List ℕ)) → Type 0
-OutputIsBounded pickle ask len out out' =
-    Keeps out out' ⊎ ((type : PokeType) × IsAsked pickle ask.name.now type × GrowsWithin out out' (most_text ask.mode type (8 * len)))
+-- nothing is written, or at most as many bytes as a printed value of the requested type can have in a style over so many
+-- bytes
+abbrev pub OutputIsBounded : (pickle : List ℕ) → Ask → Style → (len : ℕ) → (out out' : Option (List ℕ)) → Type 0
+OutputIsBounded pickle ask style len out out' =
+    Keeps out out' ⊎ ((type : PokeType) × IsAsked pickle ask.name.now type × GrowsWithin out out' (most_text style ask.mode type (8 * len)))

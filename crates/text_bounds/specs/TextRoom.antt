@@ -1,16 +1,23 @@
 -- A bound on the bytes of a printed value, from its type and the bits of the file alone.
-use Rattle.std.specs.Prelude.{ℕ, ◌+◌, ◌-◌, ◌*◌, ◌/◌, ◌^◌, max, length, List, ℤ, pos, negsuc, if◌then◌else◌, Option, None, Some, codes, decimal}
-use Rattle.std.specs.Fmt.{signed_decimal}
+use Rattle.std.specs.Prelude.{ℕ, ◌+◌, ◌-◌, ◌*◌, ◌/◌, ◌^◌, false, min, max, length, List, ℤ, pos, negsuc, if◌then◌else◌, Option, None, Some, codes, decimal}
 use Rattle.pickle_types.specs.declared.integer.IntegerType.{IntegerType}
 use Rattle.pickle_types.specs.Types.{PokeType, IntegerOf, OffsetOf, StringOf, ArrayOf, StructOf, IntegralOf, UnionOf, Fields, NoFields, FieldThen, Parts, NoParts, PartThen}
 use Rattle.pickle_types.specs.Bounds.{least_width, count_of}
 use Rattle.pickle_meaning.specs.Values.{Naming}
+use Rattle.text_bounds.specs.declared.form.Form.{Form}
 use Rattle.text_forms.specs.declared.mode.Mode.{Mode}
 use Rattle.text_forms.specs.declared.mode.Mode.TheVariants.{Flat, Tree, Json, Lines}
-use Rattle.poke_batch.specs.ValueText.{integer_text, offset_text, title_text, name_text}
+use Rattle.text_forms.specs.declared.style.Chars.{Chars}
+use Rattle.text_forms.specs.declared.style.Chars.TheVariants.{Numbers, Text}
+use Rattle.text_forms.specs.declared.style.Numbers.{Numbers as Digits}
+use Rattle.text_forms.specs.declared.style.Style.{Style}
+use Rattle.poke_batch.specs.ValueText.{title_text, name_text}
 use Rattle.text_forms.specs.Brackets.{in_brackets}
-use Rattle.poke_batch.specs.JsonText.{json_offset, key_text}
+use Rattle.poke_batch.specs.JsonText.{key_text}
 use Rattle.poke_batch.specs.PathText.{field_step}
+use Rattle.value_text.specs.CutArrays.{more_text, more_member, more_line, more_item}
+use Rattle.value_text.specs.StyledLeaves.{more_step}
+use Rattle.value_text.specs.StyledNumbers.{integer_in, offset_in, json_number, json_offset_in}
 
 -- a bound on the bytes of a text, and one on the lines in it that get longer if it is the text of a part
 pub record Size : Type 0 where
@@ -21,24 +28,32 @@ pub record Size : Type 0 where
 abbrev pub longest_number : IntegerType → ℤ
 longest_number type = if type.signed then negsuc (2 ^ (type.width - 1) - 1) else pos (2 ^ type.width - 1)
 
-abbrev pub integer_room : Mode → IntegerType → ℕ
-integer_room Flat type = length (integer_text type (longest_number type))
-integer_room Tree type = length (integer_text type (longest_number type))
-integer_room Lines type = length (integer_text type (longest_number type))
-integer_room Json type = length (signed_decimal (longest_number type))
+abbrev pub integer_room : Digits → Mode → IntegerType → ℕ
+integer_room numbers Flat type = length (integer_in numbers type (longest_number type))
+integer_room numbers Tree type = length (integer_in numbers type (longest_number type))
+integer_room numbers Lines type = length (integer_in numbers type (longest_number type))
+integer_room numbers Json type = length (json_number numbers (longest_number type))
 
-abbrev pub offset_room : Mode → IntegerType → (unit : ℕ) → ℕ
-offset_room Flat type unit = length (offset_text type unit (longest_number type))
-offset_room Tree type unit = length (offset_text type unit (longest_number type))
-offset_room Lines type unit = length (offset_text type unit (longest_number type))
-offset_room Json type unit = length (json_offset (longest_number type) unit)
+abbrev pub offset_room : Digits → Mode → IntegerType → (unit : ℕ) → ℕ
+offset_room numbers Flat type unit = length (offset_in numbers type unit (longest_number type))
+offset_room numbers Tree type unit = length (offset_in numbers type unit (longest_number type))
+offset_room numbers Lines type unit = length (offset_in numbers type unit (longest_number type))
+offset_room numbers Json type unit = length (json_offset_in numbers (longest_number type) unit)
 
--- quotes, and the longest escape for each byte; the last byte is the 0, which isn't printed
+-- the longest escape of a byte
+abbrev pub escape_room : Mode → ℕ
+escape_room Flat = 4
+escape_room Tree = 4
+escape_room Lines = 4
+escape_room Json = 6
+
+-- quotes, and the longest escape for each of so many bytes
+abbrev pub quoted_room : Mode → (count : ℕ) → ℕ
+quoted_room mode count = 2 + escape_room mode * count
+
+-- the last byte of a string is the 0, which isn't printed
 abbrev pub string_room : Mode → (m : ℕ) → ℕ
-string_room Flat m = 2 + 4 * (m / 8 - 1)
-string_room Tree m = 2 + 4 * (m / 8 - 1)
-string_room Lines m = 2 + 4 * (m / 8 - 1)
-string_room Json m = 2 + 6 * (m / 8 - 1)
+string_room mode m = quoted_room mode (m / 8 - 1)
 
 -- what an array has beside its elements
 abbrev pub array_room : Mode → (count : ℕ) → ℕ
@@ -113,38 +128,64 @@ greater a b = record { text = max a.text b.text; lines = max a.lines b.lines }
 abbrev pub repeated : (count : ℕ) → Size → Size
 repeated count each = record { text = count * each.text; lines = count * each.lines }
 
+-- what stands for so many elements that are left out, from a place and a bit on and over so many bits
+abbrev pub more_room : Mode → (left place from bits : ℕ) → ℕ
+more_room Flat left place from bits = length (more_member false left)
+more_room Tree left place from bits = length (more_line 1 left)
+more_room Json left place from bits = length (more_item false left)
+more_room Lines left place from bits = length (more_step place) + (line_room Lines from bits + length (more_text left))
+
+abbrev pub more_size : Mode → (left place from bits : ℕ) → Size
+more_size mode left place from bits = record { text = more_room mode left place from bits; lines = 1 }
+
+-- at most so many elements on m bits, of which a limit may leave some out; one always counts, since it may be requested
+abbrev pub elements_size : Mode → (limit : Option ℕ) → (m count : ℕ) → Size → Size
+elements_size mode None m count each = repeated count each
+elements_size mode (Some most) m count each = both (repeated (min (max 1 most) count) each) (more_size mode count count m m)
+
+-- an array that may be a text
+abbrev pub or_text : Chars → (text array : Size) → Size
+or_text Numbers text array = array
+or_text Text text array = greater text array
+
+-- a text of so many bytes, which starts at most at a bit and has at most so many bits
+abbrev pub text_size : Mode → (count from bits : ℕ) → Size
+text_size mode count from bits = with_parts mode (quoted_room mode count + line_room mode from bits) no_size
+
 -- an array of at most so many elements
-abbrev pub array_size : Mode → (m count : ℕ) → Size → Size
-array_size mode m count element =
-    with_parts mode (array_room mode count + line_room mode m m) (repeated count (moved (element_before mode count) (element_moves mode count) element))
+abbrev pub array_size : Form → (m count : ℕ) → Size → Size
+array_size form m count element =
+    or_text form.style.chars (text_size form.mode count m m)
+    (with_parts form.mode (array_room form.mode count + line_room form.mode m m)
+    (elements_size form.mode form.style.elements m count (moved (element_before form.mode count) (element_moves form.mode count) element)))
 
 unfoldable mutual
   -- a bound on a printed value of the type on m bits
-  pub size_of : Mode → PokeType → (m : ℕ) → Size
-  size_of mode (IntegerOf type) m = with_parts mode (integer_room mode type + line_room mode m type.width) no_size
-  size_of mode (OffsetOf type unit) m = with_parts mode (offset_room mode type unit + line_room mode m type.width) no_size
-  size_of mode StringOf m = with_parts mode (string_room mode m + line_room mode m m) no_size
-  size_of mode (ArrayOf element bound) m = array_size mode m (count_of m (least_width element)) (size_of mode element m)
-  size_of mode (StructOf name pinned fields) m = with_parts mode (titled_room mode (codes "struct") name + line_room mode m m) (fields_size mode 0 fields m)
-  size_of mode (IntegralOf name type fields) m = with_parts mode (titled_room mode (codes "struct") name + line_room mode m type.width) (parts_size mode 0 fields m)
-  size_of mode (UnionOf name alternatives) m = with_parts mode (titled_room mode (codes "union") name + line_room mode m m) (greatest_size mode alternatives m)
+  pub size_of : Form → PokeType → (m : ℕ) → Size
+  size_of form (IntegerOf type) m = with_parts form.mode (integer_room form.style.numbers form.mode type + line_room form.mode m type.width) no_size
+  size_of form (OffsetOf type unit) m = with_parts form.mode (offset_room form.style.numbers form.mode type unit + line_room form.mode m type.width) no_size
+  size_of form StringOf m = with_parts form.mode (string_room form.mode m + line_room form.mode m m) no_size
+  size_of form (ArrayOf element bound) m = array_size form m (count_of m (least_width element)) (size_of form element m)
+  size_of form (StructOf name pinned fields) m = with_parts form.mode (titled_room form.mode (codes "struct") name + line_room form.mode m m) (fields_size form 0 fields m)
+  size_of form (IntegralOf name type fields) m = with_parts form.mode (titled_room form.mode (codes "struct") name + line_room form.mode m type.width) (parts_size form 0 fields m)
+  size_of form (UnionOf name alternatives) m = with_parts form.mode (titled_room form.mode (codes "union") name + line_room form.mode m m) (greatest_size form alternatives m)
 
   -- of fields from a place on
-  pub fields_size : Mode → (place : ℕ) → Fields → (m : ℕ) → Size
-  fields_size mode place NoFields m = no_size
-  fields_size mode place (FieldThen name order type constraint label condition rest) m =
-      both (moved (field_before mode name place) (field_moves mode name place) (size_of mode type m)) (fields_size mode (place + 1) rest m)
+  pub fields_size : Form → (place : ℕ) → Fields → (m : ℕ) → Size
+  fields_size form place NoFields m = no_size
+  fields_size form place (FieldThen name order type constraint label condition rest) m =
+      both (moved (field_before form.mode name place) (field_moves form.mode name place) (size_of form type m)) (fields_size form (place + 1) rest m)
 
-  pub parts_size : Mode → (place : ℕ) → Parts → (m : ℕ) → Size
-  parts_size mode place NoParts m = no_size
-  parts_size mode place (PartThen name order type constraint rest) m =
-      both (moved (field_before mode name place) (field_moves mode name place) (size_of mode type m)) (parts_size mode (place + 1) rest m)
+  pub parts_size : Form → (place : ℕ) → Parts → (m : ℕ) → Size
+  parts_size form place NoParts m = no_size
+  parts_size form place (PartThen name order type constraint rest) m =
+      both (moved (field_before form.mode name place) (field_moves form.mode name place) (size_of form type m)) (parts_size form (place + 1) rest m)
 
   -- of one alternative, which is the only member of its union
-  pub greatest_size : Mode → Parts → (m : ℕ) → Size
-  greatest_size mode NoParts m = no_size
-  greatest_size mode (PartThen name order type constraint rest) m =
-      greater (moved (field_before mode name 0) (field_moves mode name 0) (size_of mode type m)) (greatest_size mode rest m)
+  pub greatest_size : Form → Parts → (m : ℕ) → Size
+  greatest_size form NoParts m = no_size
+  greatest_size form (PartThen name order type constraint rest) m =
+      greater (moved (field_before form.mode name 0) (field_moves form.mode name 0) (size_of form type m)) (greatest_size form rest m)
 
 -- the line feed after a text of one line, and the dot that is the path of a value without parts
 abbrev pub end_room : Mode → ℕ
@@ -153,15 +194,15 @@ end_room Tree = 0
 end_room Json = 1
 end_room Lines = 1
 
--- the most bytes of a printed value of a type on m bits
-unfoldable pub most_text : Mode → PokeType → (m : ℕ) → ℕ
-most_text mode type m = (size_of mode type m).text + end_room mode
+-- the most bytes of a printed value of a type on m bits, in a style and a mode
+unfoldable pub most_text : Style → Mode → PokeType → (m : ℕ) → ℕ
+most_text style mode type m = (size_of (record { mode = mode; style = style }) type m).text + end_room mode
 
 -- the same, the most in any mode
-unfoldable pub most_text_in_any : PokeType → (m : ℕ) → ℕ
-most_text_in_any type m = max (most_text Flat type m) (max (most_text Tree type m) (max (most_text Json type m) (most_text Lines type m)))
+unfoldable pub most_text_in_any : Style → PokeType → (m : ℕ) → ℕ
+most_text_in_any style type m = max (most_text style Flat type m) (max (most_text style Tree type m) (max (most_text style Json type m) (most_text style Lines type m)))
 
 -- in a mode if one is given, else the most in any mode
-abbrev pub most_text_for : Option Mode → PokeType → (m : ℕ) → ℕ
-most_text_for None type m = most_text_in_any type m
-most_text_for (Some mode) type m = most_text mode type m
+abbrev pub most_text_for : Style → Option Mode → PokeType → (m : ℕ) → ℕ
+most_text_for style None type m = most_text_in_any style type m
+most_text_for style (Some mode) type m = most_text style mode type m

@@ -4,27 +4,31 @@ ghost use Rattle.pickle_types.specs.Bounds.{IsBound};
 ghost use Rattle.pickle_types.specs.TypeTable.{type_named, IsInTable};
 ghost use Rattle.text_bounds.specs.TextRoom.{most_text, most_text_in_any, most_text_for};
 
+use crate::form::Form;
 use crate::nodes::type_size;
 use crate::room::end_room;
 use pickle_types::bounds::{greater_of, sum_of};
 use pickle_types::table::{Table, TypeId};
 use poke_batch::mode::Mode;
 use std::alloc::{AllocError, Global};
+use text_forms::style::Style;
 
-/// The most bytes of a printed value of a type over a file of `bits` bits in a mode, the line feed at its end included.
-/// `None` for 2^128 or more; `Memory` if an allocation fails.
+/// The most bytes of a printed value of a type over a file of `bits` bits in a style and a mode, the line feed at its end
+/// included. `None` for 2^128 or more; `Memory` if an allocation fails.
 #[tactic(auto, unfolding(crate::specs::TextRoom::most_text))]
 pub fn most_text(
     alloc: Global,
     table: &Table,
     id: TypeId,
     bits: u64,
+    style: Style,
     mode: Mode,
 ) -> Result<Option<u128>, AllocError>
     requires known { IsInTable table.now id }
-    ensures { IfOk result (λ most. IsBound most (most_text mode (type_named table.now id) bits)) }
+    ensures { IfOk result (λ most. IsBound most (most_text style mode (type_named table.now id) bits)) }
 {
-    let known = type_size(alloc, mode, table.nodes(), table.roots(), bits, id.node)?;
+    let form = Form { mode, style };
+    let known = type_size(alloc, form, table.nodes(), table.roots(), bits, id.node)?;
     Ok(sum_of(known.size.text, Some(end_room(mode))))
 }
 
@@ -35,14 +39,15 @@ pub fn most_text_in_any(
     table: &Table,
     id: TypeId,
     bits: u64,
+    style: Style,
 ) -> Result<Option<u128>, AllocError>
     requires known { IsInTable table.now id }
-    ensures { IfOk result (λ most. IsBound most (most_text_in_any (type_named table.now id) bits)) }
+    ensures { IfOk result (λ most. IsBound most (most_text_in_any style (type_named table.now id) bits)) }
 {
-    let flat = most_text(alloc, table, id, bits, Mode::Flat)?;
-    let tree = most_text(alloc, table, id, bits, Mode::Tree)?;
-    let json = most_text(alloc, table, id, bits, Mode::Json)?;
-    let lines = most_text(alloc, table, id, bits, Mode::Lines)?;
+    let flat = most_text(alloc, table, id, bits, style, Mode::Flat)?;
+    let tree = most_text(alloc, table, id, bits, style, Mode::Tree)?;
+    let json = most_text(alloc, table, id, bits, style, Mode::Json)?;
+    let lines = most_text(alloc, table, id, bits, style, Mode::Lines)?;
     Ok(greater_of(flat, greater_of(tree, greater_of(json, lines))))
 }
 
@@ -52,13 +57,14 @@ pub fn most_text_for(
     table: &Table,
     id: TypeId,
     bits: u64,
+    style: Style,
     mode: Option<Mode>,
 ) -> Result<Option<u128>, AllocError>
     requires known { IsInTable table.now id }
-    ensures { IfOk result (λ most. IsBound most (most_text_for mode (type_named table.now id) bits)) }
+    ensures { IfOk result (λ most. IsBound most (most_text_for style mode (type_named table.now id) bits)) }
 {
     match mode {
-        Some(mode) => most_text(alloc, table, id, bits, mode),
-        None => most_text_in_any(alloc, table, id, bits),
+        Some(mode) => most_text(alloc, table, id, bits, style, mode),
+        None => most_text_in_any(alloc, table, id, bits, style),
     }
 }

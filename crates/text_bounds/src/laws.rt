@@ -1,6 +1,6 @@
 //! The laws of the bounds of printed values. These functions do nothing: the contract of each is a law.
 
-ghost use Rattle.text_bounds.specs.TextLaws.{TextsAreBounded, PartTextsAreBounded, MeantTextsAreBounded, AnyModeIsBounded, OutputsAreBounded, OutputsUnderTermsAreBounded};
+ghost use Rattle.text_bounds.specs.TextLaws.{TextsAreBounded, PartTextsAreBounded, StyledTextsAreBounded, MeantTextsAreBounded, AnyModeIsBounded, OutputsAreBounded, OutputsUnderTermsAreBounded};
 
 /// A printed value that fits a type over so many bits has, in each mode, at most as many bytes as the type's bound.
 pub fn texts_are_bounded()
@@ -17,6 +17,11 @@ pub fn meant_texts_are_bounded()
     ensures law { MeantTextsAreBounded }
 {}
 
+/// So has each printed part of such a value in every style, whatever its arrays of chars are.
+pub fn styled_texts_are_bounded()
+    ensures law { StyledTextsAreBounded }
+{}
+
 /// The bound for any mode is at least that of each.
 pub fn any_mode_is_bounded()
     ensures law { AnyModeIsBounded }
@@ -27,7 +32,8 @@ pub fn outputs_are_bounded()
     ensures law { OutputsAreBounded }
 {}
 
-/// So does a run of a mapping under terms in the plain style, whether it prints the value or a requested part.
+/// So does a run of a mapping under terms without a look, in every style, whether it prints the value or a requested
+/// part.
 pub fn outputs_under_terms_are_bounded()
     ensures law { OutputsUnderTermsAreBounded }
 {}

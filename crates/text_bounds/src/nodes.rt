@@ -7,14 +7,14 @@ use crate::fields::{
     FieldSizes, NodeSize, PartSizes, array_size, field_and_rest, integer_size, integral_size,
     no_fields, no_parts, offset_size, part_and_rest, string_size, struct_size, union_size,
 };
+use crate::form::Form;
 use pickle_types::view::{Field, Node, Part, Shape};
-use poke_batch::mode::Mode;
 use std::alloc::{AllocError, Global};
 
 /// The sizes of a struct's fields, from the last to the first.
 #[cycle(sizes)]
 fn fields_sizes(
-    mode: Mode,
+    form: Form,
     nodes: &[Node],
     roots: &[usize],
     known: &[NodeSize],
@@ -25,16 +25,16 @@ fn fields_sizes(
     requires table { IsTable nodes.now }
     requires below { below ≤ length nodes.now }
     requires fields { FieldsBelow below fields.now }
-    requires known { AreKnownSizes nodes.now roots.now known.now mode bits }
-    ensures { AreFieldSizes result mode 0 (open_fields (type_of nodes.now) fields.now) bits }
+    requires known { AreKnownSizes nodes.now roots.now known.now form bits }
+    ensures { AreFieldSizes result form 0 (open_fields (type_of nodes.now) fields.now) bits }
 {
     let mut all = no_fields();
     let mut at = fields.len();
     while at > 0 {
         at -= 1;
         let field = &fields[at];
-        let own = node_size(mode, nodes, roots, known, bits, field.node);
-        all = field_and_rest(mode, at, field, own, all);
+        let own = node_size(form, nodes, roots, known, bits, field.node);
+        all = field_and_rest(form, at, field, own, all);
     }
     all
 }
@@ -42,7 +42,7 @@ fn fields_sizes(
 /// The sizes of the parts of a union or an integral struct, from the last to the first.
 #[cycle(sizes)]
 fn parts_sizes(
-    mode: Mode,
+    form: Form,
     nodes: &[Node],
     roots: &[usize],
     known: &[NodeSize],
@@ -53,16 +53,16 @@ fn parts_sizes(
     requires table { IsTable nodes.now }
     requires below { below ≤ length nodes.now }
     requires parts { PartsBelow below parts.now }
-    requires known { AreKnownSizes nodes.now roots.now known.now mode bits }
-    ensures { ArePartSizes result mode 0 (open_parts (type_of nodes.now) parts.now) bits }
+    requires known { AreKnownSizes nodes.now roots.now known.now form bits }
+    ensures { ArePartSizes result form 0 (open_parts (type_of nodes.now) parts.now) bits }
 {
     let mut all = no_parts();
     let mut at = parts.len();
     while at > 0 {
         at -= 1;
         let part = &parts[at];
-        let own = node_size(mode, nodes, roots, known, bits, part.node);
-        all = part_and_rest(mode, at, part, own, all);
+        let own = node_size(form, nodes, roots, known, bits, part.node);
+        all = part_and_rest(form, at, part, own, all);
     }
     all
 }
@@ -70,7 +70,7 @@ fn parts_sizes(
 /// The size of a node. It is looked up if it is known, else computed.
 #[cycle(sizes)]
 fn node_size(
-    mode: Mode,
+    form: Form,
     nodes: &[Node],
     roots: &[usize],
     known: &[NodeSize],
@@ -79,8 +79,8 @@ fn node_size(
 ) -> NodeSize
     requires table { IsTable nodes.now }
     requires at { at < length nodes.now }
-    requires known { AreKnownSizes nodes.now roots.now known.now mode bits }
-    ensures { AreSizes result mode (type_of nodes.now at) bits }
+    requires known { AreKnownSizes nodes.now roots.now known.now form bits }
+    ensures { AreSizes result form (type_of nodes.now at) bits }
 {
     if let Some(slot) = nodes[at].slot {
         let slot = usize::from(slot);
@@ -88,13 +88,13 @@ fn node_size(
             return known[slot];
         }
     }
-    shape_size(mode, nodes, roots, known, bits, at)
+    shape_size(form, nodes, roots, known, bits, at)
 }
 
 /// The size of a node, computed from the sizes of the nodes that it uses.
 #[cycle(sizes)]
 fn shape_size(
-    mode: Mode,
+    form: Form,
     nodes: &[Node],
     roots: &[usize],
     known: &[NodeSize],
@@ -103,36 +103,36 @@ fn shape_size(
 ) -> NodeSize
     requires table { IsTable nodes.now }
     requires at { at < length nodes.now }
-    requires known { AreKnownSizes nodes.now roots.now known.now mode bits }
-    ensures { AreSizes result mode (type_of nodes.now at) bits }
+    requires known { AreKnownSizes nodes.now roots.now known.now form bits }
+    ensures { AreSizes result form (type_of nodes.now at) bits }
 {
     match &nodes[at].shape {
-        Shape::Integer(number) => integer_size(mode, bits, *number),
-        Shape::Offset(number, unit) => offset_size(mode, bits, *number, *unit),
-        Shape::String => string_size(mode, bits),
+        Shape::Integer(number) => integer_size(form, bits, *number),
+        Shape::Offset(number, unit) => offset_size(form, bits, *number, *unit),
+        Shape::String => string_size(form, bits),
         Shape::Array(element, _) => {
-            let element = node_size(mode, nodes, roots, known, bits, *element);
-            array_size(mode, bits, element)
+            let element = node_size(form, nodes, roots, known, bits, *element);
+            array_size(form, bits, element)
         }
         Shape::Struct {
             name,
             pinned,
             fields,
         } => {
-            let fields = fields_sizes(mode, nodes, roots, known, bits, at, fields);
-            struct_size(mode, bits, name, *pinned, fields)
+            let fields = fields_sizes(form, nodes, roots, known, bits, at, fields);
+            struct_size(form, bits, name, *pinned, fields)
         }
         Shape::Integral {
             name,
             number,
             fields,
         } => {
-            let fields = parts_sizes(mode, nodes, roots, known, bits, at, fields);
-            integral_size(mode, bits, name, *number, fields)
+            let fields = parts_sizes(form, nodes, roots, known, bits, at, fields);
+            integral_size(form, bits, name, *number, fields)
         }
         Shape::Union { name, alternatives } => {
-            let alternatives = parts_sizes(mode, nodes, roots, known, bits, at, alternatives);
-            union_size(mode, bits, name, alternatives)
+            let alternatives = parts_sizes(form, nodes, roots, known, bits, at, alternatives);
+            union_size(form, bits, name, alternatives)
         }
     }
 }
@@ -141,7 +141,7 @@ fn shape_size(
 /// root is computed once and stored in memory that is allocated for it.
 pub fn type_size(
     alloc: Global,
-    mode: Mode,
+    form: Form,
     nodes: &[Node],
     roots: &[usize],
     bits: u64,
@@ -149,15 +149,15 @@ pub fn type_size(
 ) -> Result<NodeSize, AllocError>
     requires table { IsTable nodes.now }
     requires at { at < length nodes.now }
-    ensures { IfOk result (λ size. AreSizes size mode (type_of nodes.now at) bits) }
+    ensures { IfOk result (λ size. AreSizes size form (type_of nodes.now at) bits) }
 {
     let mut known = Vec::new(alloc);
     for root in roots {
         if *root >= at {
             break;
         }
-        let size = shape_size(mode, nodes, roots, known.as_slice(), bits, *root);
+        let size = shape_size(form, nodes, roots, known.as_slice(), bits, *root);
         known.push(size)?;
     }
-    Ok(shape_size(mode, nodes, roots, known.as_slice(), bits, at))
+    Ok(shape_size(form, nodes, roots, known.as_slice(), bits, at))
 }

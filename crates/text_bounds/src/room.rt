@@ -1,19 +1,23 @@
 //! How many bytes the pieces of a printed value take.
-ghost use Rattle.std.specs.Prelude.{◌≡◌, ℤ, ◌+◌, ◌*◌, ◌^◌, ◌<◌, ◌≤◌, length, decimal};
+ghost use Rattle.std.specs.Prelude.{◌≡◌, ℤ, ◌+◌, ◌*◌, ◌^◌, ◌<◌, ◌≤◌, None, length, decimal};
 ghost use Rattle.std.specs.Fmt.{signed_decimal};
 ghost use Rattle.pickle_types.specs.Sound.{IsWidth};
 ghost use Rattle.pickle_types.specs.Table.{name_of};
 ghost use Rattle.poke_batch.specs.Suffixes.{suffix_text};
 ghost use Rattle.poke_batch.specs.PathText.{field_step};
-ghost use Rattle.poke_batch.specs.JsonText.{json_escape, json_offset, key_text};
+ghost use Rattle.poke_batch.specs.JsonText.{json_escape, key_text};
 ghost use Rattle.poke_batch.specs.ValueText.{spelled, spelled_byte, integer_text, typed_text, suffix_of, unit_text, title_text, name_text};
+ghost use Rattle.value_text.specs.StyledNumbers.{hex_digits, hexadecimal, signed_hex, hex_suffix, typed_hex};
+ghost use Rattle.text_forms.specs.declared.style.Numbers.TheVariants.{Decimal, Hexadecimal};
 ghost use Rattle.text_forms.specs.Brackets.{in_brackets};
-ghost use Rattle.text_bounds.specs.TextRoom.{longest_number, integer_room, offset_room, string_room, array_room, titled_room, line_room, element_before, element_moves, field_before, field_moves, end_room};
+ghost use Rattle.text_bounds.specs.TextRoom.{longest_number, integer_room, offset_room, escape_room, string_room, array_room, more_room, titled_room, line_room, element_before, element_moves, field_before, field_moves, end_room};
 
+use crate::form::Form;
 use itoa::Buffer;
 use pickle_types::integer::IntegerType;
 use pickle_types::view::Name;
 use poke_batch::mode::Mode;
+use text_forms::style::Numbers;
 use value_text::print::suffix::{Suffix, suffix_of};
 
 fn digits(number: u128) -> u128
@@ -74,15 +78,89 @@ fn typed_room(ty: IntegerType) -> u128
     type_room(ty) + longest_digits(ty)
 }
 
-/// The longest printed integer.
-pub fn integer_room(mode: Mode, ty: IntegerType) -> u128
+/// The longest decimal integer.
+fn decimal_room(mode: Mode, ty: IntegerType) -> u128
     requires width { IsWidth ty }
-    ensures count { result ≡ integer_room mode ty }
+    ensures count { result ≡ integer_room Decimal mode ty }
     ensures few { result ≤ 101 }
 {
     match mode {
         Mode::Flat | Mode::Tree | Mode::Lines => typed_room(ty),
         Mode::Json => longest_digits(ty),
+    }
+}
+
+/// The hexadecimal digits of a number, at most so many.
+#[tactic(auto, using(crate::proofs::NumberLengths::hex_last, crate::proofs::NumberLengths::hex_more))]
+fn hex_digits(most: u8, number: u128) -> u128
+    ensures count { result ≡ length (hex_digits most number) }
+    ensures few { result ≤ most }
+{
+    if most == 0 {
+        0
+    } else if number < 16 {
+        1
+    } else {
+        1 + hex_digits(most - 1, number / 16)
+    }
+}
+
+/// The hexadecimal digits of a number.
+fn hex_count(number: u128) -> u128
+    ensures count { result ≡ length (hexadecimal number) }
+    ensures few { result ≤ 32 }
+{
+    hex_digits(32, number)
+}
+
+/// `0x` and the most hexadecimal digits that a number of a type has, with its minus.
+fn longest_hex(ty: IntegerType) -> u128
+    requires width { IsWidth ty }
+    ensures count { result ≡ length (signed_hex (longest_number ty)) }
+    ensures few { result ≤ 35 }
+{
+    if ty.signed {
+        3 + hex_count(1u128 << (u32::from(ty.width) - 1))
+    } else {
+        2 + hex_count((1u128 << u32::from(ty.width)) - 1)
+    }
+}
+
+/// The bytes that name the type of a hexadecimal integer, beside its digits.
+#[tactic(auto, using(crate::proofs::NumberLengths::hex_typed))]
+fn hex_type_room(ty: IntegerType) -> u128
+    ensures count { (number : ℤ) → length (typed_hex (hex_suffix ty) ty number) ≡ result + length (signed_hex number) }
+    ensures few { result ≤ 60 }
+{
+    if ty.signed && ty.width == 8 {
+        cast_room(ty)
+    } else {
+        type_room(ty)
+    }
+}
+
+/// The longest hexadecimal integer.
+#[tactic(auto, using(crate::proofs::NumberLengths::quoted_length), unfolding(value_text::specs::StyledNumbers::hex_integer))]
+fn hex_room(mode: Mode, ty: IntegerType) -> u128
+    requires width { IsWidth ty }
+    ensures count { result ≡ integer_room Hexadecimal mode ty }
+    ensures few { result ≤ 101 }
+{
+    match mode {
+        Mode::Flat | Mode::Tree | Mode::Lines => hex_type_room(ty) + longest_hex(ty),
+        Mode::Json => 2 + longest_hex(ty),
+    }
+}
+
+/// The longest printed integer.
+pub fn integer_room(form: Form, ty: IntegerType) -> u128
+    requires width { IsWidth ty }
+    ensures count { result ≡ integer_room form.style.numbers form.mode ty }
+    ensures few { result ≤ 101 }
+{
+    match form.style.numbers {
+        Numbers::Decimal => decimal_room(form.mode, ty),
+        Numbers::Hexadecimal => hex_room(form.mode, ty),
     }
 }
 
@@ -98,26 +176,28 @@ fn unit_room(unit: u32) -> u128
 }
 
 /// The longest printed offset, whose unit is in bits.
-#[tactic(auto, unfolding(value_text::specs::ValueText::offset_text))]
-pub fn offset_room(mode: Mode, ty: IntegerType, unit: u32) -> u128
+#[tactic(auto, using(crate::proofs::NumberLengths::offset_length, crate::proofs::NumberLengths::json_offset_length))]
+pub fn offset_room(form: Form, ty: IntegerType, unit: u32) -> u128
     requires width { IsWidth ty }
-    ensures count { result ≡ offset_room mode ty unit }
-    ensures few { result ≤ 142 }
+    ensures count { result ≡ offset_room form.style.numbers form.mode ty unit }
+    ensures few { result ≤ 163 }
 {
-    match mode {
-        Mode::Flat | Mode::Tree | Mode::Lines => typed_room(ty) + 1 + unit_room(unit),
-        Mode::Json => json_offset_room(ty, unit),
+    let number = integer_room(form, ty);
+    match form.mode {
+        Mode::Flat | Mode::Tree | Mode::Lines => number + 1 + unit_room(unit),
+        Mode::Json => 22 + number + digits(u128::from(unit)),
     }
 }
 
-/// The longest JSON object of an offset.
-#[tactic(auto, using(crate::proofs::NumberLengths::json_offset_length))]
-fn json_offset_room(ty: IntegerType, unit: u32) -> u128
-    requires width { IsWidth ty }
-    ensures count { result ≡ length (json_offset (longest_number ty) unit) }
-    ensures few { result ≤ 142 }
+/// The longest escape of a byte.
+pub fn escape_room(mode: Mode) -> u128
+    ensures count { result ≡ escape_room mode }
+    ensures few { result ≤ 6 }
 {
-    22 + longest_digits(ty) + digits(u128::from(unit))
+    match mode {
+        Mode::Flat | Mode::Tree | Mode::Lines => 4,
+        Mode::Json => 6,
+    }
 }
 
 /// Quotes, and the longest escape for each byte that fits into so many bits. The last byte is 0, which isn't printed.
@@ -126,10 +206,7 @@ pub fn string_room(mode: Mode, bits: u64) -> u128
     ensures few { result < 2 ^ 65 }
 {
     let most = u128::from((bits / 8).saturating_sub(1));
-    match mode {
-        Mode::Flat | Mode::Tree | Mode::Lines => 2 + 4 * most,
-        Mode::Json => 2 + 6 * most,
-    }
+    2 + escape_room(mode) * most
 }
 
 fn brackets_room(number: u128) -> u128
@@ -182,6 +259,19 @@ pub fn line_room(mode: Mode, bits: u64, widest: u64) -> u128
         Mode::Flat | Mode::Json => 0,
         Mode::Tree => 1,
         Mode::Lines => 8 + (digits(u128::from(bits)) + digits(u128::from(widest))),
+    }
+}
+
+/// What stands for elements that are left out, of so many on so many bits.
+pub fn more_room(mode: Mode, bits: u64, count: u128) -> u128
+    ensures { result ≡ more_room mode count count bits bits }
+{
+    let left = digits(count);
+    match mode {
+        Mode::Flat => 4 + left,
+        Mode::Tree => 6 + left,
+        Mode::Json => 8 + left,
+        Mode::Lines => (4 + left) + (line_room(mode, bits, bits) + (3 + left)),
     }
 }
 

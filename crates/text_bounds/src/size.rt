@@ -18,7 +18,7 @@ pub struct TextSize {
 }
 
 /// A product.
-fn times(count: u128, each: Option<u128>) -> Option<u128>
+pub fn times(count: u128, each: Option<u128>) -> Option<u128>
     ensures { (n x : ℕ) → count ≡ n → IsBound each x → IsBound result (n * x) }
 {
     if count == 0 {
@@ -51,10 +51,10 @@ pub fn no_size() -> TextSize
 }
 
 /// The size of a value that has so many bytes beside its parts.
-pub fn with_parts(mode: Mode, own: u128, parts: TextSize) -> TextSize
-    ensures { (room : ℕ) (size : Size) → own ≡ room → HoldsSize parts size → HoldsSize result (with_parts mode room size) }
+pub fn with_parts(mode: Mode, own: Option<u128>, parts: TextSize) -> TextSize
+    ensures { (room : ℕ) (size : Size) → IsBound own room → HoldsSize parts size → HoldsSize result (with_parts mode room size) }
 {
-    let text = joined(mode, Some(own), parts.text);
+    let text = joined(mode, own, parts.text);
     let lines = joined(mode, Some(1), parts.lines);
     TextSize { text, lines }
 }

@@ -7,10 +7,11 @@ pub returns : goal.returns
 unfolding least_width size_of
 returns c type bound h =
     let count = c.elements-count.ensures.count _ h.least in
-    let own = c.array_room.ensures.count ∙ ap (array_room c.args.mode) count in
-    let before = c.element_before-before.ensures.count ∙ ap (element_before c.args.mode) count in
-    let moves = c.element_moves-moves.ensures.count ∙ ap (element_moves c.args.mode) count in
+    let own = c.array_room.ensures.count ∙ ap (array_room c.args.form.mode) count in
+    let before = c.element_before-before.ensures.count ∙ ap (element_before c.args.form.mode) count in
+    let moves = c.element_moves-moves.ensures.count ∙ ap (element_moves c.args.form.mode) count in
     record {
       least = refl;
-      size = c.with_parts.ensures _ _ (omega (arith, own, c.line_room.ensures.count)) (c.repeated-parts.ensures _ _ count (c.moved.ensures _ _ _ before moves h.size));
+      size = c.or_text.ensures _ _ count
+          (c.with_parts-array.ensures _ _ (omega (arith, own, c.line_room.ensures.count)) (c.elements_size-parts.ensures _ _ count (c.moved.ensures _ _ _ before moves h.size)));
     }

@@ -6,7 +6,7 @@ use Rattle.text_bounds.proofs.fields.offset_size.Goals as goal
 pub returns : goal.returns
 unfolding least_width size_of
 returns c =
-    let line = c.line_room.ensures.count ∙ ap (line_room c.args.mode c.args.bits) c.from-width.ensures in
+    let line = c.line_room.ensures.count ∙ ap (line_room c.args.form.mode c.args.bits) c.from-width.ensures in
     record {
       least = c.from-width.ensures;
       size = c.with_parts.ensures _ no_size (omega (arith, c.offset_room.ensures.count, line)) c.no_size.ensures;

@@ -8,16 +8,16 @@ use Rattle.text_bounds.proofs.nodes.+sizes.Goals as goal
 pub fields_sizes-loop-at-init : goal.fields_sizes-loop-at-init
 fields_sizes-loop-at-init t c = record {
   within = omega arith;
-  so_far = no_fields_left c.args.mode (type_of c.args.nodes.now) c.args.bits c.args.fields.now _ (c.no_fields-all.ensures c.args.mode _ c.args.bits);
+  so_far = no_fields_left c.args.form (type_of c.args.nodes.now) c.args.bits c.args.fields.now _ (c.no_fields-all.ensures c.args.form _ c.args.bits);
 }
 
 pub fields_sizes-loop-at-preserved : goal.fields_sizes-loop-at-preserved
 fields_sizes-loop-at-preserved t c =
     let at : c.loop-at.at - 1 + 1 ≡ c.loop-at.at = omega arith in
-    let rest = subst (λ i. AreFieldSizes c.loop-at.all c.args.mode i (open_fields (type_of c.args.nodes.now) (Rattle.std.proofs.Common.drop i c.args.fields.now)) c.args.bits) (sym at) c.loop-at.invariant.so_far in
+    let rest = subst (λ i. AreFieldSizes c.loop-at.all c.args.form i (open_fields (type_of c.args.nodes.now) (Rattle.std.proofs.Common.drop i c.args.fields.now)) c.args.bits) (sym at) c.loop-at.invariant.so_far in
     record {
       within = omega arith;
-      so_far = one_field_more c.args.mode (type_of c.args.nodes.now) c.args.bits c.args.fields.now (c.loop-at.at - 1) c.index-fields-at.result (omega arith) c.index-fields-at.is _
+      so_far = one_field_more c.args.form (type_of c.args.nodes.now) c.args.bits c.args.fields.now (c.loop-at.at - 1) c.index-fields-at.result (omega arith) c.index-fields-at.is _
           (c.field_and_rest-all.ensures _ _ _ c.node_size-own.ensures rest);
     }
 
@@ -29,49 +29,49 @@ node_size-returns-then-roots-slot t c =
 pub parts_sizes-loop-at-init : goal.parts_sizes-loop-at-init
 parts_sizes-loop-at-init t c = record {
   within = omega arith;
-  so_far = no_parts_left c.args.mode (type_of c.args.nodes.now) c.args.bits c.args.parts.now _ (c.no_parts-all.ensures c.args.mode _ c.args.bits);
+  so_far = no_parts_left c.args.form (type_of c.args.nodes.now) c.args.bits c.args.parts.now _ (c.no_parts-all.ensures c.args.form _ c.args.bits);
 }
 
 pub parts_sizes-loop-at-preserved : goal.parts_sizes-loop-at-preserved
 parts_sizes-loop-at-preserved t c =
     let at : c.loop-at.at - 1 + 1 ≡ c.loop-at.at = omega arith in
-    let rest = subst (λ i. ArePartSizes c.loop-at.all c.args.mode i (open_parts (type_of c.args.nodes.now) (Rattle.std.proofs.Common.drop i c.args.parts.now)) c.args.bits) (sym at) c.loop-at.invariant.so_far in
+    let rest = subst (λ i. ArePartSizes c.loop-at.all c.args.form i (open_parts (type_of c.args.nodes.now) (Rattle.std.proofs.Common.drop i c.args.parts.now)) c.args.bits) (sym at) c.loop-at.invariant.so_far in
     record {
       within = omega arith;
-      so_far = one_part_more c.args.mode (type_of c.args.nodes.now) c.args.bits c.args.parts.now (c.loop-at.at - 1) c.index-parts-at.result (omega arith) c.index-parts-at.is _
+      so_far = one_part_more c.args.form (type_of c.args.nodes.now) c.args.bits c.args.parts.now (c.loop-at.at - 1) c.index-parts-at.result (omega arith) c.index-parts-at.is _
           (c.part_and_rest-all.ensures _ _ _ c.node_size-own.ensures rest);
     }
 
 pub shape_size-returns-in-Integer : goal.shape_size-returns-in-Integer
 shape_size-returns-in-Integer t c =
-    sized c.args.mode c.args.nodes.now c.requires.table c.args.at c.index-nodes-at.result c.requires.at c.index-nodes-at.is _ c.in-Integer.is _ _ c.integer_size.ensures
+    sized c.args.form c.args.nodes.now c.requires.table c.args.at c.index-nodes-at.result c.requires.at c.index-nodes-at.is _ c.in-Integer.is _ _ c.integer_size.ensures
 
 pub shape_size-returns-in-Offset : goal.shape_size-returns-in-Offset
 shape_size-returns-in-Offset t c =
-    sized c.args.mode c.args.nodes.now c.requires.table c.args.at c.index-nodes-at.result c.requires.at c.index-nodes-at.is _ c.in-Offset.is _ _ c.offset_size.ensures
+    sized c.args.form c.args.nodes.now c.requires.table c.args.at c.index-nodes-at.result c.requires.at c.index-nodes-at.is _ c.in-Offset.is _ _ c.offset_size.ensures
 
 pub shape_size-returns-in-String : goal.shape_size-returns-in-String
 shape_size-returns-in-String t c =
-    sized c.args.mode c.args.nodes.now c.requires.table c.args.at c.index-nodes-at.result c.requires.at c.index-nodes-at.is _ c.in-String.is _ _ c.string_size.ensures
+    sized c.args.form c.args.nodes.now c.requires.table c.args.at c.index-nodes-at.result c.requires.at c.index-nodes-at.is _ c.in-String.is _ _ c.string_size.ensures
 
 pub shape_size-returns-in-Array : goal.shape_size-returns-in-Array
 shape_size-returns-in-Array t c =
-    sized c.args.mode c.args.nodes.now c.requires.table c.args.at c.index-nodes-at.result c.requires.at c.index-nodes-at.is _ c.in-Array.is _ _ (c.array_size.ensures _ _ c.node_size-element.ensures)
+    sized c.args.form c.args.nodes.now c.requires.table c.args.at c.index-nodes-at.result c.requires.at c.index-nodes-at.is _ c.in-Array.is _ _ (c.array_size.ensures _ _ c.node_size-element.ensures)
 
 pub shape_size-returns-in-Struct : goal.shape_size-returns-in-Struct
 shape_size-returns-in-Struct t c =
-    let all = subst (λ fs. AreFieldSizes c.fields_sizes-fields.result c.args.mode 0 (open_fields (type_of c.args.nodes.now) fs) c.args.bits) c.deref.ensures.value c.fields_sizes-fields.ensures in
-    sized c.args.mode c.args.nodes.now c.requires.table c.args.at c.index-nodes-at.result c.requires.at c.index-nodes-at.is _ c.in-Struct.is _ _ (c.struct_size.ensures _ all)
+    let all = subst (λ fs. AreFieldSizes c.fields_sizes-fields.result c.args.form 0 (open_fields (type_of c.args.nodes.now) fs) c.args.bits) c.deref.ensures.value c.fields_sizes-fields.ensures in
+    sized c.args.form c.args.nodes.now c.requires.table c.args.at c.index-nodes-at.result c.requires.at c.index-nodes-at.is _ c.in-Struct.is _ _ (c.struct_size.ensures _ all)
 
 pub shape_size-returns-in-Integral : goal.shape_size-returns-in-Integral
 shape_size-returns-in-Integral t c =
-    let all = subst (λ ps. ArePartSizes c.parts_sizes-fields.result c.args.mode 0 (open_parts (type_of c.args.nodes.now) ps) c.args.bits) c.deref-in-Integral.ensures.value c.parts_sizes-fields.ensures in
-    sized c.args.mode c.args.nodes.now c.requires.table c.args.at c.index-nodes-at.result c.requires.at c.index-nodes-at.is _ c.in-Integral.is _ _ (c.integral_size.ensures _ all)
+    let all = subst (λ ps. ArePartSizes c.parts_sizes-fields.result c.args.form 0 (open_parts (type_of c.args.nodes.now) ps) c.args.bits) c.deref-in-Integral.ensures.value c.parts_sizes-fields.ensures in
+    sized c.args.form c.args.nodes.now c.requires.table c.args.at c.index-nodes-at.result c.requires.at c.index-nodes-at.is _ c.in-Integral.is _ _ (c.integral_size.ensures _ all)
 
 pub shape_size-returns-in-Union : goal.shape_size-returns-in-Union
 shape_size-returns-in-Union t c =
-    let all = subst (λ ps. ArePartSizes c.parts_sizes-alternatives.result c.args.mode 0 (open_parts (type_of c.args.nodes.now) ps) c.args.bits) c.deref-in-Union.ensures.value c.parts_sizes-alternatives.ensures in
-    sized c.args.mode c.args.nodes.now c.requires.table c.args.at c.index-nodes-at.result c.requires.at c.index-nodes-at.is _ c.in-Union.is _ _ (c.union_size.ensures _ all)
+    let all = subst (λ ps. ArePartSizes c.parts_sizes-alternatives.result c.args.form 0 (open_parts (type_of c.args.nodes.now) ps) c.args.bits) c.deref-in-Union.ensures.value c.parts_sizes-alternatives.ensures in
+    sized c.args.form c.args.nodes.now c.requires.table c.args.at c.index-nodes-at.result c.requires.at c.index-nodes-at.is _ c.in-Union.is _ _ (c.union_size.ensures _ all)
 
 pub shape_size-integer_size-requires : goal.shape_size-integer_size-requires
 shape_size-integer_size-requires t c = record { width = integer_width c.args.nodes.now c.requires.table c.args.at c.index-nodes-at.result c.requires.at c.index-nodes-at.is _ c.in-Integer.is }

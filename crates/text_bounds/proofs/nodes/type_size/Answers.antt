@@ -10,8 +10,8 @@ loop-root-preserved c =
     let at : slice_get c.args.roots.now c.loop-root.root-index ≡ Some (get_or c.args.roots.now c.loop-root.root-index 0) =
     slice_get-get_or c.args.roots.now c.loop-root.root-index 0 (omega arith) in
     let here : slice_get c.args.roots.now (length c.loop-root.known.items) ≡ Some (get_or c.args.roots.now c.loop-root.root-index 0) = rw c.loop-root.invariant.count at in
-    let more = known_more c.args.mode c.args.nodes.now c.args.roots.now c.loop-root.known.items c.args.bits _ _ c.loop-root.invariant.known here c.shape_size-size.ensures in
+    let more = known_more c.args.form c.args.nodes.now c.args.roots.now c.loop-root.known.items c.args.bits _ _ c.loop-root.invariant.known here c.shape_size-size.ensures in
     record {
-      known = subst (λ ks. AreKnownSizes c.args.nodes.now c.args.roots.now ks c.args.mode c.args.bits) (search rules) more;
+      known = subst (λ ks. AreKnownSizes c.args.nodes.now c.args.roots.now ks c.args.form c.args.bits) (search rules) more;
       count = search rules;
     }
