@@ -2,4 +2,3 @@ pub mod Portions
 pub mod Leading
 pub mod Laid
 pub mod Meant
-pub mod Told

@@ -1,6 +1,5 @@
 -- What is printed about why a mapping stops.
-use Rattle.std.specs.Prelude.{◌≡◌, ℕ, List, [], ◌++◌, Option, Some, Result, Vec, IfOk, IfSome, codes, eqb, true}
-use Rattle.std.specs.List.{starts_with}
+use Rattle.std.specs.Prelude.{◌≡◌, ℕ, List, [], ◌++◌, Option, Some, Result, Vec, IfOk, IfSome, codes}
 use Rattle.std.specs.declared.alloc.Global.{Global}
 use Rattle.bit_space.specs.SpaceView.{SpaceView}
 use Rattle.pickle_types.specs.Types.{PokeType}
@@ -9,10 +8,11 @@ use Rattle.command_words.specs.declared.ask.Ask.{Ask}
 use Rattle.command_words.specs.declared.path.Path.{Path}
 use Rattle.command_words.specs.declared.terms.Terms.{Terms}
 use Rattle.run_parts.specs.declared.status.Status.TheVariants.{Fault as Faulty}
-use Rattle.run_parts.specs.Lines.{fault_line}
+use Rattle.run_parts.specs.Outcomes.{outcome_saying, outcome_status}
+use Rattle.run_parts.specs.declared.outcome.Outcome.{Outcome}
+use Rattle.run_parts.specs.declared.outcome.Outcome.TheVariants.{Left, NoSuchPart, Output}
 use Rattle.poke_batch.specs.Runs.{IsAsked}
 use Rattle.poke_batch.specs.RunsUnder.{end_saying}
-use Rattle.run_parts.specs.Told.{Line}
 use Rattle.pickle_script.specs.declared.text.Text.{Text}
 use Rattle.mapping_reasons.specs.declared.cause.Fault.{Fault}
 use Rattle.mapping_reasons.specs.Found.{HasThere}
@@ -43,43 +43,43 @@ pub data TellsArrays (type : PokeType) : List ℕ → Type 0 where
       → TellsArrays type (lines ++ (codes "  " ++ (count ++ codes " ended early before these\n")))
   planned : {lines : List ℕ} (count : List ℕ) → TellsArrays type lines → TellsArrays type (lines ++ (codes "  " ++ (count ++ planned_ending)))
 
--- for a run that ended with NoSuchPart, how far the path to the requested part leads; or nothing
-pub data TellsMissing (part : Option Path) (line : List ℕ) : List ℕ → Type 0 where
-  none_missing : TellsMissing part line []
-  tells_missing : {path : Path} (missing : List ℕ) → part ≡ Some path → line ≡ fault_line (codes "NoSuchPart") → TellsMissing part line missing
+-- how far the path to the requested part leads; or nothing
+pub data TellsMissing (part : Option Path) : List ℕ → Type 0 where
+  none_missing : TellsMissing part []
+  tells_missing : {path : Path} (missing : List ℕ) → part ≡ Some path → TellsMissing part missing
 
 -- for a run whose value fails to meet a term, a line on that term; or nothing
-pub data TellsTerm (part : Option Path) (line : List ℕ) : List ℕ → Type 0 where
-  untold : TellsTerm part line []
-  tells_part : {text : List ℕ} → TellsMissing part line text → TellsTerm part line text
-  tells_left : {text : List ℕ} → starts_with eqb line (codes "fault Left ") ≡ true → TellsTerm part line text
-  tells_output : {text : List ℕ} → starts_with eqb line (codes "fault Output ") ≡ true → TellsTerm part line text
+pub data TellsTerm (part : Option Path) : Outcome → List ℕ → Type 0 where
+  untold : {outcome : Outcome} → TellsTerm part outcome []
+  tells_part : {text : List ℕ} → TellsMissing part text → TellsTerm part NoSuchPart text
+  tells_left : {end : ℕ} {text : List ℕ} → TellsTerm part (Left end) text
+  tells_output : {start : ℕ} {text : List ℕ} → TellsTerm part (Output start) text
 
--- a finished run: the file, what the run was given, its terms, and the line with which it ended
+-- a finished run: the file, what the run was given, its terms, and its outcome
 pub record Run : Type 0 where
   pub space : SpaceView
   pub ask : Ask
   pub terms : Terms
-  pub line : List ℕ
+  pub outcome : Outcome
 
 -- the run that has these
-abbrev pub run_of : SpaceView → Ask → Terms → (line : List ℕ) → Run
-run_of space ask terms line = record { space = space; ask = ask; terms = terms; line = line }
+abbrev pub run_of : SpaceView → Ask → Terms → Outcome → Run
+run_of space ask terms outcome = record { space = space; ask = ask; terms = terms; outcome = outcome }
 
 -- lines on the part that has a fault of the run's type; or none
 pub data TellsFault (run : Run) (type : PokeType) (fault : MapFault) : List ℕ → Type 0 where
   no_fault_part : TellsFault run type fault []
   tells_fault : {places text : List ℕ} → IsFaultAt run.space type run.ask fault places → TellsPart type places text → TellsFault run type fault text
 
--- What is printed about a run that ended with a line, or with none: for a fault the part and the arrays, for a value
--- the term that it fails to meet, if any, and the arrays. The line is that of the fault which the type has on the file's bits.
+-- What is printed about a finished run: for a fault the part and the arrays, for a value the term that it fails to
+-- meet, if any, and the arrays. The outcome is that of the fault which the type has on the file's bits.
 pub data TellsWhy (run : Run) (type : PokeType) : List ℕ → Type 0 where
   nothing : TellsWhy run type []
   of_fault : {fault : MapFault} {part arrays : List ℕ} → HasFault run.space type run.ask fault
-      → end_saying run.terms.most_slots run.ask.start fault.kind fault.at ≡ Line Faulty run.line
+      → end_saying run.terms.most_slots run.ask.start fault.kind fault.at ≡ outcome_saying run.outcome → outcome_status run.outcome ≡ Faulty
       → TellsFault run type fault part → TellsArrays type arrays → TellsWhy run type (part ++ arrays)
   of_value : {term arrays : List ℕ} → HasValue run.space type run.ask
-      → TellsTerm run.terms.part run.line term → TellsArrays type arrays → TellsWhy run type (term ++ arrays)
+      → TellsTerm run.terms.part run.outcome term → TellsArrays type arrays → TellsWhy run type (term ++ arrays)
 
 -- the text is about a run's fault, if the stored part has it
 abbrev pub TellsOfPart : {E : Type 0} → PokeType → Option Fault → Result Text E → Type 0

@@ -15,6 +15,7 @@ use pickle_map::mapper::map_watched;
 use pickle_map::{MapFault, Store};
 use pickle_types::table::{Table, TypeId};
 use poke_batch::ask::Ask;
+use poke_batch::style::Look;
 use std::alloc::{AllocError, Global};
 
 /// What the watcher stored of a finished mapping.
@@ -36,11 +37,13 @@ pub struct Again {
 }
 
 /// Maps a type into a store, which is emptied first, and stores which part has the fault and which arrays ended early.
+/// With a look, what the mapping had met before the fault is shown beside the part.
 pub fn map_again<S: Space>(
     alloc: Global,
     table: &Table,
     id: TypeId,
     ask: &Ask<'_>,
+    look: Option<Look>,
     space: &mut S,
     store: &mut Store,
 ) -> Result<Again, AllocError>
@@ -63,7 +66,7 @@ pub fn map_again<S: Space>(
     } = told.into_kept()?;
     let fault = match &end {
         Ok(()) => None,
-        Err(stopped) => part_with(alloc, table, id, ask, *stopped, fault, space, store)?,
+        Err(stopped) => part_with(alloc, table, id, ask, look, *stopped, fault, space, store)?,
     };
     Ok(Again {
         end,

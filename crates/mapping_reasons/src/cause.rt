@@ -40,6 +40,17 @@ impl Fault {
         cause
     }
 
+    /// The lines on what the mapping had met before the part.
+    pub fn into_met(self) -> Vec<u8> {
+        let Fault {
+            way: _,
+            stop: _,
+            cause: _,
+            around,
+        } = self;
+        around.into_met()
+    }
+
     /// A fault of the type itself, for a walk that went into no part.
     pub fn of_type(alloc: Global, fault: MapFault) -> Fault {
         let stop = Stop::Fault(fault.kind, fault.at);
@@ -56,6 +67,8 @@ pub struct Around {
     pub front: Vec<Vec<u8>>,
     /// The byte order in which the part's constraint would hold, if that is the other one.
     pub fits: Option<Order>,
+    /// The lines on what the mapping had met before the part. Empty unless they are requested.
+    pub met: Vec<u8>,
 }
 
 impl Around {
@@ -65,7 +78,20 @@ impl Around {
             leads: Vec::new(alloc),
             front: Vec::new(alloc),
             fits: None,
+            met: Vec::new(alloc),
         }
+    }
+}
+
+impl Around {
+    fn into_met(self) -> Vec<u8> {
+        let Around {
+            leads: _,
+            front: _,
+            fits: _,
+            met,
+        } = self;
+        met
     }
 }
 

@@ -1,13 +1,13 @@
 //! Why a mapping stops, or an array in it: more lines, after the line of the fault.
 #![tactic(auto)]
 
-ghost use Rattle.std.specs.Prelude.{◌≡◌, ◌<◌, ◌++◌, length, IfOk, IsTrue};
+ghost use Rattle.std.specs.Prelude.{◌≡◌, ◌<◌, ◌++◌, [], length, IfOk, IsTrue};
 ghost use Rattle.pickle_types.specs.Table.{IsTable};
 ghost use Rattle.pickle_types.specs.TypeTable.{IsInTable, nodes_of, type_named};
 ghost use Rattle.bit_space.specs.SpaceView.{Keeps, SpaceView};
 ghost use Rattle.command_words.specs.declared.ask.Ask.{Ask};
 ghost use Rattle.poke_batch.specs.RunsUnder.{end_saying};
-ghost use Rattle.run_parts.specs.Told.{Line};
+ghost use Rattle.run_parts.specs.Outcomes.{outcome_saying, outcome_status};
 ghost use Rattle.run_parts.specs.declared.status.Status.TheVariants.{Fault as Faulty};
 ghost use Rattle.mapping_reasons.specs.Found.{scene_type};
 ghost use Rattle.mapping_reasons.specs.Why.{run_of, ExplainsRun, TellsOfFault, TellsOfPart, TellsOfValue, TellsWhy};
@@ -19,7 +19,9 @@ mod cause;
 mod endings;
 mod flat;
 mod front;
+mod indent;
 mod lines;
+mod met;
 mod missing;
 mod names;
 mod other;
@@ -43,7 +45,8 @@ use pickle_script::script::Script;
 use pickle_script::text::Text;
 use pickle_types::table::{Table, TypeId};
 use poke_batch::ask::Ask;
-use poke_batch::run::{store_of, tell_end};
+use poke_batch::outcome::Outcome;
+use poke_batch::run::{end_outcome, store_of};
 use poke_batch::terms::Terms;
 use run_parts::accept::accept;
 use run_parts::status::Status;
@@ -51,10 +54,31 @@ use std::alloc::{AllocError, Global};
 use text_forms::mode::Mode;
 use value_text::typed::{Typed, Types};
 
-/// The lines that say why a mapping of a type over a file ended with `line` or, if `line` is empty, which arrays ended
-/// early. `path` is the path of the pickle. Bytes outside 0x20 to 0x7e are escaped in these lines.
+/// What is said of a run beside its line.
+#[derive(Drop)]
+pub struct Explained {
+    /// The lines that say why the mapping ended.
+    pub text: Vec<u8>,
+    /// If the value is shown to the eye and the mapping stopped: the lines on what the mapping had met before the fault.
+    pub met: Vec<u8>,
+}
+
+impl Explained {
+    /// Nothing.
+    fn none(alloc: Global) -> Explained
+        ensures { result.text.items ≡ [] }
+    {
+        Explained {
+            text: Vec::new(alloc),
+            met: Vec::new(alloc),
+        }
+    }
+}
+
+/// The lines that say why a mapping of a type over a file had its outcome or, if it is done, which arrays ended early.
+/// `path` is the path of the pickle. Bytes outside 0x20 to 0x7e are escaped in these lines.
 ///
-/// The type is mapped again. If that mapping doesn't end as `line` says, the result is empty.
+/// The type is mapped again. If that mapping doesn't end so, the result is empty.
 pub fn reasons<S: Space>(
     alloc: Global,
     pickle: &[u8],
@@ -62,20 +86,20 @@ pub fn reasons<S: Space>(
     ask: &Ask<'_>,
     terms: &Terms,
     space: &mut S,
-    line: &[u8],
-) -> Result<Vec<u8>, AllocError>
-    ensures why { let run = run_of (S.view space.old) ask.now terms.now line.now in
-        IfOk result (λ text. ExplainsRun pickle.now run text.items) }
+    outcome: Outcome,
+) -> Result<Explained, AllocError>
+    ensures why { let run = run_of (S.view space.old) ask.now terms.now outcome in
+        IfOk result (λ reasons. ExplainsRun pickle.now run reasons.text.items) }
     ensures keeps { Keeps (S.view space.old) (S.view space.new) }
 {
     let Ok(table) = accept(alloc, pickle) else {
-        return Ok(Vec::new(alloc));
+        return Ok(Explained::none(alloc));
     };
     let Some(id) = table.find(ask.name) else {
-        return Ok(Vec::new(alloc));
+        return Ok(Explained::none(alloc));
     };
-    let text = reasons_in(alloc, pickle, path, &table, id, ask, terms, space, line)?;
-    Ok(text)
+    let reasons = reasons_in(alloc, pickle, path, &table, id, ask, terms, space, outcome)?;
+    Ok(reasons)
 }
 
 /// What [`reasons`] returns, from the table of the pickle's types.
@@ -88,27 +112,44 @@ pub fn reasons_in<S: Space>(
     ask: &Ask<'_>,
     terms: &Terms,
     space: &mut S,
-    line: &[u8],
-) -> Result<Vec<u8>, AllocError>
+    outcome: Outcome,
+) -> Result<Explained, AllocError>
     requires known { IsInTable table.now id }
-    ensures why { let run = run_of (S.view space.old) ask.now terms.now line.now in
-        IfOk result (λ text. TellsWhy run (type_named table.now id) text.items) }
+    ensures why { let run = run_of (S.view space.old) ask.now terms.now outcome in
+        IfOk result (λ reasons. TellsWhy run (type_named table.now id) reasons.text.items) }
     ensures keeps { Keeps (S.view space.old) (S.view space.new) }
 {
     let Ok(mut store) = store_of(alloc, terms.most_slots) else {
         return Err(AllocError);
     };
-    let Again { end, kept } = map_again(alloc, table, id, ask, space, &mut store)?;
+    let Again { end, kept } = map_again(alloc, table, id, ask, terms.look, space, &mut store)?;
     let scene = scene_of(alloc, pickle, path, table, id, ask, 8 * space.len())?;
     let text = match end {
         Ok(()) => {
             let types = Types::new(table);
             let value = root_of(&store, table, &types, id);
-            value_reasons(&scene, value, terms, ask.mode, &kept, line)?
+            value_reasons(&scene, value, terms, ask.mode, &kept, outcome)?
         }
-        Err(fault) => fault_reasons(&scene, ask, terms, fault, &kept, line)?,
+        Err(fault) => fault_reasons(&scene, ask, terms, fault, &kept, outcome)?,
     };
-    Ok(text)
+    let met = met_of(alloc, kept, &text);
+    Ok(Explained { text, met })
+}
+
+/// The lines on what a mapping had met, if there are lines that say why it stopped.
+fn met_of(alloc: Global, kept: Kept, text: &[u8]) -> Vec<u8> {
+    if text.is_empty() {
+        return Vec::new(alloc);
+    }
+    let Kept {
+        fault,
+        broken: _,
+        planned: _,
+    } = kept;
+    match fault {
+        Some(fault) => fault.into_met(),
+        None => Vec::new(alloc),
+    }
 }
 
 /// The value of a type that a store holds, beside its type.
@@ -149,7 +190,7 @@ fn scene_of<'p, 't>(
     })
 }
 
-/// The lines on a mapping that ended with a value. The run's line is empty, or names the term that the value fails to
+/// The lines on a mapping that ended with a value. The run is done, or its outcome is the term that the value fails to
 /// meet.
 fn value_reasons(
     scene: &Scene<'_, '_>,
@@ -157,34 +198,34 @@ fn value_reasons(
     terms: &Terms,
     mode: Mode,
     kept: &Kept,
-    line: &[u8],
+    outcome: Outcome,
 ) -> Result<Vec<u8>, AllocError>
     requires table { IsTable scene.now.nodes.now }
     requires root { scene.now.root < length scene.now.nodes.now }
-    ensures why { (space : SpaceView) (ask : Ask) → TellsOfValue (run_of space ask terms.now line.now) (scene_type scene.now) result }
+    ensures why { (space : SpaceView) (ask : Ask) → TellsOfValue (run_of space ask terms.now outcome) (scene_type scene.now) result }
 {
-    if !is_of_value(line) {
+    if !is_of_value(outcome) {
         return Ok(Vec::new(scene.alloc));
     }
-    let term = term_text(scene.alloc, value, terms, mode, scene.bits, line)?;
-    let text = joined(term, arrays_text(scene, kept, !line.is_empty())?)?;
+    let term = term_text(scene.alloc, value, terms, mode, scene.bits, outcome)?;
+    let text = joined(term, arrays_text(scene, kept, outcome != Outcome::Done)?)?;
     Ok(text)
 }
 
-/// The lines on a mapping that stopped, if the run's line is that of its fault.
+/// The lines on a mapping that stopped, if the run's outcome is its fault.
 fn fault_reasons(
     scene: &Scene<'_, '_>,
     ask: &Ask<'_>,
     terms: &Terms,
     fault: MapFault,
     kept: &Kept,
-    line: &[u8],
+    outcome: Outcome,
 ) -> Result<Vec<u8>, AllocError>
     requires table { IsTable scene.now.nodes.now }
     requires root { scene.now.root < length scene.now.nodes.now }
-    ensures why { (space : SpaceView) → TellsOfFault (run_of space ask.now terms.now line.now) (scene_type scene.now) fault kept.now.fault result }
+    ensures why { (space : SpaceView) → TellsOfFault (run_of space ask.now terms.now outcome) (scene_type scene.now) fault kept.now.fault result }
 {
-    if is_told(scene.alloc, ask, terms, fault, line) {
+    if is_outcome_of(outcome, ask, terms, fault) {
         let part = part_text(scene, &kept.fault)?;
         let text = joined(part, arrays_text(scene, kept, true)?)?;
         Ok(text)
@@ -193,12 +234,12 @@ fn fault_reasons(
     }
 }
 
-/// Whether a run with a value may end with this line: an empty one, or that of a term which the value fails to meet.
-fn is_of_value(line: &[u8]) -> bool {
-    line.is_empty()
-        || line.starts_with(b"fault Left ")
-        || line.starts_with(b"fault NoSuchPart")
-        || line.starts_with(b"fault Output ")
+/// Whether a run with a value may end so: it is done, or the value fails to meet a term.
+fn is_of_value(outcome: Outcome) -> bool {
+    matches!(
+        outcome,
+        Outcome::Done | Outcome::Left(_) | Outcome::NoSuchPart | Outcome::Output(_)
+    )
 }
 
 /// The lines on the part with the fault of a mapping. Empty if the part isn't known.
@@ -214,16 +255,12 @@ fn part_text(scene: &Scene<'_, '_>, part: &Option<Fault>) -> Result<Text, AllocE
     Ok(text)
 }
 
-/// Whether a line is the one of a fault with exit status 1.
-fn is_told(alloc: Global, ask: &Ask<'_>, terms: &Terms, fault: MapFault, line: &[u8]) -> bool
-    ensures { IsTrue result → end_saying terms.now.most_slots ask.now.start fault.kind fault.at ≡ Line Faulty line.now }
+/// Whether an outcome is the one of a fault, with exit status 1.
+fn is_outcome_of(outcome: Outcome, ask: &Ask<'_>, terms: &Terms, fault: MapFault) -> bool
+    ensures saying { IsTrue result → end_saying terms.now.most_slots ask.now.start fault.kind fault.at ≡ outcome_saying outcome }
+    ensures faulty { IsTrue result → outcome_status outcome ≡ Faulty }
 {
-    let mut told_again = Vec::new(alloc);
-    let status = tell_end(&mut told_again, fault, terms.most_slots, ask.start);
-    match status {
-        Status::Fault => told_again.as_slice() == line,
-        Status::Done | Status::Refused | Status::Outside => false,
-    }
+    outcome.status() == Status::Fault && outcome == end_outcome(fault, terms.most_slots, ask.start)
 }
 
 fn joined(front: Text, back: Text) -> Result<Vec<u8>, AllocError>

@@ -10,22 +10,18 @@ use poke_batch::part::step_to;
 use poke_batch::path::{Path, Step};
 use std::alloc::{AllocError, Global};
 
-/// The line that says how far a path leads, if a run ended with NoSuchPart. Empty for any other run.
+/// The line that says how far a path leads into a value that lacks the part. Empty without a path.
 pub fn missing_text(
     alloc: Global,
-    value: Option<ValueRef<'_>>,
+    value: ValueRef<'_>,
     path: &Option<Path>,
-    line: &[u8],
 ) -> Result<Text, AllocError>
-    ensures { IfOk result (λ text. TellsMissing path.now line.now text.bytes.items) }
+    ensures { IfOk result (λ text. TellsMissing path.now text.bytes.items) }
 {
-    if let (Some(value), Some(path)) = (value, path) {
-        if line == b"fault NoSuchPart\n".as_slice() {
-            let text = say_missing(alloc, value, path.steps.as_slice())?;
-            return Ok(text);
-        }
+    match path {
+        Some(path) => say_missing(alloc, value, path.steps.as_slice()),
+        None => Ok(Text::new(alloc)),
     }
-    Ok(Text::new(alloc))
 }
 
 /// A line on the first step of a path that leads to no part. Empty if all steps lead to parts.

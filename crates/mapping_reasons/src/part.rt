@@ -11,6 +11,7 @@ ghost use Rattle.mapping_reasons.specs.Meant.{IsFaultAt};
 use crate::approach::{Approach, Approached};
 use crate::cause::{Around, Cause, Fault};
 use crate::front::front;
+use crate::met::met_lines;
 use crate::other::other_order;
 use bit_space::{Meter, Order, Space};
 use fault_check::arises::find_there;
@@ -18,6 +19,7 @@ use pickle_map::mapper::told;
 use pickle_map::{MapFault, MapFaultKind, Store};
 use pickle_types::table::{Table, TypeId};
 use poke_batch::ask::Ask;
+use poke_batch::style::Look;
 use std::alloc::{AllocError, Global};
 
 /// The search for a part may take this many times the run's limit of steps. All that it maps was mapped within the
@@ -25,12 +27,13 @@ use std::alloc::{AllocError, Global};
 const MOST_TIMES: u64 = 4;
 
 /// The part with the fault that ended a mapping: the one that the watcher stored or, if the walk went into no part, the
-/// type itself. `None` if the check doesn't find the fault there.
+/// type itself. `None` if the check doesn't find the fault there. With a look, what the mapping had met is shown beside it.
 pub fn part_with<S: Space>(
     alloc: Global,
     table: &Table,
     id: TypeId,
     ask: &Ask<'_>,
+    look: Option<Look>,
     fault: MapFault,
     kept: Option<Fault>,
     space: &mut S,
@@ -73,9 +76,13 @@ pub fn part_with<S: Space>(
     }
     let approached = watch.into_approached()?;
     let front = front_of(alloc, table, store, &part)?;
+    let met = match look {
+        Some(look) => met_lines(alloc, table, id, ask, store, &part, look)?,
+        None => Vec::new(alloc),
+    };
     store.clear();
     let fits = other_order(table, id, ask, fault, &part, space, store);
-    Ok(Some(seen_near(part, approached, front, fits)))
+    Ok(Some(seen_near(part, approached, front, fits, met)))
 }
 
 /// Whether the check finds that a fault is that of the part to which places lead.
@@ -116,7 +123,13 @@ fn front_of(
 }
 
 /// A part, with what was seen near it.
-fn seen_near(part: Fault, approached: Approached, front: Vec<Vec<u8>>, fits: Option<Order>) -> Fault
+fn seen_near(
+    part: Fault,
+    approached: Approached,
+    front: Vec<Vec<u8>>,
+    fits: Option<Order>,
+    met: Vec<u8>,
+) -> Fault
     ensures { way_places result.way ≡ way_places part.way }
 {
     let Fault {
@@ -137,7 +150,12 @@ fn seen_near(part: Fault, approached: Approached, front: Vec<Vec<u8>>, fits: Opt
         way,
         stop,
         cause,
-        around: Around { leads, front, fits },
+        around: Around {
+            leads,
+            front,
+            fits,
+            met,
+        },
     }
 }
 

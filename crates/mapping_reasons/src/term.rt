@@ -8,6 +8,7 @@ use crate::missing::missing_text;
 use pickle_map::ValueRef;
 use pickle_script::text::Text;
 use poke_batch::draft::print_under;
+use poke_batch::outcome::Outcome;
 use poke_batch::part::part_at;
 use poke_batch::terms::Terms;
 use std::alloc::{AllocError, Global};
@@ -33,7 +34,7 @@ impl Write for Counter {
     }
 }
 
-/// The line on the term that a value fails to meet, for a run that ended with such a line. Empty for any other run.
+/// The line on the term that a value fails to meet, for a run with such an outcome. Empty for any other run.
 /// `bits` is how many bits the file has.
 pub fn term_text(
     alloc: Global,
@@ -41,21 +42,19 @@ pub fn term_text(
     terms: &Terms,
     mode: Mode,
     bits: u64,
-    line: &[u8],
+    outcome: Outcome,
 ) -> Result<Text, AllocError>
-    ensures { IfOk result (λ text. TellsTerm terms.now.part line.now text.bytes.items) }
+    ensures { IfOk result (λ text. TellsTerm terms.now.part outcome text.bytes.items) }
 {
     let Some(value) = value else {
         return Ok(Text::new(alloc));
     };
-    if line.starts_with(b"fault Left ") {
-        return left_text(alloc, value.value(), bits);
+    match outcome {
+        Outcome::Left(_) => left_text(alloc, value.value(), bits),
+        Outcome::Output(_) => output_text(alloc, value, terms, mode),
+        Outcome::NoSuchPart => missing_text(alloc, value.value(), &terms.part),
+        _ => Ok(Text::new(alloc)),
     }
-    if line.starts_with(b"fault Output ") {
-        return output_text(alloc, value, terms, mode);
-    }
-    let text = missing_text(alloc, Some(value.value()), &terms.part, line)?;
-    Ok(text)
 }
 
 /// The line that says how many bytes are left behind a value.

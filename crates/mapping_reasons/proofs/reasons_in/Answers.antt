@@ -8,7 +8,7 @@ use Rattle.mapping_reasons.proofs.reasons_in.Goals as goal
 
 pub returns-clause-why : goal.returns-clause-why
 returns-clause-why g c =
-    let run = run_of (g.S.Space.view c.args.space.now) c.args.ask.now c.args.terms.now c.args.line.now in
+    let run = run_of (g.S.Space.view c.args.space.now) c.args.ask.now c.args.terms.now c.args.outcome in
     let type = type_named c.args.table.now c.args.id in
     let found = scene_type c.in_ok-scene.scene in
     let same : found ≡ type = rw (c.in_ok-scene.ensures.nodes, c.in_ok-scene.ensures.root) refl in

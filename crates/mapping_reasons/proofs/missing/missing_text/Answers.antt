@@ -1,12 +1,14 @@
-use Rattle.std.proofs.Common.{sym, ◌∙◌}
-use Rattle.std.proofs.lemmas.Slice.Eq.{bytes_eq-Decides}
+use Rattle.std.specs.Prelude.{Some, IfOk, Result, Ok, Err}
 use Rattle.mapping_reasons.specs.Why.{none_missing, tells_missing}
 use Rattle.mapping_reasons.proofs.missing.missing_text.Goals as goal
 
-pub returns-then-eq : goal.returns-then-eq
-returns-then-eq c =
-    let equal = (bytes_eq-Decides c.args.line.now c.as_slice.result.now).0 (sym c.eq.ensures ∙ c.if-eq.true) in
-    tells_missing _ c.in-Some-Some.is-1 (equal ∙ c.as_slice.ensures)
+-- a fact of everything holds of what a call returned
+of_all : {A E : Type 0} (P : A → Type 0) → ((a : A) → P a) → (result : Result A E) → IfOk result P
+of_all P all (Ok a) = all a
+of_all P all (Err e) = tt
 
-pub returns : goal.returns
-returns c = rw c.new.ensures none_missing
+pub returns-in-Some : goal.returns-in-Some
+returns-in-Some c = of_all _ (λ text. tells_missing _ c.in-Some.is) c.say_missing.result
+
+pub returns-in-None : goal.returns-in-None
+returns-in-None c = rw c.new.ensures none_missing
