@@ -1,6 +1,7 @@
 //! Sentences about an expression that the type checker refuses.
 
-use crate::nodes::{Node, token_count};
+use crate::context::Declared;
+use crate::nodes::{Node, constraint_in, token_count};
 use crate::probe::Probe;
 use crate::search::Clause;
 use crate::sorts::{Sort, say_of_sort, say_sort, sort_of};
@@ -9,7 +10,7 @@ use pickle_script::script::{Part, Script};
 use pickle_script::site::Purpose;
 use pickle_script::text::Text;
 use pickle_syntax::token::Attribute;
-use pickle_syntax::tree::{Clauses, Expression, Field, Form, Pickle, Suffix};
+use pickle_syntax::tree::{Expression, Suffix};
 use pickle_types::fault::FaultKind;
 use run_parts::accept::{Refusal, read_syntax};
 use std::alloc::{AllocError, Global};
@@ -33,16 +34,17 @@ pub struct Finding {
 pub struct Place<'a, 't> {
     pub alloc: Global,
     pub script: &'a Script<'t>,
-    pub clause: &'a Clause,
+    pub declared: &'a Declared<'a, 't>,
+    pub clause: &'a Clause<'a>,
     pub part: Part,
 }
 
 /// What is wrong with an expression.
-pub fn clause_finding(
-    alloc: Global,
-    script: &Script<'_>,
-    clause: &Clause,
+pub fn clause_finding<'a, 't>(
+    declared: &'a Declared<'a, 't>,
+    clause: &'a Clause<'a>,
 ) -> Result<Finding, AllocError> {
+    let (alloc, script) = (declared.alloc, declared.script);
     let text = Text::new(alloc).say(b"type n__ = struct { byte n__p : ")?;
     let text = text
         .say(script.slice(clause.part))?
@@ -53,40 +55,24 @@ pub fn clause_finding(
         Err(Refusal::Memory) => return Err(AllocError),
         Err(_) => return whole(alloc, script, clause),
     };
-    match expression_of(&tree) {
+    match constraint_in(&tree) {
         Some(expression) if token_count(expression) <= MOST_TOKENS => {
             let node = Node {
                 expression,
                 first: clause.part.first,
             };
-            in_expression(alloc, script, clause, node)
+            in_expression(declared, clause, node)
         }
         _ => whole(alloc, script, clause),
     }
 }
 
-/// The expression of a pickle that was made for it.
-fn expression_of<'a, 't>(tree: &'a Pickle<'t>) -> Option<&'a Expression<'t>> {
-    let declaration = tree.declarations.first()?;
-    match &declaration.form {
-        Form::Struct(_, fields) => constraint_of(fields.first()?),
-        _ => None,
-    }
-}
-
-fn constraint_of<'a, 't>(field: &'a Field<'t>) -> Option<&'a Expression<'t>> {
-    match &field.clauses {
-        Clauses::Constraint(expression) => Some(expression),
-        _ => None,
-    }
-}
-
-fn in_expression(
-    alloc: Global,
-    script: &Script<'_>,
-    clause: &Clause,
+fn in_expression<'a, 't>(
+    declared: &'a Declared<'a, 't>,
+    clause: &'a Clause<'a>,
     node: Node<'_, '_>,
 ) -> Result<Finding, AllocError> {
+    let (alloc, script) = (declared.alloc, declared.script);
     if is_meant(script, clause, node)? {
         return whole(alloc, script, clause);
     }
@@ -97,11 +83,15 @@ fn in_expression(
             None => break,
         }
     }
-    of_node(alloc, script, clause, node)
+    of_node(declared, clause, node)
 }
 
 /// Whether an expression has no fault.
-fn is_meant(script: &Script<'_>, clause: &Clause, node: Node<'_, '_>) -> Result<bool, AllocError> {
+fn is_meant(
+    script: &Script<'_>,
+    clause: &Clause<'_>,
+    node: Node<'_, '_>,
+) -> Result<bool, AllocError> {
     let expression = script.slice(node.part());
     if node.is_number() {
         Ok(true)
@@ -116,7 +106,7 @@ fn is_meant(script: &Script<'_>, clause: &Clause, node: Node<'_, '_>) -> Result<
 fn failing_operand<'a, 't>(
     alloc: Global,
     script: &Script<'_>,
-    clause: &Clause,
+    clause: &Clause<'_>,
     node: Node<'a, 't>,
 ) -> Result<Option<Node<'a, 't>>, AllocError> {
     for operand in node.operands(alloc)? {
@@ -182,15 +172,16 @@ fn is_operator(token: &[u8]) -> bool {
 }
 
 /// What is wrong with an expression whose operands have no fault.
-fn of_node<'a>(
-    alloc: Global,
-    script: &'a Script<'_>,
-    clause: &'a Clause,
+fn of_node<'a, 't>(
+    declared: &'a Declared<'a, 't>,
+    clause: &'a Clause<'a>,
     node: Node<'_, '_>,
 ) -> Result<Finding, AllocError> {
+    let alloc = declared.alloc;
     let place = Place {
         alloc,
-        script,
+        script: declared.script,
+        declared,
         clause,
         part: node.part(),
     };

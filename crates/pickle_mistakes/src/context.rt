@@ -1,8 +1,11 @@
 //! As much of a pickle as a part of it depends on. It stands before the part where the type checker is asked about it.
 
-use pickle_script::anatomy::field_parts;
+use crate::budget::Budget;
+use crate::outline::{Outline, Piece};
+use crate::probe::Probe;
 use pickle_script::script::{Part, Script};
 use pickle_script::text::Text;
+use pickle_types::fault::FaultKind;
 use std::alloc::{AllocError, Global};
 use std::collections::BTreeMap;
 
@@ -15,17 +18,21 @@ pub struct Words<'t> {
 impl<'t> Words<'t> {
     /// The names among some tokens.
     pub fn of(alloc: Global, script: &Script<'t>, part: Part) -> Result<Words<'t>, AllocError> {
-        let mut words = Words {
-            known: BTreeMap::new(alloc),
-        };
+        let mut words = Words::none(alloc);
         words.add_all(script, part)?;
         Ok(words)
     }
 
-    /// Adds a name.
-    pub fn add(&mut self, word: &'t [u8]) -> Result<(), AllocError> {
-        self.known.insert(word, 0)?;
-        Ok(())
+    /// No names.
+    pub fn none(alloc: Global) -> Words<'t> {
+        Words {
+            known: BTreeMap::new(alloc),
+        }
+    }
+
+    /// Adds a name. Whether it is new.
+    pub fn add(&mut self, word: &'t [u8]) -> Result<bool, AllocError> {
+        Ok(self.known.insert(word, 0)?.is_none())
     }
 
     /// Adds the names among some tokens.
@@ -43,105 +50,140 @@ impl<'t> Words<'t> {
     }
 }
 
-/// The text before a part of a declaration: the declarations and fields before it on which the names depend, and the
-/// head of each struct and union that it is in. `declaration` begins with its `type`.
-pub fn context<'t>(
-    alloc: Global,
-    script: &Script<'t>,
-    declaration: Part,
-    part: Part,
-    words: &mut Words<'t>,
-) -> Result<Vec<u8>, AllocError> {
-    let mut kept = Vec::new(alloc);
-    let form = declaration.first.saturating_add(3);
-    for field in pieces_before(alloc, script, form, part.first)? {
-        if is_needed(script, field, words) {
-            words.add_all(script, field)?;
-            kept.push(field)?;
-        }
-    }
-    kept.push(Part {
-        first: declaration.first,
-        end: form,
-    })?;
-    push_declarations(script, declaration.first, words, &mut kept)?;
-    let mut text = Text::new(alloc);
-    for part in kept.iter().rev() {
-        text = text.say(script.slice(*part))?.say(b"\n")?;
-    }
-    Ok(text.into_bytes())
+/// A declaration in which a fault of types is searched.
+#[derive(Drop)]
+pub struct Declared<'a, 't> {
+    pub alloc: Global,
+    pub script: &'a Script<'t>,
+    pub budget: &'a Budget,
+    /// What is wrong with the declaration.
+    pub kind: FaultKind,
+    /// The declaration from its `type` on, without its `;`.
+    pub whole: Part,
+    /// The type that it declares.
+    pub form: Part,
+    pub outline: Outline,
+    /// The `type` of each declaration before it.
+    before: Vec<usize>,
 }
 
-/// The fields, and the heads of structs and unions, before a token and around it, the last one first. `form` is the
-/// first token of the declared type.
-fn pieces_before(
-    alloc: Global,
-    script: &Script<'_>,
-    form: usize,
-    token: usize,
-) -> Result<Vec<Part>, AllocError> {
-    let mut pieces = Vec::new(alloc);
-    let mut end = token;
-    let mut depth: usize = 0;
-    for back in 1..token.saturating_sub(form).saturating_add(1) {
-        let first = token.saturating_sub(back).saturating_add(1);
-        let before = script.text_before(first);
-        let ends = depth == 0 && matches!(before, b";" | b"{");
-        if ends && first < end {
-            pieces.push(Part { first, end })?;
+impl<'a, 't> Declared<'a, 't> {
+    /// A declaration that begins with its `type`.
+    pub fn new(
+        alloc: Global,
+        script: &'a Script<'t>,
+        budget: &'a Budget,
+        kind: FaultKind,
+        whole: Part,
+    ) -> Result<Declared<'a, 't>, AllocError> {
+        let form = Part {
+            first: whole.first.saturating_add(3),
+            end: whole.end,
+        };
+        let mut before = Vec::new(alloc);
+        for token in 0..whole.first {
+            if script.text(token) == b"type".as_slice() {
+                before.push(token)?;
+            }
         }
-        if ends {
+        Ok(Declared {
+            alloc,
+            script,
+            budget,
+            kind,
+            whole,
+            form,
+            outline: Outline::of(alloc, script, form)?,
+            before,
+        })
+    }
+
+    /// The text before a part of the declaration: the declarations and fields before it on which the names depend, and
+    /// the head of each struct and union that it is in. Empty if nothing is left of the budget.
+    pub fn context(&self, part: Part, words: &mut Words<'t>) -> Result<Vec<u8>, AllocError> {
+        let mut kept = Vec::new(self.alloc);
+        let seen = self.outline.before(self.alloc, part.first)?;
+        let looked_at = seen.len().saturating_add(self.before.len()) / 2;
+        if !self
+            .budget
+            .take(looked_at.saturating_add(self.outline.pieces.len() / 16))
+        {
+            return Ok(Vec::new(self.alloc));
+        }
+        for piece in seen {
+            if piece.head || words.has(self.name(piece)) {
+                words.add_all(self.script, piece.part)?;
+                kept.push(piece.part)?;
+            }
+        }
+        kept.push(Part {
+            first: self.whole.first,
+            end: self.form.first,
+        })?;
+        self.push_declarations(words, &mut kept)?;
+        let mut text = Text::new(self.alloc);
+        for part in kept.iter().rev() {
+            text = text.say(self.script.slice(*part))?.say(b"\n")?;
+        }
+        Ok(text.into_bytes())
+    }
+
+    /// The name of a field. Empty if it has none.
+    pub fn name(&self, piece: Piece) -> &'t [u8] {
+        match piece.name {
+            Some(token) => self.script.text(token),
+            None => &[],
+        }
+    }
+
+    /// Adds the declarations before this one on which the names depend, the last one first.
+    fn push_declarations(
+        &self,
+        words: &mut Words<'t>,
+        kept: &mut Vec<Part>,
+    ) -> Result<(), AllocError> {
+        let mut end = self.whole.first;
+        for first in self.before.iter().rev() {
+            let first = *first;
+            if words.has(self.script.text(first.saturating_add(1))) {
+                let part = Part { first, end };
+                words.add_all(self.script, part)?;
+                kept.push(part)?;
+            }
             end = first;
         }
-        match before {
-            b"}" => depth = depth.saturating_add(1),
-            b"{" => depth = depth.saturating_sub(1),
-            _ => {}
-        }
+        Ok(())
     }
-    if form < end {
-        pieces.push(Part { first: form, end })?;
-    }
-    Ok(pieces)
-}
 
-/// Whether a piece is the head of a struct or union, or a field whose name is among some.
-fn is_needed(script: &Script<'_>, piece: Part, words: &Words<'_>) -> bool {
-    let last = piece.end.saturating_sub(1);
-    if script.text(last) == b"{".as_slice() {
-        return true;
+    /// A probe for a part of the declaration, with the context of the names.
+    pub fn probe(
+        &self,
+        part: Part,
+        words: &mut Words<'t>,
+        back: Vec<u8>,
+    ) -> Result<Probe<'a>, AllocError> {
+        Ok(Probe {
+            alloc: self.alloc,
+            budget: self.budget,
+            kind: self.kind,
+            front: self.context(part, words)?,
+            back,
+        })
     }
-    let parts = field_parts(
-        script,
-        Part {
-            first: piece.first,
-            end: last,
-        },
-    );
-    words.has(script.slice(parts.name))
-}
 
-/// Adds the declarations before a token on which the names depend, the last one first.
-fn push_declarations<'t>(
-    script: &Script<'t>,
-    token: usize,
-    words: &mut Words<'t>,
-    kept: &mut Vec<Part>,
-) -> Result<(), AllocError> {
-    let mut end = token;
-    for back in 0..token {
-        let first = (token - back).saturating_sub(1);
-        if script.text(first) != b"type".as_slice() {
-            continue;
+    /// The names of the fields that are seen before a token, each once, the first one first.
+    pub fn fields_seen(&self, token: usize) -> Result<Vec<&'t [u8]>, AllocError> {
+        let mut known = Words::none(self.alloc);
+        let mut names = Vec::new(self.alloc);
+        let pieces = self.outline.before(self.alloc, token)?;
+        for piece in pieces.iter().rev() {
+            let name = self.name(*piece);
+            if !name.is_empty() && known.add(name)? {
+                names.push(name)?;
+            }
         }
-        if words.has(script.text(first.saturating_add(1))) {
-            let part = Part { first, end };
-            words.add_all(script, part)?;
-            kept.push(part)?;
-        }
-        end = first;
+        Ok(names)
     }
-    Ok(())
 }
 
 /// The text behind a field: the ends of the structs and unions that it is in, from the first token of the declared type
@@ -175,44 +217,6 @@ pub fn closing_of(alloc: Global, open: usize) -> Result<Vec<u8>, AllocError> {
         text = text.say(end)?;
     }
     Ok(text.into_bytes())
-}
-
-/// The names of the fields before a token that are around it, the first one first.
-pub fn fields_seen<'t>(
-    alloc: Global,
-    script: &Script<'t>,
-    form: usize,
-    token: usize,
-) -> Result<Vec<&'t [u8]>, AllocError> {
-    let mut names = Vec::new(alloc);
-    let pieces = pieces_before(alloc, script, form, token)?;
-    for piece in pieces.iter().rev() {
-        let whole = Part {
-            first: piece.first,
-            end: piece.end.saturating_sub(1),
-        };
-        let head = script.text(whole.end) == b"{".as_slice();
-        let name = script.slice(field_parts(script, whole).name);
-        if !head && !name.is_empty() && !names.as_slice().contains(&name) {
-            names.push(name)?;
-        }
-    }
-    Ok(names)
-}
-
-/// The first token of the field that ends before a `;`.
-pub fn field_start(script: &Script<'_>, semicolon: usize) -> usize {
-    let mut depth: usize = 0;
-    for back in 1..semicolon.saturating_add(1) {
-        let first = semicolon.saturating_sub(back).saturating_add(1);
-        match script.text_before(first) {
-            b"}" => depth = depth.saturating_add(1),
-            b";" | b"{" if depth == 0 => return first,
-            b"{" => depth = depth.saturating_sub(1),
-            _ => {}
-        }
-    }
-    0
 }
 
 /// The first token of the struct or union that has a `{`.

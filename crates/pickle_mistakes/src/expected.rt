@@ -1,8 +1,8 @@
 //! What may be at a place in a pickle, which the parser decides.
 
+use crate::front::Front;
 use pickle_script::text::Text;
-use run_parts::accept::{Refusal, read_syntax};
-use std::alloc::{AllocError, Global};
+use std::alloc::AllocError;
 
 /// What may be at a place.
 #[derive(Clone, Copy, Debug, Drop)]
@@ -26,28 +26,16 @@ const SIGNS: [&[u8]; 15] = [
     b"=", b"struct", b"{", b"}", b"[", b"]", b")", b",", b">", b":", b"@", b"if", b";", b"b", b"B",
 ];
 
-/// Whether a pickle that begins with `front` may go on with `tokens`.
-pub fn goes_on(alloc: Global, front: &[u8], tokens: &[u8]) -> Result<bool, AllocError> {
-    let text = Text::new(alloc).say(front)?.say(b"\n")?.say(tokens)?;
-    let text = text.into_bytes();
-    match read_syntax(alloc, text.as_slice()) {
-        Ok(_) => Ok(true),
-        Err(Refusal::Syntax(at)) => Ok(text.len() <= at),
-        Err(Refusal::Memory) => Err(AllocError),
-        Err(_) => Ok(false),
-    }
-}
-
 impl Expected {
     /// What may be after the start of a pickle.
-    pub fn behind(alloc: Global, front: &[u8]) -> Result<Expected, AllocError> {
+    pub fn behind(front: &Front<'_>) -> Result<Expected, AllocError> {
         Ok(Expected {
-            declaration: goes_on(alloc, front, b"type")?,
-            form: goes_on(alloc, front, b"string")?,
-            value: goes_on(alloc, front, b"(")?,
-            operator: goes_on(alloc, front, b"+ 1")?,
-            name: goes_on(alloc, front, b"n")?,
-            number: goes_on(alloc, front, b"1")?,
+            declaration: front.goes_on(b"type")?,
+            form: front.goes_on(b"string")?,
+            value: front.goes_on(b"(")?,
+            operator: front.goes_on(b"+ 1")?,
+            name: front.goes_on(b"n")?,
+            number: front.goes_on(b"1")?,
         })
     }
 
@@ -88,32 +76,26 @@ impl Expected {
 }
 
 /// Adds to the text what may be after the start of a pickle, as in "a name, `:` or `;`".
-pub fn say_expected(
-    alloc: Global,
-    text: Text,
-    front: &[u8],
-    expected: Expected,
-) -> Result<Text, AllocError> {
-    let mut words: Vec<Vec<u8>> = Vec::new(alloc);
+pub fn say_expected(text: Text, front: &Front<'_>, expected: Expected) -> Result<Text, AllocError> {
+    let mut words: Vec<Vec<u8>> = Vec::new(front.alloc);
     for group in expected.groups() {
         if !group.is_empty() {
-            words.push(Vec::from_slice(alloc, group)?)?;
+            words.push(Vec::from_slice(front.alloc, group)?)?;
         }
     }
-    push_signs(alloc, &mut words, front, expected)?;
+    push_signs(&mut words, front, expected)?;
     say_list(text, words.as_slice(), b" or ")
 }
 
 /// Adds the tokens that may be after the start of a pickle and are in no group.
 fn push_signs(
-    alloc: Global,
     words: &mut Vec<Vec<u8>>,
-    front: &[u8],
+    front: &Front<'_>,
     expected: Expected,
 ) -> Result<(), AllocError> {
     for sign in SIGNS {
-        if !is_grouped(sign, expected) && goes_on(alloc, front, sign)? {
-            words.push(Text::new(alloc).quote(sign)?.into_bytes())?;
+        if !is_grouped(sign, expected) && front.goes_on(sign)? {
+            words.push(Text::new(front.alloc).quote(sign)?.into_bytes())?;
         }
     }
     Ok(())

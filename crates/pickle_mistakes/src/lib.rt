@@ -2,15 +2,18 @@
 #![tactic(auto)]
 
 mod advice;
+pub mod budget;
 mod clause;
 mod context;
 mod expected;
 mod foreign;
+mod front;
 pub mod lexical;
 pub mod limits;
 mod names;
 pub mod near;
-mod nodes;
+pub mod nodes;
+pub mod outline;
 mod pattern;
 mod probe;
 mod search;

@@ -1,7 +1,7 @@
 //! Names that an expression doesn't see, and the names that it sees.
 
 use crate::clause::{Finding, Place};
-use crate::context::{Words, context, fields_seen};
+use crate::context::Words;
 use crate::expected::say_list;
 use crate::near::nearest;
 use crate::probe::Probe;
@@ -30,12 +30,10 @@ fn field_names<'t>(
     part: Part,
 ) -> Result<Vec<&'t [u8]>, AllocError> {
     let mut names: Vec<&'t [u8]> = Vec::new(alloc);
+    let mut known = Words::none(alloc);
     for token in part.first..part.end {
         let word = script.text(token);
-        if names.len() < MOST_FIELDS
-            && is_field(script, token)
-            && !names.as_slice().contains(&word)
-        {
+        if names.len() < MOST_FIELDS && is_field(script, token) && known.add(word)? {
             names.push(word)?;
         }
     }
@@ -51,12 +49,7 @@ fn is_field(script: &Script<'_>, token: usize) -> bool {
 impl<'a, 't> Place<'a, 't> {
     /// The finding for a name that no visible field has.
     pub fn unknown_name(self, word: &[u8]) -> Result<Finding, AllocError> {
-        let mut among = fields_seen(
-            self.alloc,
-            self.script,
-            self.before().first.saturating_add(3),
-            self.clause.scope.field.first,
-        )?;
+        let mut among = self.declared.fields_seen(self.clause.scope.field.first)?;
         if self.clause.purpose == Purpose::Constraint {
             let parts = field_parts(self.script, self.clause.scope.field);
             among.push(self.script.slice(parts.name))?;
@@ -119,7 +112,7 @@ impl<'a, 't> Place<'a, 't> {
     /// The tokens of the declaration before the expression.
     fn before(self) -> Part {
         Part {
-            first: self.clause.scope.declaration.first,
+            first: self.declared.whole.first,
             end: self.part.first,
         }
     }
@@ -171,24 +164,19 @@ impl<'a, 't> Place<'a, 't> {
     }
 
     /// The probe of the expression, with what some names stand for before it.
-    fn probe_with(self, names: &[&'t [u8]]) -> Result<Probe, AllocError> {
+    fn probe_with(self, names: &[&'t [u8]]) -> Result<Probe<'a>, AllocError> {
         let scope = self.clause.scope;
         let probe = &self.clause.probe;
         let mut words = Words::of(self.alloc, self.script, scope.field)?;
         for name in names {
-            words.add(name)?;
+            let _new = words.add(name)?;
         }
-        let front = context(
-            self.alloc,
-            self.script,
-            scope.declaration,
-            scope.field,
-            &mut words,
-        )?;
+        let front = self.declared.context(scope.field, &mut words)?;
         let front = Text::new(self.alloc).say(front.as_slice())?;
         let behind = cut(probe.front.as_slice(), scope.known, probe.front.len());
         Ok(Probe {
             alloc: self.alloc,
+            budget: probe.budget,
             kind: probe.kind,
             front: front.say(behind)?.into_bytes(),
             back: Vec::from_slice(self.alloc, probe.back.as_slice())?,

@@ -1,5 +1,6 @@
 //! Words with few edits between them.
 
+use pickle_script::script::cut;
 use std::alloc::{AllocError, Global};
 use strsim::generic_levenshtein;
 
@@ -16,7 +17,11 @@ fn most_edits(length: usize) -> usize {
     }
 }
 
+/// The most pairs of bytes that are compared in a search.
+const MOST_PAIRS: usize = 1 << 20;
+
 /// Of the words `among`, the one with the fewest edits from `word`, or the first of several. `None` if it isn't near.
+/// The search ends early among very many long words.
 pub fn nearest<'t>(
     alloc: Global,
     word: &[u8],
@@ -27,8 +32,17 @@ pub fn nearest<'t>(
     }
     let mut best = None;
     let mut least = most_edits(word.len()).saturating_add(1);
+    let mut left = MOST_PAIRS;
     for other in among {
-        let edits = edits_between(alloc, word, other)?;
+        let pair = Pair::of(word, other);
+        if least <= pair.least_edits() || MOST_BYTES < other.len() {
+            continue;
+        }
+        let Some(rest) = left.checked_sub(pair.cost()) else {
+            break;
+        };
+        left = rest;
+        let edits = generic_levenshtein(alloc, pair.word, pair.other)?;
         if edits < least {
             least = edits;
             best = Some(*other);
@@ -37,9 +51,51 @@ pub fn nearest<'t>(
     Ok(best)
 }
 
-fn edits_between(alloc: Global, word: &[u8], other: &[u8]) -> Result<usize, AllocError> {
-    if MOST_BYTES < other.len() {
-        return Ok(usize::MAX);
+/// Two words without the bytes that they both begin and end with, which change no count of edits.
+#[derive(Clone, Copy)]
+struct Pair<'a> {
+    word: &'a [u8],
+    other: &'a [u8],
+}
+
+impl<'a> Pair<'a> {
+    fn of(word: &'a [u8], other: &'a [u8]) -> Pair<'a> {
+        let same = same_count(word, other);
+        let (word, other) = (cut(word, same, word.len()), cut(other, same, other.len()));
+        let same = same_count_at_end(word, other);
+        Pair {
+            word: cut(word, 0, word.len().saturating_sub(same)),
+            other: cut(other, 0, other.len().saturating_sub(same)),
+        }
     }
-    generic_levenshtein(alloc, word, other)
+
+    /// How many edits there are at least.
+    fn least_edits(self) -> usize {
+        self.word.len().abs_diff(self.other.len())
+    }
+
+    /// How many pairs of bytes are compared to count the edits, and a few for the call.
+    fn cost(self) -> usize {
+        self.word
+            .len()
+            .saturating_mul(self.other.len())
+            .saturating_add(16)
+    }
+}
+
+/// How many bytes two words both begin with.
+fn same_count(word: &[u8], other: &[u8]) -> usize {
+    word.iter()
+        .zip(other.iter())
+        .take_while(|(one, two)| one == two)
+        .count()
+}
+
+/// How many bytes two words both end with.
+fn same_count_at_end(word: &[u8], other: &[u8]) -> usize {
+    word.iter()
+        .rev()
+        .zip(other.iter().rev())
+        .take_while(|(one, two)| one == two)
+        .count()
 }

@@ -3,7 +3,7 @@
 ghost use Rattle.std.specs.Prelude.{◌≤◌};
 
 use pickle_script::script::Part;
-use pickle_syntax::tree::{Expression, Reference, Suffix, Target};
+use pickle_syntax::tree::{Clauses, Expression, Field, Form, Pickle, Reference, Suffix, Target};
 use std::alloc::{AllocError, Global};
 
 /// An expression, and its first token.
@@ -54,6 +54,22 @@ fn reference_tokens(reference: &Reference<'_>) -> usize
     match reference {
         Reference::Int(_) | Reference::Uint(_) => 3,
         Reference::Named(_) => 1,
+    }
+}
+
+/// The constraint of the first field of a pickle's first type.
+pub fn constraint_in<'a, 't>(tree: &'a Pickle<'t>) -> Option<&'a Expression<'t>> {
+    let declaration = tree.declarations.first()?;
+    match &declaration.form {
+        Form::Struct(_, fields) => constraint_of(fields.first()?),
+        _ => None,
+    }
+}
+
+fn constraint_of<'a, 't>(field: &'a Field<'t>) -> Option<&'a Expression<'t>> {
+    match &field.clauses {
+        Clauses::Constraint(expression) => Some(expression),
+        _ => None,
     }
 }
 

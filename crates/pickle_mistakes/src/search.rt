@@ -1,33 +1,32 @@
 //! Where in a declaration a fault of its types is. The type checker is asked about parts of the declaration.
 
 use crate::context::{
-    Words, brace_around, closing, closing_of, context, field_start, form_start, integral_brace,
-    is_integral,
+    Declared, Words, brace_around, closing, closing_of, form_start, integral_brace, is_integral,
 };
+use crate::outline::Piece;
 use crate::probe::Probe;
 use pickle_script::anatomy::{FieldParts, base, bound, field_parts, form_from, opening_brace};
 use pickle_script::script::{Part, Script};
 use pickle_script::site::Purpose;
 use pickle_script::text::Text;
 use pickle_types::fault::FaultKind;
-use std::alloc::{AllocError, Global};
+use std::alloc::AllocError;
 
 /// The most levels of types inside types.
 const MOST_LEVELS: usize = 65;
 
 /// An expression of a field or an array, and a probe with a constraint in its place.
 #[derive(Drop)]
-pub struct Clause {
+pub struct Clause<'b> {
     pub purpose: Purpose,
     pub part: Part,
-    pub probe: Probe,
+    pub probe: Probe<'b>,
     pub scope: Scope,
 }
 
 /// Where an expression is.
 #[derive(Clone, Copy)]
 pub struct Scope {
-    pub declaration: Part,
     /// The field with the expression, or the whole type.
     pub field: Part,
     /// How many bytes the context before the field has in a probe.
@@ -36,64 +35,65 @@ pub struct Scope {
 
 /// The part of a declaration that has a fault.
 #[derive(Drop)]
-pub enum Located {
+pub enum Located<'b> {
     /// A struct or union as a whole.
-    Body(Part, Probe),
+    Body(Part, Probe<'b>),
     /// A type other than a struct or union, without its array suffix, or the integer type of an integral struct.
-    Base(Part, Probe),
+    Base(Part, Probe<'b>),
     /// A field as a whole; the probe is for its parts.
-    Field(FieldParts, Probe),
-    Clause(Clause),
+    Field(FieldParts, Probe<'b>),
+    Clause(Clause<'b>),
+}
+
+impl<'b> Located<'b> {
+    /// The tokens of the part. Those of a struct or union are only the first.
+    pub fn part(&self) -> Part {
+        match self {
+            Located::Body(form, _) => Part::single(form.first),
+            Located::Base(base, _) => *base,
+            Located::Field(parts, _) => parts.whole,
+            Located::Clause(clause) => clause.part,
+        }
+    }
 }
 
 /// The part of a declaration that has a fault.
-pub fn locate(
-    alloc: Global,
-    script: &Script<'_>,
-    kind: FaultKind,
-    declaration: Part,
-) -> Result<Located, AllocError> {
-    let form = Part {
-        first: declaration.first.saturating_add(3),
-        end: declaration.end,
-    };
-    let mut words = Words::of(alloc, script, form)?;
-    let whole = Probe {
-        alloc,
-        kind,
-        front: context(alloc, script, declaration, form, &mut words)?,
-        back: Vec::from_slice(alloc, b";")?,
-    };
-    let Some(brace) = opening_brace(script, form) else {
+pub fn locate<'b>(declared: &Declared<'b, '_>) -> Result<Located<'b>, AllocError> {
+    let form = declared.form;
+    let Some(brace) = opening_brace(declared.script, form) else {
+        let whole = whole_probe(declared)?;
         let scope = Scope {
-            declaration,
             field: form,
             known: whole.front.len(),
         };
-        return in_simple(script, form, whole, scope);
+        return in_simple(declared.script, form, whole, scope);
     };
-    if is_integral(script, brace) && kind == FaultKind::IntegralWidths {
-        return Ok(Located::Body(form, whole));
+    if is_integral(declared.script, brace) && declared.kind == FaultKind::IntegralWidths {
+        return Ok(Located::Body(form, whole_probe(declared)?));
     }
-    let Some(end) = failing_end(script, declaration, brace, &whole)? else {
-        return in_body(script, form, brace, whole);
-    };
-    let field = Part {
-        first: field_start(script, end),
-        end,
-    };
-    if let Some(around) = around_wrong(script, declaration, field, kind, alloc)? {
+    match failing_field(declared)? {
+        Some(field) => locate_in(declared, field),
+        None => in_body(declared, form, brace),
+    }
+}
+
+/// A probe for the whole type of a declaration.
+fn whole_probe<'b>(declared: &Declared<'b, '_>) -> Result<Probe<'b>, AllocError> {
+    let mut words = Words::of(declared.alloc, declared.script, declared.form)?;
+    let back = Vec::from_slice(declared.alloc, b";")?;
+    declared.probe(declared.form, &mut words, back)
+}
+
+/// The part of a field, or around it, that has the fault. With the field the fault appears.
+fn locate_in<'b>(declared: &Declared<'b, '_>, field: Part) -> Result<Located<'b>, AllocError> {
+    if let Some(around) = around_wrong(declared, field)? {
         return Ok(around);
     }
-    let mut words = Words::of(alloc, script, field)?;
-    let probe = Probe {
-        alloc,
-        kind,
-        front: context(alloc, script, declaration, field, &mut words)?,
-        back: closing(alloc, script, form.first, field.first)?,
-    };
+    let script = declared.script;
+    let mut words = Words::of(declared.alloc, script, field)?;
+    let back = closing(declared.alloc, script, declared.form.first, field.first)?;
+    let probe = declared.probe(field, &mut words, back)?;
     let scope = Scope {
-        declaration,
         field,
         known: probe.front.len(),
     };
@@ -103,28 +103,44 @@ pub fn locate(
         return in_field(script, parts, probe, scope);
     }
     match opening_brace(script, parts.form) {
-        Some(brace) => in_body(script, parts.form, brace, inside),
+        Some(brace) if is_integral(script, brace) && declared.kind != FaultKind::IntegralWidths => {
+            in_body(declared, parts.form, brace)
+        }
+        Some(_) => Ok(Located::Body(parts.form, inside)),
         None => in_simple(script, parts.form, inside, scope),
     }
 }
 
 /// The part of a struct or union without a wrong field that has the fault.
-fn in_body(
-    script: &Script<'_>,
+fn in_body<'b>(
+    declared: &Declared<'b, '_>,
     form: Part,
     brace: usize,
-    probe: Probe,
-) -> Result<Located, AllocError> {
+) -> Result<Located<'b>, AllocError> {
+    let probe = head_probe(declared, form, brace)?;
+    let integral = is_integral(declared.script, brace)
+        && declared.kind != FaultKind::IntegralWidths;
+    if integral && is_head_wrong(declared, form, brace, &probe)? {
+        return Ok(Located::Base(reference(declared.script, brace), probe));
+    }
+    Ok(Located::Body(form, probe))
+}
+
+/// Whether the fault is in the head of a struct.
+fn is_head_wrong(
+    declared: &Declared<'_, '_>,
+    form: Part,
+    brace: usize,
+    probe: &Probe<'_>,
+) -> Result<bool, AllocError> {
     let head = Part {
         first: form.first,
         end: brace,
     };
-    let text = Text::new(probe.alloc).say(script.slice(head))?.say(b" {}")?;
-    let integral = is_integral(script, brace) && probe.kind != FaultKind::IntegralWidths;
-    if integral && probe.fails(text.into_bytes().as_slice())? {
-        return Ok(Located::Base(reference(script, brace), probe));
-    }
-    Ok(Located::Body(form, probe))
+    let text = Text::new(declared.alloc)
+        .say(declared.script.slice(head))?
+        .say(b" {}")?;
+    probe.fails(text.into_bytes().as_slice())
 }
 
 /// The integer type of an integral struct.
@@ -137,121 +153,112 @@ fn reference(script: &Script<'_>, brace: usize) -> Part {
 
 /// The part with the fault that is around a field: a struct inside an integral struct, or the integer type of an
 /// integral struct.
-fn around_wrong(
-    script: &Script<'_>,
-    declaration: Part,
+fn around_wrong<'b>(
+    declared: &Declared<'b, '_>,
     field: Part,
-    kind: FaultKind,
-    alloc: Global,
-) -> Result<Option<Located>, AllocError> {
+) -> Result<Option<Located<'b>>, AllocError> {
     let mut at = field.first;
     for _ in 0..MOST_LEVELS {
-        let Some(brace) = brace_around(script, at) else {
+        let Some(brace) = brace_around(declared.script, at) else {
             return Ok(None);
         };
-        let first = form_start(script, brace);
-        let form = form_from(script, first, declaration.end);
-        let probe = head_probe(alloc, script, kind, declaration, form)?;
-        if kind == FaultKind::NotHere {
-            let misplaced = !is_integral(script, brace) && integral_brace(script, brace).is_some();
-            if misplaced {
-                return Ok(Some(Located::Base(form, probe)));
-            }
-        } else if is_integral(script, brace) && kind != FaultKind::IntegralWidths {
-            if let Located::Base(base, probe) = in_body(script, form, brace, probe)? {
-                return Ok(Some(Located::Base(base, probe)));
-            }
+        if let Some(found) = wrong_at(declared, brace)? {
+            return Ok(Some(found));
         }
         at = brace;
     }
     Ok(None)
 }
 
+/// The struct with a `{`, or its integer type, if it has the fault.
+fn wrong_at<'b>(
+    declared: &Declared<'b, '_>,
+    brace: usize,
+) -> Result<Option<Located<'b>>, AllocError> {
+    let script = declared.script;
+    let integral = is_integral(script, brace);
+    let misplaced = declared.kind == FaultKind::NotHere;
+    let asked = if misplaced {
+        !integral && integral_brace(script, brace).is_some()
+    } else {
+        integral && declared.kind != FaultKind::IntegralWidths
+    };
+    if !asked {
+        return Ok(None);
+    }
+    let form = form_from(script, form_start(script, brace), declared.whole.end);
+    let probe = head_probe(declared, form, brace)?;
+    if misplaced {
+        return Ok(Some(Located::Base(form, probe)));
+    }
+    if is_head_wrong(declared, form, brace, &probe)? {
+        return Ok(Some(Located::Base(reference(script, brace), probe)));
+    }
+    Ok(None)
+}
+
 /// A probe for the head of a struct or union.
-fn head_probe(
-    alloc: Global,
-    script: &Script<'_>,
-    kind: FaultKind,
-    declaration: Part,
-    form: Part,
-) -> Result<Probe, AllocError> {
-    let mut words = Words::of(alloc, script, form)?;
-    let outermost = declaration.first.saturating_add(3);
-    let back = closing(alloc, script, outermost, form.first)?;
-    let name: &[u8] = if outermost < form.first { b" n__" } else { b"" };
-    Ok(Probe {
-        alloc,
-        kind,
-        front: context(alloc, script, declaration, form, &mut words)?,
-        back: Text::new(alloc)
-            .say(name)?
-            .say(back.as_slice())?
-            .into_bytes(),
-    })
-}
-
-/// A `;` that ends a field.
-#[derive(Clone, Copy)]
-struct End {
-    token: usize,
-    /// In how many structs and unions the field is.
-    open: usize,
-}
-
-/// The `;` of each field of a type, also inside the types of other fields. For widths that don't add up, those in
-/// integral structs are left out, because the widths of a part of their fields don't add up.
-fn ends(
-    alloc: Global,
-    script: &Script<'_>,
+fn head_probe<'b>(
+    declared: &Declared<'b, '_>,
     form: Part,
     brace: usize,
-    kind: FaultKind,
-) -> Result<Vec<End>, AllocError> {
-    let mut ends = Vec::new(alloc);
-    let mut open: usize = 0;
-    let mut integral: usize = 0;
-    for token in brace..form.end {
-        match script.text(token) {
-            b"{" => {
-                open = open.saturating_add(1);
-                if 0 < integral || kind == FaultKind::IntegralWidths && is_integral(script, token) {
-                    integral = integral.saturating_add(1);
-                }
+) -> Result<Probe<'b>, AllocError> {
+    let head = Part {
+        first: form.first,
+        end: brace,
+    };
+    let mut words = Words::of(declared.alloc, declared.script, head)?;
+    let outermost = declared.form.first;
+    let back = closing(declared.alloc, declared.script, outermost, form.first)?;
+    let name: &[u8] = if outermost < form.first { b" n__" } else { b"" };
+    let back = Text::new(declared.alloc).say(name)?.say(back.as_slice())?;
+    declared.probe(form, &mut words, back.into_bytes())
+}
+
+/// The fields of a declaration that are tested, also those inside the types of other fields. For widths that don't add
+/// up, those in integral structs are left out, because the widths of a part of their fields don't add up.
+fn tested(declared: &Declared<'_, '_>) -> Result<Vec<Piece>, AllocError> {
+    let mut fields = Vec::new(declared.alloc);
+    let mut integral = None;
+    for piece in declared.outline.pieces.iter() {
+        if matches!(integral, Some(open) if piece.open <= open) {
+            integral = None;
+        }
+        if piece.head {
+            let brace = piece.part.end.saturating_sub(1);
+            let counts = declared.kind == FaultKind::IntegralWidths && integral.is_none();
+            if counts && is_integral(declared.script, brace) {
+                integral = Some(piece.open);
             }
-            b"}" => {
-                open = open.saturating_sub(1);
-                integral = integral.saturating_sub(1);
-            }
-            b";" if integral == 0 => ends.push(End { token, open })?,
-            _ => {}
+        } else if integral.is_none() {
+            fields.push(*piece)?;
         }
     }
-    Ok(ends)
+    Ok(fields)
 }
 
-/// The `;` of the first field with which the fault appears. The fields before the halves that are tested have none.
-fn failing_end(
-    script: &Script<'_>,
-    declaration: Part,
-    brace: usize,
-    whole: &Probe,
-) -> Result<Option<usize>, AllocError> {
-    let ends = ends(whole.alloc, script, declaration, brace, whole.kind)?;
+/// The first field with which the fault appears. The fields before the halves that are tested have none.
+fn failing_field(declared: &Declared<'_, '_>) -> Result<Option<Part>, AllocError> {
+    let fields = tested(declared)?;
     let mut low: usize = 0;
-    let mut high = ends.len();
+    let mut high = fields.len();
     for _ in 0..21 {
         let middle = low.saturating_add(high.saturating_sub(low) / 2);
-        let (Some(first), Some(end)) = (ends.get(low), ends.get(middle)) else {
+        let (Some(first), Some(last)) = (fields.get(low), fields.get(middle)) else {
             return Ok(None);
         };
+        let end = last.part.end.saturating_sub(1);
         if high <= low {
-            return Ok(Some(end.token));
+            return Ok(Some(Part {
+                first: last.part.first,
+                end,
+            }));
         }
-        let fields = Part {
-            first: field_start(script, first.token),
-            end: end.token,
+        let half = Part {
+            first: first.part.first,
+            end,
         };
-        if fails_in(script, declaration, fields, end.open, whole)? {
+        if fails_in(declared, half, last.open)? {
             high = middle;
         } else {
             low = middle.saturating_add(1);
@@ -261,30 +268,23 @@ fn failing_end(
 }
 
 /// Whether the fault is in some fields. The last of them is in `open` structs and unions.
-fn fails_in(
-    script: &Script<'_>,
-    declaration: Part,
-    fields: Part,
-    open: usize,
-    whole: &Probe,
-) -> Result<bool, AllocError> {
-    let mut words = Words::of(whole.alloc, script, fields)?;
-    let probe = Probe {
-        alloc: whole.alloc,
-        kind: whole.kind,
-        front: context(whole.alloc, script, declaration, fields, &mut words)?,
-        back: closing_of(whole.alloc, open)?,
-    };
-    probe.fails(script.slice(fields))
+fn fails_in(declared: &Declared<'_, '_>, fields: Part, open: usize) -> Result<bool, AllocError> {
+    if declared.budget.is_spent() {
+        return Ok(false);
+    }
+    let mut words = Words::of(declared.alloc, declared.script, fields)?;
+    let back = closing_of(declared.alloc, open)?;
+    let probe = declared.probe(fields, &mut words, back)?;
+    probe.fails(declared.script.slice(fields))
 }
 
 /// The part of a type without braces that has the fault.
-fn in_simple(
+fn in_simple<'b>(
     script: &Script<'_>,
     form: Part,
-    probe: Probe,
+    probe: Probe<'b>,
     scope: Scope,
-) -> Result<Located, AllocError> {
+) -> Result<Located<'b>, AllocError> {
     if probe.kind == FaultKind::NotHere {
         return Ok(Located::Base(form, probe));
     }
@@ -301,12 +301,12 @@ fn in_simple(
 }
 
 /// The part of a field that has the fault. The fault isn't in its type.
-fn in_field(
+fn in_field<'b>(
     script: &Script<'_>,
     parts: FieldParts,
-    probe: Probe,
+    probe: Probe<'b>,
     scope: Scope,
-) -> Result<Located, AllocError> {
+) -> Result<Located<'b>, AllocError> {
     if probe.kind == FaultKind::NotHere || probe.kind == FaultKind::DuplicateField {
         return Ok(Located::Field(parts, probe));
     }
@@ -344,7 +344,7 @@ fn has_fault(
     parts: &FieldParts,
     sign: &[u8],
     expression: Part,
-    probe: &Probe,
+    probe: &Probe<'_>,
 ) -> Result<bool, AllocError> {
     if expression.end <= expression.first {
         return Ok(false);
@@ -355,12 +355,12 @@ fn has_fault(
 }
 
 /// An expression that sees only the fields before its own.
-fn seen_before(
+fn seen_before<'b>(
     purpose: Purpose,
     part: Part,
-    probe: &Probe,
+    probe: &Probe<'b>,
     scope: Scope,
-) -> Result<Located, AllocError> {
+) -> Result<Located<'b>, AllocError> {
     Ok(Located::Clause(Clause {
         purpose,
         part,

@@ -24,7 +24,7 @@ pub enum Sort {
 }
 
 /// What an expression is.
-pub fn sort_of(probe: &Probe, expression: &[u8]) -> Result<Sort, AllocError> {
+pub fn sort_of(probe: &Probe<'_>, expression: &[u8]) -> Result<Sort, AllocError> {
     if probe.asked(expression, b")")? {
         return Ok(Sort::Integer);
     }
@@ -44,7 +44,7 @@ pub fn sort_of(probe: &Probe, expression: &[u8]) -> Result<Sort, AllocError> {
 }
 
 /// Adds what an expression is to the text, as in "int<32>".
-pub fn say_sort(text: Text, probe: &Probe, expression: &[u8]) -> Result<Text, AllocError> {
+pub fn say_sort(text: Text, probe: &Probe<'_>, expression: &[u8]) -> Result<Text, AllocError> {
     let sort = sort_of(probe, expression)?;
     say_of_sort(text, probe, expression, sort)
 }
@@ -52,7 +52,7 @@ pub fn say_sort(text: Text, probe: &Probe, expression: &[u8]) -> Result<Text, Al
 /// Adds what an expression of a sort is to the text.
 pub fn say_of_sort(
     text: Text,
-    probe: &Probe,
+    probe: &Probe<'_>,
     expression: &[u8],
     sort: Sort,
 ) -> Result<Text, AllocError> {
@@ -66,7 +66,7 @@ pub fn say_of_sort(
     }
 }
 
-fn say_offset(text: Text, probe: &Probe, expression: &[u8]) -> Result<Text, AllocError> {
+fn say_offset(text: Text, probe: &Probe<'_>, expression: &[u8]) -> Result<Text, AllocError> {
     let ratio = Text::new(probe.alloc)
         .say(b"(")?
         .say(expression)?
@@ -83,7 +83,11 @@ fn say_offset(text: Text, probe: &Probe, expression: &[u8]) -> Result<Text, Allo
 }
 
 /// The unit of an offset of an integer type, as pickles write it.
-fn unit_of(probe: &Probe, expression: &[u8], integer: &[u8]) -> Result<&'static [u8], AllocError> {
+fn unit_of(
+    probe: &Probe<'_>,
+    expression: &[u8],
+    integer: &[u8],
+) -> Result<&'static [u8], AllocError> {
     for unit in UNITS {
         let end = Text::new(probe.alloc)
             .say(b") : (0 as ")?
@@ -103,7 +107,7 @@ fn unit_of(probe: &Probe, expression: &[u8], integer: &[u8]) -> Result<&'static 
 
 fn say_integer(
     text: Text,
-    probe: &Probe,
+    probe: &Probe<'_>,
     expression: &[u8],
     otherwise: &[u8],
 ) -> Result<Text, AllocError> {
@@ -114,53 +118,13 @@ fn say_integer(
 }
 
 /// The type of an integer, as pickles write it. `None` if it isn't found.
-fn integer_type(probe: &Probe, expression: &[u8]) -> Result<Option<Vec<u8>>, AllocError> {
-    let width = width_of(probe, expression)?;
-    for opener in [b"uint<".as_slice(), b"int<".as_slice()] {
-        let found = written(probe.alloc, opener, width)?;
-        if is_of_type(probe, expression, found.as_slice())? {
-            return Ok(Some(found));
-        }
-    }
-    Ok(None)
-}
-
-/// The width of an integer, in bits.
-fn width_of(probe: &Probe, expression: &[u8]) -> Result<usize, AllocError> {
-    let mut low: usize = 1;
-    let mut high: usize = 64;
-    for _ in 0..6 {
-        let middle = low.saturating_add(high.saturating_sub(low) / 2);
-        if low < high && is_within(probe, expression, middle)? {
-            high = middle;
-        } else {
-            low = middle.saturating_add(1).min(high);
-        }
-    }
-    Ok(low)
-}
-
-/// Whether an integer has a width or a lesser one: then its sum with an unsigned integer of that width has the type of
-/// that one.
-fn is_within(probe: &Probe, expression: &[u8], width: usize) -> Result<bool, AllocError> {
-    let wide = written(probe.alloc, b"uint<", width)?;
-    let sum = Text::new(probe.alloc).say(b"(")?.say(expression)?;
-    let sum = sum.say(b") + (0 as ")?.say(wide.as_slice())?.say(b")")?;
-    is_of_type(probe, sum.into_bytes().as_slice(), wide.as_slice())
-}
-
-fn written(alloc: Global, opener: &[u8], width: usize) -> Result<Vec<u8>, AllocError> {
-    let text = Text::new(alloc).say(opener)?.say_number(width)?;
-    Ok(text.say(b">")?.into_bytes())
-}
-
-/// Whether an integer has a type. The test is a choice between two offsets, whose types must be the same.
-fn is_of_type(probe: &Probe, expression: &[u8], written: &[u8]) -> Result<bool, AllocError> {
-    let chosen = Text::new(probe.alloc)
-        .say(b"1 ? (")?
-        .say(expression)?
-        .into_bytes();
-    let end = Text::new(probe.alloc).say(b")#b : (0 as ")?.say(written)?;
-    let end = end.say(b")#b) == 0#b")?.into_bytes();
-    probe.asked(chosen.as_slice(), end.as_slice())
+fn integer_type(probe: &Probe<'_>, expression: &[u8]) -> Result<Option<Vec<u8>>, AllocError> {
+    let Some(found) = probe.integer_type(expression)? else {
+        return Ok(None);
+    };
+    let opener: &[u8] = if found.signed { b"int<" } else { b"uint<" };
+    let text = Text::new(probe.alloc)
+        .say(opener)?
+        .say_number(usize::from(found.width))?;
+    Ok(Some(text.say(b">")?.into_bytes()))
 }

@@ -1,7 +1,9 @@
 //! Sentences about a token at which no pickle can go on.
 
 use crate::advice::advice;
-use crate::expected::{Expected, goes_on, say_expected};
+use crate::budget::Budget;
+use crate::expected::{Expected, say_expected};
+use crate::front::Front;
 use crate::near::nearest;
 use crate::pattern::Around;
 use pickle_notes::note::Note;
@@ -20,36 +22,67 @@ const CLOSING: [&[u8]; 5] = [b")", b"]", b"}", b";", b"="];
 /// What is wrong at a byte at which no pickle can go on.
 pub fn syntax_note(alloc: Global, script: &Script<'_>, at: usize) -> Result<Note, AllocError> {
     let token = script.token_at(at);
-    let front = cut(script.bytes, 0, at);
-    let expected = Expected::behind(alloc, front)?;
     let found = script.text(token);
-    let text = Text::new(alloc);
-    let text = if found.is_empty() {
-        text.say(b"the pickle ends, where ")?
-    } else {
-        text.say(b"found ")?.quote(found)?.say(b", where ")?
-    };
-    let text = say_expected(alloc, text, front, expected)?.say(b" may stand")?;
-    Ok(Note {
+    let budget = Budget::new(script);
+    let front = Front::new(alloc, script, token, &budget)?;
+    let expected = Expected::behind(&front)?;
+    let sentence = sentence(found, &front, expected)?;
+    let help = help(script, token, &front, expected, &budget)?;
+    let note = Note {
         at: if found.is_empty() {
             last_end(script)
         } else {
             at
         },
         length: found.len(),
+        sentence,
+        help,
+    };
+    if budget.is_spent() {
+        return unsearched(alloc, found, note);
+    }
+    Ok(note)
+}
+
+/// The sentence with what may be instead of a token.
+fn sentence(found: &[u8], front: &Front<'_>, expected: Expected) -> Result<Vec<u8>, AllocError> {
+    let text = Text::new(front.alloc);
+    let text = if found.is_empty() {
+        text.say(b"the pickle ends, where ")?
+    } else {
+        text.say(b"found ")?.quote(found)?.say(b", where ")?
+    };
+    let text = say_expected(text, front, expected)?.say(b" may stand")?;
+    Ok(text.into_bytes())
+}
+
+/// A note at the same place, without what may be there.
+fn unsearched(alloc: Global, found: &[u8], note: Note) -> Result<Note, AllocError> {
+    let text = Text::new(alloc);
+    let text = if found.is_empty() {
+        text.say(b"the pickle ends here, inside a declaration")?
+    } else {
+        text.say(b"found ")?
+            .quote(found)?
+            .say(b", which may not stand here")?
+    };
+    Ok(Note {
+        at: note.at,
+        length: note.length,
         sentence: text.into_bytes(),
-        help: help(alloc, script, token, expected)?,
+        help: None,
     })
 }
 
 /// What to write instead of a token.
 fn help(
-    alloc: Global,
     script: &Script<'_>,
     token: usize,
+    front: &Front<'_>,
     expected: Expected,
+    budget: &Budget,
 ) -> Result<Option<Vec<u8>>, AllocError> {
-    let text = Text::new(alloc);
+    let text = Text::new(front.alloc);
     let around = Around {
         script,
         token,
@@ -61,19 +94,19 @@ fn help(
         )?;
         return Ok(Some(text.into_bytes()));
     }
-    if let Some(help) = closing_help(alloc, script, token)? {
+    if let Some(help) = closing_help(script, token, front)? {
         return Ok(Some(help.into_bytes()));
     }
     if let Some(help) = advice(around, expected) {
         return Ok(Some(around.say(text, help.as_bytes())?.into_bytes()));
     }
-    if let Some(near) = near_word(alloc, script, token)? {
+    if let Some(near) = near_word(script, token, front, budget)? {
         let text = text.say(b"is ")?.quote(near)?.say(b" meant?")?;
         return Ok(Some(text.into_bytes()));
     }
-    match missing(alloc, script, token)? {
+    match missing(script, token, front)? {
         Some(help) => Ok(Some(help)),
-        None => left_over(alloc, script, token),
+        None => left_over(script, token, front),
     }
 }
 
@@ -95,29 +128,28 @@ fn is_behind_comments(script: &Script<'_>, token: usize) -> bool {
 
 /// What to write for a `>` or `>>` that is refused.
 fn closing_help(
-    alloc: Global,
     script: &Script<'_>,
     token: usize,
+    front: &Front<'_>,
 ) -> Result<Option<Text>, AllocError> {
-    let front = cut(script.bytes, 0, script.first(token));
     let (unit, first): (&[u8], &[u8]) = match script.text(token) {
         b">" => (b", B >", b""),
         b">>" => (b">, B >", b">"),
         _ => return Ok(None),
     };
-    if goes_on(alloc, front, unit)? {
-        let text = Text::new(alloc).say(b"an offset has a unit: write `")?;
+    if front.goes_on(unit)? {
+        let text = Text::new(front.alloc).say(b"an offset has a unit: write `")?;
         let text = text.show(script.slice(offset_before(script, token)))?;
         return Ok(Some(text.say(first)?.say(b",B>`")?));
     }
-    let parted = Text::new(alloc).say(b"> > ")?;
+    let parted = Text::new(front.alloc).say(b"> > ")?;
     let parted = parted
         .say(script.text(token.saturating_add(1)))?
         .into_bytes();
-    if first.is_empty() || !goes_on(alloc, front, parted.as_slice())? {
+    if first.is_empty() || !front.goes_on(parted.as_slice())? {
         return Ok(None);
     }
-    Ok(Some(Text::new(alloc).say(b"part the two `>` by a blank")?))
+    Ok(Some(Text::new(front.alloc).say(b"part the two `>` by a blank")?))
 }
 
 /// The tokens from the last `offset<` before a token on.
@@ -133,9 +165,9 @@ fn offset_before(script: &Script<'_>, token: usize) -> Part {
 
 /// The help for a sign without which the pickle goes on.
 fn left_over(
-    alloc: Global,
     script: &Script<'_>,
     token: usize,
+    front: &Front<'_>,
 ) -> Result<Option<Vec<u8>>, AllocError> {
     let found = script.text(token);
     let less: &[u8] = match found {
@@ -143,15 +175,14 @@ fn left_over(
         b">>" => b"> ",
         _ => return Ok(None),
     };
-    let front = cut(script.bytes, 0, script.first(token));
-    let text = Text::new(alloc)
+    let text = Text::new(front.alloc)
         .say(less)?
         .say(script.text(token.saturating_add(1)))?
         .into_bytes();
-    if !goes_on(alloc, front, text.as_slice())? {
+    if !front.goes_on(text.as_slice())? {
         return Ok(None);
     }
-    let text = Text::new(alloc).say(b"leave out ")?;
+    let text = Text::new(front.alloc).say(b"leave out ")?;
     let text = if less.is_empty() {
         text.say(b"this ")?.quote(found)?
     } else {
@@ -173,40 +204,43 @@ pub fn opening(script: &Script<'_>, token: usize) -> usize {
 
 /// The reserved word that is near to the token, or to the one before it, if the pickle can go on with it.
 fn near_word(
-    alloc: Global,
     script: &Script<'_>,
     token: usize,
+    front: &Front<'_>,
+    budget: &Budget,
 ) -> Result<Option<&'static [u8]>, AllocError> {
-    let own = near_from(alloc, script, token, b"")?;
+    let own = near_from(script, token, front, b"")?;
     if own.is_some() {
         return Ok(own);
     }
     match token.checked_sub(1) {
-        Some(before) => near_from(alloc, script, before, script.text(token)),
+        Some(before) => {
+            let shorter = Front::new(front.alloc, script, before, budget)?;
+            near_from(script, before, &shorter, script.text(token))
+        }
         None => Ok(None),
     }
 }
 
-/// The reserved word that is near to a token, if the pickle can go on with it and then with `behind`.
+/// The reserved word that is near to a token, if the front goes on with it and then with `behind`.
 fn near_from(
-    alloc: Global,
     script: &Script<'_>,
     token: usize,
+    front: &Front<'_>,
     behind: &[u8],
 ) -> Result<Option<&'static [u8]>, AllocError> {
     if !script.is_name(token) {
         return Ok(None);
     }
-    let Some(near) = nearest(alloc, script.text(token), RESERVED.as_slice())? else {
+    let Some(near) = nearest(front.alloc, script.text(token), RESERVED.as_slice())? else {
         return Ok(None);
     };
-    let text = Text::new(alloc)
+    let text = Text::new(front.alloc)
         .say(near)?
         .say(b" ")?
         .say(behind)?
         .into_bytes();
-    let front = cut(script.bytes, 0, script.first(token));
-    if goes_on(alloc, front, text.as_slice())? {
+    if front.goes_on(text.as_slice())? {
         return Ok(Some(near));
     }
     Ok(None)
@@ -222,9 +256,9 @@ fn last_end(script: &Script<'_>) -> usize {
 
 /// The note for a sign that is missing before a token that begins a line or closes something, or at the end.
 fn missing(
-    alloc: Global,
     script: &Script<'_>,
     token: usize,
+    front: &Front<'_>,
 ) -> Result<Option<Vec<u8>>, AllocError> {
     let Some(before) = token.checked_sub(1) else {
         return Ok(None);
@@ -235,10 +269,9 @@ fn missing(
     if !between.contains(&b'\n') && !closing {
         return Ok(None);
     }
-    let front = cut(script.bytes, 0, script.first(token));
-    match missing_sign(alloc, front, found)? {
+    match missing_sign(front, found)? {
         Some(sign) => {
-            let text = Text::new(alloc)
+            let text = Text::new(front.alloc)
                 .say(b"is a ")?
                 .quote(sign)?
                 .say(b" missing behind ")?;
@@ -250,14 +283,10 @@ fn missing(
 }
 
 /// The closing sign that may be after the start of a pickle, and before a token.
-fn missing_sign(
-    alloc: Global,
-    front: &[u8],
-    found: &[u8],
-) -> Result<Option<&'static [u8]>, AllocError> {
+fn missing_sign(front: &Front<'_>, found: &[u8]) -> Result<Option<&'static [u8]>, AllocError> {
     for sign in CLOSING {
-        let text = Text::new(alloc).say(sign)?.say(b" ")?.say(found)?;
-        if goes_on(alloc, front, text.into_bytes().as_slice())? {
+        let text = Text::new(front.alloc).say(sign)?.say(b" ")?.say(found)?;
+        if front.goes_on(text.into_bytes().as_slice())? {
             return Ok(Some(sign));
         }
     }

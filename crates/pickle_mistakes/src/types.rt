@@ -1,7 +1,8 @@
 //! Sentences about types that the type checker refuses.
 
+use crate::budget::Budget;
 use crate::clause::{Finding, clause_finding};
-use crate::context::{brace_around, integral_brace};
+use crate::context::{Declared, brace_around, integral_brace};
 use crate::foreign::of_foreign;
 use crate::names::last_type;
 use crate::near::nearest;
@@ -50,12 +51,32 @@ fn finding(
     if kind == FaultKind::DuplicateType {
         return declared_twice(alloc, script, name);
     }
-    match locate(alloc, script, kind, whole)? {
-        Located::Body(form, probe) => of_body(alloc, script, name, form, &probe),
-        Located::Base(base, probe) => of_base(alloc, script, base, &probe),
-        Located::Field(parts, probe) => of_field(alloc, script, &parts, &probe),
-        Located::Clause(clause) => clause_finding(alloc, script, &clause),
+    let budget = Budget::new(script);
+    let declared = Declared::new(alloc, script, &budget, kind, whole)?;
+    let located = locate(&declared)?;
+    if budget.is_spent() {
+        return unsearched(alloc, kind, name);
     }
+    let part = located.part();
+    let finding = match located {
+        Located::Body(form, probe) => of_body(alloc, script, name, form, &probe)?,
+        Located::Base(base, probe) => of_base(alloc, script, base, &probe)?,
+        Located::Field(parts, probe) => of_field(alloc, script, &parts, &probe)?,
+        Located::Clause(clause) => clause_finding(&declared, &clause)?,
+    };
+    if budget.is_spent() {
+        return unsearched(alloc, kind, part);
+    }
+    Ok(finding)
+}
+
+/// The finding for a part whose fault isn't searched any further: the rule that it breaks.
+fn unsearched(alloc: Global, kind: FaultKind, part: Part) -> Result<Finding, AllocError> {
+    Ok(Finding {
+        part,
+        sentence: Text::new(alloc).say(rule_of(kind).as_bytes())?.into_bytes(),
+        help: None,
+    })
 }
 
 /// The finding for a declared name that is declared before.
@@ -99,7 +120,7 @@ fn of_body(
     script: &Script<'_>,
     name: Part,
     form: Part,
-    probe: &Probe,
+    probe: &Probe<'_>,
 ) -> Result<Finding, AllocError> {
     let text = Text::new(alloc);
     let (part, text, help) = match probe.kind {
@@ -159,7 +180,7 @@ fn integral_reference(script: &Script<'_>, form: Part) -> Part {
 fn widths_help(
     script: &Script<'_>,
     form: Part,
-    probe: &Probe,
+    probe: &Probe<'_>,
 ) -> Result<Option<Vec<u8>>, AllocError> {
     let rest = Part {
         first: integral_reference(script, form).end,
@@ -183,7 +204,7 @@ fn of_base(
     alloc: Global,
     script: &Script<'_>,
     base: Part,
-    probe: &Probe,
+    probe: &Probe<'_>,
 ) -> Result<Finding, AllocError> {
     let text = Text::new(alloc);
     match probe.kind {
@@ -232,7 +253,7 @@ pub fn name_of(script: &Script<'_>, base: Part) -> Part {
 }
 
 /// The number in a type that has the fault, or all of the type.
-fn number_of(script: &Script<'_>, base: Part, probe: &Probe) -> Result<Part, AllocError> {
+fn number_of(script: &Script<'_>, base: Part, probe: &Probe<'_>) -> Result<Part, AllocError> {
     let inner = Part {
         first: base.first.saturating_add(1),
         end: base.first.saturating_add(4),
@@ -363,7 +384,7 @@ fn of_field(
     alloc: Global,
     script: &Script<'_>,
     parts: &FieldParts,
-    probe: &Probe,
+    probe: &Probe<'_>,
 ) -> Result<Finding, AllocError> {
     if probe.kind == FaultKind::DuplicateField {
         let text = Text::new(alloc).say(b"this struct or union has a field ")?;
@@ -485,7 +506,7 @@ fn integral_order_help(
 fn misplaced(
     script: &Script<'_>,
     parts: &FieldParts,
-    probe: &Probe,
+    probe: &Probe<'_>,
 ) -> Result<(Part, &'static str), AllocError> {
     let bare = Part {
         first: parts.form.first,

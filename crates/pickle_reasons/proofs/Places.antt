@@ -18,3 +18,8 @@ pub unplaced_if : {V E : Type 0} (pickle path : List ℕ) {declarations : List D
     → (items : V → List ℕ) (r : Result V E) → IfOk r (λ v. Explains pickle path (items v))
 unplaced_if pickle path accepted items (Ok v) = unplaced accepted
 unplaced_if pickle path accepted items (Err x) = tt
+
+pub told_if : {V E : Type 0} (pickle path : List ℕ) {called : List ℕ} → called ≡ called_by path → (items : V → List ℕ) (r : Result V E) → IfOk r (λ v. TellsPlace pickle called (items v))
+    → IfOk r (λ v. TellsPlace pickle (called_by path) (items v))
+told_if pickle path e items (Ok v) told = subst (λ called. TellsPlace pickle called (items v)) e told
+told_if pickle path e items (Err x) told = tt

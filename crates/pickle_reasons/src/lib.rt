@@ -2,6 +2,7 @@
 #![tactic(auto)]
 
 ghost use Rattle.std.specs.Prelude.{IfOk};
+ghost use Rattle.pickle_script.specs.Places.{TellsPlace, called_by};
 ghost use Rattle.pickle_reasons.specs.Places.{Explains};
 
 use pickle_mistakes::lexical::lexical_note;
@@ -30,12 +31,24 @@ pub fn explanation(
             Some(name) if table.find(name).is_none() => no_such_type(alloc, pickle, name),
             _ => Ok(Vec::new(alloc)),
         },
-        Err(refusal) => {
-            let called = Text::new(alloc).show(path)?.into_bytes();
-            let note = note_of(alloc, pickle, refusal)?;
-            note_text(alloc, pickle, called.as_slice(), &note)
-        }
+        Err(refusal) => refusal_explanation(alloc, pickle, path, refusal),
     }
+}
+
+/// The lines that say why a pickle is refused, if it is refused so. For another refusal they are about some place of it.
+/// `path` is the path of the pickle. Bytes outside 0x20 to 0x7e are escaped in these lines. Their cost is bounded by a
+/// few checks of the pickle.
+pub fn refusal_explanation(
+    alloc: Global,
+    pickle: &[u8],
+    path: &[u8],
+    refusal: Refusal,
+) -> Result<Vec<u8>, AllocError>
+    ensures { IfOk result (λ text. TellsPlace pickle.now (called_by path.now) text.items) }
+{
+    let called = Text::new(alloc).show(path)?.into_bytes();
+    let note = note_of(alloc, pickle, refusal)?;
+    note_text(alloc, pickle, called.as_slice(), &note)
 }
 
 /// The note about a refusal.

@@ -1,6 +1,6 @@
-use Rattle.std.proofs.Common.{◌∙◌, ap}
+use Rattle.std.proofs.Common.{refl}
 use Rattle.pickle_reasons.specs.Places.{unplaced}
-use Rattle.pickle_reasons.proofs.Places.{called_is, placed_if, unplaced_if}
+use Rattle.pickle_reasons.proofs.Places.{placed_if, unplaced_if}
 use Rattle.pickle_reasons.proofs.explanation.Goals as goal
 
 pub returns-in-Some : goal.returns-in-Some
@@ -10,5 +10,4 @@ pub returns-in-Ok : goal.returns-in-Ok
 returns-in-Ok c = unplaced c.in-Ok.ensures.ok.1
 
 pub returns : goal.returns
-returns c =
-    placed_if c.args.pickle.now c.args.path.now (called_is c.args.path.now (c.as_slice.ensures.value ∙ ap (λ v. v.items) c.into_bytes-called.ensures) c.in_ok-show-in-Err.ensures.shown c.new-in-Err.ensures) (λ v. v.items) c.note_text.result c.note_text.ensures
+returns c = placed_if c.args.pickle.now c.args.path.now refl (λ v. v.items) c.refusal_explanation.result c.refusal_explanation.ensures

@@ -1,0 +1,16 @@
+//! A sentence about some tokens.
+
+use pickle_notes::note::Note;
+use pickle_script::script::{Part, Script};
+use pickle_script::text::Text;
+
+/// A note about some tokens. `help` says what to write instead.
+pub fn note_about(script: &Script<'_>, part: Part, sentence: Text, help: Text) -> Note {
+    let (at, behind) = script.bounds(part);
+    Note {
+        at,
+        length: behind.saturating_sub(at),
+        sentence: sentence.into_bytes(),
+        help: Some(help.into_bytes()),
+    }
+}
