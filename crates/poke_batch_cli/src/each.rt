@@ -2,30 +2,32 @@
 ghost use Rattle.pickle_types.specs.TypeTable.{IsInTable};
 ghost use Rattle.poke_batch.specs.RunsUnder.{IsStoreOf};
 
-use crate::Line;
+use crate::ending::Ending;
 use crate::files::open_space;
 use crate::mapping::Mapping;
 use crate::mappings::is_mapped;
+use crate::progress::Progress;
 use bit_space::{Memory, OpenFault, Space};
+use command_words::request::FileNames;
 use mapping_reasons::reasons_in;
 use pickle_types::table::{Table, TypeId};
-use poke_batch::accept::{accept, tell_refusal};
+use poke_batch::accept::accept;
 use poke_batch::each::{Kept, run_file};
+use poke_batch::fault_form::FaultForm;
 use poke_batch::file_line::{put_file_line, put_name};
+use poke_batch::outcome::{Failure, Outcome};
 use poke_batch::status::Status;
-use poke_batch::tell::{fail, refuse};
 use poke_batch::terms::Terms;
-use poke_batch::words::FileNames;
 use poke_batch::write::{WriteFault, put};
 use std::alloc::Global;
 use std::fs::File;
 use std::io::{BufRead, BufReader, ErrorKind, Input, Read, Write};
-use std::rt::Files;
+use std::rt::{Clock, Files};
 use thiserror::Error;
 
 /// Why a list of files wasn't finished. It displays as its line.
 #[derive(Clone, Copy, Debug, Drop, PartialEq, Eq, Error)]
-#[error("fault {}", self.name())]
+#[error("fault {}", self.failure().name())]
 enum ListFault {
     /// The list couldn't be opened or read.
     Read,
@@ -36,12 +38,12 @@ enum ListFault {
 }
 
 impl ListFault {
-    /// The name that its line prints.
-    fn name(self) -> &'static str {
+    /// What failed.
+    fn failure(self) -> Failure {
         match self {
-            ListFault::Read => "Read",
-            ListFault::Memory => "Memory",
-            ListFault::Write => WriteFault.name(),
+            ListFault::Read => Failure::Read,
+            ListFault::Memory => Failure::Memory,
+            ListFault::Write => Failure::Write,
         }
     }
 }
@@ -58,7 +60,7 @@ impl From<WriteFault> for ListFault {
     }
 }
 
-/// Where the reasons of files are written.
+/// What is written about files beside their lines.
 #[derive(Drop)]
 pub struct WhyFiles<'a, A: Write> {
     pub aside: &'a mut A,
@@ -66,6 +68,30 @@ pub struct WhyFiles<'a, A: Write> {
     pub path: &'a [u8],
     /// Whether reasons are requested.
     pub asked: bool,
+    /// How many files are done, if that is shown.
+    pub progress: Option<Progress>,
+}
+
+impl<A: Write> WhyFiles<'_, A> {
+    // Writes how many files are done, if that is shown and wasn't written a moment ago.
+    fn show_progress<R: Clock>(&mut self, rt: &R) {
+        if let Some(progress) = &mut self.progress {
+            progress.show(rt, self.aside);
+        }
+    }
+
+    // Clears the line of the progress, so that other lines don't mix with it.
+    fn clear_progress(&mut self) {
+        if let Some(progress) = &mut self.progress {
+            progress.clear(self.aside);
+        }
+    }
+
+    fn count_file(&mut self) {
+        if let Some(progress) = &mut self.progress {
+            progress.count();
+        }
+    }
 }
 
 /// The options of a run over many files, apart from those of each mapping.
@@ -73,8 +99,25 @@ pub struct WhyFiles<'a, A: Write> {
 pub struct EachOptions<'a> {
     /// What the value of each file must meet, and how it looks.
     pub terms: &'a Terms,
+    /// How the refusal or fault of a file is written.
+    pub faults: FaultForm,
     /// Whether the line of a file is written before the next file is mapped.
     pub flush: bool,
+    /// Whether standard error shows how many files are done.
+    pub progress: bool,
+}
+
+impl EachOptions<'_> {
+    /// How many files are done before the first of them, if that is shown.
+    pub fn progress_over(&self, files: &FileNames) -> Option<Progress> {
+        if !self.progress {
+            return None;
+        }
+        match files {
+            FileNames::Words(names) => Some(Progress::new(Some(names.len()))),
+            FileNames::EndedByZero(_) => Some(Progress::new(None)),
+        }
+    }
 }
 
 /// What the mapping of every file uses.
@@ -85,11 +128,12 @@ struct Typed<'a> {
     id: TypeId,
     mapping: &'a Mapping<'a>,
     terms: &'a Terms,
+    faults: FaultForm,
     flush: bool,
 }
 
-/// Maps a type over one file after another, and writes a line for each. Returns the greatest exit status of all.
-pub fn run_each<R: Files<File = File> + Input + AllocGlobal, A: Write, O: Write, E: Write>(
+/// Maps a type over one file after another, and writes a line for each. Ends with the greatest exit status of all.
+pub fn run_each<R: Files<File = File> + Input + Clock + AllocGlobal, A: Write, O: Write>(
     rt: &R,
     pickle: &[u8],
     mapping: &Mapping<'_>,
@@ -97,14 +141,13 @@ pub fn run_each<R: Files<File = File> + Input + AllocGlobal, A: Write, O: Write,
     files: &FileNames,
     why: &mut WhyFiles<'_, A>,
     out: &mut O,
-    err: &mut E,
-) -> Status {
+) -> Ending {
     let table = match accept(rt.alloc(), pickle) {
         Ok(table) => table,
-        Err(refusal) => return tell_refusal(err, refusal),
+        Err(refusal) => return Ending::Run(Outcome::Refused(refusal)),
     };
     let Some(id) = table.find(mapping.name) else {
-        return refuse(err, b"NoSuchType");
+        return Ending::Run(Outcome::NoSuchType);
     };
     let typed = Typed {
         pickle,
@@ -112,15 +155,18 @@ pub fn run_each<R: Files<File = File> + Input + AllocGlobal, A: Write, O: Write,
         id,
         mapping,
         terms: options.terms,
+        faults: options.faults,
         flush: options.flush,
     };
-    match run_files(rt, typed, files, why, out) {
-        Ok(status) => status,
-        Err(fault) => fail(err, fault.name().as_bytes()),
+    let ended = run_files(rt, typed, files, why, out);
+    why.clear_progress();
+    match ended {
+        Ok(status) => Ending::Silent(status),
+        Err(fault) => Ending::Run(Outcome::Failed(fault.failure())),
     }
 }
 
-fn run_files<R: Files<File = File> + Input + AllocGlobal, A: Write, O: Write>(
+fn run_files<R: Files<File = File> + Input + Clock + AllocGlobal, A: Write, O: Write>(
     rt: &R,
     typed: Typed<'_>,
     files: &FileNames,
@@ -142,7 +188,7 @@ fn run_files<R: Files<File = File> + Input + AllocGlobal, A: Write, O: Write>(
 }
 
 // Maps a type over the files that the arguments name.
-fn run_words<R: Files<File = File> + Input + AllocGlobal, A: Write, O: Write>(
+fn run_words<R: Files<File = File> + Input + Clock + AllocGlobal, A: Write, O: Write>(
     rt: &R,
     typed: Typed<'_>,
     names: &[String],
@@ -161,7 +207,12 @@ fn run_words<R: Files<File = File> + Input + AllocGlobal, A: Write, O: Write>(
 }
 
 // Maps a type over the files that a list names. Each name ends with a byte 0, which the last may lack.
-fn run_list<R: Files<File = File> + Input + AllocGlobal, L: Read + Drop, A: Write, O: Write>(
+fn run_list<
+    R: Files<File = File> + Input + Clock + AllocGlobal,
+    L: Read + Drop,
+    A: Write,
+    O: Write,
+>(
     rt: &R,
     typed: Typed<'_>,
     list: L,
@@ -181,6 +232,7 @@ fn run_list<R: Files<File = File> + Input + AllocGlobal, L: Read + Drop, A: Writ
         // Nothing that is finished waits for the rest of the list.
         if !list.buffer().contains(&0) {
             flush(out)?;
+            why.show_progress(rt);
         }
         if !read_name(&mut list, &mut name)? {
             break;
@@ -208,7 +260,7 @@ fn read_name<L: BufRead>(list: &mut L, name: &mut Vec<u8>) -> Result<bool, ListF
 }
 
 // Maps a type over a file, and writes its line. A file that can't be opened has a line too.
-fn run_name<R: Files<File = File> + AllocGlobal, A: Write, O: Write>(
+fn run_name<R: Files<File = File> + Clock + AllocGlobal, A: Write, O: Write>(
     rt: &R,
     typed: Typed<'_>,
     kept: &mut Kept,
@@ -220,22 +272,24 @@ fn run_name<R: Files<File = File> + AllocGlobal, A: Write, O: Write>(
     requires store { IsStoreOf typed.terms.now.most_slots kept.old.store }
     ensures store { IsStoreOf typed.entry.terms.now.most_slots kept.new.store }
 {
+    why.show_progress(rt);
     let opened = match str::from_utf8(name) {
-        Ok(path) => open_space(rt, path),
+        Ok(path) => open_space(rt, path, typed.mapping.spool),
         Err(_) => Err(OpenFault::NotOpened.into()),
     };
     let status = match opened {
         Ok(mut space) => run_space(rt.alloc(), typed, kept, name, &mut space, why, out)?,
         Err(fault) => {
-            let mut line = Line::new();
-            let status = fail(&mut line, fault.name().as_bytes());
-            put_file_line(out, name, status, line.as_slice())?;
-            status
+            let outcome = Outcome::Failed(fault.failure());
+            put_file_line(out, name, outcome, typed.faults, b"")?;
+            outcome.status()
         }
     };
     if typed.flush {
+        why.clear_progress();
         flush(out)?;
     }
+    why.count_file();
     Ok(status)
 }
 
@@ -266,20 +320,22 @@ fn run_space<S: Space, A: Write, O: Write>(
         id,
         mapping,
         terms,
+        faults,
         ..
     } = typed;
     let Some(ask) = &mapping.ask_in(space) else {
-        let mut line = Line::new();
-        let status = refuse(&mut line, b"offset");
-        put_file_line(out, name, status, line.as_slice())?;
-        return Ok(status);
+        put_file_line(out, name, Outcome::Offset, faults, b"")?;
+        return Ok(Outcome::Offset.status());
     };
-    let status = run_file(table, id, ask, terms, kept, name, space, out)?;
+    let status = run_file(table, id, ask, terms, faults, kept, name, space, out)?;
     if why.asked && is_mapped(status) {
-        let line = kept.line();
+        let outcome = kept.outcome();
         let path = why.path;
-        if let Ok(lines) = reasons_in(alloc, pickle, path, table, id, ask, terms, space, line) {
-            put_reasons(alloc, why.aside, name, lines.as_slice(), out)?;
+        if let Ok(reasons) = reasons_in(
+            alloc, pickle, path, table, id, ask, terms, space, outcome,
+        ) {
+            why.clear_progress();
+            put_reasons(alloc, why.aside, name, reasons.text.as_slice(), out)?;
         }
     }
     Ok(status)

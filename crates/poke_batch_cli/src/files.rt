@@ -1,7 +1,9 @@
 //! The files that a job names.
-use bit_space::{FileSpace, Memory, OpenFault, Paged, Space};
+use bit_space::{FileSpace, MemSpace, Memory, OpenFault, Paged, Space};
 use poke_batch::DumpFault;
+use poke_batch::outcome::Failure;
 use poke_batch::pickle::{PickleFault, read_pickle};
+use spool::{Source, StreamFault, read_stream};
 use std::alloc::AllocError;
 use std::fs::{self, File};
 use std::io::Input;
@@ -11,12 +13,14 @@ use thiserror::Error;
 
 /// What failed with the files of a job. It displays as its line.
 #[derive(Clone, Copy, Debug, Drop, PartialEq, Eq, Error)]
-#[error("fault {}", self.name())]
+#[error("fault {}", self.failure().name())]
 pub enum FileFault {
     /// The pickle couldn't be opened or read.
     Pickle(PickleFault),
     /// The file couldn't be opened.
     Space(OpenFault),
+    /// The file has no length, and couldn't be read into memory.
+    Stream(StreamFault),
     /// The dump of the file ended early.
     Dump(DumpFault),
     /// An allocation failed.
@@ -24,13 +28,21 @@ pub enum FileFault {
 }
 
 impl FileFault {
-    /// The name that its line prints.
-    pub fn name(self) -> &'static str {
+    /// What failed.
+    pub fn failure(self) -> Failure {
         match self {
-            FileFault::Pickle(fault) => fault.name(),
-            FileFault::Space(fault) => fault.name(),
-            FileFault::Dump(fault) => fault.name(),
-            FileFault::Memory => "Memory",
+            FileFault::Pickle(PickleFault::Read) => Failure::Read,
+            FileFault::Space(OpenFault::NotOpened) => Failure::Open,
+            FileFault::Space(OpenFault::TooLong) | FileFault::Stream(StreamFault::TooLong) => {
+                Failure::TooLong
+            }
+            FileFault::Dump(DumpFault::Device) | FileFault::Stream(StreamFault::Device) => {
+                Failure::Device
+            }
+            FileFault::Dump(DumpFault::Write) => Failure::Write,
+            FileFault::Pickle(PickleFault::Memory)
+            | FileFault::Stream(StreamFault::Memory)
+            | FileFault::Memory => Failure::Memory,
         }
     }
 }
@@ -44,6 +56,12 @@ impl From<PickleFault> for FileFault {
 impl From<OpenFault> for FileFault {
     fn from(fault: OpenFault) -> FileFault {
         FileFault::Space(fault)
+    }
+}
+
+impl From<StreamFault> for FileFault {
+    fn from(fault: StreamFault) -> FileFault {
+        FileFault::Stream(fault)
     }
 }
 
@@ -79,16 +97,47 @@ pub fn read_pickle_of<R: Files + Input + AllocGlobal>(
     }
 }
 
-/// Opens a file, and reads it through pages. A file of /proc is opened only if it says its length.
+/// Opens a file, and reads it through pages. With `spool` a file that has no length is read into memory first, if it has
+/// at most so many bytes; without it such a file isn't opened.
 pub fn open_space<R: Files<File = File> + AllocGlobal>(
     rt: &R,
     path: &str,
-) -> Result<Paged<FileSpace>, FileFault> {
+    spool: Option<u64>,
+) -> Result<Paged<Source>, FileFault> {
+    let source = match (open_file(rt, path), spool) {
+        (Ok(space), _) => Source::File(space),
+        (Err(OpenFault::NotOpened), Some(most)) => Source::Memory(open_stream(rt, path, most)?),
+        (Err(fault), _) => return Err(fault.into()),
+    };
+    Ok(Paged::new(rt.alloc(), source)?)
+}
+
+// Opens a file that has a length. A file of /proc is opened only if it says its length.
+fn open_file<R: Files<File = File>>(rt: &R, path: &str) -> Result<FileSpace, OpenFault> {
     let space = FileSpace::open(rt, path)?;
     if space.len() == 0 && is_in_proc(rt, path) {
-        return Err(OpenFault::NotOpened.into());
+        return Err(OpenFault::NotOpened);
     }
-    Ok(Paged::new(rt.alloc(), space)?)
+    Ok(space)
+}
+
+// Reads a file that has no length into memory. That of a FIFO waits for a writer.
+fn open_stream<R: Files<File = File> + AllocGlobal>(
+    rt: &R,
+    path: &str,
+    most: u64,
+) -> Result<MemSpace, FileFault> {
+    let mut file = open_readable(rt, path)?;
+    Ok(read_stream(rt.alloc(), &mut file, most)?)
+}
+
+// Opens a file that can be read, whatever its kind. A directory can't.
+fn open_readable<R: Files<File = File>>(rt: &R, path: &str) -> Result<File, OpenFault> {
+    let file = File::open(rt, path)?;
+    if file.metadata()?.file_type().is_dir() {
+        return Err(OpenFault::NotOpened);
+    }
+    Ok(file)
 }
 
 // Whether a file is in /proc. The system makes those up as they are read, and most of them say that they are empty.

@@ -1,10 +1,9 @@
 //! The list of the installed pickles, from the heads of their files.
-use crate::Line;
 use crate::files::{FileFault, read_pickle_of};
 use crate::installed::{path_in, pickles_folder, pickles_in};
 use poke_batch::file_line::put_name;
+use poke_batch::outcome::Outcome;
 use poke_batch::pickle::PickleFault;
-use poke_batch::status::Status;
 use poke_batch::tell::answer;
 use poke_batch::write::{WriteFault, put};
 use std::io::{Input, Write};
@@ -26,18 +25,17 @@ struct Head<'a> {
 pub fn list_formats<R: Files + Env + Input + AllocGlobal + Clone + Drop, O: Write>(
     rt: &R,
     out: &mut O,
-    err: &mut Line,
-) -> Result<Status, FileFault> {
+) -> Result<Outcome, FileFault> {
     let folder = pickles_folder(rt)?.ok_or(PickleFault::Read)?;
     for name in &pickles_in(rt, folder.as_str())? {
         let path = path_in(rt.alloc(), folder.as_str(), name.as_str())?;
         let pickle = read_pickle_of(rt, path.as_str())?;
         let written = put_format(out, name.as_bytes(), head_of(name.as_bytes(), &pickle));
         if written.is_err() {
-            return Ok(answer(written, err));
+            return Ok(answer(written));
         }
     }
-    Ok(Status::Done)
+    Ok(Outcome::Done)
 }
 
 fn put_format<O: Write>(out: &mut O, name: &[u8], head: Head<'_>) -> Result<(), WriteFault> {

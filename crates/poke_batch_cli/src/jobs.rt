@@ -1,56 +1,58 @@
 //! Each job, over its files and a writer for its answer.
-use crate::Line;
 use crate::dumps::{Range, dump_file};
+use crate::ending::Ending;
 use crate::files::FileFault;
 use crate::formats::list_formats;
 use crate::installed::tell_missing;
-use crate::mappings::run_mapping;
+use crate::mapping::Mapping;
+use crate::mappings::{map_file, run_request};
 use crate::pickles::{bound_text, bound_type, check_pickle, tell_types};
 use crate::why::Why;
+use command_words::request::Request;
+use poke_batch::outcome::{Failure, Outcome};
 use poke_batch::pickle::PickleFault;
 use poke_batch::status::Status;
-use poke_batch::tell::fail;
+use poke_batch::terms::Terms;
 use poke_batch::words::{Asked, Job};
-use poke_batch::write::WriteFault;
 use std::fs::File;
 use std::io::{BufWriter, Input, Write};
-use std::rt::{Env, Files};
+use std::rt::{Clock, Env, Files};
 
 /// The bytes of an answer that are gathered before they are written.
 const GATHERED: usize = 65_536;
 
-/// Does a job, and returns its exit status once the whole answer is written to `out`. Its line goes to `err`. If
-/// reasons are requested they go to `reason`; those of one file among many go to `aside`, after the file's line.
+/// Does a job, and returns how it ended once the whole answer is written to `out`. If reasons are requested they go to
+/// `reason`; those of one file among many go to `aside`, after the file's line.
 pub fn do_job<
-    R: Files<File = File> + Env + Input + AllocGlobal + Clone + Drop,
+    R: Files<File = File> + Env + Input + Clock + AllocGlobal + Clone + Drop,
     O: Write + Drop,
     A: Write,
->(rt: &R, asked: Asked, out: O, err: &mut Line, aside: &mut A, reason: &mut Vec<u8>) -> Status {
+>(rt: &R, asked: Asked, out: O, aside: &mut A, reason: &mut Vec<u8>) -> Ending {
     let Ok(mut out) = BufWriter::with_capacity(rt.alloc(), GATHERED, out) else {
-        return fail(err, b"Memory");
+        return Ending::Run(Outcome::Failed(Failure::Memory));
     };
     let mut why = Why {
         text: reason,
         asked: asked.why,
     };
-    let status = match run_job(rt, &asked, &mut out, err, aside, &mut why) {
-        Ok(status) => status,
+    let ending = match run_job(rt, &asked, &mut out, aside, &mut why) {
+        Ok(ending) => ending,
         Err(fault) => {
             explain_fault(rt, &asked.job, fault, &mut why);
-            fail(err, fault.name().as_bytes())
+            Ending::Run(Outcome::Failed(fault.failure()))
         }
     };
     if out.flush().is_ok() {
-        return status;
+        return ending;
     }
     // Bytes that the writer didn't accept aren't offered to it again.
     let (_writer, _rest) = out.into_parts();
     reason.clear();
     // One line is printed: that of the first failure, if it has one.
-    if status == Status::Outside && !err.is_empty() {
-        return status;
+    match ending {
+        Ending::Run(outcome) if outcome.status() == Status::Outside => ending,
+        _ => Ending::Run(Outcome::Failed(Failure::Write)),
     }
-    fail(err, WriteFault.name().as_bytes())
 }
 
 // Explains why no pickle was read, if that is requested. If an allocation fails there is only the line.
@@ -74,9 +76,7 @@ fn explain_fault<R: Files<File = File> + Env + AllocGlobal + Clone + Drop>(
 fn pickle_of(job: &Job) -> Option<&str> {
     match job {
         Job::Map { pickle, .. }
-        | Job::MapUnder { pickle, .. }
-        | Job::Show { pickle, .. }
-        | Job::Each { pickle, .. }
+        | Job::Request(Request { pickle, .. })
         | Job::Bound { pickle, .. }
         | Job::BoundText { pickle, .. }
         | Job::Check { pickle }
@@ -85,44 +85,53 @@ fn pickle_of(job: &Job) -> Option<&str> {
     }
 }
 
-fn run_job<R: Files<File = File> + Env + Input + AllocGlobal + Clone + Drop, O: Write, A: Write>(
+fn run_job<
+    R: Files<File = File> + Env + Input + Clock + AllocGlobal + Clone + Drop,
+    O: Write,
+    A: Write,
+>(
     rt: &R,
     asked: &Asked,
     out: &mut O,
-    err: &mut Line,
     aside: &mut A,
     why: &mut Why<'_>,
-) -> Result<Status, FileFault> {
-    let job = &asked.job;
-    match job {
+) -> Result<Ending, FileFault> {
+    let outcome = match &asked.job {
+        Job::Map {
+            at,
+            order,
+            limit,
+            mode,
+            pickle,
+            name,
+            file,
+        } => {
+            let mapping = Mapping::from_bit(name, *at, *order, *limit, *mode);
+            map_file(rt, pickle, file, &mapping, &Terms::none(), out, why)?
+        }
+        Job::Request(request) => return run_request(rt, request, out, aside, why),
         Job::Bound { pickle, name, bits } => {
-            bound_type(rt, pickle, name.as_bytes(), *bits, out, err, why)
+            bound_type(rt, pickle, name.as_bytes(), *bits, out, why)?
         }
         Job::BoundText {
             pickle,
             name,
             bits,
             mode,
-            style: _,
-        } => bound_text(rt, pickle, name.as_bytes(), *bits, *mode, out, err, why),
-        Job::Check { pickle } => check_pickle(rt, pickle, out, err, why),
-        Job::Types { pickle } => tell_types(rt, pickle, out, err, why),
-        Job::Formats => list_formats(rt, out, err),
+            style,
+        } => bound_text(rt, pickle, name.as_bytes(), *bits, *style, *mode, out, why)?,
+        Job::Check { pickle } => check_pickle(rt, pickle, out, why)?,
+        Job::Types { pickle } => tell_types(rt, pickle, out, why)?,
+        Job::Formats => list_formats(rt, out)?,
         Job::Dump {
             from,
             size,
             ruler,
             file,
         } => {
-            let range = Range {
-                from: *from,
-                size: *size,
-            };
-            let tells_rest = asked.default_size;
-            dump_file(rt, file, range, *ruler, tells_rest, out, why.text)
+            let range = Range::new(*from, *size);
+            dump_file(rt, file, range, *ruler, asked.default_size, out, why.text)?
         }
-        Job::Map { .. } | Job::MapUnder { .. } | Job::Show { .. } | Job::Each { .. } => {
-            run_mapping(rt, job, out, err, aside, why)
-        }
-    }
+    };
+    Ok(Ending::Run(outcome))
 }

@@ -1,5 +1,6 @@
 //! How a job that shows a value to the eye looks.
 use command_words::color::Color;
+use command_words::request::Form;
 use poke_batch::style::Look;
 use poke_batch::words::{Asked, Job};
 use std::env;
@@ -11,10 +12,13 @@ const NO_COLOR: &str = "NO_COLOR";
 
 /// Gives a job that shows a value its look. Such a job explains a fault too.
 pub fn give_look<R: Env + AllocGlobal, O: IsTerminal>(rt: &R, out: &O, asked: &mut Asked) {
-    if let Job::Show { terms, color, .. } = &mut asked.job {
-        terms.look = Some(Look {
-            elements: terms.style.elements,
-            dim: has_colors(rt, out, *color),
+    let Job::Request(request) = &mut asked.job else {
+        return;
+    };
+    if let Form::Shown(color) = request.form {
+        request.terms.look = Some(Look {
+            elements: request.terms.style.elements,
+            dim: has_colors(rt, out, color),
         });
         asked.why = true;
     }

@@ -3,6 +3,7 @@
 
 mod dumps;
 mod each;
+mod ending;
 mod files;
 mod formats;
 mod given;
@@ -12,15 +13,20 @@ mod looks;
 mod mapping;
 mod mappings;
 mod pickles;
+mod progress;
 mod why;
 
 use arrayvec::ArrayVec;
+use command_words::request::{FileNames, Over};
+use ending::Ending;
 use given::given_words;
 use jobs::do_job;
 use looks::give_look;
+use poke_batch::fault_form::FaultForm;
+use poke_batch::outcome::{Failure, Outcome};
 use poke_batch::status::Status;
-use poke_batch::tell::{answer, fail, refuse};
-use poke_batch::words::{Asked, FileNames, Job, WordFault, read_asked, read_words};
+use poke_batch::tell::answer;
+use poke_batch::words::{Asked, Job, WordFault, read_asked, read_words};
 use poke_batch::write::put;
 use std::alloc::{AllocError, Global};
 use std::env;
@@ -35,23 +41,24 @@ const INPUT_TWICE: &str =
 /// The environment variable that is 1 if reasons are always requested.
 const WHY_VARIABLE: &str = "POKE_BATCH_WHY";
 
-/// The line that a job prints to standard error. The longest has 62 bytes.
+/// The line that a job prints to standard error. The longest has 68 bytes.
 pub type Line = ArrayVec<u8, 128>;
 
 fn main(rt: HostRuntime) -> ExitCode {
-    let mut line = Line::new();
     let mut reason = Vec::new(rt.alloc());
-    let status = match read_job(&rt) {
-        Ok(asked) => do_job(
-            &rt,
-            asked,
-            rt.stdout(),
-            &mut line,
-            &mut rt.stderr(),
-            &mut reason,
+    let (faults, ending) = match read_job(&rt) {
+        Ok(asked) => (
+            faults_in(&asked.job),
+            do_job(&rt, asked, rt.stdout(), &mut rt.stderr(), &mut reason),
         ),
-        Err(fault) => tell_words(fault, &mut rt.stdout(), &mut rt.stderr(), &mut line),
+        Err(fault) => (
+            FaultForm::Text,
+            tell_words(fault, &mut rt.stdout(), &mut rt.stderr()),
+        ),
     };
+    // The line is written by one call, so that those of parallel runs don't mix.
+    let mut line = Line::new();
+    let status = ending.tell(faults, &mut line);
     let told = put(&mut rt.stderr(), line.as_slice());
     let status = if told.is_ok() {
         status
@@ -75,11 +82,33 @@ fn read_job(rt: &HostRuntime) -> Result<Asked, WordFault> {
     give_look(rt, &rt.stdout(), &mut asked);
     // What a dump leaves out is told to somebody at a terminal only.
     asked.default_size &= rt.stderr().is_terminal();
+    give_progress(
+        rt.stdout().is_terminal(),
+        rt.stderr().is_terminal(),
+        &mut asked.job,
+    );
     if reads_input_twice(&asked.job) {
         let text = String::from_str(rt.alloc(), INPUT_TWICE)?;
         return Err(WordFault::Usage(text));
     }
     Ok(asked)
+}
+
+// Progress is shown on a terminal only. If the lines of the files are printed there too, each is written before the next
+// file is mapped, so that none is on the line of the progress.
+fn give_progress(prints_to_terminal: bool, has_terminal: bool, job: &mut Job) {
+    let Job::Request(request) = job else {
+        return;
+    };
+    if let Over::Files {
+        flush,
+        progress,
+        ..
+    } = &mut request.over
+    {
+        *progress &= has_terminal;
+        *flush |= *progress && prints_to_terminal;
+    }
 }
 
 // Whether the environment requests reasons, as `--why` does.
@@ -90,14 +119,24 @@ fn always_explains<R: Env + AllocGlobal>(rt: &R) -> bool {
     }
 }
 
+// How a refusal or a fault of a job is written.
+fn faults_in(job: &Job) -> FaultForm {
+    match job {
+        Job::Request(request) => request.faults(),
+        _ => FaultForm::Text,
+    }
+}
+
 // Whether a job reads two things from standard input. The second would find nothing.
 fn reads_input_twice(job: &Job) -> bool {
-    match job {
-        Job::Each {
-            pickle,
-            files: FileNames::EndedByZero(list),
+    let Job::Request(request) = job else {
+        return false;
+    };
+    match &request.over {
+        Over::Files {
+            names: FileNames::EndedByZero(list),
             ..
-        } => pickle.as_str() == "-" && list.as_str() == "-",
+        } => request.pickle.as_str() == "-" && list.as_str() == "-",
         _ => false,
     }
 }
@@ -118,19 +157,14 @@ fn show_help<E: Write>(alloc: Global, err: &mut E) -> Result<(), AllocError> {
 }
 
 // Ends a run that has no job.
-fn tell_words<O: Write, E: Write>(
-    fault: WordFault,
-    out: &mut O,
-    err: &mut E,
-    line: &mut Line,
-) -> Status {
+fn tell_words<O: Write, E: Write>(fault: WordFault, out: &mut O, err: &mut E) -> Ending {
     match fault {
         WordFault::Usage(text) => match put(err, text.as_bytes()) {
-            Ok(()) => Status::Refused,
-            Err(_) => Status::Outside,
+            Ok(()) => Ending::Silent(Status::Refused),
+            Err(_) => Ending::Silent(Status::Outside),
         },
-        WordFault::Help(text) => answer(put(out, text.as_bytes()), line),
-        WordFault::Offset => refuse(line, b"offset"),
-        WordFault::Memory => fail(line, b"Memory"),
+        WordFault::Help(text) => Ending::Run(answer(put(out, text.as_bytes()))),
+        WordFault::Offset => Ending::Run(Outcome::Offset),
+        WordFault::Memory => Ending::Run(Outcome::Failed(Failure::Memory)),
     }
 }

@@ -1,188 +1,136 @@
-//! The jobs that map a type of a pickle, over one file or many.
-ghost use Rattle.poke_batch_cli.specs.Jobs.{Maps};
+//! Mappings of a type of a pickle, over one file or many.
+ghost use Rattle.std.specs.Prelude.{◌≡◌, string_bytes};
+ghost use Rattle.command_words.specs.declared.fault_form.FaultForm.{FaultForm};
+ghost use Rattle.text_forms.specs.declared.mode.Mode.{Mode};
 
-use crate::Line;
 use crate::each::{EachOptions, WhyFiles, run_each};
+use crate::ending::Ending;
 use crate::files::{FileFault, open_space, read_pickle_of};
 use crate::installed::pickle_path;
 use crate::mapping::Mapping;
 use crate::why::{Why, explain};
-use command_words::start::Start;
+use command_words::request::{FileNames, Form, Over, Request};
 use mapping_reasons::reasons;
 use poke_batch::mode::Mode;
-use poke_batch::run::run_map_under;
+use poke_batch::outcome::Outcome;
+use poke_batch::run::map_outcome;
 use poke_batch::status::Status;
-use poke_batch::tell::refuse;
 use poke_batch::terms::Terms;
-use poke_batch::words::{FileNames, Job};
+use poke_batch::write::put;
 use std::fs::File;
 use std::io::{Input, Write};
-use std::rt::{Env, Files};
+use std::rt::{Clock, Env, Files};
 
-/// Does a job that maps.
-pub fn run_mapping<R: Files<File = File> + Env + Input + AllocGlobal, O: Write, A: Write>(
+/// Maps a type as a request says.
+pub fn run_request<R: Files<File = File> + Env + Input + Clock + AllocGlobal, O: Write, A: Write>(
     rt: &R,
-    job: &Job,
+    request: &Request,
     out: &mut O,
-    err: &mut Line,
     aside: &mut A,
     why: &mut Why<'_>,
-) -> Result<Status, FileFault>
-    requires maps { Maps job.now }
-{
-    let mapping = mapping_of(job);
-    match job {
-        Job::Map { pickle, file, .. } => {
-            map_file(rt, pickle, file, &mapping, &Terms::none(), out, err, why)
+) -> Result<Ending, FileFault> {
+    let mapping = &mapping_of(request);
+    let Request {
+        terms,
+        pickle,
+        over,
+        ..
+    } = request;
+    match over {
+        Over::File(file) => {
+            let outcome = map_file(rt, pickle, file, mapping, terms, out, why)?;
+            Ok(Ending::Run(outcome))
         }
-        Job::MapUnder {
-            terms,
-            pickle,
-            file,
-            ..
-        }
-        | Job::Show {
-            terms,
-            pickle,
-            file,
-            ..
-        } => map_file(rt, pickle, file, &mapping, terms, out, err, why),
-        Job::Each {
-            terms,
+        Over::Files {
+            names,
             flush,
-            pickle,
-            files,
-            ..
+            progress,
         } => {
             let options = EachOptions {
                 terms,
+                faults: request.faults(),
                 flush: *flush,
+                progress: *progress,
             };
-            map_files(rt, pickle, files, &mapping, options, out, err, aside, why)
+            map_files(rt, pickle, names, mapping, options, out, aside, why)
         }
-        _ => unreachable!(),
     }
 }
 
-// What a job that maps gives to the mapping of a file.
-fn mapping_of(job: &Job) -> Mapping<'_>
-    requires maps { Maps job.now }
+// What a request gives to the mapping of each file. A value that is shown to the eye has no mode: its look replaces it.
+fn mapping_of(request: &Request) -> Mapping<'_>
+    ensures name { result.name.now ≡ string_bytes request.now.name }
+    ensures start { result.start ≡ request.now.start }
+    ensures options { (result.order ≡ request.now.order) × (result.limit ≡ request.now.limit) × (result.spool ≡ request.now.spool) }
+    ensures mode { (mode : Mode) (faults : FaultForm) → request.now.form ≡ Form.Printed mode faults → result.mode ≡ mode }
 {
-    match job {
-        Job::Map {
-            at,
-            order,
-            limit,
-            mode,
-            name,
-            ..
-        } => Mapping {
-            name: name.as_bytes(),
-            start: Start::Bit(*at),
-            order: *order,
-            limit: *limit,
-            mode: *mode,
-        },
-        Job::MapUnder {
-            start,
-            order,
-            limit,
-            mode,
-            name,
-            ..
-        }
-        | Job::Each {
-            start,
-            order,
-            limit,
-            mode,
-            name,
-            ..
-        } => Mapping {
-            name: name.as_bytes(),
-            start: *start,
-            order: *order,
-            limit: *limit,
-            mode: *mode,
-        },
-        // What is shown to the eye has no mode.
-        Job::Show {
-            start,
-            order,
-            limit,
-            name,
-            ..
-        } => Mapping {
-            name: name.as_bytes(),
-            start: *start,
-            order: *order,
-            limit: *limit,
-            mode: Mode::Flat,
-        },
-        _ => unreachable!(),
+    let mode = match request.form {
+        Form::Printed { mode, .. } => mode,
+        Form::Shown(_) => Mode::Flat,
+    };
+    Mapping {
+        name: request.name.as_bytes(),
+        start: request.start,
+        order: request.order,
+        limit: request.limit,
+        mode,
+        spool: request.spool,
     }
 }
 
-// Maps a type of the pickle at one path over the file at another.
-fn map_file<R: Files<File = File> + Env + Input + AllocGlobal, O: Write>(
+/// Maps a type of the pickle at one path over the file at another.
+pub fn map_file<R: Files<File = File> + Env + Input + AllocGlobal, O: Write>(
     rt: &R,
     path: &str,
     file: &str,
     mapping: &Mapping<'_>,
     terms: &Terms,
     out: &mut O,
-    err: &mut Line,
     why: &mut Why<'_>,
-) -> Result<Status, FileFault> {
+) -> Result<Outcome, FileFault> {
     let path = &pickle_path(rt, path)?;
     let pickle = read_pickle_of(rt, path)?;
-    let mut space = open_space(rt, file)?;
+    let mut space = open_space(rt, file, mapping.spool)?;
     let Some(ask) = &mapping.ask_in(&space) else {
-        return Ok(refuse(err, b"offset"));
+        return Ok(Outcome::Offset);
     };
-    let status = run_map_under(rt.alloc(), &pickle, ask, terms, &mut space, out, err);
+    let outcome = map_outcome(rt.alloc(), &pickle, ask, terms, &mut space, out);
+    let status = outcome.status();
     explain(rt.alloc(), why, status, &pickle, path, Some(ask.name));
     if why.asked && is_explained(status, terms) {
         let path = path.as_bytes();
-        let line = err.as_slice();
-        if let Ok(text) = reasons(rt.alloc(), &pickle, path, ask, terms, &mut space, line) {
-            *why.text = text;
+        if let Ok(reasons) = reasons(rt.alloc(), &pickle, path, ask, terms, &mut space, outcome) {
+            *why.text = reasons.text;
+            // What fails here fails again when the answer is flushed.
+            let _shown = put(out, reasons.met.as_slice());
         }
     }
-    Ok(status)
+    Ok(outcome)
 }
 
 // Maps a type of a pickle over many files. The reasons of each file go to `aside`.
-fn map_files<R: Files<File = File> + Env + Input + AllocGlobal, O: Write, A: Write>(
+fn map_files<R: Files<File = File> + Env + Input + Clock + AllocGlobal, O: Write, A: Write>(
     rt: &R,
     path: &str,
     files: &FileNames,
     mapping: &Mapping<'_>,
     options: EachOptions<'_>,
     out: &mut O,
-    err: &mut Line,
     aside: &mut A,
     why: &mut Why<'_>,
-) -> Result<Status, FileFault> {
+) -> Result<Ending, FileFault> {
     let path = &pickle_path(rt, path)?;
     let pickle = read_pickle_of(rt, path)?;
     let mut why_files = WhyFiles {
         aside,
         path: path.as_bytes(),
         asked: why.asked,
+        progress: options.progress_over(files),
     };
-    let status = run_each(
-        rt,
-        &pickle,
-        mapping,
-        options,
-        files,
-        &mut why_files,
-        out,
-        err,
-    );
+    let ending = run_each(rt, &pickle, mapping, options, files, &mut why_files, out);
+    let status = ending.status();
     explain(rt.alloc(), why, status, &pickle, path, Some(mapping.name));
-    Ok(status)
+    Ok(ending)
 }
 
 // Whether reasons are printed after a run with this exit status. Of a value that is shown to the eye there are none.

@@ -1,29 +1,33 @@
 //! The jobs that read a pickle alone.
-use crate::Line;
 use crate::files::{FileFault, read_pickle_of};
 use crate::installed::pickle_path;
-use crate::why::{Why, explain};
+use crate::why::{Why, explain, explain_refusal, warn};
 use poke_batch::mode::Mode;
-use poke_batch::run::{run_bound, run_check};
-use poke_batch::status::Status;
-use poke_batch::types::run_types;
+use poke_batch::outcome::Outcome;
+use poke_batch::run::{bound_outcome, check_outcome};
+use poke_batch::style::Style;
+use poke_batch::types::types_outcome;
 use std::io::{Input, Write};
 use std::rt::{Env, Files};
-use text_bounds::run::run_bound_text;
+use text_bounds::run::bound_text_outcome;
 
 /// Checks the pickle at a path.
 pub fn check_pickle<R: Files + Env + Input + AllocGlobal, O: Write>(
     rt: &R,
     path: &str,
     out: &mut O,
-    err: &mut Line,
     why: &mut Why<'_>,
-) -> Result<Status, FileFault> {
+) -> Result<Outcome, FileFault> {
     let path = &pickle_path(rt, path)?;
     let pickle = read_pickle_of(rt, path)?;
-    let status = run_check(rt.alloc(), &pickle, out, err);
-    explain(rt.alloc(), why, status, &pickle, path, None);
-    Ok(status)
+    let outcome = check_outcome(rt.alloc(), &pickle, out);
+    if why.asked {
+        match outcome {
+            Outcome::Refused(refusal) => explain_refusal(rt.alloc(), why, refusal, &pickle, path),
+            _ => warn(rt.alloc(), why, outcome.status(), &pickle, path),
+        }
+    }
+    Ok(outcome)
 }
 
 /// Writes the types that the pickle at a path declares.
@@ -31,14 +35,13 @@ pub fn tell_types<R: Files + Env + Input + AllocGlobal, O: Write>(
     rt: &R,
     path: &str,
     out: &mut O,
-    err: &mut Line,
     why: &mut Why<'_>,
-) -> Result<Status, FileFault> {
+) -> Result<Outcome, FileFault> {
     let path = &pickle_path(rt, path)?;
     let pickle = read_pickle_of(rt, path)?;
-    let status = run_types(rt.alloc(), &pickle, out, err);
-    explain(rt.alloc(), why, status, &pickle, path, None);
-    Ok(status)
+    let outcome = types_outcome(rt.alloc(), &pickle, out);
+    explain(rt.alloc(), why, outcome.status(), &pickle, path, None);
+    Ok(outcome)
 }
 
 /// Writes the bounds of a mapping of a type of the pickle at a path over `bits` bits.
@@ -48,30 +51,29 @@ pub fn bound_type<R: Files + Env + Input + AllocGlobal, O: Write>(
     name: &[u8],
     bits: u64,
     out: &mut O,
-    err: &mut Line,
     why: &mut Why<'_>,
-) -> Result<Status, FileFault> {
+) -> Result<Outcome, FileFault> {
     let path = &pickle_path(rt, path)?;
     let pickle = read_pickle_of(rt, path)?;
-    let status = run_bound(rt.alloc(), &pickle, name, bits, out, err);
-    explain(rt.alloc(), why, status, &pickle, path, Some(name));
-    Ok(status)
+    let outcome = bound_outcome(rt.alloc(), &pickle, name, bits, out);
+    explain(rt.alloc(), why, outcome.status(), &pickle, path, Some(name));
+    Ok(outcome)
 }
 
-/// Writes the same bounds, and the most bytes of the printed value in a mode, or in any mode.
+/// Writes the same bounds, and the most bytes of the printed value in a style and in a mode, or in any mode.
 pub fn bound_text<R: Files + Env + Input + AllocGlobal, O: Write>(
     rt: &R,
     path: &str,
     name: &[u8],
     bits: u64,
+    style: Style,
     mode: Option<Mode>,
     out: &mut O,
-    err: &mut Line,
     why: &mut Why<'_>,
-) -> Result<Status, FileFault> {
+) -> Result<Outcome, FileFault> {
     let path = &pickle_path(rt, path)?;
     let pickle = read_pickle_of(rt, path)?;
-    let status = run_bound_text(rt.alloc(), &pickle, name, bits, mode, out, err);
-    explain(rt.alloc(), why, status, &pickle, path, Some(name));
-    Ok(status)
+    let outcome = bound_text_outcome(rt.alloc(), &pickle, name, bits, style, mode, out);
+    explain(rt.alloc(), why, outcome.status(), &pickle, path, Some(name));
+    Ok(outcome)
 }

@@ -1,5 +1,7 @@
 //! The reasons of a job, which are printed after its line.
-use pickle_reasons::explanation;
+use pickle_reasons::{explanation, refusal_explanation};
+use pickle_warnings::warnings;
+use poke_batch::accept::Refusal;
 use poke_batch::status::Status;
 use std::alloc::Global;
 
@@ -25,6 +27,29 @@ pub fn explain(
         return;
     }
     if let Ok(text) = explanation(alloc, pickle, path.as_bytes(), name) {
+        *why.text = text;
+    }
+}
+
+/// Writes why a pickle is refused. If an allocation fails there is only the line of the refusal.
+pub fn explain_refusal(
+    alloc: Global,
+    why: &mut Why<'_>,
+    refusal: Refusal,
+    pickle: &[u8],
+    path: &str,
+) {
+    if let Ok(text) = refusal_explanation(alloc, pickle, path.as_bytes(), refusal) {
+        *why.text = text;
+    }
+}
+
+/// Writes what an accepted pickle says and can't mean. If an allocation fails nothing more is written.
+pub fn warn(alloc: Global, why: &mut Why<'_>, status: Status, pickle: &[u8], path: &str) {
+    if status != Status::Done {
+        return;
+    }
+    if let Ok(text) = warnings(alloc, pickle, path.as_bytes()) {
         *why.text = text;
     }
 }

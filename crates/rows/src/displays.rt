@@ -2,8 +2,9 @@
 
 use pickle_map::{MapFault, MapFaultKind};
 use pickle_types::FaultKind;
-use poke_batch::accept::{Refusal, tell_refusal};
-use poke_batch::fault::tell_fault;
+use poke_batch::accept::Refusal;
+use poke_batch::outcome::Outcome;
+use poke_batch::tell::tell;
 use std::test::Fail;
 
 #[test]
@@ -19,7 +20,7 @@ fn faults_of_mappings(rt: HostRuntime) -> Result<(), Fail> {
     for (kind, line) in kinds {
         let fault = MapFault { kind, at: 12 };
         let mut err = Vec::new(alloc);
-        let _status = tell_fault(&mut err, fault);
+        let _status = tell(Outcome::Fault(fault), &mut err);
         assert!(rt; err.as_slice() == line.as_bytes(), "{line}");
         assert_eq!(rt; format!(in alloc; "{fault}\n")?.as_str(), line);
     }
@@ -41,7 +42,7 @@ fn refusals(rt: HostRuntime) -> Result<(), Fail> {
     ];
     for (refusal, line) in refusals {
         let mut err = Vec::new(alloc);
-        let _status = tell_refusal(&mut err, refusal);
+        let _status = tell(Outcome::Refused(refusal), &mut err);
         assert!(rt; err.as_slice() == line.as_bytes(), "{line}");
         assert_eq!(rt; format!(in alloc; "{refusal}\n")?.as_str(), line);
     }

@@ -15,6 +15,9 @@ bound p T 4294967321 ==> Bound { pickle: "p", name: "T", bits: 4294967321 }
 bound p T 18446744073709551615 ==> Bound { pickle: "p", name: "T", bits: 18446744073709551615 }
 bound --text p T 25 ==> BoundText { pickle: "p", name: "T", bits: 25, mode: None, style: Style { numbers: Decimal, chars: Numbers, elements: None } }
 bound p --text T --mode tree 25 ==> BoundText { pickle: "p", name: "T", bits: 25, mode: Some(Tree), style: Style { numbers: Decimal, chars: Numbers, elements: None } }
+bound --text --numbers hex --chars text p T 25 ==> BoundText { pickle: "p", name: "T", bits: 25, mode: None, style: Style { numbers: Hexadecimal, chars: Text, elements: None } }
+bound --text --elements 3 p T 25 ==> BoundText { pickle: "p", name: "T", bits: 25, mode: None, style: Style { numbers: Decimal, chars: Numbers, elements: Some(3) } }
+bound --text --elements all p T 25 ==> BoundText { pickle: "p", name: "T", bits: 25, mode: None, style: Style { numbers: Decimal, chars: Numbers, elements: None } }
 dump f ==> Dump { from: 0, size: 128, ruler: true, file: "f" }
 dump - ==> Dump { from: 0, size: 128, ruler: true, file: "-" }
 dump --from 2#4 --size=16#b --no-ruler f ==> Dump { from: 1, size: 2, ruler: false, file: "f" }
@@ -25,26 +28,34 @@ map --limit 18446744073709551615 -- p T f ==> Map { at: 0, order: Big, limit: 18
 map --mode tree p T f ==> Map { at: 0, order: Big, limit: 1000000000, mode: Tree, pickle: "p", name: "T", file: "f" }
 map --mode json p T f ==> Map { at: 0, order: Big, limit: 1000000000, mode: Json, pickle: "p", name: "T", file: "f" }
 map --mode=lines p T f ==> Map { at: 0, order: Big, limit: 1000000000, mode: Lines, pickle: "p", name: "T", file: "f" }
-map --slots 7 p T f ==> MapUnder { start: Bit(0), order: Big, limit: 1000000000, mode: Flat, terms: Terms { whole: false, most_output: None, part: None, most_slots: Some(7), style: Style { numbers: Decimal, chars: Numbers, elements: None }, look: None }, pickle: "p", name: "T", file: "f" }
-each --mode json p T f ==> Each { start: Bit(0), order: Big, limit: 1000000000, mode: Json, terms: Terms { whole: false, most_output: None, part: None, most_slots: None, style: Style { numbers: Decimal, chars: Numbers, elements: None }, look: None }, flush: false, pickle: "p", name: "T", files: Words(["f"]) }
-each p T f g ==> Each { start: Bit(0), order: Big, limit: 1000000000, mode: Flat, terms: Terms { whole: false, most_output: None, part: None, most_slots: None, style: Style { numbers: Decimal, chars: Numbers, elements: None }, look: None }, flush: false, pickle: "p", name: "T", files: Words(["f", "g"]) }
-each --files0-from - --whole p T ==> Each { start: Bit(0), order: Big, limit: 1000000000, mode: Flat, terms: Terms { whole: true, most_output: None, part: None, most_slots: None, style: Style { numbers: Decimal, chars: Numbers, elements: None }, look: None }, flush: false, pickle: "p", name: "T", files: EndedByZero("-") }
-map --whole p T f ==> MapUnder { start: Bit(0), order: Big, limit: 1000000000, mode: Flat, terms: Terms { whole: true, most_output: None, part: None, most_slots: None, style: Style { numbers: Decimal, chars: Numbers, elements: None }, look: None }, pickle: "p", name: "T", file: "f" }
-map --max-output 5 p T f ==> MapUnder { start: Bit(0), order: Big, limit: 1000000000, mode: Flat, terms: Terms { whole: false, most_output: Some(5), part: None, most_slots: None, style: Style { numbers: Decimal, chars: Numbers, elements: None }, look: None }, pickle: "p", name: "T", file: "f" }
-map --get . p T f ==> MapUnder { start: Bit(0), order: Big, limit: 1000000000, mode: Flat, terms: Terms { whole: false, most_output: None, part: Some(Path { steps: [] }), most_slots: None, style: Style { numbers: Decimal, chars: Numbers, elements: None }, look: None }, pickle: "p", name: "T", file: "f" }
-map --get .a[2].0 p T f ==> MapUnder { start: Bit(0), order: Big, limit: 1000000000, mode: Flat, terms: Terms { whole: false, most_output: None, part: Some(Path { steps: [Field([97]), Element(2), Place(0)] }), most_slots: None, style: Style { numbers: Decimal, chars: Numbers, elements: None }, look: None }, pickle: "p", name: "T", file: "f" }
-map --numbers hex p T f ==> MapUnder { start: Bit(0), order: Big, limit: 1000000000, mode: Flat, terms: Terms { whole: false, most_output: None, part: None, most_slots: None, style: Style { numbers: Hexadecimal, chars: Numbers, elements: None }, look: None }, pickle: "p", name: "T", file: "f" }
-map --chars text p T f ==> MapUnder { start: Bit(0), order: Big, limit: 1000000000, mode: Flat, terms: Terms { whole: false, most_output: None, part: None, most_slots: None, style: Style { numbers: Decimal, chars: Text, elements: None }, look: None }, pickle: "p", name: "T", file: "f" }
-map --elements 0 p T f ==> MapUnder { start: Bit(0), order: Big, limit: 1000000000, mode: Flat, terms: Terms { whole: false, most_output: None, part: None, most_slots: None, style: Style { numbers: Decimal, chars: Numbers, elements: Some(0) }, look: None }, pickle: "p", name: "T", file: "f" }
-map --elements 18446744073709551615 p T f ==> MapUnder { start: Bit(0), order: Big, limit: 1000000000, mode: Flat, terms: Terms { whole: false, most_output: None, part: None, most_slots: None, style: Style { numbers: Decimal, chars: Numbers, elements: Some(18446744073709551615) }, look: None }, pickle: "p", name: "T", file: "f" }
+map --slots 7 p T f ==> Request(Request { start: Bit(0), order: Big, limit: 1000000000, spool: None, terms: Terms { whole: false, most_output: None, part: None, most_slots: Some(7), style: Style { numbers: Decimal, chars: Numbers, elements: None }, look: None }, form: Printed { mode: Flat, faults: Text }, pickle: "p", name: "T", over: File("f") })
+map --spool 4096 p T f ==> Request(Request { start: Bit(0), order: Big, limit: 1000000000, spool: Some(4096), terms: Terms { whole: false, most_output: None, part: None, most_slots: None, style: Style { numbers: Decimal, chars: Numbers, elements: None }, look: None }, form: Printed { mode: Flat, faults: Text }, pickle: "p", name: "T", over: File("f") })
+each --mode json p T f ==> Request(Request { start: Bit(0), order: Big, limit: 1000000000, spool: None, terms: Terms { whole: false, most_output: None, part: None, most_slots: None, style: Style { numbers: Decimal, chars: Numbers, elements: None }, look: None }, form: Printed { mode: Json, faults: Text }, pickle: "p", name: "T", over: Files { names: Words(["f"]), flush: false, progress: false } })
+each p T f g ==> Request(Request { start: Bit(0), order: Big, limit: 1000000000, spool: None, terms: Terms { whole: false, most_output: None, part: None, most_slots: None, style: Style { numbers: Decimal, chars: Numbers, elements: None }, look: None }, form: Printed { mode: Flat, faults: Text }, pickle: "p", name: "T", over: Files { names: Words(["f", "g"]), flush: false, progress: false } })
+each --progress --spool 0 p T f g ==> Request(Request { start: Bit(0), order: Big, limit: 1000000000, spool: Some(0), terms: Terms { whole: false, most_output: None, part: None, most_slots: None, style: Style { numbers: Decimal, chars: Numbers, elements: None }, look: None }, form: Printed { mode: Flat, faults: Text }, pickle: "p", name: "T", over: Files { names: Words(["f", "g"]), flush: false, progress: true } })
+each --files0-from - --whole p T ==> Request(Request { start: Bit(0), order: Big, limit: 1000000000, spool: None, terms: Terms { whole: true, most_output: None, part: None, most_slots: None, style: Style { numbers: Decimal, chars: Numbers, elements: None }, look: None }, form: Printed { mode: Flat, faults: Text }, pickle: "p", name: "T", over: Files { names: EndedByZero("-"), flush: false, progress: false } })
+map --whole p T f ==> Request(Request { start: Bit(0), order: Big, limit: 1000000000, spool: None, terms: Terms { whole: true, most_output: None, part: None, most_slots: None, style: Style { numbers: Decimal, chars: Numbers, elements: None }, look: None }, form: Printed { mode: Flat, faults: Text }, pickle: "p", name: "T", over: File("f") })
+map --max-output 5 p T f ==> Request(Request { start: Bit(0), order: Big, limit: 1000000000, spool: None, terms: Terms { whole: false, most_output: Some(5), part: None, most_slots: None, style: Style { numbers: Decimal, chars: Numbers, elements: None }, look: None }, form: Printed { mode: Flat, faults: Text }, pickle: "p", name: "T", over: File("f") })
+map --get . p T f ==> Request(Request { start: Bit(0), order: Big, limit: 1000000000, spool: None, terms: Terms { whole: false, most_output: None, part: Some(Path { steps: [] }), most_slots: None, style: Style { numbers: Decimal, chars: Numbers, elements: None }, look: None }, form: Printed { mode: Flat, faults: Text }, pickle: "p", name: "T", over: File("f") })
+map --get .a[2].0 p T f ==> Request(Request { start: Bit(0), order: Big, limit: 1000000000, spool: None, terms: Terms { whole: false, most_output: None, part: Some(Path { steps: [Field([97]), Element(2), Place(0)] }), most_slots: None, style: Style { numbers: Decimal, chars: Numbers, elements: None }, look: None }, form: Printed { mode: Flat, faults: Text }, pickle: "p", name: "T", over: File("f") })
+map --numbers hex p T f ==> Request(Request { start: Bit(0), order: Big, limit: 1000000000, spool: None, terms: Terms { whole: false, most_output: None, part: None, most_slots: None, style: Style { numbers: Hexadecimal, chars: Numbers, elements: None }, look: None }, form: Printed { mode: Flat, faults: Text }, pickle: "p", name: "T", over: File("f") })
+map --chars text p T f ==> Request(Request { start: Bit(0), order: Big, limit: 1000000000, spool: None, terms: Terms { whole: false, most_output: None, part: None, most_slots: None, style: Style { numbers: Decimal, chars: Text, elements: None }, look: None }, form: Printed { mode: Flat, faults: Text }, pickle: "p", name: "T", over: File("f") })
+map --elements 0 p T f ==> Request(Request { start: Bit(0), order: Big, limit: 1000000000, spool: None, terms: Terms { whole: false, most_output: None, part: None, most_slots: None, style: Style { numbers: Decimal, chars: Numbers, elements: Some(0) }, look: None }, form: Printed { mode: Flat, faults: Text }, pickle: "p", name: "T", over: File("f") })
+map --elements 18446744073709551615 p T f ==> Request(Request { start: Bit(0), order: Big, limit: 1000000000, spool: None, terms: Terms { whole: false, most_output: None, part: None, most_slots: None, style: Style { numbers: Decimal, chars: Numbers, elements: Some(18446744073709551615) }, look: None }, form: Printed { mode: Flat, faults: Text }, pickle: "p", name: "T", over: File("f") })
 map --numbers decimal --chars numbers --elements all p T f ==> Map { at: 0, order: Big, limit: 1000000000, mode: Flat, pickle: "p", name: "T", file: "f" }
 map --byte 446 p T f ==> Map { at: 3568, order: Big, limit: 1000000000, mode: Flat, pickle: "p", name: "T", file: "f" }
 map --byte=0x1Be p T f ==> Map { at: 3568, order: Big, limit: 1000000000, mode: Flat, pickle: "p", name: "T", file: "f" }
 map --byte 2305843009213693951 p T f ==> Map { at: 18446744073709551608, order: Big, limit: 1000000000, mode: Flat, pickle: "p", name: "T", file: "f" }
-map --byte -512 p T f ==> MapUnder { start: BytesFromEnd(512), order: Big, limit: 1000000000, mode: Flat, terms: Terms { whole: false, most_output: None, part: None, most_slots: None, style: Style { numbers: Decimal, chars: Numbers, elements: None }, look: None }, pickle: "p", name: "T", file: "f" }
-map --byte -0x200 p T f ==> MapUnder { start: BytesFromEnd(512), order: Big, limit: 1000000000, mode: Flat, terms: Terms { whole: false, most_output: None, part: None, most_slots: None, style: Style { numbers: Decimal, chars: Numbers, elements: None }, look: None }, pickle: "p", name: "T", file: "f" }
-map --byte -0 p T f ==> MapUnder { start: BytesFromEnd(0), order: Big, limit: 1000000000, mode: Flat, terms: Terms { whole: false, most_output: None, part: None, most_slots: None, style: Style { numbers: Decimal, chars: Numbers, elements: None }, look: None }, pickle: "p", name: "T", file: "f" }
-each --flush --byte -1 p T f ==> Each { start: BytesFromEnd(1), order: Big, limit: 1000000000, mode: Flat, terms: Terms { whole: false, most_output: None, part: None, most_slots: None, style: Style { numbers: Decimal, chars: Numbers, elements: None }, look: None }, flush: true, pickle: "p", name: "T", files: Words(["f"]) }
+map --byte -512 p T f ==> Request(Request { start: BytesFromEnd(512), order: Big, limit: 1000000000, spool: None, terms: Terms { whole: false, most_output: None, part: None, most_slots: None, style: Style { numbers: Decimal, chars: Numbers, elements: None }, look: None }, form: Printed { mode: Flat, faults: Text }, pickle: "p", name: "T", over: File("f") })
+map --byte -0x200 p T f ==> Request(Request { start: BytesFromEnd(512), order: Big, limit: 1000000000, spool: None, terms: Terms { whole: false, most_output: None, part: None, most_slots: None, style: Style { numbers: Decimal, chars: Numbers, elements: None }, look: None }, form: Printed { mode: Flat, faults: Text }, pickle: "p", name: "T", over: File("f") })
+map --byte -0 p T f ==> Request(Request { start: BytesFromEnd(0), order: Big, limit: 1000000000, spool: None, terms: Terms { whole: false, most_output: None, part: None, most_slots: None, style: Style { numbers: Decimal, chars: Numbers, elements: None }, look: None }, form: Printed { mode: Flat, faults: Text }, pickle: "p", name: "T", over: File("f") })
+each --flush --byte -1 p T f ==> Request(Request { start: BytesFromEnd(1), order: Big, limit: 1000000000, spool: None, terms: Terms { whole: false, most_output: None, part: None, most_slots: None, style: Style { numbers: Decimal, chars: Numbers, elements: None }, look: None }, form: Printed { mode: Flat, faults: Text }, pickle: "p", name: "T", over: Files { names: Words(["f"]), flush: true, progress: false } })
+map --faults json p T f ==> Request(Request { start: Bit(0), order: Big, limit: 1000000000, spool: None, terms: Terms { whole: false, most_output: None, part: None, most_slots: None, style: Style { numbers: Decimal, chars: Numbers, elements: None }, look: None }, form: Printed { mode: Flat, faults: Json }, pickle: "p", name: "T", over: File("f") })
+each --faults json p T f ==> Request(Request { start: Bit(0), order: Big, limit: 1000000000, spool: None, terms: Terms { whole: false, most_output: None, part: None, most_slots: None, style: Style { numbers: Decimal, chars: Numbers, elements: None }, look: None }, form: Printed { mode: Flat, faults: Json }, pickle: "p", name: "T", over: Files { names: Words(["f"]), flush: false, progress: false } })
+show p T f ==> Request(Request { start: Bit(0), order: Big, limit: 1000000000, spool: None, terms: Terms { whole: false, most_output: None, part: None, most_slots: None, style: Style { numbers: Decimal, chars: Numbers, elements: Some(16) }, look: None }, form: Shown(Auto), pickle: "p", name: "T", over: File("f") })
+show --spool=7 p T f ==> Request(Request { start: Bit(0), order: Big, limit: 1000000000, spool: Some(7), terms: Terms { whole: false, most_output: None, part: None, most_slots: None, style: Style { numbers: Decimal, chars: Numbers, elements: Some(16) }, look: None }, form: Shown(Auto), pickle: "p", name: "T", over: File("f") })
+show --color always --elements all --endian little --byte -8 p T f ==> Request(Request { start: BytesFromEnd(8), order: Little, limit: 1000000000, spool: None, terms: Terms { whole: false, most_output: None, part: None, most_slots: None, style: Style { numbers: Decimal, chars: Numbers, elements: None }, look: None }, form: Shown(Always), pickle: "p", name: "T", over: File("f") })
+show --color never --elements 3 p T f ==> Request(Request { start: Bit(0), order: Big, limit: 1000000000, spool: None, terms: Terms { whole: false, most_output: None, part: None, most_slots: None, style: Style { numbers: Decimal, chars: Numbers, elements: Some(3) }, look: None }, form: Shown(Never), pickle: "p", name: "T", over: File("f") })
 dump -s 0x1b0 -n 80 f ==> Dump { from: 432, size: 80, ruler: true, file: "f" }"#;
 
 /// Arguments that aren't a job.
@@ -81,8 +92,14 @@ map --elements 18446744073709551616 p T f ==> usage
 map --numbers octal p T f ==> usage
 map --chars hex p T f ==> usage
 map --flush p T f ==> usage
-bound --text --numbers hex p T 25 ==> usage
-bound --text --elements all p T 25 ==> usage
+map --faults xml p T f ==> usage
+show --faults json p T f ==> usage
+check --faults json p ==> usage
+bound --numbers hex p T 25 ==> usage
+bound --chars text p T 25 ==> usage
+bound --elements all p T 25 ==> usage
+bound --text --numbers octal p T 25 ==> usage
+bound --text --elements +1 p T 25 ==> usage
 map --at 8 --limit x p T f ==> usage
 map --at -1#b p T f ==> usage
 map --at 1#b --at 1#b p T f ==> usage
@@ -92,6 +109,8 @@ map --max-output -1 p T f ==> usage
 map --whole --whole p T f ==> usage
 map --get a p T f ==> usage
 map --at 8 --get a p T f ==> usage
+show --at 8 --get a p T f ==> refused offset
+each --at 8 --get a p T f ==> refused offset
 map --color p T f ==> usage
 map p T ==> usage
 map p T f g ==> usage

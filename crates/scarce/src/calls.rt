@@ -7,14 +7,14 @@ use crate::sparing::{
     reading_values, telling_lengths, telling_tokens, using_spaces,
 };
 use crate::wanting::{
-    building, lexing, mapping, paging, parsing, reading_pages, reading_pickle, reading_words,
-    running_bound, running_check, running_map, taking_room,
+    building, lexing, mapping, paging, parsing, reading_pages, reading_pickle, reading_stream,
+    reading_words, running_bound, running_check, running_map, taking_room,
 };
 use std::fs::File;
 use std::rt::Files;
 
 /// The names of the calls.
-pub const CALLS: [&str; 27] = [
+pub const CALLS: [&str; 28] = [
     "lex",
     "parse",
     "build",
@@ -27,6 +27,7 @@ pub const CALLS: [&str; 27] = [
     "run_bound",
     "run_check",
     "read_pickle",
+    "read_stream",
     "read_words",
     "room_21",
     "room_105",
@@ -67,6 +68,7 @@ fn run_named<R: Files<File = File> + AllocGlobal>(rt: &R, name: &[u8]) -> Result
         b"run_bound" => Ok(running_bound(alloc)),
         b"run_check" => Ok(running_check(alloc)),
         b"read_pickle" => Ok(reading_pickle(alloc)),
+        b"read_stream" => Ok(reading_stream(alloc)),
         b"read_words" => reading_words(alloc),
         b"room_21" => mapping_in_room(alloc, ELEMENTS, 21),
         b"room_105" => mapping_in_room(alloc, ELEMENTS, 105),

@@ -11,6 +11,7 @@ use poke_batch::{
     Job, Mode, PickleFault, Status, WordFault, read_pickle, read_words, run_bound, run_check,
     run_map,
 };
+use spool::{StreamFault, read_stream};
 use std::alloc::Global;
 
 /// Reads the 33 tokens of the mixed sample.
@@ -144,6 +145,16 @@ pub fn reading_pickle(alloc: Global) -> Ended {
     match read_pickle(alloc, &mut reader) {
         Ok(pickle) => Ended::answer_if(pickle.as_slice() == blanks.as_slice()),
         Err(fault) => Ended::want_if(fault == PickleFault::Memory),
+    }
+}
+
+/// Reads a stream that is longer than a read into memory.
+pub fn reading_stream(alloc: Global) -> Ended {
+    let blanks = [b' '; 40_000];
+    let mut reader = blanks.as_slice();
+    match read_stream(alloc, &mut reader, 50_000) {
+        Ok(space) => Ended::answer_if(space.len() == 40_000),
+        Err(fault) => Ended::want_if(fault == StreamFault::Memory),
     }
 }
 
