@@ -3,13 +3,13 @@
 
 # The options of a command.
 _poke_batch_options() {
-    local mapping='--at --byte --endian --limit --whole --max-output --slots --get --elements --help'
-    local style='--mode --numbers --chars --why'
+    local mapping='--at --byte --endian --limit --whole --max-output --slots --get --elements --spool --help'
+    local style='--mode --numbers --chars --faults --why'
     case $1 in
         map) echo "$mapping $style" ;;
         show) echo "$mapping --color" ;;
-        each) echo "$mapping $style --flush --files0-from" ;;
-        bound) echo '--text --mode --why --help' ;;
+        each) echo "$mapping $style --flush --progress --files0-from" ;;
+        bound) echo '--text --mode --numbers --chars --elements --why --help' ;;
         check | types) echo '--why --help' ;;
         formats) echo '--help' ;;
         dump) echo '--from --size --skip --length --no-ruler --help' ;;
@@ -18,7 +18,7 @@ _poke_batch_options() {
 }
 
 _poke_batch_takes_value() {
-    local mapping='at|byte|endian|limit|mode|max-output|slots|get|elements|numbers|chars|color|files0-from'
+    local mapping='at|byte|endian|limit|mode|max-output|slots|get|elements|spool|numbers|chars|faults|color|files0-from'
     [[ $1 =~ ^(--($mapping|from|size|skip|length)|-[sn])$ ]]
 }
 
@@ -126,6 +126,7 @@ _poke_batch() {
         --endian) _poke_batch_words "$current" 'big little' ;;
         --numbers) _poke_batch_words "$current" 'decimal hex' ;;
         --chars) _poke_batch_words "$current" 'numbers text' ;;
+        --faults) _poke_batch_words "$current" 'text json' ;;
         --color) _poke_batch_words "$current" 'auto always never' ;;
         --mode)
             case $command in

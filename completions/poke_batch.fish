@@ -11,7 +11,7 @@ function __poke_batch_arguments
             printf '%s\n' $it
         else if test $it = --
             set ended yes
-        else if contains -- $it --at --byte --endian --limit --mode --numbers --chars --color --elements --max-output --slots --get \
+        else if contains -- $it --at --byte --endian --limit --mode --numbers --chars --faults --color --elements --max-output --slots --get \
                 --files0-from --from --size --skip --length -s -n
             set value yes
         end
@@ -91,11 +91,14 @@ complete -c poke_batch -n '__poke_batch_is map show each' -l whole -d 'Accept on
 complete -c poke_batch -n '__poke_batch_is map show each' -l max-output -x -d 'The most bytes of the printed value'
 complete -c poke_batch -n '__poke_batch_is map show each' -l slots -x -d 'The most slots of each kind'
 complete -c poke_batch -n '__poke_batch_is map show each' -l get -x -d 'Print a part of the value'
-complete -c poke_batch -n '__poke_batch_is map each' -l numbers -xa 'decimal hex' -d 'How numbers are printed'
-complete -c poke_batch -n '__poke_batch_is map each' -l chars -xa 'numbers text' -d 'How arrays of char are printed'
-complete -c poke_batch -n '__poke_batch_is map show each' -l elements -x -d 'The most elements of a printed array'
+complete -c poke_batch -n '__poke_batch_is map each bound' -l numbers -xa 'decimal hex' -d 'How numbers are printed'
+complete -c poke_batch -n '__poke_batch_is map each bound' -l chars -xa 'numbers text' -d 'How arrays of char are printed'
+complete -c poke_batch -n '__poke_batch_is map each' -l faults -xa 'text json' -d 'How a refusal or a fault is printed'
+complete -c poke_batch -n '__poke_batch_is map show each bound' -l elements -x -d 'The most elements of a printed array'
+complete -c poke_batch -n '__poke_batch_is map show each' -l spool -x -d 'Read a file without a length into memory, up to so many bytes'
 complete -c poke_batch -n '__poke_batch_is show' -l color -xa 'auto always never' -d 'When types are dimmed'
 complete -c poke_batch -n '__poke_batch_is each' -l flush -d 'Write each line before the next file'
+complete -c poke_batch -n '__poke_batch_is each' -l progress -d 'Show how many files are done'
 complete -c poke_batch -n '__poke_batch_is each' -l files0-from -rF -d 'Read the names of the files from a list'
 complete -c poke_batch -n '__poke_batch_is bound' -l text -d 'Print the most bytes of the printed value too'
 complete -c poke_batch -n '__poke_batch_is map each bound check types' -l why -d 'Explain a refusal or a fault'
