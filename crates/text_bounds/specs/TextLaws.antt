@@ -52,7 +52,7 @@ abbrev pub OutputsAreBounded : Type 0
 OutputsAreBounded = (pickle : List ℕ) (ask : Ask) (before after : SpaceView) (status : Status) (out out' err err' : Option (List ℕ))
     → Says (MapsAs pickle ask before after) status out out' err err' → OutputIsBounded pickle ask plain before.len out out'
 
--- nor does one under terms without a look, in any style, which may print a part
+-- nor does one under terms without a look and a selection, in any style, which may print a part
 abbrev pub OutputsUnderTermsAreBounded : Type 0
 OutputsUnderTermsAreBounded = (pickle : List ℕ) (ask : Ask) (terms : Terms) (before after : SpaceView) (status : Status) (out out' err err' : Option (List ℕ))
-    → terms.look ≡ None → Says (MapsUnder pickle ask terms before after) status out out' err err' → OutputIsBounded pickle ask terms.style before.len out out'
+    → terms.look ≡ None → terms.selection ≡ None → Says (MapsUnder pickle ask terms before after) status out out' err err' → OutputIsBounded pickle ask terms.style before.len out out'

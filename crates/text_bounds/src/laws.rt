@@ -32,8 +32,8 @@ pub fn outputs_are_bounded()
     ensures law { OutputsAreBounded }
 {}
 
-/// So does a run of a mapping under terms without a look, in every style, whether it prints the value or a requested
-/// part.
+/// So does a run of a mapping under terms without a look and a selection, in every style, whether it prints the value or a
+/// requested part.
 pub fn outputs_under_terms_are_bounded()
     ensures law { OutputsUnderTermsAreBounded }
 {}

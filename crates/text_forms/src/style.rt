@@ -46,6 +46,8 @@ impl Style {
 pub struct Look {
     /// The most elements of an array, and lines of an array of bytes. `None` shows all of them.
     pub elements: Option<u64>,
+    /// The most levels of parts below the value. Parts below those are left out. `None` shows all levels.
+    pub depth: Option<u64>,
     /// Whether types are written in a dim colour.
     pub dim: bool,
 }

@@ -11,7 +11,7 @@ use Rattle.text_forms.specs.Brackets.{in_brackets}
 use Rattle.value_text.specs.LinesText.{any_present}
 use Rattle.value_text.specs.PartTypes.{part_node}
 use Rattle.value_text.specs.ShowWords.{shown_number, shown_offset, shown_string}
-use Rattle.value_text.specs.ShowText.{View, margin, name_cell, found_name, is_array, is_inline, are_inline, inline_text, inline_members, inline_name, separator, is_byte_label, cut_of, at_most, within, rows_text, rest_from, dump_text, shown_rest, shown_parts, show_text}
+use Rattle.value_text.specs.ShowText.{View, margin, name_cell, found_name, is_array, is_inline, are_inline, inline_text, inline_members, inline_name, separator, is_byte_label, is_number_label, cut_of, at_most, within, rows_text, rest_from, dump_text, shown_rest, shown_parts, show_text}
 use Rattle.value_text.specs.ShowParts.{is_inline_if, whole_text, rest_text, part_text, start_text, all_inline_text, braced_text}
 use Rattle.value_text.proofs.MemberTexts.{members_from, with_member, from_at, from_end}
 
@@ -93,6 +93,32 @@ byte_other (StructLabel name fields) e = refl
 byte_other (UnionLabel name index alternative) e = refl
 
 pub ruleset by_byte = (byte_integer, byte_other)
+
+pub number_integer : (label : Label) → kind.Integer ≡ kind_of label → is_number_label label ≡ true
+number_integer (IntegerLabel number type) e = refl
+number_integer (OffsetLabel magnitude type unit) e = refl
+number_integer (TextLabel bytes) e = cc
+number_integer ArrayLabel e = cc
+number_integer (StructLabel name fields) e = cc
+number_integer (UnionLabel name index alternative) e = cc
+
+pub number_offset : (label : Label) → kind.Offset ≡ kind_of label → is_number_label label ≡ true
+number_offset (IntegerLabel number type) e = refl
+number_offset (OffsetLabel magnitude type unit) e = refl
+number_offset (TextLabel bytes) e = cc
+number_offset ArrayLabel e = cc
+number_offset (StructLabel name fields) e = cc
+number_offset (UnionLabel name index alternative) e = cc
+
+pub number_other : (label : Label) → kind_of label ≢ kind.Integer → kind_of label ≢ kind.Offset → is_number_label label ≡ false
+number_other (IntegerLabel number type) e f = absurd (e refl)
+number_other (OffsetLabel magnitude type unit) e f = absurd (f refl)
+number_other (TextLabel bytes) e f = refl
+number_other ArrayLabel e f = refl
+number_other (StructLabel name fields) e f = refl
+number_other (UnionLabel name index alternative) e f = refl
+
+pub ruleset by_number = (number_integer, number_offset, number_other)
 
 -- whether a value goes on the line of its name
 pub line_integer : (v : Value) → kind.Integer ≡ kind_of (label_of v) → is_inline v ≡ true

@@ -1,5 +1,5 @@
 -- Values and the texts that show them, worked out by hand, against the definition.
-use Rattle.std.proofs.Common.{◌≡◌, ℕ, ◌+◌, pos, negsuc, refl, true, false, List, codes, [], ◌∷◌, ◌++◌, Some, None}
+use Rattle.std.proofs.Common.{◌≡◌, ℕ, zero, suc, ◌+◌, pos, negsuc, refl, true, false, List, codes, [], ◌∷◌, ◌++◌, Some, None}
 use Rattle.std.specs.Fmt.{digits}
 use Rattle.pickle_types.specs.declared.integer.IntegerType.{IntegerType}
 use Rattle.pickle_types.specs.declared.node.Extent.TheVariants as extent
@@ -20,10 +20,10 @@ number start width n = Mapped (IntegerLabel (pos n) (unsigned width)) start (sta
 
 -- without types
 abbrev bare : View
-bare = record { types = record { nodes = []; letters = None }; elements = Some 16; dim = false }
+bare = record { types = record { nodes = []; letters = None }; elements = Some 16; depth = None; dim = false }
 
 abbrev cut : (most : ℕ) → View
-cut most = record { types = record { nodes = []; letters = None }; elements = Some most; dim = false }
+cut most = record { types = record { nodes = []; letters = None }; elements = Some most; depth = None; dim = false }
 
 -- a place in bytes, and a number that is the same in hexadecimal
 small_number : show_text bare None (number 48 8 5) ≡ codes "00000006    = 5\n"
@@ -112,11 +112,45 @@ union_of_struct : show_text bare None (Mapped (UnionLabel None 0 (Some (codes "a
 unfolding shown_number byte_place hex_text digits
 union_of_struct = refl
 
--- arrays of numbers: whole, cut, and empty
+-- levels of parts that are left out: all, and those below the first
+abbrev deep : (most : ℕ) → View
+deep most = record { types = record { nodes = []; letters = None }; elements = Some 16; depth = Some most; dim = false }
+
+abbrev nest : Value
+nest = Mapped (StructLabel None (Some (codes "a") ∷ Some (codes "b") ∷ Some (codes "c") ∷ [])) 0 64
+    (MemberThen (number 0 8 1) (MemberThen (Mapped ArrayLabel 8 16 (MemberThen (Mapped ArrayLabel 8 16 (MemberThen (number 8 8 65) NoMembers)) NoMembers)) (MemberThen (Mapped ArrayLabel 16 16 NoMembers) NoMembers)))
+
+no_level : show_text (deep 0) None nest ≡ codes "00000000    struct ..\n"
+unfolding byte_place hex_text digits
+no_level = refl
+
+one_level : show_text (deep 1) None nest ≡ codes "00000000    struct\n00000000      a = 1\n00000001      b [1] ..\n00000002      c [0]\n"
+unfolding shown_number byte_place hex_text digits
+one_level = refl
+
+two_levels : show_text (deep 2) None nest ≡ codes "00000000    struct\n00000000      a = 1\n00000001      b [1]\n00000001        [0] [1] ..\n00000002      c [0]\n"
+unfolding shown_number byte_place hex_text digits
+two_levels = refl
+
+-- arrays of numbers: on one line, of too many bits, cut, and empty
 numbers : show_text bare None (Mapped ArrayLabel 0 32 (MemberThen (number 0 16 1) (MemberThen (number 16 16 65535) NoMembers)))
-    ≡ codes "00000000    [2]\n00000000      [0] = 1\n00000002      [1] = 65535 0xffff\n"
+    ≡ codes "00000000    [2] = 1, 65535 0xffff\n"
 unfolding shown_number byte_place hex_text digits
 numbers = refl
+
+-- so many numbers of 64 bits, each of them 7
+abbrev sevens : (start count : ℕ) → Members
+sevens start zero = NoMembers
+sevens start (suc count) = MemberThen (number start 64 7) (sevens (start + 64) count)
+
+five_numbers : show_text bare None (Mapped ArrayLabel 0 320 (sevens 0 5)) ≡ codes "00000000    [5] = 7, 7, 7, 7, 7\n"
+unfolding shown_number byte_place hex_text digits
+five_numbers = refl
+
+six_numbers : show_text (cut 6) None (Mapped ArrayLabel 0 384 (sevens 0 6))
+    ≡ codes "00000000    [6]\n00000000      [0] = 7\n00000008      [1] = 7\n00000010      [2] = 7\n00000018      [3] = 7\n00000020      [4] = 7\n00000028      [5] = 7\n"
+unfolding shown_number byte_place hex_text digits
+six_numbers = refl
 
 cut_numbers : show_text (cut 1) None (Mapped ArrayLabel 0 48 (MemberThen (number 0 16 1) (MemberThen (number 16 16 2) (MemberThen (number 32 16 3) NoMembers))))
     ≡ codes "00000000    [3]\n00000000      [0] = 1\n00000002      ..+2\n"
@@ -157,7 +191,7 @@ types = node_of (shape.Integer (unsigned 8))
     ∷ []
 
 abbrev typed : View
-typed = record { types = record { nodes = types; letters = Some 0 }; elements = Some 16; dim = false }
+typed = record { types = record { nodes = types; letters = Some 0 }; elements = Some 16; depth = None; dim = false }
 
 -- an array of `char` as a text, without the zeros at its end
 a_text : show_text typed (Some 1) (Mapped ArrayLabel 0 48 (bytes_from 0 0 (codes "boot" ++ 0 ∷ 0 ∷ []))) ≡ codes "00000000    char[6] = \"boot\"\n"
@@ -175,7 +209,7 @@ unfolding node_word shown_offset shown_number byte_place hex_text digits
 an_offset = refl
 
 -- a type in a dim colour
-dim_type : show_text (record { types = record { nodes = types; letters = Some 0 }; elements = None; dim = true }) (Some 2) (number 0 8 7)
+dim_type : show_text (record { types = record { nodes = types; letters = Some 0 }; elements = None; depth = None; dim = true }) (Some 2) (number 0 8 7)
     ≡ codes "00000000    " ++ 27 ∷ codes "[2mbyte" ++ 27 ∷ codes "[22m = 7\n"
 unfolding node_word shown_number byte_place hex_text digits
 dim_type = refl

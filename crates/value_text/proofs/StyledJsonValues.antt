@@ -195,10 +195,15 @@ module _ (nodes : List Node) (chars : Option ℕ) where
   few_as form.Numbers of value h = h
   few_as form.Text of value h = few_seen of value h
 
+-- the text without the line feed at its end
+pub styled_text_reads : (nodes : List Node) (chars of : Option ℕ) (style : Style) (value : Value) → HasSmallParts value → HasFewMembers value
+    → ReadsValue (styled_json style (with_chars style.chars nodes chars of value)) (styled_json_of style (with_chars style.chars nodes chars of value))
+styled_text_reads nodes chars of style value small few =
+    value_is style (with_chars style.chars nodes chars of value) (small_as nodes chars style.chars of value small) (few_as nodes chars style.chars of value few)
+
 pub styled_json_reads_back : StyledJsonReadsBack
 styled_json_reads_back nodes chars of style value small few =
-    json no_blank (value_is style (with_chars style.chars nodes chars of value) (small_as nodes chars style.chars of value small) (few_as nodes chars style.chars of value few))
-    (one_blank line_feed no_blank)
+    json no_blank (styled_text_reads nodes chars of style value small few) (one_blank line_feed no_blank)
 
 pub prints_styled_json : PrintsStyledJson
 prints_styled_json nodes chars of style value small few =

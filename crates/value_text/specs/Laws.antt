@@ -1,20 +1,20 @@
 -- The laws of printed values.
-use Rattle.std.specs.Prelude.{◌≡◌, ℕ, false, List, [], ◌++◌, Option}
+use Rattle.std.specs.Prelude.{◌≡◌, ℕ, List, Option}
 use Rattle.pickle_types.specs.declared.node.Node.{Node}
 use Rattle.text_forms.specs.declared.mode.Mode.{Mode}
 use Rattle.text_forms.specs.Styles.{plain}
 use Rattle.value_text.specs.Printed.{printed}
 use Rattle.value_text.specs.Styled.{styled_printed, with_chars}
-use Rattle.pickle_meaning.specs.Values.{Value, label_of, members_of}
+use Rattle.pickle_meaning.specs.Values.{Value}
 use Rattle.value_text.specs.Json.{Reads, IsJson}
 use Rattle.value_text.specs.JsonValue.{Json, json_of}
 use Rattle.value_text.specs.JsonText.{json_line}
-use Rattle.value_text.specs.PathText.{Leads}
 use Rattle.value_text.specs.SmallParts.{HasSmallParts, HasFewMembers}
 use Rattle.text_forms.specs.declared.mode.Mode.TheVariants as mode
 use Rattle.text_forms.specs.declared.style.Style.{Style}
 use Rattle.value_text.specs.StyledJsonValue.{styled_json_of}
-use Rattle.value_text.specs.LinesText.{leaf_line, is_parted, part_lines}
+use Rattle.value_text.specs.LineParts.{NamesParts}
+use Rattle.value_text.specs.LinesText.{part_lines}
 
 -- the plain style prints what is printed without a style, whatever the types are
 abbrev pub PrintsPlain : Type 0
@@ -41,12 +41,6 @@ PrintsStyledJson = (nodes : List Node) (chars of : Option ℕ) (style : Style) (
 abbrev pub HasOneReading : Type 0
 HasOneReading = (text : List ℕ) (a b : Json) → Reads text a → Reads text b → a ≡ b
 
--- lines of parts that have no parts, each under the path of steps that lead to its part
-pub data LinesOf (value : Value) : List ℕ → Type 0 where
-  no_line : LinesOf value []
-  one_line : {steps rest : List ℕ} (part : Value) → Leads value steps part → is_parted (label_of part) (members_of part) ≡ false → LinesOf value rest
-      → LinesOf value (leaf_line steps part ++ rest)
-
--- each line that is printed of a value names its part
+-- what is printed over lines has one line for each part that has no parts itself, in order, under the path to its part
 abbrev pub LinesNameParts : Type 0
-LinesNameParts = (value : Value) → LinesOf value (part_lines value)
+LinesNameParts = (value : Value) → NamesParts value (part_lines value)

@@ -6,6 +6,7 @@ pub mod JsonParts
 pub mod Escaped
 pub mod PathText
 pub mod LinesText
+pub mod LineParts
 pub mod Steps
 pub mod LeafText
 pub mod Printed
@@ -33,4 +34,5 @@ pub mod StyledTree
 pub mod StyledJson
 pub mod StyledLeaves
 pub mod Styled
+pub mod Cells
 pub mod StyledJsonValue

@@ -1,6 +1,6 @@
 -- The path of a part of a value: the steps that lead to it.
-use Rattle.std.specs.Prelude.{◌≡◌, ℕ, List, [], ◌∷◌, ◌++◌, Some, None, codes, decimal}
-use Rattle.pickle_meaning.specs.Values.{Naming, Label, ArrayLabel, Value, label_of, members_of, member_at}
+use Rattle.std.specs.Prelude.{ℕ, List, [], ◌∷◌, ◌++◌, Some, None, codes, decimal}
+use Rattle.pickle_meaning.specs.Values.{Naming, Label, ArrayLabel}
 use Rattle.value_store.specs.Labels.{member_name}
 use Rattle.text_forms.specs.Brackets.{in_brackets}
 
@@ -18,15 +18,3 @@ step_text label place = field_step (member_name label place) place
 abbrev pub path_text : (steps : List ℕ) → List ℕ
 path_text [] = codes "."
 path_text (byte ∷ steps) = byte ∷ steps
-
--- these steps lead from a value to a part of it
-pub data Leads : Value → (steps : List ℕ) → Value → Type 0 where
-  here : {value : Value} → Leads value [] value
-  further : {value part found : Value} {steps : List ℕ} (place : ℕ) → member_at (members_of value) place ≡ Some part → Leads part steps found
-      → Leads value (step_text (label_of value) place ++ steps) found
-
--- a path names a part of a value
-pub record IsPathTo (value : Value) (path : List ℕ) (part : Value) : Type 0 where
-  pub steps : List ℕ
-  pub leads : Leads value steps part
-  pub is : path ≡ path_text steps

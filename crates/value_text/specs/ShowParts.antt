@@ -12,7 +12,7 @@ use Rattle.value_text.specs.declared.typed.Typed.{Typed}
 use Rattle.value_text.specs.TypedValue.{nodes_in, char_node_in, types_in, node_in, mapped_in}
 use Rattle.value_text.specs.PartTypes.{part_node}
 use Rattle.value_text.specs.Lent.{lent_name}
-use Rattle.value_text.specs.ShowText.{View, margin, type_cell, name_cell, found_name, is_array, is_inline, is_bytes, is_text, bytes_body, value_cell, inline_text, inline_members, separator, inline_name, opening, closing, dump_text, rows_text, row_text, rest_from, rest_line, rest_of, cut_of, shown_parts, show_text}
+use Rattle.value_text.specs.ShowText.{View, margin, type_cell, name_cell, found_name, is_array, is_inline, is_bytes, is_number_row, is_below, leaves_below, left_below, is_text, bytes_body, value_cell, inline_text, inline_members, separator, inline_name, opening, closing, dump_text, rows_text, row_text, rest_from, rest_line, rest_of, cut_of, shown_parts, show_text}
 use Rattle.value_text.specs.TypeWords.{Known, type_word, known_word, bare_word, inner_word}
 use Rattle.value_text.specs.ValueText.{title_text}
 
@@ -20,7 +20,7 @@ abbrev pub known_of : Types → Known
 known_of types = record { nodes = nodes_in types; letters = char_node_in types }
 
 abbrev pub view_of : Look → Types → View
-view_of look types = record { types = known_of types; elements = look.elements; dim = look.dim }
+view_of look types = record { types = known_of types; elements = look.elements; depth = look.depth; dim = look.dim }
 
 -- how a value is shown beside its type
 abbrev pub look_at : Look → Typed → View
@@ -29,7 +29,7 @@ look_at look value = view_of look (types_in value)
 -- a value as it is shown, by the nodes of a table, the node of `char` and that of its type
 abbrev pub shown_in : Look → List Node → (chars node : Option ℕ) → Value → List ℕ
 shown_in look nodes chars node value =
-    show_text (record { types = record { nodes = nodes; letters = chars }; elements = look.elements; dim = look.dim }) node value
+    show_text (record { types = record { nodes = nodes; letters = chars }; elements = look.elements; depth = look.depth; dim = look.dim }) node value
 
 -- a value beside its type, as it is shown
 abbrev pub shown_at : Look → Typed → List ℕ
@@ -74,6 +74,23 @@ abbrev pub below_text : View → (level : ℕ) → (of : Option ℕ) → Value �
 below_text view level of value =
     codes "\n" ++ (all_parts_text view level of value ++ rest_of (level + 1) 1 (cut_of view.elements (label_of value)) (members_of value))
 
+-- the members of a value on its line
+abbrev pub all_inline_text : (most : Option ℕ) → Value → List ℕ
+all_inline_text most value = inline_members most (label_of value) 0 true (members_of value)
+
+-- an array of few numbers on its line, or else the lines of the parts, if they aren't left out
+abbrev pub lines_text : View → (level : ℕ) → (of : Option ℕ) → Value → List ℕ
+lines_text view level of value =
+    if is_number_row view.elements value then value_cell (all_inline_text view.elements value)
+    else if leaves_below view level (members_of value) then left_below
+    else below_text view level of value
+
+-- the lines of an array of bytes, if they aren't left out
+abbrev pub dump_at : View → (level : ℕ) → Value → List ℕ
+dump_at view level value =
+    if is_below view.depth (level + 1) then left_below
+    else codes "\n" ++ dump_text (level + 1) view.elements (members_of value)
+
 -- an array of bytes
 abbrev pub bytes_at : View → (level : ℕ) → (of : Option ℕ) → Value → List ℕ
 bytes_at view level of value = bytes_body view level (is_text view of (label_of value) (members_of value)) (members_of value)
@@ -83,7 +100,7 @@ abbrev pub body_text : View → (level : ℕ) → (of : Option ℕ) → Value �
 body_text view level of value =
     if is_inline value then value_cell (inline_text view.elements value)
     else if is_bytes (label_of value) (members_of value) then bytes_at view level of value
-    else below_text view level of value
+    else lines_text view level of value
 
 abbrev pub rest_text : View → (level : ℕ) → (inner : Bool) → (of : Option ℕ) → Value → List ℕ
 rest_text view level inner of value = type_at view inner of value ++ body_text view level of value
@@ -109,10 +126,6 @@ lent_part view level value place part = part_text view level (node_in value) (la
 abbrev pub is_inline_if : Option Value → Bool
 is_inline_if None = true
 is_inline_if (Some value) = is_inline value
-
--- the members of a value on its line
-abbrev pub all_inline_text : (most : Option ℕ) → Value → List ℕ
-all_inline_text most value = inline_members most (label_of value) 0 true (members_of value)
 
 abbrev pub inline_title : (first : Bool) → Option (Bor (List ℕ)) → List ℕ
 inline_title first name = separator first ++ inline_name (lent_name name)

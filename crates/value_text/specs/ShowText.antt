@@ -2,7 +2,7 @@
 -- between versions.
 use Rattle.std.specs.Prelude.{ℕ, suc, ◌+◌, ◌-◌, ◌*◌, ◌/◌, ◌%◌, Bool, true, false, ◌&&◌, List, [], ◌∷◌, ◌++◌, Option, Some, None, ◌==◌, nat_le, nat_lt, min, if◌then◌else◌, codes}
 use Rattle.std.specs.List.{flat_map, range_with_len}
-use Rattle.pickle_meaning.specs.Values.{Naming, Label, IntegerLabel, OffsetLabel, TextLabel, ArrayLabel, StructLabel, UnionLabel, Value, Mapped, Members, NoMembers, MemberThen, AbsentThen, label_of, start_of, member_count, member_at}
+use Rattle.pickle_meaning.specs.Values.{Naming, Label, IntegerLabel, OffsetLabel, TextLabel, ArrayLabel, StructLabel, UnionLabel, Value, Mapped, Members, NoMembers, MemberThen, AbsentThen, label_of, start_of, end_of, members_of, member_count, member_at}
 use Rattle.value_store.specs.Labels.{kind_of, member_name}
 use Rattle.text_forms.specs.Brackets.{in_brackets}
 use Rattle.text_forms.specs.HexDigits.{hex_digit}
@@ -19,6 +19,8 @@ pub record View : Type 0 where
   pub types : Known
   -- the most elements of an array, and lines of its bytes
   pub elements : Option ℕ
+  -- the most levels of parts below the value
+  pub depth : Option ℕ
   -- whether types are written in a dim colour
   pub dim : Bool
 
@@ -113,6 +115,40 @@ is_byte_label label = false
 abbrev pub is_some_byte : Option Value → Bool
 is_some_byte None = false
 is_some_byte (Some value) = is_byte_label (label_of value)
+
+-- whether a value is a number or an offset
+abbrev pub is_number_label : Label → Bool
+is_number_label (IntegerLabel number type) = true
+is_number_label (OffsetLabel magnitude type unit) = true
+is_number_label (TextLabel bytes) = false
+is_number_label ArrayLabel = false
+is_number_label (StructLabel name fields) = false
+is_number_label (UnionLabel name index alternative) = false
+
+abbrev pub is_some_number : Option Value → Bool
+is_some_number None = false
+is_some_number (Some value) = is_number_label (label_of value)
+
+-- whether none of so many elements is cut off
+abbrev pub are_all : (most : Option ℕ) → (count : ℕ) → Bool
+are_all None count = true
+are_all (Some most) count = nat_le count most
+
+-- whether an array is one of numbers, by its first element, that goes on the line of its name: at most 16 of at most 320
+-- bits together, if none is cut off
+abbrev pub is_number_row : (most : Option ℕ) → Value → Bool
+is_number_row most value =
+    is_array (label_of value) && is_some_number (member_at (members_of value) 0) && nat_le (member_count (members_of value)) 16
+    && nat_le (end_of value - start_of value) 320 && are_all most (member_count (members_of value))
+
+-- whether parts at a level are left out
+abbrev pub is_below : (most : Option ℕ) → (level : ℕ) → Bool
+is_below None level = false
+is_below (Some most) level = nat_lt most level
+
+-- what stands for parts that are left out
+abbrev pub left_below : List ℕ
+left_below = codes " ..\n"
 
 -- whether a value is an array of bytes, by its first element
 abbrev pub is_bytes : Label → Members → Bool
@@ -212,7 +248,13 @@ text_of members = string_text (trimmed (chars_in members))
 -- an array of bytes: a text, or a dump
 abbrev pub bytes_body : View → (level : ℕ) → (text : Bool) → Members → List ℕ
 bytes_body view level true members = value_cell (text_of members)
-bytes_body view level false members = codes "\n" ++ dump_text (level + 1) view.elements members
+bytes_body view level false members =
+    if is_below view.depth (level + 1) then left_below
+    else codes "\n" ++ dump_text (level + 1) view.elements members
+
+-- whether the parts of a value at a level are left out, if it has any
+abbrev pub leaves_below : View → (level : ℕ) → Members → Bool
+leaves_below view level members = is_below view.depth (level + 1) && any_present members
 
 abbrev mutual
   -- what is after the name of a value, and the lines of its parts below it
@@ -221,6 +263,8 @@ abbrev mutual
       type_cell view.dim (type_word view.types inner of label (member_count members))
       ++ (if is_inline (Mapped label start end members) then value_cell (inline_text view.elements (Mapped label start end members))
       else if is_bytes label members then bytes_body view level (is_text view of label members) members
+      else if is_number_row view.elements (Mapped label start end members) then value_cell (inline_members view.elements label 0 true members)
+      else if leaves_below view level members then left_below
       else codes "\n" ++ (shown_parts view (level + 1) of label 0 members ++ rest_of (level + 1) 1 (cut_of view.elements label) members))
 
   -- the lines of the present members from a place on

@@ -36,8 +36,8 @@ pub fn json_has_one_reading()
     ensures law { HasOneReading }
 {}
 
-/// A value printed over lines has a line for each part that has no parts itself. Each line begins with the path that
-/// leads to its part.
+/// A value printed over lines has one line for each part that has no parts itself, in the value's order. Each line begins
+/// with the path that leads to its part.
 pub fn lines_name_parts()
     ensures law { LinesNameParts }
 {}

@@ -6,11 +6,12 @@ mod digits;
 mod escape;
 mod flat;
 mod json;
-mod line;
+mod json_string;
+pub mod line;
 mod lines;
 mod name;
 mod number;
-mod printer;
+pub mod printer;
 pub mod show;
 mod steps;
 mod string;
@@ -24,12 +25,16 @@ ghost use Rattle.text_forms.specs.Written.{AppendsPart};
 ghost use Rattle.value_text.specs.Puts.{Puts};
 ghost use Rattle.value_text.specs.Printed.{printed};
 ghost use Rattle.value_text.specs.ShowParts.{shown_at};
+ghost use Rattle.value_text.specs.JsonText.{json_string};
 ghost use Rattle.value_text.specs.Styled.{styled, with_chars_in, typed_printed};
+ghost use Rattle.value_text.specs.Cells.{cell, typed_cell};
 ghost use Rattle.value_text.specs.TypedValue.{typed_shown};
 
 use crate::mode::Mode;
 use crate::style::{Chars, Look, Style};
 use crate::typed::{Typed, Types};
+use escape::Escapes;
+pub use json_string::print_json_string;
 use line::Line;
 use printer::Printer;
 use std::io::Write;
@@ -92,6 +97,37 @@ fn with_chars(chars: Chars, value: Typed<'_>) -> Typed<'_>
 }
 
 impl<W: Write> Printer<'_, W> {
+    /// Puts what [`print_styled`] prints.
+    pub fn put_typed(&mut self, mode: Mode, style: Style, value: Typed<'_>)
+        ensures { Puts W.contents self.old self.new (typed_printed style mode value.entry) }
+    {
+        self.put_printed(mode, style, with_chars(style.chars, value))
+    }
+
+    /// Puts a cell of a table: what [`print_styled`] prints in JSON or, in any other mode, in flat, without the line feed at
+    /// its end.
+    pub fn put_cell(&mut self, mode: Mode, style: Style, value: Typed<'_>)
+        ensures { Puts W.contents self.old self.new (typed_cell style mode value.entry) }
+    {
+        self.put_shown_cell(mode, style, with_chars(style.chars, value))
+    }
+
+    fn put_shown_cell(&mut self, mode: Mode, style: Style, value: Typed<'_>)
+        ensures { Puts W.contents self.old self.new (cell style mode (typed_shown value.entry)) }
+    {
+        match mode {
+            Mode::Json => self.put_json_value(style, value),
+            _ => self.put_value(style, value),
+        }
+    }
+
+    /// Puts a string in JSON.
+    pub fn put_json_string(&mut self, bytes: &[u8])
+        ensures { Puts W.contents self.old self.new (json_string bytes.now) }
+    {
+        self.put_quoted(Escapes::Json, bytes)
+    }
+
     fn put_printed(&mut self, mode: Mode, style: Style, value: Typed<'_>)
         ensures { Puts W.contents self.old self.new (styled style mode (typed_shown value.entry)) }
     {

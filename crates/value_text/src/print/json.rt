@@ -29,11 +29,12 @@ impl<W: Write> Printer<'_, W> {
         self.put(b"\n");
     }
 
+    /// Writes a value in JSON.
     // Inlined, so that a member that is an integer costs no call.
     #[tactic(auto, using(crate::proofs::JsonTexts::by_kind))]
     #[inline(always)]
     #[cycle(json)]
-    fn put_json_value(&mut self, style: Style, value: Typed<'_>)
+    pub fn put_json_value(&mut self, style: Style, value: Typed<'_>)
         ensures { Puts W.contents self.old self.new (styled_json style (typed_shown value.entry)) }
     {
         match value.kind() {

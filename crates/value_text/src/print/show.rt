@@ -10,21 +10,25 @@ mod text;
 mod title;
 mod types;
 
-ghost use Rattle.std.specs.Prelude.{◌≡◌, ◌+◌, ◌^◌, ◌≤◌};
+ghost use Rattle.std.specs.Prelude.{◌≡◌, ◌+◌, ◌^◌, ◌≤◌, ◌&&◌};
 ghost use Rattle.pickle_meaning.specs.Values.{label_of, members_of, member_count};
 ghost use Rattle.value_store.specs.Refs.{value_shown, rank_of};
+ghost use Rattle.value_text.specs.LinesText.{any_present};
 ghost use Rattle.value_text.specs.Puts.{Puts};
 ghost use Rattle.value_text.specs.TypedValue.{value_in, types_in, node_in, mapped_in};
-ghost use Rattle.value_text.specs.ShowText.{cut_of, at_most, is_array, is_text, are_few};
-ghost use Rattle.value_text.specs.ShowParts.{look_at, shown_at, type_at, whole_text, rest_text, body_text, bytes_at, below_text, all_parts_text, lent_part, lent_start};
+ghost use Rattle.value_text.specs.ShowText.{cut_of, at_most, is_array, is_below, is_text, are_few};
+ghost use Rattle.value_text.specs.ShowParts.{look_at, shown_at, type_at, whole_text, rest_text, body_text, bytes_at, dump_at, lines_text, below_text, all_parts_text, lent_part, lent_start};
 
 use super::printer::Printer;
 use crate::typed::Typed;
 use dump::is_bytes;
-use inline::is_inline;
+use inline::{any_present, is_inline, is_number_row};
 use std::io::Write;
 use text_forms::style::Look;
 use value_store::{Kind, ValueRef};
+
+/// What stands for parts that are left out.
+const LEFT_BELOW: &[u8] = b" ..\n";
 
 impl<W: Write> Printer<'_, W> {
     /// Writes the lines of a value.
@@ -68,6 +72,21 @@ impl<W: Write> Printer<'_, W> {
         } else if is_bytes(value.value()) {
             self.put_bytes_body(look, level, value)
         } else {
+            self.put_shown_lines(look, level, value)
+        }
+    }
+
+    // Writes an array of few numbers on its line, or else the lines of the parts, if they aren't left out.
+    #[cycle(show)]
+    fn put_shown_lines(&mut self, look: Look, level: u128, value: Typed<'_>)
+        requires { level + rank_of (value_in value) ≤ 2 ^ 64 }
+        ensures { Puts W.contents self.old self.new (lines_text (look_at look value.entry) level (node_in value.entry) (mapped_in value.entry)) }
+    {
+        if is_number_row(look.elements, value.value()) {
+            self.put_row_cell(look.elements, value.value())
+        } else if leaves_below(look, level, value.value()) {
+            self.put(LEFT_BELOW)
+        } else {
             self.put_shown_below(look, level, value)
         }
     }
@@ -79,6 +98,18 @@ impl<W: Write> Printer<'_, W> {
     {
         if is_text(look, value) {
             self.put_text_below(value.value())
+        } else {
+            self.put_dump_body(look, level, value)
+        }
+    }
+
+    // Writes the lines of an array of bytes, if they aren't left out.
+    fn put_dump_body(&mut self, look: Look, level: u128, value: Typed<'_>)
+        requires { level ≤ 2 ^ 64 }
+        ensures { Puts W.contents self.old self.new (dump_at (look_at look value.entry) level (mapped_in value.entry)) }
+    {
+        if is_below(look.depth, level + 1) {
+            self.put(LEFT_BELOW)
         } else {
             self.put_dump_below(look, level + 1, value.value())
         }
@@ -145,6 +176,24 @@ impl<W: Write> Printer<'_, W> {
         self.put_margin(level, part);
         self.put_name_cell(value, place);
     }
+}
+
+// Whether parts at a level are left out.
+fn is_below(most: Option<u64>, level: u128) -> bool
+    ensures { result ≡ is_below most level }
+{
+    match most {
+        Some(most) => u128::from(most) < level,
+        None => false,
+    }
+}
+
+// Whether the parts of a value at a level are left out, if it has any.
+fn leaves_below(look: Look, level: u128, value: ValueRef<'_>) -> bool
+    requires { level ≤ 2 ^ 64 }
+    ensures { result ≡ is_below look.depth (level + 1) && any_present (members_of (value_shown value.entry)) }
+{
+    is_below(look.depth, level + 1) && any_present(value)
 }
 
 // Whether an array of bytes is shown as a text.

@@ -1,14 +1,15 @@
 //! Writes values on the line of their names.
 ghost use Rattle.std.specs.Prelude.{◌≡◌, ◌++◌, codes};
-ghost use Rattle.pickle_meaning.specs.Values.{members_of, member_at};
+ghost use Rattle.pickle_meaning.specs.Values.{label_of, members_of, member_at};
 ghost use Rattle.value_store.specs.Refs.{value_shown, rank_of};
 ghost use Rattle.value_text.specs.LinesText.{any_present};
 ghost use Rattle.value_text.specs.Puts.{Puts};
-ghost use Rattle.value_text.specs.ShowText.{is_inline, are_inline, separator, opening, closing, inline_text, value_cell};
+ghost use Rattle.value_text.specs.ShowText.{is_inline, are_inline, is_number_row, is_some_number, is_number_label, are_all, separator, opening, closing, inline_text, value_cell};
 ghost use Rattle.value_text.specs.ShowParts.{is_inline_if, all_inline_text, lent_inline, inline_title, lent_inline_name};
 
 use super::super::printer::Printer;
 use super::super::tree::has_parts;
+use super::is_array;
 use std::io::Write;
 use text_forms::style::Look;
 use value_store::{Kind, ValueRef};
@@ -51,7 +52,8 @@ fn is_inline_at(value: ValueRef<'_>, place: usize) -> bool
     }
 }
 
-fn any_present(value: ValueRef<'_>) -> bool
+/// Whether a value has any part.
+pub fn any_present(value: ValueRef<'_>) -> bool
     ensures { result ≡ any_present (members_of (value_shown value.entry)) }
 {
     let members = value.members();
@@ -63,7 +65,56 @@ fn any_present(value: ValueRef<'_>) -> bool
     false
 }
 
+/// Whether an array is one of numbers, by its first element, that goes on the line of its name: at most 16 of at most
+/// 320 bits together, if none is cut off.
+pub fn is_number_row(most: Option<u64>, value: ValueRef<'_>) -> bool
+    ensures { result ≡ is_number_row most (value_shown value.entry) }
+{
+    is_array(value)
+        && begins_with_number(value)
+        && value.len() <= 16
+        && value.size() <= 320
+        && are_all(most, value.len())
+}
+
+fn begins_with_number(value: ValueRef<'_>) -> bool
+    ensures { result ≡ is_some_number (member_at (members_of (value_shown value.entry)) 0) }
+{
+    match value.members().get(0) {
+        Some(first) => is_number(first),
+        None => false,
+    }
+}
+
+#[tactic(auto, using(crate::proofs::ShowLines::by_number))]
+fn is_number(value: ValueRef<'_>) -> bool
+    ensures { result ≡ is_number_label (label_of (value_shown value.entry)) }
+{
+    matches!(value.kind(), Kind::Integer | Kind::Offset)
+}
+
+// Whether none of so many elements is cut off.
+fn are_all(most: Option<u64>, count: usize) -> bool
+    ensures { result ≡ are_all most count }
+{
+    match most {
+        Some(most) => count as u64 <= most,
+        None => true,
+    }
+}
+
 impl<W: Write> Printer<'_, W> {
+    /// Writes the members of a value after ` = `, and a line feed.
+    #[tactic(auto, using(crate::proofs::Puts::puts))]
+    #[inline(always)]
+    pub fn put_row_cell(&mut self, most: Option<u64>, value: ValueRef<'_>)
+        ensures { Puts W.contents self.old self.new (value_cell (all_inline_text most (value_shown value.entry))) }
+    {
+        self.put(b" = ");
+        self.put_inline_members(most, value);
+        self.put(b"\n");
+    }
+
     /// Writes a value after ` = `, and a line feed.
     #[tactic(auto, using(crate::proofs::Puts::puts))]
     #[inline(always)]

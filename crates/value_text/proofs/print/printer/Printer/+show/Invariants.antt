@@ -9,19 +9,22 @@ use Rattle.value_text.proofs.MemberTexts.{members_from}
 use Rattle.value_text.proofs.print.printer.Printer.+show.Given as goal
 
 abbrev pub decreases-put_shown_rest : goal.decreases-put_shown_rest
-decreases-put_shown_rest g l = 5 * rank_of (value_in l.value) + 4
+decreases-put_shown_rest g l = 6 * rank_of (value_in l.value) + 5
 
 abbrev pub decreases-put_shown_body : goal.decreases-put_shown_body
-decreases-put_shown_body g l = 5 * rank_of (value_in l.value) + 3
+decreases-put_shown_body g l = 6 * rank_of (value_in l.value) + 4
+
+abbrev pub decreases-put_shown_lines : goal.decreases-put_shown_lines
+decreases-put_shown_lines g l = 6 * rank_of (value_in l.value) + 3
 
 abbrev pub decreases-put_shown_below : goal.decreases-put_shown_below
-decreases-put_shown_below g l = 5 * rank_of (value_in l.value) + 2
+decreases-put_shown_below g l = 6 * rank_of (value_in l.value) + 2
 
 abbrev pub decreases-put_shown_parts : goal.decreases-put_shown_parts
-decreases-put_shown_parts g l = 5 * rank_of (value_in l.value) + 1
+decreases-put_shown_parts g l = 6 * rank_of (value_in l.value) + 1
 
 abbrev pub decreases-put_shown_part : goal.decreases-put_shown_part
-decreases-put_shown_part g l = 5 * rank_of l.part + 5
+decreases-put_shown_part g l = 6 * rank_of l.part + 6
 
 abbrev pub invariant-put_shown_parts-loop-place : goal.invariant-put_shown_parts-loop-place
 invariant-put_shown_parts-loop-place g l =
