@@ -1,3 +1,5 @@
 pub mod NumberLaws
 pub mod OffsetWords
 pub mod PathTexts
+pub mod PatternTexts
+pub mod SelectedWords

@@ -1,5 +1,5 @@
 -- What the arguments of a command request, by what clap found among them.
-use Rattle.std.specs.Prelude.{◌≡◌, ◌≢◌, ◌⊎◌, ℕ, Bool, true, false, not, List, [], map, Option, Some, None, string_bytes, codes}
+use Rattle.std.specs.Prelude.{◌≡◌, ◌≢◌, ◌⊎◌, ℕ, true, false, not, List, [], map, Option, Some, None, string_bytes, codes}
 use Rattle.std.specs.Option.{unwrap_or, option_map_or}
 use Rattle.clap.specs.Matches.{first_value, one_text, matched_of, raw_values}
 use Rattle.clap.specs.declared.parser.matches.Found.{Found}
@@ -10,10 +10,12 @@ use Rattle.text_forms.specs.declared.style.Style.{Style}
 use Rattle.text_forms.specs.Styles.{plain}
 use Rattle.command_words.specs.Numerals.{IsNumber, IsNoNumber}
 use Rattle.command_words.specs.Starts.{NamesStart, IsNoStart, NamesBytes, IsNoBytes}
-use Rattle.command_words.specs.Paths.{steps_of, IsPath}
+use Rattle.command_words.specs.Flags.{FlagIn}
+use Rattle.command_words.specs.Selects.{Selects, PartBeside}
 use Rattle.command_words.specs.Styles.{NamesNumbers, NamesChars, NamesElementsOr, IsNoElementsIfAny, NamesColor, NamesFaults}
 use Rattle.command_words.specs.Words.{NamesMode, NamesModeIfAny}
-use Rattle.command_words.specs.declared.path.Path.{Path}
+use Rattle.command_words.specs.declared.selection.Choice.{Choice}
+use Rattle.command_words.specs.declared.selection.Choice.TheVariants.{Part, Parts, Columns}
 use Rattle.command_words.specs.declared.start.Start.{Start}
 use Rattle.command_words.specs.declared.start.Start.TheVariants.{Bit}
 use Rattle.command_words.specs.declared.terms.Terms.{Terms}
@@ -50,21 +52,10 @@ abbrev pub IsNoNumberIfAny : Option (List ℕ) → Type 0
 IsNoNumberIfAny None = ⊥
 IsNoNumberIfAny (Some word) = IsNoNumber word
 
--- whether a flag was given
-abbrev pub FlagIn : Option (List ℕ) → Bool → Type 0
-FlagIn None flag = flag ≡ false
-FlagIn (Some text) flag = ((text ≡ codes "true") → flag ≡ true) × ((text ≡ codes "false") → flag ≡ false)
-
 -- `little` is little-endian, any other text big-endian
 abbrev pub NamesOrder : List ℕ → Order → Type 0
 NamesOrder word Big = word ≢ codes "little"
 NamesOrder word Little = word ≡ codes "little"
-
--- the path that an argument is, if it was given
-abbrev pub PathIfAny : Option (List ℕ) → Option Path → Type 0
-PathIfAny None path = path ≡ None
-PathIfAny (Some word) None = ⊥
-PathIfAny (Some word) (Some path) = IsPath word (steps_of path.steps.items)
 
 -- how a printed value looks, with so many elements by default
 pub record NamesStyle (found : Found) (default : Option ℕ) (style : Style) : Type 0 where
@@ -72,17 +63,18 @@ pub record NamesStyle (found : Found) (default : Option ℕ) (style : Style) : T
   pub chars : NamesChars (word_in found (codes "chars")) style.chars
   pub elements : NamesElementsOr default (first_value found (codes "elements")) style.elements
 
--- the terms under which a value is accepted, and how it looks, with so many elements by default
-pub record HasTerms (found : Found) (default : Option ℕ) (terms : Terms) : Type 0 where
+-- the terms under which a value is accepted, and what is printed of it, with so many elements by default
+pub record HasTerms (found : Found) (choice : Choice) (default : Option ℕ) (terms : Terms) : Type 0 where
   pub whole : FlagIn (one_text found (codes "whole")) terms.whole
   pub most_output : NumberIfAny (first_value found (codes "max-output")) terms.most_output
-  pub part : PathIfAny (first_value found (codes "get")) terms.part
+  pub part : PartBeside (first_value found (codes "get")) terms.selection terms.part
   pub most_slots : NumberIfAny (first_value found (codes "slots")) terms.most_slots
   pub style : NamesStyle found default terms.style
   pub look : terms.look ≡ None
+  pub selection : Selects found choice terms.selection
 
 abbrev pub no_terms : Terms
-no_terms = record { whole = false; most_output = None; part = None; most_slots = None; style = plain; look = None }
+no_terms = record { whole = false; most_output = None; part = None; most_slots = None; style = plain; look = None; selection = None }
 
 -- where a mapping starts
 abbrev pub StartsAt : Found → Start → Type 0
@@ -120,15 +112,16 @@ NamesFiles found (EndedByZero path) = first_value found (codes "files0-from") �
 abbrev pub ReportsIn : Found → FaultForm → Type 0
 ReportsIn found faults = NamesFaults (word_in found (codes "faults")) faults
 
--- how a value is written: printed in a mode, beside the form of refusals and faults, or shown with colors
+-- how a value is written: printed in a mode, beside the form of refusals and faults, or shown with colors and with so many
+-- levels of parts, 6 by default
 abbrev pub IsInForm : Found → Form → Type 0
 IsInForm found (Printed mode faults) = IsInMode found mode × ReportsIn found faults
-IsInForm found (Shown color) = NamesColor (word_in found (codes "color")) color
+IsInForm found (Shown color depth) = NamesColor (word_in found (codes "color")) color × NamesElementsOr (Some 6) (first_value found (codes "depth")) depth
 
 -- the most elements of an array that are written by default: all, or 16 for the eye
 abbrev pub elements_by_default : Form → Option ℕ
 elements_by_default (Printed mode faults) = None
-elements_by_default (Shown color) = Some 16
+elements_by_default (Shown color depth) = Some 16
 
 -- what a type is mapped over: the one file that an argument names, or many, of which each line may be written at once, and
 -- how many are done may be shown
@@ -137,11 +130,17 @@ IsOver found (File file) = string_bytes file ≡ word_in found (codes "FILE")
 IsOver found (Files names flush progress) = NamesFiles found names × FlagIn (one_text found (codes "flush")) flush
     × FlagIn (one_text found (codes "progress")) progress
 
+-- which selections the command offers that writes in a form, over one file or many
+abbrev pub choice_of : Form → Over → Choice
+choice_of (Shown color depth) over = Part
+choice_of (Printed mode faults) (File file) = Parts
+choice_of (Printed mode faults) (Files names flush progress) = Columns
+
 -- a request is what arguments request
 pub record AsksRequest (found : Found) (request : Request) : Type 0 where
   pub mapping : AsksMapping found request.start request.order request.limit (string_bytes request.pickle) (string_bytes request.name)
   pub spools : Spools found request.spool
-  pub terms : HasTerms found (elements_by_default request.form) request.terms
+  pub terms : HasTerms found (choice_of request.form request.over) (elements_by_default request.form) request.terms
   pub form : IsInForm found request.form
   pub over : IsOver found request.over
 
@@ -156,7 +155,7 @@ DumpsBytes found size = NamesBytes (first_value found (codes "length")) (word_in
 -- a job is what the arguments of its command request
 abbrev pub Asks : Found → Job → Type 0
 Asks found (Map at order limit mode pickle name file) = AsksMapping found (Bit at) order limit (string_bytes pickle) (string_bytes name)
-    × IsInMode found mode × ReportsIn found Text × Spools found None × HasTerms found None no_terms
+    × IsInMode found mode × ReportsIn found Text × Spools found None × HasTerms found Parts None no_terms
     × (string_bytes file ≡ word_in found (codes "FILE"))
 Asks found (job.Request request) = AsksRequest found request
 Asks found (Bound pickle name bits) = AsksBound found (string_bytes pickle) (string_bytes name) bits × FlagIn (one_text found (codes "text")) false
@@ -175,9 +174,9 @@ IsOther command name = command ≢ Some name
 -- the command that writes in a form, over one file or many; none shows many files to the eye
 abbrev pub IsRequestOf : Option (List ℕ) → Form → Over → Type 0
 IsRequestOf command (Printed mode faults) (File file) = command ≡ Some (codes "map")
-IsRequestOf command (Shown color) (File file) = command ≡ Some (codes "show")
+IsRequestOf command (Shown color depth) (File file) = command ≡ Some (codes "show")
 IsRequestOf command (Printed mode faults) (Files names flush progress) = command ≡ Some (codes "each")
-IsRequestOf command (Shown color) (Files names flush progress) = ⊥
+IsRequestOf command (Shown color depth) (Files names flush progress) = ⊥
 
 -- a job is of the command of a name
 abbrev pub IsJobOf : Option (List ℕ) → Job → Type 0

@@ -4,6 +4,9 @@ pub mod Starts
 pub mod WordText
 pub mod Words
 pub mod Paths
+pub mod Patterns
+pub mod Flags
+pub mod Selects
 pub mod StepCuts
 pub mod Styles
 pub mod Found

@@ -3,6 +3,8 @@ use Rattle.std.specs.Prelude.{◌≡◌, ◌≢◌, ℕ, List, Option, Some, Non
 use Rattle.command_words.specs.Numerals.{IsNumber, IsNoNumber}
 use Rattle.command_words.specs.declared.color.Color.{Color}
 use Rattle.command_words.specs.declared.color.Color.TheVariants.{Auto, Always, Never}
+use Rattle.command_words.specs.declared.answer_form.AnswerForm.{AnswerForm}
+use Rattle.command_words.specs.declared.answer_form.AnswerForm.TheVariants as answer
 use Rattle.command_words.specs.declared.fault_form.FaultForm.{FaultForm}
 use Rattle.command_words.specs.declared.fault_form.FaultForm.TheVariants.{Text, Json}
 use Rattle.text_forms.specs.declared.style.Numbers.{Numbers}
@@ -44,6 +46,11 @@ abbrev pub NamesColor : List ℕ → Color → Type 0
 NamesColor word Auto = (word ≢ codes "always") × (word ≢ codes "never")
 NamesColor word Always = word ≡ codes "always"
 NamesColor word Never = word ≡ codes "never"
+
+-- `json` is JSON, any other text is words and columns
+abbrev pub NamesAnswer : List ℕ → AnswerForm → Type 0
+NamesAnswer word answer.Text = word ≢ codes "json"
+NamesAnswer word answer.Json = word ≡ codes "json"
 
 -- `json` names itself, any other text is `text`
 abbrev pub NamesFaults : List ℕ → FaultForm → Type 0

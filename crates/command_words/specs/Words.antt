@@ -1,7 +1,9 @@
 -- What arguments request.
-use Rattle.std.specs.Prelude.{◌≡◌, ◌≢◌, ℕ, false, List, Option, Some, None, string_bytes, codes}
+use Rattle.std.specs.Prelude.{◌≡◌, ◌≢◌, ◌⊎◌, ℕ, false, List, Option, Some, None, string_bytes, codes}
 use Rattle.text_forms.specs.declared.mode.Mode.{Mode}
 use Rattle.text_forms.specs.declared.mode.Mode.TheVariants.{Flat, Tree, Json, Lines}
+use Rattle.command_words.specs.declared.answer_form.AnswerForm.{AnswerForm}
+use Rattle.command_words.specs.declared.answer_form.AnswerForm.TheVariants as answer
 use Rattle.command_words.specs.declared.words.Asked.{Asked}
 use Rattle.command_words.specs.declared.words.Job.{Job}
 use Rattle.command_words.specs.declared.words.Job.TheVariants.{Map, Request, Bound, BoundText, Check, Types, Formats, Dump}
@@ -17,9 +19,14 @@ IsCheckOf name (Types pickle) = ⊥
 IsCheckOf name Formats = ⊥
 IsCheckOf name (Dump from size ruler file) = ⊥
 
--- the same, without an explanation of a refusal
+-- the same, without an explanation of a refusal, and in words
 abbrev pub IsBareCheckOf : List ℕ → Asked → Type 0
-IsBareCheckOf name asked = IsCheckOf name asked.job × (asked.why ≡ false)
+IsBareCheckOf name asked = IsCheckOf name asked.job × (asked.why ≡ false) × (asked.answer ≡ answer.Text)
+
+-- only these two commands answer in JSON
+abbrev pub AnswersBy : (command : Option (List ℕ)) → AnswerForm → Type 0
+AnswersBy command answer.Text = Unit {0}
+AnswersBy command answer.Json = (command ≡ Some (codes "check")) ⊎ (command ≡ Some (codes "types"))
 
 -- `tree`, `json` and `lines` name their modes, any other text is the mode `flat`
 abbrev pub NamesMode : List ℕ → Mode → Type 0

@@ -1,13 +1,16 @@
 //! The arguments, and the job that they request.
 #![tactic(auto)]
 
+pub mod answer_form;
 pub mod ask;
 pub mod color;
 pub mod fault_form;
 pub mod numerals;
 pub mod offset_word;
 pub mod path;
+pub mod pattern;
 pub mod request;
+pub mod selection;
 pub mod start;
 pub mod terms;
 pub mod words;

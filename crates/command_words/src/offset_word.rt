@@ -4,7 +4,8 @@ ghost use Rattle.command_words.specs.OffsetWord.{IsOffsetWord, IsUnit};
 
 use crate::numerals::decimal;
 
-const LARGEST_UNIT: u64 = 4_294_967_295;
+/// The most bits of a unit.
+pub const LARGEST_UNIT: u64 = 4_294_967_295;
 
 /// The number of bits that an offset argument names, such as 64 for `8#B`. `None` if the argument doesn't have the form
 /// of an offset, or names 2^64 bits or more.

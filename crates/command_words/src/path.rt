@@ -6,6 +6,7 @@ ghost use Rattle.command_words.specs.StepCuts.{is_mark, IsFirstMark, MayFollow};
 ghost use Rattle.command_words.specs.declared.path.PathFault.TheVariants.{Memory};
 
 use crate::numerals::decimal as decimal_number;
+use crate::pattern::{exact_path, read_pattern};
 use itoa::Buffer;
 use std::alloc::{AllocError, Global};
 use thiserror::Error;
@@ -61,14 +62,9 @@ pub fn read_path(alloc: Global, word: &[u8]) -> Result<Path, PathFault>
     ensures ok { IfOk result (λ path. IsPath word.now (steps_of path.steps.items)) }
     ensures form { result ≡ Err PathFault.Form → (steps : List PathStep) → ¬ (IsPath word.now steps) }
 {
-    match word {
-        b"" => Err(PathFault::Form),
-        b"." => Ok(Path {
-            steps: Vec::new(alloc),
-        }),
-        _ => Ok(Path {
-            steps: read_steps(alloc, word)?,
-        }),
+    match exact_path(alloc, read_pattern(alloc, word)?)? {
+        Some(path) => Ok(path),
+        None => Err(PathFault::Form),
     }
 }
 
@@ -77,33 +73,8 @@ pub fn has_one_path()
     ensures law { HasOnePath }
 {}
 
-fn read_steps(alloc: Global, text: &[u8]) -> Result<Vec<Step>, PathFault>
-    ensures ok { IfOk result (λ steps. AreStepsText text.now (steps_of steps.items)) }
-    ensures form { result ≡ Err PathFault.Form → (steps : List PathStep) → ¬ (AreStepsText text.now steps) }
-{
-    let mut steps = Vec::new(alloc);
-    let mut done = 0;
-    while done < text.len() {
-        let end = done + step_len(&text[done..]);
-        let step = read_step(alloc, &text[done..end])?;
-        add(&mut steps, step)?;
-        done = end;
-    }
-    Ok(steps)
-}
-
-fn add(steps: &mut Vec<Step>, step: Step) -> Result<(), PathFault>
-    ensures ok { OnOk result (steps.new.items ≡ steps.old.items ++ step ∷ []) }
-    ensures fault { result ≢ Err PathFault.Form }
-{
-    match steps.push(step) {
-        Ok(()) => Ok(()),
-        Err(_) => Err(PathFault::Memory),
-    }
-}
-
-// The number of bytes in the first step of a text.
-fn step_len(text: &[u8]) -> usize
+/// The number of bytes in the first step of a text, up to the next `.` or `[`.
+pub fn step_len(text: &[u8]) -> usize
     requires { 0 < length text.now }
     ensures least { 0 < result }
     ensures most { result ≤ length text.now }
@@ -124,7 +95,8 @@ fn mark_place(text: &[u8]) -> Option<usize>
     text.iter().position(|byte| *byte == b'.' || *byte == b'[')
 }
 
-fn read_step(alloc: Global, word: &[u8]) -> Result<Step, PathFault>
+/// Reads a step of a path, such as `.name`, `.0` or `[2]`. The fault is `Form` only where no step has this text.
+pub fn read_step(alloc: Global, word: &[u8]) -> Result<Step, PathFault>
     ensures ok { IfOk result (λ step. IsStepText word.now (step_of step)) }
     ensures form { result ≡ Err PathFault.Form → (step : PathStep) → ¬ (IsStepText word.now step) }
 {
@@ -189,8 +161,8 @@ fn read_element(place: &[u8]) -> Result<Step, PathFault>
     }
 }
 
-// The number with these decimal digits, if it is below 2^64 and they have no leading zeros.
-fn number(digits: &[u8]) -> Option<u64>
+/// The number with these decimal digits, if it is below 2^64 and they have no leading zeros.
+pub fn number(digits: &[u8]) -> Option<u64>
     ensures some { IfSome result (λ number. decimal number ≡ digits.now) }
     ensures none { IfNone result ((number : ℕ) → number < 2 ^ 64 → decimal number ≢ digits.now) }
 {

@@ -40,7 +40,7 @@ impl Request {
     {
         match self.form {
             Form::Printed { faults, .. } => faults,
-            Form::Shown(_) => FaultForm::Text,
+            Form::Shown { .. } => FaultForm::Text,
         }
     }
 }
@@ -50,8 +50,8 @@ impl Request {
 pub enum Form {
     /// Printed in a mode, for programs, which also read a refusal or a fault.
     Printed { mode: Mode, faults: FaultForm },
-    /// Shown to the eye.
-    Shown(Color),
+    /// Shown to the eye, with so many levels of parts below the value at most. `None` shows all levels.
+    Shown { color: Color, depth: Option<u64> },
 }
 
 /// What a type is mapped over.

@@ -4,6 +4,7 @@ ghost use Rattle.std.specs.Prelude.{◌≡◌, false, None};
 ghost use Rattle.text_forms.specs.Styles.{plain};
 
 use crate::path::Path;
+use crate::selection::Selection;
 use text_forms::style::{Look, Style};
 
 /// What a mapped value must meet before it is printed, and how it looks then. Every value meets [`Terms::none`].
@@ -21,12 +22,14 @@ pub struct Terms {
     pub style: Style,
     /// If it is given, the value is shown to the eye, and has no mode and no style.
     pub look: Option<Look>,
+    /// What is printed of the parts of that part. `None` prints it whole.
+    pub selection: Option<Selection>,
 }
 
 impl Terms {
     /// Terms that every value meets, and the plain style.
     pub fn none() -> Terms
-        ensures { result ≡ record { whole = false; most_output = None; part = None; most_slots = None; style = plain; look = None } }
+        ensures { result ≡ record { whole = false; most_output = None; part = None; most_slots = None; style = plain; look = None; selection = None } }
     {
         Terms {
             whole: false,
@@ -35,6 +38,7 @@ impl Terms {
             most_slots: None,
             style: Style::plain(),
             look: None,
+            selection: None,
         }
     }
 }

@@ -2,21 +2,22 @@
 mod bytes;
 mod commands;
 mod found;
+mod selected;
 mod shown;
 mod style;
 mod usage;
 
 ghost use Rattle.std.specs.Prelude.{◌≡◌, ◌≢◌, ◌⊎◌, [], Some, codes, map, string_bytes, MatchResult, IfOk, IfErr, true, false};
 ghost use Rattle.clap.specs.Matches.{found_of, first_value, subcommand_name_of};
-ghost use Rattle.command_words.specs.Paths.{steps_of, IsPath};
-ghost use Rattle.command_words.specs.Words.{IsCheckOf, IsBareCheckOf, NamesMode, NamesModeIfAny};
-ghost use Rattle.command_words.specs.Found.{word_in, NumberIn, NumberIfAny, HasTerms, no_terms, NamesOrder, NamesFiles, PathIfAny, StartsNowhere};
+ghost use Rattle.command_words.specs.Words.{AnswersBy, IsCheckOf, IsBareCheckOf, NamesMode, NamesModeIfAny};
+ghost use Rattle.command_words.specs.Found.{word_in, NumberIn, NumberIfAny, HasTerms, no_terms, NamesOrder, NamesFiles, StartsNowhere};
 ghost use Rattle.command_words.specs.Found.{Asks, IsJobOf, IsNoRange, IsNoBound};
 ghost use Rattle.command_words.specs.declared.words.WordFault.TheVariants.{Memory};
 
+use crate::answer_form::AnswerForm;
 use crate::fault_form::FaultForm;
-use crate::path::{Path, PathFault, read_path};
 use crate::request::{FileNames, Form, Over, Request};
+use crate::selection::Choice;
 use crate::start::Start;
 use crate::terms::Terms;
 use bit_space::Order;
@@ -24,15 +25,15 @@ use bytes::{bytes_in, start_of};
 use clap::ArgMatches;
 use clap::error::ErrorKind;
 use clap::parser::ValueSource;
-use commands::{DEFAULT_LIMIT, PROGRAM, SHOWN_ELEMENTS, program};
+use commands::{DEFAULT_LIMIT, PROGRAM, SHOWN_ELEMENTS, SHOWN_LEVELS, program};
 use found::{flag_of, number_if_any, number_of, word, word_of};
+use selected::{part_beside, selection_of};
 use shown::shown_words;
 use std::alloc::{AllocError, Global};
-use style::{color_of, faults_of, style_of};
+use style::{answer_of, color_of, depth_of, faults_of, style_of};
 use text_forms::mode::Mode;
 use text_forms::style::{Chars, Numbers, Style};
 use thiserror::Error;
-use usage::invalid_value;
 
 /// The usage error for arguments that are wrong, but whose escaped forms clap accepts.
 const WRONG_WORD: &str = "error: a word has bytes that aren't printed\n";
@@ -112,7 +113,7 @@ impl From<AllocError> for WordFault {
     }
 }
 
-/// A job, and whether it explains a refusal or a fault.
+/// A job, whether it explains a refusal or a fault, and how it answers.
 #[derive(Debug, Drop, PartialEq, Eq)]
 pub struct Asked {
     /// The job that is requested.
@@ -121,6 +122,8 @@ pub struct Asked {
     pub why: bool,
     /// Whether the job is a dump of which no size was given.
     pub default_size: bool,
+    /// How a check or a list of types is printed. Other jobs have words.
+    pub answer: AnswerForm,
 }
 
 /// Reads the arguments, without the program's name, as a job. Without arguments the job is a check of standard input,
@@ -145,6 +148,7 @@ pub fn read_asked(alloc: Global, words: Vec<String>) -> Result<Asked, WordFault>
             job: Job::Check { pickle },
             why: false,
             default_size: false,
+            answer: AnswerForm::Text,
         });
     }
     let words = without_help_of_help(words.as_slice());
@@ -154,6 +158,7 @@ pub fn read_asked(alloc: Global, words: Vec<String>) -> Result<Asked, WordFault>
             job: read_command(alloc, &matches)?,
             why: asks_why(&matches),
             default_size: has_no_size(&matches),
+            answer: answer_form(&matches),
         }),
         Err(error) => match told(alloc, &error, words) {
             Ok(fault) => Err(fault),
@@ -167,6 +172,16 @@ fn asks_why(matches: &ArgMatches<'_>) -> bool {
     match matches.subcommand() {
         Some(("map" | "each" | "bound" | "check" | "types", found)) => found.get_flag("why"),
         _ => false,
+    }
+}
+
+// How a command answers that has the option `--mode` for that.
+fn answer_form(matches: &ArgMatches<'_>) -> AnswerForm
+    ensures { AnswersBy (subcommand_name_of matches.now) result }
+{
+    match matches.subcommand() {
+        Some(("check" | "types", found)) => answer_of(word(found, "mode")),
+        _ => AnswerForm::Text,
     }
 }
 
@@ -271,7 +286,7 @@ fn read_map(alloc: Global, found: &ArgMatches<'_>) -> Result<Job, WordFault>
     ensures command { IfOk result (IsJobOf (Some (codes "map"))) }
     ensures offset { IfErr result (λ fault. fault ≡ WordFault.Offset → StartsNowhere (found_of found.now)) }
 {
-    let terms = terms_of(alloc, found, None)?;
+    let terms = terms_of(alloc, found, Choice::Parts, None)?;
     let spool = spool_of(alloc, found)?;
     match (start_of(found)?, faults_of(word(found, "faults"))) {
         (Start::Bit(at), FaultForm::Text) if spool.is_none() && has_no_terms(&terms) => Ok(
@@ -312,8 +327,11 @@ fn read_show(alloc: Global, found: &ArgMatches<'_>) -> Result<Job, WordFault>
         order: order_of(word(found, "endian")),
         limit: limit_of(alloc, found)?,
         spool: spool_of(alloc, found)?,
-        terms: terms_of(alloc, found, Some(SHOWN_ELEMENTS))?,
-        form: Form::Shown(color_of(word(found, "color"))),
+        terms: terms_of(alloc, found, Choice::Part, Some(SHOWN_ELEMENTS))?,
+        form: Form::Shown {
+            color: color_of(word(found, "color")),
+            depth: depth_of(alloc, found, Some(SHOWN_LEVELS))?,
+        },
         pickle: word_of(alloc, found, "PICKLE")?,
         name: word_of(alloc, found, "TYPE")?,
         over: Over::File(word_of(alloc, found, "FILE")?),
@@ -330,7 +348,7 @@ fn read_each(alloc: Global, found: &ArgMatches<'_>) -> Result<Job, WordFault>
         order: order_of(word(found, "endian")),
         limit: limit_of(alloc, found)?,
         spool: spool_of(alloc, found)?,
-        terms: terms_of(alloc, found, None)?,
+        terms: terms_of(alloc, found, Choice::Columns, None)?,
         form: Form::Printed {
             mode: mode_of(word(found, "mode")),
             faults: faults_of(word(found, "faults")),
@@ -385,18 +403,21 @@ fn copies(alloc: Global, words: &[&str]) -> Result<Vec<String>, AllocError>
 fn terms_of(
     alloc: Global,
     found: &ArgMatches<'_>,
+    choice: Choice,
     most_elements: Option<u64>,
 ) -> Result<Terms, WordFault>
-    ensures terms { IfOk result (HasTerms (found_of found.now) most_elements) }
+    ensures terms { IfOk result (HasTerms (found_of found.now) choice most_elements) }
     ensures path { IfErr result (λ fault. fault ≡ WordFault.Offset → ⊥) }
 {
+    let selection = selection_of(alloc, found, choice)?;
     Ok(Terms {
         whole: flag_of(found, "whole"),
         most_output: number_if_any(alloc, found, "max-output", "--max-output <N>")?,
-        part: part_of(alloc, found)?,
+        part: part_beside(alloc, found, &selection)?,
         most_slots: number_if_any(alloc, found, "slots", "--slots <N>")?,
         style: style_of(alloc, found, most_elements)?,
         look: None,
+        selection,
     })
 }
 
@@ -415,33 +436,9 @@ fn has_no_terms(terms: &Terms) -> bool
                 elements: None,
             },
             look: None,
+            selection: None,
         } => true,
         _ => false,
-    }
-}
-
-// The path to the requested part, if there is one.
-fn part_of(alloc: Global, found: &ArgMatches<'_>) -> Result<Option<Path>, WordFault>
-    ensures part { IfOk result (PathIfAny (first_value (found_of found.now) (codes "get"))) }
-    ensures path { IfErr result (λ fault. fault ≡ WordFault.Offset → ⊥) }
-{
-    match found.get_str("get") {
-        Some(word) => Ok(Some(path_of(alloc, word)?)),
-        None => Ok(None),
-    }
-}
-
-// The path that an argument is.
-fn path_of(alloc: Global, word: &str) -> Result<Path, WordFault>
-    ensures path { IfOk result (λ path. IsPath word.now (steps_of path.steps.items)) }
-    ensures fault { IfErr result (λ fault. fault ≡ WordFault.Offset → ⊥) }
-{
-    match read_path(alloc, word.as_bytes()) {
-        Ok(path) => Ok(path),
-        Err(PathFault::Form) => {
-            Err(WordFault::Usage(invalid_value(alloc, word, "--get <PATH>", "not a path")?))
-        }
-        Err(PathFault::Memory) => Err(WordFault::Memory),
     }
 }
 

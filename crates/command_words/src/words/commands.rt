@@ -15,6 +15,9 @@ pub const DEFAULT_LIMIT: u64 = 1_000_000_000;
 /// The most elements that are shown of an array if nothing else is requested.
 pub const SHOWN_ELEMENTS: u64 = 16;
 
+/// The most levels of parts that are shown of a value if nothing else is requested.
+pub const SHOWN_LEVELS: u64 = 6;
+
 const PROGRAM_SHORT_HELP: &str = "\
 Many files, one line each:
   find . -name '*.png' -print0 | poke_batch each --files0-from - +png Png
@@ -35,7 +38,8 @@ Options of map, show and each:
   --whole          accept only a value that ends where FILE does [default: any end]
   --max-output N   the most bytes of the printed value, 0 to 18446744073709551615 [default: any length]
   --slots N        the most slots of the mapping, of each kind, 0 to 18446744073709551615 [default: any number]
-  --get PATH       print a part of the value: . or steps of .name, .place, [place] [default: .]
+  --get PATH       print a part of the value: . or steps of .name, .place, [place]; map: also patterns with [*], [2:5], .*;
+                   map and each: may be given many times [default: .]
   --elements N     the most elements that are printed of an array, or all [default: all; show: 16]
   --spool BYTES    read a FILE without a length, as a pipe, into memory, up to so many bytes [default: it isn't opened]
 
@@ -44,8 +48,14 @@ Options of map and each:
   --numbers FORM   how numbers are printed, decimal or hex [default: decimal]
   --chars FORM     how arrays of char are printed, numbers or text [default: numbers]
   --faults FORM    how a refusal or a fault is printed, text or json [default: text]
+  --absent WHAT    what a part that isn't there is, fault or empty [default: fault]
+
+Options of map:
+  --rows PATTERN   print a line for each part that PATTERN leads to, with a column for each --get
+  --header         with --rows, print the paths of the columns first [default: no]
 
 Options of show:
+  --depth N        the most levels of parts below the value, or all [default: 6]
   --color WHEN     print colors: auto, always or never [default: auto]
 
 Options of each:
@@ -62,6 +72,9 @@ Options of bound:
   --numbers FORM   with --text, for numbers in this form [default: decimal]
   --chars FORM     with --text, for arrays of char in this form [default: numbers]
   --elements N     with --text, for so many elements of an array, or all [default: all]
+
+Options of check and types:
+  --mode MODE      how the answer is printed, text or json [default: text]
 
 Options of dump:
   --from OFFSET    the first byte, in whole bytes [default: 0#B]
@@ -115,6 +128,10 @@ The options are those of map, for each file. Each file has a line: its name, a t
 the printed value or the line of its fault. In a name, \\, a tab, a line feed and other bytes outside ' ' to '~' are escaped, as \\\\,
 \\t, \\n and \\x and two digits. A fault in one file stops nothing; the exit status is the greatest of all.
 
+With --mode json each line is an object, with the lines of --why in it:
+  {\"name\":\"a.bin\",\"status\":0,\"value\":1}
+  {\"name\":\"b.bin\",\"status\":1,\"fault\":\"End\",\"at\":32}
+
 Example:
   printf '\\001\\002\\003' > three.bin
   echo 'type P = struct { uint<8> a; uint<16> b; };' | poke_batch each - P three.bin
@@ -135,6 +152,11 @@ Exit status:
   3  memory, a file, standard input or an output failed";
 
 const CHECK_HELP: &str = "\
+With --mode json the answer is an object on standard output, also for a pickle that is refused:
+  {\"accepted\":true}
+  {\"refused\":\"Syntax\",\"byte\":4}
+With --why it also has warnings, or the line, the column, a sentence and what to write instead.
+
 Example:
   echo 'type P = struct { uint<8> a; uint<16> b; };' | poke_batch check -
 
@@ -146,6 +168,8 @@ Exit status:
 const TYPES_HELP: &str = "\
 Each type that PICKLE declares has a line: its name, a tab, integer, offset, string, array, struct or union, a tab, and the
 least width of its values as an offset, such as 24#b.
+
+With --mode json each line is an object, with the name, the kind, the text of the declaration and the fields.
 
 Example:
   echo 'type P = struct { uint<8> a; uint<16> b; };' | poke_batch types -
@@ -204,7 +228,11 @@ fn map<'a>(alloc: Global) -> Result<Command<'a>, AllocError> {
     let command = Command::new(alloc, "map")
         .about("Maps a type over a file and prints the value")
         .after_long_help(MAP_HELP);
-    with_style(alloc, with_mapping(alloc, command)?, modes)?
+    let command = with_mapping(alloc, command, parts(alloc))?
+        .arg(rows(alloc)?)?
+        .arg(header(alloc)?)?
+        .arg(absent(alloc))?;
+    with_style(alloc, command, modes)?
         .arg(why(alloc))?
         .arg(pickle(alloc))?
         .arg(name(alloc))?
@@ -216,8 +244,9 @@ fn show<'a>(alloc: Global) -> Result<Command<'a>, AllocError> {
     let command = Command::new(alloc, "show")
         .about("Maps a type over a file and shows the value, or what a fault is about, to the eye")
         .after_long_help(SHOW_HELP);
-    with_mapping(alloc, command)?
+    with_mapping(alloc, command, part(alloc))?
         .arg(elements(alloc, "16"))?
+        .arg(depth(alloc))?
         .arg(option(alloc, "color", "WHEN", "When colors are printed", "auto").value_parser(times))?
         .arg(pickle(alloc))?
         .arg(name(alloc))?
@@ -249,7 +278,8 @@ fn each<'a>(alloc: Global) -> Result<Command<'a>, AllocError> {
     let command = Command::new(alloc, "each")
         .about("Maps a type over many files, one after the other, and prints a line for each")
         .after_long_help(EACH_HELP);
-    with_style(alloc, with_mapping(alloc, command)?, modes)?
+    let command = with_mapping(alloc, command, paths(alloc))?.arg(absent(alloc))?;
+    with_style(alloc, command, modes)?
         .arg(why(alloc))?
         .arg(flush)?
         .arg(progress)?
@@ -259,8 +289,12 @@ fn each<'a>(alloc: Global) -> Result<Command<'a>, AllocError> {
         .arg(files)
 }
 
-// The options of a mapping. The short help leaves out those that few need.
-fn with_mapping<'a>(alloc: Global, command: Command<'a>) -> Result<Command<'a>, AllocError> {
+// The options of a mapping, with the one that chooses parts. The short help leaves out those that few need.
+fn with_mapping<'a>(
+    alloc: Global,
+    command: Command<'a>,
+    get: Arg<'a>,
+) -> Result<Command<'a>, AllocError> {
     let orders = ["big", "little"].as_slice();
     command
         .arg(offset(alloc, "at", "Where the value begins in FILE", "0#b"))?
@@ -277,7 +311,7 @@ fn with_mapping<'a>(alloc: Global, command: Command<'a>) -> Result<Command<'a>, 
         .arg(whole(alloc))?
         .arg(max_output(alloc))?
         .arg(slots(alloc))?
-        .arg(part(alloc))?
+        .arg(get)?
         .arg(spool(alloc))
 }
 
@@ -354,6 +388,50 @@ fn part<'a>(alloc: Global) -> Arg<'a> {
     )
 }
 
+// The parts of a value, each with its option.
+fn paths<'a>(alloc: Global) -> Arg<'a> {
+    part(alloc).action(ArgAction::Append).help(
+        "Print a part of the value, as a column if there are many: . or steps of .name, .place, [place] [default: .]",
+    )
+}
+
+// The same, and patterns.
+fn parts<'a>(alloc: Global) -> Arg<'a> {
+    part(alloc).action(ArgAction::Append).help(
+        "Print parts of the value: . or steps of .name, .place, [place], [*], [2:5], .* [default: .]",
+    )
+}
+
+fn rows<'a>(alloc: Global) -> Result<Arg<'a>, AllocError> {
+    Arg::new(alloc, "rows")
+        .long("rows")
+        .value_name("PATTERN")
+        .help("Print a line for each part that PATTERN leads to, with a column for each --get")
+        .requires_arg("get")
+}
+
+fn header<'a>(alloc: Global) -> Result<Arg<'a>, AllocError> {
+    let header = Arg::new(alloc, "header")
+        .long("header")
+        .action(ArgAction::SetTrue)
+        .help("Print the paths of the columns first [default: no]")
+        .hide_short_help(true);
+    header.requires_arg("rows")
+}
+
+fn absent<'a>(alloc: Global) -> Arg<'a> {
+    let forms = ["fault", "empty"].as_slice();
+    option(
+        alloc,
+        "absent",
+        "WHAT",
+        "What a part that isn't there is: a fault, or an empty column or line",
+        "fault",
+    )
+    .value_parser(forms)
+    .hide_short_help(true)
+}
+
 fn numbers<'a>(alloc: Global) -> Arg<'a> {
     let forms = ["decimal", "hex"].as_slice();
     option(
@@ -394,6 +472,11 @@ fn faults<'a>(alloc: Global) -> Arg<'a> {
 fn elements<'a>(alloc: Global, default: &'a str) -> Arg<'a> {
     let help = "The most elements that are printed of an array, or all";
     option(alloc, "elements", "N", help, default)
+}
+
+fn depth<'a>(alloc: Global) -> Arg<'a> {
+    let help = "The most levels of parts below the value that are shown, or all";
+    option(alloc, "depth", "N", help, "6")
 }
 
 fn bound<'a>(alloc: Global) -> Result<Command<'a>, AllocError> {
@@ -450,6 +533,7 @@ fn check<'a>(alloc: Global) -> Result<Command<'a>, AllocError> {
     Command::new(alloc, "check")
         .about("Checks a pickle and prints the number of its types")
         .after_long_help(CHECK_HELP)
+        .arg(answer(alloc))?
         .arg(why(alloc))?
         .arg(pickle(alloc))
 }
@@ -458,6 +542,7 @@ fn types<'a>(alloc: Global) -> Result<Command<'a>, AllocError> {
     Command::new(alloc, "types")
         .about("Prints the name, the kind and the least width of each type of a pickle")
         .after_long_help(TYPES_HELP)
+        .arg(answer(alloc))?
         .arg(why(alloc))?
         .arg(pickle(alloc))
 }
@@ -515,6 +600,11 @@ fn count<'a>(alloc: Global, name: &'a str, letter: char, help: &'a str) -> Arg<'
         .long(name)
         .value_name("BYTES")
         .help(help)
+}
+
+fn answer<'a>(alloc: Global) -> Arg<'a> {
+    let forms = ["text", "json"].as_slice();
+    option(alloc, "mode", "MODE", "How the answer is printed", "text").value_parser(forms)
 }
 
 fn why<'a>(alloc: Global) -> Arg<'a> {

@@ -2,7 +2,8 @@
 ghost use Rattle.std.specs.Prelude.{◌≡◌, ◌≢◌, ◌⊎◌, IfOk, IfErr, string_bytes};
 ghost use Rattle.clap.specs.Matches.{found_of, first_value, one_text};
 ghost use Rattle.command_words.specs.Numerals.{IsNumber, IsNoNumber};
-ghost use Rattle.command_words.specs.Found.{word_in, NumberIn, NumberIfAny, IsNoNumberIfAny, FlagIn};
+ghost use Rattle.command_words.specs.Found.{word_in, NumberIn, NumberIfAny, IsNoNumberIfAny};
+ghost use Rattle.command_words.specs.Flags.{FlagIn};
 ghost use Rattle.command_words.specs.declared.words.WordFault.TheVariants.{Memory};
 
 use crate::numerals::decimal;

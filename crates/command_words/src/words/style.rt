@@ -1,10 +1,11 @@
 //! How a printed value looks, as arguments request it.
 ghost use Rattle.std.specs.Prelude.{◌≡◌, ◌≢◌, ◌⊎◌, IfOk, IfErr, codes};
 ghost use Rattle.clap.specs.Matches.{found_of, first_value};
-ghost use Rattle.command_words.specs.Styles.{NamesNumbers, NamesChars, NamesElements, IsNoElements, IsNoElementsIfAny, NamesColor, NamesFaults};
+ghost use Rattle.command_words.specs.Styles.{NamesNumbers, NamesChars, NamesElements, NamesElementsOr, IsNoElements, IsNoElementsIfAny, NamesAnswer, NamesColor, NamesFaults};
 ghost use Rattle.command_words.specs.Found.{NamesStyle};
 ghost use Rattle.command_words.specs.declared.words.WordFault.TheVariants.{Offset, Memory};
 
+use crate::answer_form::AnswerForm;
 use crate::color::Color;
 use crate::fault_form::FaultForm;
 use crate::numerals::decimal;
@@ -29,10 +30,25 @@ pub fn style_of(
         numbers: numbers_of(word(found, "numbers")),
         chars: chars_of(word(found, "chars")),
         elements: match found.get_str("elements") {
-            Some(word) => elements_of(alloc, word)?,
+            Some(word) => most_of(alloc, word, "--elements <N>")?,
             None => most_elements,
         },
     })
+}
+
+/// The most levels of parts that are shown, as the options request it. Without a request there are `most_levels`.
+pub fn depth_of(
+    alloc: Global,
+    found: &ArgMatches<'_>,
+    most_levels: Option<u64>,
+) -> Result<Option<u64>, WordFault>
+    ensures depth { IfOk result (NamesElementsOr most_levels (first_value (found_of found.now) (codes "depth"))) }
+    ensures fault { IfErr result (λ fault. fault ≢ Offset) }
+{
+    match found.get_str("depth") {
+        Some(word) => most_of(alloc, word, "--depth <N>"),
+        None => Ok(most_levels),
+    }
 }
 
 /// When colors are printed, as an argument names it: `auto`, the default, for any other than `always` and `never`.
@@ -56,6 +72,16 @@ pub fn faults_of(word: &str) -> FaultForm
     }
 }
 
+/// How an answer about a pickle is printed, as an argument names it: in words, the default, for any other than `json`.
+pub fn answer_of(word: &str) -> AnswerForm
+    ensures { NamesAnswer word.now result }
+{
+    match word {
+        "json" => AnswerForm::Json,
+        _ => AnswerForm::Text,
+    }
+}
+
 // The form of numbers that an argument names: decimal, the default, for any other than `hex`.
 fn numbers_of(word: &str) -> Numbers
     ensures { NamesNumbers word.now result }
@@ -76,8 +102,8 @@ fn chars_of(word: &str) -> Chars
     }
 }
 
-// The most elements that an argument names.
-fn elements_of(alloc: Global, word: &str) -> Result<Option<u64>, WordFault>
+// The most elements or levels that the argument of an option names.
+fn most_of(alloc: Global, word: &str, option: &str) -> Result<Option<u64>, WordFault>
     ensures ok { IfOk result (NamesElements word.now) }
     ensures usage { IfErr result (λ fault. (fault ≡ Memory) ⊎ IsNoElements word.now) }
     ensures fault { IfErr result (λ fault. fault ≢ Offset) }
@@ -89,7 +115,7 @@ fn elements_of(alloc: Global, word: &str) -> Result<Option<u64>, WordFault>
         Some(most) => Ok(Some(most)),
         None => {
             let why = "neither a number below 2^64 nor all";
-            Err(WordFault::Usage(invalid_value(alloc, word, "--elements <N>", why)?))
+            Err(WordFault::Usage(invalid_value(alloc, word, option, why)?))
         }
     }
 }

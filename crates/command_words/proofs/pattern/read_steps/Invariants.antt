@@ -1,12 +1,12 @@
 use Rattle.std.proofs.Common.{◌≡◌, ◌-◌, ◌≤◌, ◌⊎◌, length, take, drop}
-use Rattle.command_words.specs.Paths.{steps_of, AreStepsText}
+use Rattle.command_words.specs.Patterns.{parts_of, ArePartsText}
 use Rattle.command_words.specs.StepCuts.{MayFollow}
-use Rattle.command_words.proofs.path.read_steps.Given as goal
+use Rattle.command_words.proofs.pattern.read_steps.Given as goal
 
 abbrev pub invariant-loop-done : goal.invariant-loop-done
 invariant-loop-done l = record {
   within : l.done ≤ length l.text;
-  so_far : AreStepsText (take l.done l.text) (steps_of l.steps.items);
+  so_far : ArePartsText (take l.done l.text) (parts_of l.steps.items);
   begins : (l.done ≡ 0) ⊎ MayFollow (drop l.done l.text);
 }
 

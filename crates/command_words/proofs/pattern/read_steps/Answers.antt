@@ -1,9 +1,10 @@
 use Rattle.std.proofs.Common.{◌≡◌, ◌∙◌, ◌+◌, ◌-◌, [], Result, Err, refl, sym, ap, inl, inr, take, drop, arith, subst, drop-drop, take_all}
 use Rattle.std.proofs.lemmas.Result.{err_from_is_err_and}
-use Rattle.command_words.specs.Paths.{steps_of, AreStepsText, IsStepText}
+use Rattle.command_words.specs.Patterns.{parts_of, ArePartsText, IsPartText}
 use Rattle.command_words.specs.StepCuts.{MayFollow}
-use Rattle.command_words.proofs.PathTexts.{text_more, rest_is, no_steps}
-use Rattle.command_words.proofs.path.read_steps.Goals as goal
+use Rattle.command_words.proofs.PathTexts.{rest_is}
+use Rattle.command_words.proofs.PatternTexts.{text_more, no_steps}
+use Rattle.command_words.proofs.pattern.read_steps.Goals as goal
 
 still_err : {A B E : Type 0} (a b : E) → ◌≡◌ {A = Result A E} (Err a) (Err b) → ◌≡◌ {A = Result B E} (Err a) (Err b)
 still_err a b e = let same : a ≡ b = cc in ap Err same
@@ -11,7 +12,7 @@ still_err a b e = let same : a ≡ b = cc in ap Err same
 pub loop-done-init : goal.loop-done-init
 loop-done-init c = record {
   within = omega arith;
-  so_far = subst (λ items. AreStepsText [] (steps_of items)) (sym c.new-steps.ensures.items) (tt, refl);
+  so_far = subst (λ items. ArePartsText [] (parts_of items)) (sym c.new-steps.ensures.items) (tt, refl);
   begins = inl refl;
 }
 
@@ -32,8 +33,8 @@ returns-in_err-step-clause-form c = λ e steps h.
     let rest = rest_is c.args.text.now c.loop-done.done c.loop-done.invariant.within in
     no_steps c.args.text.now _ c.loop-done.done c.step_len.result c.loop-done.steps.items c.loop-done-test.true rest c.loop-done.invariant.so_far
     c.loop-done.invariant.begins c.step_len.ensures.least c.step_len.ensures.most c.step_len.ensures.within c.step_len.ensures.next
-    (λ step is. c.in_err-step.ensures.form (still_err _ _ (ap Err (sym p.2) ∙ sym p.1 ∙ e)) step (subst (λ text. IsStepText text step) (ap (take c.step_len.result) rest ∙ ap (λ k. take k (drop c.loop-done.done c.args.text.now)) (sym size)) is)) steps h
+    (λ step is. c.in_err-step.ensures.form (still_err _ _ (ap Err (sym p.2) ∙ sym p.1 ∙ e)) step (subst (λ text. IsPartText text step) (ap (take c.step_len.result) rest ∙ ap (λ k. take k (drop c.loop-done.done c.args.text.now)) (sym size)) is)) steps h
 
 pub returns-clause-ok : goal.returns-clause-ok
 returns-clause-ok c =
-    subst (λ text. AreStepsText text (steps_of c.loop-done.steps.items)) (take_all c.loop-done.done c.args.text.now (omega arith)) c.loop-done.invariant.so_far
+    subst (λ text. ArePartsText text (parts_of c.loop-done.steps.items)) (take_all c.loop-done.done c.args.text.now (omega arith)) c.loop-done.invariant.so_far
