@@ -17,8 +17,8 @@ use Rattle.text_forms.specs.declared.write.WriteFault.{WriteFault}
 use Rattle.run_parts.specs.Accepted.{refusal_saying}
 use Rattle.run_parts.specs.FaultLines.{fault_saying}
 use Rattle.run_parts.specs.Lines.{fault_line}
-use Rattle.run_parts.specs.Outcomes.{outcome_saying, outcome_status, outcome_line, outcome_kind, outcome_json, outcome_place, status_said, line_said, EndsAs, writes, cuts, reports}
-use Rattle.run_parts.specs.Reports.{report_json}
+use Rattle.run_parts.specs.Outcomes.{outcome_saying, outcome_status, outcome_line, outcome_kind, outcome_json, outcome_members, outcome_place, status_said, line_said, EndsAs, writes, cuts, reports}
+use Rattle.run_parts.specs.Reports.{report_json, report_members}
 use Rattle.text_forms.specs.Written.{AppendsPart}
 use Rattle.run_parts.specs.Told.{Saying, Text, Line, IsTold, IsSaid, Says, AppendsUpTo}
 
@@ -72,6 +72,23 @@ object_made (outcome.Left at) other = refl
 object_made outcome.NoSuchPart other = refl
 object_made (outcome.Output at) other = refl
 object_made (outcome.Failed why) other = refl
+
+pub members_made : (ended : Outcome) → ended ≢ outcome.Done → outcome_members ended ≡ report_members (outcome_status ended) (outcome_kind ended) (outcome_place ended)
+members_made outcome.Done other = absurd (other refl)
+members_made (outcome.Refused why) other = refl
+members_made outcome.NoSuchType other = refl
+members_made outcome.Offset other = refl
+members_made (outcome.Fault why) other = refl
+members_made (outcome.Slots at) other = refl
+members_made (outcome.Left at) other = refl
+members_made outcome.NoSuchPart other = refl
+members_made (outcome.Output at) other = refl
+members_made (outcome.Failed why) other = refl
+
+-- a fact of a result that is an error
+pub on_err : {T E A : Type 0} (r : Result T E) → A → OnErr r A
+on_err (Ok x) a = tt
+on_err (Err e) a = a
 
 no_part : (a b : Option (List ℕ)) → AppendsPart a b [] → ⊥
 no_part a b part = absurd (omega (arith, ap length part.whole, length-append part.taken part.rest, part.more))

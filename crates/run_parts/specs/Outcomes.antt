@@ -7,7 +7,7 @@ use Rattle.pickle_meaning.specs.FaultNames.{fault_kind}
 use Rattle.run_parts.specs.Accepted.{refusal_kind, refusal_saying}
 use Rattle.run_parts.specs.FaultLines.{fault_saying}
 use Rattle.run_parts.specs.Lines.{refused_line, fault_line, fault_at_line}
-use Rattle.run_parts.specs.Reports.{report_json}
+use Rattle.run_parts.specs.Reports.{report_members, report_json}
 use Rattle.run_parts.specs.Told.{Saying, Text, Line}
 use Rattle.run_parts.specs.declared.accept.Refusal.{Refusal}
 use Rattle.run_parts.specs.declared.accept.Refusal.TheVariants as refusal
@@ -107,6 +107,11 @@ outcome_place (outcome.Failed why) = Nowhere
 abbrev pub outcome_json : Outcome → List ℕ
 outcome_json outcome.Done = []
 outcome_json ended = report_json (outcome_status ended) (outcome_kind ended) (outcome_place ended)
+
+-- the members of that object
+abbrev pub outcome_members : Outcome → List ℕ
+outcome_members outcome.Done = []
+outcome_members ended = report_members (outcome_status ended) (outcome_kind ended) (outcome_place ended)
 
 -- a run ends with what is right: its text is written whole, or in part to a failing writer; or nothing is written, and
 -- its line is right

@@ -23,20 +23,24 @@ place_text (Bit bit) = codes " at " ++ (decimal bit ++ codes "#b\n")
 abbrev pub report_line : Status → (kind : List ℕ) → Place → List ℕ
 report_line status kind place = lead status ++ (kind ++ place_text place)
 
--- the same as a JSON object: its start, up to the name
-abbrev pub json_lead : Status → List ℕ
-json_lead Done = codes "{\"fault\":\""
-json_lead Fault = codes "{\"fault\":\""
-json_lead Refused = codes "{\"refused\":\""
-json_lead Outside = codes "{\"fault\":\""
+-- the same as members of a JSON object: the start, up to the name
+abbrev pub member_lead : Status → List ℕ
+member_lead Done = codes "\"fault\":\""
+member_lead Fault = codes "\"fault\":\""
+member_lead Refused = codes "\"refused\":\""
+member_lead Outside = codes "\"fault\":\""
 
--- the place after the name, and the end of the object
-abbrev pub json_place : Place → List ℕ
-json_place Nowhere = codes "\"}\n"
-json_place (Byte byte) = codes "\",\"byte\":" ++ (decimal byte ++ codes "}\n")
-json_place (Declaration declaration) = codes "\",\"type\":" ++ (decimal declaration ++ codes "}\n")
-json_place (Bit bit) = codes "\",\"at\":" ++ (decimal bit ++ codes "}\n")
+-- the place after the name
+abbrev pub member_place : Place → List ℕ
+member_place Nowhere = codes "\""
+member_place (Byte byte) = codes "\",\"byte\":" ++ decimal byte
+member_place (Declaration declaration) = codes "\",\"type\":" ++ decimal declaration
+member_place (Bit bit) = codes "\",\"at\":" ++ decimal bit
 
--- the whole object, on a line
+-- the members
+abbrev pub report_members : Status → (kind : List ℕ) → Place → List ℕ
+report_members status kind place = member_lead status ++ (kind ++ member_place place)
+
+-- the object of these members, on a line
 abbrev pub report_json : Status → (kind : List ℕ) → Place → List ℕ
-report_json status kind place = json_lead status ++ (kind ++ json_place place)
+report_json status kind place = codes "{" ++ (report_members status kind place ++ codes "}\n")

@@ -3,7 +3,7 @@
 ghost use Rattle.std.specs.Prelude.{◌≡◌, ◌++◌, decimal, OnOk, OnErr};
 ghost use Rattle.std.specs.Io.KnownBytes.{Appends};
 ghost use Rattle.text_forms.specs.Written.{AppendsPart};
-ghost use Rattle.run_parts.specs.Reports.{json_lead, lead, report_json, report_line};
+ghost use Rattle.run_parts.specs.Reports.{lead, member_lead, report_json, report_line, report_members};
 
 use crate::status::Status;
 use itoa::Buffer;
@@ -46,6 +46,7 @@ pub fn put_report<W: Write>(
 
 /// Writes the JSON object of a run that ended with a status other than `Done`, on a line. `kind` is the name of the refusal
 /// or fault, in letters.
+#[tactic(auto, using(text_forms::proofs::Parts::written))]
 pub fn put_report_json<W: Write>(
     w: &mut W,
     status: Status,
@@ -55,14 +56,30 @@ pub fn put_report_json<W: Write>(
     ensures ok { OnOk result (Appends (W.contents w.old) (W.contents w.new) (report_json status kind.now place)) }
     ensures err { OnErr result (AppendsPart (W.contents w.old) (W.contents w.new) (report_json status kind.now place)) }
 {
-    let lead = json_lead(status);
+    put(w, b"{")?;
+    put_report_members(w, status, kind, place)?;
+    put(w, b"}\n")?;
+    Ok(())
+}
+
+/// Writes the members of that object: `"fault":"End","at":32`.
+pub fn put_report_members<W: Write>(
+    w: &mut W,
+    status: Status,
+    kind: &[u8],
+    place: Place,
+) -> Result<(), WriteFault>
+    ensures ok { OnOk result (Appends (W.contents w.old) (W.contents w.new) (report_members status kind.now place)) }
+    ensures err { OnErr result (AppendsPart (W.contents w.old) (W.contents w.new) (report_members status kind.now place)) }
+{
+    let lead = member_lead(status);
     match place {
-        Place::Nowhere => put_plain(w, lead, kind, b"\"}\n"),
-        Place::Byte(byte) => put_placed(w, lead, kind, b"\",\"byte\":", byte as u128, b"}\n"),
+        Place::Nowhere => put_plain(w, lead, kind, b"\""),
+        Place::Byte(byte) => put_member(w, lead, kind, b"\",\"byte\":", byte as u128),
         Place::Declaration(declaration) => {
-            put_placed(w, lead, kind, b"\",\"type\":", declaration as u128, b"}\n")
+            put_member(w, lead, kind, b"\",\"type\":", declaration as u128)
         }
-        Place::Bit(bit) => put_placed(w, lead, kind, b"\",\"at\":", bit, b"}\n"),
+        Place::Bit(bit) => put_member(w, lead, kind, b"\",\"at\":", bit),
     }
 }
 
@@ -76,13 +93,13 @@ fn lead(status: Status) -> &'static [u8]
     }
 }
 
-// The start of the object of a status, up to the name.
-fn json_lead(status: Status) -> &'static [u8]
-    ensures { result.now ≡ json_lead status }
+// The start of the members of a status, up to the name.
+fn member_lead(status: Status) -> &'static [u8]
+    ensures { result.now ≡ member_lead status }
 {
     match status {
-        Status::Refused => b"{\"refused\":\"",
-        Status::Done | Status::Fault | Status::Outside => b"{\"fault\":\"",
+        Status::Refused => b"\"refused\":\"",
+        Status::Done | Status::Fault | Status::Outside => b"\"fault\":\"",
     }
 }
 
@@ -120,14 +137,43 @@ fn put_placed<W: Write>(
     Ok(())
 }
 
+// `lead`, the kind, and a number after `link`
+#[tactic(auto, using(text_forms::proofs::Parts::written))]
+fn put_member<W: Write>(
+    w: &mut W,
+    lead: &[u8],
+    kind: &[u8],
+    link: &[u8],
+    number: u128,
+) -> Result<(), WriteFault>
+    ensures ok { OnOk result (Appends (W.contents w.old) (W.contents w.new)
+        (lead.now ++ (kind.now ++ (link.now ++ decimal number)))) }
+    ensures err { OnErr result (AppendsPart (W.contents w.old) (W.contents w.new)
+        (lead.now ++ (kind.now ++ (link.now ++ decimal number)))) }
+{
+    put(w, lead)?;
+    put(w, kind)?;
+    put(w, link)?;
+    put_digits(w, number)?;
+    Ok(())
+}
+
+/// Writes the decimal digits of a number.
+pub fn put_digits<W: Write>(w: &mut W, number: u128) -> Result<(), WriteFault>
+    ensures ok { OnOk result (Appends (W.contents w.old) (W.contents w.new) (decimal number)) }
+    ensures err { OnErr result (AppendsPart (W.contents w.old) (W.contents w.new) (decimal number)) }
+{
+    let mut digits = Buffer::new();
+    put(w, digits.format(number).as_bytes())
+}
+
 /// Writes the decimal digits of a number, and `tail`.
 #[tactic(auto, using(text_forms::proofs::Parts::written))]
 pub fn put_number<W: Write>(w: &mut W, number: u128, tail: &[u8]) -> Result<(), WriteFault>
     ensures ok { OnOk result (Appends (W.contents w.old) (W.contents w.new) (decimal number ++ tail.now)) }
     ensures err { OnErr result (AppendsPart (W.contents w.old) (W.contents w.new) (decimal number ++ tail.now)) }
 {
-    let mut digits = Buffer::new();
-    put(w, digits.format(number).as_bytes())?;
+    put_digits(w, number)?;
     put(w, tail)?;
     Ok(())
 }

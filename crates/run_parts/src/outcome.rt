@@ -4,10 +4,10 @@ ghost use Rattle.std.specs.Prelude.{◌≡◌, OnOk, OnErr};
 ghost use Rattle.std.specs.Io.KnownBytes.{Appends};
 ghost use Rattle.text_forms.specs.Written.{AppendsPart};
 ghost use Rattle.run_parts.specs.Outcomes.{failure_kind, fault_place, fault_status, refusal_place};
-ghost use Rattle.run_parts.specs.Outcomes.{outcome_json, outcome_kind, outcome_line, outcome_place, outcome_status};
+ghost use Rattle.run_parts.specs.Outcomes.{outcome_json, outcome_kind, outcome_line, outcome_members, outcome_place, outcome_status};
 
 use crate::accept::Refusal;
-use crate::lines::{Place, put_report, put_report_json};
+use crate::lines::{Place, put_report, put_report_json, put_report_members};
 use crate::status::Status;
 use pickle_meaning::faults::{MapFault, MapFaultKind};
 use std::io::Write;
@@ -148,6 +148,17 @@ impl Outcome {
         match self {
             Outcome::Done => Ok(()),
             _ => put_report_json(w, self.status(), self.name().as_bytes(), self.place()),
+        }
+    }
+
+    /// Writes the members of that object: `"fault":"End","at":32`. A run that is done has none.
+    pub fn put_members<W: Write>(self, w: &mut W) -> Result<(), WriteFault>
+        ensures ok { OnOk result (Appends (W.contents w.old) (W.contents w.new) (outcome_members self)) }
+        ensures err { OnErr result (AppendsPart (W.contents w.old) (W.contents w.new) (outcome_members self)) }
+    {
+        match self {
+            Outcome::Done => Ok(()),
+            _ => put_report_members(w, self.status(), self.name().as_bytes(), self.place()),
         }
     }
 }
