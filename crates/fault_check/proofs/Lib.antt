@@ -5,3 +5,4 @@ pub mod Nodes
 pub mod IntegralFields
 pub mod ArrayElements
 pub mod Own
+pub mod Located

@@ -1,5 +1,5 @@
 -- The result of a number's plan is what the number means.
-use Rattle.std.proofs.Common.{◌≡◌, ℕ, ◌+◌, ◌-◌, zero, suc, List, [], Option, Some, Result, Ok, Err, refl, ap, ◌∙◌}
+use Rattle.std.proofs.Common.{◌≡◌, ℕ, ◌+◌, ◌-◌, zero, suc, List, [], Option, Some, Result, Ok, Err, OnErr, refl, ap, ◌∙◌}
 use Rattle.pickle_tree.specs.declared.tree.ByteOrder.{ByteOrder}
 use Rattle.pickle_types.specs.declared.integer.IntegerType.{IntegerType}
 use Rattle.pickle_types.specs.Types.{Term, PokeType, IntegerOf, OffsetOf, StringOf, ArrayOf, StructOf, IntegralOf, UnionOf, Parts, NoParts, PartThen}
@@ -8,14 +8,16 @@ use Rattle.pickle_meaning.specs.Clauses.{FaultAt, constraint, clause_steps}
 use Rattle.pickle_meaning.specs.Means.{NumberMeans, integer, offset, integral, integral_fault, no_number, DigitsMean, no_digits, next_digits, digits_refused, digits_fault, number_type, width_in, first_digits, part_names, struct_value}
 use Rattle.mapping_plans.specs.Plan.{Plan, Ended, Tick, Made, Read, and_then, then_ok, on_value, after, result_of}
 use Rattle.mapping_plans.specs.Mapping.{number_plan, digits_plan, constrained, closes}
-use Rattle.std.specs.Prelude.{IfOk}
+use Rattle.std.specs.Prelude.{IfErr, IfOk}
 use Rattle.bit_space.specs.declared.meter.Meter.{Meter}
 use Rattle.pickle_types.specs.declared.node.Node.{Node}
 use Rattle.pickle_map.specs.declared.mapper.stop.Stop.{Stop}
+use Rattle.pickle_map.specs.declared.mapper.stop.Stop.TheVariants.{Fault, Limit, Device, Memory}
 use Rattle.pickle_map.specs.Calls.{Places}
 use Rattle.pickle_map.proofs.Followed.{walk_leaves}
 use Rattle.value_store.specs.Slots.{Held, levels}
 use Rattle.fault_check.specs.Digits.{KeepsNumber}
+use Rattle.fault_check.specs.Sites.{StopsNumber}
 use Rattle.fault_parts.specs.Somehow.{Somehow}
 
 module _ (bits : List ℕ) where
@@ -123,3 +125,17 @@ number_kept nodes meter meter' store store' ty n s (Ok u) h =
     let m = number_planned [] ty n (levels nodes store) s in
     record { value = one.value; means = rw is at m; keeps = one.kept }
 number_kept nodes meter meter' store store' ty n s (Err stop) h = tt
+
+-- a number that was stopped means the fault
+pub number_stopped : (nodes : List Node) (meter meter' : Meter) (store store' : Held) (ty : PokeType) (n s : ℕ) (result : Result (Unit {0}) Stop) → Places nodes meter meter' store store' ty n s result →
+    OnErr result (levels nodes store' ≡ levels nodes store) → IfErr result (StopsNumber ty n s (levels nodes store) (levels nodes store'))
+number_stopped nodes meter meter' store store' ty n s (Ok u) h same = tt
+number_stopped nodes meter meter' store store' ty n s (Err (Fault kind place)) h same =
+    let stopped = h (Some []) in
+    let leaves = walk_leaves [] refl stopped.walk in
+    let is = rw stopped.ends at leaves.result in
+    let m = number_planned [] ty n (levels nodes store) s in
+    (rw is at m, same)
+number_stopped nodes meter meter' store store' ty n s (Err Limit) h same = tt
+number_stopped nodes meter meter' store store' ty n s (Err Device) h same = tt
+number_stopped nodes meter meter' store store' ty n s (Err Memory) h same = tt

@@ -2,3 +2,4 @@ pub mod Ways
 pub mod Digits
 pub mod Elements
 pub mod Calls
+pub mod Sites

@@ -1,16 +1,18 @@
 //! Alternatives of a union, on the path to one of them.
 
-ghost use Rattle.std.specs.Prelude.{◌≡◌, ℕ, ◌∷◌, [], List, All, IsTrue};
+ghost use Rattle.std.specs.Prelude.{◌≡◌, ℕ, ◌∷◌, [], List, All, IsTrue, IfOk};
 ghost use Rattle.pickle_types.specs.declared.node.Node.{Node};
 ghost use Rattle.pickle_types.specs.Table.{IsTable};
 ghost use Rattle.pickle_meaning.specs.Values.{outer_of};
 ghost use Rattle.pickle_map.specs.Mappable.{IsPartOf};
 ghost use Rattle.value_store.specs.Slots.{levels, level_count};
 ghost use Rattle.fault_check.specs.Calls.{EntersAlternatives, MissesOne};
+ghost use Rattle.fault_check.specs.Sites.{MayGoOn, FindsAlternative, LeavesLevels, TriesAlternative};
 ghost use Rattle.fault_check.specs.Ways.{OnBits, Leaves, EntersAlternative, GoesOn, fault_of};
 
-use crate::mapped::map_checked;
+use crate::mapped::{map_checked, try_part};
 use crate::part::{Entered, Part};
+use crate::site::{Attempt, Ended, Inner, Site, Tried};
 use bit_space::{Meter, Order, Space};
 use pickle_map::mapper::stop::Stop;
 use pickle_map::mapper::types::ordered;
@@ -103,4 +105,91 @@ fn enter_alternative<'a>(
         start: u128::from(start),
         constraint: Some(&alternative.constraint),
     })
+}
+
+/// Finds the alternative of a union at which its fault arises. The union starts at the bit `start`.
+pub fn find_alternative<S: Space>(
+    nodes: &[Node],
+    alternatives: &[Alternative],
+    order: Order,
+    start: u64,
+    space: &mut S,
+    meter: &mut Meter,
+    store: &mut Store,
+) -> Result<Site, Ended>
+    requires table { IsTable nodes.now }
+    requires alternatives { All (IsPartOf nodes.now (level_count store.old)) alternatives.now }
+    requires fresh { levels nodes.now store.old ≡ [] ∷ outer_of (levels nodes.now store.old) }
+    ensures leaves { Leaves (S.view space.old) (S.view space.new) meter.old meter.new }
+    ensures depth { level_count store.new ≡ level_count store.old }
+    ensures goes_on { IfOk result (MayGoOn nodes.now (level_count store.old)) }
+    ensures is { IfOk result (λ site. OnBits (S.view space.old) (FindsAlternative nodes.now alternatives.now order start store.old store.new site)) }
+{
+    for (place, alternative) in alternatives.iter().enumerate() {
+        match try_alternative(nodes, alternative, order, start, space, meter, store)? {
+            Attempt::Misses => (),
+            Attempt::Fits => return Ok(Site::Itself),
+            Attempt::Beside => return Ok(Site::Beside(place)),
+            Attempt::Inside(at) => {
+                return Ok(Site::Inside(
+                    place,
+                    Inner {
+                        node: alternative.node,
+                        order: ordered(alternative.order, order),
+                        start: at,
+                    },
+                ));
+            }
+        }
+    }
+    Ok(Site::Itself)
+}
+
+/// Maps an alternative. Says whether it matches, and where it has a fault that ends the union.
+fn try_alternative<S: Space>(
+    nodes: &[Node],
+    alternative: &Alternative,
+    order: Order,
+    start: u64,
+    space: &mut S,
+    meter: &mut Meter,
+    store: &mut Store,
+) -> Result<Attempt, Ended>
+    requires table { IsTable nodes.now }
+    requires alternative { IsPartOf nodes.now (level_count store.old) alternative.now }
+    requires fresh { levels nodes.now store.old ≡ [] ∷ outer_of (levels nodes.now store.old) }
+    ensures leaves { Leaves (S.view space.old) (S.view space.new) meter.old meter.new }
+    ensures depth { level_count store.new ≡ level_count store.old }
+    ensures same { IfOk result (LeavesLevels nodes.now store.old store.new) }
+    ensures is { IfOk result (λ found. OnBits (S.view space.old) (TriesAlternative nodes.now alternative.now order start store.old store.new found)) }
+{
+    let tried = try_part(
+        nodes,
+        alternative.node,
+        &alternative.constraint,
+        ordered(alternative.order, order),
+        u128::from(start),
+        space,
+        meter,
+        store,
+    )?;
+    match tried {
+        Tried::Passed(_) => Ok(Attempt::Fits),
+        Tried::Beside(fault) => {
+            if Stop::Fault(fault.kind, fault.at).misses() {
+                store.clear_level();
+                Ok(Attempt::Misses)
+            } else {
+                Ok(Attempt::Beside)
+            }
+        }
+        Tried::Inside(at, fault) => {
+            if Stop::Fault(fault.kind, fault.at).misses() {
+                store.clear_level();
+                Ok(Attempt::Misses)
+            } else {
+                Ok(Attempt::Inside(at))
+            }
+        }
+    }
 }

@@ -1,6 +1,6 @@
 //! Integral structs, on the path to the field in which a fault arises.
 
-ghost use Rattle.std.specs.Prelude.{◌≡◌, ◌+◌, ◌<◌, ◌≤◌, ◌^◌, length, All, IfOk, IfSome, IsTrue};
+ghost use Rattle.std.specs.Prelude.{◌≡◌, ◌+◌, ◌<◌, ◌≤◌, ◌^◌, ◌++◌, length, All, IfOk, IfErr, IfSome, IsTrue};
 ghost use Rattle.pickle_types.specs.Types.{depth};
 ghost use Rattle.pickle_types.specs.Table.{IsTable, type_of};
 ghost use Rattle.pickle_meaning.specs.Means.{number_type, width_in};
@@ -9,9 +9,11 @@ ghost use Rattle.value_store.specs.Slots.{levels, level_count};
 ghost use Rattle.fault_parts.specs.Arises.{NumberArises};
 ghost use Rattle.fault_check.specs.Ways.{OnBits, Leaves, fault_of};
 ghost use Rattle.fault_check.specs.Calls.{Reaches};
+ghost use Rattle.fault_check.specs.Sites.{path_cut, DigitsGoOn, FindsDigits, StopsNumber, TriesDigitsAs};
 ghost use Rattle.fault_check.specs.Digits.{KeepsNumber, PassesNumber, RefusesNumber, ArisesAt};
 
 use crate::mapped::{check_constraint, is_fault};
+use crate::site::{Cut, Digits, Ended, Tried, fault_in, keep};
 use bit_space::{Meter, Order, Space};
 use pickle_map::mapper::number::{first_digits, width_at};
 use pickle_map::mapper::read::read_digits;
@@ -211,6 +213,7 @@ fn keep_number(
     ensures limit { meter.new.limit ≡ meter.old.limit }
     ensures depth { level_count store.new ≡ level_count store.old }
     ensures is { IfOk result (λ _. KeepsNumber (type_of nodes.now at) digits start (levels nodes.now store.old) (levels nodes.now store.new)) }
+    ensures stops { IfErr result (StopsNumber (type_of nodes.now at) digits start (levels nodes.now store.old) (levels nodes.now store.new)) }
 {
     meter.tick()?;
     let mut mapper = Mapper {
@@ -220,4 +223,113 @@ fn keep_number(
         watch: &mut Unwatched,
     };
     mapper.place_number(at, digits, start)
+}
+
+/// Adds the path to the field in which the fault of a number arises to `path`.
+pub fn locate_in_number(
+    nodes: &[Node],
+    number: Cut,
+    path: &mut Vec<usize>,
+    meter: &mut Meter,
+    store: &mut Store,
+) -> Result<(), Ended>
+    requires table { IsTable nodes.now }
+    requires at { number.node < length nodes.now }
+    requires open { level_count store.old + depth (type_of nodes.now number.node) ≤ 65 }
+    requires start { number.start < 2 ^ 63 }
+    ensures limit { meter.new.limit ≡ meter.old.limit }
+    ensures is { IfOk result (λ _. path.new.items ≡ path.old.items ++ path_cut nodes.now (levels nodes.now store.old) number) }
+{
+    let Shape::Integral {
+        name: _,
+        number: whole,
+        fields,
+    } = &nodes[number.node].shape
+    else {
+        return Ok(());
+    };
+    store.open_level();
+    match find_digits(
+        nodes,
+        fields,
+        number.digits,
+        whole.width,
+        number.start,
+        meter,
+        store,
+    )? {
+        Digits::Itself => Ok(()),
+        Digits::Beside(place) => keep(path, place),
+        Digits::Inside(place, next) => {
+            keep(path, place)?;
+            locate_in_number(nodes, next, path, meter, store)
+        }
+    }
+}
+
+/// Finds the field of an integral struct at which the fault of its number arises.
+fn find_digits(
+    nodes: &[Node],
+    fields: &[Field],
+    digits: u64,
+    width: u8,
+    start: u64,
+    meter: &mut Meter,
+    store: &mut Store,
+) -> Result<Digits, Ended>
+    requires table { IsTable nodes.now }
+    requires fields { All (IsPartOf nodes.now (level_count store.old)) fields.now }
+    requires width { width ≤ 64 }
+    requires start { start < 2 ^ 63 }
+    ensures limit { meter.new.limit ≡ meter.old.limit }
+    ensures depth { level_count store.new ≡ level_count store.old }
+    ensures goes_on { IfOk result (DigitsGoOn nodes.now (level_count store.old) start) }
+    ensures is { IfOk result (FindsDigits nodes.now fields.now digits width start store.old store.new) }
+{
+    let mut left = width;
+    for (place, field) in fields.iter().enumerate() {
+        let width = width_at(nodes, field.node);
+        let cut = first_digits(digits, left, width);
+        match try_digits(nodes, field, cut, start, meter, store)? {
+            Tried::Passed(_) => left = left.saturating_sub(width),
+            Tried::Beside(_) => return Ok(Digits::Beside(place)),
+            Tried::Inside(_, _) => {
+                return Ok(Digits::Inside(
+                    place,
+                    Cut {
+                        node: field.node,
+                        digits: cut,
+                        start,
+                    },
+                ));
+            }
+        }
+    }
+    Ok(Digits::Itself)
+}
+
+/// Stores a field of an integral struct, and checks its constraint. Says which of them has a fault.
+fn try_digits(
+    nodes: &[Node],
+    field: &Field,
+    digits: u64,
+    start: u64,
+    meter: &mut Meter,
+    store: &mut Store,
+) -> Result<Tried, Ended>
+    requires table { IsTable nodes.now }
+    requires field { IsPartOf nodes.now (level_count store.old) field.now }
+    requires digits { digits < 2 ^ width_in (number_type (type_of nodes.now field.now.node)) }
+    requires start { start < 2 ^ 63 }
+    ensures limit { meter.new.limit ≡ meter.old.limit }
+    ensures depth { level_count store.new ≡ level_count store.old }
+    ensures is { IfOk result (TriesDigitsAs nodes.now digits start field.now (levels nodes.now store.old) (levels nodes.now store.new)) }
+{
+    match keep_number(nodes, field.node, digits, start, meter, store) {
+        Ok(()) => match check_constraint(&field.constraint, u128::from(start), meter, store) {
+            Ok(()) => Ok(Tried::Passed(start)),
+            Err(stop) => Ok(Tried::Beside(fault_in(stop)?)),
+        },
+        Err(stop) => Ok(Tried::Inside(u128::from(start), fault_in(stop)?)),
+    }
 }

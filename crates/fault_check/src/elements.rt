@@ -7,10 +7,12 @@ ghost use Rattle.pickle_types.specs.Sound.{IsSoundBound};
 ghost use Rattle.pickle_map.specs.Framed.{IsEnd};
 ghost use Rattle.value_store.specs.Slots.{level_count};
 ghost use Rattle.fault_check.specs.Ways.{OnBits, Leaves, GoesOn};
+ghost use Rattle.fault_check.specs.Sites.{MayGoOn, HasFrame, FindsElement, FindsInArray};
 ghost use Rattle.fault_check.specs.Elements.{IsElement, OutgrowsSize, ArrayArises, EntersArray, EntersElements, KeepsElements, FindsEmpty};
 
 use crate::mapped::{is_fault, map_part};
 use crate::part::{Entered, Part};
+use crate::site::{Ended, Inner, Site, fault_in};
 use bit_space::{Meter, Order, Space};
 use pickle_map::mapper::clauses::find_extent;
 use pickle_map::mapper::stop::Stop;
@@ -257,4 +259,85 @@ fn outgrows<S: Space>(
         count += 1;
     }
     !extent.is_met(start, behind)
+}
+
+/// Finds the element of an array at which its fault arises. The array starts at the bit `start`.
+pub fn find_in_array<S: Space>(
+    nodes: &[Node],
+    element: usize,
+    bound: &Bound,
+    order: Order,
+    start: u64,
+    space: &mut S,
+    meter: &mut Meter,
+    store: &mut Store,
+) -> Result<Site, Ended>
+    requires table { IsTable nodes.now }
+    requires element { element < length nodes.now }
+    requires open { level_count store.old + 1 + depth (type_of nodes.now element) ≤ 65 }
+    requires sound { IsSoundBound (bound_of bound.now) }
+    requires inside { start ≤ 8 * (S.view space.old).len }
+    ensures leaves { Leaves (S.view space.old) (S.view space.new) meter.old meter.new }
+    ensures frame { IfOk result (HasFrame store.old store.new) }
+    ensures goes_on { IfOk result (MayGoOn nodes.now (level_count store.new)) }
+    ensures is { IfOk result (λ site. OnBits (S.view space.old) (FindsInArray nodes.now element bound.now order start store.old store.new site)) }
+{
+    match find_extent(bound, store, u128::from(start), meter) {
+        Ok(extent) => {
+            store.open_level();
+            find_element(nodes, element, extent, order, start, space, meter, store)
+        }
+        Err(stop) => {
+            let _fault = fault_in(stop)?;
+            Ok(Site::Itself)
+        }
+    }
+}
+
+/// Finds the element of an array whose frame is open at which its fault arises.
+fn find_element<S: Space>(
+    nodes: &[Node],
+    element: usize,
+    extent: Extent,
+    order: Order,
+    start: u64,
+    space: &mut S,
+    meter: &mut Meter,
+    store: &mut Store,
+) -> Result<Site, Ended>
+    requires table { IsTable nodes.now }
+    requires element { element < length nodes.now }
+    requires open { level_count store.old + depth (type_of nodes.now element) ≤ 65 }
+    requires inside { start ≤ 8 * (S.view space.old).len }
+    ensures leaves { Leaves (S.view space.old) (S.view space.new) meter.old meter.new }
+    ensures depth { level_count store.new ≡ level_count store.old }
+    ensures goes_on { IfOk result (MayGoOn nodes.now (level_count store.old)) }
+    ensures is { IfOk result (λ site. OnBits (S.view space.old) (FindsElement nodes.now element extent order start store.old store.new site)) }
+{
+    let bits = 8 * space.len();
+    let mut behind = start;
+    let mut count = 0;
+    while extent.is_due(bits, start, count, behind) {
+        let at = u128::from(behind);
+        match map_part(nodes, element, order, at, space, meter, store) {
+            Ok(end) if behind < end => behind = end,
+            Ok(_) => return Ok(Site::Beside(count as usize)),
+            Err(stop) => {
+                let _fault = fault_in(stop)?;
+                if stop.ends(extent) {
+                    return Ok(Site::Itself);
+                }
+                return Ok(Site::Inside(
+                    count as usize,
+                    Inner {
+                        node: element,
+                        order,
+                        start: at,
+                    },
+                ));
+            }
+        }
+        count += 1;
+    }
+    Ok(Site::Itself)
 }

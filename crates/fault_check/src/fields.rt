@@ -6,10 +6,12 @@ ghost use Rattle.pickle_types.specs.Table.{IsTable, optional_term};
 ghost use Rattle.pickle_map.specs.Mappable.{IsFieldOf};
 ghost use Rattle.value_store.specs.Slots.{levels, level_count};
 ghost use Rattle.fault_check.specs.Calls.{EntersFields, Passes};
+ghost use Rattle.fault_check.specs.Sites.{MayGoOn, FindsField, TriesField};
 ghost use Rattle.fault_check.specs.Ways.{OnBits, Leaves, EntersField, GoesOn, fault_of};
 
-use crate::mapped::{find_start, is_there, map_checked, there_if};
+use crate::mapped::{find_start, is_there, map_checked, there_if, try_part};
 use crate::part::{Entered, Part};
+use crate::site::{Ended, Inner, Site, Tried, fault_in};
 use bit_space::{Meter, Order, Space};
 use pickle_map::mapper::stop::Stop;
 use pickle_map::mapper::types::ordered;
@@ -123,6 +125,89 @@ fn enter_field<'a, W: Watch>(
             constraint: Some(&field.constraint),
         }),
         Err(stop) => there_if(stop, fault),
+    }
+}
+
+/// Finds the field of a struct at which its fault arises. The struct starts at the bit `start`.
+pub fn find_field<S: Space>(
+    nodes: &[Node],
+    pinned: bool,
+    fields: &[Field],
+    order: Order,
+    start: u64,
+    space: &mut S,
+    meter: &mut Meter,
+    store: &mut Store,
+) -> Result<Site, Ended>
+    requires table { IsTable nodes.now }
+    requires fields { All (IsFieldOf nodes.now (level_count store.old)) fields.now }
+    ensures leaves { Leaves (S.view space.old) (S.view space.new) meter.old meter.new }
+    ensures depth { level_count store.new ≡ level_count store.old }
+    ensures goes_on { IfOk result (MayGoOn nodes.now (level_count store.old)) }
+    ensures is { IfOk result (λ site. OnBits (S.view space.old) (FindsField nodes.now pinned fields.now order start store.old store.new site)) }
+{
+    let mut behind = start;
+    for (place, field) in fields.iter().enumerate() {
+        match try_field(
+            nodes, pinned, field, order, start, behind, space, meter, store,
+        )? {
+            Tried::Passed(end) => behind = end,
+            Tried::Beside(_) => return Ok(Site::Beside(place)),
+            Tried::Inside(at, _) => {
+                return Ok(Site::Inside(
+                    place,
+                    Inner {
+                        node: field.node,
+                        order: ordered(field.order, order),
+                        start: at,
+                    },
+                ));
+            }
+        }
+    }
+    Ok(Site::Itself)
+}
+
+/// Maps a field, or stores an absent one. Says where it has a fault.
+fn try_field<S: Space>(
+    nodes: &[Node],
+    pinned: bool,
+    field: &Field,
+    order: Order,
+    start: u64,
+    behind: u64,
+    space: &mut S,
+    meter: &mut Meter,
+    store: &mut Store,
+) -> Result<Tried, Ended>
+    requires table { IsTable nodes.now }
+    requires field { IsFieldOf nodes.now (level_count store.old) field.now }
+    ensures leaves { Leaves (S.view space.old) (S.view space.new) meter.old meter.new }
+    ensures is { IfOk result (λ found. OnBits (S.view space.old) (TriesField nodes.now pinned start order field.now store.old store.new behind found)) }
+    ensures depth { level_count store.new ≡ level_count store.old }
+{
+    match is_there(&field.condition, start, meter, store) {
+        Ok(true) => {}
+        Ok(false) => {
+            return match store.push_absent() {
+                Ok(()) => Ok(Tried::Passed(behind)),
+                Err(_) => Err(Ended::Memory),
+            };
+        }
+        Err(stop) => return Ok(Tried::Beside(fault_in(stop)?)),
+    }
+    match find_start(pinned, &field.label, start, behind, meter, store) {
+        Ok(place) => try_part(
+            nodes,
+            field.node,
+            &field.constraint,
+            ordered(field.order, order),
+            place,
+            space,
+            meter,
+            store,
+        ),
+        Err(stop) => Ok(Tried::Beside(fault_in(stop)?)),
     }
 }
 

@@ -6,5 +6,7 @@ pub mod arises;
 pub mod digits;
 pub mod elements;
 pub mod fields;
+pub mod locate;
 pub mod mapped;
 pub mod part;
+pub mod site;

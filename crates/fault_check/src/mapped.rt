@@ -10,9 +10,11 @@ ghost use Rattle.pickle_meaning.specs.Values.{outer_of};
 ghost use Rattle.pickle_map.specs.Framed.{Frame, IsEnd, AddsToLevel, LevelStays};
 ghost use Rattle.value_store.specs.Slots.{levels, level_count};
 ghost use Rattle.fault_check.specs.Calls.{FindsStart, MapsChecked, MapsType};
+ghost use Rattle.fault_check.specs.Sites.{TriesPart};
 ghost use Rattle.fault_check.specs.Ways.{OnBits, Settled, IsThere, IsFault, Leaves};
 
 use crate::part::Entered;
+use crate::site::{Ended, Tried, fault_in};
 use bit_space::{Meter, Order, Space};
 use pickle_map::mapper::clauses;
 use pickle_map::mapper::state::Mapper;
@@ -149,6 +151,34 @@ pub fn map_checked<S: Space>(
     let end = map_part(nodes, node, order, start, space, meter, store)?;
     check_constraint(clause, start, meter, store)?;
     Ok(end)
+}
+
+/// Maps the type at a place of the table, and checks its constraint. Says which of them has a fault.
+pub fn try_part<S: Space>(
+    nodes: &[Node],
+    node: usize,
+    clause: &Option<Box<Resolved>>,
+    order: Order,
+    start: u128,
+    space: &mut S,
+    meter: &mut Meter,
+    store: &mut Store,
+) -> Result<Tried, Ended>
+    requires table { IsTable nodes.now }
+    requires at { node < length nodes.now }
+    requires open { level_count store.old + depth (type_of nodes.now node) ≤ 65 }
+    requires sound { IsSoundClause (optional_term clause.now) }
+    ensures leaves { Leaves (S.view space.old) (S.view space.new) meter.old meter.new }
+    ensures is { IfOk result (λ found. OnBits (S.view space.old) (TriesPart nodes.now node clause.now order start store.old store.new found)) }
+    ensures level { LevelStays nodes.now store.old store.new }
+{
+    match map_part(nodes, node, order, start, space, meter, store) {
+        Ok(end) => match check_constraint(clause, start, meter, store) {
+            Ok(()) => Ok(Tried::Passed(end)),
+            Err(stop) => Ok(Tried::Beside(fault_in(stop)?)),
+        },
+        Err(stop) => Ok(Tried::Inside(start, fault_in(stop)?)),
+    }
 }
 
 /// Whether a stop is this fault.

@@ -1,5 +1,4 @@
 pub mod Faults
 pub mod Meant
 mod Rows
-mod Paths
-mod Once
+pub mod Once

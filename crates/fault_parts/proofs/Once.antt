@@ -20,7 +20,7 @@ use Rattle.fault_parts.specs.Arises.{Path, DigitsBefore, no_digits_before, digit
 use Rattle.fault_parts.specs.Somehow.{Somehow}
 use Rattle.fault_parts.specs.Laws.{ArisesOnce}
 use Rattle.fault_parts.proofs.Meant.{number_meant, means_fault}
-use Rattle.fault_parts.proofs.Paths.{by_outcome, next, checked_path, number_path, digits_path, elements_path, path_of, fields_path, alternatives_path}
+use Rattle.fault_parts.specs.Paths.{by_outcome, next, checked_path, number_path, digits_path, elements_path, path_of, fields_path, alternatives_path}
 
 -- ---- numbers
 
@@ -56,7 +56,7 @@ no_number_result (UnionOf name alternatives) n levels s e = refl
 mutual
   unfolding number_plan
 
-  number_result : {ty : PokeType} {n : ℕ} {levels : Levels} {s : ℕ} {r : Result Value FaultAt} {k j : ℕ} → NumberMeans ty n levels s r k j → result_of [] (number_plan ty n levels s) ≡ r
+  pub number_result : {ty : PokeType} {n : ℕ} {levels : Levels} {s : ℕ} {r : Result Value FaultAt} {k j : ℕ} → NumberMeans ty n levels s r k j → result_of [] (number_plan ty n levels s) ≡ r
   number_result integer = refl
   number_result offset = refl
   number_result (integral fs) = result_ok [] _ _ _ (digits_result fs)
@@ -72,7 +72,7 @@ mutual
 -- ---- paths among parts
 
 -- the path among parts after i others
-abbrev nexts : ℕ → Path → Path
+abbrev pub nexts : ℕ → Path → Path
 nexts i [] = []
 nexts i (k ∷ path) = (i + k) ∷ path
 
@@ -84,10 +84,10 @@ nexts_one : (i : ℕ) (path : Path) → nexts i (next path) ≡ nexts (i + 1) pa
 nexts_one i [] = refl
 nexts_one i (k ∷ path) = let e : i + suc k ≡ (i + 1) + k = omega arith in ap (λ n. n ∷ path) e
 
-nexts_here : (i : ℕ) (path : Path) → nexts i (0 ∷ path) ≡ i ∷ path
+pub nexts_here : (i : ℕ) (path : Path) → nexts i (0 ∷ path) ≡ i ∷ path
 nexts_here i path = let e : i + 0 ≡ i = omega arith in ap (λ n. n ∷ path) e
 
-digits_along : {n s : ℕ} {fields : Parts} {width : ℕ} {levels : Levels} {i : ℕ} {rest : Parts} {left : ℕ} {inside : Levels} → DigitsBefore n s fields width levels i rest left inside →
+pub digits_along : {n s : ℕ} {fields : Parts} {width : ℕ} {levels : Levels} {i : ℕ} {rest : Parts} {left : ℕ} {inside : Levels} → DigitsBefore n s fields width levels i rest left inside →
     digits_path fields n width levels s ≡ nexts i (digits_path rest n left inside s)
 digits_along no_digits_before = nexts_none _
 digits_along {n} {s} (digits_before {name} {order} {ty} {c} {rest} {i} {left} {inside} {v} before m e) =
@@ -120,7 +120,7 @@ mutual
 -- ---- types
 
 -- a type that starts past the last bit
-past_path : (bits : List ℕ) (ty : PokeType) (order : Order) (levels : Levels) (s : ℕ) → length bits < s → path_of bits ty order levels s ≡ []
+pub past_path : (bits : List ℕ) (ty : PokeType) (order : Order) (levels : Levels) (s : ℕ) → length bits < s → path_of bits ty order levels s ≡ []
 past_path bits (IntegerOf type) order levels s lt = refl
 past_path bits (OffsetOf type unit) order levels s lt = refl
 past_path bits StringOf order levels s lt = refl
@@ -134,7 +134,7 @@ width_or None = 0
 width_or (Some type) = type.width
 
 -- a number that ends past the last bit
-short_path : (bits : List ℕ) (ty : PokeType) (type : IntegerType) (order : Order) (levels : Levels) (s : ℕ) → number_type ty ≡ Some type → length bits < s + type.width → path_of bits ty order levels s ≡ []
+pub short_path : (bits : List ℕ) (ty : PokeType) (type : IntegerType) (order : Order) (levels : Levels) (s : ℕ) → number_type ty ≡ Some type → length bits < s + type.width → path_of bits ty order levels s ≡ []
 short_path bits (IntegerOf t) type order levels s e lt = refl
 short_path bits (OffsetOf t unit) type order levels s e lt = refl
 short_path bits StringOf type order levels s e lt = refl
@@ -147,7 +147,7 @@ short_path bits (IntegralOf name t fields) type order levels s e lt =
 short_path bits (UnionOf name alternatives) type order levels s e lt = absurd (none-some type e)
 
 -- a number whose bits are all in the file
-whole_path : (bits : List ℕ) (ty : PokeType) (type : IntegerType) (order : Order) (levels : Levels) (s : ℕ) → number_type ty ≡ Some type → s + type.width ≤ length bits → path_of bits ty order levels s ≡ number_path ty (number_at bits order s type.width) levels s
+pub whole_path : (bits : List ℕ) (ty : PokeType) (type : IntegerType) (order : Order) (levels : Levels) (s : ℕ) → number_type ty ≡ Some type → s + type.width ≤ length bits → path_of bits ty order levels s ≡ number_path ty (number_at bits order s type.width) levels s
 whole_path bits (IntegerOf t) type order levels s e le = refl
 whole_path bits (OffsetOf t unit) type order levels s e le = refl
 whole_path bits StringOf type order levels s e le = refl
@@ -170,10 +170,10 @@ part_is (part_refused m e) = tt
 part_is (part_fault m) = tt
 
 module _ (one : HasOneOutcome) (planned : PlanIsMeant) (wide : ValuesAreWide) (bits : List ℕ) where
-  result_is : {ty : PokeType} {order : Order} {levels : Levels} {s : ℕ} {r : Result Value FaultAt} {k j : ℕ} → Means bits ty order levels s r k j → result_of bits (plan (length bits) ty order levels s) ≡ r
+  pub result_is : {ty : PokeType} {order : Order} {levels : Levels} {s : ℕ} {r : Result Value FaultAt} {k j : ℕ} → Means bits ty order levels s r k j → result_of bits (plan (length bits) ty order levels s) ≡ r
   result_is {ty} {order} {levels} {s} m = let o = one bits ty order levels s in (o.only _ _ _ (planned bits ty order levels s)).0 ∙ sym (o.only _ _ _ m).0
 
-  fields_along : {pinned : Bool} {s : ℕ} {order : Order} {fields : Fields} {levels : Levels} {i : ℕ} {rest : Fields} {inside : Levels} {behind : ℕ} → FieldsBefore bits pinned s order fields levels i rest inside behind →
+  pub fields_along : {pinned : Bool} {s : ℕ} {order : Order} {fields : Fields} {levels : Levels} {i : ℕ} {rest : Fields} {inside : Levels} {behind : ℕ} → FieldsBefore bits pinned s order fields levels i rest inside behind →
       fields_path bits pinned s fields order levels s ≡ nexts i (fields_path bits pinned s rest order inside behind)
   fields_along no_field_before = nexts_none _
   fields_along {pinned} {s} {order} (absent_before {name} {set} {ty} {c} {label} {when} {rest} {i} {behind} {inside} before e) =
@@ -184,7 +184,7 @@ module _ (one : HasOneOutcome) (planned : PlanIsMeant) (wide : ValuesAreWide) (b
       let step : fields_path bits pinned s (FieldThen name set ty c label when rest) order inside behind ≡ next (fields_path bits pinned s rest order (pushed inside (Some v)) (end_of v)) = rw (e, st, result_is p.0.holds, p.1) refl in
       fields_along before ∙ ap (nexts i) step ∙ nexts_one i _
 
-  alternatives_along : {order : Order} {alternatives : Parts} {levels : Levels} {s i : ℕ} {rest : Parts} → MissesBefore bits order alternatives levels s i rest →
+  pub alternatives_along : {order : Order} {alternatives : Parts} {levels : Levels} {s i : ℕ} {rest : Parts} → MissesBefore bits order alternatives levels s i rest →
       alternatives_path bits alternatives order levels s ≡ nexts i (alternatives_path bits rest order levels s)
   alternatives_along no_miss_before = nexts_none _
   alternatives_along {order} {levels} {s} (miss_before {name} {set} {ty} {c} {rest} {i} before (part_refused m refused) e) =
@@ -194,11 +194,11 @@ module _ (one : HasOneOutcome) (planned : PlanIsMeant) (wide : ValuesAreWide) (b
       let step : alternatives_path bits (PartThen name set ty c rest) order levels s ≡ next (alternatives_path bits rest order levels s) = rw (result_is m, e) refl in
       alternatives_along before ∙ ap (nexts i) step ∙ nexts_one i _
 
-  abbrev along : PokeType → Order → (s : ℕ) → Extent → (tries i : ℕ) → Levels → (place : ℕ) → Path
+  abbrev pub along : PokeType → Order → (s : ℕ) → Extent → (tries i : ℕ) → Levels → (place : ℕ) → Path
   along ty order s extent tries i levels place = elements_path (λ inside p. result_of bits (plan (length bits) ty order inside p)) (path_of bits ty order) (length bits) s extent tries i levels place
 
   -- elements that are values continue, with a try left
-  elements_along : {ty : PokeType} {order : Order} {s : ℕ} {extent : Extent} {i : ℕ} {levels : Levels} {p n : ℕ} {inside : Levels} {pn k j : ℕ} → Elements bits ty order s extent i levels p n inside pn k j → (tries : ℕ) → length bits < p + tries → p ≤ length bits →
+  pub elements_along : {ty : PokeType} {order : Order} {s : ℕ} {extent : Extent} {i : ℕ} {levels : Levels} {p n : ℕ} {inside : Levels} {pn k j : ℕ} → Elements bits ty order s extent i levels p n inside pn k j → (tries : ℕ) → length bits < p + tries → p ≤ length bits →
       (left : ℕ) × (along ty order s extent tries i levels p ≡ along ty order s extent (suc left) n inside pn)
   elements_along no_more zero lt le = absurd (omega arith)
   elements_along no_more (suc d) lt le = (d, refl)
@@ -211,7 +211,7 @@ module _ (one : HasOneOutcome) (planned : PlanIsMeant) (wide : ValuesAreWide) (b
       (rest.0, step ∙ rest.1)
 
   mutual
-    type_once : {ty : PokeType} {order : Order} {levels : Levels} {s : ℕ} {f : FaultAt} {path : Path} → Arises bits ty order levels s f path → path_of bits ty order levels s ≡ path
+    pub type_once : {ty : PokeType} {order : Order} {levels : Levels} {s : ℕ} {f : FaultAt} {path : Path} → Arises bits ty order levels s f path → path_of bits ty order levels s ≡ path
     type_once (starts_past_end {ty} {order} {levels} {s} lt) = past_path bits ty order levels s lt
     type_once (number_past_end {ty} {type} {order} {levels} {s} le e lt) = short_path bits ty type order levels s e lt
     type_once (string_past_end le run lt) = refl

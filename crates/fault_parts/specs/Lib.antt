@@ -1,3 +1,4 @@
 pub mod Somehow
 pub mod Arises
+pub mod Paths
 pub mod Laws

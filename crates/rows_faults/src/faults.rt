@@ -5,6 +5,7 @@ ghost use Rattle.pickle_types.specs.TypeTable.{IsInTable};
 
 use bit_space::{MemSpace, Meter, Order};
 use fault_check::arises::arises;
+use fault_check::locate::find_part;
 use pickle_map::{MapFault, Store, map};
 use pickle_types::{Table, TypeId};
 use rows_kit::text::hex_of;
@@ -119,7 +120,29 @@ fn is_at(
     ))
 }
 
-// The fault arises at the end of the row's path, and not after it.
+/// The path to the part with the fault, by the search.
+fn found_path(alloc: Global, table: &Table, id: TypeId, row: &Row) -> Result<Vec<usize>, Fail>
+    requires known { IsInTable table.now id }
+{
+    let mut space = MemSpace::new(row.bytes.as_slice().to_vec(alloc)?)?;
+    let mut store = Store::new(alloc);
+    let mut meter = Meter::new(LIMIT);
+    match find_part(
+        alloc,
+        table,
+        id,
+        Order::Big,
+        0,
+        &mut space,
+        &mut meter,
+        &mut store,
+    ) {
+        Ok(path) => Ok(path),
+        Err(_) => Err(Fail::from("no part")),
+    }
+}
+
+// The fault arises at the end of the row's path, and not after it. The search finds that path.
 fn expect_part(rt: &impl Abort, alloc: Global, table: &Table, line: &str) -> Result<(), Fail> {
     let (name, rest) = line.split_once(' ').ok_or("no bytes")?;
     let (digits, places) = rest.split_once(' ').unwrap_or((rest, ""));
@@ -128,6 +151,8 @@ fn expect_part(rt: &impl Abort, alloc: Global, table: &Table, line: &str) -> Res
     let fault = fault_of(alloc, table, id, &row)?;
     let found = is_at(alloc, table, id, &row, fault, row.path.as_slice())?;
     assert!(rt; found, "{line}");
+    let path = found_path(alloc, table, id, &row)?;
+    assert!(rt; path.as_slice() == row.path.as_slice(), "{line}");
     row.path.push(0)?;
     let found_inside = is_at(alloc, table, id, &row, fault, row.path.as_slice())?;
     assert!(rt; !found_inside, "{line}");

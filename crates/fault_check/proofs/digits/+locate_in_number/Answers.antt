@@ -1,0 +1,47 @@
+use Rattle.std.proofs.Common.{refl}
+use Rattle.value_store.specs.Slots.{levels, level_count}
+use Rattle.fault_check.specs.Sites.{path_cut}
+use Rattle.fault_check.proofs.Nodes.{integral_node}
+use Rattle.fault_check.proofs.Located.{grown_none, grown_one, grown_more, no_fields, of_each}
+use Rattle.fault_check.proofs.digits.+locate_in_number.Goals as goal
+
+pub returns-in_default : goal.returns-in_default
+returns-in_default t c = record {
+  limit = refl;
+  is = grown_none c.args.path.now.items (path_cut c.args.nodes.now (levels c.args.nodes.now c.args.store.now) c.args.number)
+      (no_fields c.args.nodes.now c.requires.table c.args.number.node c.requires.at c.index-nodes-number.result _ refl c.in_default.not-Integral c.args.number.digits c.args.number.start (levels c.args.nodes.now c.args.store.now));
+}
+
+pub open_level-requires : goal.open_level-requires
+open_level-requires t c =
+    let n = integral_node c.args.nodes.now c.requires.table c.args.number.node c.requires.at (level_count c.args.store.now) c.requires.open c.index-nodes-number.result _ _ _ c.in-Integral.is in
+    n.few
+
+pub find_digits-requires-clause-fields : goal.find_digits-requires-clause-fields
+find_digits-requires-clause-fields t c =
+    let n = integral_node c.args.nodes.now c.requires.table c.args.number.node c.requires.at (level_count c.args.store.now) c.requires.open c.index-nodes-number.result _ _ _ c.in-Integral.is in
+    rw (c.deref.ensures.value, c.open_level.ensures.depth) n.fields_are
+
+pub find_digits-requires-clause-width : goal.find_digits-requires-clause-width
+find_digits-requires-clause-width t c =
+    let n = integral_node c.args.nodes.now c.requires.table c.args.number.node c.requires.at (level_count c.args.store.now) c.requires.open c.index-nodes-number.result _ _ _ c.in-Integral.is in
+    n.width.most
+
+pub returns-in-Itself-clause-is : goal.returns-in-Itself-clause-is
+returns-in-Itself-clause-is t c =
+    let n = integral_node c.args.nodes.now c.requires.table c.args.number.node c.requires.at (level_count c.args.store.now) c.requires.open c.index-nodes-number.result _ _ _ c.in-Integral.is in
+    let found = rw (c.in-Itself.is, c.open_level.ensures.levels c.args.nodes.now, c.deref.ensures.value) at c.in_ok-find_digits.ensures.is in
+    grown_none c.args.path.now.items (path_cut c.args.nodes.now (levels c.args.nodes.now c.args.store.now) c.args.number) (rw n.type_is found)
+
+pub returns-in-Beside-clause-is : goal.returns-in-Beside-clause-is
+returns-in-Beside-clause-is t c =
+    let n = integral_node c.args.nodes.now c.requires.table c.args.number.node c.requires.at (level_count c.args.store.now) c.requires.open c.index-nodes-number.result _ _ _ c.in-Integral.is in
+    let found = rw (c.in-Beside.is, c.open_level.ensures.levels c.args.nodes.now, c.deref.ensures.value) at c.in_ok-find_digits.ensures.is in
+    of_each c.keep.result c.keep.ensures (λ _ grown. grown_one c.args.path.now.items c.keep.new.path.items (path_cut c.args.nodes.now (levels c.args.nodes.now c.args.store.now) c.args.number) c.in-Beside.place grown (rw n.type_is found))
+
+pub returns-in_ok-keep-in-Inside-clause-is : goal.returns-in_ok-keep-in-Inside-clause-is
+returns-in_ok-keep-in-Inside-clause-is t c =
+    let n = integral_node c.args.nodes.now c.requires.table c.args.number.node c.requires.at (level_count c.args.store.now) c.requires.open c.index-nodes-number.result _ _ _ c.in-Integral.is in
+    let found = rw (c.in-Inside.is, c.open_level.ensures.levels c.args.nodes.now, c.deref.ensures.value) at c.in_ok-find_digits.ensures.is in
+    of_each c.locate_in_number.result c.locate_in_number.ensures.is
+    (λ _ more. grown_more c.args.path.now.items _ c.locate_in_number.new.path.items (path_cut c.args.nodes.now (levels c.args.nodes.now c.args.store.now) c.args.number) (path_cut c.args.nodes.now (levels c.args.nodes.now c.find_digits.new.store) c.in-Inside.next) c.in-Inside.place c.in_ok-keep-in-Inside.ensures more (rw n.type_is found))

@@ -1,0 +1,96 @@
+use Rattle.std.proofs.Common.{rules, ◌≡◌, ◌*◌, ◌≤◌, length, true, false, sym, ap, ◌∙◌, arith}
+use Rattle.bit_space.specs.Bits.{bits_of}
+use Rattle.bit_space.proofs.Digits.{length-bits_of}
+use Rattle.pickle_types.specs.Table.{type_of}
+use Rattle.pickle_meaning.specs.Values.{end_of}
+use Rattle.pickle_meaning.specs.Means.{Means}
+use Rattle.fault_check.proofs.ArrayElements.{no_elements, elements_go, due_on}
+use Rattle.fault_check.proofs.Located.{elements_over, elements_empty, elements_ended, elements_inside, comes_as, says_fault, no_less}
+use Rattle.fault_check.specs.Ways.{fault_of}
+use Rattle.value_store.specs.Slots.{levels}
+use Rattle.fault_check.proofs.elements.find_element.Goals as goal
+
+pub loop-extent-init : goal.loop-extent-init
+loop-extent-init g c = record {
+  leaves = search rules;
+  after = search rules;
+  inside = search rules;
+  depth = search rules;
+  counted = search rules;
+  before = λ bytes e. no_elements;
+}
+
+pub loop-extent-preserved : goal.loop-extent-preserved
+loop-extent-preserved g c =
+    let i = c.loop-extent.invariant in
+    let due = sym c.is_due.ensures ∙ c.loop-extent-test.true in
+    let mapped = rw c.from-at.ensures at c.in-Ok.ensures.is in
+    record {
+      leaves = search rules;
+      after = search rules;
+      inside = search rules;
+      depth = search rules;
+      counted = search rules;
+      before = elements_go (g.S.Space.view c.args.space.now) (g.S.Space.view c.loop-extent.space) (g.met.S.Space.whole c.args.space.now) i.leaves.bytes (type_of c.args.nodes.now c.args.element) c.args.order c.args.start c.args.extent
+          (levels c.args.nodes.now c.args.store.now) (levels c.args.nodes.now c.loop-extent.store) (levels c.args.nodes.now c.map_part.new.store)
+          c.loop-extent.count c.loop-extent.behind c.in-Ok.end _ (ap (λ n. 8 * n) c.len-bits.ensures) due c.if-behind-end.true i.before mapped;
+    }
+
+pub returns-in-Ok-2-clause-is : goal.returns-in-Ok-2-clause-is
+returns-in-Ok-2-clause-is g c =
+    λ bytes known.
+    let i = c.loop-extent.invariant in
+    let whole = g.met.S.Space.whole c.args.space.now in
+    let counted = whole bytes known in
+    let here : c.args.start ≤ length (bits_of bytes) = rw length-bits_of (omega (arith, counted, c.requires.inside)) in
+    let due = due_on (g.S.Space.view c.args.space.now) whole bytes known c.args.extent _ c.args.start c.loop-extent.count c.loop-extent.behind true (ap (λ n. 8 * n) c.len-bits.ensures) (sym c.is_due.ensures ∙ c.loop-extent-test.true) in
+    let before = i.before bytes known in
+    let mapped = rw c.from-at.ensures at c.in-Ok.ensures.is in
+    let h = mapped bytes (i.leaves.bytes ∙ known) in
+    let some = no_less h.means in
+    let empty : end_of h.value ≡ c.loop-extent.behind = omega (arith, some, h.ends, c.if-behind-end.false) in
+    elements_empty (bits_of bytes) (type_of c.args.nodes.now c.args.element) c.args.order c.args.start c.args.extent (levels c.args.nodes.now c.args.store.now) (levels c.args.nodes.now c.loop-extent.store) c.loop-extent.count c.loop-extent.behind here before due h.value h.means empty
+
+pub returns-then-ends-clause-is : goal.returns-then-ends-clause-is
+returns-then-ends-clause-is g c =
+    λ bytes known.
+    let i = c.loop-extent.invariant in
+    let whole = g.met.S.Space.whole c.args.space.now in
+    let counted = whole bytes known in
+    let here : c.args.start ≤ length (bits_of bytes) = rw length-bits_of (omega (arith, counted, c.requires.inside)) in
+    let due = due_on (g.S.Space.view c.args.space.now) whole bytes known c.args.extent _ c.args.start c.loop-extent.count c.loop-extent.behind true (ap (λ n. 8 * n) c.len-bits.ensures) (sym c.is_due.ensures ∙ c.loop-extent-test.true) in
+    let before = i.before bytes known in
+    let means = says_fault (Means (bits_of bytes) (type_of c.args.nodes.now c.args.element) c.args.order (levels c.args.nodes.now c.loop-extent.store) c.from-at.result)
+    (levels c.args.nodes.now c.loop-extent.store) (levels c.args.nodes.now c.map_part.new.store) c.in-Err.stop c.in_ok-_fault-in-Err._fault c.in_ok-_fault-in-Err.ensures
+    (c.in-Err.ensures.is bytes (i.leaves.bytes ∙ known)) in
+    let means = rw c.from-at.ensures at means in
+    let ends = comes_as c.in-Err.stop c.in_ok-_fault-in-Err._fault c.in_ok-_fault-in-Err.ensures c.args.extent true (sym c.ends.ensures ∙ c.if-ends.true) in
+    elements_ended (bits_of bytes) (type_of c.args.nodes.now c.args.element) c.args.order c.args.start c.args.extent (levels c.args.nodes.now c.args.store.now) (levels c.args.nodes.now c.loop-extent.store) c.loop-extent.count c.loop-extent.behind here before due (fault_of c.in_ok-_fault-in-Err._fault) means ends
+
+pub returns-in-Err-clause-is : goal.returns-in-Err-clause-is
+returns-in-Err-clause-is g c =
+    λ bytes known.
+    let i = c.loop-extent.invariant in
+    let whole = g.met.S.Space.whole c.args.space.now in
+    let counted = whole bytes known in
+    let here : c.args.start ≤ length (bits_of bytes) = rw length-bits_of (omega (arith, counted, c.requires.inside)) in
+    let due = due_on (g.S.Space.view c.args.space.now) whole bytes known c.args.extent _ c.args.start c.loop-extent.count c.loop-extent.behind true (ap (λ n. 8 * n) c.len-bits.ensures) (sym c.is_due.ensures ∙ c.loop-extent-test.true) in
+    let before = i.before bytes known in
+    let means = says_fault (Means (bits_of bytes) (type_of c.args.nodes.now c.args.element) c.args.order (levels c.args.nodes.now c.loop-extent.store) c.from-at.result)
+    (levels c.args.nodes.now c.loop-extent.store) (levels c.args.nodes.now c.map_part.new.store) c.in-Err.stop c.in_ok-_fault-in-Err._fault c.in_ok-_fault-in-Err.ensures
+    (c.in-Err.ensures.is bytes (i.leaves.bytes ∙ known)) in
+    let means = rw c.from-at.ensures at means in
+    let goes = comes_as c.in-Err.stop c.in_ok-_fault-in-Err._fault c.in_ok-_fault-in-Err.ensures c.args.extent false (sym c.ends.ensures ∙ c.if-ends.false) in
+    let same = c.in-Err.ensures.level.same in
+    rw (same, c.from-at.ensures) (elements_inside (bits_of bytes) (type_of c.args.nodes.now c.args.element) c.args.order c.args.start c.args.extent (levels c.args.nodes.now c.args.store.now) (levels c.args.nodes.now c.loop-extent.store) c.loop-extent.count c.loop-extent.behind here before due (fault_of c.in_ok-_fault-in-Err._fault) means goes)
+
+pub returns-clause-is : goal.returns-clause-is
+returns-clause-is g c =
+    λ bytes known.
+    let i = c.loop-extent.invariant in
+    let whole = g.met.S.Space.whole c.args.space.now in
+    let counted = whole bytes known in
+    let here : c.args.start ≤ length (bits_of bytes) = rw length-bits_of (omega (arith, counted, c.requires.inside)) in
+    let due = due_on (g.S.Space.view c.args.space.now) whole bytes known c.args.extent _ c.args.start c.loop-extent.count c.loop-extent.behind false (ap (λ n. 8 * n) c.len-bits.ensures) (sym c.is_due.ensures ∙ c.loop-extent-test.false) in
+    let before = i.before bytes known in
+    elements_over (bits_of bytes) (type_of c.args.nodes.now c.args.element) c.args.order c.args.start c.args.extent (levels c.args.nodes.now c.args.store.now) (levels c.args.nodes.now c.loop-extent.store) c.loop-extent.count c.loop-extent.behind here before due

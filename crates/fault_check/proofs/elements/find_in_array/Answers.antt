@@ -1,0 +1,26 @@
+use Rattle.std.proofs.Common.{◌≤◌, length, suc, refl, arith}
+use Rattle.bit_space.specs.Bits.{bits_of}
+use Rattle.bit_space.proofs.Digits.{length-bits_of}
+use Rattle.pickle_types.specs.Types.{ArrayOf}
+use Rattle.pickle_types.specs.Table.{type_of, bound_of}
+use Rattle.pickle_meaning.specs.Values.{opened}
+use Rattle.mapping_plans.specs.Mapping.{plan}
+use Rattle.mapping_plans.specs.Plan.{result_of}
+use Rattle.fault_parts.specs.Paths.{path_of, elements_path}
+use Rattle.fault_check.proofs.Located.{array_path, if_site}
+use Rattle.value_store.specs.Slots.{levels}
+use Rattle.fault_check.proofs.elements.find_in_array.Goals as goal
+
+pub returns-in-Ok-clause-is : goal.returns-in-Ok-clause-is
+returns-in-Ok-clause-is g c =
+    let extent = rw c.from.ensures at (c.in-Ok.ensures.is c.args.nodes.now).0 in
+    let found = rw (c.open_level.ensures.levels c.args.nodes.now) at c.find_element.ensures.is in
+    if_site (g.S.Space.view c.args.space.now) (g.S.Space.view c.args.space.now) c.args.nodes.now (levels c.args.nodes.now c.find_element.new.store)
+    (λ bits. elements_path (λ inside p. result_of bits (plan (length bits) (type_of c.args.nodes.now c.args.element) c.args.order inside p)) (path_of bits (type_of c.args.nodes.now c.args.element) c.args.order) (length bits) c.args.start c.in-Ok.extent
+    (suc (length bits)) 0 (opened (levels c.args.nodes.now c.args.store.now)) c.args.start)
+    (λ bits. path_of bits (ArrayOf (type_of c.args.nodes.now c.args.element) (bound_of c.args.bound.now)) c.args.order (levels c.args.nodes.now c.args.store.now) c.args.start) refl
+    (λ bytes known.
+    let whole = g.met.S.Space.whole c.args.space.now bytes known in
+    let here : c.args.start ≤ length (bits_of bytes) = rw length-bits_of (omega (arith, whole, c.requires.inside)) in
+    array_path (bits_of bytes) c.args.order (levels c.args.nodes.now c.args.store.now) c.args.start here (type_of c.args.nodes.now c.args.element) (bound_of c.args.bound.now) c.in-Ok.extent extent)
+    c.find_element.result found
