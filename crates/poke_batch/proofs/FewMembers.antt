@@ -1,5 +1,5 @@
 -- No value that fits a small type on fewer than 2^64 bits has 2^64 members or more.
-use Rattle.std.proofs.Common.{◌≡◌, ℕ, suc, ◌+◌, ◌^◌, ◌<◌, ◌≤◌, inl, inr, length, Bool, List, [], ◌∷◌, ◌++◌, Option, Some, None, ap, arith}
+use Rattle.std.proofs.Common.{◌≡◌, ℕ, suc, ◌+◌, ◌^◌, ◌<◌, ◌≤◌, inl, inr, length, Bool, List, [], ◌∷◌, ◌++◌, Option, Some, None, arith}
 use Rattle.pickle_types.specs.Types.{PokeType, IntegerOf, OffsetOf, StringOf, ArrayOf, StructOf, IntegralOf, UnionOf, Fields, NoFields, FieldThen, Parts, NoParts, PartThen}
 use Rattle.pickle_meaning.specs.Values.{Value, Levels, pushed, opened, top_of, gathered}
 use Rattle.pickle_meaning.specs.Means.{field_names, part_names, Taken}

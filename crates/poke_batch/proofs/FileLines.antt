@@ -1,4 +1,4 @@
--- Laws of the lines of files.
+-- Laws of the lines of files, and of texts that are put together byte by byte.
 use Rattle.std.proofs.Common.{◌≡◌, ℕ, ◌+◌, ◌<◌, Option, List, [], ◌∷◌, ◌++◌, take, drop, length, refl, sym, ◌∙◌, ap, subst, suc, arith}
 use Rattle.std.specs.Prelude.{slice_index}
 use Rattle.std.specs.Io.KnownBytes.{Appends}
@@ -12,26 +12,39 @@ use Rattle.text_forms.proofs.Parts.{part_first, part_next}
 one_more : (n : ℕ) → n + 1 ≡ suc n
 one_more n = omega arith
 
-pub name_append : (xs ys : List ℕ) → shown_name (xs ++ ys) ≡ shown_name xs ++ shown_name ys
-name_append [] ys = refl
-name_append (x ∷ xs) ys = ap (λ s. name_byte x ++ s) (name_append xs ys) ∙ sym (append_assoc (name_byte x) (shown_name xs) (shown_name ys))
+-- a text that is put together from a text for each byte
+module _ (text : List ℕ → List ℕ) (one : ℕ → List ℕ) (nil : text [] ≡ []) (more : (byte : ℕ) (bytes : List ℕ) → text (byte ∷ bytes) ≡ one byte ++ text bytes) where
+  text_append : (xs ys : List ℕ) → text (xs ++ ys) ≡ text xs ++ text ys
+  text_append [] ys = ap (λ s. s ++ text ys) (sym nil)
+  text_append (x ∷ xs) ys = more x (xs ++ ys) ∙ ap (λ s. one x ++ s) (text_append xs ys) ∙ sym (append_assoc (one x) (text xs) (text ys)) ∙ ap (λ s. s ++ text ys) (sym (more x xs))
 
-take_one : (name : List ℕ) (k : ℕ) → k < length name → take (k + 1) name ≡ take k name ++ slice_index name k ∷ []
-take_one name k lt = ap (λ n. take n name) (one_more k) ∙ take-suc name k 0 lt
+  text_one : (x : ℕ) → text (x ∷ []) ≡ one x
+  text_one x = more x [] ∙ ap (λ s. one x ++ s) nil ∙ append-nil (one x)
 
--- the bytes before a place, the byte there, and those after it
-pub name_split : (name : List ℕ) (k : ℕ) → k < length name → shown_name name ≡ shown_name (take k name) ++ (name_byte (slice_index name k) ++ shown_name (drop (k + 1) name))
-name_split name k lt =
-    ap shown_name (sym (take-append-drop k name)) ∙ name_append (take k name) (drop k name) ∙ ap (λ s. shown_name (take k name) ++ shown_name s) (drop_more name k 0 lt)
+  take_one : (bytes : List ℕ) (k : ℕ) → k < length bytes → take (k + 1) bytes ≡ take k bytes ++ slice_index bytes k ∷ []
+  take_one bytes k lt = ap (λ n. take n bytes) (one_more k) ∙ take-suc bytes k 0 lt
 
-pub name_more : (name : List ℕ) (k : ℕ) → k < length name → shown_name (take (k + 1) name) ≡ shown_name (take k name) ++ name_byte (slice_index name k)
-name_more name k lt = ap shown_name (take_one name k lt) ∙ name_append (take k name) (slice_index name k ∷ []) ∙ ap (λ s. shown_name (take k name) ++ s) (append-nil (name_byte (slice_index name k)))
+  -- the bytes before a place, the byte there, and those after it
+  text_split : (bytes : List ℕ) (k : ℕ) → k < length bytes → text bytes ≡ text (take k bytes) ++ (one (slice_index bytes k) ++ text (drop (k + 1) bytes))
+  text_split bytes k lt =
+      ap text (sym (take-append-drop k bytes)) ∙ text_append (take k bytes) (drop k bytes)
+      ∙ ap (λ s. text (take k bytes) ++ s) (ap text (drop_more bytes k 0 lt) ∙ more (slice_index bytes k) (drop (k + 1) bytes))
+
+  text_more : (bytes : List ℕ) (k : ℕ) → k < length bytes → text (take (k + 1) bytes) ≡ text (take k bytes) ++ one (slice_index bytes k)
+  text_more bytes k lt = ap text (take_one bytes k lt) ∙ text_append (take k bytes) (slice_index bytes k ∷ []) ∙ ap (λ s. text (take k bytes) ++ s) (text_one (slice_index bytes k))
+
+  -- one turn of writing it
+  pub text_step : (a b c : Option (List ℕ)) (bytes : List ℕ) (k : ℕ) → k < length bytes → Appends a b (text (take k bytes)) → Appends b c (one (slice_index bytes k)) → Appends a c (text (take (k + 1) bytes))
+  text_step a b c bytes k lt h g =
+      subst (λ s. Appends a c s) (sym (text_more bytes k lt)) (Appends-trans a b c (text (take k bytes)) (one (slice_index bytes k)) h g)
+
+  pub text_cut : (a b c : Option (List ℕ)) (bytes : List ℕ) (k : ℕ) → k < length bytes → Appends a b (text (take k bytes)) → AppendsPart b c (one (slice_index bytes k)) → AppendsPart a c (text bytes)
+  text_cut a b c bytes k lt h g =
+      subst (λ s. AppendsPart a c s) (sym (text_split bytes k lt)) (part_next a b c (text (take k bytes)) _ h (part_first b c (one (slice_index bytes k)) (text (drop (k + 1) bytes)) g))
 
 -- one turn of writing a name
 pub name_step : (a b c : Option (List ℕ)) (name : List ℕ) (k : ℕ) → k < length name → Appends a b (shown_name (take k name)) → Appends b c (name_byte (slice_index name k)) → Appends a c (shown_name (take (k + 1) name))
-name_step a b c name k lt h g =
-    subst (λ s. Appends a c s) (sym (name_more name k lt)) (Appends-trans a b c (shown_name (take k name)) (name_byte (slice_index name k)) h g)
+name_step = text_step shown_name name_byte refl (λ byte name. refl)
 
 pub name_cut : (a b c : Option (List ℕ)) (name : List ℕ) (k : ℕ) → k < length name → Appends a b (shown_name (take k name)) → AppendsPart b c (name_byte (slice_index name k)) → AppendsPart a c (shown_name name)
-name_cut a b c name k lt h g =
-    subst (λ s. AppendsPart a c s) (sym (name_split name k lt)) (part_next a b c (shown_name (take k name)) _ h (part_first b c (name_byte (slice_index name k)) (shown_name (drop (k + 1) name)) g))
+name_cut = text_cut shown_name name_byte refl (λ byte name. refl)

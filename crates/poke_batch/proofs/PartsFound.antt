@@ -14,7 +14,8 @@ use Rattle.pickle_types.specs.TypeTable.{nodes_of}
 use Rattle.value_text.specs.declared.typed.Typed.{Typed}
 use Rattle.value_text.specs.TypedValue.{nodes_in, char_node_in, types_in, node_in, mapped_in}
 use Rattle.poke_batch.specs.PathNodes.{node_of}
-use Rattle.poke_batch.specs.RunsUnder.{text_in, typed_text, part_text}
+use Rattle.poke_batch.specs.Selected.{part_in, text_under, typed_text, has_selected}
+use Rattle.poke_batch.specs.RunsUnder.{requested, part_text, part_has}
 use Rattle.poke_batch.specs.PathParts.{is_array, is_named, is_nameless_at, place_named, place_if, place_of, member_if, member_there, node_there, node_from, node_at, step_to, part_from, part_of}
 
 named_first : (name : List ℕ) (label : Label) (more place : ℕ) → is_named name (member_name label place) ≡ true
@@ -75,15 +76,24 @@ step_there (Element place) value = chosen (is_array (label_of value))
     chosen true = refl
     chosen false = refl
 
--- a part is printed as the part of a value of a table
-pub part_printed : (table : Table) (id : TypeId) (ask : Ask) (terms : Terms) (whole part : Typed)
-    → nodes_in (types_in whole) ≡ nodes_of table → char_node_in (types_in whole) ≡ char_node_of table → node_in whole ≡ Some id.node
-    → types_in part ≡ types_in whole → node_in part ≡ node_of terms.part whole
-    → typed_text terms.look terms.style ask.mode part ≡ part_text table id ask terms (mapped_in whole) (mapped_in part)
-part_printed table id ask terms whole part nodes chars of same node =
-    let text = λ (ns : List Node) (letters n : Option ℕ). text_in terms.look terms.style ask.mode ns letters n (mapped_in part) in
-    ap (λ types. text (nodes_in types) (char_node_in types) (node_in part)) same
-    ∙ ap (λ n. text (nodes_in (types_in whole)) (char_node_in (types_in whole)) n) node
-    ∙ ap (λ n. text (nodes_in (types_in whole)) (char_node_in (types_in whole)) (node_at (nodes_in (types_in whole)) terms.part n (mapped_in whole))) of
-    ∙ ap (λ c. text (nodes_in (types_in whole)) c (node_at (nodes_in (types_in whole)) terms.part (Some id.node) (mapped_in whole))) chars
-    ∙ ap (λ ns. text ns (char_node_of table) (node_at ns terms.part (Some id.node) (mapped_in whole))) nodes
+-- a part is printed as the part of a value of a table, and has the same parts
+module _ (table : Table) (id : TypeId) (terms : Terms) (whole part : Typed) (nodes : nodes_in (types_in whole) ≡ nodes_of table) (of : node_in whole ≡ Some id.node)
+    (same : types_in part ≡ types_in whole) (node : node_in part ≡ node_of terms.part whole) where
+  part_nodes : nodes_in (types_in part) ≡ nodes_of table
+  part_nodes = ap nodes_in same ∙ nodes
+
+  part_requested : part_in part ≡ requested table id terms (mapped_in whole) (mapped_in part)
+  part_requested =
+      ap (λ n. record { node = n; value = mapped_in part }) (node
+      ∙ ap (λ n. node_at (nodes_in (types_in whole)) terms.part n (mapped_in whole)) of
+      ∙ ap (λ ns. node_at ns terms.part (Some id.node) (mapped_in whole)) nodes)
+
+  pub part_printed : (ask : Ask) → char_node_in (types_in whole) ≡ char_node_of table → typed_text terms ask.mode part ≡ part_text table id ask terms (mapped_in whole) (mapped_in part)
+  part_printed ask chars =
+      ap (λ ns. text_under ns (char_node_in (types_in part)) terms ask.mode (part_in part)) part_nodes
+      ∙ ap (λ letters. text_under (nodes_of table) letters terms ask.mode (part_in part)) (ap char_node_in same ∙ chars)
+      ∙ ap (text_under (nodes_of table) (char_node_of table) terms ask.mode) part_requested
+
+  pub part_has_selected : has_selected (nodes_in (types_in part)) terms.selection (part_in part) ≡ part_has table id terms (mapped_in whole) (mapped_in part)
+  part_has_selected =
+      ap (λ ns. has_selected ns terms.selection (part_in part)) part_nodes ∙ ap (has_selected (nodes_of table) terms.selection) part_requested

@@ -15,12 +15,13 @@ use Rattle.run_parts.specs.declared.status.Status.TheVariants.{Done, Fault, Refu
 use Rattle.command_words.specs.declared.terms.Terms.{Terms}
 use Rattle.value_text.specs.Json.{Reads}
 use Rattle.value_text.specs.JsonValue.{json_of}
-use Rattle.run_parts.specs.Lines.{fault_at_line}
+use Rattle.run_parts.specs.Lines.{fault_line, fault_at_line}
 use Rattle.poke_batch.specs.PathParts.{part_at, node_at}
 use Rattle.value_text.specs.Printed.{printed}
 use Rattle.poke_batch.specs.RunLaws.{MappedPartsAreSmall, part_json, WritesJson, WritesStyledJson, MappedJsonReadsBack, PartJsonReadsBack, StyledPartJsonReadsBack}
 use Rattle.poke_batch.specs.Runs.{IsAsked, HasAnswer, MapsAs, value, stops, device, unknown, refused_map, no_memory}
-use Rattle.poke_batch.specs.RunsUnder.{text_in, text_saying, is_left, part_saying, part_text, kept_saying, value_saying, MapsUnder, mapped_under, ended_under, slots_under}
+use Rattle.poke_batch.specs.Selected.{text_in, selected_text}
+use Rattle.poke_batch.specs.RunsUnder.{text_saying, is_left, part_saying, requested, part_text, part_has, kept_saying, value_saying, MapsUnder, mapped_under, ended_under, slots_under}
 use Rattle.value_text.specs.SmallParts.{HasSmallParts, AreSmallParts, HasFewMembers, HaveFewMembers}
 use Rattle.run_parts.specs.Told.{Saying, Text, Line, IsSaid, IsTold, IsWritten}
 use Rattle.value_text.proofs.JsonValues.{json_reads_back}
@@ -36,20 +37,21 @@ use Rattle.poke_batch.proofs.SmallTypes.{IsSmallType, accepted_small}
 use Rattle.poke_batch.proofs.SmallValues.{value_small}
 use Rattle.poke_batch.proofs.FewMembers.{value_few}
 
-type_small : (pickle name : List ℕ) (type : PokeType) → IsAsked pickle name type → IsSmallType type
+pub type_small : (pickle name : List ℕ) (type : PokeType) → IsAsked pickle name type → IsSmallType type
 type_small pickle name type asked = accepted_small pickle asked.declarations asked.types name type asked.accepted asked.found
 
 pub parts_small : MappedPartsAreSmall
 parts_small pickle name m type levels start mapped asked fits = value_small m type levels start mapped (type_small pickle name type asked) fits
 
 -- the node of the type of the requested part
-abbrev part_node : Table → TypeId → Terms → (mapped : Value) → Option ℕ
+abbrev pub part_node : Table → TypeId → Terms → (mapped : Value) → Option ℕ
 part_node table id terms mapped = node_at (nodes_of table) terms.part (Some id.node) mapped
 
 -- in the plain style a part is printed as without a style
-pub plain_part : (table : Table) (id : TypeId) (ask : Ask) (terms : Terms) (whole part : Value) → terms.style ≡ plain → terms.look ≡ None → part_text table id ask terms whole part ≡ printed ask.mode part
-plain_part table id ask terms whole part e none =
-    ap (λ look. text_in look terms.style ask.mode (nodes_of table) (char_node_of table) (node_at (nodes_of table) terms.part (Some id.node) whole) part) none
+pub plain_part : (table : Table) (id : TypeId) (ask : Ask) (terms : Terms) (whole part : Value) → terms.style ≡ plain → terms.look ≡ None → terms.selection ≡ None → part_text table id ask terms whole part ≡ printed ask.mode part
+plain_part table id ask terms whole part e none all =
+    ap (λ selection. selected_text (nodes_of table) (char_node_of table) terms.look terms.style ask.mode selection (requested table id terms whole part)) all
+    ∙ ap (λ look. text_in look terms.style ask.mode (nodes_of table) (char_node_of table) (node_at (nodes_of table) terms.part (Some id.node) whole) part) none
     ∙ ap (λ style. text_in None style ask.mode (nodes_of table) (char_node_of table) (node_at (nodes_of table) terms.part (Some id.node) whole) part) e
     ∙ prints_plain (nodes_of table) (char_node_of table) (node_at (nodes_of table) terms.part (Some id.node) whole) ask.mode part
 
@@ -72,7 +74,7 @@ member_small (MemberThen v rest) (suc place) part h e = member_small rest place 
 member_small (AbsentThen rest) zero part h e = cc
 member_small (AbsentThen rest) (suc place) part h e = member_small rest place part h e
 
-part_small : (path : Option Path) (whole part : Value) → HasSmallParts whole → part_at path whole ≡ Some part → HasSmallParts part
+pub part_small : (path : Option Path) (whole part : Value) → HasSmallParts whole → part_at path whole ≡ Some part → HasSmallParts part
 part_small = part_keeps HasSmallParts one
   where
     one : (whole part : Value) (place : ℕ) → HasSmallParts whole → member_at (members_of whole) place ≡ Some part → HasSmallParts part
@@ -85,18 +87,18 @@ member_few (MemberThen v rest) (suc place) part h e = member_few rest place part
 member_few (AbsentThen rest) zero part h e = cc
 member_few (AbsentThen rest) (suc place) part h e = member_few rest place part h e
 
-part_few : (path : Option Path) (whole part : Value) → HasFewMembers whole → part_at path whole ≡ Some part → HasFewMembers part
+pub part_few : (path : Option Path) (whole part : Value) → HasFewMembers whole → part_at path whole ≡ Some part → HasFewMembers part
 part_few = part_keeps HasFewMembers one
   where
     one : (whole part : Value) (place : ℕ) → HasFewMembers whole → member_at (members_of whole) place ≡ Some part → HasFewMembers part
     one (Mapped label start end members) part place h e = member_few members place part h.1 e
 
 module _ (pickle : List ℕ) (ask : Ask) (before : SpaceView) (status : Status) (out out' err err' : Option (List ℕ)) (done : status ≡ Done) where
-  abbrev IsSaidHere : Saying → Type 0
+  abbrev pub IsSaidHere : Saying → Type 0
   IsSaidHere saying = IsSaid saying status out out' err err'
 
   -- the value is what the type means on the file's bits, where these are known
-  abbrev IsMeant : PokeType → Value → Type 0
+  abbrev pub IsMeant : PokeType → Value → Type 0
   IsMeant type mapped = (bytes : List ℕ) → before.bytes ≡ Some bytes → HasAnswer bytes type ask.order ask.start ask.limit (Ok mapped)
 
   -- no line is printed
@@ -116,9 +118,13 @@ module _ (pickle : List ℕ) (ask : Ask) (before : SpaceView) (status : Status) 
         chosen true h = text_said part found h
         chosen false h = no_line Fault _ (λ e. cc) h
 
-    part_said : (most : Option ℕ) (found : Option Value) → part_at path mapped ≡ found → IsSaidHere (part_saying ask most text found) → A
-    part_said most None is h = no_line Fault _ (λ e. cc) h
-    part_said most (Some part) is h = kept_said most part is h
+    part_said : (most : Option ℕ) (has : Value → Bool) (found : Option Value) → part_at path mapped ≡ found → IsSaidHere (part_saying ask most has text found) → A
+    part_said most has None is h = no_line Fault _ (λ e. cc) h
+    part_said most has (Some part) is h = chosen (has part) h
+      where
+        chosen : (selected : Bool) → IsSaidHere (if selected then text_saying most ask.start (text part) else Line Fault (fault_line (codes "NoSuchPart"))) → A
+        chosen true h = kept_said most part is h
+        chosen false h = no_line Fault _ (λ e. cc) h
 
   value_said : {A : Type 0} (table : Table) (id : TypeId) (terms : Terms) (mapped : Value) → ((part : Value) → part_at terms.part mapped ≡ Some part → Appends out out' (part_text table id ask terms mapped part) → A)
       → IsSaidHere (value_saying table id ask terms (8 * before.len) mapped) → A
@@ -126,7 +132,7 @@ module _ (pickle : List ℕ) (ask : Ask) (before : SpaceView) (status : Status) 
     where
       chosen : (left : Bool) → IsSaidHere (if left then Line Fault (fault_at_line (codes "Left") (end_of mapped)) else kept_saying table id ask terms mapped) → A
       chosen true h = no_line Fault _ (λ e. cc) h
-      chosen false h = part_said terms.part mapped (part_text table id ask terms mapped) follows terms.most_output (part_at terms.part mapped) refl h
+      chosen false h = part_said terms.part mapped (part_text table id ask terms mapped) follows terms.most_output (part_has table id terms mapped) (part_at terms.part mapped) refl h
 
   -- no line of a mapping is printed with the exit status of one that is done
   line_is : (after : SpaceView) (saying : Saying) → MapsAs pickle ask before after saying → (line_status : Status) (line : List ℕ) → saying ≡ Line line_status line → line_status ≡ Done → ⊥
@@ -143,7 +149,7 @@ module _ (pickle : List ℕ) (ask : Ask) (before : SpaceView) (status : Status) 
   line_is after _ no_memory line_status line is e = cc
 
   -- what follows from each text of a part that is written under terms follows from what is said
-  under_said : {A : Type 0} (terms : Terms) (after : SpaceView) (saying : Saying) → MapsUnder pickle ask terms before after saying → IsSaidHere saying
+  pub under_said : {A : Type 0} (terms : Terms) (after : SpaceView) (saying : Saying) → MapsUnder pickle ask terms before after saying → IsSaidHere saying
       → ((table : Table) (id : TypeId) (type : PokeType) (mapped : Value) → type_named table id ≡ type → IsAsked pickle ask.name.now type → IsMeant type mapped → Fits (8 * before.len) type no_values ask.start mapped
       → (part : Value) → part_at terms.part mapped ≡ Some part → Appends out out' (part_text table id ask terms mapped part) → A)
       → A
@@ -185,16 +191,16 @@ module _ (pickle : List ℕ) (ask : Ask) (before : SpaceView) (status : Status) 
     json_written after saying (refused_map {refusal = refusal.Memory} a) h = no_line Outside _ (λ e. cc) h
     json_written after saying no_memory h = no_line Outside _ (λ e. cc) h
 
-    plain_written : (terms : Terms) → terms.style ≡ plain → terms.look ≡ None → (table : Table) (id : TypeId) (type : PokeType) (mapped : Value) → type_named table id ≡ type → IsAsked pickle ask.name.now type → IsMeant type mapped
+    plain_written : (terms : Terms) → terms.style ≡ plain → terms.look ≡ None → terms.selection ≡ None → (table : Table) (id : TypeId) (type : PokeType) (mapped : Value) → type_named table id ≡ type → IsAsked pickle ask.name.now type → IsMeant type mapped
         → Fits (8 * before.len) type no_values ask.start mapped
         → (part : Value) → part_at terms.part mapped ≡ Some part → Appends out out' (part_text table id ask terms mapped part) → WritesJson pickle ask terms.part before out out'
-    plain_written terms is none table id type mapped named asked means fits part found h =
-        json_reads terms.part type mapped asked means fits part found (subst (Appends out out') (plain_part table id ask terms mapped part is none) h)
+    plain_written terms is none all table id type mapped named asked means fits part found h =
+        json_reads terms.part type mapped asked means fits part found (subst (Appends out out') (plain_part table id ask terms mapped part is none all) h)
 
-    styled_written : (terms : Terms) → terms.look ≡ None → before.len < 2 ^ 60 → (table : Table) (id : TypeId) (type : PokeType) (mapped : Value) → type_named table id ≡ type → IsAsked pickle ask.name.now type → IsMeant type mapped
+    styled_written : (terms : Terms) → terms.look ≡ None → terms.selection ≡ None → before.len < 2 ^ 60 → (table : Table) (id : TypeId) (type : PokeType) (mapped : Value) → type_named table id ≡ type → IsAsked pickle ask.name.now type → IsMeant type mapped
         → Fits (8 * before.len) type no_values ask.start mapped
         → (part : Value) → part_at terms.part mapped ≡ Some part → Appends out out' (part_text table id ask terms mapped part) → WritesStyledJson pickle ask terms before out out'
-    styled_written terms none short table id type mapped named asked means fits part found h = record {
+    styled_written terms none all short table id type mapped named asked means fits part found h = record {
       type = type;
       asked = asked;
       table = table;
@@ -213,7 +219,8 @@ module _ (pickle : List ℕ) (ask : Ask) (before : SpaceView) (status : Status) 
       where
         same : part_text table id ask terms mapped part ≡ text_in None terms.style Json (nodes_of table) (char_node_of table) (part_node table id terms mapped) part
         same =
-            ap (λ look. text_in look terms.style ask.mode (nodes_of table) (char_node_of table) (part_node table id terms mapped) part) none
+            ap (λ selection. selected_text (nodes_of table) (char_node_of table) terms.look terms.style ask.mode selection (requested table id terms mapped part)) all
+            ∙ ap (λ look. text_in look terms.style ask.mode (nodes_of table) (char_node_of table) (part_node table id terms mapped) part) none
             ∙ ap (λ m. text_in None terms.style m (nodes_of table) (char_node_of table) (part_node table id terms mapped) part) mode
 
         small : HasSmallParts mapped
@@ -226,9 +233,9 @@ pub mapped_json : MappedJsonReadsBack
 mapped_json pickle ask before after status out out' err err' mode done h = json_written pickle ask before status out out' err err' done mode after h.saying h.right h.said
 
 pub part_json_back : PartJsonReadsBack
-part_json_back pickle ask terms before after status out out' err err' mode is none done h =
-    under_said pickle ask before status out out' err err' done terms after h.saying h.right h.said (plain_written pickle ask before status out out' err err' done mode terms is none)
+part_json_back pickle ask terms before after status out out' err err' mode is none all done h =
+    under_said pickle ask before status out out' err err' done terms after h.saying h.right h.said (plain_written pickle ask before status out out' err err' done mode terms is none all)
 
 pub styled_part_json : StyledPartJsonReadsBack
-styled_part_json pickle ask terms before after status out out' err err' mode none short done h =
-    under_said pickle ask before status out out' err err' done terms after h.saying h.right h.said (styled_written pickle ask before status out out' err err' done mode terms none short)
+styled_part_json pickle ask terms before after status out out' err err' mode none all short done h =
+    under_said pickle ask before status out out' err err' done terms after h.saying h.right h.said (styled_written pickle ask before status out out' err err' done mode terms none all short)

@@ -1,7 +1,9 @@
 -- The types of a pickle have widths up to 64, units below 2^64, few fields, and names of bytes.
-use Rattle.std.proofs.Common.{◌≡◌, ℕ, ◌+◌, ◌^◌, ◌<◌, ◌≤◌, inl, inr, length, true, List, [], ◌∷◌, ◌++◌, Option, Some, None, refl, sym, ◌∙◌, subst, arith}
+use Rattle.std.proofs.Common.{◌≡◌, ℕ, ◌+◌, ◌^◌, ◌<◌, ◌≤◌, inl, inr, length, true, false, List, [], ◌∷◌, ◌++◌, Option, Some, None, refl, sym, ◌∙◌, subst, arith}
 use Rattle.std.specs.Str.{bytes_eq}
+use Rattle.std.specs.Char.{is_ascii_digit}
 use Rattle.std.proofs.lemmas.Bool.{cases_Bool}
+use Rattle.std.proofs.lemmas.Bool.Decides.{nat_tests}
 use Rattle.pickle_syntax.specs.declared.token.Sign.TheVariants as sign
 use Rattle.pickle_syntax.specs.declared.token.Word.TheVariants as word
 use Rattle.pickle_syntax.specs.declared.lexer.bytes.Class.TheVariants as class
@@ -22,6 +24,7 @@ use Rattle.pickle_types.specs.Names.{Names, find_type, predeclared}
 use Rattle.pickle_types.specs.Meaning.{parts_of}
 use Rattle.pickle_types.specs.WellTyped.{Refers, HasBits, Means, FieldsMean, Declares}
 use Rattle.pickle_meaning.specs.Means.{field_names, part_names}
+use Rattle.command_words.specs.Paths.{is_name_byte, AreNameBytes, IsName}
 use Rattle.run_parts.specs.Accepted.{IsAccepted}
 use Rattle.value_text.specs.SmallParts.{AreBytes, IsNameOfBytes, AreNamesOfBytes}
 
@@ -65,8 +68,13 @@ one_more_small (d ∷ ds) word t h small = (h.0, one_more_small ds word t h.1 sm
 
 -- ---- the names of a form
 
+-- a name is a word, if there is one
+abbrev pub IsWord : Option (List ℕ) → Type 0
+IsWord None = Unit {0}
+IsWord (Some name) = IsName name
+
 abbrev mutual
-  HasNames : FormTree → Type 0
+  pub HasNames : FormTree → Type 0
   HasNames (Plain r) = Unit {0}
   HasNames StringForm = Unit {0}
   HasNames (OffsetForm r u) = Unit {0}
@@ -75,46 +83,46 @@ abbrev mutual
   HasNames (IntegralForm r fs) = HaveNames fs
   HasNames (UnionForm fs) = HaveNames fs
 
-  HaveNames : FieldTrees → Type 0
+  pub HaveNames : FieldTrees → Type 0
   HaveNames tree.NoFields = Unit {0}
-  HaveNames (tree.FieldThen f p rest) = IsNameOfBytes p.name × HasNames f × HaveNames rest
+  HaveNames (tree.FieldThen f p rest) = IsWord p.name × HasNames f × HaveNames rest
 
-abbrev DeclareNames : List DeclarationTree → Type 0
+abbrev pub DeclareNames : List DeclarationTree → Type 0
 DeclareNames [] = Unit {0}
 DeclareNames (d ∷ ds) = HasNames d.form × DeclareNames ds
 
--- a name among tokens is of bytes
-abbrev IsOfBytes : Token → Type 0
-IsOfBytes (Reserved w) = Unit {0}
-IsOfBytes (Named n) = AreBytes n
-IsOfBytes (Opens o) = Unit {0}
-IsOfBytes (Numeral n) = Unit {0}
-IsOfBytes (Character b) = Unit {0}
-IsOfBytes (Text bytes) = Unit {0}
-IsOfBytes (AttributeOf a) = Unit {0}
-IsOfBytes (Mark s) = Unit {0}
+-- a name among tokens is a word
+abbrev HasWord : Token → Type 0
+HasWord (Reserved w) = Unit {0}
+HasWord (Named n) = IsName n
+HasWord (Opens o) = Unit {0}
+HasWord (Numeral n) = Unit {0}
+HasWord (Character b) = Unit {0}
+HasWord (Text bytes) = Unit {0}
+HasWord (AttributeOf a) = Unit {0}
+HasWord (Mark s) = Unit {0}
 
-abbrev AreOfBytes : List Token → Type 0
-AreOfBytes [] = Unit {0}
-AreOfBytes (t ∷ ts) = IsOfBytes t × AreOfBytes ts
+abbrev HaveWords : List Token → Type 0
+HaveWords [] = Unit {0}
+HaveWords (t ∷ ts) = HasWord t × HaveWords ts
 
-front_of : (a b : List Token) → AreOfBytes (a ++ b) → AreOfBytes a
+front_of : (a b : List Token) → HaveWords (a ++ b) → HaveWords a
 front_of [] b h = tt
 front_of (t ∷ a) b h = (h.0, front_of a b h.1)
 
-back_of : (a b : List Token) → AreOfBytes (a ++ b) → AreOfBytes b
+back_of : (a b : List Token) → HaveWords (a ++ b) → HaveWords b
 back_of [] b h = h
 back_of (t ∷ a) b h = back_of a b h.1
 
-name_is : (name : Option (List ℕ)) → AreOfBytes (show_name name) → IsNameOfBytes name
+name_is : (name : Option (List ℕ)) → HaveWords (show_name name) → IsWord name
 name_is None h = tt
 name_is (Some word) h = h.0
 
-parts_name : (p : FieldParts) → AreOfBytes (show_parts p) → IsNameOfBytes p.name
+parts_name : (p : FieldParts) → HaveWords (show_parts p) → IsWord p.name
 parts_name p h = name_is p.name (front_of (show_name p.name) _ (front_of _ (show_part _ p.label) (front_of _ (show_part _ p.condition) (front_of _ (Mark sign.Semicolon ∷ []) h))))
 
 mutual
-  form_names : (f : FormTree) → AreOfBytes (show_form f) → HasNames f
+  form_names : (f : FormTree) → HaveWords (show_form f) → HasNames f
   form_names (Plain r) h = tt
   form_names StringForm h = tt
   form_names (OffsetForm r u) h = tt
@@ -123,7 +131,7 @@ mutual
   form_names (IntegralForm r fs) h = fields_names fs (back_of (Reserved word.Struct ∷ show_reference r) (Mark sign.OpenBrace ∷ show_fields fs) (front_of (Reserved word.Struct ∷ show_reference r ++ Mark sign.OpenBrace ∷ show_fields fs) (Mark sign.CloseBrace ∷ []) h)).1
   form_names (UnionForm fs) h = fields_names fs (front_of (Reserved word.Union ∷ Mark sign.OpenBrace ∷ show_fields fs) (Mark sign.CloseBrace ∷ []) h).1.1
 
-  fields_names : (fs : FieldTrees) → AreOfBytes (show_fields fs) → HaveNames fs
+  fields_names : (fs : FieldTrees) → HaveWords (show_fields fs) → HaveNames fs
   fields_names tree.NoFields h = tt
   fields_names (tree.FieldThen f p rest) h =
       let field = front_of (show_order p.order ++ show_form f ++ show_parts p) (show_fields rest) h in
@@ -133,7 +141,7 @@ mutual
         fields_names rest (back_of (show_order p.order ++ show_form f ++ show_parts p) (show_fields rest) h),
       )
 
-pickle_names : (ds : List DeclarationTree) → AreOfBytes (show_pickle ds) → DeclareNames ds
+pickle_names : (ds : List DeclarationTree) → HaveWords (show_pickle ds) → DeclareNames ds
 pickle_names [] h = tt
 pickle_names (d ∷ ds) h =
     let declaration = front_of (show_declaration d) (show_pickle ds) h in (
@@ -143,36 +151,52 @@ pickle_names (d ∷ ds) h =
 
 -- ---- the names of tokens
 
-letter_small : (b : ℕ) → is_in class.Letter b ≡ true → b < 2 ^ 8
-letter_small b h = grind (arith, h)
+letter_begins : (b : ℕ) → is_in class.Letter b ≡ true → is_ascii_digit b ≡ false
+letter_begins b h = grind (arith, nat_tests)
 
-word_small : (b : ℕ) → is_in class.Word b ≡ true → b < 2 ^ 8
-word_small b h = grind (arith, h)
+letter_word : (b : ℕ) → is_in class.Letter b ≡ true → is_in class.Word b ≡ true
+letter_word b h = grind (arith, nat_tests)
 
-words_small : (bytes : List ℕ) → AllIn class.Word bytes → AreBytes bytes
-words_small [] h = tt
-words_small (b ∷ bytes) h = (word_small b h.0, words_small bytes h.1)
+words_are : (bytes : List ℕ) → AllIn class.Word bytes → AreNameBytes bytes
+words_are [] h = tt
+words_are (b ∷ bytes) h = (h.0, words_are bytes h.1)
 
-piece_small : (token : Option Token) (bytes rest : List ℕ) → IsPiece token bytes rest → AreOfBytes (token_list token)
-piece_small None bytes rest h = tt
-piece_small (Some (Reserved w)) bytes rest h = (tt, tt)
-piece_small (Some (Named n)) bytes rest h =
+name_byte_small : (b : ℕ) → is_name_byte b ≡ true → b < 2 ^ 8
+name_byte_small b h = grind (arith, h)
+
+name_bytes_small : (bytes : List ℕ) → AreNameBytes bytes → AreBytes bytes
+name_bytes_small [] h = tt
+name_bytes_small (b ∷ bytes) h = (name_byte_small b h.0, name_bytes_small bytes h.1)
+
+name_small : (name : List ℕ) → IsName name → AreBytes name
+name_small [] h = absurd h
+name_small (b ∷ bytes) h = name_bytes_small (b ∷ bytes) h.1
+
+-- a word has bytes below 256
+word_small : (name : Option (List ℕ)) → IsWord name → IsNameOfBytes name
+word_small None h = tt
+word_small (Some name) h = name_small name h
+
+piece_words : (token : Option Token) (bytes rest : List ℕ) → IsPiece token bytes rest → HaveWords (token_list token)
+piece_words None bytes rest h = tt
+piece_words (Some (Reserved w)) bytes rest h = (tt, tt)
+piece_words (Some (Named n)) bytes rest h =
     let word = h.0.1 in
-    (subst AreBytes (sym (h.0.0 ∙ word.2)) (letter_small word.0 word.3, words_small word.1 word.4), tt)
-piece_small (Some (Opens o)) bytes rest h = (tt, tt)
-piece_small (Some (Numeral n)) bytes rest h = (tt, tt)
-piece_small (Some (Character b)) bytes rest h = (tt, tt)
-piece_small (Some (Text values)) bytes rest h = (tt, tt)
-piece_small (Some (AttributeOf a)) bytes rest h = (tt, tt)
-piece_small (Some (Mark s)) bytes rest h = (tt, tt)
+    (subst IsName (sym (h.0.0 ∙ word.2)) (letter_begins word.0 word.3, (letter_word word.0 word.3, words_are word.1 word.4)), tt)
+piece_words (Some (Opens o)) bytes rest h = (tt, tt)
+piece_words (Some (Numeral n)) bytes rest h = (tt, tt)
+piece_words (Some (Character b)) bytes rest h = (tt, tt)
+piece_words (Some (Text values)) bytes rest h = (tt, tt)
+piece_words (Some (AttributeOf a)) bytes rest h = (tt, tt)
+piece_words (Some (Mark s)) bytes rest h = (tt, tt)
 
-joined_small : (a b : List Token) → AreOfBytes a → AreOfBytes b → AreOfBytes (a ++ b)
-joined_small [] b h g = g
-joined_small (t ∷ a) b h g = (h.0, joined_small a b h.1 g)
+joined_words : (a b : List Token) → HaveWords a → HaveWords b → HaveWords (a ++ b)
+joined_words [] b h g = g
+joined_words (t ∷ a) b h g = (h.0, joined_words a b h.1 g)
 
-pieces_small : (ps : List Piece) (bytes rest : List ℕ) → pieces ps bytes rest → AreOfBytes (tokens_in ps)
-pieces_small [] bytes rest h = tt
-pieces_small (p ∷ ps) bytes rest h = joined_small (token_list p.token) (tokens_in ps) (piece_small p.token p.bytes h.0 h.2.is) (pieces_small ps h.0 rest h.3)
+pieces_words : (ps : List Piece) (bytes rest : List ℕ) → pieces ps bytes rest → HaveWords (tokens_in ps)
+pieces_words [] bytes rest h = tt
+pieces_words (p ∷ ps) bytes rest h = joined_words (token_list p.token) (tokens_in ps) (piece_words p.token p.bytes h.0 h.2.is) (pieces_words ps h.0 rest h.3)
 
 -- ---- what forms mean
 
@@ -223,11 +247,11 @@ module _ (names : Names) (small : AreSmallNames names) where
 
     fields_small : (here : Place) (seen : List Visible) (levels : ℕ) (before : List (Option (List ℕ))) (trees : FieldTrees) (fs : Fields) → HaveNames trees → AreFieldsWithin standard trees → FieldsMean names here seen levels before trees fs → AreSmall trees fs
     fields_small here seen levels before _ _ named within FieldsMean.done = record { count = refl; names = tt; types = tt }
-    fields_small here seen levels before _ _ named within (FieldsMean.field {form = form} {rest = rest} {t = t} {fs = fs} is stands fresh label condition constraint are) =
+    fields_small here seen levels before _ _ named within (FieldsMean.field {form = form} {parts = parts} {rest = rest} {t = t} {fs = fs} is stands fresh label condition constraint are) =
         let h = fields_small here _ levels _ rest fs named.2 within.2 are in
         record {
           count = omega (arith, h.count);
-          names = (named.0, h.names);
+          names = (word_small parts.name named.0, h.names);
           types = (form_small seen (levels + 1) None form t named.1 within.0 is, h.types);
         }
 
@@ -239,11 +263,16 @@ declared_small names _ all small named within (Declares.more {d = d} {ds = ds} {
 predeclared_small : AreSmallNames predeclared
 predeclared_small = search (arith)
 
+-- the names in an accepted pickle are words
+pub accepted_names : (pickle : List ℕ) (declarations : List DeclarationTree) (types : Names) → IsAccepted pickle declarations types → DeclareNames declarations
+accepted_names pickle declarations types accepted =
+    let syntax = accepted.syntax in
+    let tokens = (tokens_are pickle (syntax.tokens, syntax.spans)).0 syntax.cut in
+    let words : HaveWords syntax.tokens = subst HaveWords (sym tokens.1.2) (pieces_words tokens.1.0 pickle [] tokens.1.1) in
+    pickle_names declarations (subst HaveWords syntax.parsed.shown words)
+
 -- each type of an accepted pickle is small
 pub accepted_small : (pickle : List ℕ) (declarations : List DeclarationTree) (types : Names) (name : List ℕ) (type : PokeType) → IsAccepted pickle declarations types → find_type name types ≡ Some type → IsSmallType type
 accepted_small pickle declarations types name type accepted found =
-    let syntax = accepted.syntax in
-    let tokens = (tokens_are pickle (syntax.tokens, syntax.spans)).0 syntax.cut in
-    let small : AreOfBytes syntax.tokens = subst AreOfBytes (sym tokens.1.2) (pieces_small tokens.1.0 pickle [] tokens.1.1) in
-    let named = pickle_names declarations (subst AreOfBytes syntax.parsed.shown small) in
-    found_small name types type (declared_small predeclared declarations types predeclared_small named syntax.parsed.within.1 accepted.declares) found
+    let named = accepted_names pickle declarations types accepted in
+    found_small name types type (declared_small predeclared declarations types predeclared_small named accepted.syntax.parsed.within.1 accepted.declares) found

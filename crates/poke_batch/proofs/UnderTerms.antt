@@ -104,8 +104,20 @@ long_saying most start text more =
     subst (λ b. SaysIt (if b then Text text else Line Fault (fault_at_line (codes "Output") start)) (Line Fault (fault_at_line (codes "Output") start))) (sym (lt-leb (length text) most more)) said_so
 
 -- a value without the requested part
-pub no_part_saying : (ask : Ask) (most : Option ℕ) (text : Value → List ℕ) (found : Option Value) → found ≡ None → SaysIt (part_saying ask most text found) (Line Fault (fault_line (codes "NoSuchPart")))
-no_part_saying ask most text found none = subst (λ o. SaysIt (part_saying ask most text o) (Line Fault (fault_line (codes "NoSuchPart")))) (sym none) said_so
+pub no_part_saying : (ask : Ask) (most : Option ℕ) (has : Value → Bool) (text : Value → List ℕ) (found : Option Value) → found ≡ None → SaysIt (part_saying ask most has text found) (Line Fault (fault_line (codes "NoSuchPart")))
+no_part_saying ask most has text found none = subst (λ o. SaysIt (part_saying ask most has text o) (Line Fault (fault_line (codes "NoSuchPart")))) (sym none) said_so
+
+-- a part that hasn't all parts that are selected, and one that has
+pub none_selected_saying : (ask : Ask) (most : Option ℕ) (has : Value → Bool) (text : Value → List ℕ) (found : Option Value) (part : Value) → found ≡ Some part → has part ≡ false
+    → SaysIt (part_saying ask most has text found) (Line Fault (fault_line (codes "NoSuchPart")))
+none_selected_saying ask most has text found part is lacks =
+    subst (λ o. SaysIt (part_saying ask most has text o) (Line Fault (fault_line (codes "NoSuchPart")))) (sym is)
+    (subst (λ b. SaysIt (if b then text_saying most ask.start (text part) else Line Fault (fault_line (codes "NoSuchPart"))) (Line Fault (fault_line (codes "NoSuchPart")))) (sym lacks) said_so)
+
+pub selected_saying : (ask : Ask) (most : Option ℕ) (has : Value → Bool) (text : Value → List ℕ) (found : Option Value) (part : Value) → found ≡ Some part → has part ≡ true
+    → part_saying ask most has text found ≡ text_saying most ask.start (text part)
+selected_saying ask most has text found part is whole =
+    ap (part_saying ask most has text) is ∙ ap (λ b. if b then text_saying most ask.start (text part) else Line Fault (fault_line (codes "NoSuchPart"))) whole
 
 -- a value that ends before its file
 pub left_saying : (table : Table) (id : TypeId) (ask : Ask) (terms : Terms) (bits : ℕ) (mapped : Value) (end : ℕ) → end ≡ end_of mapped → is_left terms.whole end bits ≡ true
@@ -125,7 +137,7 @@ said_under table id pickle ask terms before after mapped right saying no_memory_
 
 -- without terms a mapping prints what it prints under none
 pub without_terms : (pickle : List ℕ) (ask : Ask) (before after : SpaceView) (saying : Saying)
-    → MapsUnder pickle ask (record { whole = false; most_output = None; part = None; most_slots = None; style = plain; look = None }) before after saying → MapsAs pickle ask before after saying
+    → MapsUnder pickle ask (record { whole = false; most_output = None; part = None; most_slots = None; style = plain; look = None; selection = None }) before after saying → MapsAs pickle ask before after saying
 without_terms pickle ask before after saying (mapped_under {mapped = mapped} table id named asked answer fits) =
     subst (λ text. MapsAs pickle ask before after (Text text)) (sym (prints_plain (nodes_of table) (char_node_of table) (Some id.node) ask.mode mapped)) (value asked answer fits)
 without_terms pickle ask before after saying (ended_under ends) = ends

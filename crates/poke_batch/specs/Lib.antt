@@ -7,6 +7,8 @@ pub use Rattle.run_parts.specs.Outcomes
 pub use Rattle.run_parts.specs.Told
 pub use Rattle.run_parts.specs.FaultLines
 pub mod FileLine
+pub mod FileObject
+pub mod ObjectLaws
 pub use Rattle.run_parts.specs.TypesText
 pub mod Runs
 pub mod RunsUnder
@@ -36,5 +38,9 @@ pub use Rattle.command_words.specs.Words
 pub use Rattle.command_words.specs.Paths
 pub mod PathParts
 pub mod PathNodes
+pub mod Selected
+pub mod TypedLines
+pub use Rattle.value_text.specs.LineParts
+pub mod PathLaws
 pub use Rattle.value_text.specs.JsonValue
 pub use Rattle.value_text.specs.SmallParts

@@ -1,7 +1,8 @@
 -- The laws of what runs write.
-use Rattle.std.specs.Prelude.{◌≡◌, ◌*◌, ◌^◌, ◌<◌, ℕ, List, Option, Some, None, Ok}
+use Rattle.std.specs.Prelude.{◌≡◌, ◌*◌, ◌^◌, ◌<◌, ◌⊎◌, ℕ, List, [], ◌∷◌, ◌++◌, map, Option, Some, None, Ok, codes}
 use Rattle.std.specs.Io.KnownBytes.{Appends}
 use Rattle.bit_space.specs.SpaceView.{SpaceView}
+use Rattle.pickle_types.specs.declared.node.Node.{Node}
 use Rattle.pickle_types.specs.declared.table.Table.{Table}
 use Rattle.pickle_types.specs.declared.table.TypeId.{TypeId}
 use Rattle.pickle_types.specs.NodeParts.{char_node_of}
@@ -13,6 +14,7 @@ use Rattle.command_words.specs.declared.ask.Ask.{Ask}
 use Rattle.text_forms.specs.declared.mode.Mode.TheVariants as mode
 use Rattle.text_forms.specs.Styles.{plain}
 use Rattle.command_words.specs.declared.path.Path.{Path}
+use Rattle.command_words.specs.declared.pattern.PatternStep.TheVariants.{Exact}
 use Rattle.run_parts.specs.declared.status.Status.{Status}
 use Rattle.run_parts.specs.declared.status.Status.TheVariants.{Done}
 use Rattle.command_words.specs.declared.terms.Terms.{Terms}
@@ -22,7 +24,8 @@ use Rattle.value_text.specs.Styled.{with_chars}
 use Rattle.value_text.specs.StyledJsonValue.{styled_json_of}
 use Rattle.poke_batch.specs.PathParts.{part_at, node_at}
 use Rattle.poke_batch.specs.Runs.{IsAsked, HasAnswer, MapsAs}
-use Rattle.poke_batch.specs.RunsUnder.{MapsUnder}
+use Rattle.poke_batch.specs.RunsUnder.{MapsUnder, part_text}
+use Rattle.poke_batch.specs.Selected.{Part, path_part, parts_through, cell_of}
 use Rattle.value_text.specs.SmallParts.{HasSmallParts}
 use Rattle.run_parts.specs.Told.{Says}
 
@@ -50,10 +53,10 @@ abbrev pub MappedJsonReadsBack : Type 0
 MappedJsonReadsBack = (pickle : List ℕ) (ask : Ask) (before after : SpaceView) (status : Status) (out out' err err' : Option (List ℕ))
     → ask.mode ≡ mode.Json → status ≡ Done → Says (MapsAs pickle ask before after) status out out' err err' → WritesJson pickle ask None before out out'
 
--- and under terms in the plain style and without a look the part that they request
+-- and under terms in the plain style, without a look and a selection, the part that they request
 abbrev pub PartJsonReadsBack : Type 0
 PartJsonReadsBack = (pickle : List ℕ) (ask : Ask) (terms : Terms) (before after : SpaceView) (status : Status) (out out' err err' : Option (List ℕ))
-    → ask.mode ≡ mode.Json → terms.style ≡ plain → terms.look ≡ None → status ≡ Done → Says (MapsUnder pickle ask terms before after) status out out' err err' → WritesJson pickle ask terms.part before out out'
+    → ask.mode ≡ mode.Json → terms.style ≡ plain → terms.look ≡ None → terms.selection ≡ None → status ≡ Done → Says (MapsUnder pickle ask terms before after) status out out' err err' → WritesJson pickle ask terms.part before out out'
 
 -- the JSON value of a part of a mapped value in a style, by the types of a table
 abbrev pub part_json : Table → TypeId → Terms → (mapped part : Value) → Json
@@ -76,7 +79,18 @@ pub record WritesStyledJson (pickle : List ℕ) (ask : Ask) (terms : Terms) (bef
   pub written : Appends out out' text
   pub reads : Reads text (part_json table id terms mapped part)
 
--- in every style, of a space of fewer than 2^60 bytes, as each space is
+-- in every style, without a selection, of a space of fewer than 2^60 bytes, as each space is
 abbrev pub StyledPartJsonReadsBack : Type 0
 StyledPartJsonReadsBack = (pickle : List ℕ) (ask : Ask) (terms : Terms) (before after : SpaceView) (status : Status) (out out' err err' : Option (List ℕ))
-    → ask.mode ≡ mode.Json → terms.look ≡ None → before.len < 2 ^ 60 → status ≡ Done → Says (MapsUnder pickle ask terms before after) status out out' err err' → WritesStyledJson pickle ask terms before out out'
+    → ask.mode ≡ mode.Json → terms.look ≡ None → terms.selection ≡ None → before.len < 2 ^ 60 → status ≡ Done → Says (MapsUnder pickle ask terms before after) status out out' err err' → WritesStyledJson pickle ask terms before out out'
+
+-- a path leads to one part, or to none, whether it is a pattern or a path
+abbrev pub PathsLeadToOnePart : Type 0
+PathsLeadToOnePart = (nodes : List Node) (path : Path) (part : Part) → parts_through nodes (map Exact path.steps.items) part ≡ path_part nodes path part ∷ []
+
+-- in flat and in JSON the cell of a part that is there is what the request of this part alone prints, but for the line feed
+-- at its end
+abbrev pub CellsAreParts : Type 0
+CellsAreParts = (table : Table) (id : TypeId) (ask : Ask) (terms : Terms) (path : Path) (mapped part : Value)
+    → (ask.mode ≡ mode.Flat) ⊎ (ask.mode ≡ mode.Json) → terms.look ≡ None → terms.selection ≡ None → terms.part ≡ Some path → part_at (Some path) mapped ≡ Some part
+    → cell_of (nodes_of table) (char_node_of table) terms.style ask.mode (path_part (nodes_of table) path (record { node = Some id.node; value = mapped })) ++ codes "\n" ≡ part_text table id ask terms mapped part

@@ -20,14 +20,8 @@ use Rattle.run_parts.specs.declared.status.Status.TheVariants.{Fault, Outside}
 use Rattle.command_words.specs.declared.terms.Terms.{Terms}
 use Rattle.run_parts.specs.Lines.{fault_line, fault_at_line}
 use Rattle.poke_batch.specs.PathParts.{part_at, node_at}
-use Rattle.pickle_types.specs.declared.node.Node.{Node}
-use Rattle.text_forms.specs.declared.mode.Mode.{Mode}
-use Rattle.text_forms.specs.declared.style.Style.{Style}
-use Rattle.text_forms.specs.declared.style.Look.{Look}
-use Rattle.value_text.specs.declared.typed.Typed.{Typed}
-use Rattle.value_text.specs.TypedValue.{nodes_in, char_node_in, types_in, node_in, mapped_in}
-use Rattle.value_text.specs.ShowParts.{shown_in}
-use Rattle.value_text.specs.Styled.{styled_printed}
+use Rattle.poke_batch.specs.Selected.{Part, text_under, has_selected}
+pub use Rattle.poke_batch.specs.Selected.{text_in}
 use Rattle.poke_batch.specs.Runs.{HasAnswer, IsAsked, MapsAs}
 use Rattle.run_parts.specs.Told.{Saying, Text, Line}
 
@@ -40,28 +34,26 @@ text_saying (Some most) start text = if nat_le (length text) most then Text text
 abbrev pub is_left : (whole : Bool) (end bits : ℕ) → Bool
 is_left whole end bits = whole && nat_lt end bits
 
--- what is printed of the requested part, if the value has it
-abbrev pub part_saying : Ask → (most : Option ℕ) → (text : Value → List ℕ) → Option Value → Saying
-part_saying ask most text None = Line Fault (fault_line (codes "NoSuchPart"))
-part_saying ask most text (Some part) = text_saying most ask.start (text part)
+-- what is printed of the requested part, if the value has it and it has the parts that are selected
+abbrev pub part_saying : Ask → (most : Option ℕ) → (has : Value → Bool) → (text : Value → List ℕ) → Option Value → Saying
+part_saying ask most has text None = Line Fault (fault_line (codes "NoSuchPart"))
+part_saying ask most has text (Some part) = if has part then text_saying most ask.start (text part) else Line Fault (fault_line (codes "NoSuchPart"))
 
--- the text of a value by the types of a table: shown to the eye if a look is given, else in a mode and a style
-abbrev pub text_in : Option Look → Style → Mode → List Node → (chars node : Option ℕ) → Value → List ℕ
-text_in None style mode nodes chars node value = styled_printed nodes chars node style mode value
-text_in (Some look) style mode nodes chars node value = shown_in look nodes chars node value
+-- the requested part of a value that has a type of a table
+abbrev pub requested : Table → TypeId → Terms → (value part : Value) → Part
+requested table id terms value part = record { node = node_at (nodes_of table) terms.part (Some id.node) value; value = part }
 
--- the same of a value beside its type
-abbrev pub typed_text : Option Look → Style → Mode → Typed → List ℕ
-typed_text look style mode typed = text_in look style mode (nodes_in (types_in typed)) (char_node_in (types_in typed)) (node_in typed) (mapped_in typed)
-
--- the text of the requested part of a value that has a type of a table
+-- its text, and whether it has the parts that are selected
 abbrev pub part_text : Table → TypeId → Ask → Terms → (value part : Value) → List ℕ
-part_text table id ask terms value part =
-    text_in terms.look terms.style ask.mode (nodes_of table) (char_node_of table) (node_at (nodes_of table) terms.part (Some id.node) value) part
+part_text table id ask terms value part = text_under (nodes_of table) (char_node_of table) terms ask.mode (requested table id terms value part)
+
+abbrev pub part_has : Table → TypeId → Terms → (value part : Value) → Bool
+part_has table id terms value part = has_selected (nodes_of table) terms.selection (requested table id terms value part)
 
 -- what is printed of a value that ends where it must
 abbrev pub kept_saying : Table → TypeId → Ask → Terms → Value → Saying
-kept_saying table id ask terms value = part_saying ask terms.most_output (part_text table id ask terms value) (part_at terms.part value)
+kept_saying table id ask terms value =
+    part_saying ask terms.most_output (part_has table id terms value) (part_text table id ask terms value) (part_at terms.part value)
 
 -- what is printed of a value mapped from a file of so many bits: the first term that it fails to meet, or its text
 abbrev pub value_saying : Table → TypeId → Ask → Terms → (bits : ℕ) → Value → Saying

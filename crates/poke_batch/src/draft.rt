@@ -2,14 +2,16 @@
 
 ghost use Rattle.std.specs.Prelude.{◌≡◌, ◌<◌, ◌≤◌, Some, length, codes, IsOk, IfOk, IfErr, OnOk, OnErr};
 ghost use Rattle.std.specs.Io.KnownBytes.{Appends};
-ghost use Rattle.poke_batch.specs.RunsUnder.{typed_text};
+ghost use Rattle.poke_batch.specs.Selected.{typed_text, typed_whole};
 ghost use Rattle.text_forms.specs.Written.{AppendsPart};
 
+use crate::selected::print_shape;
 use command_words::terms::Terms;
 use std::alloc::Global;
 use std::io;
 use std::io::Write;
 use text_forms::mode::Mode;
+use text_forms::style::{Look, Style};
 use text_forms::write::WriteFault;
 use thiserror::Error;
 use value_text::print::{print_shown, print_styled};
@@ -70,9 +72,9 @@ pub fn gather(
     terms: &Terms,
     most: u64,
 ) -> Result<Vec<u8>, DraftFault>
-    ensures text { IfOk result (λ text. text.items ≡ typed_text terms.now.look terms.now.style mode value.entry) }
+    ensures text { IfOk result (λ text. text.items ≡ typed_text terms.now mode value.entry) }
     ensures fits { IfOk result (λ text. length text.items ≤ most) }
-    ensures err { IfErr result (λ fault. fault ≡ DraftFault.TooLong → most < length (typed_text terms.now.look terms.now.style mode value.entry)) }
+    ensures err { IfErr result (λ fault. fault ≡ DraftFault.TooLong → most < length (typed_text terms.now mode value.entry)) }
 {
     let mut draft = Draft {
         bytes: Vec::new(alloc),
@@ -82,19 +84,36 @@ pub fn gather(
     judge(printed, draft.bytes, most)
 }
 
-/// Prints a value in a mode and the style of the terms or, if they have a look, shows it to the eye. If the writer fails,
-/// what it accepted is the first bytes of the text, but not all of them.
+/// Prints a value, or the parts of it that the terms select, in a mode and the style of the terms or, if they have a look,
+/// shows it to the eye. If the writer fails, what it accepted is the first bytes of the text, but not all of them.
 pub fn print_under<W: Write>(
     value: Typed<'_>,
     mode: Mode,
     terms: &Terms,
     w: &mut W,
 ) -> Result<(), WriteFault>
-    ensures ok { OnOk result (Appends (W.contents w.old) (W.contents w.new) (typed_text terms.now.look terms.now.style mode value.entry)) }
-    ensures err { OnErr result (AppendsPart (W.contents w.old) (W.contents w.new) (typed_text terms.now.look terms.now.style mode value.entry)) }
+    ensures ok { OnOk result (Appends (W.contents w.old) (W.contents w.new) (typed_text terms.now mode value.entry)) }
+    ensures err { OnErr result (AppendsPart (W.contents w.old) (W.contents w.new) (typed_text terms.now mode value.entry)) }
 {
-    match terms.look {
-        None => print_styled(value, mode, terms.style, w),
+    match &terms.selection {
+        None => print_whole(value, mode, terms.style, terms.look, w),
+        Some(selection) => print_shape(value, &selection.shape, mode, terms.style, terms.look, w),
+    }
+}
+
+// Prints a value in a mode and a style or, with a look, for the eye.
+fn print_whole<W: Write>(
+    value: Typed<'_>,
+    mode: Mode,
+    style: Style,
+    look: Option<Look>,
+    w: &mut W,
+) -> Result<(), WriteFault>
+    ensures ok { OnOk result (Appends (W.contents w.old) (W.contents w.new) (typed_whole look style mode value.entry)) }
+    ensures err { OnErr result (AppendsPart (W.contents w.old) (W.contents w.new) (typed_whole look style mode value.entry)) }
+{
+    match look {
+        None => print_styled(value, mode, style, w),
         Some(look) => print_shown(value, look, w),
     }
 }

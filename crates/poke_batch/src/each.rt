@@ -1,16 +1,19 @@
-//! A type of a pickle, mapped over one file after another, with a line for each.
+//! A type of a pickle, mapped over one file after another, with a line or a JSON object for each.
 
-ghost use Rattle.std.specs.Prelude.{◌≡◌, ℕ, List, [], IfOk, OnErr};
+ghost use Rattle.std.specs.Prelude.{◌≡◌, ℕ, List, [], IfOk, OnOk, OnErr};
 ghost use Rattle.std.specs.Io.KnownBytes.{Appends};
 ghost use Rattle.bit_space.specs.SpaceView.{Keeps};
 ghost use Rattle.pickle_types.specs.TypeTable.{type_named, IsInTable};
 ghost use Rattle.poke_batch.specs.FileLine.{TellsFile, TellsKept, in_memory};
+ghost use Rattle.poke_batch.specs.FileObject.{HoldsRun, kept_object};
+ghost use Rattle.run_parts.specs.Outcomes.{outcome_status};
 ghost use Rattle.poke_batch.specs.Runs.{IsAsked};
 ghost use Rattle.poke_batch.specs.RunsUnder.{MapsUnder, IsStoreOf};
 ghost use Rattle.text_forms.specs.Written.{AppendsPart};
 ghost use Rattle.run_parts.specs.declared.status.Status.{Status};
 
 use crate::file_line::put_file_line;
+use crate::file_object::put_file_object;
 use crate::run::{map_stored, store_of};
 use bit_space::{Memory, Space};
 use command_words::ask::Ask;
@@ -53,6 +56,53 @@ impl Kept {
     {
         self.outcome
     }
+
+    /// Writes the JSON object of the last run, on a line, and returns its exit status. The run was in JSON. Each line of
+    /// `reasons` is a string in it.
+    pub fn put_object<W: Write>(
+        &self,
+        w: &mut W,
+        name: &[u8],
+        reasons: &[u8],
+    ) -> Result<Status, WriteFault>
+        ensures status { IfOk result (λ status. status ≡ outcome_status self.now.outcome) }
+        ensures ok { OnOk result (Appends (W.contents w.old) (W.contents w.new) (kept_object self.now name.now reasons.now)) }
+        ensures err { OnErr result (AppendsPart (W.contents w.old) (W.contents w.new) (kept_object self.now name.now reasons.now)) }
+    {
+        put_file_object(w, name, self.outcome, &self.text, reasons)?;
+        Ok(self.outcome.status())
+    }
+}
+
+/// Maps a type of a table over a file, and stores how the run ended, and what
+/// [`run_map_under`](crate::run::run_map_under) writes to standard output for it.
+pub fn map_file<S: Space>(
+    table: &Table,
+    id: TypeId,
+    ask: &Ask<'_>,
+    terms: &Terms,
+    kept: &mut Kept,
+    space: &mut S,
+)
+    requires known { IsInTable table.now id }
+    requires store { IsStoreOf terms.now.most_slots kept.old.store }
+    ensures store { IsStoreOf terms.now.most_slots kept.new.store }
+    ensures holds { (pickle : List ℕ) → IsAsked pickle ask.now.name.now (type_named table.now id)
+        → HoldsRun (MapsUnder pickle ask.now terms.now (S.view space.old) (S.view space.new)) kept.new }
+    ensures keeps { Keeps (S.view space.old) (S.view space.new) }
+{
+    kept.text.clear();
+    let ended = map_stored(
+        kept.alloc,
+        table,
+        id,
+        ask,
+        terms,
+        &mut kept.store,
+        space,
+        &mut kept.text,
+    );
+    kept.outcome = in_memory(ended);
 }
 
 /// Maps a type of a table over a file, and writes the file's line: its name, the exit status of its run, and what
@@ -79,18 +129,7 @@ pub fn run_file<S: Space, W: Write>(
     ensures kept { IfOk result (λ status. TellsKept faults kept.new name.now status (W.contents w.old) (W.contents w.new)) }
     ensures keeps { Keeps (S.view space.old) (S.view space.new) }
 {
-    kept.text.clear();
-    let ended = map_stored(
-        kept.alloc,
-        table,
-        id,
-        ask,
-        terms,
-        &mut kept.store,
-        space,
-        &mut kept.text,
-    );
-    kept.outcome = in_memory(ended);
+    map_file(table, id, ask, terms, kept, space);
     put_file_line(w, name, kept.outcome, faults, &kept.text)?;
     Ok(kept.outcome.status())
 }

@@ -7,16 +7,21 @@
 pub mod draft;
 pub mod each;
 pub mod file_line;
+pub mod file_object;
+pub mod line;
 pub mod part;
+pub mod places;
+pub mod presence;
 pub mod report;
 pub mod run;
 pub mod run_laws;
+pub mod selected;
 mod tell_value;
 
 pub use command_words::ask::Ask;
 pub use command_words::offset_word::offset_word;
 pub use command_words::words::{Job, WordFault, read_words};
-pub use command_words::{ask, fault_form, path, terms, words};
+pub use command_words::{ask, fault_form, path, pattern, selection, terms, words};
 pub use run::{run_bound, run_check, run_map};
 pub use run_parts::dump::{DumpFault, dump};
 pub use run_parts::pickle::{PickleFault, read_pickle};

@@ -24,7 +24,8 @@ pub fn part_at<'a>(value: Typed<'a>, path: &Option<Path>) -> Option<Typed<'a>>
     }
 }
 
-fn part_of<'a>(value: Typed<'a>, steps: &[Step]) -> Option<Typed<'a>>
+/// The part to which steps lead, one after the other, beside its type, if the value has it.
+pub fn part_of<'a>(value: Typed<'a>, steps: &[Step]) -> Option<Typed<'a>>
     ensures value { option_map mapped_in result ≡ part_of steps.now (mapped_in value.entry) }
     ensures types { IfSome result (λ part. types_in part ≡ types_in value.entry) }
     ensures node { IfSome result (λ part. node_in part ≡ node_after steps.now value.entry) }
@@ -39,8 +40,8 @@ fn part_of<'a>(value: Typed<'a>, steps: &[Step]) -> Option<Typed<'a>>
     Some(part)
 }
 
-// The part to which a step leads, beside its type, if the value has it.
-fn step_beside<'a>(value: Typed<'a>, step: &Step) -> Option<Typed<'a>>
+/// The part to which a step leads, beside its type, if the value has it.
+pub fn step_beside<'a>(value: Typed<'a>, step: &Step) -> Option<Typed<'a>>
     ensures value { option_map mapped_in result ≡ step_to step.now (mapped_in value.entry) }
     ensures types { IfSome result (λ part. types_in part ≡ types_in value.entry) }
     ensures node { IfSome result (λ part. node_in part ≡ node_through step.now value.entry) }
@@ -61,8 +62,8 @@ pub fn step_to<'a>(value: ValueRef<'a>, step: &Step) -> Option<ValueRef<'a>>
     }
 }
 
-// The place of the member to which a step leads.
-fn place_of(value: ValueRef<'_>, step: &Step) -> Option<usize>
+/// The place of the member to which a step leads.
+pub fn place_of(value: ValueRef<'_>, step: &Step) -> Option<usize>
     ensures { result ≡ place_of step.now (value_shown value.entry) }
 {
     match step {
@@ -101,7 +102,8 @@ fn is_nameless(value: ValueRef<'_>, place: usize) -> bool
     !is_array(value) && value.field_name(place).is_none()
 }
 
-fn is_array(value: ValueRef<'_>) -> bool
+/// Whether a value is an array.
+pub fn is_array(value: ValueRef<'_>) -> bool
     ensures { result ≡ is_array (label_of (value_shown value.entry)) }
 {
     value.kind() == Kind::Array

@@ -3,11 +3,13 @@
 ghost use Rattle.std.specs.Prelude.{◌≡◌, ◌≤◌};
 ghost use Rattle.value_store.specs.Refs.{value_shown};
 ghost use Rattle.pickle_meaning.specs.Values.{start_of, end_of};
-ghost use Rattle.poke_batch.specs.RunsUnder.{SaysIt, is_left, text_saying, kept_saying, value_saying, typed_text};
+ghost use Rattle.poke_batch.specs.RunsUnder.{SaysIt, is_left, text_saying, kept_saying, value_saying};
+ghost use Rattle.poke_batch.specs.Selected.{typed_text};
 ghost use Rattle.run_parts.specs.Outcomes.{EndsAs};
 
 use crate::draft::{DraftFault, gather, print_under};
 use crate::part::part_at;
+use crate::presence::has_selected;
 use command_words::ask::Ask;
 use command_words::terms::Terms;
 use pickle_map::ValueRef;
@@ -65,9 +67,13 @@ fn tell_kept<O: Write>(
 {
     let types = Types::new(table);
     let whole = Typed::new(value, &types, Some(id.node));
-    match part_at(whole, &terms.part) {
-        Some(part) => tell_text(alloc, part, ask, terms, out),
-        None => Outcome::NoSuchPart,
+    let Some(part) = part_at(whole, &terms.part) else {
+        return Outcome::NoSuchPart;
+    };
+    if has_selected(part, &terms.selection) {
+        tell_text(alloc, part, ask, terms, out)
+    } else {
+        Outcome::NoSuchPart
     }
 }
 
@@ -79,7 +85,7 @@ fn tell_text<O: Write>(
     terms: &Terms,
     out: &mut O,
 ) -> Outcome
-    ensures { EndsAs (SaysIt (text_saying terms.now.most_output ask.now.start (typed_text terms.now.look terms.now.style ask.now.mode value.entry))) result
+    ensures { EndsAs (SaysIt (text_saying terms.now.most_output ask.now.start (typed_text terms.now ask.now.mode value.entry))) result
         (O.contents out.old) (O.contents out.new) }
 {
     match terms.most_output {
@@ -97,7 +103,7 @@ fn tell_short<O: Write>(
     most: u64,
     out: &mut O,
 ) -> Outcome
-    ensures { EndsAs (SaysIt (text_saying (Some most) ask.now.start (typed_text terms.now.look terms.now.style ask.now.mode value.entry))) result
+    ensures { EndsAs (SaysIt (text_saying (Some most) ask.now.start (typed_text terms.now ask.now.mode value.entry))) result
         (O.contents out.old) (O.contents out.new) }
 {
     match gather(alloc, value, ask.mode, terms, most) {

@@ -1,7 +1,7 @@
-use Rattle.std.proofs.Common.{◌≡◌, ◌∙◌, ◌+◌, ◌∷◌, Some, ap, drop, sym, subst}
+use Rattle.std.proofs.Common.{◌≡◌, ◌∙◌, ◌+◌, ◌∷◌, ap, drop, sym}
 use Rattle.std.proofs.lemmas.List.{drop_more}
 use Rattle.value_text.specs.TypedValue.{nodes_in, types_in, node_in, mapped_in}
-use Rattle.poke_batch.specs.PathParts.{part_from, step_to, node_from, node_there, place_of}
+use Rattle.poke_batch.specs.PathParts.{node_there, place_of}
 use Rattle.poke_batch.proofs.PartsFound.{lost, further_part, further_node}
 use Rattle.poke_batch.proofs.part.part_of.Goals as goal
 

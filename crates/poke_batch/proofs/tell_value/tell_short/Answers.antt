@@ -1,14 +1,15 @@
 use Rattle.std.proofs.Common.{◌≤◌, ◌∙◌, length, subst, sym}
 use Rattle.run_parts.specs.declared.outcome.Failure.TheVariants.{Memory}
 use Rattle.run_parts.specs.declared.outcome.Outcome.TheVariants.{Output, Failed}
-use Rattle.poke_batch.specs.RunsUnder.{no_memory_for_it, typed_text}
+use Rattle.poke_batch.specs.RunsUnder.{no_memory_for_it}
+use Rattle.poke_batch.specs.Selected.{typed_text}
 use Rattle.run_parts.proofs.Sayings.{line_ends, text_ends}
 use Rattle.poke_batch.proofs.UnderTerms.{short_saying, long_saying}
 use Rattle.poke_batch.proofs.tell_value.tell_short.Goals as goal
 
 pub returns-in-Ok : goal.returns-in-Ok
 returns-in-Ok g c =
-    let text = typed_text c.args.terms.now.look c.args.terms.now.style c.args.ask.now.mode c.args.value in
+    let text = typed_text c.args.terms.now c.args.ask.now.mode c.args.value in
     let few = subst (λ l. length l ≤ c.args.most) (sym c.deref.ensures.value) c.in-Ok.ensures.fits in
     text_ends _ c.deref.result.now c.answer.result _ _ c.put.result
     (short_saying c.args.most c.args.ask.now.start c.deref.result.now text (c.deref.ensures.value ∙ c.in-Ok.ensures.text) few)
@@ -16,7 +17,7 @@ returns-in-Ok g c =
 
 pub returns-in-Err-TooLong : goal.returns-in-Err-TooLong
 returns-in-Err-TooLong g c =
-    let text = typed_text c.args.terms.now.look c.args.terms.now.style c.args.ask.now.mode c.args.value in
+    let text = typed_text c.args.terms.now c.args.ask.now.mode c.args.value in
     line_ends _ (Output c.args.ask.now.start) _
     (long_saying c.args.most c.args.ask.now.start text (c.in-Err-TooLong.ensures.err c.in-Err-TooLong.field-0-is))
 

@@ -1,0 +1,133 @@
+-- The lines of parts beside their types.
+use Rattle.std.specs.Prelude.{ℕ, ◌-◌, ◌++◌, Bool, true, false, List, Option, Some, None}
+use Rattle.text_forms.specs.declared.mode.Mode.{Mode}
+use Rattle.text_forms.specs.declared.style.Style.{Style}
+use Rattle.text_forms.specs.declared.style.Look.{Look}
+use Rattle.value_text.specs.declared.typed.Typed.{Typed}
+use Rattle.value_text.specs.TypedValue.{nodes_in, char_node_in, types_in}
+use Rattle.value_text.specs.Cells.{typed_cell}
+use Rattle.command_words.specs.declared.path.Path.{Path}
+use Rattle.command_words.specs.declared.pattern.Pattern.{Pattern}
+use Rattle.command_words.specs.declared.pattern.PatternStep.{PatternStep}
+use Rattle.command_words.specs.declared.selection.Column.{Column}
+use Rattle.command_words.specs.declared.selection.Rows.{Rows}
+use Rattle.command_words.specs.declared.selection.Shape.{Shape}
+use Rattle.poke_batch.specs.declared.line.Format.{Format}
+use Rattle.poke_batch.specs.declared.places.Places.{Places}
+use Rattle.poke_batch.specs.Selected.{LineOf, OfPart, OfRow, line_of, part_in, path_part, no_cell, cell_of, absent_lines, there_lines, lines_of, pattern_lines, each_text, at_places, parts_through, shape_text, column_text, cells_text, row_text, header_text, all_of, is_there, has_pattern}
+
+-- the cell of a part, if it is there
+abbrev pub typed_cell_of : Style → Mode → Option Typed → List ℕ
+typed_cell_of style mode None = no_cell mode
+typed_cell_of style mode (Some part) = typed_cell style mode part
+
+-- the cell at a path of a row, if both are there
+abbrev pub typed_path_cell : Style → Mode → Option Typed → Path → List ℕ
+typed_path_cell style mode None path = no_cell mode
+typed_path_cell style mode (Some row) path =
+    cell_of (nodes_in (types_in row)) (char_node_in (types_in row)) style mode (path_part (nodes_in (types_in row)) path (part_in row))
+
+abbrev pub typed_row_cell : Style → Mode → Option Typed → Column → List ℕ
+typed_row_cell style mode row column = typed_path_cell style mode row column.path
+
+-- the lines of a part, if it is there
+abbrev pub typed_lines : Option Look → Style → Mode → LineOf → Option Typed → List ℕ
+typed_lines look style mode line None = absent_lines mode line
+typed_lines look style mode line (Some part) = there_lines (nodes_in (types_in part)) (char_node_in (types_in part)) look style mode line (part_in part)
+
+-- the lines of the parts to which a pattern leads, of those to which it leads from so many members on, and of those to which
+-- many patterns lead
+module _ (look : Option Look) (style : Style) (mode : Mode) where
+  abbrev pub typed_pattern : LineOf → Typed → List PatternStep → List ℕ
+  typed_pattern line part steps = pattern_lines (nodes_in (types_in part)) (char_node_in (types_in part)) look style mode line (part_in part) steps
+
+  abbrev pub typed_members : LineOf → Typed → List PatternStep → (count place : ℕ) → List ℕ
+  typed_members line part steps count place = each_text (lines_of (nodes_in (types_in part)) (char_node_in (types_in part)) look style mode line)
+      (at_places (nodes_in (types_in part)) (parts_through (nodes_in (types_in part)) steps) (part_in part) count place)
+
+  -- the same where the part, or the places, may be absent
+  abbrev pub typed_next : LineOf → Option Typed → List PatternStep → List ℕ
+  typed_next line None steps = absent_lines mode line
+  typed_next line (Some part) steps = typed_pattern line part steps
+
+  abbrev pub typed_places : LineOf → Typed → List PatternStep → Option Places → List ℕ
+  typed_places line part steps None = absent_lines mode line
+  typed_places line part steps (Some places) = typed_members line part steps (places.end - places.from) places.from
+
+  abbrev pub typed_patterns : LineOf → Typed → List Pattern → List ℕ
+  typed_patterns line part patterns = each_text (λ pattern. typed_pattern line part pattern.steps.items) patterns
+
+  -- what is printed of the parts of a part
+  abbrev pub typed_shape : Shape → Typed → List ℕ
+  typed_shape shape part = shape_text (nodes_in (types_in part)) (char_node_in (types_in part)) look style mode shape (part_in part)
+
+-- whether a part has all parts to which a pattern leads, from members on, and where the part, or the places, may be absent
+abbrev pub has_typed : LineOf → Typed → List PatternStep → Bool
+has_typed line part steps = has_pattern (nodes_in (types_in part)) line (part_in part) steps
+
+abbrev pub has_typed_patterns : Typed → List Pattern → Bool
+has_typed_patterns part patterns = all_of (λ pattern. has_typed OfPart part pattern.steps.items) patterns
+
+abbrev pub has_typed_next : LineOf → Option Typed → List PatternStep → Bool
+has_typed_next line None steps = false
+has_typed_next line (Some part) steps = has_typed line part steps
+
+abbrev pub has_typed_members : LineOf → Typed → List PatternStep → (count place : ℕ) → Bool
+has_typed_members line part steps count place = all_of (is_there (nodes_in (types_in part)) line)
+    (at_places (nodes_in (types_in part)) (parts_through (nodes_in (types_in part)) steps) (part_in part) count place)
+
+-- the members at these places
+abbrev pub has_typed_between : LineOf → Typed → List PatternStep → Places → Bool
+has_typed_between line part steps places = has_typed_members line part steps (places.end - places.from) places.from
+
+abbrev pub has_typed_places : LineOf → Typed → List PatternStep → Option Places → Bool
+has_typed_places line part steps None = false
+has_typed_places line part steps (Some places) = has_typed_members line part steps (places.end - places.from) places.from
+
+-- ---- the same in a format
+
+module _ (format : Format) where
+  abbrev pub lines_in : Option Typed → List ℕ
+  lines_in part = typed_lines format.look format.style format.mode (line_of format.line) part
+
+  abbrev pub pattern_in : Typed → List PatternStep → List ℕ
+  pattern_in part steps = typed_pattern format.look format.style format.mode (line_of format.line) part steps
+
+  abbrev pub next_in : Option Typed → List PatternStep → List ℕ
+  next_in part steps = typed_next format.look format.style format.mode (line_of format.line) part steps
+
+  abbrev pub places_in : Typed → List PatternStep → Option Places → List ℕ
+  places_in part steps places = typed_places format.look format.style format.mode (line_of format.line) part steps places
+
+  abbrev pub members_in : Typed → List PatternStep → Places → List ℕ
+  members_in part steps places = typed_members format.look format.style format.mode (line_of format.line) part steps (places.end - places.from) places.from
+
+  abbrev pub patterns_in : Typed → List Pattern → List ℕ
+  patterns_in part patterns = typed_patterns format.look format.style format.mode (line_of format.line) part patterns
+
+  abbrev pub shape_in : Shape → Typed → List ℕ
+  shape_in shape part = typed_shape format.look format.style format.mode shape part
+
+  abbrev pub rows_in : Rows → Typed → List ℕ
+  rows_in rows part = header_text rows.header rows.columns.items
+      ++ typed_pattern format.look format.style format.mode (OfRow rows.columns.items) part rows.pattern.steps.items
+
+  -- the cells of a row, and its parts
+  abbrev pub row_cell_in : Option Typed → Column → List ℕ
+  row_cell_in row column = typed_row_cell format.style format.mode row column
+
+  abbrev pub row_in : Option Typed → List Column → List ℕ
+  row_in row columns = row_text format.mode (row_cell_in row) columns
+
+  abbrev pub cells_in : Option Typed → List Column → List ℕ
+  cells_in row columns = cells_text format.mode (row_cell_in row) true columns
+
+  abbrev pub column_in : Option Typed → (first : Bool) → Column → List ℕ
+  column_in row first column = column_text format.mode (row_cell_in row) first column
+
+  abbrev pub cell_in : Option Typed → List ℕ
+  cell_in part = typed_cell_of format.style format.mode part
+
+  -- a part as it is printed alone
+  abbrev pub part_lines_in : Option Typed → List ℕ
+  part_lines_in part = typed_lines format.look format.style format.mode OfPart part

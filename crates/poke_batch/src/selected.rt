@@ -1,0 +1,183 @@
+//! Prints the parts of a value that a selection leads to.
+
+ghost use Rattle.std.specs.Prelude.{OnOk, OnErr};
+ghost use Rattle.std.specs.Io.KnownBytes.{Appends};
+ghost use Rattle.text_forms.specs.Written.{AppendsPart};
+ghost use Rattle.value_text.specs.Puts.{Puts};
+ghost use Rattle.poke_batch.specs.TypedLines.{typed_shape, shape_in, rows_in, patterns_in, pattern_in, next_in, places_in, members_in};
+
+use crate::line::{Format, Line, put_header, put_lines};
+use crate::part::step_beside;
+use crate::places::{Places, places_of};
+use command_words::pattern::{Pattern, PatternStep};
+use command_words::selection::{Rows, Shape};
+use std::io::Write;
+use text_forms::mode::Mode;
+use text_forms::style::{Look, Style};
+use text_forms::write::WriteFault;
+use value_text::print::line::Line as Buffer;
+use value_text::print::printer::Printer;
+use value_text::typed::Typed;
+
+/// Prints the parts of a value in a shape, each in a mode and a style or, with a look, for the eye. If the writer fails, what
+/// it accepted is the first bytes of the text, but not all of them.
+pub fn print_shape<W: Write>(
+    value: Typed<'_>,
+    shape: &Shape,
+    mode: Mode,
+    style: Style,
+    look: Option<Look>,
+    w: &mut W,
+) -> Result<(), WriteFault>
+    ensures ok { OnOk result (Appends (W.contents w.old) (W.contents w.new) (typed_shape look style mode shape.now value.entry)) }
+    ensures err { OnErr result (AppendsPart (W.contents w.old) (W.contents w.new) (typed_shape look style mode shape.now value.entry)) }
+{
+    let mut printer = Printer {
+        writer: w,
+        line: Buffer::new(),
+        failed: false,
+    };
+    let format = Format {
+        mode,
+        style,
+        look,
+        line: Line::Part,
+    };
+    put_shape(&mut printer, format, shape, value);
+    printer.finish()
+}
+
+fn put_shape<W: Write>(
+    printer: &mut Printer<'_, W>,
+    format: Format<'_>,
+    shape: &Shape,
+    value: Typed<'_>,
+)
+    ensures { Puts W.contents printer.old printer.new (shape_in format.entry shape.now value.entry) }
+{
+    match shape {
+        Shape::Parts(patterns) => {
+            let parts = Format {
+                line: Line::Part,
+                ..format
+            };
+            put_patterns(printer, parts, patterns.as_slice(), value)
+        }
+        Shape::Rows(rows) => put_rows(printer, format, rows, value),
+    }
+}
+
+// Puts a header if one is wanted, and the rows.
+#[tactic(auto, using(value_text::proofs::Puts::puts))]
+fn put_rows<W: Write>(
+    printer: &mut Printer<'_, W>,
+    format: Format<'_>,
+    rows: &Rows,
+    value: Typed<'_>,
+)
+    ensures { Puts W.contents printer.old printer.new (rows_in format.entry rows.now value.entry) }
+{
+    if rows.header {
+        put_header(printer, rows.columns.as_slice());
+    }
+    let row = Format {
+        line: Line::Row(rows.columns.as_slice()),
+        ..format
+    };
+    put_each(printer, row, rows.pattern.steps.as_slice(), value);
+}
+
+// Puts the parts to which patterns lead, one pattern after the other.
+fn put_patterns<W: Write>(
+    printer: &mut Printer<'_, W>,
+    format: Format<'_>,
+    patterns: &[Pattern],
+    value: Typed<'_>,
+)
+    ensures { Puts W.contents printer.old printer.new (patterns_in format.entry value.entry patterns.now) }
+{
+    for pattern in patterns {
+        if printer.failed {
+            return;
+        }
+        put_each(printer, format, pattern.steps.as_slice(), value);
+    }
+}
+
+// Puts the lines of the parts to which the steps of a pattern lead.
+#[cycle(walk)]
+fn put_each<W: Write>(
+    printer: &mut Printer<'_, W>,
+    format: Format<'_>,
+    steps: &[PatternStep],
+    part: Typed<'_>,
+)
+    ensures { Puts W.contents printer.old printer.new (pattern_in format.entry part.entry steps.now) }
+{
+    let Some((step, rest)) = steps.split_first() else {
+        return put_lines(printer, format, Some(part));
+    };
+    match step {
+        PatternStep::Exact(step) => put_next(printer, format, rest, step_beside(part, step)),
+        PatternStep::Elements(_) => {
+            put_places(printer, format, rest, part, places_of(part.value(), step))
+        }
+        PatternStep::Fields => {
+            put_places(printer, format, rest, part, places_of(part.value(), step))
+        }
+    }
+}
+
+// The same from a part on that may be absent.
+#[cycle(walk)]
+fn put_next<W: Write>(
+    printer: &mut Printer<'_, W>,
+    format: Format<'_>,
+    steps: &[PatternStep],
+    part: Option<Typed<'_>>,
+)
+    ensures { Puts W.contents printer.old printer.new (next_in format.entry part.entry steps.now) }
+{
+    match part {
+        Some(part) => put_each(printer, format, steps, part),
+        None => put_lines(printer, format, None),
+    }
+}
+
+// The same from the members on that are at places, if a part has such.
+#[cycle(walk)]
+fn put_places<W: Write>(
+    printer: &mut Printer<'_, W>,
+    format: Format<'_>,
+    steps: &[PatternStep],
+    part: Typed<'_>,
+    places: Option<Places>,
+)
+    ensures { Puts W.contents printer.old printer.new (places_in format.entry part.entry steps.now places) }
+{
+    match places {
+        Some(places) => put_members(printer, format, steps, part, places),
+        None => put_lines(printer, format, None),
+    }
+}
+
+// The same from the members on that are at places.
+#[cycle(walk)]
+fn put_members<W: Write>(
+    printer: &mut Printer<'_, W>,
+    format: Format<'_>,
+    steps: &[PatternStep],
+    part: Typed<'_>,
+    places: Places,
+)
+    ensures { Puts W.contents printer.old printer.new (members_in format.entry part.entry steps.now places) }
+{
+    for place in places.from..places.end {
+        if printer.failed {
+            return;
+        }
+        if let Some(member) = part.child(place) {
+            put_each(printer, format, steps, member);
+        }
+    }
+}
