@@ -47,12 +47,12 @@ pub fn refusal_explanation(
     ensures { IfOk result (λ text. TellsPlace pickle.now (called_by path.now) text.items) }
 {
     let called = Text::new(alloc).show(path)?.into_bytes();
-    let note = note_of(alloc, pickle, refusal)?;
+    let note = refusal_note(alloc, pickle, refusal)?;
     note_text(alloc, pickle, called.as_slice(), &note)
 }
 
-/// The note about a refusal.
-fn note_of(alloc: Global, pickle: &[u8], refusal: Refusal) -> Result<Note, AllocError> {
+/// The note about a refusal of a pickle, if it is refused so. For another refusal it is about some place of the pickle.
+pub fn refusal_note(alloc: Global, pickle: &[u8], refusal: Refusal) -> Result<Note, AllocError> {
     if let Refusal::Tokens(kind, at) = refusal {
         return lexical_note(alloc, pickle, kind, at);
     }

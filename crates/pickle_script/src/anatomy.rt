@@ -42,6 +42,24 @@ fn statement_end(script: &Script<'_>, first: usize, end: usize) -> usize {
     end
 }
 
+/// The tokens of the declaration or field that begins with a token, without its `;`. Without a `;` before `end` they are
+/// all up to there.
+pub fn statement(script: &Script<'_>, first: usize, end: usize) -> Part {
+    Part {
+        first,
+        end: statement_end(script, first, end),
+    }
+}
+
+/// The tokens between the braces of a struct or union. `None` for any other type.
+pub fn braces(script: &Script<'_>, form: Part) -> Option<Part> {
+    let brace = opening_brace(script, form)?;
+    Some(Part {
+        first: brace.saturating_add(1),
+        end: closed(script, brace, form.end).saturating_sub(1),
+    })
+}
+
 /// The token after the bracket or brace that closes the one at `open`, or `end`.
 fn closed(script: &Script<'_>, open: usize, end: usize) -> usize {
     let mut depth: usize = 0;

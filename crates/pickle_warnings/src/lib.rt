@@ -36,12 +36,12 @@ fn accepted_text(alloc: Global, pickle: &[u8], path: &[u8]) -> Result<Vec<u8>, A
     ensures { IfOk result (λ text. AreNotes pickle.now (called_by path.now) text.items) }
 {
     let called = Text::new(alloc).show(path)?.into_bytes();
-    let notes = notes_of(alloc, pickle)?;
+    let notes = accepted_notes(alloc, pickle)?;
     notes_text(alloc, pickle, called.as_slice(), &notes)
 }
 
-/// The notes about an accepted pickle.
-fn notes_of(alloc: Global, pickle: &[u8]) -> Result<Vec<Note>, AllocError> {
+/// The notes about what an accepted pickle says and can't mean, at most 16, in the order of their declarations.
+pub fn accepted_notes(alloc: Global, pickle: &[u8]) -> Result<Vec<Note>, AllocError> {
     let Some(script) = Script::new(alloc, pickle) else {
         return Err(AllocError);
     };

@@ -1,0 +1,23 @@
+use Rattle.std.proofs.Common.{◌∙◌, ap, map}
+use Rattle.pickle_types.specs.DeclaredTypes.{told_of}
+use Rattle.run_parts.specs.Accepted.{no_memory}
+use Rattle.run_parts.specs.declared.outcome.Failure.TheVariants.{Memory}
+use Rattle.run_parts.specs.declared.outcome.Outcome.TheVariants.{Refused, Failed}
+use Rattle.run_parts.proofs.Sayings.{line_ends}
+use Rattle.pickle_json.specs.TypeObjects.{refused_types}
+use Rattle.pickle_json.proofs.Lists.{objects_end}
+use Rattle.pickle_json.proofs.types.types_outcome.Goals as goal
+
+pub returns-in-Err : goal.returns-in-Err
+returns-in-Err g c = line_ends _ (Refused c.in-Err.refusal) _ (refused_types c.in-Err.ensures.err)
+
+pub returns-in-Ok-declared_types : goal.returns-in-Ok-declared_types
+returns-in-Ok-declared_types g c =
+    objects_end c.args.pickle.now c.in-Ok.ensures.ok.0 _ c.in-Ok.ensures.ok.1 _ (ap (map told_of) c.as_slice.ensures.value ∙ c.in-Ok-declared_types.ensures) _ _ c.answer.result c.put_types.result
+    c.put_types.ensures.ok c.put_types.ensures.err c.answer.ensures.done c.answer.ensures.failed
+
+pub returns-in_default : goal.returns-in_default
+returns-in_default g c = line_ends _ (Failed Memory) _ (refused_types no_memory)
+
+pub returns : goal.returns
+returns g c = line_ends _ (Failed Memory) _ (refused_types no_memory)
