@@ -6,6 +6,7 @@ use Rattle.pickle_types.specs.Types.{PokeType}
 use Rattle.pickle_meaning.specs.declared.faults.MapFault.{MapFault}
 use Rattle.command_words.specs.declared.ask.Ask.{Ask}
 use Rattle.command_words.specs.declared.path.Path.{Path}
+use Rattle.command_words.specs.declared.selection.Selection.{Selection}
 use Rattle.command_words.specs.declared.terms.Terms.{Terms}
 use Rattle.run_parts.specs.declared.status.Status.TheVariants.{Fault as Faulty}
 use Rattle.run_parts.specs.Outcomes.{outcome_saying, outcome_status}
@@ -49,11 +50,12 @@ pub data TellsMissing (part : Option Path) : List ℕ → Type 0 where
   tells_missing : {path : Path} (missing : List ℕ) → part ≡ Some path → TellsMissing part missing
 
 -- for a run whose value fails to meet a term, a line on that term; or nothing
-pub data TellsTerm (part : Option Path) : Outcome → List ℕ → Type 0 where
-  untold : {outcome : Outcome} → TellsTerm part outcome []
-  tells_part : {text : List ℕ} → TellsMissing part text → TellsTerm part NoSuchPart text
-  tells_left : {end : ℕ} {text : List ℕ} → TellsTerm part (Left end) text
-  tells_output : {start : ℕ} {text : List ℕ} → TellsTerm part (Output start) text
+pub data TellsTerm (terms : Terms) : Outcome → List ℕ → Type 0 where
+  untold : {outcome : Outcome} → TellsTerm terms outcome []
+  tells_part : {text : List ℕ} → TellsMissing terms.part text → TellsTerm terms NoSuchPart text
+  tells_selected : {selection : Selection} {text : List ℕ} → terms.selection ≡ Some selection → TellsTerm terms NoSuchPart text
+  tells_left : {end : ℕ} {text : List ℕ} → TellsTerm terms (Left end) text
+  tells_output : {start : ℕ} {text : List ℕ} → TellsTerm terms (Output start) text
 
 -- a finished run: the file, what the run was given, its terms, and its outcome
 pub record Run : Type 0 where
@@ -79,7 +81,7 @@ pub data TellsWhy (run : Run) (type : PokeType) : List ℕ → Type 0 where
       → end_saying run.terms.most_slots run.ask.start fault.kind fault.at ≡ outcome_saying run.outcome → outcome_status run.outcome ≡ Faulty
       → TellsFault run type fault part → TellsArrays type arrays → TellsWhy run type (part ++ arrays)
   of_value : {term arrays : List ℕ} → HasValue run.space type run.ask
-      → TellsTerm run.terms.part run.outcome term → TellsArrays type arrays → TellsWhy run type (term ++ arrays)
+      → TellsTerm run.terms run.outcome term → TellsArrays type arrays → TellsWhy run type (term ++ arrays)
 
 -- the text is about a run's fault, if the stored part has it
 abbrev pub TellsOfPart : {E : Type 0} → PokeType → Option Fault → Result Text E → Type 0

@@ -12,6 +12,7 @@ ghost use Rattle.run_parts.specs.declared.status.Status.TheVariants.{Fault as Fa
 ghost use Rattle.mapping_reasons.specs.Found.{scene_type};
 ghost use Rattle.mapping_reasons.specs.Why.{run_of, ExplainsRun, TellsOfFault, TellsOfPart, TellsOfValue, TellsWhy};
 
+mod absent;
 mod again;
 mod approach;
 mod blame;

@@ -216,12 +216,24 @@ impl Stopped<'_> {
         };
         let value = Typed::new(ValueRef::new(stored, nodes), self.types, Some(part.node));
         let mut shown = Vec::new(self.alloc);
-        if print_shown(value, self.look, &mut shown).is_err() {
+        if print_shown(value, look_below(self.look, depth), &mut shown).is_err() {
             return Err(AllocError);
         }
         let name = self.part_cell(step)?;
         let lines = Indented::new(self.alloc, depth, name.as_slice()).indent(shown.as_slice())?;
         text.say(lines.as_slice())
+    }
+}
+
+/// The look of a part at a depth: of its own parts, those that are too deep in the whole value are left out.
+fn look_below(look: Look, depth: usize) -> Look {
+    let left = match look.depth {
+        Some(most) => Some(most.saturating_sub(depth as u64)),
+        None => None,
+    };
+    Look {
+        depth: left,
+        ..look
     }
 }
 

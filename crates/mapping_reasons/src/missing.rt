@@ -60,7 +60,8 @@ fn path_text(alloc: Global, steps: &[Step]) -> Result<Vec<u8>, AllocError> {
     Ok(text.into_bytes())
 }
 
-fn say_step(text: Text, step: &Step) -> Result<Text, AllocError> {
+/// Adds a step of a path to the text.
+pub fn say_step(text: Text, step: &Step) -> Result<Text, AllocError> {
     match step {
         Step::Field(name) => text.say(b".")?.say(name.as_slice()),
         Step::Place(place) => text.say(b".")?.say_number(*place as usize),

@@ -3,6 +3,7 @@
 ghost use Rattle.std.specs.Prelude.{IfOk};
 ghost use Rattle.mapping_reasons.specs.Why.{TellsTerm};
 
+use crate::absent::absent_text;
 use crate::lines::say_room;
 use crate::missing::missing_text;
 use pickle_map::ValueRef;
@@ -10,6 +11,7 @@ use pickle_script::text::Text;
 use poke_batch::draft::print_under;
 use poke_batch::outcome::Outcome;
 use poke_batch::part::part_at;
+use poke_batch::selection::Selection;
 use poke_batch::terms::Terms;
 use std::alloc::{AllocError, Global};
 use std::io;
@@ -44,7 +46,7 @@ pub fn term_text(
     bits: u64,
     outcome: Outcome,
 ) -> Result<Text, AllocError>
-    ensures { IfOk result (λ text. TellsTerm terms.now.part outcome text.bytes.items) }
+    ensures { IfOk result (λ text. TellsTerm terms.now outcome text.bytes.items) }
 {
     let Some(value) = value else {
         return Ok(Text::new(alloc));
@@ -52,8 +54,31 @@ pub fn term_text(
     match outcome {
         Outcome::Left(_) => left_text(alloc, value.value(), bits),
         Outcome::Output(_) => output_text(alloc, value, terms, mode),
-        Outcome::NoSuchPart => missing_text(alloc, value.value(), &terms.part),
+        Outcome::NoSuchPart => lacking_text(alloc, value, terms),
         _ => Ok(Text::new(alloc)),
+    }
+}
+
+/// The line on the requested part that a value lacks, or on the first of those that are selected.
+fn lacking_text(alloc: Global, value: Typed<'_>, terms: &Terms) -> Result<Text, AllocError>
+    ensures { IfOk result (λ text. TellsTerm terms.now Outcome.NoSuchPart text.bytes.items) }
+{
+    match &terms.selection {
+        None => missing_text(alloc, value.value(), &terms.part),
+        Some(selection) => selected_text(alloc, value, terms, selection),
+    }
+}
+
+/// The line on the first of the selected parts that the requested part of a value lacks, or on that part.
+fn selected_text(
+    alloc: Global,
+    value: Typed<'_>,
+    terms: &Terms,
+    selection: &Selection,
+) -> Result<Text, AllocError> {
+    match part_at(value, &terms.part) {
+        Some(part) => absent_text(alloc, part, selection),
+        None => missing_text(alloc, value.value(), &terms.part),
     }
 }
 

@@ -37,6 +37,10 @@ pub struct Told<'t> {
     fault: Option<Fault>,
     /// The alternatives that didn't match, of the unions that the walk is in, the outermost first.
     misses: Vec<Miss>,
+    /// The depth of the outermost union that has the most misses that are printed. No more are stored of it.
+    full: Option<usize>,
+    /// How many arrays the walk is in inside that union.
+    arrays: usize,
     /// The arrays that ended inside an element.
     broken: Endings,
     /// The arrays whose next element begins otherwise.
@@ -55,6 +59,8 @@ impl<'t> Told<'t> {
             near: None,
             fault: None,
             misses: Vec::new(alloc),
+            full: None,
+            arrays: 0,
             broken: Endings::new(alloc),
             planned: Endings::new(alloc),
             starved: false,
@@ -91,6 +97,8 @@ impl<'t> Told<'t> {
             near: _,
             fault,
             misses: _,
+            full: _,
+            arrays: _,
             broken,
             planned,
             starved,
@@ -113,9 +121,51 @@ impl<'t> Told<'t> {
 
     /// Leaves the innermost level, and drops its misses, which aren't needed any more.
     fn leave(&mut self) {
-        let kept = self.misses_above(self.trail.depth());
-        self.misses.truncate(kept);
+        self.drop_misses();
+        if let (Some(_), Some(level)) = (self.full, self.trail.level(0)) {
+            if is_array(self.nodes, level.node) {
+                self.arrays = self.arrays.saturating_sub(1);
+            }
+        }
         self.trail.leave();
+    }
+
+    /// Goes into the node at a place of the table.
+    fn enter(&mut self, at: usize) -> Result<(), AllocError> {
+        if self.full.is_some() && is_array(self.nodes, at) {
+            self.arrays = self.arrays.saturating_add(1);
+        }
+        self.trail.open(at)
+    }
+
+    /// Drops the misses of the innermost level.
+    fn drop_misses(&mut self) {
+        let depth = self.trail.depth();
+        if let Some(last) = self.misses.last() {
+            if depth <= last.depth {
+                let kept = self.misses_above(depth);
+                self.misses.truncate(kept);
+            }
+        }
+        self.empty_at(depth);
+    }
+
+    /// Notes that the union at a depth has no misses any more.
+    fn empty_at(&mut self, depth: usize) {
+        if let Some(full) = self.full {
+            if depth <= full {
+                self.full = None;
+            }
+        }
+    }
+
+    /// Whether nothing is printed of a fault of the part that is under way: it means that an alternative of a union
+    /// doesn't match of which no more misses are stored. In an array it may also mean that the array ends.
+    fn is_hidden(&self, stop: Stop) -> bool {
+        match self.full {
+            Some(_) => self.arrays == 0 && stop.misses(),
+            None => false,
+        }
     }
 
     /// How many misses belong to unions around the level at a depth.
@@ -227,6 +277,22 @@ impl<'t> Told<'t> {
         }
     }
 
+    /// Forgets an alternative that doesn't match, of a union of which no more misses are stored.
+    fn hide_miss(&mut self) {
+        self.fault = None;
+        if let Some(level) = self.trail.level(0) {
+            self.forget_ended(level.ended);
+        }
+    }
+
+    /// Whether nothing is printed of a fault of the innermost union.
+    fn is_hidden_above(&self, stop: Stop) -> bool {
+        match self.full {
+            Some(full) => full < self.trail.depth() && self.is_hidden(stop),
+            None => false,
+        }
+    }
+
     fn keep_miss(&mut self, stop: Stop) -> Result<(), AllocError> {
         let Fault {
             way,
@@ -279,6 +345,10 @@ impl<'t> Told<'t> {
         if told < MOST_MISSES {
             self.misses.push(miss)?;
         }
+        if MOST_MISSES <= told.saturating_add(1) && self.full.is_none() {
+            self.full = Some(depth);
+            self.arrays = 0;
+        }
         Ok(())
     }
 
@@ -297,8 +367,10 @@ impl<'t> Told<'t> {
     }
 
     fn keep_refused(&mut self, stop: Stop) -> Result<(), AllocError> {
-        let kept = self.misses_above(self.trail.depth());
+        let depth = self.trail.depth();
+        let kept = self.misses_above(depth);
         let told = self.misses.split_off(kept)?;
+        self.empty_at(depth);
         let count = match self.trail.level(0) {
             Some(level) => level.begun,
             None => 0,
@@ -324,8 +396,8 @@ fn catches(table: &[Node], at: usize, stop: Stop) -> bool {
 
 impl Watch for Told<'_> {
     fn open(&mut self, at: usize) {
-        let opened = self.trail.open(at);
-        self.note(opened);
+        let entered = self.enter(at);
+        self.note(entered);
     }
 
     fn next(&mut self) {
@@ -338,17 +410,25 @@ impl Watch for Told<'_> {
     }
 
     fn stop(&mut self, stop: Stop) {
-        let kept = self.keep(stop);
-        self.note(kept);
+        if !self.is_hidden(stop) {
+            let kept = self.keep(stop);
+            self.note(kept);
+        }
         self.leave();
     }
 
     fn blame(&mut self, clause: Clause, e: &Resolved, table: &[Node], store: &Store, stop: Stop) {
+        if self.is_hidden(stop) {
+            return;
+        }
         let kept = self.keep_blamed(clause, e, table, store, stop);
         self.note(kept);
     }
 
     fn outgrow(&mut self, extent: Extent, end: u64, stop: Stop) {
+        if self.is_hidden(stop) {
+            return;
+        }
         let kept = self.keep_outgrown(extent, end, stop);
         self.note(kept);
     }
@@ -359,11 +439,19 @@ impl Watch for Told<'_> {
     }
 
     fn miss(&mut self, stop: Stop) {
+        if self.is_hidden(stop) {
+            self.hide_miss();
+            return;
+        }
         let kept = self.keep_miss(stop);
         self.note(kept);
     }
 
     fn refuse(&mut self, stop: Stop) {
+        if self.is_hidden_above(stop) {
+            self.drop_misses();
+            return;
+        }
         let kept = self.keep_refused(stop);
         self.note(kept);
     }

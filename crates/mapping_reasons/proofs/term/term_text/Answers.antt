@@ -1,16 +1,11 @@
 use Rattle.std.specs.Prelude.{IfOk, Result, Ok, Err}
-use Rattle.mapping_reasons.specs.Why.{TellsMissing, TellsTerm, untold, tells_part, tells_left, tells_output}
+use Rattle.mapping_reasons.specs.Why.{TellsTerm, untold, tells_left, tells_output}
 use Rattle.mapping_reasons.proofs.term.term_text.Goals as goal
 
 -- a fact of everything holds of what a call returned
 of_all : {A E : Type 0} (P : A → Type 0) → ((a : A) → P a) → (result : Result A E) → IfOk result P
 of_all P all (Ok a) = all a
 of_all P all (Err e) = tt
-
--- and so does one that follows from a call's clause
-of_each : {A E : Type 0} (P Q : A → Type 0) → ((a : A) → P a → Q a) → (result : Result A E) → IfOk result P → IfOk result Q
-of_each P Q more (Ok a) holds = more a holds
-of_each P Q more (Err e) holds = tt
 
 pub returns-in_default : goal.returns-in_default
 returns-in_default c = rw c.new.ensures untold
@@ -22,7 +17,7 @@ pub returns-in-Output : goal.returns-in-Output
 returns-in-Output c = rw c.in-Output.is (of_all _ (λ text. tells_output) c.output_text.result)
 
 pub returns-in-NoSuchPart : goal.returns-in-NoSuchPart
-returns-in-NoSuchPart c = rw c.in-NoSuchPart.is (of_each _ _ (λ text holds. tells_part holds) c.missing_text.result c.missing_text.ensures)
+returns-in-NoSuchPart c = rw c.in-NoSuchPart.is c.lacking_text.ensures
 
 pub returns-in_default-outcome : goal.returns-in_default-outcome
 returns-in_default-outcome c = rw c.new-in_default-outcome.ensures untold
