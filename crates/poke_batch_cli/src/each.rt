@@ -3,18 +3,23 @@ ghost use Rattle.pickle_types.specs.TypeTable.{IsInTable};
 ghost use Rattle.poke_batch.specs.RunsUnder.{IsStoreOf};
 
 use crate::ending::Ending;
-use crate::files::open_space;
+use crate::file_reasons::reason_of;
+use crate::files::{FileFault, open_space};
 use crate::mapping::Mapping;
 use crate::mappings::is_mapped;
 use crate::progress::Progress;
+use crate::reason_text::add;
 use bit_space::{Memory, OpenFault, Space};
 use command_words::request::FileNames;
 use mapping_reasons::reasons_in;
 use pickle_types::table::{Table, TypeId};
 use poke_batch::accept::accept;
-use poke_batch::each::{Kept, run_file};
+use poke_batch::ask::Ask;
+use poke_batch::each::{Kept, map_file, run_file};
 use poke_batch::fault_form::FaultForm;
 use poke_batch::file_line::{put_file_line, put_name};
+use poke_batch::file_object::put_file_object;
+use poke_batch::mode::Mode;
 use poke_batch::outcome::{Failure, Outcome};
 use poke_batch::status::Status;
 use poke_batch::terms::Terms;
@@ -128,8 +133,27 @@ struct Typed<'a> {
     id: TypeId,
     mapping: &'a Mapping<'a>,
     terms: &'a Terms,
-    faults: FaultForm,
+    form: FileForm,
     flush: bool,
+}
+
+/// How the run of a file is written.
+#[derive(Clone, Copy)]
+enum FileForm {
+    /// As a line of columns, with the refusal or fault in a form. The reasons go to standard error.
+    Line(FaultForm),
+    /// As a JSON object with the reasons in it.
+    Object,
+}
+
+impl FileForm {
+    // The form that a mode requests. An object has its fault in JSON, whatever the form of faults.
+    fn of(mode: Mode, faults: FaultForm) -> FileForm {
+        match mode {
+            Mode::Json => FileForm::Object,
+            _ => FileForm::Line(faults),
+        }
+    }
 }
 
 /// Maps a type over one file after another, and writes a line for each. Ends with the greatest exit status of all.
@@ -155,7 +179,7 @@ pub fn run_each<R: Files<File = File> + Input + Clock + AllocGlobal, A: Write, O
         id,
         mapping,
         terms: options.terms,
-        faults: options.faults,
+        form: FileForm::of(mapping.mode, options.faults),
         flush: options.flush,
     };
     let ended = run_files(rt, typed, files, why, out);
@@ -279,11 +303,7 @@ fn run_name<R: Files<File = File> + Clock + AllocGlobal, A: Write, O: Write>(
     };
     let status = match opened {
         Ok(mut space) => run_space(rt.alloc(), typed, kept, name, &mut space, why, out)?,
-        Err(fault) => {
-            let outcome = Outcome::Failed(fault.failure());
-            put_file_line(out, name, outcome, typed.faults, b"")?;
-            outcome.status()
-        }
+        Err(fault) => run_unopened(rt, typed.form, name, fault, why, out)?,
     };
     if typed.flush {
         why.clear_progress();
@@ -300,7 +320,57 @@ fn flush<O: Write>(out: &mut O) -> Result<(), WriteFault> {
     }
 }
 
-// Maps a type over an open file, and writes its line and, if requested, the reasons after it.
+// Writes the outcome of a file that wasn't mapped, and returns its exit status.
+fn put_unmapped<O: Write>(
+    form: FileForm,
+    name: &[u8],
+    outcome: Outcome,
+    out: &mut O,
+) -> Result<Status, WriteFault> {
+    match form {
+        FileForm::Line(faults) => put_file_line(out, name, outcome, faults, b"")?,
+        FileForm::Object => put_file_object(out, name, outcome, b"", b"")?,
+    }
+    Ok(outcome.status())
+}
+
+// Writes the outcome of a file that wasn't opened and, if it is requested, why it wasn't.
+fn run_unopened<R: Files<File = File> + AllocGlobal, A: Write, O: Write>(
+    rt: &R,
+    form: FileForm,
+    name: &[u8],
+    fault: FileFault,
+    why: &mut WhyFiles<'_, A>,
+    out: &mut O,
+) -> Result<Status, WriteFault> {
+    let outcome = Outcome::Failed(fault.failure());
+    let mut lines = Vec::new(rt.alloc());
+    if why.asked && fault == FileFault::Space(OpenFault::NotOpened) {
+        if add(&mut lines, &["  ", unopened_reason(rt, name), "\n"]).is_err() {
+            lines.clear();
+        }
+    }
+    match form {
+        FileForm::Line(faults) => {
+            put_file_line(out, name, outcome, faults, b"")?;
+            if !lines.is_empty() {
+                why.clear_progress();
+            }
+            put_reasons(rt.alloc(), why.aside, name, lines.as_slice(), out)?;
+        }
+        FileForm::Object => put_file_object(out, name, outcome, b"", lines.as_slice())?,
+    }
+    Ok(outcome.status())
+}
+
+fn unopened_reason<R: Files<File = File>>(rt: &R, name: &[u8]) -> &'static str {
+    match str::from_utf8(name) {
+        Ok(path) => reason_of(rt, path),
+        Err(_) => "the name isn't UTF-8",
+    }
+}
+
+// Maps a type over an open file, and writes the run in its form.
 fn run_space<S: Space, A: Write, O: Write>(
     alloc: Global,
     typed: Typed<'_>,
@@ -314,31 +384,96 @@ fn run_space<S: Space, A: Write, O: Write>(
     requires store { IsStoreOf typed.terms.now.most_slots kept.old.store }
     ensures store { IsStoreOf typed.entry.terms.now.most_slots kept.new.store }
 {
+    let Some(ask) = &typed.mapping.ask_in(space) else {
+        return put_unmapped(typed.form, name, Outcome::Offset, out);
+    };
+    match typed.form {
+        FileForm::Line(faults) => {
+            run_line(alloc, typed, ask, faults, kept, name, space, why, out)
+        }
+        FileForm::Object => run_object(alloc, typed, ask, kept, name, space, why, out),
+    }
+}
+
+// Maps a type over an open file, and writes its line and, if requested, the reasons after it.
+fn run_line<S: Space, A: Write, O: Write>(
+    alloc: Global,
+    typed: Typed<'_>,
+    ask: &Ask<'_>,
+    faults: FaultForm,
+    kept: &mut Kept,
+    name: &[u8],
+    space: &mut S,
+    why: &mut WhyFiles<'_, A>,
+    out: &mut O,
+) -> Result<Status, WriteFault>
+    requires known { IsInTable typed.table.now typed.id }
+    requires store { IsStoreOf typed.terms.now.most_slots kept.old.store }
+    ensures store { IsStoreOf typed.entry.terms.now.most_slots kept.new.store }
+{
+    let Typed {
+        table,
+        id,
+        terms,
+        ..
+    } = typed;
+    let status = run_file(table, id, ask, terms, faults, kept, name, space, out)?;
+    if let Some(lines) = reasons_of(alloc, typed, ask, kept.outcome(), space, why) {
+        why.clear_progress();
+        put_reasons(alloc, why.aside, name, lines.as_slice(), out)?;
+    }
+    Ok(status)
+}
+
+// Maps a type over an open file, and writes its object with the reasons, if they are requested.
+fn run_object<S: Space, A: Write, O: Write>(
+    alloc: Global,
+    typed: Typed<'_>,
+    ask: &Ask<'_>,
+    kept: &mut Kept,
+    name: &[u8],
+    space: &mut S,
+    why: &WhyFiles<'_, A>,
+    out: &mut O,
+) -> Result<Status, WriteFault>
+    requires known { IsInTable typed.table.now typed.id }
+    requires store { IsStoreOf typed.terms.now.most_slots kept.old.store }
+    ensures store { IsStoreOf typed.entry.terms.now.most_slots kept.new.store }
+{
+    map_file(typed.table, typed.id, ask, typed.terms, kept, space);
+    match reasons_of(alloc, typed, ask, kept.outcome(), space, why) {
+        Some(lines) => kept.put_object(out, name, lines.as_slice()),
+        None => kept.put_object(out, name, b""),
+    }
+}
+
+// The lines that explain how the run of a file ended, if they are requested and the file was mapped. If an allocation
+// fails there are none.
+fn reasons_of<S: Space, A: Write>(
+    alloc: Global,
+    typed: Typed<'_>,
+    ask: &Ask<'_>,
+    outcome: Outcome,
+    space: &mut S,
+    why: &WhyFiles<'_, A>,
+) -> Option<Vec<u8>>
+    requires known { IsInTable typed.table.now typed.id }
+{
+    if !why.asked || !is_mapped(outcome.status()) {
+        return None;
+    }
     let Typed {
         pickle,
         table,
         id,
-        mapping,
         terms,
-        faults,
         ..
     } = typed;
-    let Some(ask) = &mapping.ask_in(space) else {
-        put_file_line(out, name, Outcome::Offset, faults, b"")?;
-        return Ok(Outcome::Offset.status());
-    };
-    let status = run_file(table, id, ask, terms, faults, kept, name, space, out)?;
-    if why.asked && is_mapped(status) {
-        let outcome = kept.outcome();
-        let path = why.path;
-        if let Ok(reasons) = reasons_in(
-            alloc, pickle, path, table, id, ask, terms, space, outcome,
-        ) {
-            why.clear_progress();
-            put_reasons(alloc, why.aside, name, reasons.text.as_slice(), out)?;
-        }
+    let path = why.path;
+    match reasons_in(alloc, pickle, path, table, id, ask, terms, space, outcome) {
+        Ok(reasons) => Some(reasons.text),
+        Err(_) => None,
     }
-    Ok(status)
 }
 
 // Writes the reasons of a file, after its name and after what `out` has of it. They go to `aside` in one call, so that

@@ -89,6 +89,11 @@ pub fn path_in(alloc: Global, folder: &str, name: &str) -> Result<String, AllocE
     Ok(path)
 }
 
+/// Whether an argument has the form of the name of an installed pickle.
+pub fn names_installed(word: &str) -> bool {
+    name_in(word).is_some()
+}
+
 /// If an argument names an installed pickle, adds where that was looked for and which name is near.
 pub fn tell_missing<R: Files + Env + AllocGlobal + Clone + Drop>(
     rt: &R,

@@ -1,14 +1,18 @@
 //! Each job, over its files and a writer for its answer.
+use crate::answers::{check_in_json, report_in_json, types_in_json};
 use crate::dumps::{Range, dump_file};
 use crate::ending::Ending;
+use crate::file_reasons::tell_unopened;
 use crate::files::FileFault;
 use crate::formats::list_formats;
-use crate::installed::tell_missing;
+use crate::installed::{names_installed, tell_missing};
 use crate::mapping::Mapping;
 use crate::mappings::{map_file, run_request};
 use crate::pickles::{bound_text, bound_type, check_pickle, tell_types};
 use crate::why::Why;
-use command_words::request::Request;
+use bit_space::OpenFault;
+use command_words::answer_form::AnswerForm;
+use command_words::request::{Over, Request};
 use poke_batch::outcome::{Failure, Outcome};
 use poke_batch::pickle::PickleFault;
 use poke_batch::status::Status;
@@ -39,7 +43,12 @@ pub fn do_job<
         Ok(ending) => ending,
         Err(fault) => {
             explain_fault(rt, &asked.job, fault, &mut why);
-            Ending::Run(Outcome::Failed(fault.failure()))
+            end_by_fault(
+                Outcome::Failed(fault.failure()),
+                asked.answer,
+                why.text,
+                &mut out,
+            )
         }
     };
     if out.flush().is_ok() {
@@ -55,20 +64,71 @@ pub fn do_job<
     }
 }
 
-// Explains why no pickle was read, if that is requested. If an allocation fails there is only the line.
+// How a job ends that found no file. An answer in JSON has the fault in it, and the lines that explain it.
+fn end_by_fault<O: Write>(
+    outcome: Outcome,
+    form: AnswerForm,
+    lines: &mut Vec<u8>,
+    out: &mut O,
+) -> Ending {
+    match form {
+        AnswerForm::Text => Ending::Run(outcome),
+        AnswerForm::Json => {
+            let ending = report_in_json(outcome, lines.as_slice(), out);
+            lines.clear();
+            ending
+        }
+    }
+}
+
+// Explains why the pickle or the file wasn't opened, if that is requested. If an allocation fails there is only the line.
 fn explain_fault<R: Files<File = File> + Env + AllocGlobal + Clone + Drop>(
     rt: &R,
     job: &Job,
     fault: FileFault,
     why: &mut Why<'_>,
 ) {
-    if !why.asked || fault != FileFault::Pickle(PickleFault::Read) {
+    if !why.asked {
         return;
     }
-    if let Some(word) = pickle_of(job) {
-        if tell_missing(rt, word, why.text).is_err() {
-            why.text.clear();
-        }
+    let told = match fault {
+        FileFault::Pickle(PickleFault::Read) => tell_unread(rt, pickle_of(job), why.text),
+        FileFault::Space(OpenFault::NotOpened) => match file_of(job) {
+            Some(path) => tell_unopened(rt, path, why.text).map_err(FileFault::from),
+            None => Ok(()),
+        },
+        _ => Ok(()),
+    };
+    if told.is_err() {
+        why.text.clear();
+    }
+}
+
+// Adds why the pickle that an argument names wasn't read. Of standard input the system tells nothing.
+fn tell_unread<R: Files<File = File> + Env + AllocGlobal + Clone + Drop>(
+    rt: &R,
+    word: Option<&str>,
+    text: &mut Vec<u8>,
+) -> Result<(), FileFault> {
+    match word {
+        Some("-") | None => Ok(()),
+        Some(word) if names_installed(word) => tell_missing(rt, word, text),
+        Some(word) => Ok(tell_unopened(rt, word, text)?),
+    }
+}
+
+// The argument that names the file of a job, if it has one.
+fn file_of(job: &Job) -> Option<&str> {
+    match job {
+        Job::Map { file, .. }
+        | Job::Request(
+            Request {
+                over: Over::File(file),
+                ..
+            },
+        )
+        | Job::Dump { file, .. } => Some(file.as_str()),
+        _ => None,
     }
 }
 
@@ -120,8 +180,14 @@ fn run_job<
             mode,
             style,
         } => bound_text(rt, pickle, name.as_bytes(), *bits, *style, *mode, out, why)?,
-        Job::Check { pickle } => check_pickle(rt, pickle, out, why)?,
-        Job::Types { pickle } => tell_types(rt, pickle, out, why)?,
+        Job::Check { pickle } => match asked.answer {
+            AnswerForm::Text => check_pickle(rt, pickle, out, why)?,
+            AnswerForm::Json => return check_in_json(rt, pickle, why.asked, out),
+        },
+        Job::Types { pickle } => match asked.answer {
+            AnswerForm::Text => tell_types(rt, pickle, out, why)?,
+            AnswerForm::Json => return types_in_json(rt, pickle, why.asked, out),
+        },
         Job::Formats => list_formats(rt, out)?,
         Job::Dump {
             from,

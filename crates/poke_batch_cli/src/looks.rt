@@ -15,9 +15,10 @@ pub fn give_look<R: Env + AllocGlobal, O: IsTerminal>(rt: &R, out: &O, asked: &m
     let Job::Request(request) = &mut asked.job else {
         return;
     };
-    if let Form::Shown(color) = request.form {
+    if let Form::Shown { color, depth } = request.form {
         request.terms.look = Some(Look {
             elements: request.terms.style.elements,
+            depth,
             dim: has_colors(rt, out, color),
         });
         asked.why = true;

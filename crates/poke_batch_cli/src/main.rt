@@ -1,27 +1,35 @@
 //! The program `poke_batch`: its arguments, files and standard streams. The library of that name makes the output.
 #![tactic(auto)]
 
+mod answers;
 mod dumps;
 mod each;
 mod ending;
+mod file_reasons;
 mod files;
 mod formats;
 mod given;
+mod hints;
 mod installed;
 mod jobs;
 mod looks;
 mod mapping;
 mod mappings;
+mod offset_reasons;
 mod pickles;
 mod progress;
+mod reason_text;
+mod usage_reasons;
 mod why;
 
 use arrayvec::ArrayVec;
 use command_words::request::{FileNames, Over};
 use ending::Ending;
 use given::given_words;
+use hints::{has_more, hint, takes_why};
 use jobs::do_job;
 use looks::give_look;
+use offset_reasons::tell_offset;
 use poke_batch::fault_form::FaultForm;
 use poke_batch::outcome::{Failure, Outcome};
 use poke_batch::status::Status;
@@ -33,6 +41,7 @@ use std::env;
 use std::io::{IsTerminal, Write};
 use std::process::ExitCode;
 use std::rt::Env;
+use usage_reasons::tell_usage;
 
 /// The usage error for two arguments that are both standard input.
 const INPUT_TWICE: &str =
@@ -46,16 +55,24 @@ pub type Line = ArrayVec<u8, 128>;
 
 fn main(rt: HostRuntime) -> ExitCode {
     let mut reason = Vec::new(rt.alloc());
-    let (faults, ending) = match read_job(&rt) {
+    let (faults, explainable, ending) = match read_job(&rt) {
         Ok(asked) => (
             faults_in(&asked.job),
+            takes_why(&asked),
             do_job(&rt, asked, rt.stdout(), &mut rt.stderr(), &mut reason),
         ),
-        Err(fault) => (
-            FaultForm::Text,
-            tell_words(fault, &mut rt.stdout(), &mut rt.stderr()),
-        ),
+        Err(fault) => {
+            explain_words(&rt, &fault, &mut reason);
+            (
+                FaultForm::Text,
+                false,
+                tell_words(fault, &mut rt.stdout(), &mut rt.stderr()),
+            )
+        }
     };
+    if explainable && has_more(ending) && rt.stderr().is_terminal() {
+        hint(&mut reason);
+    }
     // The line is written by one call, so that those of parallel runs don't mix.
     let mut line = Line::new();
     let status = ending.tell(faults, &mut line);
@@ -153,6 +170,25 @@ fn show_help<E: Write>(alloc: Global, err: &mut E) -> Result<(), AllocError> {
             Ok(())
         }
         _ => Err(AllocError),
+    }
+}
+
+// Explains why the arguments are no job, if that is requested.
+fn explain_words(rt: &HostRuntime, fault: &WordFault, reason: &mut Vec<u8>) {
+    let Ok(words) = given_words(rt) else {
+        return;
+    };
+    let asks = words.iter().any(|word| word.as_str() == "--why");
+    if !asks && !always_explains(rt) {
+        return;
+    }
+    let told = match fault {
+        WordFault::Offset => tell_offset(words.as_slice(), reason),
+        WordFault::Usage(_) => tell_usage(rt.alloc(), words.as_slice(), reason),
+        WordFault::Help(_) | WordFault::Memory => Ok(()),
+    };
+    if told.is_err() {
+        reason.clear();
     }
 }
 

@@ -9,7 +9,9 @@ use crate::files::{FileFault, open_space, read_pickle_of};
 use crate::installed::pickle_path;
 use crate::mapping::Mapping;
 use crate::why::{Why, explain};
+use bit_space::Space;
 use command_words::request::{FileNames, Form, Over, Request};
+use command_words::start::Start;
 use mapping_reasons::reasons;
 use poke_batch::mode::Mode;
 use poke_batch::outcome::Outcome;
@@ -17,9 +19,13 @@ use poke_batch::run::map_outcome;
 use poke_batch::status::Status;
 use poke_batch::terms::Terms;
 use poke_batch::write::put;
+use std::alloc::Global;
 use std::fs::File;
 use std::io::{Input, Write};
 use std::rt::{Clock, Env, Files};
+
+/// How the name of a pickle's file ends.
+const PICKLE_ENDING: &str = ".pk";
 
 /// Maps a type as a request says.
 pub fn run_request<R: Files<File = File> + Env + Input + Clock + AllocGlobal, O: Write, A: Write>(
@@ -66,7 +72,7 @@ fn mapping_of(request: &Request) -> Mapping<'_>
 {
     let mode = match request.form {
         Form::Printed { mode, .. } => mode,
-        Form::Shown(_) => Mode::Flat,
+        Form::Shown { .. } => Mode::Flat,
     };
     Mapping {
         name: request.name.as_bytes(),
@@ -92,6 +98,7 @@ pub fn map_file<R: Files<File = File> + Env + Input + AllocGlobal, O: Write>(
     let pickle = read_pickle_of(rt, path)?;
     let mut space = open_space(rt, file, mapping.spool)?;
     let Some(ask) = &mapping.ask_in(&space) else {
+        tell_start(rt.alloc(), why, mapping.start, space.len());
         return Ok(Outcome::Offset);
     };
     let outcome = map_outcome(rt.alloc(), &pickle, ask, terms, &mut space, out);
@@ -105,7 +112,35 @@ pub fn map_file<R: Files<File = File> + Env + Input + AllocGlobal, O: Write>(
             let _shown = put(out, reasons.met.as_slice());
         }
     }
+    if why.asked && status == Status::Fault && file.ends_with(PICKLE_ENDING) {
+        tell_swapped(why.text);
+    }
     Ok(outcome)
+}
+
+// Asks whether the file is meant to be the pickle. If an allocation fails the question is left out.
+fn tell_swapped(text: &mut Vec<u8>) {
+    let told = text.len();
+    if text
+        .extend_from_slice(b"  FILE ends in .pk: are PICKLE and FILE swapped?\n")
+        .is_err()
+    {
+        text.truncate(told);
+    }
+}
+
+// Explains that a file has fewer bytes than a start is before its end, if that is requested. If an allocation fails
+// there is only the line of the refusal.
+fn tell_start(alloc: Global, why: &mut Why<'_>, start: Start, bytes: u64) {
+    let Start::BytesFromEnd(back) = start else {
+        return;
+    };
+    if !why.asked {
+        return;
+    }
+    if let Ok(line) = format!(in alloc; "  --byte -{back}: the file has {bytes} bytes\n") {
+        *why.text = line.into_bytes();
+    }
 }
 
 // Maps a type of a pickle over many files. The reasons of each file go to `aside`.

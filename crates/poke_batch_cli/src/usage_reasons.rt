@@ -1,0 +1,71 @@
+//! Why arguments are a usage error, where clap's message doesn't tell what to write.
+use crate::offset_reasons::tell_signed;
+use crate::reason_text::{add, add_word};
+use command_words::path::{PathFault, read_path};
+use pickle_mistakes::near::nearest;
+use std::alloc::{AllocError, Global};
+
+/// Adds what to write instead of a command that there isn't, a word that is no path, or an offset with a sign, to a text.
+pub fn tell_usage(alloc: Global, words: &[String], text: &mut Vec<u8>) -> Result<(), AllocError> {
+    if let Some(first) = words.first() {
+        tell_command(alloc, first.as_str(), text)?;
+    }
+    for (place, word) in words.iter().enumerate() {
+        let next = words.get(place.saturating_add(1));
+        if let Some(path) = path_in(word.as_str(), next) {
+            tell_path(alloc, path, text)?;
+        }
+    }
+    tell_signed(words, text)
+}
+
+// Adds which command has a near name, if the first argument is none.
+fn tell_command(alloc: Global, word: &str, text: &mut Vec<u8>) -> Result<(), AllocError> {
+    let commands: [&[u8]; 9] = [
+        b"map", b"show", b"each", b"bound", b"check", b"types", b"formats", b"dump", b"help",
+    ];
+    let word = word.as_bytes();
+    if word.first() == Some(&b'-') || commands.contains(&word) {
+        return Ok(());
+    }
+    if let Some(near) = nearest(alloc, word, commands.as_slice())? {
+        add(text, &["  is "])?;
+        text.extend_from_slice(near)?;
+        add(text, &[" meant?\n"])?;
+    }
+    Ok(())
+}
+
+// The value of `--get`, if an argument is that option.
+fn path_in<'a>(word: &'a str, next: Option<&'a String>) -> Option<&'a str> {
+    let rest = word.strip_prefix("--get")?;
+    if rest.is_empty() {
+        return Some(next?.as_str());
+    }
+    rest.strip_prefix('=')
+}
+
+// Adds the form of a path, if a word isn't one.
+fn tell_path(alloc: Global, word: &str, text: &mut Vec<u8>) -> Result<(), AllocError> {
+    if !is_no_path(alloc, word)? {
+        return Ok(());
+    }
+    add(text, &["  --get "])?;
+    add_word(text, word)?;
+    add(text, &[": a path is . or steps of .name, .0 and [0]"])?;
+    let mut dotted = String::from_str(alloc, ".")?;
+    dotted.push_str(word)?;
+    if !is_no_path(alloc, dotted.as_str())? {
+        add(text, &["; write ", dotted.as_str()])?;
+    }
+    add(text, &["\n"])
+}
+
+// Whether a word hasn't the form of a path.
+fn is_no_path(alloc: Global, word: &str) -> Result<bool, AllocError> {
+    match read_path(alloc, word.as_bytes()) {
+        Ok(_) => Ok(false),
+        Err(PathFault::Form) => Ok(true),
+        Err(PathFault::Memory) => Err(AllocError),
+    }
+}
