@@ -6,11 +6,11 @@ _poke_batch_options() {
     local mapping='--at --byte --endian --limit --whole --max-output --slots --get --elements --spool --help'
     local style='--mode --numbers --chars --faults --why'
     case $1 in
-        map) echo "$mapping $style" ;;
-        show) echo "$mapping --color" ;;
-        each) echo "$mapping $style --flush --progress --files0-from" ;;
+        map) echo "$mapping $style --absent --rows --header" ;;
+        show) echo "$mapping --depth --color" ;;
+        each) echo "$mapping $style --absent --flush --progress --files0-from" ;;
         bound) echo '--text --mode --numbers --chars --elements --why --help' ;;
-        check | types) echo '--why --help' ;;
+        check | types) echo '--mode --why --help' ;;
         formats) echo '--help' ;;
         dump) echo '--from --size --skip --length --no-ruler --help' ;;
         '') echo '--help --version' ;;
@@ -18,7 +18,7 @@ _poke_batch_options() {
 }
 
 _poke_batch_takes_value() {
-    local mapping='at|byte|endian|limit|mode|max-output|slots|get|elements|spool|numbers|chars|faults|color|files0-from'
+    local mapping='at|byte|endian|limit|mode|max-output|slots|get|rows|absent|elements|spool|numbers|chars|faults|depth|color|files0-from'
     [[ $1 =~ ^(--($mapping|from|size|skip|length)|-[sn])$ ]]
 }
 
@@ -127,10 +127,12 @@ _poke_batch() {
         --numbers) _poke_batch_words "$current" 'decimal hex' ;;
         --chars) _poke_batch_words "$current" 'numbers text' ;;
         --faults) _poke_batch_words "$current" 'text json' ;;
+        --absent) _poke_batch_words "$current" 'fault empty' ;;
         --color) _poke_batch_words "$current" 'auto always never' ;;
         --mode)
             case $command in
                 each) _poke_batch_words "$current" 'flat json' ;;
+                check | types) _poke_batch_words "$current" 'text json' ;;
                 *) _poke_batch_words "$current" 'flat tree json lines' ;;
             esac
             ;;

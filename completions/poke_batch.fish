@@ -11,7 +11,7 @@ function __poke_batch_arguments
             printf '%s\n' $it
         else if test $it = --
             set ended yes
-        else if contains -- $it --at --byte --endian --limit --mode --numbers --chars --faults --color --elements --max-output --slots --get \
+        else if contains -- $it --at --byte --endian --limit --mode --numbers --chars --faults --depth --color --elements --max-output --slots --get --rows --absent \
                 --files0-from --from --size --skip --length -s -n
             set value yes
         end
@@ -87,15 +87,20 @@ complete -c poke_batch -n '__poke_batch_is map show each' -l endian -xa 'big lit
 complete -c poke_batch -n '__poke_batch_is map show each' -l limit -x -d 'The most steps of the mapping'
 complete -c poke_batch -n '__poke_batch_is map bound' -l mode -xa 'flat tree json lines' -d 'How the value is printed'
 complete -c poke_batch -n '__poke_batch_is each' -l mode -xa 'flat json' -d 'How the value is printed'
+complete -c poke_batch -n '__poke_batch_is check types' -l mode -xa 'text json' -d 'How the answer is printed'
 complete -c poke_batch -n '__poke_batch_is map show each' -l whole -d 'Accept only a value that ends where the file does'
 complete -c poke_batch -n '__poke_batch_is map show each' -l max-output -x -d 'The most bytes of the printed value'
 complete -c poke_batch -n '__poke_batch_is map show each' -l slots -x -d 'The most slots of each kind'
 complete -c poke_batch -n '__poke_batch_is map show each' -l get -x -d 'Print a part of the value'
+complete -c poke_batch -n '__poke_batch_is map' -l rows -x -d 'Print a line for each part of a pattern'
+complete -c poke_batch -n '__poke_batch_is map' -l header -d 'Print the paths of the columns first'
+complete -c poke_batch -n '__poke_batch_is map each' -l absent -xa 'fault empty' -d 'What an absent part is'
 complete -c poke_batch -n '__poke_batch_is map each bound' -l numbers -xa 'decimal hex' -d 'How numbers are printed'
 complete -c poke_batch -n '__poke_batch_is map each bound' -l chars -xa 'numbers text' -d 'How arrays of char are printed'
 complete -c poke_batch -n '__poke_batch_is map each' -l faults -xa 'text json' -d 'How a refusal or a fault is printed'
 complete -c poke_batch -n '__poke_batch_is map show each bound' -l elements -x -d 'The most elements of a printed array'
 complete -c poke_batch -n '__poke_batch_is map show each' -l spool -x -d 'Read a file without a length into memory, up to so many bytes'
+complete -c poke_batch -n '__poke_batch_is show' -l depth -x -d 'The most levels of parts that are shown'
 complete -c poke_batch -n '__poke_batch_is show' -l color -xa 'auto always never' -d 'When types are dimmed'
 complete -c poke_batch -n '__poke_batch_is each' -l flush -d 'Write each line before the next file'
 complete -c poke_batch -n '__poke_batch_is each' -l progress -d 'Show how many files are done'
