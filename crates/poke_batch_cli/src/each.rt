@@ -3,7 +3,7 @@ ghost use Rattle.pickle_types.specs.TypeTable.{IsInTable};
 ghost use Rattle.poke_batch.specs.RunsUnder.{IsStoreOf};
 
 use crate::ending::Ending;
-use crate::file_reasons::reason_of;
+use crate::file_reasons::{Lengthless, reason_of};
 use crate::files::{FileFault, open_space};
 use crate::mapping::Mapping;
 use crate::mappings::is_mapped;
@@ -303,7 +303,7 @@ fn run_name<R: Files<File = File> + Clock + AllocGlobal, A: Write, O: Write>(
     };
     let status = match opened {
         Ok(mut space) => run_space(rt.alloc(), typed, kept, name, &mut space, why, out)?,
-        Err(fault) => run_unopened(rt, typed.form, name, fault, why, out)?,
+        Err(fault) => run_unopened(rt, typed, name, fault, why, out)?,
     };
     if typed.flush {
         why.clear_progress();
@@ -337,7 +337,7 @@ fn put_unmapped<O: Write>(
 // Writes the outcome of a file that wasn't opened and, if it is requested, why it wasn't.
 fn run_unopened<R: Files<File = File> + AllocGlobal, A: Write, O: Write>(
     rt: &R,
-    form: FileForm,
+    typed: Typed<'_>,
     name: &[u8],
     fault: FileFault,
     why: &mut WhyFiles<'_, A>,
@@ -346,11 +346,13 @@ fn run_unopened<R: Files<File = File> + AllocGlobal, A: Write, O: Write>(
     let outcome = Outcome::Failed(fault.failure());
     let mut lines = Vec::new(rt.alloc());
     if why.asked && fault == FileFault::Space(OpenFault::NotOpened) {
-        if add(&mut lines, &["  ", unopened_reason(rt, name), "\n"]).is_err() {
+        let lengthless = Lengthless::with_spool(typed.mapping.spool);
+        let reason = unopened_reason(rt, name, lengthless);
+        if add(&mut lines, &["  ", reason, "\n"]).is_err() {
             lines.clear();
         }
     }
-    match form {
+    match typed.form {
         FileForm::Line(faults) => {
             put_file_line(out, name, outcome, faults, b"")?;
             if !lines.is_empty() {
@@ -363,9 +365,13 @@ fn run_unopened<R: Files<File = File> + AllocGlobal, A: Write, O: Write>(
     Ok(outcome.status())
 }
 
-fn unopened_reason<R: Files<File = File>>(rt: &R, name: &[u8]) -> &'static str {
+fn unopened_reason<R: Files<File = File>>(
+    rt: &R,
+    name: &[u8],
+    lengthless: Lengthless,
+) -> &'static str {
     match str::from_utf8(name) {
-        Ok(path) => reason_of(rt, path),
+        Ok(path) => reason_of(rt, path, lengthless),
         Err(_) => "the name isn't UTF-8",
     }
 }

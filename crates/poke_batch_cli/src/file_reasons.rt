@@ -6,26 +6,69 @@ use std::io::ErrorKind;
 use std::os::unix::fs::FileTypeExt;
 use std::rt::Files;
 
+/// What a command does with a file that has no length, such as a FIFO.
+#[derive(Clone, Copy)]
+pub enum Lengthless {
+    /// It reads it, as a pickle or with `--spool`.
+    Reads,
+    /// It would read it with `--spool`, which wasn't given.
+    NeedsSpool,
+    /// It never reads it.
+    Refuses,
+}
+
+impl Lengthless {
+    /// What a mapping does with it, by its option `--spool`.
+    pub fn with_spool(spool: Option<u64>) -> Lengthless {
+        match spool {
+            Some(_) => Lengthless::Reads,
+            None => Lengthless::NeedsSpool,
+        }
+    }
+}
+
 /// Adds why the file at a path couldn't be opened to a text, on a line that begins with the path.
 pub fn tell_unopened<R: Files<File = File>>(
     rt: &R,
     path: &str,
+    lengthless: Lengthless,
     text: &mut Vec<u8>,
 ) -> Result<(), AllocError> {
     add(text, &["  "])?;
     add_word(text, path)?;
-    add(text, &[": ", reason_of(rt, path), "\n"])
+    add(text, &[": ", reason_of(rt, path, lengthless), "\n"])
 }
 
 /// What is wrong with the file at a path that couldn't be opened.
-pub fn reason_of<R: Files<File = File>>(rt: &R, path: &str) -> &'static str {
-    match fs::metadata(rt, path) {
-        Ok(metadata) if metadata.file_type().is_dir() => "it is a folder",
-        Ok(_) => match File::open(rt, path) {
-            Ok(_) => "it has no length; --spool BYTES reads it into memory",
-            Err(error) => words_of(error.kind()),
-        },
-        Err(error) => words_of(error.kind()),
+pub fn reason_of<R: Files<File = File>>(
+    rt: &R,
+    path: &str,
+    lengthless: Lengthless,
+) -> &'static str {
+    match (error_of(rt, path), lengthless) {
+        (Some(words), _) => words,
+        (None, Lengthless::Reads) => "the system doesn't read it",
+        (None, Lengthless::NeedsSpool) => "it has no length; --spool BYTES reads it into memory",
+        (None, Lengthless::Refuses) => "it has no length",
+    }
+}
+
+// The system's reason not to open a path, if it has one. Only a file that has a length is opened once more: opening a
+// FIFO would wait for its writer.
+fn error_of<R: Files<File = File>>(rt: &R, path: &str) -> Option<&'static str> {
+    let kind = match fs::metadata(rt, path) {
+        Ok(metadata) => metadata.file_type(),
+        Err(error) => return Some(words_of(error.kind())),
+    };
+    if kind.is_dir() {
+        return Some("it is a folder");
+    }
+    if !kind.is_file() && !kind.is_block_device() {
+        return None;
+    }
+    match File::open(rt, path) {
+        Ok(_) => None,
+        Err(error) => Some(words_of(error.kind())),
     }
 }
 

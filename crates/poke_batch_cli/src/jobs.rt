@@ -2,7 +2,7 @@
 use crate::answers::{check_in_json, report_in_json, types_in_json};
 use crate::dumps::{Range, dump_file};
 use crate::ending::Ending;
-use crate::file_reasons::tell_unopened;
+use crate::file_reasons::{Lengthless, tell_unopened};
 use crate::files::FileFault;
 use crate::formats::list_formats;
 use crate::installed::{names_installed, tell_missing};
@@ -94,7 +94,9 @@ fn explain_fault<R: Files<File = File> + Env + AllocGlobal + Clone + Drop>(
     let told = match fault {
         FileFault::Pickle(PickleFault::Read) => tell_unread(rt, pickle_of(job), why.text),
         FileFault::Space(OpenFault::NotOpened) => match file_of(job) {
-            Some(path) => tell_unopened(rt, path, why.text).map_err(FileFault::from),
+            Some(path) => tell_unopened(rt, path, lengthless_of(job), why.text).map_err(
+                FileFault::from,
+            ),
             None => Ok(()),
         },
         _ => Ok(()),
@@ -113,7 +115,7 @@ fn tell_unread<R: Files<File = File> + Env + AllocGlobal + Clone + Drop>(
     match word {
         Some("-") | None => Ok(()),
         Some(word) if names_installed(word) => tell_missing(rt, word, text),
-        Some(word) => Ok(tell_unopened(rt, word, text)?),
+        Some(word) => Ok(tell_unopened(rt, word, Lengthless::Reads, text)?),
     }
 }
 
@@ -129,6 +131,15 @@ fn file_of(job: &Job) -> Option<&str> {
         )
         | Job::Dump { file, .. } => Some(file.as_str()),
         _ => None,
+    }
+}
+
+// What a job does with a file that has no length.
+fn lengthless_of(job: &Job) -> Lengthless {
+    match job {
+        Job::Request(request) => Lengthless::with_spool(request.spool),
+        Job::Map { .. } => Lengthless::NeedsSpool,
+        _ => Lengthless::Refuses,
     }
 }
 
