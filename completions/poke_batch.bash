@@ -3,12 +3,12 @@
 
 # The options of a command.
 _poke_batch_options() {
-    local mapping='--at --byte --endian --limit --whole --max-output --slots --get --elements --spool --help'
+    local mapping='--at --byte --endian --limit --whole --max-output --slots --get --elements --spool --progress --help'
     local style='--mode --numbers --chars --faults --why'
     case $1 in
         map) echo "$mapping $style --absent --rows --header" ;;
         show) echo "$mapping --depth --color" ;;
-        each) echo "$mapping $style --absent --flush --progress --files0-from" ;;
+        each) echo "$mapping $style --absent --flush --files0-from" ;;
         bound) echo '--text --mode --numbers --chars --elements --why --help' ;;
         check | types) echo '--mode --why --help' ;;
         formats) echo '--help' ;;

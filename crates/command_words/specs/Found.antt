@@ -1,5 +1,5 @@
 -- What the arguments of a command request, by what clap found among them.
-use Rattle.std.specs.Prelude.{◌≡◌, ◌≢◌, ◌⊎◌, ℕ, true, false, not, List, [], map, Option, Some, None, string_bytes, codes}
+use Rattle.std.specs.Prelude.{◌≡◌, ◌≢◌, ◌⊎◌, ℕ, Bool, true, false, not, List, [], map, Option, Some, None, string_bytes, codes}
 use Rattle.std.specs.Option.{unwrap_or, option_map_or}
 use Rattle.clap.specs.Matches.{first_value, one_text, matched_of, raw_values}
 use Rattle.clap.specs.declared.parser.matches.Found.{Found}
@@ -123,18 +123,20 @@ abbrev pub elements_by_default : Form → Option ℕ
 elements_by_default (Printed mode faults) = None
 elements_by_default (Shown color depth) = Some 16
 
--- what a type is mapped over: the one file that an argument names, or many, of which each line may be written at once, and
--- how many are done may be shown
+-- what a type is mapped over: the one file that an argument names, or many, of which each line may be written at once
 abbrev pub IsOver : Found → Over → Type 0
 IsOver found (File file) = string_bytes file ≡ word_in found (codes "FILE")
-IsOver found (Files names flush progress) = NamesFiles found names × FlagIn (one_text found (codes "flush")) flush
-    × FlagIn (one_text found (codes "progress")) progress
+IsOver found (Files names flush) = NamesFiles found names × FlagIn (one_text found (codes "flush")) flush
+
+-- whether how much is done is shown
+abbrev pub ShowsProgress : Found → Bool → Type 0
+ShowsProgress found progress = FlagIn (one_text found (codes "progress")) progress
 
 -- which selections the command offers that writes in a form, over one file or many
 abbrev pub choice_of : Form → Over → Choice
 choice_of (Shown color depth) over = Part
 choice_of (Printed mode faults) (File file) = Parts
-choice_of (Printed mode faults) (Files names flush progress) = Columns
+choice_of (Printed mode faults) (Files names flush) = Columns
 
 -- a request is what arguments request
 pub record AsksRequest (found : Found) (request : Request) : Type 0 where
@@ -142,6 +144,7 @@ pub record AsksRequest (found : Found) (request : Request) : Type 0 where
   pub spools : Spools found request.spool
   pub terms : HasTerms found (choice_of request.form request.over) (elements_by_default request.form) request.terms
   pub form : IsInForm found request.form
+  pub progress : ShowsProgress found request.progress
   pub over : IsOver found request.over
 
 -- the first byte of a dump
@@ -155,7 +158,7 @@ DumpsBytes found size = NamesBytes (first_value found (codes "length")) (word_in
 -- a job is what the arguments of its command request
 abbrev pub Asks : Found → Job → Type 0
 Asks found (Map at order limit mode pickle name file) = AsksMapping found (Bit at) order limit (string_bytes pickle) (string_bytes name)
-    × IsInMode found mode × ReportsIn found Text × Spools found None × HasTerms found Parts None no_terms
+    × IsInMode found mode × ReportsIn found Text × Spools found None × ShowsProgress found false × HasTerms found Parts None no_terms
     × (string_bytes file ≡ word_in found (codes "FILE"))
 Asks found (job.Request request) = AsksRequest found request
 Asks found (Bound pickle name bits) = AsksBound found (string_bytes pickle) (string_bytes name) bits × FlagIn (one_text found (codes "text")) false
@@ -175,8 +178,8 @@ IsOther command name = command ≢ Some name
 abbrev pub IsRequestOf : Option (List ℕ) → Form → Over → Type 0
 IsRequestOf command (Printed mode faults) (File file) = command ≡ Some (codes "map")
 IsRequestOf command (Shown color depth) (File file) = command ≡ Some (codes "show")
-IsRequestOf command (Printed mode faults) (Files names flush progress) = command ≡ Some (codes "each")
-IsRequestOf command (Shown color depth) (Files names flush progress) = ⊥
+IsRequestOf command (Printed mode faults) (Files names flush) = command ≡ Some (codes "each")
+IsRequestOf command (Shown color depth) (Files names flush) = ⊥
 
 -- a job is of the command of a name
 abbrev pub IsJobOf : Option (List ℕ) → Job → Type 0

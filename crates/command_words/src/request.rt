@@ -25,6 +25,8 @@ pub struct Request {
     pub terms: Terms,
     /// How each value is written.
     pub form: Form,
+    /// Whether a terminal shows how much is done.
+    pub progress: bool,
     /// The argument that names the pickle: a path, `-` for standard input, or `+` and the name of an installed one.
     pub pickle: String,
     /// The name of the type to map.
@@ -59,13 +61,8 @@ pub enum Form {
 pub enum Over {
     /// The file of this name.
     File(String),
-    /// One file after another, with a line for each. With `flush` each line is written at once. With `progress` a terminal
-    /// shows how many files are done.
-    Files {
-        names: FileNames,
-        flush: bool,
-        progress: bool,
-    },
+    /// One file after another, with a line for each. With `flush` each line is written at once.
+    Files { names: FileNames, flush: bool },
 }
 
 /// Where the names of many files are.

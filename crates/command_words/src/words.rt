@@ -288,18 +288,18 @@ fn read_map(alloc: Global, found: &ArgMatches<'_>) -> Result<Job, WordFault>
 {
     let terms = terms_of(alloc, found, Choice::Parts, None)?;
     let spool = spool_of(alloc, found)?;
+    let progress = flag_of(found, "progress");
+    let is_plain = spool.is_none() && !progress && has_no_terms(&terms);
     match (start_of(found)?, faults_of(word(found, "faults"))) {
-        (Start::Bit(at), FaultForm::Text) if spool.is_none() && has_no_terms(&terms) => Ok(
-            Job::Map {
-                at,
-                order: order_of(word(found, "endian")),
-                limit: limit_of(alloc, found)?,
-                mode: mode_of(word(found, "mode")),
-                pickle: word_of(alloc, found, "PICKLE")?,
-                name: word_of(alloc, found, "TYPE")?,
-                file: word_of(alloc, found, "FILE")?,
-            },
-        ),
+        (Start::Bit(at), FaultForm::Text) if is_plain => Ok(Job::Map {
+            at,
+            order: order_of(word(found, "endian")),
+            limit: limit_of(alloc, found)?,
+            mode: mode_of(word(found, "mode")),
+            pickle: word_of(alloc, found, "PICKLE")?,
+            name: word_of(alloc, found, "TYPE")?,
+            file: word_of(alloc, found, "FILE")?,
+        }),
         (start, faults) => Ok(Job::Request(Request {
             start,
             order: order_of(word(found, "endian")),
@@ -310,6 +310,7 @@ fn read_map(alloc: Global, found: &ArgMatches<'_>) -> Result<Job, WordFault>
                 mode: mode_of(word(found, "mode")),
                 faults,
             },
+            progress,
             pickle: word_of(alloc, found, "PICKLE")?,
             name: word_of(alloc, found, "TYPE")?,
             over: Over::File(word_of(alloc, found, "FILE")?),
@@ -332,6 +333,7 @@ fn read_show(alloc: Global, found: &ArgMatches<'_>) -> Result<Job, WordFault>
             color: color_of(word(found, "color")),
             depth: depth_of(alloc, found, Some(SHOWN_LEVELS))?,
         },
+        progress: flag_of(found, "progress"),
         pickle: word_of(alloc, found, "PICKLE")?,
         name: word_of(alloc, found, "TYPE")?,
         over: Over::File(word_of(alloc, found, "FILE")?),
@@ -353,12 +355,12 @@ fn read_each(alloc: Global, found: &ArgMatches<'_>) -> Result<Job, WordFault>
             mode: mode_of(word(found, "mode")),
             faults: faults_of(word(found, "faults")),
         },
+        progress: flag_of(found, "progress"),
         pickle: word_of(alloc, found, "PICKLE")?,
         name: word_of(alloc, found, "TYPE")?,
         over: Over::Files {
             names: names_in(alloc, found)?,
             flush: flag_of(found, "flush"),
-            progress: flag_of(found, "progress"),
         },
     }))
 }

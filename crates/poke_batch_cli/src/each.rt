@@ -4,10 +4,10 @@ ghost use Rattle.poke_batch.specs.RunsUnder.{IsStoreOf};
 
 use crate::ending::Ending;
 use crate::file_reasons::{Lengthless, reason_of};
-use crate::files::{FileFault, open_space};
+use crate::files::{FileFault, open_shown};
 use crate::mapping::Mapping;
 use crate::mappings::is_mapped;
-use crate::progress::Progress;
+use crate::progress::{Counted, Progress};
 use crate::reason_text::add;
 use bit_space::{Memory, OpenFault, Space};
 use command_words::request::FileNames;
@@ -119,8 +119,10 @@ impl EachOptions<'_> {
             return None;
         }
         match files {
-            FileNames::Words(names) => Some(Progress::new(Some(names.len()))),
-            FileNames::EndedByZero(_) => Some(Progress::new(None)),
+            FileNames::Words(names) => {
+                Some(Progress::new(Counted::Files, Some(names.len() as u64)))
+            }
+            FileNames::EndedByZero(_) => Some(Progress::new(Counted::Files, None)),
         }
     }
 }
@@ -157,7 +159,11 @@ impl FileForm {
 }
 
 /// Maps a type over one file after another, and writes a line for each. Ends with the greatest exit status of all.
-pub fn run_each<R: Files<File = File> + Input + Clock + AllocGlobal, A: Write, O: Write>(
+pub fn run_each<
+    R: Files<File = File> + Input + Clock + AllocGlobal + Clone + Drop,
+    A: Write + Copy,
+    O: Write,
+>(
     rt: &R,
     pickle: &[u8],
     mapping: &Mapping<'_>,
@@ -190,7 +196,11 @@ pub fn run_each<R: Files<File = File> + Input + Clock + AllocGlobal, A: Write, O
     }
 }
 
-fn run_files<R: Files<File = File> + Input + Clock + AllocGlobal, A: Write, O: Write>(
+fn run_files<
+    R: Files<File = File> + Input + Clock + AllocGlobal + Clone + Drop,
+    A: Write + Copy,
+    O: Write,
+>(
     rt: &R,
     typed: Typed<'_>,
     files: &FileNames,
@@ -212,7 +222,11 @@ fn run_files<R: Files<File = File> + Input + Clock + AllocGlobal, A: Write, O: W
 }
 
 // Maps a type over the files that the arguments name.
-fn run_words<R: Files<File = File> + Input + Clock + AllocGlobal, A: Write, O: Write>(
+fn run_words<
+    R: Files<File = File> + Input + Clock + AllocGlobal + Clone + Drop,
+    A: Write + Copy,
+    O: Write,
+>(
     rt: &R,
     typed: Typed<'_>,
     names: &[String],
@@ -232,9 +246,9 @@ fn run_words<R: Files<File = File> + Input + Clock + AllocGlobal, A: Write, O: W
 
 // Maps a type over the files that a list names. Each name ends with a byte 0, which the last may lack.
 fn run_list<
-    R: Files<File = File> + Input + Clock + AllocGlobal,
+    R: Files<File = File> + Input + Clock + AllocGlobal + Clone + Drop,
     L: Read + Drop,
-    A: Write,
+    A: Write + Copy,
     O: Write,
 >(
     rt: &R,
@@ -284,7 +298,7 @@ fn read_name<L: BufRead>(list: &mut L, name: &mut Vec<u8>) -> Result<bool, ListF
 }
 
 // Maps a type over a file, and writes its line. A file that can't be opened has a line too.
-fn run_name<R: Files<File = File> + Clock + AllocGlobal, A: Write, O: Write>(
+fn run_name<R: Files<File = File> + Clock + AllocGlobal + Clone + Drop, A: Write + Copy, O: Write>(
     rt: &R,
     typed: Typed<'_>,
     kept: &mut Kept,
@@ -298,7 +312,7 @@ fn run_name<R: Files<File = File> + Clock + AllocGlobal, A: Write, O: Write>(
 {
     why.show_progress(rt);
     let opened = match str::from_utf8(name) {
-        Ok(path) => open_space(rt, path, typed.mapping.spool),
+        Ok(path) => open_shown(rt, path, typed.mapping.spool, false, *why.aside),
         Err(_) => Err(OpenFault::NotOpened.into()),
     };
     let status = match opened {

@@ -1,4 +1,5 @@
 //! The files that a job names.
+use crate::with_progress::ShownSpace;
 use bit_space::{FileSpace, MemSpace, Memory, OpenFault, Paged, Space};
 use poke_batch::DumpFault;
 use poke_batch::outcome::Failure;
@@ -6,9 +7,9 @@ use poke_batch::pickle::{PickleFault, read_pickle};
 use spool::{Source, StreamFault, read_stream};
 use std::alloc::AllocError;
 use std::fs::{self, File};
-use std::io::Input;
+use std::io::{Input, Write};
 use std::os::unix::fs::MetadataExt;
-use std::rt::Files;
+use std::rt::{Clock, Files};
 use thiserror::Error;
 
 /// What failed with the files of a job. It displays as its line.
@@ -104,12 +105,34 @@ pub fn open_space<R: Files<File = File> + AllocGlobal>(
     path: &str,
     spool: Option<u64>,
 ) -> Result<Paged<Source>, FileFault> {
-    let source = match (open_file(rt, path), spool) {
-        (Ok(space), _) => Source::File(space),
-        (Err(OpenFault::NotOpened), Some(most)) => Source::Memory(open_stream(rt, path, most)?),
-        (Err(fault), _) => return Err(fault.into()),
-    };
-    Ok(Paged::new(rt.alloc(), source)?)
+    Ok(Paged::new(rt.alloc(), open_source(rt, path, spool)?)?)
+}
+
+/// Opens a file as [`open_space`] does. If `shows`, `err` shows how far it was read.
+pub fn open_shown<R: Files<File = File> + Clock + AllocGlobal + Clone + Drop, E: Write + Copy>(
+    rt: &R,
+    path: &str,
+    spool: Option<u64>,
+    shows: bool,
+    err: E,
+) -> Result<Paged<ShownSpace<Source, R, E>>, FileFault> {
+    let source = open_source(rt, path, spool)?;
+    let shown = ShownSpace::new(source, rt.clone()?, err, shows);
+    Ok(Paged::new(rt.alloc(), shown)?)
+}
+
+fn open_source<R: Files<File = File> + AllocGlobal>(
+    rt: &R,
+    path: &str,
+    spool: Option<u64>,
+) -> Result<Source, FileFault> {
+    match (open_file(rt, path), spool) {
+        (Ok(space), _) => Ok(Source::File(space)),
+        (Err(OpenFault::NotOpened), Some(most)) => {
+            Ok(Source::Memory(open_stream(rt, path, most)?))
+        }
+        (Err(fault), _) => Err(fault.into()),
+    }
 }
 
 // Opens a file that has a length. A file of /proc is opened only if it says its length.

@@ -10,6 +10,7 @@ use crate::mapping::Mapping;
 use crate::mappings::{map_file, run_request};
 use crate::pickles::{bound_text, bound_type, check_pickle, tell_types};
 use crate::why::Why;
+use crate::with_progress::ClearedWriter;
 use bit_space::OpenFault;
 use command_words::answer_form::AnswerForm;
 use command_words::request::{Over, Request};
@@ -30,8 +31,9 @@ const GATHERED: usize = 65_536;
 pub fn do_job<
     R: Files<File = File> + Env + Input + Clock + AllocGlobal + Clone + Drop,
     O: Write + Drop,
-    A: Write,
->(rt: &R, asked: Asked, out: O, aside: &mut A, reason: &mut Vec<u8>) -> Ending {
+    A: Write + Copy,
+>(rt: &R, asked: Asked, out: O, mut aside: A, reason: &mut Vec<u8>) -> Ending {
+    let out = ClearedWriter::new(out, aside, shows_reads(&asked.job));
     let Ok(mut out) = BufWriter::with_capacity(rt.alloc(), GATHERED, out) else {
         return Ending::Run(Outcome::Failed(Failure::Memory));
     };
@@ -39,7 +41,7 @@ pub fn do_job<
         text: reason,
         asked: asked.why,
     };
-    let ending = match run_job(rt, &asked, &mut out, aside, &mut why) {
+    let ending = match run_job(rt, &asked, &mut out, &mut aside, &mut why) {
         Ok(ending) => ending,
         Err(fault) => {
             explain_fault(rt, &asked.job, fault, &mut why);
@@ -134,6 +136,14 @@ fn file_of(job: &Job) -> Option<&str> {
     }
 }
 
+// Whether a job shows how far its file was read.
+fn shows_reads(job: &Job) -> bool {
+    match job {
+        Job::Request(request) => request.progress && matches!(request.over, Over::File(_)),
+        _ => false,
+    }
+}
+
 // What a job does with a file that has no length.
 fn lengthless_of(job: &Job) -> Lengthless {
     match job {
@@ -159,7 +169,7 @@ fn pickle_of(job: &Job) -> Option<&str> {
 fn run_job<
     R: Files<File = File> + Env + Input + Clock + AllocGlobal + Clone + Drop,
     O: Write,
-    A: Write,
+    A: Write + Copy,
 >(
     rt: &R,
     asked: &Asked,
@@ -178,7 +188,17 @@ fn run_job<
             file,
         } => {
             let mapping = Mapping::from_bit(name, *at, *order, *limit, *mode);
-            map_file(rt, pickle, file, &mapping, &Terms::none(), out, why)?
+            map_file(
+                rt,
+                pickle,
+                file,
+                &mapping,
+                &Terms::none(),
+                false,
+                out,
+                *aside,
+                why,
+            )?
         }
         Job::Request(request) => return run_request(rt, request, out, aside, why),
         Job::Bound { pickle, name, bits } => {

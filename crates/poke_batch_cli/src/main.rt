@@ -21,6 +21,7 @@ mod progress;
 mod reason_text;
 mod usage_reasons;
 mod why;
+mod with_progress;
 
 use arrayvec::ArrayVec;
 use command_words::request::{FileNames, Over};
@@ -59,7 +60,7 @@ fn main(rt: HostRuntime) -> ExitCode {
         Ok(asked) => (
             faults_in(&asked.job),
             takes_why(&asked),
-            do_job(&rt, asked, rt.stdout(), &mut rt.stderr(), &mut reason),
+            do_job(&rt, asked, rt.stdout(), rt.stderr(), &mut reason),
         ),
         Err(fault) => {
             explain_words(&rt, &fault, &mut reason);
@@ -117,14 +118,9 @@ fn give_progress(prints_to_terminal: bool, has_terminal: bool, job: &mut Job) {
     let Job::Request(request) = job else {
         return;
     };
-    if let Over::Files {
-        flush,
-        progress,
-        ..
-    } = &mut request.over
-    {
-        *progress &= has_terminal;
-        *flush |= *progress && prints_to_terminal;
+    request.progress &= has_terminal;
+    if let Over::Files { flush, .. } = &mut request.over {
+        *flush |= request.progress && prints_to_terminal;
     }
 }
 

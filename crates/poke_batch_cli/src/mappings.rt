@@ -5,7 +5,7 @@ ghost use Rattle.text_forms.specs.declared.mode.Mode.{Mode};
 
 use crate::each::{EachOptions, WhyFiles, run_each};
 use crate::ending::Ending;
-use crate::files::{FileFault, open_space, read_pickle_of};
+use crate::files::{FileFault, open_shown, read_pickle_of};
 use crate::installed::pickle_path;
 use crate::mapping::Mapping;
 use crate::why::{Why, explain};
@@ -28,7 +28,11 @@ use std::rt::{Clock, Env, Files};
 const PICKLE_ENDING: &str = ".pk";
 
 /// Maps a type as a request says.
-pub fn run_request<R: Files<File = File> + Env + Input + Clock + AllocGlobal, O: Write, A: Write>(
+pub fn run_request<
+    R: Files<File = File> + Env + Input + Clock + AllocGlobal + Clone + Drop,
+    O: Write,
+    A: Write + Copy,
+>(
     rt: &R,
     request: &Request,
     out: &mut O,
@@ -44,19 +48,16 @@ pub fn run_request<R: Files<File = File> + Env + Input + Clock + AllocGlobal, O:
     } = request;
     match over {
         Over::File(file) => {
-            let outcome = map_file(rt, pickle, file, mapping, terms, out, why)?;
+            let shows = request.progress;
+            let outcome = map_file(rt, pickle, file, mapping, terms, shows, out, *aside, why)?;
             Ok(Ending::Run(outcome))
         }
-        Over::Files {
-            names,
-            flush,
-            progress,
-        } => {
+        Over::Files { names, flush } => {
             let options = EachOptions {
                 terms,
                 faults: request.faults(),
                 flush: *flush,
-                progress: *progress,
+                progress: request.progress,
             };
             map_files(rt, pickle, names, mapping, options, out, aside, why)
         }
@@ -84,19 +85,25 @@ fn mapping_of(request: &Request) -> Mapping<'_>
     }
 }
 
-/// Maps a type of the pickle at one path over the file at another.
-pub fn map_file<R: Files<File = File> + Env + Input + AllocGlobal, O: Write>(
+/// Maps a type of the pickle at one path over the file at another. If `shows`, `err` shows how far the file was read.
+pub fn map_file<
+    R: Files<File = File> + Env + Input + Clock + AllocGlobal + Clone + Drop,
+    O: Write,
+    E: Write + Copy,
+>(
     rt: &R,
     path: &str,
     file: &str,
     mapping: &Mapping<'_>,
     terms: &Terms,
+    shows: bool,
     out: &mut O,
+    err: E,
     why: &mut Why<'_>,
 ) -> Result<Outcome, FileFault> {
     let path = &pickle_path(rt, path)?;
     let pickle = read_pickle_of(rt, path)?;
-    let mut space = open_space(rt, file, mapping.spool)?;
+    let mut space = open_shown(rt, file, mapping.spool, shows, err)?;
     let Some(ask) = &mapping.ask_in(&space) else {
         tell_start(rt.alloc(), why, mapping.start, space.len());
         return Ok(Outcome::Offset);
@@ -144,7 +151,11 @@ fn tell_start(alloc: Global, why: &mut Why<'_>, start: Start, bytes: u64) {
 }
 
 // Maps a type of a pickle over many files. The reasons of each file go to `aside`.
-fn map_files<R: Files<File = File> + Env + Input + Clock + AllocGlobal, O: Write, A: Write>(
+fn map_files<
+    R: Files<File = File> + Env + Input + Clock + AllocGlobal + Clone + Drop,
+    O: Write,
+    A: Write + Copy,
+>(
     rt: &R,
     path: &str,
     files: &FileNames,

@@ -1,5 +1,5 @@
-//! How many files of a run are done, on a line of a terminal.
-ghost use Rattle.std.specs.Prelude.{◌≡◌, ◌+◌, ◌-◌, ◌^◌, ◌<◌, None, false};
+//! How much of a run is done, on a line of a terminal.
+ghost use Rattle.std.specs.Prelude.{◌≡◌, ◌+◌, ◌-◌, ◌^◌, ◌<◌, ◌≤◌, None, false};
 
 use crate::Line;
 use poke_batch::write::{WriteFault, put};
@@ -13,13 +13,32 @@ const STAY: u64 = 500;
 /// What clears a line: a carriage return, and the sequence that erases from there on.
 const CLEAR: &[u8] = b"\r\x1b[K";
 
-/// How many files of a run are done. It is on a line of a terminal, which each later line overwrites.
+/// What a progress counts.
+#[derive(Clone, Copy, Debug, PartialEq, Eq)]
+pub enum Counted {
+    /// The files that were mapped.
+    Files,
+    /// The bytes of a file up to the last one that was read.
+    Bytes,
+}
+
+impl Counted {
+    fn name(self) -> &'static str {
+        match self {
+            Counted::Files => "files done",
+            Counted::Bytes => "bytes read",
+        }
+    }
+}
+
+/// How much of a run is done. It is on a line of a terminal, which each later line overwrites.
 ///
 /// A line that can't be written is left out: the run goes on without it.
 #[derive(Drop)]
 pub struct Progress {
-    /// How many files there are, if that is known.
-    total: Option<usize>,
+    counted: Counted,
+    /// How much there is in all, if that is known.
+    total: Option<u64>,
     done: u64,
     /// When the last line was written.
     written: Option<Instant>,
@@ -28,11 +47,12 @@ pub struct Progress {
 }
 
 impl Progress {
-    /// No file is done yet, of so many if that is known.
-    pub fn new(total: Option<usize>) -> Progress
-        ensures { result ≡ record { total = total; done = 0; written = None; is_there = false } }
+    /// Nothing is done yet, of so much if that is known.
+    pub fn new(counted: Counted, total: Option<u64>) -> Progress
+        ensures { result ≡ record { counted = counted; total = total; done = 0; written = None; is_there = false } }
     {
         Progress {
+            counted,
             total,
             done: 0,
             written: None,
@@ -40,15 +60,23 @@ impl Progress {
         }
     }
 
-    /// Counts a file that is done.
+    /// Counts one more that is done.
     pub fn count(&mut self)
         ensures done { self.old.done < 2 ^ 64 - 1 → self.new.done ≡ self.old.done + 1 }
-        ensures total { self.new.total ≡ self.old.total }
+        ensures same { (self.new.counted ≡ self.old.counted) × (self.new.total ≡ self.old.total) }
     {
         self.done = self.done.saturating_add(1);
     }
 
-    /// Writes how many files are done, unless the last line was written less than half a second ago.
+    /// Counts so much as done, unless more is.
+    pub fn reach(&mut self, done: u64)
+        ensures done { (done ≤ self.new.done) × (self.old.done ≤ self.new.done) }
+        ensures same { (self.new.counted ≡ self.old.counted) × (self.new.total ≡ self.old.total) }
+    {
+        self.done = self.done.max(done);
+    }
+
+    /// Writes how much is done, unless the last line was written less than half a second ago.
     pub fn show<C: Clock, E: Write>(&mut self, clock: &C, err: &mut E)
         ensures { (self.new.done ≡ self.old.done) × (self.new.total ≡ self.old.total) }
     {
@@ -70,9 +98,10 @@ impl Progress {
 
     fn put_line(&self, line: &mut Line) -> Result<(), WriteFault> {
         put(line, CLEAR)?;
+        let name = self.counted.name();
         let written = match self.total {
-            Some(total) => write!(line, "files done: {} of {}", self.done, total),
-            None => write!(line, "files done: {}", self.done),
+            Some(total) => write!(line, "{name}: {} of {total}", self.done),
+            None => write!(line, "{name}: {}", self.done),
         };
         written.map_err(|_| WriteFault)
     }
@@ -84,7 +113,13 @@ impl Progress {
     {
         if self.is_there {
             self.is_there = false;
-            let _cleared = put(err, CLEAR);
+            clear_line(err);
         }
     }
+}
+
+/// Clears the line that the cursor of a terminal is on.
+pub fn clear_line<E: Write>(err: &mut E) {
+    // What can't be cleared stays: the run goes on.
+    let _cleared = put(err, CLEAR);
 }

@@ -42,6 +42,7 @@ Options of map, show and each:
                    map and each: may be given many times [default: .]
   --elements N     the most elements that are printed of an array, or all [default: all; show: 16]
   --spool BYTES    read a FILE without a length, as a pipe, into memory, up to so many bytes [default: it isn't opened]
+  --progress       show how much is done, if standard error is a terminal [default: no]
 
 Options of map and each:
   --mode MODE      how the value is printed: flat, tree, json or lines; each: flat or json [default: flat]
@@ -61,7 +62,6 @@ Options of show:
 Options of each:
   --files0-from PATH  read the names of the files from PATH, or from standard input for -, each ended by a byte 0
   --flush          write the line of a file before the next file is mapped [default: when there is much to write]
-  --progress       show how many files are done, if standard error is a terminal [default: no]
 
 Options of map, each, bound, check and types:
   --why            explain why a pickle or a type's name is refused, or what stops a mapping [default: no]
@@ -270,11 +270,6 @@ fn each<'a>(alloc: Global) -> Result<Command<'a>, AllocError> {
         .long("flush")
         .action(ArgAction::SetTrue)
         .help("Write the line of a file before the next file is mapped [default: no]");
-    let progress = Arg::new(alloc, "progress")
-        .long("progress")
-        .action(ArgAction::SetTrue)
-        .help("Show how many files are done, if standard error is a terminal [default: no]")
-        .hide_short_help(true);
     let command = Command::new(alloc, "each")
         .about("Maps a type over many files, one after the other, and prints a line for each")
         .after_long_help(EACH_HELP);
@@ -282,7 +277,6 @@ fn each<'a>(alloc: Global) -> Result<Command<'a>, AllocError> {
     with_style(alloc, command, modes)?
         .arg(why(alloc))?
         .arg(flush)?
-        .arg(progress)?
         .arg(names)?
         .arg(pickle(alloc))?
         .arg(name(alloc))?
@@ -312,7 +306,16 @@ fn with_mapping<'a>(
         .arg(max_output(alloc))?
         .arg(slots(alloc))?
         .arg(get)?
-        .arg(spool(alloc))
+        .arg(spool(alloc))?
+        .arg(progress(alloc))
+}
+
+fn progress<'a>(alloc: Global) -> Arg<'a> {
+    Arg::new(alloc, "progress")
+        .long("progress")
+        .action(ArgAction::SetTrue)
+        .help("Show how much is done, if standard error is a terminal [default: no]")
+        .hide_short_help(true)
 }
 
 // The options of a printed value.
