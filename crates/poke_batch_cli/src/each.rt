@@ -5,6 +5,7 @@ ghost use Rattle.poke_batch.specs.RunsUnder.{IsStoreOf};
 use crate::ending::Ending;
 use crate::file_reasons::{Lengthless, reason_of};
 use crate::files::{FileFault, open_shown};
+use crate::given::{argument, stands_for};
 use crate::mapping::Mapping;
 use crate::mappings::is_mapped;
 use crate::progress::{Counted, Progress};
@@ -24,10 +25,10 @@ use poke_batch::outcome::{Failure, Outcome};
 use poke_batch::status::Status;
 use poke_batch::terms::Terms;
 use poke_batch::write::{WriteFault, put};
-use std::alloc::Global;
+use std::alloc::{AllocError, Global};
 use std::fs::File;
 use std::io::{BufRead, BufReader, ErrorKind, Input, Read, Write};
-use std::rt::{Clock, Files};
+use std::rt::{Clock, Env, Files};
 use thiserror::Error;
 
 /// Why a list of files wasn't finished. It displays as its line.
@@ -55,6 +56,12 @@ impl ListFault {
 
 impl From<Memory> for ListFault {
     fn from(_memory: Memory) -> ListFault {
+        ListFault::Memory
+    }
+}
+
+impl From<AllocError> for ListFault {
+    fn from(_error: AllocError) -> ListFault {
         ListFault::Memory
     }
 }
@@ -160,7 +167,7 @@ impl FileForm {
 
 /// Maps a type over one file after another, and writes a line for each. Ends with the greatest exit status of all.
 pub fn run_each<
-    R: Files<File = File> + Input + Clock + AllocGlobal + Clone + Drop,
+    R: Files<File = File> + Env + Input + Clock + AllocGlobal + Clone + Drop,
     A: Write + Copy,
     O: Write,
 >(
@@ -197,7 +204,7 @@ pub fn run_each<
 }
 
 fn run_files<
-    R: Files<File = File> + Input + Clock + AllocGlobal + Clone + Drop,
+    R: Files<File = File> + Env + Input + Clock + AllocGlobal + Clone + Drop,
     A: Write + Copy,
     O: Write,
 >(
@@ -223,7 +230,7 @@ fn run_files<
 
 // Maps a type over the files that the arguments name.
 fn run_words<
-    R: Files<File = File> + Input + Clock + AllocGlobal + Clone + Drop,
+    R: Files<File = File> + Env + Input + Clock + AllocGlobal + Clone + Drop,
     A: Write + Copy,
     O: Write,
 >(
@@ -238,7 +245,13 @@ fn run_words<
     let mut kept = Kept::new(rt.alloc(), typed.terms.most_slots)?;
     let mut greatest = Status::Done;
     for name in names {
-        let status = run_name(rt, typed, &mut kept, name.as_bytes(), why, out)?;
+        let status = match stands_for(name) {
+            Some(place) => {
+                let bytes = argument(rt, place)?;
+                run_name(rt, typed, &mut kept, &bytes, why, out)?
+            }
+            None => run_name(rt, typed, &mut kept, name.as_bytes(), why, out)?,
+        };
         greatest = greater(greatest, status);
     }
     Ok(greatest)

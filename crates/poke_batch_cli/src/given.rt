@@ -1,5 +1,4 @@
 //! The arguments with which the program was started.
-use poke_batch::words::WordFault;
 use std::alloc::AllocError;
 use std::env::FillError;
 use std::rt::Env;
@@ -7,21 +6,32 @@ use std::rt::Env;
 /// The first size of the buffer for an argument, in bytes.
 const ROOM: usize = 256;
 
-/// The arguments after the program's name.
-pub fn given_words<R: Env + AllocGlobal>(rt: &R) -> Result<Vec<String>, WordFault> {
+/// What begins a word that stands for an argument which isn't UTF-8. No argument has this byte.
+const STAND_IN: char = '\0';
+
+/// The arguments after the program's name. One that isn't UTF-8 is replaced by a word that stands for it.
+pub fn given_words<R: Env + AllocGlobal>(rt: &R) -> Result<Vec<String>, AllocError> {
     let mut words = Vec::new(rt.alloc());
     for place in 1..usize::MAX {
         match word_at(rt, place)? {
-            Some(bytes) => {
-                let word = text_of(rt, place, bytes)?;
-                if words.push(word).is_err() {
-                    return Err(WordFault::Memory);
-                }
-            }
+            Some(bytes) => words.push(text_of(rt, place, bytes)?)?,
             None => break,
         }
     }
     Ok(words)
+}
+
+/// The place of the argument that a word stands for, if it is such a word.
+pub fn stands_for(word: &str) -> Option<usize> {
+    word.strip_prefix(STAND_IN)?.parse().ok()
+}
+
+/// The bytes of the argument at a place. Empty if there is none.
+pub fn argument<R: Env + AllocGlobal>(rt: &R, place: usize) -> Result<Vec<u8>, AllocError> {
+    match word_at(rt, place)? {
+        Some(bytes) => Ok(bytes),
+        None => Ok(Vec::new(rt.alloc())),
+    }
 }
 
 // The bytes of the argument at a place, if there is one.
@@ -42,17 +52,17 @@ fn word_at<R: Env + AllocGlobal>(rt: &R, place: usize) -> Result<Option<Vec<u8>>
     Err(AllocError)
 }
 
-// The text of an argument. The toolchain's paths are text, so an argument that isn't text is of no use.
+// The text of an argument, or the word that stands for it.
 fn text_of<R: Env + AllocGlobal>(
     rt: &R,
     place: usize,
     bytes: Vec<u8>,
-) -> Result<String, WordFault> {
+) -> Result<String, AllocError> {
     match String::from_utf8(bytes) {
         Ok(text) => Ok(text),
         Err(_) => {
-            let told = format!(in rt.alloc(); "error: word {place} is not UTF-8\n")?;
-            Err(WordFault::Usage(told))
+            let word = format!(in rt.alloc(); "{STAND_IN}{place}")?;
+            Ok(word)
         }
     }
 }

@@ -26,7 +26,7 @@ mod with_progress;
 use arrayvec::ArrayVec;
 use command_words::request::{FileNames, Over};
 use ending::Ending;
-use given::given_words;
+use given::{given_words, stands_for};
 use hints::{has_more, hint, takes_why};
 use jobs::do_job;
 use looks::give_look;
@@ -95,7 +95,19 @@ fn read_job(rt: &HostRuntime) -> Result<Asked, WordFault> {
     if words.is_empty() && rt.stdin().is_terminal() {
         show_help(rt.alloc(), &mut rt.stderr())?;
     }
-    let mut asked = read_asked(rt.alloc(), words)?;
+    let unread = words
+        .iter()
+        .filter(|word| stands_for(word).is_some())
+        .count();
+    let first = words.iter().find_map(|word| stands_for(word));
+    let read = read_asked(rt.alloc(), words);
+    if let Some(place) = first {
+        if unread_files(&read) != unread {
+            let text = format!(in rt.alloc(); "error: word {place} is not UTF-8\n")?;
+            return Err(WordFault::Usage(text));
+        }
+    }
+    let mut asked = read?;
     asked.why |= always_explains(rt);
     give_look(rt, &rt.stdout(), &mut asked);
     // What a dump leaves out is told to somebody at a terminal only.
@@ -110,6 +122,29 @@ fn read_job(rt: &HostRuntime) -> Result<Asked, WordFault> {
         return Err(WordFault::Usage(text));
     }
     Ok(asked)
+}
+
+// How many of the files that arguments name have names that aren't UTF-8. Each of them has its own line.
+fn unread_files(read: &Result<Asked, WordFault>) -> usize {
+    let Ok(
+        Asked {
+            job: Job::Request(request),
+            ..
+        },
+    ) = read
+    else {
+        return 0;
+    };
+    match &request.over {
+        Over::Files {
+            names: FileNames::Words(names),
+            ..
+        } => names
+            .iter()
+            .filter(|name| stands_for(name).is_some())
+            .count(),
+        _ => 0,
+    }
 }
 
 // Progress is shown on a terminal only. If the lines of the files are printed there too, each is written before the next
