@@ -289,17 +289,17 @@ fn read_map(alloc: Global, found: &ArgMatches<'_>) -> Result<Job, WordFault>
     let terms = terms_of(alloc, found, Choice::Parts, None)?;
     let spool = spool_of(alloc, found)?;
     let progress = flag_of(found, "progress");
-    let is_plain = spool.is_none() && !progress && has_no_terms(&terms);
     match (start_of(found)?, faults_of(word(found, "faults"))) {
-        (Start::Bit(at), FaultForm::Text) if is_plain => Ok(Job::Map {
-            at,
-            order: order_of(word(found, "endian")),
-            limit: limit_of(alloc, found)?,
-            mode: mode_of(word(found, "mode")),
-            pickle: word_of(alloc, found, "PICKLE")?,
-            name: word_of(alloc, found, "TYPE")?,
-            file: word_of(alloc, found, "FILE")?,
-        }),
+        (Start::Bit(at), FaultForm::Text) if spool.is_none() && !progress && has_no_terms(&terms) =>
+            Ok(Job::Map {
+                at,
+                order: order_of(word(found, "endian")),
+                limit: limit_of(alloc, found)?,
+                mode: mode_of(word(found, "mode")),
+                pickle: word_of(alloc, found, "PICKLE")?,
+                name: word_of(alloc, found, "TYPE")?,
+                file: word_of(alloc, found, "FILE")?,
+            }),
         (start, faults) => Ok(Job::Request(Request {
             start,
             order: order_of(word(found, "endian")),

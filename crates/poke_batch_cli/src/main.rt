@@ -42,7 +42,7 @@ use std::env;
 use std::io::{IsTerminal, Write};
 use std::process::ExitCode;
 use std::rt::Env;
-use usage_reasons::tell_usage;
+use usage_reasons::{put_usage, tell_usage};
 
 /// The usage error for two arguments that are both standard input.
 const INPUT_TWICE: &str =
@@ -67,7 +67,12 @@ fn main(rt: HostRuntime) -> ExitCode {
             (
                 FaultForm::Text,
                 false,
-                tell_words(fault, &mut rt.stdout(), &mut rt.stderr()),
+                tell_words(
+                    fault,
+                    !reason.is_empty(),
+                    &mut rt.stdout(),
+                    &mut rt.stderr(),
+                ),
             )
         }
     };
@@ -224,9 +229,14 @@ fn explain_words(rt: &HostRuntime, fault: &WordFault, reason: &mut Vec<u8>) {
 }
 
 // Ends a run that has no job.
-fn tell_words<O: Write, E: Write>(fault: WordFault, out: &mut O, err: &mut E) -> Ending {
+fn tell_words<O: Write, E: Write>(
+    fault: WordFault,
+    explained: bool,
+    out: &mut O,
+    err: &mut E,
+) -> Ending {
     match fault {
-        WordFault::Usage(text) => match put(err, text.as_bytes()) {
+        WordFault::Usage(text) => match put_usage(&text, explained, err) {
             Ok(()) => Ending::Silent(Status::Refused),
             Err(_) => Ending::Silent(Status::Outside),
         },

@@ -3,7 +3,12 @@ use crate::offset_reasons::tell_signed;
 use crate::reason_text::{add, add_word};
 use command_words::path::{PathFault, read_path};
 use pickle_mistakes::near::nearest;
+use poke_batch::write::{WriteFault, put};
 use std::alloc::{AllocError, Global};
+use std::io::Write;
+
+/// What begins clap's tip to write `--` before a word.
+const TIP: &str = "\n  tip: to pass '";
 
 /// Adds what to write instead of a command that there isn't, a word that is no path, or an offset with a sign, to a text.
 pub fn tell_usage(alloc: Global, words: &[String], text: &mut Vec<u8>) -> Result<(), AllocError> {
@@ -17,6 +22,20 @@ pub fn tell_usage(alloc: Global, words: &[String], text: &mut Vec<u8>) -> Result
         }
     }
     tell_signed(words, text)
+}
+
+/// Writes the message of a usage error. If it is explained, clap's tip to write `--` before a word is left out: the word
+/// would then stand where no such word belongs.
+pub fn put_usage<E: Write>(text: &str, explained: bool, err: &mut E) -> Result<(), WriteFault> {
+    if explained {
+        if let Some((front, tip)) = text.split_once(TIP) {
+            if let Some((_, back)) = tip.split_once('\n') {
+                put(err, front.as_bytes())?;
+                return put(err, back.as_bytes());
+            }
+        }
+    }
+    put(err, text.as_bytes())
 }
 
 // Adds which command has a near name, if the first argument is none.
