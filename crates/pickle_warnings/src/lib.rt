@@ -26,13 +26,13 @@ pub fn warnings(alloc: Global, pickle: &[u8], path: &[u8]) -> Result<Vec<u8>, Al
     ensures { IfOk result (λ text. WarnsOf pickle.now path.now text.items) }
 {
     match accept(alloc, pickle) {
-        Ok(_table) => accepted_text(alloc, pickle, path),
+        Ok(_table) => accepted_warnings(alloc, pickle, path),
         Err(_) => Ok(Vec::new(alloc)),
     }
 }
 
-/// The lines about an accepted pickle.
-fn accepted_text(alloc: Global, pickle: &[u8], path: &[u8]) -> Result<Vec<u8>, AllocError>
+/// What [`warnings`] returns of a pickle that is accepted. It isn't read as types once more.
+pub fn accepted_warnings(alloc: Global, pickle: &[u8], path: &[u8]) -> Result<Vec<u8>, AllocError>
     ensures { IfOk result (λ text. AreNotes pickle.now (called_by path.now) text.items) }
 {
     let called = Text::new(alloc).show(path)?.into_bytes();

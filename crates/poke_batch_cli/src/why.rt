@@ -1,6 +1,6 @@
 //! The reasons of a job, which are printed after its line.
 use pickle_reasons::{explanation, refusal_explanation};
-use pickle_warnings::warnings;
+use pickle_warnings::accepted_warnings;
 use poke_batch::accept::Refusal;
 use poke_batch::status::Status;
 use std::alloc::Global;
@@ -49,7 +49,7 @@ pub fn warn(alloc: Global, why: &mut Why<'_>, status: Status, pickle: &[u8], pat
     if status != Status::Done {
         return;
     }
-    if let Ok(text) = warnings(alloc, pickle, path.as_bytes()) {
+    if let Ok(text) = accepted_warnings(alloc, pickle, path.as_bytes()) {
         *why.text = text;
     }
 }

@@ -1,6 +1,6 @@
 use Rattle.std.proofs.Common.{◌∙◌, ap}
 use Rattle.pickle_warnings.proofs.Notes.{called_is, notes_if}
-use Rattle.pickle_warnings.proofs.accepted_text.Goals as goal
+use Rattle.pickle_warnings.proofs.accepted_warnings.Goals as goal
 
 pub returns : goal.returns
 returns c =
