@@ -152,7 +152,7 @@ static OPENINGS: [Pattern; 25] = [
     },
     Pattern {
         tokens: [b"", b"", b"const", b"", b"", b""],
-        help: "leave out `const`: nothing is written here",
+        help: "there are no constants: write the number where it is used",
     },
     Pattern {
         tokens: [b"", b"", b"volatile", b"", b"", b""],
@@ -221,7 +221,23 @@ static OPENINGS: [Pattern; 25] = [
 ];
 
 /// Tokens in a row, wherever they are.
-static ANYWHERE: [Pattern; 58] = [
+static ANYWHERE: [Pattern; 62] = [
+    Pattern {
+        tokens: [b"INTEGER", b"NUMBER", b"*", b"NUMBER", b">", b""],
+        help: "write the product as one number: the width in bits",
+    },
+    Pattern {
+        tokens: [b",", b"NUMBER", b"*", b"NUMBER", b">", b""],
+        help: "write the product as one number: the unit in bits",
+    },
+    Pattern {
+        tokens: [b"OPEN", b"TYPE", b"RESERVED", b";", b"", b""],
+        help: RESERVED_NAME,
+    },
+    Pattern {
+        tokens: [b"TYPE", b"if", b";", b"", b"", b""],
+        help: "`if` is a word of the language: choose another name for this field",
+    },
     Pattern {
         tokens: [b"APART", b"NAME", b"in", b"[", b"", b","],
         help: "`in` is left out: write `($2 == $5 || $2 == $7)`, and so on",
@@ -456,6 +472,9 @@ static ANYWHERE: [Pattern; 58] = [
     },
 ];
 
+/// What to write for a field whose name is reserved.
+const RESERVED_NAME: &str = "`$3` is a word of the language: choose another name for this field";
+
 /// What to write for a pointer.
 const POINTER: &str =
     "there are no pointers: write the place as an integer, as `uint<32> at;`, and what is there behind it, as `byte x @ at#B;`";
@@ -574,7 +593,11 @@ static OPERANDS: [Pattern; 9] = [
 ];
 
 /// Behind a type or a name, or in the place of one.
-static FORMS: [Pattern; 19] = [
+static FORMS: [Pattern; 20] = [
+    Pattern {
+        tokens: [b"", b"}", b"__attribute__", b"", b"", b""],
+        help: "leave it out: fields stand side by side, without gaps between them",
+    },
     Pattern {
         tokens: [b"", b"NAME", b"=", b"", b";", b""],
         help: "initial values are left out: write the value as a constraint, as `$8 : $2 == $4;`",

@@ -6,7 +6,7 @@ use crate::probe::Probe;
 use crate::search::Clause;
 use crate::sorts::{Sort, say_of_sort, say_sort, sort_of};
 use crate::types::{name_of, unknown_type};
-use pickle_script::script::{Part, Script};
+use pickle_script::script::{Part, Script, cut};
 use pickle_script::site::Purpose;
 use pickle_script::text::Text;
 use pickle_syntax::token::Attribute;
@@ -128,12 +128,7 @@ fn whole(alloc: Global, script: &Script<'_>, clause: &Clause) -> Result<Finding,
     })?;
     let text = say_sort(text, &clause.probe, expression)?;
     let help = match clause.purpose {
-        Purpose::Label => Some(
-            Text::new(alloc)
-                .say(b"write it with a unit, as ")?
-                .quote(with_unit(alloc, script, clause.part)?.as_slice())?
-                .into_bytes(),
-        ),
+        Purpose::Label => Some(label_help(alloc, script, clause.part)?.into_bytes()),
         Purpose::Constraint | Purpose::Condition => Some(
             Text::new(alloc)
                 .say(b"compare it with a value of its type, as in `x == 0` or `x > 0#B`")?
@@ -146,6 +141,21 @@ fn whole(alloc: Global, script: &Script<'_>, clause: &Clause) -> Result<Finding,
         sentence: text.into_bytes(),
         help,
     })
+}
+
+/// What to write for an integer as a label. A `B` at the end of a hexadecimal number is a digit, where a unit may be meant.
+fn label_help(alloc: Global, script: &Script<'_>, part: Part) -> Result<Text, AllocError> {
+    let written = script.slice(part);
+    let text = Text::new(alloc).say(b"write it with a unit, as ")?;
+    match written {
+        [b'0', b'x' | b'X', _, .., b'B' | b'b'] if part.end == part.first.saturating_add(1) => {
+            let front = cut(written, 0, written.len().saturating_sub(1));
+            let meant = Text::new(alloc).say(front)?.say(b"#B")?.into_bytes();
+            text.quote(meant.as_slice())?
+                .say(b": here the `B` is a digit")
+        }
+        _ => text.quote(with_unit(alloc, script, part)?.as_slice()),
+    }
 }
 
 /// An integer with the unit of bytes after it.

@@ -27,7 +27,7 @@ static FOREIGN: [Foreign; 27] = [
         help: "write `uint<8>` or `byte`",
     },
     Foreign {
-        names: b"uint16_t u16 u2 WORD USHORT ushort_t __u16",
+        names: b"uint16_t u16 u2 WORD word USHORT ushort_t __u16",
         help: "write `uint<16>`",
     },
     Foreign {
@@ -51,7 +51,7 @@ static FOREIGN: [Foreign; 27] = [
         help: "write `big int<16>`",
     },
     Foreign {
-        names: b"uint32_t u32 u4 DWORD ULONG __u32",
+        names: b"uint32_t u32 u4 DWORD dword ULONG __u32",
         help: "write `uint<32>`",
     },
     Foreign {
@@ -75,7 +75,7 @@ static FOREIGN: [Foreign; 27] = [
         help: "write `big int<32>`",
     },
     Foreign {
-        names: b"uint64_t u64 QWORD ULONGLONG __u64 size_t usize",
+        names: b"uint64_t u64 QWORD qword ULONGLONG __u64 size_t usize",
         help: "write `uint<64>`",
     },
     Foreign {

@@ -228,9 +228,37 @@ fn help_number(alloc: Global, pickle: &[u8], at: usize) -> Result<Option<Vec<u8>
             "units are `b`, `B` and whole numbers of bits behind `#`: write 4 KiB as `4#8192`"
         }
         [b'0', b'b' | b'B' | b'o' | b'O', ..] => "behind `0b` stand 0 and 1, behind `0o` 0 to 7",
+        [digits @ .., b'B'] if is_unit(pickle, at) => return help_unit(alloc, digits),
         _ => return help_suffix(alloc, word, is_negated(pickle, at)),
     };
     fixed(alloc, help)
+}
+
+/// Whether a number stands where the unit of an offset type does: behind a comma.
+fn is_unit(pickle: &[u8], at: usize) -> bool {
+    let mut before = cut(pickle, 0, at).iter().rev();
+    before.find(|byte| !byte.is_ascii_whitespace()) == Some(&b',')
+}
+
+/// What to write for a unit that is a number of bytes.
+fn help_unit(alloc: Global, digits: &[u8]) -> Result<Option<Vec<u8>>, AllocError> {
+    match str::from_utf8(digits).ok().and_then(bits_in) {
+        Some(bits) => {
+            let text = Text::new(alloc).say(b"a unit is a number of bits: write `")?;
+            let text = text
+                .say_number(bits)?
+                .say(b"` for ")?
+                .say(digits)?
+                .say(b" bytes")?;
+            Ok(Some(text.into_bytes()))
+        }
+        None => fixed(alloc, "a unit is a number of bits, `b` or `B`"),
+    }
+}
+
+/// The bits of a number of bytes, in decimal digits.
+fn bits_in(bytes: &str) -> Option<usize> {
+    bytes.parse::<usize>().ok()?.checked_mul(8)
 }
 
 /// Whether a minus sign stands before a number.

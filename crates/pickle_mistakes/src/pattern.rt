@@ -1,5 +1,6 @@
 //! Tokens in a row at which no pickle can go on, and sentences that have these tokens in them.
 
+use crate::types::is_predeclared;
 use pickle_script::script::{Part, Script, cut};
 use pickle_script::text::Text;
 use std::alloc::AllocError;
@@ -11,7 +12,7 @@ const MOST_SHOWN: usize = 64;
 #[derive(Clone, Copy)]
 pub struct Pattern {
     /// Two tokens before the refused one, the refused one, and three behind it. An empty one is any token. A word in
-    /// capitals is any token of a kind: `NAME`, `NUMBER`, `INTEGER`, `ORDER`, `RESERVED`, `OPEN`, `APART`.
+    /// capitals is any token of a kind: `NAME`, `TYPE`, `NUMBER`, `INTEGER`, `ORDER`, `RESERVED`, `OPEN`, `APART`.
     pub tokens: [&'static [u8]; 6],
     /// The sentence. `$` and a digit stand for a part of the pickle: `$1` to `$6` for the six tokens, `$7` for the one
     /// behind them, `$0` for the second of the declaration or field. `$8` is the declaration or field up to the refused
@@ -69,6 +70,7 @@ impl<'a, 't> Around<'a, 't> {
         let text = self.script.text(token);
         match word {
             b"NAME" => self.script.is_name(token),
+            b"TYPE" => is_predeclared(text),
             b"NUMBER" => self.script.is_number(token),
             b"INTEGER" => matches!(text, b"int<" | b"uint<"),
             b"ORDER" => matches!(text, b"big" | b"little"),

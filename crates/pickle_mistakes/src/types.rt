@@ -347,9 +347,59 @@ fn near_type(
     if is_own(script, name) {
         return Ok(Some(Text::new(alloc).say(b"a type doesn't contain itself")?));
     }
+    if let Some(width) = Width::of(script.slice(name)) {
+        return Ok(Some(width.help(alloc)?));
+    }
     match nearest(alloc, script.slice(name), known)? {
         Some(near) => Ok(Some(Text::new(alloc).say(b"is ")?.quote(near)?.say(b" meant?")?)),
         None => Ok(None),
+    }
+}
+
+/// An integer type that is named as in other languages: `uint12`, `INT24`, `u48`.
+#[derive(Clone, Copy)]
+struct Width {
+    signed: bool,
+    bits: u64,
+}
+
+impl Width {
+    /// The type that a word names so.
+    fn of(word: &[u8]) -> Option<Width> {
+        let first = word.iter().position(|byte| byte.is_ascii_digit())?;
+        let signed = match cut(word, 0, first) {
+            b"uint" | b"unit" | b"Uint" | b"UInt" | b"UINT" | b"u" | b"U" => false,
+            b"int" | b"Int" | b"INT" | b"i" | b"s" => true,
+            _ => return None,
+        };
+        let digits = str::from_utf8(cut(word, first, word.len())).ok()?;
+        Some(Width {
+            signed,
+            bits: digits.parse().ok()?,
+        })
+    }
+
+    /// What to write for it. An integer of more than 64 bits is bytes.
+    fn help(self, alloc: Global) -> Result<Text, AllocError> {
+        let text = Text::new(alloc);
+        match self.bits {
+            1..=64 => {
+                let front = if self.signed {
+                    b"int<".as_slice()
+                } else {
+                    b"uint<".as_slice()
+                };
+                text.say(b"write `")?
+                    .say(front)?
+                    .say_number(self.bits as usize)?
+                    .say(b">`")
+            }
+            bits if bits % 8 == 0 && bits != 0 => text
+                .say(b"an integer has at most 64 bits: write `byte[")?
+                .say_number((bits / 8) as usize)?
+                .say(b"]`"),
+            _ => text.say(b"an integer has 1 to 64 bits, as `uint<12>`"),
+        }
     }
 }
 
@@ -378,6 +428,11 @@ const PREDECLARED: [&[u8]; 18] = [
     b"bit", b"nibble", b"byte", b"char", b"short", b"ushort", b"int", b"uint", b"long", b"ulong",
     b"int8", b"int16", b"int32", b"int64", b"uint8", b"uint16", b"uint32", b"uint64",
 ];
+
+/// Whether a word is the name of a predeclared type.
+pub fn is_predeclared(word: &[u8]) -> bool {
+    PREDECLARED.iter().any(|name| *name == word)
+}
 
 /// What is wrong with a field as a whole.
 fn of_field(
