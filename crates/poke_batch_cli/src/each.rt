@@ -115,23 +115,18 @@ pub struct EachOptions<'a> {
     pub faults: FaultForm,
     /// Whether the line of a file is written before the next file is mapped.
     pub flush: bool,
-    /// Whether standard error shows how many files are done.
-    pub progress: bool,
 }
 
-impl EachOptions<'_> {
-    /// How many files are done before the first of them, if that is shown.
-    pub fn progress_over(&self, files: &FileNames) -> Option<Progress> {
-        if !self.progress {
-            return None;
-        }
-        match files {
-            FileNames::Words(names) => {
-                Some(Progress::new(Counted::Files, Some(names.len() as u64)))
-            }
-            FileNames::EndedByZero(_) => Some(Progress::new(Counted::Files, None)),
-        }
+/// How many files are done before the first of them, if a mapping shows that.
+pub fn progress_over(mapping: &Mapping<'_>, files: &FileNames) -> Option<Progress> {
+    if !mapping.progress {
+        return None;
     }
+    let total = match files {
+        FileNames::Words(names) => Some(names.len() as u64),
+        FileNames::EndedByZero(_) => None,
+    };
+    Some(Progress::new(Counted::Files, total))
 }
 
 /// What the mapping of every file uses.

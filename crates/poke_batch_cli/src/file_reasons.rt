@@ -36,7 +36,20 @@ pub fn tell_unopened<R: Files<File = File>>(
 ) -> Result<(), AllocError> {
     add(text, &["  "])?;
     add_word(text, path)?;
-    add(text, &[": ", reason_of(rt, path, lengthless), "\n"])
+    add(text, &[": ", reason_of(rt, path, lengthless), "\n"])?;
+    match (path, lengthless) {
+        ("-", Lengthless::Refuses) => Ok(()),
+        ("-", _) => add(
+            text,
+            &["  standard input is /dev/stdin, with --spool BYTES\n"],
+        ),
+        _ => Ok(()),
+    }
+}
+
+/// Whether there is a file of any kind at a path.
+pub fn is_there<R: Files<File = File>>(rt: &R, path: &str) -> bool {
+    fs::metadata(rt, path).is_ok()
 }
 
 /// What is wrong with the file at a path that couldn't be opened.

@@ -47,6 +47,14 @@ fn put_format<O: Write>(out: &mut O, name: &[u8], head: Head<'_>) -> Result<(), 
     put(out, b"\n")
 }
 
+/// Whether the head of a pickle has the option for files in little-endian order.
+pub fn wants_little(pickle: &[u8]) -> bool {
+    match str::from_utf8(head_of(b"", pickle).options) {
+        Ok(options) => options.contains("--endian little"),
+        Err(_) => false,
+    }
+}
+
 // The head of the pickle with a name.
 fn head_of<'a>(name: &[u8], pickle: &'a [u8]) -> Head<'a> {
     let (first, rest) = line_of(pickle);

@@ -113,6 +113,26 @@ pub fn tell_missing<R: Files + Env + AllocGlobal + Clone + Drop>(
     Ok(tell_near(rt.alloc(), name, &names, text)?)
 }
 
+/// If a path names no file, but with a `+` before it an installed pickle, adds that.
+pub fn tell_installed<R: Files + Env + AllocGlobal>(
+    rt: &R,
+    path: &str,
+    text: &mut Vec<u8>,
+) -> Result<(), FileFault> {
+    let mut word = String::from_str(rt.alloc(), "+")?;
+    word.push_str(path)?;
+    if fs::metadata(rt, path).is_ok() || !names_installed(word.as_str()) {
+        return Ok(());
+    }
+    let installed = pickle_path(rt, word.as_str())?;
+    if fs::metadata(rt, installed.as_str()).is_ok() {
+        for part in ["  is ", word.as_str(), " meant?\n"] {
+            text.extend_from_slice(part.as_bytes())?;
+        }
+    }
+    Ok(())
+}
+
 fn tell_place(folder: &str, name: &str, text: &mut Vec<u8>) -> Result<(), AllocError> {
     for part in ["  there is no file ", folder, "/", name, ENDING, "\n"] {
         text.extend_from_slice(part.as_bytes())?;

@@ -2,13 +2,14 @@
 use crate::answers::{check_in_json, report_in_json, types_in_json};
 use crate::dumps::{Range, dump_file};
 use crate::ending::Ending;
-use crate::file_reasons::{Lengthless, tell_unopened};
+use crate::file_reasons::{Lengthless, is_there, tell_unopened};
 use crate::files::FileFault;
 use crate::formats::list_formats;
-use crate::installed::{names_installed, tell_missing};
+use crate::installed::{names_installed, tell_installed, tell_missing};
 use crate::mapping::Mapping;
 use crate::mappings::{map_file, run_request};
 use crate::pickles::{bound_text, bound_type, check_pickle, tell_types};
+use crate::reason_text::{add, add_word};
 use crate::why::Why;
 use crate::with_progress::ClearedWriter;
 use bit_space::OpenFault;
@@ -19,6 +20,7 @@ use poke_batch::pickle::PickleFault;
 use poke_batch::status::Status;
 use poke_batch::terms::Terms;
 use poke_batch::words::{Asked, Job};
+use std::alloc::AllocError;
 use std::fs::File;
 use std::io::{BufWriter, Input, Write};
 use std::rt::{Clock, Env, Files};
@@ -96,15 +98,31 @@ fn explain_fault<R: Files<File = File> + Env + AllocGlobal + Clone + Drop>(
     let told = match fault {
         FileFault::Pickle(PickleFault::Read) => tell_unread(rt, pickle_of(job), why.text),
         FileFault::Space(OpenFault::NotOpened) => match file_of(job) {
-            Some(path) => tell_unopened(rt, path, lengthless_of(job), why.text).map_err(
-                FileFault::from,
-            ),
+            Some(path) => tell_file(rt, job, path, why.text).map_err(FileFault::from),
             None => Ok(()),
         },
         _ => Ok(()),
     };
     if told.is_err() {
         why.text.clear();
+    }
+}
+
+// Adds why the file of a job wasn't opened, and which arguments may be swapped.
+fn tell_file<R: Files<File = File>>(
+    rt: &R,
+    job: &Job,
+    path: &str,
+    text: &mut Vec<u8>,
+) -> Result<(), AllocError> {
+    tell_unopened(rt, path, lengthless_of(job), text)?;
+    match type_of(job) {
+        Some(name) if is_there(rt, name) && !is_there(rt, path) => {
+            add(text, &["  "])?;
+            add_word(text, name)?;
+            add(text, &[" is a file: are TYPE and FILE swapped?\n"])
+        }
+        _ => Ok(()),
     }
 }
 
@@ -117,7 +135,10 @@ fn tell_unread<R: Files<File = File> + Env + AllocGlobal + Clone + Drop>(
     match word {
         Some("-") | None => Ok(()),
         Some(word) if names_installed(word) => tell_missing(rt, word, text),
-        Some(word) => Ok(tell_unopened(rt, word, Lengthless::Reads, text)?),
+        Some(word) => {
+            tell_unopened(rt, word, Lengthless::Reads, text)?;
+            tell_installed(rt, word, text)
+        }
     }
 }
 
@@ -150,6 +171,14 @@ fn lengthless_of(job: &Job) -> Lengthless {
         Job::Request(request) => Lengthless::with_spool(request.spool),
         Job::Map { .. } => Lengthless::NeedsSpool,
         _ => Lengthless::Refuses,
+    }
+}
+
+// The argument that names the type of a job over a file, if it has one.
+fn type_of(job: &Job) -> Option<&str> {
+    match job {
+        Job::Map { name, .. } | Job::Request(Request { name, .. }) => Some(name.as_str()),
+        _ => None,
     }
 }
 
@@ -188,17 +217,7 @@ fn run_job<
             file,
         } => {
             let mapping = Mapping::from_bit(name, *at, *order, *limit, *mode);
-            map_file(
-                rt,
-                pickle,
-                file,
-                &mapping,
-                &Terms::none(),
-                false,
-                out,
-                *aside,
-                why,
-            )?
+            map_file(rt, pickle, file, &mapping, &Terms::none(), out, *aside, why)?
         }
         Job::Request(request) => return run_request(rt, request, out, aside, why),
         Job::Bound { pickle, name, bits } => {

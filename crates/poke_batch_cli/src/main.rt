@@ -66,7 +66,7 @@ fn main(rt: HostRuntime) -> ExitCode {
             explain_words(&rt, &fault, &mut reason);
             (
                 FaultForm::Text,
-                false,
+                reason.is_empty() && maps(&rt),
                 tell_words(
                     fault,
                     !reason.is_empty(),
@@ -206,6 +206,17 @@ fn show_help<E: Write>(alloc: Global, err: &mut E) -> Result<(), AllocError> {
             Ok(())
         }
         _ => Err(AllocError),
+    }
+}
+
+// Whether the arguments request a mapping by a command that has `--why`.
+fn maps(rt: &HostRuntime) -> bool {
+    match given_words(rt) {
+        Ok(words) => match words.first() {
+            Some(first) => matches!(first.as_str(), "map" | "each"),
+            None => false,
+        },
+        Err(_) => false,
     }
 }
 

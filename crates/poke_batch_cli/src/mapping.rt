@@ -1,5 +1,5 @@
 //! What a job gives to the mapping of a file.
-ghost use Rattle.std.specs.Prelude.{◌≡◌, None};
+ghost use Rattle.std.specs.Prelude.{◌≡◌, None, false};
 
 use bit_space::{Order, Space};
 use command_words::start::Start;
@@ -18,6 +18,8 @@ pub struct Mapping<'a> {
     pub mode: Mode,
     /// The most bytes of a file without a length that are read into memory. `None` opens no such file.
     pub spool: Option<u64>,
+    /// Whether a terminal shows how much is done.
+    pub progress: bool,
 }
 
 impl<'a> Mapping<'a> {
@@ -25,7 +27,7 @@ impl<'a> Mapping<'a> {
     pub fn from_bit(name: &'a str, at: u64, order: Order, limit: u64, mode: Mode) -> Mapping<'a>
         ensures name { result.name.now ≡ name.now }
         ensures start { result.start ≡ Start.Bit at }
-        ensures options { (result.order ≡ order) × (result.limit ≡ limit) × (result.mode ≡ mode) × (result.spool ≡ None) }
+        ensures options { (result.order ≡ order) × (result.limit ≡ limit) × (result.mode ≡ mode) × (result.spool ≡ None) × (result.progress ≡ false) }
     {
         Mapping {
             name: name.as_bytes(),
@@ -34,6 +36,7 @@ impl<'a> Mapping<'a> {
             limit,
             mode,
             spool: None,
+            progress: false,
         }
     }
 

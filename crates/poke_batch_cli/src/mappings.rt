@@ -3,13 +3,14 @@ ghost use Rattle.std.specs.Prelude.{◌≡◌, string_bytes};
 ghost use Rattle.command_words.specs.declared.fault_form.FaultForm.{FaultForm};
 ghost use Rattle.text_forms.specs.declared.mode.Mode.{Mode};
 
-use crate::each::{EachOptions, WhyFiles, run_each};
+use crate::each::{EachOptions, WhyFiles, progress_over, run_each};
 use crate::ending::Ending;
 use crate::files::{FileFault, open_shown, read_pickle_of};
+use crate::formats::wants_little;
 use crate::installed::pickle_path;
 use crate::mapping::Mapping;
 use crate::why::{Why, explain};
-use bit_space::Space;
+use bit_space::{Order, Space};
 use command_words::request::{FileNames, Form, Over, Request};
 use command_words::start::Start;
 use mapping_reasons::reasons;
@@ -48,8 +49,7 @@ pub fn run_request<
     } = request;
     match over {
         Over::File(file) => {
-            let shows = request.progress;
-            let outcome = map_file(rt, pickle, file, mapping, terms, shows, out, *aside, why)?;
+            let outcome = map_file(rt, pickle, file, mapping, terms, out, *aside, why)?;
             Ok(Ending::Run(outcome))
         }
         Over::Files { names, flush } => {
@@ -57,7 +57,6 @@ pub fn run_request<
                 terms,
                 faults: request.faults(),
                 flush: *flush,
-                progress: request.progress,
             };
             map_files(rt, pickle, names, mapping, options, out, aside, why)
         }
@@ -68,7 +67,7 @@ pub fn run_request<
 fn mapping_of(request: &Request) -> Mapping<'_>
     ensures name { result.name.now ≡ string_bytes request.now.name }
     ensures start { result.start ≡ request.now.start }
-    ensures options { (result.order ≡ request.now.order) × (result.limit ≡ request.now.limit) × (result.spool ≡ request.now.spool) }
+    ensures options { (result.order ≡ request.now.order) × (result.limit ≡ request.now.limit) × (result.spool ≡ request.now.spool) × (result.progress ≡ request.now.progress) }
     ensures mode { (mode : Mode) (faults : FaultForm) → request.now.form ≡ Form.Printed mode faults → result.mode ≡ mode }
 {
     let mode = match request.form {
@@ -82,10 +81,11 @@ fn mapping_of(request: &Request) -> Mapping<'_>
         limit: request.limit,
         mode,
         spool: request.spool,
+        progress: request.progress,
     }
 }
 
-/// Maps a type of the pickle at one path over the file at another. If `shows`, `err` shows how far the file was read.
+/// Maps a type of the pickle at one path over the file at another. `err` may show how far the file was read.
 pub fn map_file<
     R: Files<File = File> + Env + Input + Clock + AllocGlobal + Clone + Drop,
     O: Write,
@@ -96,14 +96,13 @@ pub fn map_file<
     file: &str,
     mapping: &Mapping<'_>,
     terms: &Terms,
-    shows: bool,
     out: &mut O,
     err: E,
     why: &mut Why<'_>,
 ) -> Result<Outcome, FileFault> {
     let path = &pickle_path(rt, path)?;
     let pickle = read_pickle_of(rt, path)?;
-    let mut space = open_shown(rt, file, mapping.spool, shows, err)?;
+    let mut space = open_shown(rt, file, mapping.spool, mapping.progress, err)?;
     let Some(ask) = &mapping.ask_in(&space) else {
         tell_start(rt.alloc(), why, mapping.start, space.len());
         return Ok(Outcome::Offset);
@@ -119,19 +118,24 @@ pub fn map_file<
             let _shown = put(out, reasons.met.as_slice());
         }
     }
-    if why.asked && status == Status::Fault && file.ends_with(PICKLE_ENDING) {
-        tell_swapped(why.text);
+    if why.asked && status == Status::Fault {
+        if file.ends_with(PICKLE_ENDING) {
+            tell(
+                why.text,
+                b"  FILE ends in .pk: are PICKLE and FILE swapped?\n",
+            );
+        }
+        if mapping.order == Order::Big && wants_little(&pickle) {
+            tell(why.text, b"  the pickle's head says: --endian little\n");
+        }
     }
     Ok(outcome)
 }
 
-// Asks whether the file is meant to be the pickle. If an allocation fails the question is left out.
-fn tell_swapped(text: &mut Vec<u8>) {
+// Adds a line to the reasons. If an allocation fails it is left out.
+fn tell(text: &mut Vec<u8>, line: &[u8]) {
     let told = text.len();
-    if text
-        .extend_from_slice(b"  FILE ends in .pk: are PICKLE and FILE swapped?\n")
-        .is_err()
-    {
+    if text.extend_from_slice(line).is_err() {
         text.truncate(told);
     }
 }
@@ -171,7 +175,7 @@ fn map_files<
         aside,
         path: path.as_bytes(),
         asked: why.asked,
-        progress: options.progress_over(files),
+        progress: progress_over(mapping, files),
     };
     let ending = run_each(rt, &pickle, mapping, options, files, &mut why_files, out);
     let status = ending.status();

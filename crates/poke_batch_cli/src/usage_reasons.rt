@@ -2,6 +2,7 @@
 use crate::offset_reasons::tell_signed;
 use crate::reason_text::{add, add_word};
 use command_words::path::{PathFault, read_path};
+use command_words::pattern::read_pattern;
 use pickle_mistakes::near::nearest;
 use poke_batch::write::{WriteFault, put};
 use std::alloc::{AllocError, Global};
@@ -15,10 +16,14 @@ pub fn tell_usage(alloc: Global, words: &[String], text: &mut Vec<u8>) -> Result
     if let Some(first) = words.first() {
         tell_command(alloc, first.as_str(), text)?;
     }
+    let patterns = takes_patterns(words);
     for (place, word) in words.iter().enumerate() {
         let next = words.get(place.saturating_add(1));
         if let Some(path) = path_in(word.as_str(), next) {
-            tell_path(alloc, path, text)?;
+            tell_path(alloc, path, patterns, text)?;
+        }
+        if word.as_str() == "--json" {
+            add(text, &["  --json: write --mode json\n"])?;
         }
     }
     tell_signed(words, text)
@@ -64,27 +69,47 @@ fn path_in<'a>(word: &'a str, next: Option<&'a String>) -> Option<&'a str> {
     rest.strip_prefix('=')
 }
 
-// Adds the form of a path, if a word isn't one.
-fn tell_path(alloc: Global, word: &str, text: &mut Vec<u8>) -> Result<(), AllocError> {
-    if !is_no_path(alloc, word)? {
+// Whether `--get` takes a pattern: that of `map`, unless it is the column of a row.
+fn takes_patterns(words: &[String]) -> bool {
+    let maps = words.first().is_some_and(|word| word.as_str() == "map");
+    maps && !words.iter().any(|word| word.starts_with("--rows"))
+}
+
+// Adds the form of a path or pattern, if a word isn't one.
+fn tell_path(
+    alloc: Global,
+    word: &str,
+    patterns: bool,
+    text: &mut Vec<u8>,
+) -> Result<(), AllocError> {
+    if !is_no_path(alloc, word, patterns)? {
         return Ok(());
     }
     add(text, &["  --get "])?;
     add_word(text, word)?;
     add(text, &[": a path is . or steps of .name, .0 and [0]"])?;
+    if patterns {
+        add(text, &[", or for many parts [*], [2:5] and .*"])?;
+    }
     let mut dotted = String::from_str(alloc, ".")?;
     dotted.push_str(word)?;
-    if !is_no_path(alloc, dotted.as_str())? {
+    if !is_no_path(alloc, dotted.as_str(), patterns)? {
         add(text, &["; write ", dotted.as_str()])?;
     }
     add(text, &["\n"])
 }
 
-// Whether a word hasn't the form of a path.
-fn is_no_path(alloc: Global, word: &str) -> Result<bool, AllocError> {
-    match read_path(alloc, word.as_bytes()) {
-        Ok(_) => Ok(false),
-        Err(PathFault::Form) => Ok(true),
-        Err(PathFault::Memory) => Err(AllocError),
+// Whether a word hasn't the form of a path or, if that may stand there, of a pattern.
+fn is_no_path(alloc: Global, word: &str, patterns: bool) -> Result<bool, AllocError> {
+    let word = word.as_bytes();
+    let fault = if patterns {
+        read_pattern(alloc, word).err()
+    } else {
+        read_path(alloc, word).err()
+    };
+    match fault {
+        None => Ok(false),
+        Some(PathFault::Form) => Ok(true),
+        Some(PathFault::Memory) => Err(AllocError),
     }
 }
