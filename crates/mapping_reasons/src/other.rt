@@ -12,10 +12,14 @@ use pickle_map::{MapFault, MapFaultKind, Store, map};
 use pickle_types::table::{Table, TypeId};
 use poke_batch::ask::Ask;
 
-/// The most steps that the mapping in the other byte order takes. They suffice for the first number.
+/// The most steps that the mapping in the other byte order takes. They suffice for the first bits.
 const FEW_STEPS: u64 = 4096;
 
-/// The other byte order, if a type's fault is the constraint of its first number, and that holds in the other one.
+/// How many bits behind a mapping's start are its first ones: those of a file's head.
+const FIRST_BITS: u128 = 2048;
+
+/// The other byte order, if a type's fault is a constraint in the first bits, and the mapping goes on behind it in the
+/// other one.
 pub fn other_order<S: Space>(
     table: &Table,
     id: TypeId,
@@ -29,8 +33,7 @@ pub fn other_order<S: Space>(
     requires empty { store.old ≡ emptied store.old }
     ensures keeps { Keeps (S.view space.old) (S.view space.new) }
 {
-    let is_first = fault.at == u128::from(ask.start) && part.way.is_first(table.nodes(), 0);
-    if !is_first || !is_constraint(&part.cause) {
+    if !is_early(fault, ask.start) || !is_constraint(&part.cause) {
         return None;
     }
     let order = opposite(ask.order);
@@ -42,10 +45,19 @@ pub fn other_order<S: Space>(
     }
 }
 
-/// Whether a constraint isn't met.
+/// Whether a fault is in the first bits from a mapping's start on.
+fn is_early(fault: MapFault, start: u64) -> bool {
+    match fault.at.checked_sub(u128::from(start)) {
+        Some(behind) => behind < FIRST_BITS,
+        None => false,
+    }
+}
+
+/// Whether a constraint isn't met, or those of all alternatives.
 fn is_constraint(cause: &Cause) -> bool {
     match cause {
         Cause::Expression(Blamed { clause, .. }) => matches!(clause, Clause::Constraint),
+        Cause::NoneFits(_) => true,
         _ => false,
     }
 }
