@@ -43,7 +43,8 @@ fn without_zeros(digits: &[u8]) -> &[u8] {
     }
 }
 
-/// The note about a mask without brackets in a comparison, as `flags & 1 == 1`.
+/// The note about operators that group otherwise than they seem to: a mask without brackets in a comparison, as
+/// `flags & 1 == 1`, a comparison of a comparison, as `1 <= n <= 9`, and a number beside one, as `n == 1 || 2`.
 pub fn wrong_grouping(seen: &Seen<'_, '_>, node: Node<'_, '_>) -> Result<Option<Note>, AllocError> {
     let mut left = Vec::new(seen.alloc);
     left.push(node)?;
@@ -52,7 +53,7 @@ pub fn wrong_grouping(seen: &Seen<'_, '_>, node: Node<'_, '_>) -> Result<Option<
             return Ok(None);
         };
         if let Expression::Infix(operation) = node.expression {
-            if let Some(note) = mask_note(seen, node, operation)? {
+            if let Some(note) = operation_note(seen, node, operation)? {
                 return Ok(Some(note));
             }
         }
@@ -61,6 +62,110 @@ pub fn wrong_grouping(seen: &Seen<'_, '_>, node: Node<'_, '_>) -> Result<Option<
         }
     }
     Ok(None)
+}
+
+/// The note about an operation, if there is one.
+fn operation_note(
+    seen: &Seen<'_, '_>,
+    node: Node<'_, '_>,
+    operation: &Operation<'_>,
+) -> Result<Option<Note>, AllocError> {
+    if let Some(note) = mask_note(seen, node, operation)? {
+        return Ok(Some(note));
+    }
+    if let Some(note) = chain_note(seen, node, operation)? {
+        return Ok(Some(note));
+    }
+    choice_note(seen, node, operation)
+}
+
+/// The note about an operation, if it compares the outcome of a comparison.
+fn chain_note(
+    seen: &Seen<'_, '_>,
+    node: Node<'_, '_>,
+    operation: &Operation<'_>,
+) -> Result<Option<Note>, AllocError> {
+    if !is_ordering(operation.op) {
+        return Ok(None);
+    }
+    let Expression::Infix(inner) = &operation.left else {
+        return Ok(None);
+    };
+    if !is_ordering(inner.op) {
+        return Ok(None);
+    }
+    let script = seen.script;
+    let whole = node.part();
+    let (left, right) = sides(node.first, operation);
+    let (_, middle) = sides(node.first, inner);
+    let sign = Part {
+        first: left.part().end,
+        end: right.first,
+    };
+    let sentence = Text::new(seen.alloc)
+        .quote(script.slice(whole))?
+        .say(b" compares the outcome of ")?
+        .quote(script.slice(left.part()))?
+        .say(b", which is 0 or 1")?;
+    let help = Text::new(seen.alloc)
+        .say(b"write `")?
+        .show(script.slice(left.part()))?
+        .say(b" && ")?
+        .show(script.slice(middle.part()))?
+        .say(b" ")?
+        .show(script.slice(sign))?
+        .say(b" ")?
+        .show(script.slice(right.part()))?
+        .say(b"`")?;
+    Ok(Some(note_about(script, whole, sentence, help)))
+}
+
+/// The note about an operation, if it is a comparison or a number that isn't 0.
+fn choice_note(
+    seen: &Seen<'_, '_>,
+    node: Node<'_, '_>,
+    operation: &Operation<'_>,
+) -> Result<Option<Note>, AllocError> {
+    let Expression::Infix(compared) = &operation.left else {
+        return Ok(None);
+    };
+    let joins = matches!(operation.op, Infix::LogicalOr | Infix::BitOr);
+    if !joins || compared.op != Infix::Equal || !is_true(&operation.right) {
+        return Ok(None);
+    }
+    let script = seen.script;
+    let whole = node.part();
+    let (_, number) = sides(node.first, operation);
+    let (left, value) = sides(node.first, compared);
+    let sentence = Text::new(seen.alloc)
+        .quote(script.slice(whole))?
+        .say(b" always holds: ")?
+        .quote(script.slice(number.part()))?
+        .say(b" is compared with nothing")?;
+    let help = Text::new(seen.alloc)
+        .say(b"write `")?
+        .show(script.slice(left.part()))?
+        .say(b" == ")?
+        .show(script.slice(value.part()))?
+        .say(b" || ")?
+        .show(script.slice(left.part()))?
+        .say(b" == ")?
+        .show(script.slice(number.part()))?
+        .say(b"`")?;
+    Ok(Some(note_about(script, whole, sentence, help)))
+}
+
+/// Whether an expression is a number that isn't 0.
+fn is_true(expression: &Expression<'_>) -> bool {
+    match expression {
+        Expression::Number(number) => number.value != 0,
+        _ => false,
+    }
+}
+
+/// Whether an operator compares by size.
+fn is_ordering(op: Infix) -> bool {
+    is_comparing(op) && op != Infix::Equal && op != Infix::NotEqual
 }
 
 /// The note about an operation, if it is a mask of a comparison with a number.
