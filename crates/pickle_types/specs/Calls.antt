@@ -9,6 +9,7 @@ use Rattle.pickle_types.specs.declared.node.Shape.{Shape}
 use Rattle.pickle_types.specs.declared.scopes.Seen.{Seen}
 use Rattle.pickle_types.specs.declared.check.places.Place.{Place}
 use Rattle.pickle_types.specs.declared.check.field_list.FieldList.{FieldList}
+use Rattle.pickle_types.specs.declared.check.expressions.Context.{Context}
 use Rattle.pickle_types.specs.declared.check.builder.Builder.{Builder}
 use Rattle.pickle_types.specs.declared.check.builder.Found.{Found}
 use Rattle.pickle_types.specs.declared.check.builder.Title.{Title}
@@ -41,6 +42,9 @@ SelectsField shape place result =
 -- what an expression means among these types, where these fields are visible
 abbrev pub typed_among : List Node → Known → List Seen → (levels : ℕ) → Tree → Result Meant FaultKind
 typed_among nodes names seen levels e = typed (names_of nodes names) (views_of nodes seen) levels e
+
+abbrev pub typed_in : Context → Tree → Result Meant FaultKind
+typed_in c e = typed_among c.nodes.now c.names.now c.seen.now c.levels e
 
 -- what a field's constraint means; it sees the field itself
 abbrev pub constraint_meaning : Builder → (itself : Seen) → Option Tree → Result (Option Term) FaultKind

@@ -21,6 +21,7 @@ pub mod Built
 pub mod Props
 pub mod Building
 pub mod Calls
+pub mod Sites
 pub mod Holds
 pub mod TypeTable
 pub mod NodeParts

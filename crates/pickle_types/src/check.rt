@@ -9,4 +9,6 @@ pub mod nodes;
 pub mod operators;
 pub mod places;
 pub mod references;
+pub mod site;
 pub mod sorts;
+pub mod trail;

@@ -16,6 +16,7 @@ pub(crate) mod node;
 pub(crate) mod number_hasher;
 pub(crate) mod places_by_name;
 pub mod predeclared;
+pub mod refused;
 pub mod scopes;
 pub mod table;
 pub mod view;

@@ -58,6 +58,11 @@ impl<'n> ManyFields<'n> {
         self.entries.len()
     }
 
+    /// The name of the field at a place, the outermost first. `None` if it has none.
+    pub fn name_at(&self, place: usize) -> Option<&'n [u8]> {
+        self.entries.get(place)?.field.name
+    }
+
     /// The innermost field of that name.
     pub fn resolve(&self, word: &[u8]) -> Option<Seen<'n>>
         ensures found { (nodes : List Node) → IsResolved nodes result (resolve word.now (views_of nodes self.now)) }

@@ -92,6 +92,14 @@ impl<'n> Scopes<'n> {
         }
     }
 
+    /// The name of the field at a place, the outermost first. `None` if it has none.
+    pub fn name_at(&self, place: usize) -> Option<&'n [u8]> {
+        match self.few.get(place) {
+            Some(field) => field.name,
+            None => self.many.name_at(place.saturating_sub(self.few.len())),
+        }
+    }
+
     /// Appends a field. It hides those of its name.
     pub fn push(&mut self, field: Seen<'n>) -> Result<(), FaultKind>
         ensures ok { OnOk result (self.new ≡ self.old ++ field.entry ∷ []) }

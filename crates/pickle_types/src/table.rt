@@ -60,6 +60,7 @@ impl Table {
             names,
             nodes,
             seen: _,
+            site: _,
         } = builder;
         let list = names.into_list(alloc)?;
         Ok(Table {

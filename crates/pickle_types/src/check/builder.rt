@@ -16,17 +16,19 @@ ghost use Rattle.pickle_types.specs.FieldLists.{IsFieldList};
 ghost use Rattle.pickle_types.specs.Building.{known_types, visible_in, after_itself, IsReady, named_types, may_add, Builds, HasRoom, AddsAtMost};
 ghost use Rattle.pickle_types.specs.Calls.{constraint_meaning, BuildsForm, AddsField, BuildsField, BuildsFields, AddsDeclaration};
 
-use crate::check::expressions::{integer, typed};
+use crate::check::expressions::{Context, integer, typed};
 use crate::check::field_list::{FieldList, FieldPlaces};
 use crate::check::fields::{
-    condition_in, constraint_in, copied, form_in, fresh, label_in, name_in, order_in, parts_from,
-    place_in, stand, struct_place, total_width,
+    condition_in, constraint_in, copied, form_in, fresh, label_in, lent, name_in, order_in,
+    parts_from, place_in, stand, struct_place, total_width,
 };
 use crate::check::nodes::Nodes;
 use crate::check::operators::Scalar;
 use crate::check::places::Place;
 use crate::check::references::{in_range, integer_referred, offset_parts};
+use crate::check::site::{RefusedPart, Site, Step, refused_in};
 use crate::check::sorts::{has_width, operand_of, predeclared_node};
+use crate::check::trail::Trail;
 use crate::fault::{FaultKind, TypeFault};
 use crate::integer::IntegerType;
 use crate::names::{Declared, Names, find_name};
@@ -57,6 +59,8 @@ pub struct Builder<'n> {
     pub names: Names<'n>,
     pub nodes: Nodes,
     pub seen: Scopes<'n>,
+    /// Where a declaration is refused, once one is.
+    pub site: Site,
 }
 
 impl<'n> Builder<'n> {
@@ -71,7 +75,36 @@ impl<'n> Builder<'n> {
             names: Names::new(alloc),
             nodes: Nodes::new(alloc),
             seen: Scopes::new(alloc),
+            site: Site::new(),
         }
+    }
+
+    /// Keeps which part is refused.
+    fn refuse(&mut self, part: RefusedPart)
+        ensures names { self.new.names ≡ self.old.names }
+        ensures nodes { self.new.nodes ≡ self.old.nodes }
+    {
+        self.site.part = part;
+    }
+
+    /// Keeps which clause is refused, the operand in it that has the fault, and the types that were found there.
+    fn refuse_clause(
+        &mut self,
+        part: RefusedPart,
+        levels: u8,
+        trail: Trail,
+        e: Option<&Expression<'_>>,
+    )
+        requires table { IsTable self.old.nodes }
+        requires names { AreNamed self.old.nodes self.old.names }
+        requires seen { AreBelow (length self.old.nodes) levels self.old.seen }
+        ensures names { self.new.names ≡ self.old.names }
+        ensures nodes { self.new.nodes ≡ self.old.nodes }
+    {
+        if let Some(e) = e {
+            self.site.expression = refused_in(&self.context(levels), trail, e);
+        }
+        self.site.part = part;
     }
 
     /// Gives a type a name that no other type has.
@@ -173,11 +206,28 @@ impl<'n> Builder<'n> {
         Ok(roots)
     }
 
+    /// What an expression sees where `levels` frames are open.
+    fn context(&self, levels: u8) -> Context<'_, 'n>
+        ensures names { result.names.now ≡ self.now.names }
+        ensures nodes { result.nodes.now ≡ self.now.nodes }
+        ensures seen { result.seen.now ≡ self.now.seen }
+        ensures levels { result.levels ≡ levels }
+    {
+        Context {
+            alloc: self.alloc,
+            names: &self.names,
+            nodes: &self.nodes,
+            seen: &self.seen,
+            levels,
+        }
+    }
+
     /// A constraint or a condition, which is an integer.
     #[tactic(auto, unfolding(crate::specs::Meaning::integer_expression))]
     fn integer_expression(
         &self,
         levels: u8,
+        trail: &mut Trail,
         e: Option<&Expression<'_>>,
     ) -> Result<Option<Box<Resolved>>, FaultKind>
         requires table { IsTable self.now.nodes }
@@ -189,7 +239,7 @@ impl<'n> Builder<'n> {
         let Some(e) = e else {
             return Ok(None);
         };
-        let x = typed(self.alloc, &self.names, &self.nodes, &self.seen, levels, e)?;
+        let x = typed(&self.context(levels), trail, e)?;
         integer(&self.nodes, x.sort)?;
         Ok(Some(Box::new(self.alloc, x.term)?))
     }
@@ -199,6 +249,7 @@ impl<'n> Builder<'n> {
     fn offset_expression(
         &self,
         levels: u8,
+        trail: &mut Trail,
         e: Option<&Expression<'_>>,
     ) -> Result<Option<Box<Resolved>>, FaultKind>
         requires table { IsTable self.now.nodes }
@@ -210,7 +261,7 @@ impl<'n> Builder<'n> {
         let Some(e) = e else {
             return Ok(None);
         };
-        let x = typed(self.alloc, &self.names, &self.nodes, &self.seen, levels, e)?;
+        let x = typed(&self.context(levels), trail, e)?;
         match operand_of(&self.nodes, x.sort).number() {
             Some(Scalar::Offset(_, _)) => Ok(Some(Box::new(self.alloc, x.term)?)),
             _ => Err(FaultKind::Mismatch),
@@ -222,6 +273,7 @@ impl<'n> Builder<'n> {
     fn bound_expression(
         &self,
         levels: u8,
+        trail: &mut Trail,
         e: &Option<Box<Expression<'_>>>,
     ) -> Result<Extent, FaultKind>
         requires table { IsTable self.now.nodes }
@@ -233,7 +285,7 @@ impl<'n> Builder<'n> {
         let Some(e) = e else {
             return Ok(Extent::Unbounded);
         };
-        let x = typed(self.alloc, &self.names, &self.nodes, &self.seen, levels, e)?;
+        let x = typed(&self.context(levels), trail, e)?;
         match operand_of(&self.nodes, x.sort).number() {
             Some(Scalar::Integer(_)) => Ok(Extent::Count(Box::new(self.alloc, x.term)?)),
             Some(Scalar::Offset(_, _)) => Ok(Extent::Size(Box::new(self.alloc, x.term)?)),
@@ -261,7 +313,14 @@ impl<'n> Builder<'n> {
     {
         let mark = self.seen.len();
         self.seen.push(itself)?;
-        let constraint = self.integer_expression(itself.level + 1, e)?;
+        let mut trail = Trail::new();
+        let constraint = match self.integer_expression(itself.level + 1, &mut trail, e) {
+            Ok(constraint) => constraint,
+            Err(kind) => {
+                self.refuse_clause(RefusedPart::Constraint, itself.level + 1, trail, e);
+                return Err(kind);
+            }
+        };
         if let Place::Union = place {
             self.seen.truncate(mark);
         }
@@ -290,11 +349,40 @@ impl<'n> Builder<'n> {
         ensures nodes { self.new.nodes ≡ self.old.nodes }
     {
         let bits = has_width(&self.nodes, found.node);
-        stand(place, bits, written)?;
+        if let Err(kind) = stand(place, bits, written) {
+            self.refuse(RefusedPart::Place(bits));
+            return Err(kind);
+        }
         let word = name_in(written);
-        fresh(&self.names, word, before)?;
-        let label = self.offset_expression(levels + 1, label_in(written))?;
-        let condition = self.integer_expression(levels + 1, condition_in(written))?;
+        if let Err(kind) = fresh(&self.names, word, before) {
+            self.refuse(RefusedPart::Name);
+            return Err(kind);
+        }
+        let mut trail = Trail::new();
+        let label = match self.offset_expression(levels + 1, &mut trail, label_in(written)) {
+            Ok(label) => label,
+            Err(kind) => {
+                self.refuse_clause(RefusedPart::Label, levels + 1, trail, label_in(written));
+                return Err(kind);
+            }
+        };
+        let mut trail = Trail::new();
+        let condition = match self.integer_expression(
+            levels + 1,
+            &mut trail,
+            condition_in(written),
+        ) {
+            Ok(condition) => condition,
+            Err(kind) => {
+                self.refuse_clause(
+                    RefusedPart::Condition,
+                    levels + 1,
+                    trail,
+                    condition_in(written),
+                );
+                return Err(kind);
+            }
+        };
         let itself = Seen {
             name: word,
             level: levels,
@@ -474,16 +562,25 @@ impl<'n> Builder<'n> {
         ensures few { OnOk result (AddsAtMost self.old self.new (form_count (ArrayForm (form_tree element.now) (boxed_tree bound.now)))) }
         ensures low { IfOk result (λ found. found.depth ≤ room) }
     {
-        let found = self.type_at(
-            levels + 1,
-            Title {
-                name: None,
-                slot: None,
-            },
-            room - 1,
-            element,
-        )?;
-        let bound = self.bound_expression(levels, bound)?;
+        let title_of_element = Title {
+            name: None,
+            slot: None,
+        };
+        let found = match self.type_at(levels + 1, title_of_element, room - 1, element) {
+            Ok(found) => found,
+            Err(kind) => {
+                self.site.begin_with(Step::Element);
+                return Err(kind);
+            }
+        };
+        let mut trail = Trail::new();
+        let bound = match self.bound_expression(levels, &mut trail, bound) {
+            Ok(bound) => bound,
+            Err(kind) => {
+                self.refuse_clause(RefusedPart::Bound, levels, trail, lent(bound));
+                return Err(kind);
+            }
+        };
         self.push(
             title.slot,
             Shape::Array(found.node, bound),
@@ -552,7 +649,9 @@ impl<'n> Builder<'n> {
         let number = integer_referred(&self.names, &self.nodes, reference)?;
         let (fields, depth) = self.fields_at(Place::Integral, levels, room - 1, written)?;
         let (fields, places) = fields.into_parts();
-        if total_width(&self.nodes, &fields) != u128::from(number.width) {
+        let width = total_width(&self.nodes, &fields);
+        if width != u128::from(number.width) {
+            self.refuse(RefusedPart::Widths(width));
             return Err(FaultKind::IntegralWidths);
         }
         let fields = parts_from(self.alloc, fields)?;
@@ -667,7 +766,13 @@ impl<'n> Builder<'n> {
         let mut fields = FieldList::with_capacity(self.alloc, written.len())?;
         let mut deepest: u8 = 0;
         for f in written {
-            let (field, depth) = self.field_at(place, levels, room, &fields, f)?;
+            let (field, depth) = match self.field_at(place, levels, room, &fields, f) {
+                Ok(built) => built,
+                Err(kind) => {
+                    self.site.begin_with(Step::Field(fields.len()));
+                    return Err(kind);
+                }
+            };
             fields.push(&mut self.names, name_in(f), field)?;
             deepest = deepest.max(depth);
         }

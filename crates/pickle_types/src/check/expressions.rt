@@ -6,13 +6,14 @@ ghost use Rattle.pickle_types.specs.Sound.{IsWidth};
 ghost use Rattle.pickle_types.specs.Table.{term_of, type_of, IsTable};
 ghost use Rattle.pickle_types.specs.Expressions.{is_held, number_meant, character_meant, text_meant, resolved, bracketed, prefixed, infixed, selected, indexed, suffixed, selection, length_of, size_of, in_unit, conversion, is_path, integer_or_wrong};
 ghost use Rattle.pickle_types.specs.Built.{Gives, names_of, views_of, sort_of, meant_of, IsInside, IsSoundMeant, AreNamed, AreBelow};
-ghost use Rattle.pickle_types.specs.Calls.{typed_among};
+ghost use Rattle.pickle_types.specs.Calls.{typed_in};
 ghost use Rattle.pickle_types.specs.declared.node.Node.{Node};
 
 use crate::check::nodes::Nodes;
 use crate::check::operators::{Scalar, before, between, choice};
 use crate::check::references::{target_type, unit_bits};
 use crate::check::sorts::{Meant, Sort, element_of, field_of, operand_of};
+use crate::check::trail::Trail;
 use crate::fault::FaultKind;
 use crate::integer::IntegerType;
 use crate::names::Names;
@@ -339,57 +340,86 @@ fn is_path(e: &Expression<'_>) -> bool
     }
 }
 
-/// An expression with its names resolved, and its sort, where these fields are visible and `levels` frames are open.
-#[tactic(auto, unfolding(crate::specs::Expressions::typed))]
-pub fn typed(
-    alloc: Global,
-    names: &Names,
-    nodes: &Nodes,
-    seen: &Scopes,
-    levels: u8,
+/// What an expression sees: the types, and the visible fields. `levels` frames are open.
+#[derive(Clone, Copy)]
+pub struct Context<'a, 'n> {
+    pub alloc: Global,
+    pub names: &'a Names<'n>,
+    pub nodes: &'a Nodes,
+    pub seen: &'a Scopes<'n>,
+    pub levels: u8,
+}
+
+/// An operand of the expression at the end of a trail. The trail goes on to it, and comes back if it has no fault.
+#[cycle(expressions)]
+fn operand(
+    context: &Context<'_, '_>,
+    trail: &mut Trail,
+    number: u8,
     e: &Expression<'_>,
 ) -> Result<Meant, FaultKind>
-    requires table { IsTable nodes.now }
-    requires names { AreNamed nodes.now names.now }
-    requires seen { AreBelow (length nodes.now) levels seen.now }
-    ensures gives { Gives (meant_of nodes.now) result (typed_among nodes.now names.now seen.now levels (expression_tree e.now)) }
-    ensures sound { IfOk result (IsSoundMeant nodes.now) }
+    requires table { IsTable context.now.nodes.now }
+    requires names { AreNamed context.now.nodes.now context.now.names.now }
+    requires seen { AreBelow (length context.now.nodes.now) context.now.levels context.now.seen.now }
+    ensures gives { Gives (meant_of context.now.nodes.now) result (typed_in context.now (expression_tree e.now)) }
+    ensures sound { IfOk result (IsSoundMeant context.now.nodes.now) }
 {
+    trail.enter(number);
+    let x = typed(context, trail, e)?;
+    trail.leave();
+    Ok(x)
+}
+
+/// An expression with its names resolved, and its sort. With a fault the trail leads to the operand that has it.
+#[cycle(expressions)]
+#[tactic(auto, unfolding(crate::specs::Expressions::typed))]
+pub fn typed(
+    context: &Context<'_, '_>,
+    trail: &mut Trail,
+    e: &Expression<'_>,
+) -> Result<Meant, FaultKind>
+    requires table { IsTable context.now.nodes.now }
+    requires names { AreNamed context.now.nodes.now context.now.names.now }
+    requires seen { AreBelow (length context.now.nodes.now) context.now.levels context.now.seen.now }
+    ensures gives { Gives (meant_of context.now.nodes.now) result (typed_in context.now (expression_tree e.now)) }
+    ensures sound { IfOk result (IsSoundMeant context.now.nodes.now) }
+{
+    let Context {
+        alloc,
+        names,
+        nodes,
+        seen,
+        levels,
+    } = *context;
     match e {
         Expression::Number(n) => number(*n),
         Expression::Character(byte) => Ok(character(*byte)),
         Expression::Text(bytes) => text(alloc, bytes.as_slice()),
         Expression::Name(word) => name(seen, levels, word),
-        Expression::Bracket(e) => {
-            let x = typed(alloc, names, nodes, seen, levels, e)?;
-            bracket(alloc, x)
-        }
-        Expression::Prefix(op, e) => {
-            let x = typed(alloc, names, nodes, seen, levels, e)?;
-            prefix(alloc, nodes, *op, x)
-        }
+        Expression::Bracket(e) => bracket(alloc, operand(context, trail, 0, e)?),
+        Expression::Prefix(op, e) => prefix(alloc, nodes, *op, operand(context, trail, 0, e)?),
         Expression::Infix(operation) => {
-            let x = typed(alloc, names, nodes, seen, levels, &operation.left)?;
-            let y = typed(alloc, names, nodes, seen, levels, &operation.right)?;
+            let x = operand(context, trail, 0, &operation.left)?;
+            let y = operand(context, trail, 1, &operation.right)?;
             infix(alloc, nodes, operation.op, x, y)
         }
         Expression::Choice(selection) => {
-            let z = typed(alloc, names, nodes, seen, levels, &selection.condition)?;
+            let z = operand(context, trail, 0, &selection.condition)?;
             integer(nodes, z.sort)?;
-            let x = typed(alloc, names, nodes, seen, levels, &selection.yes)?;
-            let y = typed(alloc, names, nodes, seen, levels, &selection.no)?;
+            let x = operand(context, trail, 1, &selection.yes)?;
+            let y = operand(context, trail, 2, &selection.no)?;
             select(alloc, nodes, z, x, y)
         }
         Expression::Index(found) => {
-            let x = typed(alloc, names, nodes, seen, levels, &found.operand)?;
+            let x = operand(context, trail, 0, &found.operand)?;
             let Some(element) = element_of(nodes, x.sort) else {
                 return Err(FaultKind::Mismatch);
             };
-            let y = typed(alloc, names, nodes, seen, levels, &found.index)?;
+            let y = operand(context, trail, 1, &found.index)?;
             index(alloc, nodes, x, element, y)
         }
         Expression::After(after) => {
-            let x = typed(alloc, names, nodes, seen, levels, &after.operand)?;
+            let x = operand(context, trail, 0, &after.operand)?;
             let path = is_path(&after.operand);
             suffix(alloc, names, nodes, path, x, &after.suffix)
         }

@@ -41,7 +41,8 @@ pub fn order_in(field: &tree::Field<'_>) -> Option<ByteOrder>
     field.order
 }
 
-fn lent<'a, 't>(e: &'a Option<Box<Expression<'t>>>) -> Option<&'a Expression<'t>>
+/// An expression that may be there.
+pub fn lent<'a, 't>(e: &'a Option<Box<Expression<'t>>>) -> Option<&'a Expression<'t>>
     ensures { borrowed_tree result ≡ boxed_tree e.now }
 {
     match e {

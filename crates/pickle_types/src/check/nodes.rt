@@ -10,7 +10,7 @@ use crate::check::field_list::FieldPlaces;
 use crate::check::field_names::{is_called_at, shape_place};
 use crate::fault::FaultKind;
 use crate::names::Names;
-use crate::node::Node;
+use crate::node::{Node, Shape};
 use std::alloc::Global;
 use std::collections::BTreeMap;
 use std::marker::Model;
@@ -57,6 +57,11 @@ impl Nodes {
         ensures { slice_get self.now i ≡ Some result.now }
     {
         &self.nodes[i]
+    }
+
+    /// The shape of the node at an index. `None` if there is no such node.
+    pub fn shape(&self, i: usize) -> Option<&Shape> {
+        Some(&self.nodes.get(i)?.shape)
     }
 
     /// The stored place of a node's field of that name.

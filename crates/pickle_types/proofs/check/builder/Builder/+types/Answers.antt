@@ -47,26 +47,24 @@ type_at-returns-in-Offset-clause-builds t c =
     let m = meaning_offset (known_types b) (visible_in b) c.args.levels (bytes_now c.args.title.name) c.args.room (reference_tree c.in-Offset.reference.value) c.in-Offset.unit (omega arith) in
     builds_as _ _ c.offset_at.result _ _ (rw (w, m, c.deref.ensures) refl) c.offset_at.ensures.builds
 
-pub array_at-returns-in_err-found-clause-builds : goal.array_at-returns-in_err-found-clause-builds
-array_at-returns-in_err-found-clause-builds t c =
-    let p = err_from_is_err_and c.from_residual.result c.from_residual.ensures.1 in
+pub array_at-returns-in-Err-clause-builds : goal.array_at-returns-in-Err-clause-builds
+array_at-returns-in-Err-clause-builds t c =
     let b = c.args.self.now in
     let m = meaning_array (known_types b) (visible_in b) c.args.levels (bytes_now c.args.title.name) c.args.room (form_tree c.args.element.now) (boxed_tree c.args.bound.now) (omega arith) in
-    rw (p.1, p.2, m) (fails_bind _ _ _ c.in_err-found.ensures.builds)
+    rw m (fails_bind _ _ _ c.in-Err.ensures.builds)
 
-pub array_at-returns-in_err-bound-clause-builds : goal.array_at-returns-in_err-bound-clause-builds
-array_at-returns-in_err-bound-clause-builds t c =
-    let p = err_from_is_err_and c.from_residual-in_err-bound.result c.from_residual-in_err-bound.ensures.1 in
+pub array_at-returns-in-Err-bound_expression-clause-builds : goal.array_at-returns-in-Err-bound_expression-clause-builds
+array_at-returns-in-Err-bound_expression-clause-builds t c =
     let b = c.args.self.now in
     let m = meaning_array (known_types b) (visible_in b) c.args.levels (bytes_now c.args.title.name) c.args.room (form_tree c.args.element.now) (boxed_tree c.args.bound.now) (omega arith) in
-    let e = c.in_ok-found.ensures.builds in
+    let e = c.in-Ok.ensures.builds in
     let seen = visible_kept b c.type_at.new.self c.requires.table e.2.keeps e.2.seen c.args.levels c.requires.seen in
-    let h = rw (e.2.keeps.known, seen) at c.in_err-bound.ensures.gives in
-    rw (p.1, p.2, m, e.1) (fails_bind _ _ _ h)
+    let h = rw (e.2.keeps.known, seen) at c.in-Err-bound_expression.ensures.gives in
+    rw (m, e.1) (fails_bind _ _ _ h)
 
 pub array_at-push-requires-clause-depth : goal.array_at-push-requires-clause-depth
 array_at-push-requires-clause-depth t c =
-    let e = c.in_ok-found.ensures.builds in
+    let e = c.in-Ok.ensures.builds in
     let d = e.2.deep in
     rw (array_depth _ _, e.2.type) (omega arith)
 
@@ -74,9 +72,9 @@ pub array_at-returns-clause-builds : goal.array_at-returns-clause-builds
 array_at-returns-clause-builds t c =
     let b = c.args.self.now in
     let m = meaning_array (known_types b) (visible_in b) c.args.levels (bytes_now c.args.title.name) c.args.room (form_tree c.args.element.now) (boxed_tree c.args.bound.now) (omega arith) in
-    let e = c.in_ok-found.ensures.builds in
+    let e = c.in-Ok.ensures.builds in
     let seen = visible_kept b c.type_at.new.self c.requires.table e.2.keeps e.2.seen c.args.levels c.requires.seen in
-    let h = rw (e.2.keeps.known, seen) at c.in_ok-bound.ensures.gives in
+    let h = rw (e.2.keeps.known, seen) at c.in-Ok-bound_expression.ensures.gives in
     built_then _ _ _ c.push.result _ _ e.2.keeps e.2.seen (rw (m, e.1, h, e.2.type) refl) c.push.ensures.builds
 
 pub struct_at-returns-in_err-fields-clause-builds : goal.struct_at-returns-in_err-fields-clause-builds
@@ -118,14 +116,14 @@ integral_at-returns-in_err-fields-clause-builds t c =
     let n = c.in_ok-number.ensures.gives in
     rw (p.1, p.2, m, n) (fails_bind _ _ _ c.in_err-fields.ensures.builds)
 
-pub integral_at-returns-then-total_width-from-clause-builds : goal.integral_at-returns-then-total_width-from-clause-builds
-integral_at-returns-then-total_width-from-clause-builds t c =
+pub integral_at-returns-then-width-from-clause-builds : goal.integral_at-returns-then-width-from-clause-builds
+integral_at-returns-then-width-from-clause-builds t c =
     let b = c.args.self.now in
     let m = meaning_integral (known_types b) (visible_in b) c.args.levels (bytes_now c.args.title.name) c.args.room (reference_tree c.args.reference.now) (fields_tree c.args.written.now) (omega arith) in
     let n = c.in_ok-number.ensures.gives in
     let e = c.in_ok-fields.ensures.builds in
-    let w = rw (c.deref.ensures.value, c.into_parts-fields.ensures.fields, e.2.opened) at c.total_width.ensures in
-    let wrong = integral_wrong (bytes_now c.args.title.name) c.in_ok-number.number e.0 (λ eq. c.if-total_width-from.true (w ∙ eq ∙ sym c.from.ensures)) in
+    let w = rw (c.deref.ensures.value, c.into_parts-fields.ensures.fields, e.2.opened) at c.total_width-width.ensures in
+    let wrong = integral_wrong (bytes_now c.args.title.name) c.in_ok-number.number e.0 (λ eq. c.if-width-from.true (w ∙ eq ∙ sym c.from.ensures)) in
     rw (m, n, e.1) wrong
 
 pub integral_at-push-requires-clause-below : goal.integral_at-push-requires-clause-below
@@ -146,8 +144,8 @@ integral_at-returns-clause-builds t c =
     let m = meaning_integral (known_types b) (visible_in b) c.args.levels (bytes_now c.args.title.name) c.args.room (reference_tree c.args.reference.now) (fields_tree c.args.written.now) (omega arith) in
     let n = c.in_ok-number.ensures.gives in
     let e = c.in_ok-fields.ensures.builds in
-    let w = rw (c.deref.ensures.value, c.into_parts-fields.ensures.fields, e.2.opened) at c.total_width.ensures in
-    let fits = integral_fits (bytes_now c.args.title.name) c.in_ok-number.number e.0 (sym w ∙ c.if-total_width-from.false ∙ c.from.ensures) in
+    let w = rw (c.deref.ensures.value, c.into_parts-fields.ensures.fields, e.2.opened) at c.total_width-width.ensures in
+    let fits = integral_fits (bytes_now c.args.title.name) c.in_ok-number.number e.0 (sym w ∙ c.if-width-from.false ∙ c.from.ensures) in
     let parts = parts_opened (type_of c.fields_at.new.self.nodes) c.in_ok-fields.fields.fields.items in
     built_then _ _ _ c.push.result _ _ e.2.keeps e.2.seen (rw (m, n, e.1, fits, c.in_ok-fields-2.ensures.ok, c.into_parts-fields.ensures.fields, parts, e.2.opened, c.in_ok-name.ensures.ok) refl) c.push.ensures.builds
 
@@ -230,27 +228,27 @@ fields_at-loop-f-preserved t c =
     let a = c.args.self.now in
     let b = c.loop-f.self in
     let n = c.field_at.new.self in
-    let m : Builder = record { alloc = n.alloc; names = c.push.new.names; nodes = n.nodes; seen = n.seen } in
+    let m : Builder = record { alloc = n.alloc; names = c.push.new.names; nodes = n.nodes; seen = n.seen; site = n.site } in
     let fields = c.loop-f.fields.fields.items in
     let i = c.loop-f.invariant in
-    let h = c.in_ok-field.ensures.builds in
-    let low = c.in_ok-field.ensures.low in
+    let h = c.in-Ok.ensures.builds in
+    let low = c.in-Ok.ensures.low in
     let e = drop_item c.args.written.now c.loop-f.f-index c.f-item.result (omega arith) c.f-item.is in
     let given = rw i.so_far.keeps.known at h.1 in
     let before = rw e at i.few in
-    let added = c.in_ok-field.ensures.few in
-    let next = fields_next (known_types a) c.args.place (visible_in b) (visible_in n) c.args.levels c.args.room fields c.in_ok-field.field c.f-item.result (drop (c.loop-f.f-index + 1) c.args.written.now) h.0 given h.2.name h.2.seen in
+    let added = c.in-Ok.ensures.few in
+    let next = fields_next (known_types a) c.args.place (visible_in b) (visible_in n) c.args.levels c.args.room fields c.in-Ok.built.0 c.f-item.result (drop (c.loop-f.f-index + 1) c.args.written.now) h.0 given h.2.name h.2.seen in
     record {
       low = rw c.max-deepest.ensures (omega arith);
-      count = rw c.in_ok-push.ensures.ok (length-append fields (c.in_ok-field.field ∷ []) ∙ ap (λ k. k + 1) i.count);
+      count = rw c.in_ok-push.ensures.ok (length-append fields (c.in-Ok.built.0 ∷ []) ∙ ap (λ k. k + 1) i.count);
       within = (rw e at i.within).2;
       few = omega arith;
       kept = kept_on c.len-mark.result a.seen b.seen n.seen i.kept (omega arith) h.2.kept;
       below = h.2.below;
-      sound = rw c.in_ok-push.ensures.ok (All-append IsSoundField fields (c.in_ok-field.field ∷ []) i.sound (λ k d lt. let z : k ≡ 0 = omega arith in rw z c.in_ok-field.ensures.sound));
+      sound = rw c.in_ok-push.ensures.ok (All-append IsSoundField fields (c.in-Ok.built.0 ∷ []) i.sound (λ k d lt. let z : k ≡ 0 = omega arith in rw z c.in-Ok.ensures.sound));
       list = c.in_ok-push.ensures.list;
       so_far = rw (c.in_ok-push.ensures.ok, c.max-deepest.ensures)
-          (so_far_numbered a n m _ _ _ _ (so_far_more a b n fields c.in_ok-field.field c.loop-f.deepest c.in_ok-field.depth c.args.place c.args.levels _ _ h.0 _ _ _ i.so_far h.2 h.3 (rw e next)) refl c.in_ok-push.ensures.types c.in_ok-push.ensures.kept);
+          (so_far_numbered a n m _ _ _ _ (so_far_more a b n fields c.in-Ok.built.0 c.loop-f.deepest c.in-Ok.built.1 c.args.place c.args.levels _ _ h.0 _ _ _ i.so_far h.2 h.3 (rw e next)) refl c.in_ok-push.ensures.types c.in_ok-push.ensures.kept);
     }
 
 pub field_at-returns-in_err-field-clause-builds : goal.field_at-returns-in_err-field-clause-builds
@@ -267,7 +265,7 @@ pub fields_at-returns-clause-builds : goal.fields_at-returns-clause-builds
 fields_at-returns-clause-builds t c =
     let a = c.args.self.now in
     let b = c.loop-f.self in
-    let n : Builder = record { alloc = b.alloc; names = b.names; nodes = b.nodes; seen = c.truncate.new.self } in
+    let n : Builder = record { alloc = b.alloc; names = b.names; nodes = b.nodes; seen = c.truncate.new.self; site = b.site } in
     let i = c.loop-f.invariant in
     let none = drop_all c.loop-f.f-index c.args.written.now (omega arith) in
     let end = fields_end (known_types a) c.args.place (visible_in b) c.args.levels c.args.room _ _ none in
@@ -286,4 +284,4 @@ pub field_at-field_of-requires-clause-list : goal.field_at-field_of-requires-cla
 field_at-field_of-requires-clause-list t c = list_on _ _ c.args.before.now c.requires.list c.in_ok-found.ensures.builds.2.keeps.numbers
 
 pub fields_at-push-requires-clause-list : goal.fields_at-push-requires-clause-list
-fields_at-push-requires-clause-list t c = list_on _ _ c.loop-f.fields c.loop-f.invariant.list c.in_ok-field.ensures.builds.2.keeps.numbers
+fields_at-push-requires-clause-list t c = list_on _ _ c.loop-f.fields c.loop-f.invariant.list c.in-Ok.ensures.builds.2.keeps.numbers
