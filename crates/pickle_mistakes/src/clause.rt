@@ -1,25 +1,17 @@
 //! Sentences about an expression that the type checker refuses.
 
-use crate::context::Declared;
-use crate::nodes::{Node, constraint_in, token_count};
-use crate::probe::Probe;
-use crate::search::Clause;
-use crate::sorts::{Sort, say_of_sort, say_sort, sort_of};
-use crate::types::{name_of, unknown_type};
+use crate::located::Located;
+use crate::nodes::{Node, is_path, token_count};
+use crate::sorts::say_type;
+use crate::types::{name_of, rule_finding, unknown_type};
 use pickle_script::script::{Part, Script, cut};
 use pickle_script::site::Purpose;
 use pickle_script::text::Text;
 use pickle_syntax::token::Attribute;
 use pickle_syntax::tree::{Expression, Suffix};
 use pickle_types::fault::FaultKind;
-use run_parts::accept::{Refusal, read_syntax};
+use pickle_types::refused::{OperandType, OperandTypes, Refused, RefusedExpression};
 use std::alloc::{AllocError, Global};
-
-/// The most levels of operands inside operands.
-const MOST_LEVELS: usize = 64;
-
-/// The most tokens of an expression that is searched for a part.
-const MOST_TOKENS: usize = 4096;
 
 /// A sentence about some tokens.
 #[derive(Drop)]
@@ -29,106 +21,82 @@ pub struct Finding {
     pub help: Option<Vec<u8>>,
 }
 
-/// An expression in its clause.
+/// A declaration that the type checker refuses.
 #[derive(Clone, Copy)]
-pub struct Place<'a, 't> {
+pub struct Declared<'a, 't> {
     pub alloc: Global,
     pub script: &'a Script<'t>,
-    pub declared: &'a Declared<'a, 't>,
-    pub clause: &'a Clause<'a>,
+    pub refused: &'a Refused<'t>,
+    /// The declaration from its `type` on, without its `;`.
+    pub whole: Part,
+    pub located: Located<'a, 't>,
+}
+
+impl Declared<'_, '_> {
+    /// What is wrong with the declaration.
+    pub fn kind(self) -> FaultKind {
+        self.refused.fault.kind
+    }
+
+    /// The name that is declared.
+    pub fn name(self) -> Part {
+        Part::single(self.whole.first.saturating_add(1))
+    }
+}
+
+/// An expression that is refused, the types of its operands, and the clause that it is in.
+#[derive(Clone, Copy)]
+pub struct Place<'a, 't> {
+    pub declared: Declared<'a, 't>,
+    pub clause: Part,
     pub part: Part,
+    types: OperandTypes,
 }
 
-/// What is wrong with an expression.
-pub fn clause_finding<'a, 't>(
-    declared: &'a Declared<'a, 't>,
-    clause: &'a Clause<'a>,
+/// What is wrong with the expression of a clause. `clause` has its tokens.
+pub fn clause_finding(
+    declared: Declared<'_, '_>,
+    purpose: Purpose,
+    clause: Part,
+    expression: &Expression<'_>,
 ) -> Result<Finding, AllocError> {
-    let (alloc, script) = (declared.alloc, declared.script);
-    let text = Text::new(alloc).say(b"type n__ = struct { byte n__p : ")?;
-    let text = text
-        .say(script.slice(clause.part))?
-        .say(b"; };")?
-        .into_bytes();
-    let tree = match read_syntax(alloc, text.as_slice()) {
-        Ok(tree) => tree,
-        Err(Refusal::Memory) => return Err(AllocError),
-        Err(_) => return whole(alloc, script, clause),
+    let node = Node {
+        expression,
+        first: clause.first,
     };
-    match constraint_in(&tree) {
-        Some(expression) if token_count(expression) <= MOST_TOKENS => {
-            let node = Node {
-                expression,
-                first: clause.part.first,
+    match &declared.refused.site().expression {
+        RefusedExpression::Operand(trail, types) => {
+            let node = node.operand_at(trail.numbers());
+            let place = Place {
+                declared,
+                clause,
+                part: node.part(),
+                types: *types,
             };
-            in_expression(declared, clause, node)
+            place.of_node(node)
         }
-        _ => whole(alloc, script, clause),
+        RefusedExpression::Whole(found) => whole(declared, purpose, clause, *found),
+        RefusedExpression::None => rule_finding(declared, clause),
     }
-}
-
-fn in_expression<'a, 't>(
-    declared: &'a Declared<'a, 't>,
-    clause: &'a Clause<'a>,
-    node: Node<'_, '_>,
-) -> Result<Finding, AllocError> {
-    let (alloc, script) = (declared.alloc, declared.script);
-    if is_meant(script, clause, node)? {
-        return whole(alloc, script, clause);
-    }
-    let mut node = node;
-    for _ in 0..MOST_LEVELS {
-        match failing_operand(alloc, script, clause, node)? {
-            Some(operand) => node = operand,
-            None => break,
-        }
-    }
-    of_node(declared, clause, node)
-}
-
-/// Whether an expression has no fault.
-fn is_meant(
-    script: &Script<'_>,
-    clause: &Clause<'_>,
-    node: Node<'_, '_>,
-) -> Result<bool, AllocError> {
-    let expression = script.slice(node.part());
-    if node.is_number() {
-        Ok(true)
-    } else if node.is_path() {
-        clause.probe.is_path(expression)
-    } else {
-        clause.probe.is_value(expression)
-    }
-}
-
-/// The first operand that has a fault itself.
-fn failing_operand<'a, 't>(
-    alloc: Global,
-    script: &Script<'_>,
-    clause: &Clause<'_>,
-    node: Node<'a, 't>,
-) -> Result<Option<Node<'a, 't>>, AllocError> {
-    for operand in node.operands(alloc)? {
-        if !operand.is_text() && !is_meant(script, clause, operand)? {
-            return Ok(Some(operand));
-        }
-    }
-    Ok(None)
 }
 
 /// The finding for a whole expression that doesn't serve its purpose.
-fn whole(alloc: Global, script: &Script<'_>, clause: &Clause) -> Result<Finding, AllocError> {
-    let expression = script.slice(clause.part);
-    let text = Text::new(alloc).say(match clause.purpose {
+fn whole(
+    declared: Declared<'_, '_>,
+    purpose: Purpose,
+    part: Part,
+    found: OperandType,
+) -> Result<Finding, AllocError> {
+    let (alloc, script) = (declared.alloc, declared.script);
+    let text = Text::new(alloc).say(match purpose {
         Purpose::Constraint => b"a constraint is an integer, this is ".as_slice(),
         Purpose::Condition => b"a condition is an integer, this is ".as_slice(),
         Purpose::Label => b"a label is an offset, this is ".as_slice(),
         Purpose::Bound => b"a bound is an integer or an offset, this is ".as_slice(),
     })?;
-    let text = say_sort(text, &clause.probe, expression)?;
-    let help = match clause.purpose {
-        Purpose::Label => Some(label_help(alloc, script, clause.part)?.into_bytes()),
+    let text = say_type(text, Some(found))?;
+    let help = match purpose {
+        Purpose::Label => Some(label_help(alloc, script, part)?.into_bytes()),
         Purpose::Constraint | Purpose::Condition => Some(
             Text::new(alloc)
                 .say(b"compare it with a value of its type, as in `x == 0` or `x > 0#B`")?
@@ -137,7 +105,7 @@ fn whole(alloc: Global, script: &Script<'_>, clause: &Clause) -> Result<Finding,
         Purpose::Bound => None,
     };
     Ok(Finding {
-        part: clause.part,
+        part,
         sentence: text.into_bytes(),
         help,
     })
@@ -181,43 +149,59 @@ fn is_operator(token: &[u8]) -> bool {
     ) || token == b"as".as_slice()
 }
 
-/// What is wrong with an expression whose operands have no fault.
-fn of_node<'a, 't>(
-    declared: &'a Declared<'a, 't>,
-    clause: &'a Clause<'a>,
-    node: Node<'_, '_>,
-) -> Result<Finding, AllocError> {
-    let alloc = declared.alloc;
-    let place = Place {
-        alloc,
-        script: declared.script,
-        declared,
-        clause,
-        part: node.part(),
-    };
-    match node.expression {
-        Expression::Name(word) => place.unknown_name(word),
-        Expression::Infix(operation) => place.infix(&operation.left),
-        Expression::Prefix(_, inner) => place.prefix(inner),
-        Expression::Index(element) => place.index(&element.operand),
-        Expression::After(after) => place.after(&after.operand, &after.suffix),
-        Expression::Choice(selection) => place.choice(&selection.condition, &selection.yes),
-        Expression::Bracket(_) | Expression::Text(_) => place.finding(
-            node.part(),
-            Text::new(alloc).say(
-                b"a text is only compared, without brackets, with a string: `s == \"..\"`",
-            )?,
-            None,
-        ),
-        Expression::Number(_) | Expression::Character(_) => place.finding(
-            node.part(),
-            Text::new(alloc).say(b"no type holds this number")?,
-            None,
-        ),
-    }
+/// The tokens of an operator between two operands.
+#[derive(Clone, Copy)]
+struct Operands {
+    left: Part,
+    sign: Part,
+    right: Part,
 }
 
 impl<'a, 't> Place<'a, 't> {
+    /// What is wrong with an expression whose operands have no fault.
+    fn of_node(self, node: Node<'_, '_>) -> Result<Finding, AllocError> {
+        match node.expression {
+            Expression::Name(word) => self.unknown_name(word),
+            Expression::Infix(operation) => self.infix(&operation.left),
+            Expression::Prefix(_, _) => self.prefix(),
+            Expression::Index(element) => self.index(&element.operand),
+            Expression::After(after) => self.after(&after.operand, &after.suffix),
+            Expression::Choice(selection) => self.choice(&selection.condition),
+            Expression::Bracket(_) | Expression::Text(_) => self.finding(
+                node.part(),
+                self.text().say(
+                    b"a text is only compared, without brackets, with a string: `s == \"..\"`",
+                )?,
+                None,
+            ),
+            Expression::Number(_) | Expression::Character(_) => self.finding(
+                node.part(),
+                self.text().say(b"no type holds this number")?,
+                None,
+            ),
+        }
+    }
+
+    /// An empty text.
+    pub fn text(self) -> Text {
+        Text::new(self.declared.alloc)
+    }
+
+    /// The tokens of the pickle.
+    pub fn script(self) -> &'a Script<'t> {
+        self.declared.script
+    }
+
+    /// What is wrong with the expression.
+    fn kind(self) -> FaultKind {
+        self.declared.kind()
+    }
+
+    /// The type of the only operand, or of the first one.
+    pub fn operand_type(self) -> Option<OperandType> {
+        self.types.first
+    }
+
     /// A sentence about some tokens.
     pub fn finding(
         self,
@@ -252,91 +236,87 @@ impl<'a, 't> Place<'a, 't> {
         }
     }
 
-    /// Adds to the text what some tokens are as an expression.
-    pub fn say_sort(self, text: Text, part: Part) -> Result<Text, AllocError> {
-        say_sort(text, &self.clause.probe, self.script.slice(part))
-    }
-
-    /// Adds to the text what some tokens are as an expression of a sort.
-    fn say_of(self, text: Text, part: Part, sort: Sort) -> Result<Text, AllocError> {
-        say_of_sort(text, &self.clause.probe, self.script.slice(part), sort)
-    }
-
-    /// What some tokens are as an expression.
-    pub fn sort(self, part: Part) -> Result<Sort, AllocError> {
-        sort_of(&self.clause.probe, self.script.slice(part))
-    }
-
     /// The finding for an operator between two operands that it rejects.
     fn infix(self, left: &Expression<'_>) -> Result<Finding, AllocError> {
         let count = token_count(left);
         let sign = self.tokens(count, 1);
-        let left = self.tokens(0, count);
-        let right = self.rest(count.saturating_add(1));
-        let text = Text::new(self.alloc)
-            .quote(self.script.slice(sign))?
+        let OperandTypes { first, second, .. } = self.types;
+        let text = self
+            .text()
+            .quote(self.script().slice(sign))?
             .say(b" between ")?;
-        let sorts = (self.sort(left)?, self.sort(right)?);
-        let text = self.say_of(text, left, sorts.0)?.say(b" and ")?;
-        let text = self.say_of(text, right, sorts.1)?;
-        let help = match sorts {
-            (Sort::Integer | Sort::Offset, Sort::Struct) if self.is_sum(sign) => {
-                Some(self.size_help(left, right, sorts.0)?)
-            }
-            (Sort::Integer, Sort::Offset) => Some(self.unit_help(left)?),
-            (Sort::Offset, Sort::Integer) => Some(self.unit_help(right)?),
-            (Sort::Offset, Sort::Offset) => Some(Text::new(self.alloc).say(
-                b"of two offsets there are `+`, `-`, `/`, `%` and the comparisons; for `*` one is an integer",
-            )?),
-            (Sort::Struct | Sort::Array, _) | (_, Sort::Struct | Sort::Array) => Some(Text::new(
-                self.alloc,
-            ).say(
-                b"structs and arrays are not compared whole: compare their fields or elements, as `a.x == 1` or `a[0] == 'x'`",
-            )?),
-            (Sort::Text | Sort::Unknown, _) | (_, Sort::Text | Sort::Unknown) => Some(Text::new(
-                self.alloc,
-            ).say(
-                b"a string is only compared by `==` or `!=` with a text in quotes; one byte is a character, as `'a'`",
-            )?),
-            _ => None,
+        let text = say_type(text, first)?.say(b" and ")?;
+        let text = say_type(text, second)?;
+        let operands = Operands {
+            left: self.tokens(0, count),
+            sign,
+            right: self.rest(count.saturating_add(1)),
         };
-        self.finding(sign, text, help)
+        self.finding(sign, text, self.infix_help(operands)?)
     }
 
-    /// Whether a sign is that of a sum or difference.
-    fn is_sum(self, sign: Part) -> bool {
-        matches!(self.script.slice(sign), b"+" | b"-")
+    /// What to write instead of an operator between two operands that it rejects.
+    fn infix_help(self, operands: Operands) -> Result<Option<Text>, AllocError> {
+        let OperandTypes { first, second, .. } = self.types;
+        let help = match (first, second) {
+            (
+                Some(OperandType::Integer(_) | OperandType::Offset(_, _)),
+                Some(OperandType::Struct(_)),
+            ) if matches!(self.script().slice(operands.sign), b"+" | b"-") => {
+                self.size_help(operands)?
+            }
+            (Some(OperandType::Integer(_)), Some(OperandType::Offset(_, _))) => self.unit_help(
+                operands.left,
+            )?,
+            (Some(OperandType::Offset(_, _)), Some(OperandType::Integer(_))) => self.unit_help(
+                operands.right,
+            )?,
+            (Some(OperandType::Offset(_, _)), Some(OperandType::Offset(_, _))) => self.text().say(
+                b"of two offsets there are `+`, `-`, `/`, `%` and the comparisons; for `*` one is an integer",
+            )?,
+            (Some(OperandType::Struct(_) | OperandType::Array), _)
+            | (_, Some(OperandType::Struct(_) | OperandType::Array)) => self.text().say(
+                b"structs and arrays are not compared whole: compare their fields or elements, as `a.x == 1` or `a[0] == 'x'`",
+            )?,
+            (Some(OperandType::Integer(_)), Some(OperandType::Integer(_))) => return Ok(None),
+            _ => self.text().say(
+                b"a string is only compared by `==` or `!=` with a text in quotes; one byte is a character, as `'a'`",
+            )?,
+        };
+        Ok(Some(help))
     }
 
     /// The help for a struct where its size is meant.
-    fn size_help(self, left: Part, right: Part, sort: Sort) -> Result<Text, AllocError> {
-        let text = Text::new(self.alloc).say(b"for its size write `")?;
-        let text = if sort == Sort::Integer {
-            text.show(with_unit(self.alloc, self.script, left)?.as_slice())?
+    fn size_help(self, operands: Operands) -> Result<Text, AllocError> {
+        let text = self.text().say(b"for its size write `")?;
+        let text = if let Some(OperandType::Integer(_)) = self.operand_type() {
+            text.show(with_unit(self.declared.alloc, self.script(), operands.left)?.as_slice())?
         } else {
-            text.show(self.script.slice(left))?
+            text.show(self.script().slice(operands.left))?
         };
-        let sign = Part::single(left.end);
-        let text = text.say(b" ")?.show(self.script.slice(sign))?.say(b" ")?;
-        text.show(self.script.slice(right))?.say(b"'size`")
+        let sign = self.script().slice(operands.sign);
+        let text = text.say(b" ")?.show(sign)?.say(b" ")?;
+        text.show(self.script().slice(operands.right))?
+            .say(b"'size`")
     }
 
     /// The help for an integer that should be an offset.
     fn unit_help(self, integer: Part) -> Result<Text, AllocError> {
-        let written = with_unit(self.alloc, self.script, integer)?;
-        Text::new(self.alloc)
+        let written = with_unit(self.declared.alloc, self.script(), integer)?;
+        self.text()
             .say(b"an integer has no unit: write ")?
             .quote(written.as_slice())?
             .say(b" for bytes")
     }
 
-    fn prefix(self, inner: &Expression<'_>) -> Result<Finding, AllocError> {
+    fn prefix(self) -> Result<Finding, AllocError> {
         let sign = self.tokens(0, 1);
-        let text = Text::new(self.alloc)
-            .quote(self.script.slice(sign))?
+        let text = self
+            .text()
+            .quote(self.script().slice(sign))?
             .say(b" before ")?;
-        let text = self.say_sort(text, self.tokens(1, token_count(inner)))?;
-        let help = Text::new(self.alloc).say(
+        let text = say_type(text, self.operand_type())?;
+        let help = self.text().say(
             b"`+` and `-` stand before integers and offsets, `~` and `!` before integers",
         )?;
         self.finding(sign, text, Some(help))
@@ -344,64 +324,65 @@ impl<'a, 't> Place<'a, 't> {
 
     fn index(self, operand: &Expression<'_>) -> Result<Finding, AllocError> {
         let count = token_count(operand);
-        let array = self.tokens(0, count);
-        if self.sort(array)? == Sort::Array {
+        let OperandTypes {
+            first: array,
+            second: index,
+            ..
+        } = self.types;
+        if array == Some(OperandType::Array) {
             let inner = self.rest(count.saturating_add(1));
-            let index = Part {
+            let part = Part {
                 first: inner.first,
                 end: inner.end.saturating_sub(1),
             };
-            let text = Text::new(self.alloc).say(b"an index is an integer, this is ")?;
-            return self.finding(index, self.say_sort(text, index)?, None);
+            let text = self.text().say(b"an index is an integer, this is ")?;
+            return self.finding(part, say_type(text, index)?, None);
         }
-        let text = Text::new(self.alloc).say(b"only arrays are indexed, ")?;
-        let text = text.quote(self.script.slice(array))?.say(b" is ")?;
-        self.finding(self.rest(count), self.say_sort(text, array)?, None)
+        let text = self.text().say(b"only arrays are indexed, ")?;
+        let text = text
+            .quote(self.script().slice(self.tokens(0, count)))?
+            .say(b" is ")?;
+        self.finding(self.rest(count), say_type(text, array)?, None)
     }
 
-    fn choice(
-        self,
-        condition: &Expression<'_>,
-        yes: &Expression<'_>,
-    ) -> Result<Finding, AllocError> {
-        let count = token_count(condition);
-        let condition = self.tokens(0, count);
-        if self.sort(condition)? != Sort::Integer {
-            let text = Text::new(self.alloc).say(b"a condition is an integer, this is ")?;
-            return self.finding(condition, self.say_sort(text, condition)?, None);
+    fn choice(self, condition: &Expression<'_>) -> Result<Finding, AllocError> {
+        let OperandTypes {
+            first: found,
+            second: yes,
+            third: no,
+        } = self.types;
+        if !matches!(found, Some(OperandType::Integer(_))) {
+            let text = self.text().say(b"a condition is an integer, this is ")?;
+            let condition = self.tokens(0, token_count(condition));
+            return self.finding(condition, say_type(text, found)?, None);
         }
-        let start = count.saturating_add(1);
-        let text = Text::new(self.alloc).say(b"a choice between ")?;
-        let text = self
-            .say_sort(text, self.tokens(start, token_count(yes)))?
-            .say(b" and ")?;
-        let no = start.saturating_add(token_count(yes)).saturating_add(1);
-        let text = self.say_sort(text, self.rest(no))?;
-        let help = Text::new(self.alloc).say(
-            b"both are integers, or both offsets of one type and unit",
-        )?;
+        let text = self.text().say(b"a choice between ")?;
+        let text = say_type(say_type(text, yes)?.say(b" and ")?, no)?;
+        let help = self
+            .text()
+            .say(b"both are integers, or both offsets of one type and unit")?;
         self.finding(self.part, text, Some(help))
     }
 
-    fn after(self, operand: &Expression<'_>, suffix: &Suffix<'_>) -> Result<Finding, AllocError> {
-        let count = token_count(operand);
+    fn after(self, inner: &Expression<'_>, suffix: &Suffix<'_>) -> Result<Finding, AllocError> {
+        let count = token_count(inner);
         let operand = self.tokens(0, count);
         match suffix {
-            Suffix::Select(word) => self.unknown_field(operand, word),
+            Suffix::Select(word) => self.unknown_field(operand, is_path(inner), word),
             Suffix::Attribute(Attribute::Length) => {
-                let text = Text::new(self.alloc).say(b"`'length` is that of an array, ")?;
+                let text = self.text().say(b"`'length` is that of an array, ")?;
                 self.operand_is(text, operand)
             }
             Suffix::Attribute(Attribute::Size) => {
-                let text = Text::new(self.alloc).say(b"`'size` is that of a field, ")?;
+                let text = self.text().say(b"`'size` is that of a field, ")?;
                 self.operand_is(text, operand)
             }
-            Suffix::Unit(_) if self.clause.probe.kind == FaultKind::Width => {
-                let text = Text::new(self.alloc).say(b"a unit has 1 to 4294967295 bits")?;
+            Suffix::Unit(_) if self.kind() == FaultKind::Width => {
+                let text = self.text().say(b"a unit has 1 to 4294967295 bits")?;
                 self.finding(self.rest(count.saturating_add(1)), text, None)
             }
             Suffix::Unit(_) => {
-                let text = Text::new(self.alloc).say(b"a unit stands behind an integer, ")?;
+                let text = self.text().say(b"a unit stands behind an integer, ")?;
                 self.operand_is(text, operand)
             }
             Suffix::Convert(_) => self.conversion(operand),
@@ -410,8 +391,8 @@ impl<'a, 't> Place<'a, 't> {
 
     /// Adds what an operand is to the text.
     fn operand_is(self, text: Text, operand: Part) -> Result<Finding, AllocError> {
-        let text = text.quote(self.script.slice(operand))?.say(b" is ")?;
-        let text = self.say_sort(text, operand)?;
+        let text = text.quote(self.script().slice(operand))?.say(b" is ")?;
+        let text = say_type(text, self.operand_type())?;
         let suffix = Part {
             first: operand.end,
             end: self.part.end,
@@ -424,18 +405,22 @@ impl<'a, 't> Place<'a, 't> {
             first: operand.end.saturating_add(1),
             end: self.part.end,
         };
-        let written = self.script.slice(target);
-        let text = Text::new(self.alloc);
-        if self.clause.probe.kind == FaultKind::UnknownType {
-            return unknown_type(self.alloc, self.script, name_of(self.script, target));
+        let written = self.script().slice(target);
+        let text = self.text();
+        if self.kind() == FaultKind::UnknownType {
+            return unknown_type(
+                self.declared.alloc,
+                self.script(),
+                name_of(self.script(), target),
+            );
         }
-        if self.clause.probe.kind == FaultKind::Width {
+        if self.kind() == FaultKind::Width {
             let text = text.say(b"a width is 1 to 64 bits, a unit 1 to 4294967295 bits")?;
             return self.finding(target, text, None);
         }
         let text = text.say(b"`as ")?.show(written)?.say(b"` of ")?;
-        let text = self.say_sort(text, operand)?;
-        let help = Text::new(self.alloc).say(
+        let text = say_type(text, self.operand_type())?;
+        let help = self.text().say(
             b"an integer is converted to an integer type, an offset to an offset type; an integer gets a unit by `#B`, an offset loses it by `/ 1#B`",
         )?;
         self.finding(target, text, Some(help))

@@ -2,21 +2,19 @@
 #![tactic(auto)]
 
 mod advice;
+mod braces;
 pub mod budget;
 mod clause;
-mod context;
 mod expected;
 mod foreign;
 mod front;
 pub mod lexical;
 pub mod limits;
+mod located;
 mod names;
 pub mod near;
 pub mod nodes;
-pub mod outline;
 mod pattern;
-mod probe;
-mod search;
 mod sorts;
 pub mod syntax;
 pub mod type_names;

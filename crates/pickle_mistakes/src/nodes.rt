@@ -128,27 +128,52 @@ impl<'a, 't> Node<'a, 't> {
         Ok(operands)
     }
 
-    /// Whether it is a path, which any type has.
-    pub fn is_path(self) -> bool {
-        is_path(self.expression)
+    /// The operand of a number, counted from 0. `None` if it has no such operand.
+    fn operand(self, number: u8) -> Option<Node<'a, 't>> {
+        match (self.expression, number) {
+            (Expression::Bracket(inner) | Expression::Prefix(_, inner), 0) => Some(self.inner(
+                inner, 1,
+            )),
+            (Expression::Infix(operation), 0) => Some(self.inner(&operation.left, 0)),
+            (Expression::Infix(operation), 1) => Some(self.inner(
+                &operation.right,
+                token_count(&operation.left).saturating_add(1),
+            )),
+            (Expression::Choice(selection), 0) => Some(self.inner(&selection.condition, 0)),
+            (Expression::Choice(selection), 1) => Some(self.inner(
+                &selection.yes,
+                token_count(&selection.condition).saturating_add(1),
+            )),
+            (Expression::Choice(selection), 2) => Some(self.inner(
+                &selection.no,
+                token_count(&selection.condition)
+                    .saturating_add(token_count(&selection.yes))
+                    .saturating_add(2),
+            )),
+            (Expression::Index(element), 0) => Some(self.inner(&element.operand, 0)),
+            (Expression::Index(element), 1) => Some(self.inner(
+                &element.index,
+                token_count(&element.operand).saturating_add(1),
+            )),
+            (Expression::After(after), 0) => Some(self.inner(&after.operand, 0)),
+            _ => None,
+        }
     }
 
-    /// Whether it is a number or a character.
-    pub fn is_number(self) -> bool {
-        matches!(
-            self.expression,
-            Expression::Number(_) | Expression::Character(_)
-        )
-    }
-
-    /// Whether it is a text.
-    pub fn is_text(self) -> bool {
-        matches!(self.expression, Expression::Text(_))
+    /// The operand to which the numbers of operands lead, as far as there are such operands.
+    pub fn operand_at(self, numbers: &[u8]) -> Node<'a, 't> {
+        let mut node = self;
+        for number in numbers {
+            if let Some(operand) = node.operand(*number) {
+                node = operand;
+            }
+        }
+        node
     }
 }
 
-/// Whether an expression is a path.
-fn is_path(expression: &Expression<'_>) -> bool {
+/// Whether an expression is a path: a name, or fields and elements of one.
+pub fn is_path(expression: &Expression<'_>) -> bool {
     match expression {
         Expression::Name(_) => true,
         Expression::Bracket(inner) => is_path(inner),

@@ -1,19 +1,20 @@
 //! Sentences about types that the type checker refuses.
 
-use crate::budget::Budget;
-use crate::clause::{Finding, clause_finding};
-use crate::context::{Declared, brace_around, integral_brace};
+use crate::braces::{brace_around, integral_brace};
+use crate::clause::{Declared, Finding, clause_finding};
 use crate::foreign::of_foreign;
+use crate::located::{Located, LocatedField};
 use crate::names::last_type;
 use crate::near::nearest;
-use crate::probe::Probe;
-use crate::search::{Located, locate};
 use pickle_notes::note::Note;
 use pickle_script::anatomy::{FieldParts, base, declaration, opening_brace};
 use pickle_script::place::place_behind;
 use pickle_script::script::{Part, Script, cut};
+use pickle_script::site::Purpose;
 use pickle_script::text::Text;
+use pickle_syntax::tree::{Form, Pickle, Reference};
 use pickle_types::fault::FaultKind;
+use pickle_types::refused::{Refused, RefusedPart};
 use std::alloc::{AllocError, Global};
 
 /// What the fields of an integral struct may be.
@@ -27,8 +28,7 @@ pub fn types_note(
     kind: FaultKind,
     number: usize,
 ) -> Result<Note, AllocError> {
-    let whole = declaration(script, number);
-    let finding = finding(alloc, script, kind, whole)?;
+    let finding = finding(alloc, script, kind, number)?;
     let (at, behind) = script.bounds(finding.part);
     Ok(Note {
         at,
@@ -42,8 +42,9 @@ fn finding(
     alloc: Global,
     script: &Script<'_>,
     kind: FaultKind,
-    whole: Part,
+    number: usize,
 ) -> Result<Finding, AllocError> {
+    let whole = declaration(script, number);
     let name = Part {
         first: whole.first.saturating_add(1),
         end: whole.first.saturating_add(2),
@@ -51,27 +52,65 @@ fn finding(
     if kind == FaultKind::DuplicateType {
         return declared_twice(alloc, script, name);
     }
-    let budget = Budget::new(script);
-    let declared = Declared::new(alloc, script, &budget, kind, whole)?;
-    let located = locate(&declared)?;
-    if budget.is_spent() {
-        return unsearched(alloc, kind, name);
-    }
-    let part = located.part();
-    let finding = match located {
-        Located::Body(form, probe) => of_body(alloc, script, name, form, &probe)?,
-        Located::Base(base, probe) => of_base(alloc, script, base, &probe)?,
-        Located::Field(parts, probe) => of_field(alloc, script, &parts, &probe)?,
-        Located::Clause(clause) => clause_finding(&declared, &clause)?,
+    let Some(tree) = script.tree(alloc) else {
+        return unlocated(alloc, kind, name);
     };
-    if budget.is_spent() {
-        return unsearched(alloc, kind, part);
+    let Some(refused) = Refused::find(alloc, &tree)? else {
+        return unlocated(alloc, kind, name);
+    };
+    match located(script, &tree, &refused, whole) {
+        Some(located) => located_finding(Declared {
+            alloc,
+            script,
+            refused: &refused,
+            whole,
+            located,
+        }),
+        None => unlocated(alloc, kind, name),
     }
-    Ok(finding)
 }
 
-/// The finding for a part whose fault isn't searched any further: the rule that it breaks.
-fn unsearched(alloc: Global, kind: FaultKind, part: Part) -> Result<Finding, AllocError> {
+/// The part of a declaration that is refused. `whole` has its tokens.
+fn located<'p, 't>(
+    script: &Script<'_>,
+    tree: &'p Pickle<'t>,
+    refused: &Refused<'_>,
+    whole: Part,
+) -> Option<Located<'p, 't>> {
+    let declaration = tree.declarations.get(refused.fault.decl.saturating_sub(1))?;
+    let tokens = Part {
+        first: whole.first.saturating_add(3),
+        end: whole.end,
+    };
+    Located::of(script, &declaration.form, tokens, refused.site())
+}
+
+/// What is wrong with the part that is refused.
+fn located_finding(declared: Declared<'_, '_>) -> Result<Finding, AllocError> {
+    let site = declared.refused.site();
+    let purpose = match site.part {
+        RefusedPart::Type => return of_type(declared),
+        RefusedPart::Widths(width) => return of_widths(declared, width),
+        RefusedPart::Name => return of_name(declared),
+        RefusedPart::Place(wide) => return of_place(declared, wide),
+        RefusedPart::Label => Purpose::Label,
+        RefusedPart::Condition => Purpose::Condition,
+        RefusedPart::Constraint => Purpose::Constraint,
+        RefusedPart::Bound => Purpose::Bound,
+    };
+    match declared.located.expression(declared.script, site.part) {
+        Some((part, expression)) => clause_finding(declared, purpose, part, expression),
+        None => rule_finding(declared, declared.located.tokens),
+    }
+}
+
+/// The finding for a part of which no more is told than the rule that it breaks.
+pub fn rule_finding(declared: Declared<'_, '_>, part: Part) -> Result<Finding, AllocError> {
+    unlocated(declared.alloc, declared.kind(), part)
+}
+
+/// The rule that some tokens break.
+fn unlocated(alloc: Global, kind: FaultKind, part: Part) -> Result<Finding, AllocError> {
     Ok(Finding {
         part,
         sentence: Text::new(alloc).say(rule_of(kind).as_bytes())?.into_bytes(),
@@ -114,56 +153,63 @@ pub fn is_declared_as(script: &Script<'_>, token: usize, word: &[u8]) -> bool {
     script.text_before(token) == b"type".as_slice() && script.text(token) == word
 }
 
-/// What is wrong with a struct or union as a whole.
-fn of_body(
-    alloc: Global,
-    script: &Script<'_>,
-    name: Part,
-    form: Part,
-    probe: &Probe<'_>,
-) -> Result<Finding, AllocError> {
-    let text = Text::new(alloc);
-    let (part, text, help) = match probe.kind {
-        FaultKind::IntegralWidths => {
-            let reference = integral_reference(script, form);
-            let text = text.say(b"the widths of this struct's fields don't add up to ")?;
-            (
-                reference,
-                text.quote(script.slice(reference))?,
-                widths_help(script, form, probe)?,
-            )
-        }
+/// What is wrong with a type, apart from its fields and expressions.
+fn of_type(declared: Declared<'_, '_>) -> Result<Finding, AllocError> {
+    match declared.kind() {
+        FaultKind::TooDeep => unlocated(declared.alloc, FaultKind::TooDeep, deep_part(declared)),
         FaultKind::NotHere => {
-            let head = Part {
-                first: form.first,
-                end: form.first.saturating_add(1),
-            };
-            (
-                head,
-                text.say(misplaced_body(script, form).as_bytes())?,
-                None,
-            )
+            let head = Part::single(declared.located.tokens.first);
+            let text = Text::new(declared.alloc).say(b"a union has at least one alternative")?;
+            Ok(Finding {
+                part: head,
+                sentence: text.into_bytes(),
+                help: None,
+            })
         }
-        FaultKind::TooDeep => (
-            name,
-            text.say(b"this type has more than 64 levels, with the types opened that it names")?,
-            None,
-        ),
-        _ => (name, text.say(rule_of(probe.kind).as_bytes())?, None),
-    };
-    Ok(Finding {
-        part,
-        sentence: text.into_bytes(),
-        help,
-    })
+        _ => of_base(declared, base_of(declared)),
+    }
 }
 
-/// Why a struct or union may not be in its place.
-fn misplaced_body(script: &Script<'_>, form: Part) -> &'static str {
-    match script.text(form.first.saturating_add(2)) {
-        b"}" => "a union has at least one alternative",
-        _ => IN_INTEGRAL,
+/// The name of a type that is too deep to stand where it does, or that of the declaration.
+fn deep_part(declared: Declared<'_, '_>) -> Part {
+    match declared.located.form {
+        Form::Reference(_) => declared.located.tokens,
+        _ => declared.name(),
     }
+}
+
+/// The tokens of a type without braces, or of the integer type of an integral struct.
+fn base_of(declared: Declared<'_, '_>) -> Part {
+    let tokens = declared.located.tokens;
+    match declared.located.form {
+        Form::Integral(_, _) => integral_reference(declared.script, tokens),
+        _ => tokens,
+    }
+}
+
+/// What is wrong with the widths of an integral struct's fields, which have `width` bits together.
+fn of_widths(declared: Declared<'_, '_>, width: u128) -> Result<Finding, AllocError> {
+    let reference = integral_reference(declared.script, declared.located.tokens);
+    let text = Text::new(declared.alloc).say(
+        b"the widths of this struct's fields don't add up to ",
+    )?;
+    let text = text.quote(declared.script.slice(reference))?;
+    let help = Text::new(declared.alloc).say(b"the width of the fields together is ")?;
+    let help = help.say_number(usize::try_from(width).unwrap_or(usize::MAX))?;
+    let help = if width <= 64 {
+        help
+    } else {
+        help.say(b", and an integral struct has at most 64 bits")?
+    };
+    Ok(Finding {
+        part: reference,
+        sentence: text.into_bytes(),
+        help: if width == 0 {
+            None
+        } else {
+            Some(help.into_bytes())
+        },
+    })
 }
 
 /// The integer type of an integral struct.
@@ -176,41 +222,14 @@ fn integral_reference(script: &Script<'_>, form: Part) -> Part {
     Part { first, end }
 }
 
-/// How wide an integral struct must be for its fields, which the type checker decides.
-fn widths_help(
-    script: &Script<'_>,
-    form: Part,
-    probe: &Probe<'_>,
-) -> Result<Option<Vec<u8>>, AllocError> {
-    let rest = Part {
-        first: integral_reference(script, form).end,
-        end: form.end,
-    };
-    for width in 1..65 {
-        let text = Text::new(probe.alloc)
-            .say(b"struct uint<")?
-            .say_number(width)?;
-        let text = text.say(b"> ")?.say(script.slice(rest))?.into_bytes();
-        if !probe.fails(text.as_slice())? {
-            let text = Text::new(probe.alloc).say(b"the width of the fields together is ")?;
-            return Ok(Some(text.say_number(width)?.into_bytes()));
-        }
-    }
-    Ok(None)
-}
-
 /// What is wrong with a type other than a struct or union, or with the integer type of an integral struct.
-fn of_base(
-    alloc: Global,
-    script: &Script<'_>,
-    base: Part,
-    probe: &Probe<'_>,
-) -> Result<Finding, AllocError> {
-    let text = Text::new(alloc);
-    match probe.kind {
-        FaultKind::UnknownType => unknown_type(alloc, script, name_of(script, base)),
+fn of_base(declared: Declared<'_, '_>, base: Part) -> Result<Finding, AllocError> {
+    let script = declared.script;
+    let text = Text::new(declared.alloc);
+    match declared.kind() {
+        FaultKind::UnknownType => unknown_type(declared.alloc, script, name_of(script, base)),
         FaultKind::Width => {
-            let part = number_of(script, base, probe)?;
+            let part = number_of(script, base, declared.located.form);
             let text = if script.text_before(part.first) == b",".as_slice() {
                 text.say(b"a unit has 1 to 4294967295 bits, not ")?
             } else {
@@ -233,11 +252,7 @@ fn of_base(
                 help: None,
             })
         }
-        kind => Ok(Finding {
-            part: base,
-            sentence: text.say(rule_of(kind).as_bytes())?.into_bytes(),
-            help: None,
-        }),
+        kind => unlocated(declared.alloc, kind, base),
     }
 }
 
@@ -252,29 +267,24 @@ pub fn name_of(script: &Script<'_>, base: Part) -> Part {
     }
 }
 
-/// The number in a type that has the fault, or all of the type.
-fn number_of(script: &Script<'_>, base: Part, probe: &Probe<'_>) -> Result<Part, AllocError> {
-    let inner = Part {
-        first: base.first.saturating_add(1),
-        end: base.first.saturating_add(4),
+/// The number of a type that is out of range, or all of the type.
+fn number_of(script: &Script<'_>, base: Part, form: &Form<'_>) -> Part {
+    let first = match form {
+        Form::Offset(reference, _) if is_in_range(reference) => base.end.saturating_sub(2),
+        _ => base.first,
     };
-    let offset = script.text(base.first) == b"offset<".as_slice();
-    let in_unit = offset
-        && !(script.is_number(inner.first.saturating_add(1)) && probe.fails(script.slice(inner))?);
-    let first = if in_unit {
-        base.end.saturating_sub(2)
-    } else {
-        base.first
-    };
-    Ok(
-        match (first..base.end).find(|token| script.is_number(*token)) {
-            Some(first) => Part {
-                first,
-                end: first.saturating_add(1),
-            },
-            None => base,
-        },
-    )
+    match (first..base.end).find(|token| script.is_number(*token)) {
+        Some(number) => Part::single(number),
+        None => base,
+    }
+}
+
+/// Whether the width of an integer type is one that integers have.
+fn is_in_range(reference: &Reference<'_>) -> bool {
+    match reference {
+        Reference::Int(n) | Reference::Uint(n) => 1 <= n.value && n.value <= 64,
+        Reference::Named(_) => true,
+    }
 }
 
 /// The finding for a name that no declared type has.
@@ -434,34 +444,29 @@ pub fn is_predeclared(word: &[u8]) -> bool {
     PREDECLARED.iter().any(|name| *name == word)
 }
 
-/// What is wrong with a field as a whole.
-fn of_field(
-    alloc: Global,
-    script: &Script<'_>,
-    parts: &FieldParts,
-    probe: &Probe<'_>,
-) -> Result<Finding, AllocError> {
-    if probe.kind == FaultKind::DuplicateField {
-        let text = Text::new(alloc).say(b"this struct or union has a field ")?;
-        let text = text.quote(script.slice(parts.name))?.say(b" already")?;
-        return Ok(Finding {
-            part: parts.name,
-            sentence: text.into_bytes(),
-            help: Some(
-                Text::new(alloc)
-                    .say(b"choose another name for this one")?
-                    .into_bytes(),
-            ),
-        });
-    }
-    let (part, sentence) = match probe.kind {
-        FaultKind::NotHere => misplaced(script, parts, probe)?,
-        kind => (parts.whole, rule_of(kind)),
+/// What is wrong with the name of a field.
+fn of_name(declared: Declared<'_, '_>) -> Result<Finding, AllocError> {
+    let Some(field) = declared.located.field else {
+        return rule_finding(declared, declared.located.tokens);
     };
-    let help = match probe.kind {
-        FaultKind::NotHere => misplaced_help(alloc, script, parts, part)?,
-        _ => None,
+    let text = Text::new(declared.alloc).say(b"this struct or union has a field ")?;
+    let text = text.quote(declared.script.slice(field.parts.name))?;
+    let help = Text::new(declared.alloc).say(b"choose another name for this one")?;
+    Ok(Finding {
+        part: field.parts.name,
+        sentence: text.say(b" already")?.into_bytes(),
+        help: Some(help.into_bytes()),
+    })
+}
+
+/// What of a field may not be where it stands. `wide` says whether its type has a width in bits.
+fn of_place(declared: Declared<'_, '_>, wide: bool) -> Result<Finding, AllocError> {
+    let (alloc, script) = (declared.alloc, declared.script);
+    let Some(field) = declared.located.field else {
+        return rule_finding(declared, declared.located.tokens);
     };
+    let (part, sentence) = misplaced(field, wide);
+    let help = misplaced_help(alloc, script, &field.parts, part)?;
     Ok(Finding {
         part,
         sentence: Text::new(alloc).say(sentence.as_bytes())?.into_bytes(),
@@ -557,45 +562,32 @@ fn integral_order_help(
     text.show(order)?.say(b" ")?.show(name)?.say(b" x;`")
 }
 
-/// What may not be in a field. The type checker is asked about the field without it.
-fn misplaced(
-    script: &Script<'_>,
-    parts: &FieldParts,
-    probe: &Probe<'_>,
-) -> Result<(Part, &'static str), AllocError> {
-    let bare = Part {
-        first: parts.form.first,
-        end: parts.name.end,
-    };
-    if probe.fails(script.slice(bare))? {
-        if parts.name.first < parts.name.end {
-            return Ok((parts.form, IN_INTEGRAL));
-        }
-        return Ok((
-            parts.form,
-            "an alternative of a union has a name; a field of an integral struct is an integer, an offset or an integral struct",
-        ));
+/// What may not be in a field. `wide` says whether its type has a width in bits.
+fn misplaced(field: LocatedField<'_, '_>, wide: bool) -> (Part, &'static str) {
+    let parts = field.parts;
+    let integral = matches!(field.around, Form::Integral(_, _));
+    if integral && !wide {
+        return (parts.form, IN_INTEGRAL);
     }
-    let ordered = Part {
-        first: parts.order.first,
-        end: parts.name.end,
-    };
-    if parts.order.first < parts.order.end && probe.fails(script.slice(ordered))? {
-        return Ok((
+    if matches!(field.around, Form::Union(_)) && field.field.name.is_none() {
+        return (parts.form, "an alternative of a union has a name");
+    }
+    if field.field.order.is_some() && (integral || !wide) {
+        return (
             parts.order,
             "`big` and `little` stand only before integers, offsets and integral structs, and not inside an integral struct",
-        ));
+        );
     }
     if parts.label.first < parts.label.end {
-        return Ok((
+        return (
             parts.label,
             "a field of a union, of a pinned or of an integral struct has no label",
-        ));
+        );
     }
-    Ok((
+    (
         parts.condition,
         "a field of a union or of an integral struct has no condition",
-    ))
+    )
 }
 
 /// The rule that a declaration breaks.

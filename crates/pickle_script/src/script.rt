@@ -1,7 +1,9 @@
 //! A pickle's bytes with their tokens.
 
 use pickle_syntax::lexer::{Tokens, lex};
+use pickle_syntax::parser::parse;
 use pickle_syntax::token::{Kind, Word};
+use pickle_syntax::tree::Pickle;
 use std::alloc::{AllocError, Global};
 
 /// Some tokens in a row: the first, counted from 0, and the one after the last.
@@ -48,6 +50,11 @@ impl<'t> Script<'t> {
             tokens,
             names,
         })
+    }
+
+    /// The tree of the pickle. `None` if the parser refuses the tokens, or an allocation fails.
+    pub fn tree(&self, alloc: Global) -> Option<Pickle<'t>> {
+        parse(alloc, &self.tokens).ok()
     }
 
     /// How many declarations there are.

@@ -9,6 +9,7 @@ mod arrays;
 mod constants;
 mod fields;
 mod operators;
+mod outline;
 mod walk;
 mod warning;
 
