@@ -27,7 +27,8 @@ impl<'a> Mapping<'a> {
     pub fn from_bit(name: &'a str, at: u64, order: Order, limit: u64, mode: Mode) -> Mapping<'a>
         ensures name { result.name.now ≡ name.now }
         ensures start { result.start ≡ Start.Bit at }
-        ensures options { (result.order ≡ order) × (result.limit ≡ limit) × (result.mode ≡ mode) × (result.spool ≡ None) × (result.progress ≡ false) }
+        ensures options { (result.order ≡ order) × (result.limit ≡ limit) × (result.mode ≡ mode) }
+        ensures plain { (result.spool ≡ None) × (result.progress ≡ false) }
     {
         Mapping {
             name: name.as_bytes(),

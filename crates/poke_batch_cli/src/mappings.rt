@@ -67,7 +67,8 @@ pub fn run_request<
 fn mapping_of(request: &Request) -> Mapping<'_>
     ensures name { result.name.now ≡ string_bytes request.now.name }
     ensures start { result.start ≡ request.now.start }
-    ensures options { (result.order ≡ request.now.order) × (result.limit ≡ request.now.limit) × (result.spool ≡ request.now.spool) × (result.progress ≡ request.now.progress) }
+    ensures options { (result.order ≡ request.now.order) × (result.limit ≡ request.now.limit) }
+    ensures reads { (result.spool ≡ request.now.spool) × (result.progress ≡ request.now.progress) }
     ensures mode { (mode : Mode) (faults : FaultForm) → request.now.form ≡ Form.Printed mode faults → result.mode ≡ mode }
 {
     let mode = match request.form {

@@ -230,7 +230,8 @@ fn more_size(mode: Mode, bits: u64, count: u128) -> TextSize
 
 /// The size of an array that is a text if its elements are chars. A type doesn't say whether they are.
 fn or_text(form: Form, bits: u64, count: u128, array: TextSize) -> TextSize
-    ensures { (n : ℕ) (size : Size) → count ≡ n → HoldsSize array size → HoldsSize result (or_text form.style.chars (text_size form.mode n bits bits) size) }
+    ensures { (n : ℕ) (size : Size) → count ≡ n → HoldsSize array size
+        → HoldsSize result (or_text form.style.chars (text_size form.mode n bits bits) size) }
 {
     match form.style.chars {
         Chars::Numbers => array,
