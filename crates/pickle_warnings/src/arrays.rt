@@ -2,8 +2,8 @@
 
 use crate::fields::{Seen, integer_of};
 use crate::warning::note_about;
-use pickle_mistakes::nodes::Node;
-use pickle_notes::note::Note;
+use pickle_reasons::nodes::Node;
+use pickle_reasons::note::Note;
 use pickle_script::anatomy::{FieldParts, base, bound};
 use pickle_script::script::Part;
 use pickle_script::site::Purpose;

@@ -3,8 +3,8 @@
 use crate::fields::Seen;
 use crate::operators::is_comparing;
 use crate::warning::note_about;
-use pickle_mistakes::nodes::Node;
-use pickle_notes::note::Note;
+use pickle_reasons::nodes::Node;
+use pickle_reasons::note::Note;
 use pickle_script::anatomy::FieldParts;
 use pickle_script::site::Purpose;
 use pickle_script::text::Text;

@@ -1,7 +1,7 @@
 //! The fields that an expression sees, and the numbers that they can have.
 
 use crate::outline::{Outline, Piece};
-use pickle_mistakes::budget::Budget;
+use pickle_reasons::budget::Budget;
 use pickle_script::anatomy::{FieldParts, field_parts};
 use pickle_script::script::{Part, Script};
 use pickle_types::integer::IntegerType;

@@ -1,6 +1,6 @@
 //! A sentence about some tokens.
 
-use pickle_notes::note::Note;
+use pickle_reasons::note::Note;
 use pickle_script::script::{Part, Script};
 use pickle_script::text::Text;
 

@@ -6,7 +6,7 @@ use crate::foreign::of_foreign;
 use crate::located::{Located, LocatedField};
 use crate::names::last_type;
 use crate::near::nearest;
-use pickle_notes::note::Note;
+use crate::note::Note;
 use pickle_script::anatomy::{FieldParts, base, declaration, opening_brace};
 use pickle_script::place::place_behind;
 use pickle_script::script::{Part, Script, cut};
@@ -58,15 +58,26 @@ fn finding(
     let Some(refused) = Refused::find(alloc, &tree)? else {
         return unlocated(alloc, kind, name);
     };
-    match located(script, &tree, &refused, whole) {
+    refused_finding(alloc, script, &tree, &refused, whole)
+}
+
+/// What is wrong with a declaration that is refused. `whole` has its tokens.
+fn refused_finding<'a, 't>(
+    alloc: Global,
+    script: &'a Script<'t>,
+    tree: &'a Pickle<'t>,
+    refused: &'a Refused<'t>,
+    whole: Part,
+) -> Result<Finding, AllocError> {
+    match located(script, tree, refused, whole) {
         Some(located) => located_finding(Declared {
             alloc,
             script,
-            refused: &refused,
+            refused,
             whole,
             located,
         }),
-        None => unlocated(alloc, kind, name),
+        None => unlocated(alloc, refused.fault.kind, whole),
     }
 }
 
