@@ -1,5 +1,6 @@
 //! The first part of a selection that a value lacks.
 
+use crate::members::{name_in, say_members};
 use crate::missing::say_step;
 use crate::way::say_element;
 use pickle_map::ValueRef;
@@ -52,7 +53,11 @@ fn say_absent(
                 there = say_place(there, part.value(), place)?;
                 part = member;
             }
-            None => return say_end(alloc, there, say_pattern_step(Text::new(alloc), step)?),
+            None => {
+                let step_text = say_pattern_step(Text::new(alloc), step)?;
+                let text = say_end(alloc, there, step_text)?;
+                return say_members(alloc, text, part.value(), name_of(step))?.say(b"\n");
+            }
         }
         left = rest;
     }
@@ -126,13 +131,24 @@ fn say_column(
                 there = say_step(there, step)?;
                 part = next;
             }
-            None => return say_end(alloc, there, say_step(Text::new(alloc), step)?),
+            None => {
+                let text = say_end(alloc, there, say_step(Text::new(alloc), step)?)?;
+                return say_members(alloc, text, part.value(), name_in(step))?.say(b"\n");
+            }
         }
     }
     Ok(Text::new(alloc))
 }
 
-// The line on a step that leads to no part, from the part at a path.
+// The name of the field to which a step of a pattern leads. Empty for any other step.
+fn name_of(step: &PatternStep) -> &[u8] {
+    match step {
+        PatternStep::Exact(step) => name_in(step),
+        PatternStep::Elements(_) | PatternStep::Fields => &[],
+    }
+}
+
+// The start of the line on a step that leads to no part, from the part at a path.
 fn say_end(alloc: Global, there: Text, step: Text) -> Result<Text, AllocError> {
     let there = there.into_bytes();
     let text = Text::new(alloc).say(b"  ")?;
@@ -142,7 +158,7 @@ fn say_end(alloc: Global, there: Text, step: Text) -> Result<Text, AllocError> {
     };
     let step = step.into_bytes();
     let text = text.say(b" is there, ")?.say(there.as_slice())?;
-    text.say(step.as_slice())?.say(b" isn't\n")
+    text.say(step.as_slice())?.say(b" isn't")
 }
 
 // Adds the step to the member at a place of a value.

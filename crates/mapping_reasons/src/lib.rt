@@ -22,6 +22,7 @@ mod flat;
 mod front;
 mod indent;
 mod lines;
+mod members;
 mod met;
 mod missing;
 mod names;

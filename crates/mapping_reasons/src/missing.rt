@@ -3,6 +3,7 @@
 ghost use Rattle.std.specs.Prelude.{IfOk};
 ghost use Rattle.mapping_reasons.specs.Why.{TellsMissing};
 
+use crate::members::{name_in, say_members};
 use crate::way::say_element;
 use pickle_map::ValueRef;
 use pickle_script::text::Text;
@@ -30,14 +31,19 @@ fn say_missing(alloc: Global, value: ValueRef<'_>, steps: &[Step]) -> Result<Tex
     for (count, step) in steps.iter().enumerate() {
         match step_to(part, step) {
             Some(next) => part = next,
-            None => return say_first_missing(alloc, steps, count),
+            None => return say_first_missing(alloc, part, steps, count),
         }
     }
     Ok(Text::new(alloc))
 }
 
 /// A line on a path whose first `count` steps lead to a part, and the step after them to none.
-fn say_first_missing(alloc: Global, steps: &[Step], count: usize) -> Result<Text, AllocError> {
+fn say_first_missing(
+    alloc: Global,
+    part: ValueRef<'_>,
+    steps: &[Step],
+    count: usize,
+) -> Result<Text, AllocError> {
     let (there, rest) = steps.split_at(count.min(steps.len()));
     let there = path_text(alloc, there)?;
     let text = Text::new(alloc).say(b"  ")?;
@@ -47,7 +53,10 @@ fn say_first_missing(alloc: Global, steps: &[Step], count: usize) -> Result<Text
     };
     let text = text.say(b" is there, ")?.say(there.as_slice())?;
     match rest.first() {
-        Some(step) => say_step(text, step)?.say(b" isn't\n"),
+        Some(step) => {
+            let text = say_step(text, step)?.say(b" isn't")?;
+            say_members(alloc, text, part, name_in(step))?.say(b"\n")
+        }
         None => Ok(text),
     }
 }
