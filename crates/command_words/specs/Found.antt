@@ -19,6 +19,7 @@ use Rattle.command_words.specs.declared.selection.Choice.TheVariants.{Part, Part
 use Rattle.command_words.specs.declared.start.Start.{Start}
 use Rattle.command_words.specs.declared.start.Start.TheVariants.{Bit}
 use Rattle.command_words.specs.declared.terms.Terms.{Terms}
+use Rattle.command_words.specs.declared.words.mapping.MappingWords.{MappingWords}
 use Rattle.command_words.specs.declared.words.Job.{Job}
 use Rattle.command_words.specs.declared.words.Job.TheVariants as job
 use Rattle.command_words.specs.declared.words.Job.TheVariants.{Map, Bound, BoundText, Check, Types, Formats, Dump}
@@ -87,6 +88,10 @@ pub record AsksMapping (found : Found) (start : Start) (order : Order) (limit : 
   pub most_steps : NumberIn (first_value found (codes "limit")) 1000000000 limit
   pub read_from : pickle ≡ word_in found (codes "PICKLE")
   pub type_named : name ≡ word_in found (codes "TYPE")
+
+-- the words of a mapping are what its arguments request
+abbrev pub AsksMappingOf : Found → MappingWords → Type 0
+AsksMappingOf found words = AsksMapping found words.start words.order words.limit (string_bytes words.pickle) (string_bytes words.name)
 
 -- the most bytes that are read of a file without a length, if such a file is read
 abbrev pub Spools : Found → Option ℕ → Type 0

@@ -2,6 +2,7 @@
 mod bytes;
 mod commands;
 mod found;
+mod mapping;
 mod selected;
 mod shown;
 mod style;
@@ -10,7 +11,7 @@ mod usage;
 ghost use Rattle.std.specs.Prelude.{◌≡◌, ◌≢◌, ◌⊎◌, [], Some, codes, map, string_bytes, MatchResult, IfOk, IfErr, true, false};
 ghost use Rattle.clap.specs.Matches.{found_of, first_value, subcommand_name_of};
 ghost use Rattle.command_words.specs.Words.{AnswersBy, IsCheckOf, IsBareCheckOf, NamesMode, NamesModeIfAny};
-ghost use Rattle.command_words.specs.Found.{word_in, NumberIn, NumberIfAny, HasTerms, no_terms, NamesOrder, NamesFiles, StartsNowhere};
+ghost use Rattle.command_words.specs.Found.{word_in, NumberIfAny, HasTerms, no_terms, NamesFiles, StartsNowhere};
 ghost use Rattle.command_words.specs.Found.{Asks, IsJobOf, IsNoRange, IsNoBound};
 ghost use Rattle.command_words.specs.declared.words.WordFault.TheVariants.{Memory};
 
@@ -21,12 +22,13 @@ use crate::selection::Choice;
 use crate::start::Start;
 use crate::terms::Terms;
 use bit_space::Order;
-use bytes::{bytes_in, start_of};
+use bytes::bytes_in;
 use clap::ArgMatches;
 use clap::error::ErrorKind;
 use clap::parser::ValueSource;
-use commands::{DEFAULT_LIMIT, PROGRAM, SHOWN_ELEMENTS, SHOWN_LEVELS, program};
+use commands::{PROGRAM, SHOWN_ELEMENTS, SHOWN_LEVELS, program};
 use found::{flag_of, number_if_any, number_of, word, word_of};
+use mapping::mapping_words;
 use selected::{part_beside, selection_of};
 use shown::shown_words;
 use std::alloc::{AllocError, Global};
@@ -271,16 +273,6 @@ fn read_command(alloc: Global, matches: &ArgMatches<'_>) -> Result<Job, WordFaul
     }
 }
 
-// The byte order that an argument names: `little`, or the default, big-endian, for any other.
-fn order_of(word: &str) -> Order
-    ensures { NamesOrder word.now result }
-{
-    match word {
-        "little" => Order::Little,
-        _ => Order::Big,
-    }
-}
-
 fn read_map(alloc: Global, found: &ArgMatches<'_>) -> Result<Job, WordFault>
     ensures asks { IfOk result (Asks (found_of found.now)) }
     ensures command { IfOk result (IsJobOf (Some (codes "map"))) }
@@ -288,32 +280,32 @@ fn read_map(alloc: Global, found: &ArgMatches<'_>) -> Result<Job, WordFault>
 {
     let terms = terms_of(alloc, found, Choice::Parts, None)?;
     let spool = spool_of(alloc, found)?;
+    let mapping = mapping_words(alloc, found)?;
+    let file = word_of(alloc, found, "FILE")?;
+    let mode = mode_of(word(found, "mode"));
     let progress = flag_of(found, "progress");
-    match (start_of(found)?, faults_of(word(found, "faults"))) {
+    match (mapping.start, faults_of(word(found, "faults"))) {
         (Start::Bit(at), FaultForm::Text) if spool.is_none() && !progress && has_no_terms(&terms) =>
             Ok(Job::Map {
                 at,
-                order: order_of(word(found, "endian")),
-                limit: limit_of(alloc, found)?,
-                mode: mode_of(word(found, "mode")),
-                pickle: word_of(alloc, found, "PICKLE")?,
-                name: word_of(alloc, found, "TYPE")?,
-                file: word_of(alloc, found, "FILE")?,
+                order: mapping.order,
+                limit: mapping.limit,
+                mode,
+                pickle: mapping.pickle,
+                name: mapping.name,
+                file,
             }),
         (start, faults) => Ok(Job::Request(Request {
             start,
-            order: order_of(word(found, "endian")),
-            limit: limit_of(alloc, found)?,
+            order: mapping.order,
+            limit: mapping.limit,
             spool,
             terms,
-            form: Form::Printed {
-                mode: mode_of(word(found, "mode")),
-                faults,
-            },
+            form: Form::Printed { mode, faults },
             progress,
-            pickle: word_of(alloc, found, "PICKLE")?,
-            name: word_of(alloc, found, "TYPE")?,
-            over: Over::File(word_of(alloc, found, "FILE")?),
+            pickle: mapping.pickle,
+            name: mapping.name,
+            over: Over::File(file),
         })),
     }
 }
@@ -323,20 +315,25 @@ fn read_show(alloc: Global, found: &ArgMatches<'_>) -> Result<Job, WordFault>
     ensures command { IfOk result (IsJobOf (Some (codes "show"))) }
     ensures offset { IfErr result (λ fault. fault ≡ WordFault.Offset → StartsNowhere (found_of found.now)) }
 {
+    let mapping = mapping_words(alloc, found)?;
+    let spool = spool_of(alloc, found)?;
+    let terms = terms_of(alloc, found, Choice::Part, Some(SHOWN_ELEMENTS))?;
+    let depth = depth_of(alloc, found, Some(SHOWN_LEVELS))?;
+    let file = word_of(alloc, found, "FILE")?;
     Ok(Job::Request(Request {
-        start: start_of(found)?,
-        order: order_of(word(found, "endian")),
-        limit: limit_of(alloc, found)?,
-        spool: spool_of(alloc, found)?,
-        terms: terms_of(alloc, found, Choice::Part, Some(SHOWN_ELEMENTS))?,
+        start: mapping.start,
+        order: mapping.order,
+        limit: mapping.limit,
+        spool,
+        terms,
         form: Form::Shown {
             color: color_of(word(found, "color")),
-            depth: depth_of(alloc, found, Some(SHOWN_LEVELS))?,
+            depth,
         },
         progress: flag_of(found, "progress"),
-        pickle: word_of(alloc, found, "PICKLE")?,
-        name: word_of(alloc, found, "TYPE")?,
-        over: Over::File(word_of(alloc, found, "FILE")?),
+        pickle: mapping.pickle,
+        name: mapping.name,
+        over: Over::File(file),
     }))
 }
 
@@ -345,32 +342,28 @@ fn read_each(alloc: Global, found: &ArgMatches<'_>) -> Result<Job, WordFault>
     ensures command { IfOk result (IsJobOf (Some (codes "each"))) }
     ensures offset { IfErr result (λ fault. fault ≡ WordFault.Offset → StartsNowhere (found_of found.now)) }
 {
+    let mapping = mapping_words(alloc, found)?;
+    let spool = spool_of(alloc, found)?;
+    let terms = terms_of(alloc, found, Choice::Columns, None)?;
+    let names = names_in(alloc, found)?;
     Ok(Job::Request(Request {
-        start: start_of(found)?,
-        order: order_of(word(found, "endian")),
-        limit: limit_of(alloc, found)?,
-        spool: spool_of(alloc, found)?,
-        terms: terms_of(alloc, found, Choice::Columns, None)?,
+        start: mapping.start,
+        order: mapping.order,
+        limit: mapping.limit,
+        spool,
+        terms,
         form: Form::Printed {
             mode: mode_of(word(found, "mode")),
             faults: faults_of(word(found, "faults")),
         },
         progress: flag_of(found, "progress"),
-        pickle: word_of(alloc, found, "PICKLE")?,
-        name: word_of(alloc, found, "TYPE")?,
+        pickle: mapping.pickle,
+        name: mapping.name,
         over: Over::Files {
-            names: names_in(alloc, found)?,
+            names,
             flush: flag_of(found, "flush"),
         },
     }))
-}
-
-// The most steps of a mapping.
-fn limit_of(alloc: Global, found: &ArgMatches<'_>) -> Result<u64, WordFault>
-    ensures ok { IfOk result (NumberIn (first_value (found_of found.now) (codes "limit")) 1000000000) }
-    ensures fault { IfErr result (λ fault. fault ≢ WordFault.Offset) }
-{
-    number_of(alloc, found, "limit", "--limit <N>", DEFAULT_LIMIT)
 }
 
 // The most bytes that are read of a file without a length, if such a file is read.
