@@ -10,21 +10,22 @@ use pickle_script::script::{Part, Script};
 use pickle_script::text::Text;
 use pickle_types::refused::OperandType;
 use std::alloc::{AllocError, Global};
-use std::collections::BTreeMap;
 
 /// The most names that are printed.
 const MOST_TOLD: usize = 8;
 
-/// Each of some names once, in order.
-fn distinct<'w>(alloc: Global, names: &[&'w [u8]]) -> Result<Vec<&'w [u8]>, AllocError> {
-    let mut known: BTreeMap<&'w [u8], usize> = BTreeMap::new(alloc);
-    let mut once = Vec::new(alloc);
-    for (place, name) in names.iter().enumerate() {
-        if known.insert(*name, place)?.is_none() {
-            once.push(*name)?;
+/// The first of some names, each once.
+fn first_names<'w>(alloc: Global, names: &[&'w [u8]]) -> Result<Vec<&'w [u8]>, AllocError> {
+    let mut first = Vec::new(alloc);
+    for name in names {
+        if MOST_TOLD <= first.len() {
+            break;
+        }
+        if !first.as_slice().contains(name) {
+            first.push(*name)?;
         }
     }
-    Ok(once)
+    Ok(first)
 }
 
 /// Whether a token is a name, as a field has one.
@@ -38,10 +39,9 @@ impl<'a, 't> Place<'a, 't> {
     pub fn unknown_name(self, word: &[u8]) -> Result<Finding, AllocError> {
         let alloc = self.declared.alloc;
         let visible = self.declared.refused.visible_names(alloc)?;
-        let seen = distinct(alloc, visible.as_slice())?;
         let text = self.text().say(b"no field ")?.quote(word)?;
         let text = text.say(b" is seen here")?;
-        let text = self.say_names(text, word, seen.as_slice(), b"; there is ")?;
+        let text = self.say_names(text, word, visible.as_slice(), b"; there is ")?;
         self.finding(self.part, text, self.later_help(word, visible.as_slice())?)
     }
 
@@ -114,7 +114,7 @@ impl<'a, 't> Place<'a, 't> {
             return Ok(text);
         }
         let mut words: Vec<Vec<u8>> = Vec::new(self.declared.alloc);
-        for name in seen.iter().take(MOST_TOLD) {
+        for name in first_names(self.declared.alloc, seen)? {
             words.push(self.text().quote(name)?.into_bytes())?;
         }
         say_list(text.say(link)?, words.as_slice(), b" and ")
