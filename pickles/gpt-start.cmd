@@ -1,0 +1,1 @@
+map --endian little gpt.pk Start gpt.img
