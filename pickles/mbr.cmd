@@ -1,1 +1,1 @@
-map mbr.pk Mbr mbr.img
+map mbr.pk Disk mbr_disk.img

@@ -1,0 +1,1 @@
+map mbr.pk Mbr mbr.img
