@@ -1,1 +1,0 @@
-map vhd.pk Empty vhd.vhd

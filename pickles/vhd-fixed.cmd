@@ -1,0 +1,1 @@
+map vhd.pk Fixed vhd_fixed.vhd
