@@ -1,1 +1,1 @@
-map luks1.pk Luks1 luks1.img
+map luks1.pk Device luks1_device.img

@@ -1,0 +1,1 @@
+map luks1.pk Luks1 luks1.img
