@@ -1,1 +1,1 @@
-map luks2.pk Luks2 luks2.img
+map luks2.pk Device luks2_device.img

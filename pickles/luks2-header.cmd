@@ -1,0 +1,1 @@
+map luks2.pk Luks2 luks2.img
