@@ -12,6 +12,7 @@ use std::io::{Input, Write};
 use std::rt::{Env, Files};
 
 /// Checks the pickle at a path, and writes the answer as a JSON object.
+#[inline(never)]
 pub fn check_in_json<R: Files + Env + Input + AllocGlobal, O: Write>(
     rt: &R,
     path: &str,
@@ -24,6 +25,7 @@ pub fn check_in_json<R: Files + Env + Input + AllocGlobal, O: Write>(
 }
 
 /// Writes the types that the pickle at a path declares as JSON objects or, if it is refused, the object of its check.
+#[inline(never)]
 pub fn types_in_json<R: Files + Env + Input + AllocGlobal, O: Write>(
     rt: &R,
     path: &str,

@@ -29,6 +29,7 @@ impl Range {
 }
 
 /// Dumps bytes of the file at a path. With `tells_rest`, `note` gets a line on the bytes that the size leaves out.
+#[inline(never)]
 pub fn dump_file<R: Files<File = File> + AllocGlobal, O: Write>(
     rt: &R,
     path: &str,

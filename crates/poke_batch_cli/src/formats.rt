@@ -22,6 +22,7 @@ struct Head<'a> {
 }
 
 /// Prints a line for each installed pickle: its name, the type to map, the options, and a sentence, with tabs between.
+#[inline(never)]
 pub fn list_formats<R: Files + Env + Input + AllocGlobal + Clone + Drop, O: Write>(
     rt: &R,
     out: &mut O,

@@ -195,6 +195,7 @@ fn pickle_of(job: &Job) -> Option<&str> {
     }
 }
 
+// Runs a job. The functions that it calls are never inlined: a job would have the stack frames of all of them.
 fn run_job<
     R: Files<File = File> + Env + Input + Clock + AllocGlobal + Clone + Drop,
     O: Write,

@@ -29,6 +29,7 @@ use std::rt::{Clock, Env, Files};
 const PICKLE_ENDING: &str = ".pk";
 
 /// Maps a type as a request says.
+#[inline(never)]
 pub fn run_request<
     R: Files<File = File> + Env + Input + Clock + AllocGlobal + Clone + Drop,
     O: Write,
@@ -87,6 +88,7 @@ fn mapping_of(request: &Request) -> Mapping<'_>
 }
 
 /// Maps a type of the pickle at one path over the file at another. `err` may show how far the file was read.
+#[inline(never)]
 pub fn map_file<
     R: Files<File = File> + Env + Input + Clock + AllocGlobal + Clone + Drop,
     O: Write,

@@ -12,6 +12,7 @@ use std::rt::{Env, Files};
 use text_bounds::run::bound_text_outcome;
 
 /// Checks the pickle at a path.
+#[inline(never)]
 pub fn check_pickle<R: Files + Env + Input + AllocGlobal, O: Write>(
     rt: &R,
     path: &str,
@@ -31,6 +32,7 @@ pub fn check_pickle<R: Files + Env + Input + AllocGlobal, O: Write>(
 }
 
 /// Writes the types that the pickle at a path declares.
+#[inline(never)]
 pub fn tell_types<R: Files + Env + Input + AllocGlobal, O: Write>(
     rt: &R,
     path: &str,
@@ -45,6 +47,7 @@ pub fn tell_types<R: Files + Env + Input + AllocGlobal, O: Write>(
 }
 
 /// Writes the bounds of a mapping of a type of the pickle at a path over `bits` bits.
+#[inline(never)]
 pub fn bound_type<R: Files + Env + Input + AllocGlobal, O: Write>(
     rt: &R,
     path: &str,
@@ -61,6 +64,7 @@ pub fn bound_type<R: Files + Env + Input + AllocGlobal, O: Write>(
 }
 
 /// Writes the same bounds, and the most bytes of the printed value in a style and in a mode, or in any mode.
+#[inline(never)]
 pub fn bound_text<R: Files + Env + Input + AllocGlobal, O: Write>(
     rt: &R,
     path: &str,

@@ -88,6 +88,7 @@ impl<'n> Builder<'n> {
     }
 
     /// Keeps which clause is refused, the operand in it that has the fault, and the types that were found there.
+    #[inline(never)]
     fn refuse_clause(
         &mut self,
         part: RefusedPart,
@@ -328,6 +329,7 @@ impl<'n> Builder<'n> {
     }
 
     /// A field of a type, after others. What comes after the field sees it, except in a union.
+    #[inline(never)]
     fn field_of(
         &mut self,
         place: Place,
@@ -468,6 +470,7 @@ impl<'n> Builder<'n> {
         self.push(slot, Shape::Integer(t), None, 1)
     }
 
+    #[inline(never)]
     fn plain_at(
         &mut self,
         slot: Option<u16>,
@@ -489,6 +492,7 @@ impl<'n> Builder<'n> {
         }
     }
 
+    #[inline(never)]
     fn offset_at(
         &mut self,
         slot: Option<u16>,
@@ -505,6 +509,8 @@ impl<'n> Builder<'n> {
         let (t, bits) = offset_parts(&self.names, &self.nodes, reference, unit)?;
         self.push(slot, Shape::Offset(t, bits), None, 1)
     }
+
+    // The calls of nested types stay small on the stack: what isn't nested is never inlined into them.
 
     /// The node of the type that a form means. A type deeper than `room` is `TooDeep`.
     #[cycle(types)]

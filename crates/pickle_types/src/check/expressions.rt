@@ -34,6 +34,7 @@ fn is_held(n: Number) -> bool
 }
 
 /// A number. It is `Width` where its type doesn't hold it.
+#[inline(never)]
 fn number(n: Number) -> Result<Meant, FaultKind>
     ensures gives { (nodes : List Node) → Gives (meant_of nodes) result (number_meant n) }
     ensures sound { (nodes : List Node) → IfOk result (IsSoundMeant nodes) }
@@ -65,6 +66,7 @@ fn character(byte: u8) -> Meant
     }
 }
 
+#[inline(never)]
 fn text(alloc: Global, bytes: &[u8]) -> Result<Meant, FaultKind>
     ensures gives { (nodes : List Node) → Gives (meant_of nodes) result (Ok (text_meant bytes.now)) }
     ensures sound { (nodes : List Node) → IfOk result (IsSoundMeant nodes) }
@@ -76,6 +78,7 @@ fn text(alloc: Global, bytes: &[u8]) -> Result<Meant, FaultKind>
 }
 
 /// The field that a name means: its frame, counted from the innermost, and its place in that frame.
+#[inline(never)]
 fn name(seen: &Scopes, levels: u8, word: &[u8]) -> Result<Meant, FaultKind>
     requires below { (n : ℕ) × AreBelow n levels seen.now }
     ensures gives { (nodes : List Node) → Gives (meant_of nodes) result (resolved (views_of nodes seen.now) levels word.now) }
@@ -90,6 +93,7 @@ fn name(seen: &Scopes, levels: u8, word: &[u8]) -> Result<Meant, FaultKind>
     }
 }
 
+#[inline(never)]
 fn bracket(alloc: Global, x: Meant) -> Result<Meant, FaultKind>
     ensures gives { (nodes : List Node) → Gives (meant_of nodes) result (bracketed (meant_of nodes x)) }
     ensures sound { (nodes : List Node) → IsSoundMeant nodes x → IfOk result (IsSoundMeant nodes) }
@@ -103,6 +107,7 @@ fn bracket(alloc: Global, x: Meant) -> Result<Meant, FaultKind>
     }
 }
 
+#[inline(never)]
 fn prefix(alloc: Global, nodes: &Nodes, op: Prefix, x: Meant) -> Result<Meant, FaultKind>
     requires table { IsTable nodes.now }
     requires sound { IsSoundMeant nodes.now x }
@@ -301,6 +306,7 @@ fn convert(
     })
 }
 
+#[inline(never)]
 fn suffix(
     alloc: Global,
     names: &Names,
