@@ -1,7 +1,7 @@
 //! What a value has where a path asks for something else.
 
 use pickle_map::{Kind, ValueRef};
-use pickle_reasons::near::nearest;
+use pickle_script::near::nearest;
 use pickle_script::text::Text;
 use poke_batch::path::Step;
 use std::alloc::{AllocError, Global};

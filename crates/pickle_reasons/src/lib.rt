@@ -16,7 +16,6 @@ mod lexical;
 mod limits;
 mod located;
 mod names;
-pub mod near;
 pub mod nodes;
 pub mod note;
 mod pattern;

@@ -2,10 +2,10 @@
 
 use crate::clause::{Finding, Place};
 use crate::expected::say_list;
-use crate::near::nearest;
 use crate::sorts::say_type;
 use crate::syntax::opening;
 use crate::types::is_declared_as;
+use pickle_script::near::nearest;
 use pickle_script::script::{Part, Script};
 use pickle_script::text::Text;
 use pickle_types::refused::OperandType;

@@ -1,8 +1,8 @@
 //! The types of a pickle that has no type of the requested name.
 
 use crate::expected::say_list;
-use crate::near::nearest;
 use crate::types::declared_before;
+use pickle_script::near::nearest;
 use pickle_script::script::{Part, Script};
 use pickle_script::text::Text;
 use std::alloc::{AllocError, Global};

@@ -3,6 +3,7 @@
 
 pub mod anatomy;
 pub mod excerpt;
+pub mod near;
 pub mod place;
 pub mod script;
 pub mod site;

@@ -1,6 +1,6 @@
 //! Words with few edits between them.
 
-use pickle_script::script::cut;
+use crate::script::cut;
 use std::alloc::{AllocError, Global};
 use strsim::generic_levenshtein;
 
