@@ -3,7 +3,7 @@ use crate::offset_reasons::tell_signed;
 use crate::reason_text::{add, add_word};
 use command_words::path::{PathFault, read_path};
 use command_words::pattern::read_pattern;
-use pickle_reasons::near::nearest;
+use pickle_script::near::nearest;
 use poke_batch::write::{WriteFault, put};
 use std::alloc::{AllocError, Global};
 use std::io::Write;
