@@ -124,7 +124,7 @@ _poke_batch() {
     fi
     case $option in
         --endian) _poke_batch_words "$current" 'big little' ;;
-        --numbers) _poke_batch_words "$current" 'decimal hex' ;;
+        --numbers) _poke_batch_words "$current" 'decimal hex digits' ;;
         --chars) _poke_batch_words "$current" 'numbers text' ;;
         --faults) _poke_batch_words "$current" 'text json' ;;
         --absent) _poke_batch_words "$current" 'fault empty' ;;

@@ -95,7 +95,7 @@ complete -c poke_batch -n '__poke_batch_is map show each' -l get -x -d 'Print a 
 complete -c poke_batch -n '__poke_batch_is map' -l rows -x -d 'Print a line for each part of a pattern'
 complete -c poke_batch -n '__poke_batch_is map' -l header -d 'Print the paths of the columns first'
 complete -c poke_batch -n '__poke_batch_is map each' -l absent -xa 'fault empty' -d 'What an absent part is'
-complete -c poke_batch -n '__poke_batch_is map each bound' -l numbers -xa 'decimal hex' -d 'How numbers are printed'
+complete -c poke_batch -n '__poke_batch_is map each bound' -l numbers -xa 'decimal hex digits' -d 'How numbers are printed'
 complete -c poke_batch -n '__poke_batch_is map each bound' -l chars -xa 'numbers text' -d 'How arrays of char are printed'
 complete -c poke_batch -n '__poke_batch_is map each' -l faults -xa 'text json' -d 'How a refusal or a fault is printed'
 complete -c poke_batch -n '__poke_batch_is map show each bound' -l elements -x -d 'The most elements of a printed array'

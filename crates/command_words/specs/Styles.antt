@@ -8,14 +8,15 @@ use Rattle.command_words.specs.declared.answer_form.AnswerForm.TheVariants as an
 use Rattle.command_words.specs.declared.fault_form.FaultForm.{FaultForm}
 use Rattle.command_words.specs.declared.fault_form.FaultForm.TheVariants.{Text, Json}
 use Rattle.text_forms.specs.declared.style.Numbers.{Numbers}
-use Rattle.text_forms.specs.declared.style.Numbers.TheVariants.{Decimal, Hexadecimal}
+use Rattle.text_forms.specs.declared.style.Numbers.TheVariants.{Decimal, Hexadecimal, Digits}
 use Rattle.text_forms.specs.declared.style.Chars.{Chars}
 use Rattle.text_forms.specs.declared.style.Chars.TheVariants as chars
 
--- `hex` is hexadecimal, any other text decimal
+-- `hex` is hexadecimal, `digits` digits alone, any other text decimal
 abbrev pub NamesNumbers : List ℕ → Numbers → Type 0
-NamesNumbers word Decimal = word ≢ codes "hex"
+NamesNumbers word Decimal = (word ≢ codes "hex") × (word ≢ codes "digits")
 NamesNumbers word Hexadecimal = word ≡ codes "hex"
+NamesNumbers word Digits = word ≡ codes "digits"
 
 -- `text` is a text, any other text numbers
 abbrev pub NamesChars : List ℕ → Chars → Type 0

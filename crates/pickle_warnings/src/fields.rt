@@ -23,26 +23,34 @@ pub struct Seen<'a, 't> {
 }
 
 impl<'a, 't> Seen<'a, 't> {
-    /// The integer type of the one field with a name that is seen: an earlier field, or the field itself. `None` if there
-    /// is no such field, if there are more, if its type is another or isn't written there, and if nothing is left of the
-    /// budget.
+    /// The integer type of the one field with a name that is seen. `None` also if its type is another or isn't written
+    /// there.
     pub fn integer_type(
         &self,
         name: &[u8],
         own: &FieldParts,
     ) -> Result<Option<IntegerType>, AllocError> {
+        match self.field(name, own)? {
+            Some(field) => Ok(integer_of(self.script, field.form)),
+            None => Ok(None),
+        }
+    }
+
+    /// The one field with a name that is seen: an earlier field, or the field itself. `None` if there is no such field, if
+    /// there are more, and if nothing is left of the budget.
+    pub fn field(&self, name: &[u8], own: &FieldParts) -> Result<Option<FieldParts>, AllocError> {
         if !self.budget.take(self.outline.pieces.len() / 4) {
             return Ok(None);
         }
         let mut found = None;
         let mut count: usize = 0;
         if self.script.slice(own.name) == name {
-            found = integer_of(self.script, own.form);
+            found = Some(*own);
             count = 1;
         }
         for piece in self.outline.before(self.alloc, self.at)? {
             if self.name(&piece) == name {
-                found = integer_of(self.script, self.parts(&piece).form);
+                found = Some(self.parts(&piece));
                 count = count.saturating_add(1);
             }
         }

@@ -8,8 +8,10 @@ ghost use Rattle.pickle_warnings.specs.Warnings.{WarnsOf, AreNotes};
 mod arrays;
 mod constants;
 mod fields;
+mod indices;
 mod operators;
 mod outline;
+mod unions;
 mod walk;
 mod warning;
 

@@ -46,22 +46,34 @@ fn without_zeros(digits: &[u8]) -> &[u8] {
 /// The note about operators that group otherwise than they seem to: a mask without brackets in a comparison, as
 /// `flags & 1 == 1`, a comparison of a comparison, as `1 <= n <= 9`, and a number beside one, as `n == 1 || 2`.
 pub fn wrong_grouping(seen: &Seen<'_, '_>, node: Node<'_, '_>) -> Result<Option<Note>, AllocError> {
-    let mut left = Vec::new(seen.alloc);
-    left.push(node)?;
-    for _ in 0..seen.script.len() {
-        let Some(node) = left.pop() else {
-            return Ok(None);
-        };
+    for node in all_nodes(seen, node)? {
         if let Expression::Infix(operation) = node.expression {
             if let Some(note) = operation_note(seen, node, operation)? {
                 return Ok(Some(note));
             }
         }
+    }
+    Ok(None)
+}
+
+/// An expression, and all operands in it.
+pub fn all_nodes<'a, 't>(
+    seen: &Seen<'_, '_>,
+    node: Node<'a, 't>,
+) -> Result<Vec<Node<'a, 't>>, AllocError> {
+    let mut all = Vec::new(seen.alloc);
+    let mut left = Vec::new(seen.alloc);
+    left.push(node)?;
+    for _ in 0..seen.script.len() {
+        let Some(node) = left.pop() else {
+            break;
+        };
+        all.push(node)?;
         for operand in node.operands(seen.alloc)? {
             left.push(operand)?;
         }
     }
-    Ok(None)
+    Ok(all)
 }
 
 /// The note about an operation, if there is one.

@@ -3,8 +3,10 @@
 use crate::arrays::{negative_bound, swallowed};
 use crate::constants::{constant_clause, literal_constraint};
 use crate::fields::Seen;
+use crate::indices::outside_index;
 use crate::operators::{octal, wrong_grouping};
-use crate::outline::Outline;
+use crate::outline::{Outline, Piece};
+use crate::unions::never_taken;
 use pickle_reasons::budget::Budget;
 use pickle_reasons::nodes::{Node, constraint_in};
 use pickle_reasons::note::Note;
@@ -86,7 +88,31 @@ impl<'a, 't> Walk<'a, 't> {
             }
             if piece.is_plain() {
                 self.look_at_field(&outline, form, place)?;
+            } else if piece.head {
+                self.look_at_head(&outline, form, place, piece)?;
             }
+        }
+        Ok(())
+    }
+
+    /// Looks at the head of a struct or union, one of the pieces of a declared type.
+    fn look_at_head(
+        &mut self,
+        outline: &Outline,
+        form: Part,
+        place: usize,
+        head: &Piece,
+    ) -> Result<(), AllocError> {
+        let seen = Seen {
+            alloc: self.alloc,
+            script: self.script,
+            outline,
+            budget: self.budget,
+            form,
+            at: head.part.first,
+        };
+        if let Some(note) = never_taken(&seen, place)? {
+            self.notes.push(note)?;
         }
         Ok(())
     }
@@ -172,6 +198,11 @@ fn clause_note(
     }
     if let Some(note) = wrong_grouping(seen, node)? {
         return Ok(Some(note));
+    }
+    if let Some(field) = field {
+        if let Some(note) = outside_index(seen, node, field)? {
+            return Ok(Some(note));
+        }
     }
     match (purpose, field) {
         (Purpose::Bound | Purpose::Label, _) => negative_bound(seen, purpose, node),

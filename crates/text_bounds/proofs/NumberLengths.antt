@@ -7,7 +7,7 @@ use Rattle.std.proofs.lemmas.Bool.{cases_Bool, leb-true, leb-false, eqb-true, eq
 use Rattle.pickle_types.specs.declared.integer.IntegerType.{IntegerType}
 use Rattle.pickle_meaning.specs.Arithmetic.{with_sign}
 use Rattle.text_forms.specs.declared.style.Numbers.{Numbers}
-use Rattle.text_forms.specs.declared.style.Numbers.TheVariants.{Decimal, Hexadecimal}
+use Rattle.text_forms.specs.declared.style.Numbers.TheVariants.{Decimal, Hexadecimal, Digits}
 use Rattle.text_forms.specs.HexDigits.{hex_digit}
 use Rattle.poke_batch.specs.ValueText.{suffix_of, typed_text, cast_text, type_word, integer_text, unit_text}
 use Rattle.value_text.specs.StyledNumbers.{hex_digits, hexadecimal, signed_hex, hex_suffix, hex_cast, typed_hex, hex_integer, integer_in, offset_in, quoted_hex, json_number, json_offset_in}
@@ -148,6 +148,7 @@ pub integer_longest : (numbers : Numbers) (type : IntegerType) (n : ℕ) → n <
 unfolding integer_text hex_integer
 integer_longest Decimal type n lt = typed_longest (suffix_of type) type (with_sign type n) (longest_number type) (number_longest type n lt)
 integer_longest Hexadecimal type n lt = typed_hex_longest (hex_suffix type) type (with_sign type n) (longest_number type) (hex_longest type n lt)
+integer_longest Digits type n lt = number_longest type n lt
 
 pub quoted_length : (z : ℤ) → length (quoted_hex z) ≡ 2 + length (signed_hex z)
 unfolding quoted_hex
@@ -156,6 +157,7 @@ quoted_length z = omega (arith, length-append (signed_hex z) (codes "\""))
 pub json_longest : (numbers : Numbers) (type : IntegerType) (n : ℕ) → n < 2 ^ type.width → length (json_number numbers (with_sign type n)) ≤ length (json_number numbers (longest_number type))
 json_longest Decimal type n lt = number_longest type n lt
 json_longest Hexadecimal type n lt = omega (arith, hex_longest type n lt, quoted_length (with_sign type n), quoted_length (longest_number type))
+json_longest Digits type n lt = number_longest type n lt
 
 pub offset_length : (numbers : Numbers) (type : IntegerType) (unit : ℕ) (z : ℤ) → length (offset_in numbers type unit z) ≡ length (integer_in numbers type z) + 1 + length (unit_text unit)
 unfolding offset_in

@@ -5,7 +5,7 @@ use Rattle.pickle_types.specs.Types.{PokeType, IntegerOf, OffsetOf, StringOf, Ar
 use Rattle.pickle_types.specs.Bounds.{least_width}
 use Rattle.text_forms.specs.declared.mode.Mode.TheVariants.{Flat, Tree, Json, Lines}
 use Rattle.text_forms.specs.declared.style.Style.{Style}
-use Rattle.text_forms.specs.declared.style.Numbers.TheVariants.{Decimal, Hexadecimal}
+use Rattle.text_forms.specs.declared.style.Numbers.TheVariants.{Decimal, Hexadecimal, Digits}
 use Rattle.text_forms.specs.declared.style.Chars.TheVariants as chars
 use Rattle.text_forms.specs.Styles.{plain}
 use Rattle.poke_batch.specs.ValueText.{integer_text}
@@ -102,6 +102,9 @@ lines_of_a_struct = refl
 abbrev hexadecimal_style : Style
 hexadecimal_style = record { numbers = Hexadecimal; chars = chars.Numbers; elements = None }
 
+abbrev digits_style : Style
+digits_style = record { numbers = Digits; chars = chars.Numbers; elements = None }
+
 abbrev cut_style : ℕ → Style
 cut_style most = record { numbers = Decimal; chars = chars.Numbers; elements = Some most }
 
@@ -117,6 +120,11 @@ a_hexadecimal_byte = refl
 a_hexadecimal_offset : most_text hexadecimal_style Json (OffsetOf (record { width = 8; signed = false }) 8) 80 ≡ 30
 unfolding most_text size_of json_offset_in quoted_hex hexadecimal digits
 a_hexadecimal_offset = refl
+
+-- -128 and a line feed
+a_byte_of_digits : most_text digits_style Flat (signed 8) 80 ≡ 5
+unfolding most_text size_of digits
+a_byte_of_digits = refl
 
 -- [255UB,..+3] with a comma for the element, and a line feed
 a_cut_array : most_text (cut_style 1) Flat (ArrayOf (unsigned 8) Unbounded) 16 ≡ 14

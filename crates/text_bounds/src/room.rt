@@ -8,7 +8,7 @@ ghost use Rattle.poke_batch.specs.PathText.{field_step};
 ghost use Rattle.poke_batch.specs.JsonText.{json_escape, key_text};
 ghost use Rattle.poke_batch.specs.ValueText.{spelled, spelled_byte, integer_text, typed_text, suffix_of, unit_text, title_text, name_text};
 ghost use Rattle.value_text.specs.StyledNumbers.{hex_digits, hexadecimal, signed_hex, hex_suffix, typed_hex};
-ghost use Rattle.text_forms.specs.declared.style.Numbers.TheVariants.{Decimal, Hexadecimal};
+ghost use Rattle.text_forms.specs.declared.style.Numbers.TheVariants.{Decimal, Hexadecimal, Digits};
 ghost use Rattle.text_forms.specs.Brackets.{in_brackets};
 ghost use Rattle.text_bounds.specs.TextRoom.{longest_number, integer_room, offset_room, escape_room, string_room, array_room, more_room, titled_room, line_room, element_before, element_moves, field_before, field_moves, end_room};
 
@@ -152,6 +152,17 @@ fn hex_room(mode: Mode, ty: IntegerType) -> u128
     }
 }
 
+/// The longest integer without its type.
+fn digits_room(mode: Mode, ty: IntegerType) -> u128
+    requires width { IsWidth ty }
+    ensures count { result ≡ integer_room Digits mode ty }
+    ensures few { result ≤ 41 }
+{
+    match mode {
+        Mode::Flat | Mode::Tree | Mode::Lines | Mode::Json => longest_digits(ty),
+    }
+}
+
 /// The longest printed integer.
 pub fn integer_room(form: Form, ty: IntegerType) -> u128
     requires width { IsWidth ty }
@@ -161,6 +172,7 @@ pub fn integer_room(form: Form, ty: IntegerType) -> u128
     match form.style.numbers {
         Numbers::Decimal => decimal_room(form.mode, ty),
         Numbers::Hexadecimal => hex_room(form.mode, ty),
+        Numbers::Digits => digits_room(form.mode, ty),
     }
 }
 

@@ -5,6 +5,8 @@
 pub enum Numbers {
     Decimal,
     Hexadecimal,
+    /// Decimal digits alone, without the type.
+    Digits,
 }
 
 /// How an array is printed whose element was declared as `char`.

@@ -6,7 +6,7 @@ use Rattle.std.proofs.lemmas.List.{append-nil, append_assoc}
 use Rattle.pickle_types.specs.declared.node.Node.{Node}
 use Rattle.text_forms.specs.HexDigits.{hex_digit}
 use Rattle.text_forms.specs.declared.style.Numbers.{Numbers}
-use Rattle.text_forms.specs.declared.style.Numbers.TheVariants.{Decimal, Hexadecimal}
+use Rattle.text_forms.specs.declared.style.Numbers.TheVariants.{Decimal, Hexadecimal, Digits}
 use Rattle.text_forms.specs.declared.style.Style.{Style}
 use Rattle.text_forms.specs.declared.style.Chars.{Chars}
 use Rattle.text_forms.specs.declared.style.Chars.TheVariants as form
@@ -67,6 +67,7 @@ quoted_is z = string (signed_characters z)
 integer_is : (numbers : Numbers) (z : ℤ) → unsigned_abs z < 2 ^ 64 → ReadsValue (json_number numbers z) (integer_json numbers z)
 integer_is Decimal z small = number_value (number_is z small)
 integer_is Hexadecimal z small = string_value (quoted_is z)
+integer_is Digits z small = number_value (number_is z small)
 
 offset_is : (numbers : Numbers) (magnitude : ℤ) (unit : ℕ) → unsigned_abs magnitude < 2 ^ 64 → unit < 2 ^ 64 → ReadsValue (json_offset_in numbers magnitude unit) (styled_offset_json numbers magnitude unit)
 unfolding json_offset_in json_string

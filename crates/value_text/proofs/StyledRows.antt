@@ -5,12 +5,12 @@ use Rattle.pickle_types.specs.declared.integer.IntegerType.{IntegerType}
 use Rattle.pickle_meaning.specs.Values.{Value, Mapped, Label, IntegerLabel, OffsetLabel, TextLabel, ArrayLabel, StructLabel, UnionLabel, Members, NoMembers, MemberThen, AbsentThen}
 use Rattle.text_forms.specs.declared.mode.Mode.TheVariants.{Flat, Tree, Json, Lines}
 use Rattle.text_forms.specs.declared.style.Style.{Style}
-use Rattle.text_forms.specs.declared.style.Numbers.TheVariants.{Decimal, Hexadecimal}
+use Rattle.text_forms.specs.declared.style.Numbers.TheVariants.{Decimal, Hexadecimal, Digits}
 use Rattle.text_forms.specs.declared.style.Chars.TheVariants as char_form
 use Rattle.value_text.specs.ValueText.{integer_text, offset_text, string_text}
 use Rattle.value_text.specs.JsonText.{json_string}
 use Rattle.value_text.specs.CharTexts.{trimmed, chars_in, has_chars}
-use Rattle.value_text.specs.StyledNumbers.{hex_integer, hexadecimal, offset_in, quoted_hex, json_offset_in}
+use Rattle.value_text.specs.StyledNumbers.{hex_integer, hexadecimal, integer_in, offset_in, quoted_hex, json_offset_in}
 use Rattle.value_text.specs.Styled.{styled}
 
 abbrev unsigned_type : ℕ → IntegerType
@@ -21,6 +21,9 @@ signed_type width = record { width = width; signed = true }
 
 abbrev hexadecimals : Style
 hexadecimals = record { numbers = Hexadecimal; chars = char_form.Numbers; elements = None }
+
+abbrev bare_digits : Style
+bare_digits = record { numbers = Digits; chars = char_form.Numbers; elements = None }
 
 abbrev first : ℕ → Style
 first most = record { numbers = Decimal; chars = char_form.Numbers; elements = Some most }
@@ -111,6 +114,36 @@ hex_tree = refl
 hex_lines : styled hexadecimals Lines three_bytes ≡ codes "[0]\t16#b\t8#b\t0x1UB\n[1]\t24#b\t8#b\t0x2UB\n[2]\t32#b\t8#b\t0x3UB\n"
 unfolding hex_integer hexadecimal digits
 hex_lines = refl
+
+-- ---- digits alone
+
+digits_zero : integer_in Digits (unsigned_type 8) (pos 0) ≡ codes "0"
+unfolding digits
+digits_zero = refl
+
+digits_negative : integer_in Digits (signed_type 8) (negsuc 4) ≡ codes "-5"
+unfolding digits
+digits_negative = refl
+
+digits_odd_width : integer_in Digits (unsigned_type 12) (pos 308) ≡ codes "308"
+unfolding digits
+digits_odd_width = refl
+
+digits_offset : offset_in Digits (unsigned_type 32) 8 (pos 13) ≡ codes "13#B"
+unfolding offset_in digits
+digits_offset = refl
+
+digits_json : styled bare_digits Json (leaf (IntegerLabel (negsuc 4) (signed_type 32))) ≡ codes "-5\n"
+unfolding digits
+digits_json = refl
+
+digits_flat : styled bare_digits Flat packet ≡ codes "Packet {size=3,data=[1,2,3]}\n"
+unfolding digits
+digits_flat = refl
+
+digits_lines : styled bare_digits Lines three_bytes ≡ codes "[0]\t16#b\t8#b\t1\n[1]\t24#b\t8#b\t2\n[2]\t32#b\t8#b\t3\n"
+unfolding digits
+digits_lines = refl
 
 -- ---- the first elements
 

@@ -1,7 +1,7 @@
 -- The JSON value that a mapped value means in a style.
 use Rattle.std.specs.Prelude.{ℕ, suc, ℤ, pos, Option, if◌then◌else◌, codes}
 use Rattle.text_forms.specs.declared.style.Numbers.{Numbers}
-use Rattle.text_forms.specs.declared.style.Numbers.TheVariants.{Decimal, Hexadecimal}
+use Rattle.text_forms.specs.declared.style.Numbers.TheVariants.{Decimal, Hexadecimal, Digits}
 use Rattle.text_forms.specs.declared.style.Style.{Style}
 use Rattle.pickle_meaning.specs.Values.{Label, IntegerLabel, OffsetLabel, TextLabel, ArrayLabel, StructLabel, UnionLabel, Value, Mapped, Members, NoMembers, MemberThen, AbsentThen, member_count}
 use Rattle.value_store.specs.Labels.{member_name}
@@ -13,6 +13,7 @@ use Rattle.value_text.specs.CutArrays.{is_past}
 abbrev pub integer_json : Numbers → ℤ → Json
 integer_json Decimal number = whole_number number
 integer_json Hexadecimal number = JsonString (signed_hex number)
+integer_json Digits number = whole_number number
 
 -- a magnitude, and a unit in bits
 abbrev pub styled_offset_json : Numbers → (magnitude : ℤ) (unit : ℕ) → Json

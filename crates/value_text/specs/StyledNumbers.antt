@@ -3,7 +3,7 @@ use Rattle.std.specs.Prelude.{ℕ, zero, suc, ◌/◌, ◌%◌, ℤ, pos, negsuc
 use Rattle.std.specs.Fmt.{signed_decimal}
 use Rattle.pickle_types.specs.declared.integer.IntegerType.{IntegerType}
 use Rattle.text_forms.specs.declared.style.Numbers.{Numbers}
-use Rattle.text_forms.specs.declared.style.Numbers.TheVariants.{Decimal, Hexadecimal}
+use Rattle.text_forms.specs.declared.style.Numbers.TheVariants.{Decimal, Hexadecimal, Digits}
 use Rattle.text_forms.specs.HexDigits.{hex_digit}
 use Rattle.value_text.specs.ValueText.{suffix_of, type_word, integer_text, unit_text}
 
@@ -42,6 +42,7 @@ hex_integer type number = typed_hex (hex_suffix type) type number
 abbrev pub integer_in : Numbers → IntegerType → ℤ → List ℕ
 integer_in Decimal type number = integer_text type number
 integer_in Hexadecimal type number = hex_integer type number
+integer_in Digits type number = signed_decimal number
 
 unfoldable pub offset_in : Numbers → IntegerType → (unit : ℕ) → ℤ → List ℕ
 offset_in numbers type unit magnitude = integer_in numbers type magnitude ++ (codes "#" ++ unit_text unit)
@@ -53,6 +54,7 @@ quoted_hex number = codes "\"" ++ (signed_hex number ++ codes "\"")
 abbrev pub json_number : Numbers → ℤ → List ℕ
 json_number Decimal number = signed_decimal number
 json_number Hexadecimal number = quoted_hex number
+json_number Digits number = signed_decimal number
 
 -- the unit is in bits
 unfoldable pub json_offset_in : Numbers → (magnitude : ℤ) (unit : ℕ) → List ℕ

@@ -46,7 +46,7 @@ Options of map, show and each:
 
 Options of map and each:
   --mode MODE      how the value is printed: flat, tree, json or lines; each: flat or json [default: flat]
-  --numbers FORM   how numbers are printed, decimal or hex [default: decimal]
+  --numbers FORM   how numbers are printed: decimal, hex, or digits without the type [default: decimal]
   --chars FORM     how arrays of char are printed, numbers or text [default: numbers]
   --faults FORM    how a refusal or a fault is printed, text or json [default: text]
   --absent WHAT    what a part that isn't there is, fault or empty [default: fault]
@@ -436,7 +436,7 @@ fn absent<'a>(alloc: Global) -> Arg<'a> {
 }
 
 fn numbers<'a>(alloc: Global) -> Arg<'a> {
-    let forms = ["decimal", "hex"].as_slice();
+    let forms = ["decimal", "hex", "digits"].as_slice();
     option(
         alloc,
         "numbers",
@@ -512,7 +512,7 @@ fn bound<'a>(alloc: Global) -> Result<Command<'a>, AllocError> {
 
 // The options of the style that a bound is for. They say nothing without the bound on the printed value.
 fn with_bound_style<'a>(alloc: Global, command: Command<'a>) -> Result<Command<'a>, AllocError> {
-    let number_forms = ["decimal", "hex"].as_slice();
+    let number_forms = ["decimal", "hex", "digits"].as_slice();
     let char_forms = ["numbers", "text"].as_slice();
     let numbers = bound_option(alloc, "numbers", "FORM")
         .help("With --text, for numbers in this form [default: decimal]")

@@ -82,12 +82,13 @@ pub fn answer_of(word: &str) -> AnswerForm
     }
 }
 
-// The form of numbers that an argument names: decimal, the default, for any other than `hex`.
+// The form of numbers that an argument names: decimal, the default, for any other than `hex` and `digits`.
 fn numbers_of(word: &str) -> Numbers
     ensures { NamesNumbers word.now result }
 {
     match word {
         "hex" => Numbers::Hexadecimal,
+        "digits" => Numbers::Digits,
         _ => Numbers::Decimal,
     }
 }

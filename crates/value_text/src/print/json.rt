@@ -52,7 +52,7 @@ impl<W: Write> Printer<'_, W> {
         ensures { Puts W.contents self.old self.new (json_number numbers number) }
     {
         match numbers {
-            Numbers::Decimal => self.put_number(number),
+            Numbers::Decimal | Numbers::Digits => self.put_number(number),
             Numbers::Hexadecimal => self.put_quoted_hex(number),
         }
     }

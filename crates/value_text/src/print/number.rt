@@ -59,6 +59,7 @@ impl<W: Write> Printer<'_, W> {
         match numbers {
             Numbers::Decimal => self.put_decimal(ty, number),
             Numbers::Hexadecimal => self.put_hexadecimal(ty, number),
+            Numbers::Digits => self.put_number(number),
         }
     }
 
