@@ -14,7 +14,7 @@ use Rattle.pickle_tree.specs.Tree.{DeclarationTree}
 use Rattle.pickle_types.specs.DeclaredTypes.{Told, told_of, told_as, declared_in}
 use Rattle.pickle_types.specs.Names.{Names}
 use Rattle.pickle_types.specs.declared.declared_types.DeclaredType.{DeclaredType}
-use Rattle.pickle_reasons.specs.declared.note.Note.{Note}
+use Rattle.pickle_script.specs.declared.note.Note.{Note}
 use Rattle.run_parts.specs.Accepted.{IsAccepted}
 use Rattle.run_parts.specs.Outcomes.{EndsAs, writes, cuts}
 use Rattle.run_parts.specs.declared.outcome.Failure.TheVariants.{Write}

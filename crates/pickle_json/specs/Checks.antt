@@ -3,7 +3,7 @@ use Rattle.std.specs.Prelude.{◌≡◌, ℕ, Bool, true, false, List, [], ◌�
 use Rattle.std.specs.Io.KnownBytes.{Appends}
 use Rattle.pickle_tree.specs.Tree.{DeclarationTree}
 use Rattle.pickle_types.specs.Names.{Names}
-use Rattle.pickle_reasons.specs.declared.note.Note.{Note}
+use Rattle.pickle_script.specs.declared.note.Note.{Note}
 use Rattle.run_parts.specs.Accepted.{IsAccepted, Refuses}
 use Rattle.run_parts.specs.Outcomes.{outcome_members, outcome_status}
 use Rattle.run_parts.specs.declared.accept.Refusal.{Refusal}

@@ -8,8 +8,8 @@ ghost use Rattle.pickle_json.specs.Notes.{note_members};
 ghost use Rattle.pickle_json.specs.Checks.{Answers, AnswersPart, accepted_json, lead, more_members, notes_json, refused_json, warnings_json};
 
 use crate::note::put_note;
-use pickle_reasons::note::Note;
 use pickle_reasons::refusal_note;
+use pickle_script::note::Note;
 use pickle_types::table::Table;
 use pickle_warnings::accepted_notes;
 use run_parts::accept::{Refusal, accept};

@@ -6,7 +6,7 @@ ghost use Rattle.text_forms.specs.Written.{AppendsPart};
 ghost use Rattle.pickle_json.specs.Notes.{left_in_line, end_column, help_of, note_members, place_members};
 
 use crate::member::{put_count, put_number, put_string, put_text};
-use pickle_reasons::note::Note;
+use pickle_script::note::Note;
 use pickle_script::place::{Place, place_behind};
 use std::io::Write;
 use text_forms::write::WriteFault;

@@ -1,9 +1,9 @@
 //! Sentences about an expression that the type checker refuses.
 
 use crate::located::Located;
-use crate::nodes::{Node, is_path, token_count};
 use crate::sorts::say_type;
 use crate::types::{name_of, rule_finding, unknown_type};
+use pickle_script::nodes::{Node, is_path, token_count};
 use pickle_script::script::{Part, Script, cut};
 use pickle_script::site::Purpose;
 use pickle_script::text::Text;

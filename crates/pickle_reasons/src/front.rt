@@ -1,6 +1,6 @@
 //! The start of a pickle up to a token, and what may follow it, which the parser decides.
 
-use crate::budget::Budget;
+use pickle_script::budget::Budget;
 use pickle_script::script::{Part, Script};
 use pickle_script::text::Text;
 use run_parts::accept::{Refusal, read_syntax};

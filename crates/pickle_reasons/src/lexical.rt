@@ -1,6 +1,6 @@
 //! Sentences about bytes that aren't tokens.
 
-use crate::note::Note;
+use pickle_script::note::Note;
 use pickle_script::script::cut;
 use pickle_script::text::Text;
 use pickle_syntax::lexer::fault::LexFaultKind;

@@ -1,7 +1,7 @@
 //! Sentences about limits of the syntax.
 
-use crate::budget::Budget;
-use crate::note::Note;
+use pickle_script::budget::Budget;
+use pickle_script::note::Note;
 use pickle_script::script::{Part, Script};
 use pickle_script::text::Text;
 use run_parts::accept::{Refusal, read_syntax};

@@ -1,12 +1,12 @@
 //! Sentences about a token at which no pickle can go on.
 
 use crate::advice::advice;
-use crate::budget::Budget;
 use crate::expected::{Expected, say_expected};
 use crate::front::Front;
-use crate::note::Note;
 use crate::pattern::Around;
+use pickle_script::budget::Budget;
 use pickle_script::near::nearest;
+use pickle_script::note::Note;
 use pickle_script::script::{Part, Script, cut};
 use pickle_script::text::Text;
 use std::alloc::{AllocError, Global};

@@ -1,10 +1,14 @@
-//! A pickle's bytes with their tokens: where its parts are, and how they are printed.
+//! A pickle's bytes with their tokens: where its parts are, how they are printed, and notes about places of it.
 #![tactic(auto)]
 
 pub mod anatomy;
+pub mod budget;
 pub mod excerpt;
 pub mod near;
+pub mod nodes;
+pub mod note;
 pub mod place;
 pub mod script;
+mod shown;
 pub mod site;
 pub mod text;

@@ -2,9 +2,9 @@
 
 use crate::fields::{Seen, integer_of};
 use crate::warning::note_about;
-use pickle_reasons::nodes::Node;
-use pickle_reasons::note::Note;
 use pickle_script::anatomy::{FieldParts, base, bound};
+use pickle_script::nodes::Node;
+use pickle_script::note::Note;
 use pickle_script::script::Part;
 use pickle_script::site::Purpose;
 use pickle_script::text::Text;

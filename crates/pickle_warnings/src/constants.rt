@@ -3,9 +3,9 @@
 use crate::fields::Seen;
 use crate::operators::is_comparing;
 use crate::warning::note_about;
-use pickle_reasons::nodes::Node;
-use pickle_reasons::note::Note;
 use pickle_script::anatomy::FieldParts;
+use pickle_script::nodes::Node;
+use pickle_script::note::Note;
 use pickle_script::site::Purpose;
 use pickle_script::text::Text;
 use pickle_syntax::tree::{Expression, Infix, Operation};

@@ -3,9 +3,9 @@
 use crate::fields::Seen;
 use crate::operators::all_nodes;
 use crate::warning::note_about;
-use pickle_reasons::nodes::Node;
-use pickle_reasons::note::Note;
 use pickle_script::anatomy::{FieldParts, bound};
+use pickle_script::nodes::Node;
+use pickle_script::note::Note;
 use pickle_script::text::Text;
 use pickle_syntax::tree::{Element, Expression};
 use std::alloc::AllocError;

@@ -16,7 +16,7 @@ mod walk;
 mod warning;
 
 use crate::walk::warnings_of;
-use pickle_reasons::note::{Note, note_text};
+use pickle_script::note::{Note, note_text};
 use pickle_script::script::Script;
 use pickle_script::text::Text;
 use run_parts::accept::accept;

@@ -2,8 +2,8 @@
 
 use crate::fields::Seen;
 use crate::warning::note_about;
-use pickle_reasons::nodes::Node;
-use pickle_reasons::note::Note;
+use pickle_script::nodes::Node;
+use pickle_script::note::Note;
 use pickle_script::script::Part;
 use pickle_script::text::Text;
 use pickle_syntax::tree::{Expression, Infix, Operation};

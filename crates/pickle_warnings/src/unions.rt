@@ -3,8 +3,8 @@
 use crate::fields::{Seen, integer_of};
 use crate::outline::Piece;
 use crate::warning::note_about;
-use pickle_reasons::note::Note;
 use pickle_script::anatomy::{FieldParts, base};
+use pickle_script::note::Note;
 use pickle_script::text::Text;
 use std::alloc::AllocError;
 

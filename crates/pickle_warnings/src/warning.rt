@@ -1,6 +1,6 @@
 //! A sentence about some tokens.
 
-use pickle_reasons::note::Note;
+use pickle_script::note::Note;
 use pickle_script::script::{Part, Script};
 use pickle_script::text::Text;
 

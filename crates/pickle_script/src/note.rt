@@ -3,11 +3,11 @@
 ghost use Rattle.std.specs.Prelude.{◌≡◌, IfOk};
 ghost use Rattle.pickle_script.specs.Places.{TellsPlace, place_line};
 
+use crate::place::{Place, place_behind};
+use crate::script::cut;
 use crate::shown::Shown;
+use crate::text::Text;
 use itoa::Buffer;
-use pickle_script::place::{Place, place_behind};
-use pickle_script::script::cut;
-use pickle_script::text::Text;
 use std::alloc::{AllocError, Global};
 
 /// A sentence about some bytes of a pickle.

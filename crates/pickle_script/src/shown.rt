@@ -1,6 +1,6 @@
 //! A line of a pickle as it is printed, and the mark below it.
 
-use pickle_script::text::{Text, is_shown};
+use crate::text::{Text, is_shown};
 use std::alloc::AllocError;
 
 /// The most columns of a line that are printed.

@@ -1,6 +1,6 @@
 //! How much may be read for one explanation.
 
-use pickle_script::script::Script;
+use crate::script::Script;
 use std::cell::Cell;
 
 /// The bytes that may be read for a short pickle. Reading them takes about as long as the program's start.

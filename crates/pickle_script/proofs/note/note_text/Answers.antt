@@ -1,6 +1,6 @@
 use Rattle.std.proofs.Common.{rules}
-use Rattle.pickle_reasons.proofs.Notes.{tells_place}
-use Rattle.pickle_reasons.proofs.note.note_text.Goals as goal
+use Rattle.pickle_script.proofs.Notes.{tells_place}
+use Rattle.pickle_script.proofs.note.note_text.Goals as goal
 
 pub returns : goal.returns
 returns c =

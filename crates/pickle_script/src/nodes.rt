@@ -2,7 +2,7 @@
 
 ghost use Rattle.std.specs.Prelude.{◌≤◌};
 
-use pickle_script::script::Part;
+use crate::script::Part;
 use pickle_syntax::tree::{Clauses, Expression, Field, Form, Pickle, Reference, Suffix, Target};
 use std::alloc::{AllocError, Global};
 
