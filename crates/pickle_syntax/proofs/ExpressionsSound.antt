@@ -75,13 +75,13 @@ refused_wrong room rest toks less = wrong_only rest (Refused room toks) (λ left
 refused_later : (room more : ℕ) (toks front rest : List Token) → toks ≡ front ++ rest → more ≤ room + length front → (f : Fault) → Refused room rest f → Refused more toks f
 refused_later room more toks front rest e h = refused_more room more rest toks (shorter front rest toks e) (λ r. rw e (omega (arith, length-append front rest)))
 
-abbrev HasLaw : Reader → ℕ → Type 0
+abbrev pub HasLaw : Reader → ℕ → Type 0
 HasLaw sub room = (least : ℕ) (toks : List Token) → 1 ≤ least → least ≤ 13 → Outcome (Reads room least toks) (Refused room toks) (sub least toks)
 
 -- what a step reads is deeper than the operand before it
-record Steps (room least : ℕ) (left : Tree) (toks : List Token) (x : Tree × List Token) : Type 0 where
-  read : Reads room least toks x
-  deeper : depth left + 1 ≤ depth x.0
+pub record Steps (room least : ℕ) (left : Tree) (toks : List Token) (x : Tree × List Token) : Type 0 where
+  pub read : Reads room least toks x
+  pub deeper : depth left + 1 ≤ depth x.0
 
 module _ (sub : Reader) (room : ℕ) (law : HasLaw sub room) where
   operand_by_law : (s : Sign) (rest : List Token) (r : Start) → StartIs r s → Outcome (Reads (room + 1) 13 (Mark s ∷ rest)) (Refused (room + 1) (Mark s ∷ rest)) (operand_by sub rest r)
@@ -103,7 +103,7 @@ module _ (sub : Reader) (room : ℕ) (law : HasLaw sub room) where
       (refused_more room (room + 1) rest (Mark s ∷ rest) (omega arith) (λ h. omega arith))
   operand_by_law s rest start.Nothing is = fault _ _ (Wrong _) (omega arith)
 
-  operand_law : (toks : List Token) → Outcome (Reads (room + 1) 13 toks) (Refused (room + 1) toks) (operand_at sub toks)
+  pub operand_law : (toks : List Token) → Outcome (Reads (room + 1) 13 toks) (Refused (room + 1) toks) (operand_at sub toks)
   unfolding operand_at
   operand_law (Numeral n ∷ rest) = value _ _ (Literal n, rest) (record { shown = refl; fine = tt; high = omega arith; low = omega arith })
   operand_law (token.Character b ∷ rest) = value _ _ (tree.Character b, rest) (record { shown = refl; fine = tt; high = omega arith; low = omega arith })
@@ -113,7 +113,7 @@ module _ (sub : Reader) (room : ℕ) (law : HasLaw sub room) where
   operand_law [] = fault _ _ (Wrong _) (omega arith)
   operand_law (_ ∷ rest) = fault _ _ (Wrong _) (omega arith)
 
-  step_law : (least : ℕ) (left : Tree) (toks : List Token) (n : Next) → IsWellBracketed left → depth left ≤ room → least ≤ own_of n → left_of n ≤ level_of left → FrontIs n toks → Outcome (Steps (room + 1) least left (show left ++ toks)) (Refused room (drop 1 toks)) (step_at sub left (drop 1 toks) n)
+  pub step_law : (least : ℕ) (left : Tree) (toks : List Token) (n : Next) → IsWellBracketed left → depth left ≤ room → least ≤ own_of n → left_of n ≤ level_of left → FrontIs n toks → Outcome (Steps (room + 1) least left (show left ++ toks)) (Refused room (drop 1 toks)) (step_at sub left (drop 1 toks) n)
   unfolding step_at
   step_law least left toks (next.Infix op) fine low own high front =
       let m = level_middle op in

@@ -77,10 +77,10 @@ expression_wrong most rest toks l = wrong_only rest (Refused most toks) (λ left
 
 -- ---- expressions that may be absent
 
-record ReadsOptional (shows : Option Tree → List Token) (most : ℕ) (toks : List Token) (x : Option Tree × List Token) : Type 0 where
-  shown : toks ≡ shows x.0 ++ x.1
-  fine : IsOptionalWellBracketed x.0
-  low : IsOptionalWithin most x.0
+pub record ReadsOptional (shows : Option Tree → List Token) (most : ℕ) (toks : List Token) (x : Option Tree × List Token) : Type 0 where
+  pub shown : toks ≡ shows x.0 ++ x.1
+  pub fine : IsOptionalWellBracketed x.0
+  pub low : IsOptionalWithin most x.0
 
 expression_later : (most : ℕ) (rest toks : List Token) → Later rest toks → (f : Fault) → Refused most rest f → Refused most toks f
 expression_later most rest toks l (Wrong left) r = let h = l.shorter in omega arith
@@ -90,14 +90,14 @@ expression_later most rest toks l Many r = absurd r
 optional_joins : (toks front rest e after shown : List Token) → toks ≡ front ++ rest → rest ≡ e ++ after → shown ≡ front ++ e → toks ≡ shown ++ after
 optional_joins toks front rest e after shown a b c = rw (a, b, c) (simp append_assoc)
 
-present_law : (most : ℕ) (shows : Option Tree → List Token) (toks front rest : List Token) → toks ≡ front ++ rest → ((e : Tree) → shows (Some e) ≡ front ++ show e) → Outcome (ReadsOptional shows most toks) (Refused most toks) (present_at most rest)
+pub present_law : (most : ℕ) (shows : Option Tree → List Token) (toks front rest : List Token) → toks ≡ front ++ rest → ((e : Tree) → shows (Some e) ≡ front ++ show e) → Outcome (ReadsOptional shows most toks) (Refused most toks) (present_at most rest)
 unfolding present_at
 present_law most shows toks front rest is spells =
     then (expression_at most 1 rest) (λ e. Ok (Some e.0, e.1)) (expression_law most 1 rest (omega arith) (omega arith))
     (λ e _ r. value _ _ (Some e.0, e.1) (record { shown = optional_joins toks front rest (show e.0) e.1 (shows (Some e.0)) is r.shown (spells e.0); fine = r.fine; low = r.low }))
     (expression_later most rest toks (later front rest toks is))
 
-part_law : (most : ℕ) (s : Sign) (toks : List Token) → Outcome (ReadsOptional (show_part (Mark s)) most toks) (Refused most toks) (part_at most s toks)
+pub part_law : (most : ℕ) (s : Sign) (toks : List Token) → Outcome (ReadsOptional (show_part (Mark s)) most toks) (Refused most toks) (part_at most s toks)
 unfolding part_at
 part_law most s toks = by (after_sign s toks) refl
   where
@@ -105,7 +105,7 @@ part_law most s toks = by (after_sign s toks) refl
     by None is = value _ _ (None, toks) (record { shown = refl; fine = tt; low = tt })
     by (Some rest) is = present_law most (show_part (Mark s)) toks (Mark s ∷ []) rest (after_sign_is s toks rest is) (λ e. refl)
 
-condition_law : (most : ℕ) (toks : List Token) → Outcome (ReadsOptional (show_part (Reserved word.If)) most toks) (Refused most toks) (condition_at most toks)
+pub condition_law : (most : ℕ) (toks : List Token) → Outcome (ReadsOptional (show_part (Reserved word.If)) most toks) (Refused most toks) (condition_at most toks)
 unfolding condition_at
 condition_law most toks = by (after_word word.If toks) refl
   where
@@ -151,7 +151,7 @@ field_joins : (toks o r1 f r2 n r3 c r4 l r5 k r6 after : List Token) → toks �
 field_joins toks o r1 f r2 n r3 c r4 l r5 k r6 after e1 e2 e3 e4 e5 e6 e7 = rw (e1, e2, e3, e4, e5, e6, e7) (simp append_assoc)
 
 -- the tokens of a field before its semicolon
-abbrev before_end : FieldTree → List Token
+abbrev pub before_end : FieldTree → List Token
 before_end f = show_order f.parts.order ++ show_form f.form ++ (show_name f.parts.name ++ show_part (Mark sign.Colon) f.parts.constraint ++ show_part (Mark sign.At) f.parts.label ++ show_part (Reserved word.If) f.parts.condition)
 
 braced_joins : (toks l inside fs after : List Token) → toks ≡ l ++ (Mark sign.OpenBrace ∷ inside) → inside ≡ fs ++ (Mark sign.CloseBrace ∷ after) → toks ≡ (l ++ Mark sign.OpenBrace ∷ fs ++ Mark sign.CloseBrace ∷ []) ++ after
@@ -188,24 +188,24 @@ mutual
   fields_depth_shown (FieldThen f p fs) = omega (arith, form_depth_shown f, fields_depth_shown fs, length-append (show_order p.order ++ show_form f ++ show_parts p) (show_fields fs), length-append (show_order p.order ++ show_form f) (show_parts p), length-append (show_order p.order) (show_form f))
 
 module _ (limits : Limits) where
-  record ReadsForm (room : ℕ) (toks : List Token) (x : FormTree × List Token) : Type 0 where
-    shown : toks ≡ show_form x.0 ++ x.1
-    fine : IsFormWellBracketed x.0
-    within : IsFormWithin limits x.0
-    low : form_depth x.0 ≤ room
+  pub record ReadsForm (room : ℕ) (toks : List Token) (x : FormTree × List Token) : Type 0 where
+    pub shown : toks ≡ show_form x.0 ++ x.1
+    pub fine : IsFormWellBracketed x.0
+    pub within : IsFormWithin limits x.0
+    pub low : form_depth x.0 ≤ room
 
-  record ReadsField (room : ℕ) (toks : List Token) (x : FieldTree × List Token) : Type 0 where
-    shown : toks ≡ before_end x.0 ++ Mark sign.Semicolon ∷ x.1
-    fine : IsFormWellBracketed x.0.form × ArePartsWellBracketed x.0.parts
-    within : IsFormWithin limits x.0.form × ArePartsWithin limits.expression_depth x.0.parts
-    low : form_depth x.0.form ≤ room
+  pub record ReadsField (room : ℕ) (toks : List Token) (x : FieldTree × List Token) : Type 0 where
+    pub shown : toks ≡ before_end x.0 ++ Mark sign.Semicolon ∷ x.1
+    pub fine : IsFormWellBracketed x.0.form × ArePartsWellBracketed x.0.parts
+    pub within : IsFormWithin limits x.0.form × ArePartsWithin limits.expression_depth x.0.parts
+    pub low : form_depth x.0.form ≤ room
 
-  record ReadsFields (room n : ℕ) (toks : List Token) (x : FieldTrees × List Token) : Type 0 where
-    shown : toks ≡ show_fields x.0 ++ (Mark sign.CloseBrace ∷ x.1)
-    fine : AreFieldsWellBracketed x.0
-    within : AreFieldsWithin limits x.0
-    low : fields_depth x.0 ≤ room
-    few : field_count x.0 ≤ n
+  pub record ReadsFields (room n : ℕ) (toks : List Token) (x : FieldTrees × List Token) : Type 0 where
+    pub shown : toks ≡ show_fields x.0 ++ (Mark sign.CloseBrace ∷ x.1)
+    pub fine : AreFieldsWellBracketed x.0
+    pub within : AreFieldsWithin limits x.0
+    pub low : fields_depth x.0 ≤ room
+    pub few : field_count x.0 ≤ n
 
   -- the fields with both braces
   record ReadsBraced (room : ℕ) (toks : List Token) (x : FieldTrees × List Token) : Type 0 where
@@ -214,9 +214,9 @@ module _ (limits : Limits) where
     fields : ReadsFields room limits.fields inside x
 
   -- a type with no array suffix
-  record ReadsBase (room : ℕ) (toks : List Token) (x : FormTree × List Token) : Type 0 where
-    read : ReadsForm room toks x
-    base : IsBase x.0
+  pub record ReadsBase (room : ℕ) (toks : List Token) (x : FormTree × List Token) : Type 0 where
+    pub read : ReadsForm room toks x
+    pub base : IsBase x.0
 
   with_field_law : (room n many more : ℕ) (toks : List Token) (f : FieldTree × List Token) (r : Read FieldTrees) → more ≤ many + 1 → ReadsField room toks f → Outcome (ReadsFields room n f.1) (IsRefused many room f.1) r → Outcome (ReadsFields room (suc n) toks) (IsRefused more room toks) (with_field f.0 r)
   with_field_law room n many more toks f (Ok x) enough one o =
@@ -242,7 +242,7 @@ module _ (limits : Limits) where
       by Many r = rw one.shown (omega (arith, semicolons-append (before_end f.0) (Mark sign.Semicolon ∷ f.1)))
 
   module _ (sub : FormReader) (room : ℕ) (enough : room ≤ limits.expression_depth) (law : (toks : List Token) → Outcome (ReadsForm room toks) (IsRefused limits.fields room toks) (sub toks)) where
-    field_law : (toks : List Token) → Outcome (ReadsField room toks) (IsRefused limits.fields room toks) (field_at limits sub toks)
+    pub field_law : (toks : List Token) → Outcome (ReadsField room toks) (IsRefused limits.fields room toks) (field_at limits sub toks)
     unfolding field_at
     field_law toks =
         let most = limits.expression_depth in
@@ -284,7 +284,7 @@ module _ (limits : Limits) where
         by None is = o
         by (Some rest) is = value _ _ (NoFields, rest) (record { shown = after_sign_is sign.CloseBrace toks rest is; fine = tt; within = tt; low = omega arith; few = omega arith })
 
-    fields_law : (n : ℕ) (toks : List Token) → n ≤ limits.fields → Outcome (ReadsFields room n toks) (IsRefused n room toks) (fields_at limits sub n toks)
+    pub fields_law : (n : ℕ) (toks : List Token) → n ≤ limits.fields → Outcome (ReadsFields room n toks) (IsRefused n room toks) (fields_at limits sub n toks)
     unfolding fields_at
     fields_law zero toks few = unless_law zero toks (Err Many) (fault _ _ Many (omega arith))
     fields_law (suc n) toks few =
@@ -371,7 +371,7 @@ module _ (limits : Limits) where
         by (ToReference r) rest e = record { read = record { shown = e; fine = tt; within = tt; low = omega arith }; base = tt }
         by (ToOffset r u) rest e = record { read = record { shown = e; fine = tt; within = tt; low = omega arith }; base = tt }
 
-    base_law : (toks : List Token) → Outcome (ReadsBase (room + 1) toks) (IsRefused limits.fields (room + 1) toks) (base_at limits sub toks)
+    pub base_law : (toks : List Token) → Outcome (ReadsBase (room + 1) toks) (IsRefused limits.fields (room + 1) toks) (base_at limits sub toks)
     unfolding base_at
     base_law (Reserved w ∷ rest) = word_form_law w rest
     base_law [] = plain_law []
@@ -398,7 +398,7 @@ module _ (limits : Limits) where
           deep : room < form_depth f → all ≡ (show_form f ++ Mark sign.OpenBracket ∷ []) ++ rest → room + 1 < length all
           deep h e = rw e (omega (arith, form_depth_shown f, length-append (show_form f) (Mark sign.OpenBracket ∷ []), length-append (show_form f ++ Mark sign.OpenBracket ∷ []) rest))
 
-  form_law : (room : ℕ) (toks : List Token) → room ≤ limits.expression_depth → Outcome (ReadsForm room toks) (IsRefused limits.fields room toks) (form_at limits room toks)
+  pub form_law : (room : ℕ) (toks : List Token) → room ≤ limits.expression_depth → Outcome (ReadsForm room toks) (IsRefused limits.fields room toks) (form_at limits room toks)
   unfolding form_at
   form_law zero [] enough = fault _ _ (Wrong _) (omega arith)
   form_law zero (t ∷ toks) enough = fault _ _ Deep (omega arith)
@@ -411,13 +411,13 @@ module _ (limits : Limits) where
 
   -- ---- pickles
 
-  record ReadsDeclaration (toks : List Token) (x : DeclarationTree × List Token) : Type 0 where
-    shown : toks ≡ show_declaration x.0 ++ x.1
-    fine : IsFormWellBracketed x.0.form
-    within : IsFormWithin limits x.0.form
-    low : form_depth x.0.form ≤ limits.form_depth
+  pub record ReadsDeclaration (toks : List Token) (x : DeclarationTree × List Token) : Type 0 where
+    pub shown : toks ≡ show_declaration x.0 ++ x.1
+    pub fine : IsFormWellBracketed x.0.form
+    pub within : IsFormWithin limits x.0.form
+    pub low : form_depth x.0.form ≤ limits.form_depth
 
-  declaration_law : (toks : List Token) → limits.form_depth ≤ limits.expression_depth → Outcome (ReadsDeclaration toks) (IsRefused limits.fields limits.form_depth toks) (declaration_at limits toks)
+  pub declaration_law : (toks : List Token) → limits.form_depth ≤ limits.expression_depth → Outcome (ReadsDeclaration toks) (IsRefused limits.fields limits.form_depth toks) (declaration_at limits toks)
   unfolding declaration_at
   declaration_law toks enough =
       let many = limits.fields in

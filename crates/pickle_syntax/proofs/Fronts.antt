@@ -28,7 +28,7 @@ use Rattle.pickle_syntax.specs.ReadForms.{present_at, present_if, part_at, condi
 use Rattle.pickle_syntax.specs.Reading.{Fault, Wrong, Deep, Many, ◌>>=◌, Read, after_sign, after_word, needed, expect, name_at, width_at, reference_at, unit_named, unit_at, offset_at, target_at}
 
 -- no more than so many tokens are left
-abbrev Within : {A : Type 0} → ℕ → Read A → Type 0
+abbrev pub Within : {A : Type 0} → ℕ → Read A → Type 0
 Within n (Ok x) = length x.1 ≤ n
 Within n (Err (Wrong left)) = left ≤ n
 Within n (Err Deep) = Unit {0}
@@ -47,7 +47,7 @@ within_then n (Err Deep) f w more = tt
 within_then n (Err Many) f w more = tt
 
 -- a sign or a word that is asked for is seen in the first token
-sign_first : (s : Sign) (x : Token) → ((rest : List Token) → after_sign s (x ∷ rest) ≡ Some rest) ⊎ ((rest : List Token) → after_sign s (x ∷ rest) ≡ None)
+pub sign_first : (s : Sign) (x : Token) → ((rest : List Token) → after_sign s (x ∷ rest) ≡ Some rest) ⊎ ((rest : List Token) → after_sign s (x ∷ rest) ≡ None)
 unfolding after_sign
 sign_first s (Mark m) = by (sameb sign_contract.the_type m s) refl
   where
@@ -56,7 +56,7 @@ sign_first s (Mark m) = by (sameb sign_contract.the_type m s) refl
     by false e = inr (λ rest. rw e refl)
 sign_first s _ = inr (λ rest. refl)
 
-word_first : (w : Word) (x : Token) → ((rest : List Token) → after_word w (x ∷ rest) ≡ Some rest) ⊎ ((rest : List Token) → after_word w (x ∷ rest) ≡ None)
+pub word_first : (w : Word) (x : Token) → ((rest : List Token) → after_word w (x ∷ rest) ≡ Some rest) ⊎ ((rest : List Token) → after_word w (x ∷ rest) ≡ None)
 unfolding after_word
 word_first w (Reserved v) = by (sameb word_contract.the_type v w) refl
   where
@@ -65,11 +65,11 @@ word_first w (Reserved v) = by (sameb word_contract.the_type v w) refl
     by false e = inr (λ rest. rw e refl)
 word_first w _ = inr (λ rest. refl)
 
-sign_none : (s : Sign) → after_sign s [] ≡ None
+pub sign_none : (s : Sign) → after_sign s [] ≡ None
 unfolding after_sign
 sign_none s = refl
 
-word_none : (w : Word) → after_word w [] ≡ None
+pub word_none : (w : Word) → after_word w [] ≡ None
 unfolding after_word
 word_none w = refl
 
@@ -78,34 +78,34 @@ within_cond n true r s v w = v
 within_cond n false r s v w = w
 
 -- the operator at the front is seen in the first token
-next_first : (x : Token) (rest : List Token) → next_of (x ∷ rest) ≡ next_of (x ∷ [])
+pub next_first : (x : Token) (rest : List Token) → next_of (x ∷ rest) ≡ next_of (x ∷ [])
 next_first (Mark s) rest = refl
 next_first (token.AttributeOf a) rest = refl
 next_first (Reserved w) rest = refl
 next_first _ rest = refl
 
-with_field_is : (f : FieldTree) (r : Read FieldTrees) → with_field f r ≡ (r >>= λ x. Ok (FieldThen f.form f.parts x.0, x.1))
+pub with_field_is : (f : FieldTree) (r : Read FieldTrees) → with_field f r ≡ (r >>= λ x. Ok (FieldThen f.form f.parts x.0, x.1))
 with_field_is f (Ok x) = refl
 with_field_is f (Err e) = refl
 
 -- declarations, with no token behind them
-abbrev nothing_left : List DeclarationTree → Read (List DeclarationTree)
+abbrev pub nothing_left : List DeclarationTree → Read (List DeclarationTree)
 nothing_left ds = Ok (ds, [])
 
-abbrev behind : DeclarationTree → List DeclarationTree × List Token → Read (List DeclarationTree)
+abbrev pub behind : DeclarationTree → List DeclarationTree × List Token → Read (List DeclarationTree)
 behind d x = Ok (d ∷ x.0, x.1)
 
 -- tokens that are the same up to t, and then a or b
 module _ (t : Token) (a b : List Token) where
   -- two readings of them: both end before t or at it, with the same value; both stop there; or the first goes past t
-  data Paired {A : Type 0} (r s : Read A) : Type 0 where
+  pub data Paired {A : Type 0} (r s : Read A) : Type 0 where
     both : (v : A) (g : List Token) → r ≡ Ok (v, g ++ t ∷ a) → s ≡ Ok (v, g ++ t ∷ b) → Paired r s
     stops : (left : ℕ) → r ≡ Err (Wrong (left + length a + 1)) → s ≡ Err (Wrong (left + length b + 1)) → Paired r s
     past : Within (length a) r → Paired r s
 
-  record Decided {A : Type 0} (read : List Token → Read A) : Type 0 where
-    within : (toks : List Token) → Within (length toks) (read toks)
-    paired : (g : List Token) → Paired (read (g ++ t ∷ a)) (read (g ++ t ∷ b))
+  pub record Decided {A : Type 0} (read : List Token → Read A) : Type 0 where
+    pub within : (toks : List Token) → Within (length toks) (read toks)
+    pub paired : (g : List Token) → Paired (read (g ++ t ∷ a)) (read (g ++ t ∷ b))
 
   decided_as : {A : Type 0} (read other : List Token → Read A) → ((toks : List Token) → read toks ≡ other toks) → Decided other → Decided read
   decided_as read other e d = record {
@@ -214,7 +214,7 @@ module _ (t : Token) (a b : List Token) where
 
   -- ---- what stands at the front
 
-  name_decided : Decided name_at
+  pub name_decided : Decided name_at
   unfolding name_at
   name_decided = decided_first name_at (omega arith) first
     where
@@ -222,7 +222,7 @@ module _ (t : Token) (a b : List Token) where
       first (Named n) = takes (λ rest. Ok (n, rest)) (decided_ok n) (λ rest. refl)
       first _ = no_front name_at _ (λ rest. refl)
 
-  width_decided : Decided width_at
+  pub width_decided : Decided width_at
   unfolding width_at
   width_decided = decided_first width_at (omega arith) first
     where
@@ -230,7 +230,7 @@ module _ (t : Token) (a b : List Token) where
       first (Numeral n) = takes (λ rest. expect sign.Greater rest >>= λ after. Ok (n, after)) (decided_expect sign.Greater (λ after. Ok (n, after)) (decided_ok n)) (λ rest. refl)
       first _ = no_front width_at _ (λ rest. refl)
 
-  reference_decided : Decided reference_at
+  pub reference_decided : Decided reference_at
   unfolding reference_at
   reference_decided = decided_first reference_at (omega arith) first
     where
@@ -241,7 +241,7 @@ module _ (t : Token) (a b : List Token) where
       first (Opens opener.Offset) = wrong (λ rest. refl)
       first _ = no_front reference_at _ (λ rest. refl)
 
-  unit_decided : Decided unit_at
+  pub unit_decided : Decided unit_at
   unfolding unit_at
   unit_decided = decided_first unit_at (omega arith) first
     where
@@ -265,7 +265,7 @@ module _ (t : Token) (a b : List Token) where
   plain_decided : Decided (λ toks. reference_at toks >>= λ r. Ok (ToReference r.0, r.1))
   plain_decided = decided_then reference_at (λ r. Ok (ToReference r.0, r.1)) reference_decided (λ r. decided_ok (ToReference r))
 
-  target_decided : Decided target_at
+  pub target_decided : Decided target_at
   unfolding target_at
   target_decided = decided_first target_at (plain_decided.within []) first
     where
@@ -276,7 +276,7 @@ module _ (t : Token) (a b : List Token) where
   -- ---- expressions
 
   module _ (sub : Reader) (law : (least : ℕ) → Decided (sub least)) where
-    operand_decided : Decided (operand_at sub)
+    pub operand_decided : Decided (operand_at sub)
     unfolding operand_at
     operand_decided = decided_first (operand_at sub) (omega arith) first
       where
@@ -300,7 +300,7 @@ module _ (t : Token) (a b : List Token) where
             by start.Nothing is = wrong (λ rest. rw is refl)
         first _ = no_front (operand_at sub) _ (λ rest. refl)
 
-    step_decided : (left : Tree) (n : Next) → Decided (λ rest. step_at sub left rest n)
+    pub step_decided : (left : Tree) (n : Next) → Decided (λ rest. step_at sub left rest n)
     unfolding step_at
     step_decided left (next.Infix op) = decided_then (sub (level op + 1)) (λ r. Ok (Between op left r.0, r.1)) (law (level op + 1)) (λ r. decided_ok (Between op left r))
     step_decided left next.Choice =
@@ -339,7 +339,7 @@ module _ (t : Token) (a b : List Token) where
             (λ rest. rw (next_first x rest, is) refl)
         by others x false is = whole (λ toks. Ok (left, toks)) (decided_ok left) (λ rest. rw (next_first x rest, is) refl)
 
-  expression_decided : (room least : ℕ) → Decided (expression_at room least)
+  pub expression_decided : (room least : ℕ) → Decided (expression_at room least)
   unfolding expression_at
   expression_decided zero least = decided_first (expression_at zero least) (omega arith) (λ x. takes (λ l. Err Deep) decided_deep (λ rest. refl))
   expression_decided (suc room) least =
@@ -348,19 +348,19 @@ module _ (t : Token) (a b : List Token) where
 
   -- ---- fields and types
 
-  present_decided : (most : ℕ) → Decided (present_at most)
+  pub present_decided : (most : ℕ) → Decided (present_at most)
   unfolding present_at
   present_decided most = decided_then (expression_at most 1) (λ e. Ok (Some e.0, e.1)) (expression_decided most 1) (λ e. decided_ok (Some e))
 
-  part_decided : (most : ℕ) (s : Sign) → Decided (part_at most s)
+  pub part_decided : (most : ℕ) (s : Sign) → Decided (part_at most s)
   unfolding part_at
   part_decided most s = decided_sign s (present_if most) (present_at most) (λ toks. Ok (None, toks)) (λ rest toks. refl) (λ toks. refl) (present_decided most) (decided_ok None)
 
-  condition_decided : (most : ℕ) → Decided (condition_at most)
+  pub condition_decided : (most : ℕ) → Decided (condition_at most)
   unfolding condition_at
   condition_decided most = decided_word word.If (present_if most) (present_at most) (λ toks. Ok (None, toks)) (λ rest toks. refl) (λ toks. refl) (present_decided most) (decided_ok None)
 
-  bound_decided : (most : ℕ) → Decided (bound_at most)
+  pub bound_decided : (most : ℕ) → Decided (bound_at most)
   unfolding bound_at
   bound_decided most =
       decided_sign sign.CloseBracket (bound_by most) (λ rest. Ok (None, rest)) (λ toks. present_at most toks >>= λ e. expect sign.CloseBracket e.1 >>= λ after. Ok (e.0, after)) (λ rest toks. refl) (λ toks. refl) (decided_ok None)
@@ -395,7 +395,7 @@ module _ (t : Token) (a b : List Token) where
       ordered_decided : (o : Option ByteOrder) → Decided (λ l. ordered (o, l))
       ordered_decided o = decided_then sub (λ f. named o f.0 (optional_name_at f.1)) law (λ f. with_name_decided o f)
 
-      field_decided : Decided (field_at limits sub)
+      pub field_decided : Decided (field_at limits sub)
       unfolding field_at order_at
       field_decided = decided_first (field_at limits sub) ((ordered_decided None).within []) first
         where
@@ -404,7 +404,7 @@ module _ (t : Token) (a b : List Token) where
           first (Reserved word.Little) = takes (λ rest. ordered (Some order.Little, rest)) (ordered_decided (Some order.Little)) (λ rest. refl)
           first _ = whole (λ toks. ordered (None, toks)) (ordered_decided None) (λ rest. refl)
 
-      fields_decided : (n : ℕ) → Decided (fields_at limits sub n)
+      pub fields_decided : (n : ℕ) → Decided (fields_at limits sub n)
       unfolding fields_at
       fields_decided zero = decided_sign sign.CloseBrace (λ o toks. unless_closed o (Err Many)) (λ rest. Ok (NoFields, rest)) (λ toks. Err Many) (λ rest toks. refl) (λ toks. refl) (decided_ok NoFields) decided_many
       fields_decided (suc n) =
@@ -413,7 +413,7 @@ module _ (t : Token) (a b : List Token) where
           (λ f. decided_as (λ l. with_field f (fields_at limits sub n l)) (λ l. fields_at limits sub n l >>= λ x. Ok (FieldThen f.form f.parts x.0, x.1)) (λ l. with_field_is f (fields_at limits sub n l))
           (decided_then (fields_at limits sub n) (λ x. Ok (FieldThen f.form f.parts x.0, x.1)) (fields_decided n) (λ x. decided_ok (FieldThen f.form f.parts x)))))
 
-      braced_decided : Decided (braced_at limits sub)
+      pub braced_decided : Decided (braced_at limits sub)
       unfolding braced_at
       braced_decided = decided_expect sign.OpenBrace (λ after. fields_at limits sub limits.fields after) (fields_decided limits.fields)
 
@@ -434,7 +434,7 @@ module _ (t : Token) (a b : List Token) where
       targeted_decided : Decided (λ toks. target_at toks >>= λ t. Ok (target_form t.0, t.1))
       targeted_decided = decided_then target_at (λ t. Ok (target_form t.0, t.1)) target_decided (λ t. decided_ok (target_form t))
 
-      base_decided : Decided (base_at limits sub)
+      pub base_decided : Decided (base_at limits sub)
       unfolding base_at
       base_decided = decided_first (base_at limits sub) (targeted_decided.within []) first
         where
@@ -454,14 +454,14 @@ module _ (t : Token) (a b : List Token) where
         (decided_then (bound_at limits.expression_depth) (λ b. Ok (ArrayForm f b.0, b.1)) (bound_decided limits.expression_depth) (λ b. decided_ok (ArrayForm f b))))
         (decided_ok f)
 
-    form_decided : (room : ℕ) → Decided (form_at limits room)
+    pub form_decided : (room : ℕ) → Decided (form_at limits room)
     unfolding form_at
     form_decided zero = decided_first (form_at limits zero) (omega arith) (λ x. takes (λ l. Err Deep) decided_deep (λ rest. refl))
     form_decided (suc room) = decided_then (base_at limits (form_at limits room)) (λ f. suffix_at limits room f.0 f.1) (base_decided (form_at limits room) (form_decided room)) (λ f. suffix_decided room f)
 
     -- ---- pickles
 
-    declaration_decided : Decided (declaration_at limits)
+    pub declaration_decided : Decided (declaration_at limits)
     unfolding declaration_at
     declaration_decided =
         decided_needed word.Type (λ start. name_at start >>= λ name. expect sign.Assign name.1 >>= λ assign. form_at limits limits.form_depth assign >>= λ f. expect sign.Semicolon f.1 >>= λ after. Ok (record { name = name.0; form = f.0 }, after))
@@ -482,11 +482,11 @@ module _ (t : Token) (a b : List Token) where
         by (Err e) = refl
     all_next n (Err e) = refl
 
-    then_twice : {A B C : Type 0} (r : Result A Fault) (f : A → Result B Fault) (g : B → Result C Fault) → (r >>= f >>= g) ≡ (r >>= λ x. f x >>= g)
+    pub then_twice : {A B C : Type 0} (r : Result A Fault) (f : A → Result B Fault) (g : B → Result C Fault) → (r >>= f >>= g) ≡ (r >>= λ x. f x >>= g)
     then_twice (Ok x) f g = refl
     then_twice (Err e) f g = refl
 
-    all_decided : (n : ℕ) → Decided (all n)
+    pub all_decided : (n : ℕ) → Decided (all n)
     unfolding declarations_at
     all_decided zero = decided_first (all zero) (omega arith) (λ x. takes (λ l. Err Many) decided_many (λ rest. refl))
     all_decided (suc n) =

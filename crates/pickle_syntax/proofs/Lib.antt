@@ -27,6 +27,10 @@ pub mod NumberLaws
 pub mod Sizes
 pub mod Parsed
 pub mod Telling
+pub mod GoingOn
+pub mod ExpressionsGoOn
+pub mod FormsGoOn
+pub mod PicklesGoOn
 pub mod PieceLaws
 pub mod LexedLaws
 mod Rows

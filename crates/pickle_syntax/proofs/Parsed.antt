@@ -37,7 +37,7 @@ read_few kinds ds few e =
     let is = pickle_sound (tokens_of kinds) ds e in
     omega (arith, pickle_count_shown ds, ap length is.shown, length-map kinds token_of)
 
-pickle_refused : (toks : List Token) (f : Fault) → pickle_at standard toks ≡ Err f → IsRefused 1024 64 toks f
+pub pickle_refused : (toks : List Token) (f : Fault) → pickle_at standard toks ≡ Err f → IsRefused 1024 64 toks f
 pickle_refused toks f e = let law = declarations_law standard 4096 1024 toks (omega arith) (omega arith) (omega arith) in law.bad f e
 
 pub left_within : (toks : List Token) (left : ℕ) → pickle_at standard toks ≡ Err (Wrong left) → left ≤ length toks

@@ -11,7 +11,8 @@ use thiserror::Error;
 #[derive(Clone, Copy, PartialEq, Eq, Debug, Error)]
 #[error("refused {}", self.name())]
 pub enum ParseFault {
-    /// No pickle goes on with this token, counted from 0. Where this is the number of tokens, they end too early.
+    /// The first token with which no pickle goes on, counted from 0. Where this is the number of tokens, they end too
+    /// early.
     #[error("refused {} at token {}", self.name(), .0)]
     Syntax(usize),
     /// An expression, or the types inside a type, are nested more than 64 deep.
