@@ -10,7 +10,7 @@ use Rattle.text_forms.specs.declared.style.Numbers.{Numbers}
 use Rattle.text_forms.specs.declared.style.Numbers.TheVariants.{Decimal, Hexadecimal, Digits}
 use Rattle.text_forms.specs.HexDigits.{hex_digit}
 use Rattle.poke_batch.specs.ValueText.{suffix_of, typed_text, cast_text, type_word, integer_text, unit_text}
-use Rattle.value_text.specs.StyledNumbers.{hex_digits, hexadecimal, signed_hex, hex_suffix, hex_cast, typed_hex, hex_integer, integer_in, offset_in, quoted_hex, json_number, json_offset_in}
+use Rattle.value_text.specs.StyledNumbers.{hex_digits, hexadecimal, signed_hex, hex_suffix, hex_cast, typed_hex, hex_integer, integer_in, unit_in, offset_in, quoted_hex, json_number, json_offset_in}
 use Rattle.text_bounds.specs.TextRoom.{longest_number}
 
 abbrev spelt : ℕ → ℕ → List ℕ → List ℕ
@@ -159,9 +159,9 @@ json_longest Decimal type n lt = number_longest type n lt
 json_longest Hexadecimal type n lt = omega (arith, hex_longest type n lt, quoted_length (with_sign type n), quoted_length (longest_number type))
 json_longest Digits type n lt = number_longest type n lt
 
-pub offset_length : (numbers : Numbers) (type : IntegerType) (unit : ℕ) (z : ℤ) → length (offset_in numbers type unit z) ≡ length (integer_in numbers type z) + 1 + length (unit_text unit)
+pub offset_length : (numbers : Numbers) (type : IntegerType) (unit : ℕ) (z : ℤ) → length (offset_in numbers type unit z) ≡ length (integer_in numbers type z) + length (unit_in numbers unit)
 unfolding offset_in
-offset_length numbers type unit z = omega (arith, length-append (integer_in numbers type z) (codes "#" ++ unit_text unit))
+offset_length numbers type unit z = omega (arith, length-append (integer_in numbers type z) (unit_in numbers unit))
 
 pub offset_longest : (numbers : Numbers) (type : IntegerType) (unit n : ℕ) → n < 2 ^ type.width → length (offset_in numbers type unit (with_sign type n)) ≤ length (offset_in numbers type unit (longest_number type))
 offset_longest numbers type unit n lt = omega (arith, integer_longest numbers type n lt, offset_length numbers type unit (with_sign type n), offset_length numbers type unit (longest_number type))

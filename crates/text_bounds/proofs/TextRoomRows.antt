@@ -36,7 +36,7 @@ a_cast = refl
 
 -- 255UB#B
 an_offset : most_text plain Flat (OffsetOf (record { width = 8; signed = false }) 8) 80 ≡ 8
-unfolding most_text size_of integer_text offset_in digits
+unfolding most_text size_of integer_text offset_in unit_in digits
 an_offset = refl
 
 -- two quotes, nine bytes of four each, and a line feed

@@ -7,7 +7,7 @@ ghost use Rattle.poke_batch.specs.Suffixes.{suffix_text};
 ghost use Rattle.poke_batch.specs.PathText.{field_step};
 ghost use Rattle.poke_batch.specs.JsonText.{json_escape, key_text};
 ghost use Rattle.poke_batch.specs.ValueText.{spelled, spelled_byte, integer_text, typed_text, suffix_of, unit_text, title_text, name_text};
-ghost use Rattle.value_text.specs.StyledNumbers.{hex_digits, hexadecimal, signed_hex, hex_suffix, typed_hex};
+ghost use Rattle.value_text.specs.StyledNumbers.{unit_in, hex_digits, hexadecimal, signed_hex, hex_suffix, typed_hex};
 ghost use Rattle.text_forms.specs.declared.style.Numbers.TheVariants.{Decimal, Hexadecimal, Digits};
 ghost use Rattle.text_forms.specs.Brackets.{in_brackets};
 ghost use Rattle.text_bounds.specs.TextRoom.{longest_number, integer_room, offset_room, escape_room, string_room, array_room, more_room, titled_room, line_room, element_before, element_moves, field_before, field_moves, end_room};
@@ -187,6 +187,18 @@ fn unit_room(unit: u32) -> u128
     }
 }
 
+/// What is behind a magnitude.
+#[tactic(auto, unfolding(value_text::specs::StyledNumbers::unit_in))]
+fn unit_room_in(numbers: Numbers, unit: u32) -> u128
+    ensures count { result ≡ length (unit_in numbers unit) }
+    ensures few { result ≤ 41 }
+{
+    match numbers {
+        Numbers::Decimal | Numbers::Hexadecimal => 1 + unit_room(unit),
+        Numbers::Digits => 0,
+    }
+}
+
 /// The longest printed offset, whose unit is in bits.
 #[tactic(auto, using(crate::proofs::NumberLengths::offset_length, crate::proofs::NumberLengths::json_offset_length))]
 pub fn offset_room(form: Form, ty: IntegerType, unit: u32) -> u128
@@ -196,7 +208,7 @@ pub fn offset_room(form: Form, ty: IntegerType, unit: u32) -> u128
 {
     let number = integer_room(form, ty);
     match form.mode {
-        Mode::Flat | Mode::Tree | Mode::Lines => number + 1 + unit_room(unit),
+        Mode::Flat | Mode::Tree | Mode::Lines => number + unit_room_in(form.style.numbers, unit),
         Mode::Json => 22 + number + digits(u128::from(unit)),
     }
 }

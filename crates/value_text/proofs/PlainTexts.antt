@@ -30,7 +30,7 @@ use Rattle.value_store.specs.Refs.{value_shown}
 use Rattle.text_forms.specs.declared.style.Style.{Style}
 
 plain_offset : (type : IntegerType) (unit : ℕ) (magnitude : ℤ) → offset_in Decimal type unit magnitude ≡ offset_text type unit magnitude
-unfolding offset_in offset_text
+unfolding offset_in unit_in offset_text
 plain_offset type unit magnitude = refl
 
 plain_json_offset : (magnitude : ℤ) (unit : ℕ) → json_offset_in Decimal magnitude unit ≡ json_offset magnitude unit

@@ -88,7 +88,7 @@ unfolding hex_integer hexadecimal
 hex_lowest = refl
 
 hex_offset : offset_in Hexadecimal (unsigned_type 32) 4096 (pos 2048) ≡ codes "0x800U#4096"
-unfolding offset_in hex_integer hexadecimal digits
+unfolding offset_in unit_in hex_integer hexadecimal digits
 hex_offset = refl
 
 hex_json : styled hexadecimals Json (leaf (IntegerLabel (pos 446) (unsigned_type 32))) ≡ codes "\"0x1be\"\n"
@@ -129,8 +129,8 @@ digits_odd_width : integer_in Digits (unsigned_type 12) (pos 308) ≡ codes "308
 unfolding digits
 digits_odd_width = refl
 
-digits_offset : offset_in Digits (unsigned_type 32) 8 (pos 13) ≡ codes "13#B"
-unfolding offset_in digits
+digits_offset : offset_in Digits (unsigned_type 32) 8 (pos 13) ≡ codes "13"
+unfolding offset_in unit_in digits
 digits_offset = refl
 
 digits_json : styled bare_digits Json (leaf (IntegerLabel (negsuc 4) (signed_type 32))) ≡ codes "-5\n"

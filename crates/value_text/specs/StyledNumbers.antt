@@ -44,8 +44,14 @@ integer_in Decimal type number = integer_text type number
 integer_in Hexadecimal type number = hex_integer type number
 integer_in Digits type number = signed_decimal number
 
+-- what is behind a magnitude: nothing, where digits are alone
+unfoldable pub unit_in : Numbers → (unit : ℕ) → List ℕ
+unit_in Decimal unit = codes "#" ++ unit_text unit
+unit_in Hexadecimal unit = codes "#" ++ unit_text unit
+unit_in Digits unit = []
+
 unfoldable pub offset_in : Numbers → IntegerType → (unit : ℕ) → ℤ → List ℕ
-offset_in numbers type unit magnitude = integer_in numbers type magnitude ++ (codes "#" ++ unit_text unit)
+offset_in numbers type unit magnitude = integer_in numbers type magnitude ++ unit_in numbers unit
 
 -- an integer in JSON: a number, or a string of hexadecimal digits
 unfoldable pub quoted_hex : ℤ → List ℕ

@@ -46,7 +46,7 @@ Options of map, show and each:
 
 Options of map and each:
   --mode MODE      how the value is printed: flat, tree, json or lines; each: flat or json [default: flat]
-  --numbers FORM   how numbers are printed: decimal, hex, or digits without the type [default: decimal]
+  --numbers FORM   how numbers are printed: decimal, hex, or digits without type and unit [default: decimal]
   --chars FORM     how arrays of char are printed, numbers or text [default: numbers]
   --faults FORM    how a refusal or a fault is printed, text or json [default: text]
   --absent WHAT    what a part that isn't there is, fault or empty [default: fault]

@@ -7,7 +7,7 @@ ghost use Rattle.value_text.specs.TypedValue.{typed_shown};
 ghost use Rattle.value_text.specs.Puts.{Puts};
 ghost use Rattle.value_text.specs.PartText.{type_of};
 ghost use Rattle.value_text.specs.ValueText.{integer_text, cast_text, type_word, unit_text, suffix_of, with_sign_letter, width_letter};
-ghost use Rattle.value_text.specs.StyledNumbers.{integer_in, offset_in, hex_integer, hex_cast, hex_suffix, signed_hex, hexadecimal, hex_digits, upper_digits};
+ghost use Rattle.value_text.specs.StyledNumbers.{integer_in, unit_in, offset_in, hex_integer, hex_cast, hex_suffix, signed_hex, hexadecimal, hex_digits, upper_digits};
 ghost use Rattle.value_text.specs.Suffixes.{suffix_text};
 
 use super::printer::Printer;
@@ -36,8 +36,21 @@ impl<W: Write> Printer<'_, W> {
         ensures { Puts W.contents self.old self.new (offset_in numbers ty unit magnitude) }
     {
         self.put_integer(numbers, ty, magnitude);
-        self.put(b"#");
-        self.put_unit(unit);
+        self.put_unit_in(numbers, unit);
+    }
+
+    // Writes what is behind a magnitude.
+    #[tactic(auto, using(crate::proofs::Puts::puts), unfolding(crate::specs::StyledNumbers::unit_in))]
+    fn put_unit_in(&mut self, numbers: Numbers, unit: u32)
+        ensures { Puts W.contents self.old self.new (unit_in numbers unit) }
+    {
+        match numbers {
+            Numbers::Decimal | Numbers::Hexadecimal => {
+                self.put(b"#");
+                self.put_unit(unit);
+            }
+            Numbers::Digits => {}
+        }
     }
 
     /// Writes the letter of a unit of bits or bytes, or its number of bits.
