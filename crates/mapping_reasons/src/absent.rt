@@ -1,5 +1,6 @@
 //! The first part of a selection that a value lacks.
 
+use crate::impossible::impossible_text;
 use crate::members::{name_in, say_members};
 use crate::missing::say_step;
 use crate::way::say_element;
@@ -11,16 +12,20 @@ use poke_batch::path::Step;
 use poke_batch::pattern::{PatternStep, Span};
 use poke_batch::places::{Places, places_of};
 use poke_batch::presence::has_each;
-use poke_batch::selection::{Column, Selection, Shape};
+use poke_batch::selection::{Absent, Column, Selection, Shape};
 use std::alloc::{AllocError, Global};
 use value_text::typed::Typed;
 
-/// The line that says how far the path to the first absent part of a selection leads. Empty if all parts are there.
+/// The line that says how far the path to the first absent part of a selection leads, or where absent parts are no fault,
+/// which part no value of the type has. Empty if all parts are there.
 pub fn absent_text(
     alloc: Global,
     value: Typed<'_>,
     selection: &Selection,
 ) -> Result<Text, AllocError> {
+    if selection.absent == Absent::Empty {
+        return impossible_text(alloc, value, &selection.shape);
+    }
     match &selection.shape {
         Shape::Parts(patterns) => {
             for pattern in patterns {
@@ -140,8 +145,8 @@ fn say_column(
     Ok(Text::new(alloc))
 }
 
-// The name of the field to which a step of a pattern leads. Empty for any other step.
-fn name_of(step: &PatternStep) -> &[u8] {
+/// The name of the field to which a step of a pattern leads. Empty for any other step.
+pub fn name_of(step: &PatternStep) -> &[u8] {
     match step {
         PatternStep::Exact(step) => name_in(step),
         PatternStep::Elements(_) | PatternStep::Fields => &[],
@@ -173,7 +178,8 @@ fn say_place(text: Text, value: ValueRef<'_>, place: usize) -> Result<Text, Allo
     }
 }
 
-fn say_pattern_step(text: Text, step: &PatternStep) -> Result<Text, AllocError> {
+/// Adds a step of a pattern to the text.
+pub fn say_pattern_step(text: Text, step: &PatternStep) -> Result<Text, AllocError> {
     match step {
         PatternStep::Exact(step) => say_step(text, step),
         PatternStep::Elements(span) => say_span(text, *span),

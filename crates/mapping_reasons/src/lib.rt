@@ -20,6 +20,7 @@ mod cause;
 mod endings;
 mod flat;
 mod front;
+mod impossible;
 mod indent;
 mod lines;
 mod members;

@@ -50,7 +50,7 @@ pub struct Place<'a, 't> {
     pub declared: Declared<'a, 't>,
     pub clause: Part,
     pub part: Part,
-    types: OperandTypes,
+    pub types: OperandTypes,
 }
 
 /// What is wrong with the expression of a clause. `clause` has its tokens.
@@ -151,10 +151,10 @@ fn is_operator(token: &[u8]) -> bool {
 
 /// The tokens of an operator between two operands.
 #[derive(Clone, Copy)]
-struct Operands {
-    left: Part,
-    sign: Part,
-    right: Part,
+pub struct Operands {
+    pub left: Part,
+    pub sign: Part,
+    pub right: Part,
 }
 
 impl<'a, 't> Place<'a, 't> {
@@ -257,6 +257,9 @@ impl<'a, 't> Place<'a, 't> {
 
     /// What to write instead of an operator between two operands that it rejects.
     fn infix_help(self, operands: Operands) -> Result<Option<Text>, AllocError> {
+        if let Some(help) = self.letters_help(operands)? {
+            return Ok(Some(help));
+        }
         let OperandTypes { first, second, .. } = self.types;
         let help = match (first, second) {
             (

@@ -166,7 +166,7 @@ fn digit_value(digit: u8) -> Option<u8> {
 }
 
 /// Adds the hexadecimal digits of some bytes to the text.
-fn say_hexadecimal(text: Text, bytes: &[u8]) -> Result<Text, AllocError> {
+pub fn say_hexadecimal(text: Text, bytes: &[u8]) -> Result<Text, AllocError> {
     let mut text = text;
     for byte in bytes {
         text = text.say(&[hex_digit(*byte >> 4), hex_digit(*byte & 15)])?;

@@ -11,6 +11,7 @@ mod clause;
 mod expected;
 mod foreign;
 mod front;
+mod letters;
 mod lexical;
 mod limits;
 mod located;

@@ -28,10 +28,23 @@ fn first_names<'w>(alloc: Global, names: &[&'w [u8]]) -> Result<Vec<&'w [u8]>, A
     Ok(first)
 }
 
-/// Whether a token is a name, as a field has one.
+/// Whether a token is the name of a field: it is after a type, and before a clause or the end of the field.
 fn is_field(script: &Script<'_>, token: usize) -> bool {
     let next = script.text(token.saturating_add(1));
-    script.is_name(token) && matches!(next, b":" | b"@" | b"if" | b";")
+    let ends = matches!(next, b":" | b"@" | b"if" | b";");
+    ends && script.is_name(token) && 0 < token && ends_type(script, token.saturating_sub(1))
+}
+
+/// Whether a token can be the last one of a type before the name of a field.
+fn ends_type(script: &Script<'_>, token: usize) -> bool {
+    match script.text(token) {
+        b"]" | b"}" | b"string" => true,
+        b">" => matches!(
+            script.text(token.saturating_sub(2)),
+            b"int<" | b"uint<" | b","
+        ),
+        _ => script.is_name(token),
+    }
 }
 
 impl<'a, 't> Place<'a, 't> {
@@ -129,7 +142,9 @@ impl<'a, 't> Place<'a, 't> {
             )?));
         }
         let end = next_type(self.script(), self.part.end);
-        if (self.part.end..end).any(|token| self.script().text(token) == word) {
+        if (self.part.end..end).any(|token| self.script().text(token) == word
+            && is_field(self.script(), token))
+        {
             let text = text
                 .quote(word)?
                 .say(b" stands later: only the fields before are seen")?;

@@ -38,6 +38,7 @@ pub use Rattle.command_words.specs.Words
 pub use Rattle.command_words.specs.Paths
 pub mod PathParts
 pub mod PathNodes
+pub mod TypePaths
 pub mod Selected
 pub mod TypedLines
 pub use Rattle.value_text.specs.LineParts

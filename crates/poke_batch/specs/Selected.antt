@@ -28,6 +28,8 @@ use Rattle.command_words.specs.declared.terms.Terms.{Terms}
 use Rattle.poke_batch.specs.declared.places.Places.{Places}
 use Rattle.poke_batch.specs.declared.line.Line.{Line}
 use Rattle.poke_batch.specs.declared.line.Line.TheVariants as line
+pub use Rattle.poke_batch.specs.TypePaths.{all_of}
+use Rattle.poke_batch.specs.TypePaths.{may_have}
 use Rattle.poke_batch.specs.PathParts.{is_array, place_of, step_to, part_of, node_there, node_from}
 
 -- a part of a value, beside the node of its type
@@ -235,10 +237,6 @@ typed_text terms mode typed = text_under (nodes_in (types_in typed)) (char_node_
 
 -- ---- parts that are there
 
-abbrev pub all_of : {A : Type 0} → (test : A → Bool) → List A → Bool
-all_of test [] = true
-all_of test (one ∷ more) = test one && all_of test more
-
 module _ (nodes : List Node) where
   -- whether a part is there, and the parts of its columns
   abbrev pub is_there : LineOf → Option Part → Bool
@@ -255,9 +253,9 @@ module _ (nodes : List Node) where
 
   abbrev pub has_parts : Absent → Shape → Part → Bool
   has_parts absent.Fault shape part = has_shape shape part
-  has_parts absent.Empty shape part = true
+  has_parts absent.Empty shape part = may_have nodes part.node shape
 
-  -- whether a part has all parts that are selected, or the absence of one is no fault
+  -- whether a part has all parts that are selected; where the absence of one is no fault, whether its type may have them
   abbrev pub has_selected : Option Selection → Part → Bool
   has_selected None part = true
   has_selected (Some selection) part = has_parts selection.absent selection.shape part

@@ -17,6 +17,7 @@ pub mod run;
 pub mod run_laws;
 pub mod selected;
 mod tell_value;
+pub mod type_paths;
 
 pub use command_words::ask::Ask;
 pub use command_words::offset_word::offset_word;

@@ -13,6 +13,9 @@ const VARIABLE: &str = "POKE_BATCH_PICKLES";
 /// Their folder if the variable isn't set or is empty, relative to the folder above the program's own.
 const SHARED: &str = "/share/poke_batch/pickles";
 
+/// What is told where no folder is known.
+const NO_FOLDER: &[u8] = b"  no folder of pickles is known: set POKE_BATCH_PICKLES\n";
+
 /// How the name of a pickle's file ends.
 const ENDING: &str = ".pk";
 
@@ -104,13 +107,39 @@ pub fn tell_missing<R: Files + Env + AllocGlobal + Clone + Drop>(
         return Ok(());
     };
     let Some(folder) = pickles_folder(rt)? else {
-        return Ok(text.extend_from_slice(
-            b"  no folder of pickles is known: set POKE_BATCH_PICKLES\n",
-        )?);
+        return Ok(text.extend_from_slice(NO_FOLDER)?);
     };
     tell_place(folder.as_str(), name, text)?;
-    let names = pickles_in(rt, folder.as_str())?;
-    Ok(tell_near(rt.alloc(), name, &names, text)?)
+    match pickles_in(rt, folder.as_str()) {
+        Ok(names) => Ok(tell_near(rt.alloc(), name, &names, text)?),
+        Err(FileFault::Memory) => Err(FileFault::Memory),
+        Err(_) => Ok(tell_folder(folder.as_str(), text)?),
+    }
+}
+
+/// Adds why the installed pickles weren't listed, if that is because of their folder.
+pub fn tell_unlisted<R: Files + Env + AllocGlobal + Clone + Drop>(
+    rt: &R,
+    text: &mut Vec<u8>,
+) -> Result<(), AllocError> {
+    match pickles_folder(rt)? {
+        Some(folder) if pickles_in(rt, folder.as_str()).is_err() => {
+            tell_folder(folder.as_str(), text)
+        }
+        Some(_) => Ok(()),
+        None => text.extend_from_slice(NO_FOLDER),
+    }
+}
+
+fn tell_folder(folder: &str, text: &mut Vec<u8>) -> Result<(), AllocError> {
+    for part in [
+        "  the folder ",
+        folder,
+        " can't be read: set POKE_BATCH_PICKLES to that of the pickles\n",
+    ] {
+        text.extend_from_slice(part.as_bytes())?;
+    }
+    Ok(())
 }
 
 /// If a path names no file, but with a `+` before it an installed pickle, adds that.

@@ -5,7 +5,7 @@ use crate::ending::Ending;
 use crate::file_reasons::{Lengthless, is_there, tell_unopened};
 use crate::files::FileFault;
 use crate::formats::list_formats;
-use crate::installed::{names_installed, tell_installed, tell_missing};
+use crate::installed::{names_installed, tell_installed, tell_missing, tell_unlisted};
 use crate::mapping::Mapping;
 use crate::mappings::{map_file, run_request};
 use crate::pickles::{bound_text, bound_type, check_pickle, tell_types};
@@ -96,6 +96,9 @@ fn explain_fault<R: Files<File = File> + Env + AllocGlobal + Clone + Drop>(
         return;
     }
     let told = match fault {
+        FileFault::Pickle(PickleFault::Read) if matches!(job, Job::Formats) => {
+            tell_unlisted(rt, why.text).map_err(FileFault::from)
+        }
         FileFault::Pickle(PickleFault::Read) => tell_unread(rt, pickle_of(job), why.text),
         FileFault::Space(OpenFault::NotOpened) => match file_of(job) {
             Some(path) => tell_file(rt, job, path, why.text).map_err(FileFault::from),

@@ -1,0 +1,86 @@
+//! A text in quotes that is compared with an array or with a number.
+
+use crate::clause::{Operands, Place};
+use crate::lexical::say_hexadecimal;
+use pickle_script::script::cut;
+use pickle_script::text::Text;
+use pickle_types::refused::{OperandType, OperandTypes};
+use std::alloc::AllocError;
+
+/// The longest text that is written as characters or as a number, in bytes.
+const MOST_LETTERS: usize = 8;
+
+impl<'a, 't> Place<'a, 't> {
+    /// What to write instead of a text after `==` or `!=`, where an array or a number of as many bytes stands before it.
+    /// `None` for other operands, and for a long text or one with escapes.
+    pub fn letters_help(self, operands: Operands) -> Result<Option<Text>, AllocError> {
+        let OperandTypes { first, second, .. } = self.types;
+        let joint: &[u8] = match self.script().slice(operands.sign) {
+            b"==" => b" && ",
+            b"!=" => b" || ",
+            _ => return Ok(None),
+        };
+        let (Some(first), Some(OperandType::Text)) = (first, second) else {
+            return Ok(None);
+        };
+        let Some(letters) = letters_in(self.script().slice(operands.right)) else {
+            return Ok(None);
+        };
+        match first {
+            OperandType::Array => Ok(Some(self.elements_help(operands, letters, joint)?)),
+            OperandType::Integer(number)
+                if usize::from(number.width) == letters.len().saturating_mul(8) => {
+                Ok(Some(self.number_help(letters)?))
+            }
+            _ => Ok(None),
+        }
+    }
+
+    /// The help for an array: the comparisons of its elements.
+    fn elements_help(
+        self,
+        operands: Operands,
+        letters: &[u8],
+        joint: &[u8],
+    ) -> Result<Text, AllocError> {
+        let array = self.script().slice(operands.left);
+        let sign = self.script().slice(operands.sign);
+        let mut text = self.text().say(b"compare its elements: `")?;
+        for (place, letter) in letters.iter().enumerate() {
+            if 0 < place {
+                text = text.say(joint)?;
+            }
+            text = text.show(array)?.say(b"[")?.say_number(place)?.say(b"] ")?;
+            text = text.show(sign)?.say(b" '")?.say(&[*letter])?.say(b"'")?;
+        }
+        text.say(b"`")
+    }
+
+    /// The help for an integer: a character, or the number of so many bytes.
+    fn number_help(self, letters: &[u8]) -> Result<Text, AllocError> {
+        match letters {
+            [letter] => self
+                .text()
+                .say(b"one byte is a character: write `'")?
+                .say(&[*letter])?
+                .say(b"'`"),
+            _ => {
+                let text = self.text().say(b"write these ")?.say_number(letters.len())?;
+                let text = text.say(b" bytes as the number `0x")?;
+                say_hexadecimal(text, letters)?.say(b"`, for a field in big-endian order")
+            }
+        }
+    }
+}
+
+/// The letters of a text in quotes, if they are few and none is an escape or a quote.
+fn letters_in(written: &[u8]) -> Option<&[u8]> {
+    let letters = cut(written, 1, written.len().saturating_sub(1));
+    let plain = letters.iter().all(|letter| matches!(*letter, b' '..=b'~')
+        && !matches!(*letter, b'\\' | b'\''));
+    if plain && !letters.is_empty() && letters.len() <= MOST_LETTERS {
+        Some(letters)
+    } else {
+        None
+    }
+}
