@@ -8,6 +8,7 @@ ghost use Rattle.mapping_reasons.specs.Why.{TellsPart, TellsArray, TellsArrays, 
 use crate::again::Kept;
 use crate::cause::{Blamed, Cause, Ended, Fault, Lead, Miss, Misses, Said};
 use crate::endings::Endings;
+use crate::place::say_bit;
 use crate::scene::{Scene, purpose_of};
 use crate::way::{Found, Way};
 use bit_space::Order;
@@ -147,6 +148,10 @@ fn say_lead(scene: &Scene<'_, '_>, text: Text, lead: &Lead) -> Result<Text, Allo
     let text = scene.say_clause(text, &lead.way, purpose_of(clause))?;
     let text = text.say(b" of ")?.say(found.path.as_slice())?.say(b" ")?;
     let text = say_said(text, scene.said(&lead.value, &lead.way)?)?;
+    let text = match clause {
+        Clause::Label => say_bit(scene.alloc, text.say(b", counted from ")?, lead.start)?,
+        Clause::Constraint | Clause::Condition | Clause::Count | Clause::Size => text,
+    };
     let left = u128::from(scene.bits).saturating_sub(lead.start);
     say_room(text.say(b", and ")?, left)?.say(b"\n")
 }
@@ -249,7 +254,7 @@ fn say_outgrown(
 fn say_end(scene: &Scene<'_, '_>, text: Text, found: &Found, at: u128) -> Result<Text, AllocError> {
     let bits = u128::from(scene.bits);
     if bits < at {
-        let text = say_bits(text.say(b"  it starts ")?, at.saturating_sub(bits))?;
+        let text = say_length(text.say(b"  it starts ")?, at.saturating_sub(bits))?;
         return text.say(b" behind the end\n");
     }
     let Some(node) = scene.nodes.get(found.node) else {
@@ -271,6 +276,17 @@ fn say_left(text: Text, count: u128) -> Result<Text, AllocError> {
         0 => text.say(b", and none is left\n"),
         1 => text.say(b", and 1 is left\n"),
         _ => say_count(text.say(b", and ")?, count)?.say(b" are left\n"),
+    }
+}
+
+/// Adds a number of bits to the text, as bytes if it is one of whole bytes.
+fn say_length(text: Text, bits: u128) -> Result<Text, AllocError> {
+    if bits & 7 != 0 {
+        return say_bits(text, bits);
+    }
+    match bits >> 3 {
+        1 => text.say(b"1 byte"),
+        bytes => say_count(text, bytes)?.say(b" bytes"),
     }
 }
 
