@@ -4,7 +4,7 @@ use crate::script::Script;
 use std::cell::Cell;
 
 /// The bytes that may be read for a short pickle. Reading them takes about as long as the program's start.
-const LEAST: usize = 32_768;
+const LEAST: usize = 16_384;
 
 /// The most bytes of a token that count for the length of a pickle.
 const MOST_OF_TOKEN: usize = 8;
