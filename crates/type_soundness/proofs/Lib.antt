@@ -11,3 +11,10 @@ mod Evaluations
 mod Faults
 mod Answered
 mod Rows
+mod Stored
+mod Taking
+mod Capacity
+mod Lacking
+mod InSlots
+mod Bounded
+mod CapacityRows

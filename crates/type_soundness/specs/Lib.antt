@@ -4,3 +4,5 @@ pub mod Evaluated
 pub mod Yielded
 pub mod Laws
 pub mod MappingLaws
+pub mod Capacity
+pub mod CapacityLaws

@@ -1,6 +1,7 @@
 //! The laws of the type rules, of evaluation and of mapping. These functions do nothing: their contracts are the laws.
 
 ghost use Rattle.type_soundness.specs.Laws.{DerivationsAreExact, ExpressionsAreSafe};
+ghost use Rattle.type_soundness.specs.CapacityLaws.{MemoryLacksCapacity, BoundsAreSlots, ValuesTakeBound, ValuesFillRoom};
 ghost use Rattle.type_soundness.specs.MappingLaws.{ValuesAreOfTheirTypes, FittingValuesAreOfTheirTypes, MappingsAreSafe, FaultsAreYielded, FaultsOfMapAreYielded};
 
 /// Where a derivation without a fallback yields an outcome in so many steps, the evaluation has the same outcome and
@@ -40,4 +41,27 @@ pub fn faults_are_yielded()
 /// given by no fallback of the definitions.
 pub fn faults_of_map_are_yielded()
     ensures law { FaultsOfMapAreYielded }
+{}
+
+/// Where `map` returns `Memory`, whatever the space gives, some vector of the store had less capacity before than
+/// `capacity_bound` of the type. Into a cleared store each of whose vectors has that capacity, no mapping of the type
+/// over a file of so many bits returns `Memory`.
+pub fn memory_lacks_capacity()
+    ensures law { MemoryLacksCapacity }
+{}
+
+/// The capacity bound of a type of a table is at most what `slot_bound` slots take: up to 4 bytes a slot, and one entry a
+/// slot of each other vector.
+pub fn bounds_are_slots()
+    ensures law { BoundsAreSlots }
+{}
+
+/// A value that a type means on a file's bits takes of each vector at most the capacity bound of the type.
+pub fn values_take_bound()
+    ensures law { ValuesTakeBound }
+{}
+
+/// A value that a type means on a file's bits fills at most `room` slots of each kind.
+pub fn values_fill_room()
+    ensures law { ValuesFillRoom }
 {}

@@ -1,0 +1,49 @@
+-- Rows of capacity bounds, computed by their definition.
+use Rattle.std.proofs.Common.{◌≡◌, Bool, true, false, ℕ, Some, None, refl}
+use Rattle.pickle_types.specs.Types.{PokeType, IntegerOf, StringOf, ArrayOf, StructOf, UnionOf, Unbounded, NoFields, FieldThen, NoParts, PartThen}
+use Rattle.pickle_types.specs.Bounds.{least_width, room}
+use Rattle.pickle_types.specs.Operators.{whole}
+use Rattle.value_store.specs.Takes.{Vector, NodesOf, FamiliesOf, LinksOf, PendingOf, TextsOf, BytesOf}
+use Rattle.type_soundness.specs.Capacity.{capacity_bound}
+
+-- what each vector has: nodes, families, links, pending children, texts and bytes
+record AreBounds (packs : Bool) (ty : PokeType) (m : ℕ) (nodes families links pending texts bytes : ℕ) : Type 0 where
+  of_nodes : capacity_bound packs NodesOf ty m ≡ nodes
+  of_families : capacity_bound packs FamiliesOf ty m ≡ families
+  of_links : capacity_bound packs LinksOf ty m ≡ links
+  of_pending : capacity_bound packs PendingOf ty m ≡ pending
+  of_texts : capacity_bound packs TextsOf ty m ≡ texts
+  of_bytes : capacity_bound packs BytesOf ty m ≡ bytes
+
+-- uint<16>[]
+numbers : PokeType
+numbers = ArrayOf (IntegerOf (whole 16 false)) Unbounded
+
+-- struct { uint<8> n; string s; uint<16>[] a; }
+record_type : PokeType
+record_type = StructOf None false (FieldThen None None (IntegerOf (whole 8 false)) None None None (FieldThen None None StringOf None None None (FieldThen None None numbers None None None NoFields)))
+
+-- union { uint<16>[] a; string s; }
+choice : PokeType
+choice = UnionOf None (PartThen None None numbers None (PartThen None None StringOf None NoParts))
+
+-- ten bytes: at most five numbers of 16 bits, and one more is tried
+packed_numbers : AreBounds true numbers 80 1 1 0 1 1 12
+unfolding capacity_bound least_width numbers
+packed_numbers = record { of_nodes = refl; of_families = refl; of_links = refl; of_pending = refl; of_texts = refl; of_bytes = refl }
+
+single_numbers : AreBounds false numbers 80 7 1 6 7 0 0
+unfolding capacity_bound least_width numbers
+single_numbers = record { of_nodes = refl; of_families = refl; of_links = refl; of_pending = refl; of_texts = refl; of_bytes = refl }
+
+packed_record : AreBounds true record_type 80 4 2 3 4 2 22
+unfolding capacity_bound least_width numbers record_type
+packed_record = record { of_nodes = refl; of_families = refl; of_links = refl; of_pending = refl; of_texts = refl; of_bytes = refl }
+
+packed_choice : AreBounds true choice 80 2 2 1 2 1 12
+unfolding capacity_bound least_width numbers choice
+packed_choice = record { of_nodes = refl; of_families = refl; of_links = refl; of_pending = refl; of_texts = refl; of_bytes = refl }
+
+numbers_room : room numbers 80 ≡ 13
+unfolding room least_width numbers
+numbers_room = refl

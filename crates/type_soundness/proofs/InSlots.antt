@@ -1,0 +1,188 @@
+-- The capacity bound of a type is at most what `room` slots take.
+use Rattle.std.proofs.Common.{◌≡◌, ℕ, zero, suc, ◌+◌, ◌*◌, ◌/◌, ◌≤◌, max, Bool, true, false, List, [], ◌∷◌, Option, Some, None, refl, sym, subst, arith}
+use Rattle.std.specs.Prelude.{slice_get}
+use Rattle.std.proofs.Math.Nat.{mul-le-mul_left, mul-le-mul_right}
+use Rattle.pickle_types.specs.declared.node.Field.{Field}
+use Rattle.pickle_types.specs.declared.node.Part.{Part}
+use Rattle.pickle_types.specs.declared.node.Shape.{Shape}
+use Rattle.pickle_types.specs.declared.node.Shape.TheVariants as shape
+use Rattle.pickle_types.specs.declared.node.Node.{Node}
+use Rattle.pickle_types.specs.Types.{PokeType, IntegerOf, OffsetOf, StringOf, ArrayOf, StructOf, IntegralOf, UnionOf, Fields, NoFields, FieldThen, Parts, NoParts, PartThen}
+use Rattle.pickle_types.specs.Bounds.{least_width, count_of, room, fields_room, parts_room, greatest_room}
+use Rattle.pickle_types.specs.Table.{open_fields, open_parts, open_shape, open_found, type_at, type_of, NamesBelow}
+use Rattle.value_store.specs.Packed.{bytes_for}
+use Rattle.value_store.specs.Takes.{Vector, NodesOf, FamiliesOf, LinksOf, PendingOf, TextsOf, BytesOf, where_packed}
+use Rattle.type_soundness.specs.Capacity.{number_bound, string_bound, family_bound, link_bound, row_bound, array_bound, element_bits, capacity_bound, fields_bound, parts_bound, greatest_bound, slot_takes}
+use Rattle.type_soundness.specs.CapacityLaws.{BoundsAreSlots}
+use Rattle.type_soundness.proofs.Taking.{is_packed}
+
+unfoldable mutual
+  -- numbers of at most 64 bits
+  pub IsNarrow : PokeType → Type 0
+  IsNarrow (IntegerOf type) = type.width ≤ 64
+  IsNarrow (OffsetOf type unit) = type.width ≤ 64
+  IsNarrow StringOf = Unit {0}
+  IsNarrow (ArrayOf element bound) = IsNarrow element
+  IsNarrow (StructOf name pinned fields) = AreNarrowFields fields
+  IsNarrow (IntegralOf name type fields) = AreNarrowParts fields
+  IsNarrow (UnionOf name alternatives) = AreNarrowParts alternatives
+
+  AreNarrowFields : Fields → Type 0
+  AreNarrowFields NoFields = Unit {0}
+  AreNarrowFields (FieldThen name order type constraint label condition rest) = IsNarrow type × AreNarrowFields rest
+
+  AreNarrowParts : Parts → Type 0
+  AreNarrowParts NoParts = Unit {0}
+  AreNarrowParts (PartThen name order type constraint rest) = IsNarrow type × AreNarrowParts rest
+
+-- ---- in slots that take k each
+
+pub record IsSlot (packs : Bool) (vector : Vector) (k m : ℕ) : Type 0 where
+  pub number : number_bound vector ≤ k
+  pub string : string_bound vector m ≤ k * (m / 8 + 2)
+  pub family : family_bound vector ≤ k
+  pub link : link_bound vector ≤ k
+  pub row : packs ≡ true → (width count : ℕ) → width ≤ 64 → row_bound vector width count ≤ k * (1 + count * (1 + 1))
+
+members_few : (k count family link each r : ℕ) → family ≤ k → link ≤ k → each ≤ k * r → family + count * (link + each) ≤ k * (1 + count * (1 + r))
+members_few k count family link each r f l e =
+    let one : link + each ≤ k * (1 + r) = omega arith in
+    let all = mul-le-mul_left count one in
+    omega arith
+
+greatest_few : (k a b c d : ℕ) → a ≤ k * c → b ≤ k * d → max a b ≤ k * max c d
+greatest_few k a b c d le ge =
+    let up : c ≤ max c d = omega arith in
+    let on : d ≤ max c d = omega arith in
+    let x = mul-le-mul_left k up in
+    let y = mul-le-mul_left k on in
+    omega arith
+
+-- packed numbers
+element_narrow : (m : ℕ) (element : PokeType) (width : ℕ) → element_bits element ≡ Some width → IsNarrow element → (width ≤ 64) × (room element m ≡ 1)
+unfolding IsNarrow room
+element_narrow m (IntegerOf type) width e h = (let same : type.width ≡ width = cc in omega arith, refl)
+element_narrow m (OffsetOf type unit) width e h = (let same : type.width ≡ width = cc in omega arith, refl)
+element_narrow m StringOf width e h = absurd cc
+element_narrow m (ArrayOf element bound) width e h = absurd cc
+element_narrow m (StructOf name pinned _) width e h = absurd cc
+element_narrow m (IntegralOf name type _) width e h = absurd cc
+element_narrow m (UnionOf name alternatives) width e h = absurd cc
+
+module _ (packs : Bool) (vector : Vector) (k m : ℕ) (slot : IsSlot packs vector k m) where
+  array_slots : (element : PokeType) → (packs ≡ true → IsNarrow element) → (o : Option ℕ) → where_packed packs (element_bits element) ≡ o → capacity_bound packs vector element m ≤ k * room element m →
+      array_bound o vector (count_of m (least_width element)) (capacity_bound packs vector element m) ≤ k * (1 + count_of m (least_width element) * (1 + room element m))
+  array_slots element narrow None e le = members_few k (count_of m (least_width element)) (family_bound vector) (link_bound vector) (capacity_bound packs vector element m) (room element m) slot.family slot.link le
+  array_slots element narrow (Some width) e le =
+      let is = is_packed packs (element_bits element) width e in
+      let h = element_narrow m element width is.1 (narrow is.0) in
+      subst (λ r. row_bound vector width (count_of m (least_width element)) ≤ k * (1 + count_of m (least_width element) * (1 + r))) (sym h.1) (slot.row is.0 width (count_of m (least_width element)) h.0)
+
+  mutual
+    unfolding capacity_bound room IsNarrow
+
+    pub in_slots : (ty : PokeType) → (packs ≡ true → IsNarrow ty) → capacity_bound packs vector ty m ≤ k * room ty m
+    in_slots (IntegerOf type) h = let f = slot.number in omega arith
+    in_slots (OffsetOf type unit) h = let f = slot.number in omega arith
+    in_slots StringOf h = slot.string
+    in_slots (ArrayOf element bound) h = array_slots element h (where_packed packs (element_bits element)) refl (in_slots element h)
+    in_slots (StructOf name pinned fields) h = let f = slot.family in let i = fields_slots fields h in omega arith
+    in_slots (IntegralOf name type fields) h = let f = slot.family in let i = parts_slots fields h in omega arith
+    in_slots (UnionOf name alternatives) h = let f = slot.family in let i = greatest_slots alternatives h in omega arith
+
+    fields_slots : (fields : Fields) → (packs ≡ true → AreNarrowFields fields) → fields_bound packs vector fields m ≤ k * fields_room fields m
+    fields_slots NoFields h = omega arith
+    fields_slots (FieldThen name order type constraint label condition rest) h =
+        let l = slot.link in
+        let i = in_slots type (λ e. (h e).0) in
+        let j = fields_slots rest (λ e. (h e).1) in
+        omega arith
+
+    parts_slots : (parts : Parts) → (packs ≡ true → AreNarrowParts parts) → parts_bound packs vector parts m ≤ k * parts_room parts m
+    parts_slots NoParts h = omega arith
+    parts_slots (PartThen name order type constraint rest) h =
+        let l = slot.link in
+        let i = in_slots type (λ e. (h e).0) in
+        let j = parts_slots rest (λ e. (h e).1) in
+        omega arith
+
+    greatest_slots : (parts : Parts) → (packs ≡ true → AreNarrowParts parts) → greatest_bound packs vector parts m ≤ k * greatest_room parts m
+    greatest_slots NoParts h = omega arith
+    greatest_slots (PartThen name order type constraint rest) h =
+        let l = slot.link in
+        let i = in_slots type (λ e. (h e).0) in
+        greatest_few k (link_bound vector + capacity_bound packs vector type m) (greatest_bound packs vector rest m) (1 + room type m) (greatest_room rest m) (omega arith) (greatest_slots rest (λ e. (h e).1))
+
+-- ---- the slots of each vector
+
+row_slots : (vector : Vector) (width count : ℕ) → width ≤ 64 → row_bound vector width count ≤ slot_takes vector * (1 + count * (1 + 1))
+row_slots NodesOf width count le = omega arith
+row_slots FamiliesOf width count le = omega arith
+row_slots LinksOf width count le = omega arith
+row_slots PendingOf width count le = omega arith
+row_slots TextsOf width count le = omega arith
+row_slots BytesOf width count le =
+    let few : bytes_for width ≤ 8 = omega arith in
+    let all = mul-le-mul_right count few in
+    omega arith
+
+vector_slot : (packs : Bool) (vector : Vector) (m : ℕ) → IsSlot packs vector (slot_takes vector) m
+vector_slot packs NodesOf m = record { number = omega arith; string = omega arith; family = omega arith; link = omega arith; row = λ e. row_slots NodesOf }
+vector_slot packs FamiliesOf m = record { number = omega arith; string = omega arith; family = omega arith; link = omega arith; row = λ e. row_slots FamiliesOf }
+vector_slot packs LinksOf m = record { number = omega arith; string = omega arith; family = omega arith; link = omega arith; row = λ e. row_slots LinksOf }
+vector_slot packs PendingOf m = record { number = omega arith; string = omega arith; family = omega arith; link = omega arith; row = λ e. row_slots PendingOf }
+vector_slot packs TextsOf m = record { number = omega arith; string = omega arith; family = omega arith; link = omega arith; row = λ e. row_slots TextsOf }
+vector_slot packs BytesOf m = record { number = omega arith; string = omega arith; family = omega arith; link = omega arith; row = λ e. row_slots BytesOf }
+
+-- where nothing is packed, a slot of any kind takes one entry
+one_slot : (vector : Vector) (m : ℕ) → IsSlot false vector 1 m
+one_slot NodesOf m = record { number = omega arith; string = omega arith; family = omega arith; link = omega arith; row = λ e width count le. absurd cc }
+one_slot FamiliesOf m = record { number = omega arith; string = omega arith; family = omega arith; link = omega arith; row = λ e width count le. absurd cc }
+one_slot LinksOf m = record { number = omega arith; string = omega arith; family = omega arith; link = omega arith; row = λ e width count le. absurd cc }
+one_slot PendingOf m = record { number = omega arith; string = omega arith; family = omega arith; link = omega arith; row = λ e width count le. absurd cc }
+one_slot TextsOf m = record { number = omega arith; string = omega arith; family = omega arith; link = omega arith; row = λ e width count le. absurd cc }
+one_slot BytesOf m = record { number = omega arith; string = omega arith; family = omega arith; link = omega arith; row = λ e width count le. absurd cc }
+
+pub unpacked_slots : (vector : Vector) (ty : PokeType) (m : ℕ) → capacity_bound false vector ty m ≤ room ty m
+unpacked_slots vector ty m = let h = in_slots false vector 1 m (one_slot vector m) ty (λ e. absurd cc) in omega arith
+
+-- ---- the types of a table
+
+module _ (at : ℕ → PokeType) (narrow : (i : ℕ) → IsNarrow (at i)) where
+  narrow_fields : (fields : List Field) → AreNarrowFields (open_fields at fields)
+  unfolding IsNarrow
+  narrow_fields [] = tt
+  narrow_fields (f ∷ rest) = (narrow f.node, narrow_fields rest)
+
+  narrow_parts : (parts : List Part) → AreNarrowParts (open_parts at parts)
+  unfolding IsNarrow
+  narrow_parts [] = tt
+  narrow_parts (p ∷ rest) = (narrow p.node, narrow_parts rest)
+
+  narrow_shape : (i : ℕ) (s : Shape) → NamesBelow i s → IsNarrow (open_shape at s)
+  unfolding IsNarrow
+  narrow_shape i (shape.Integer type) h = h.most
+  narrow_shape i (shape.Offset type unit) h = h.0.most
+  narrow_shape i shape.String h = tt
+  narrow_shape i (shape.Array element bound) h = narrow element
+  narrow_shape i (shape.Struct name pinned fields) h = narrow_fields fields.items
+  narrow_shape i (shape.Integral name number fields) h = narrow_parts fields.items
+  narrow_shape i (shape.Union name alternatives) h = narrow_parts alternatives.items
+
+  narrow_found : (i : ℕ) (o : Option Node) → ((node : Node) → o ≡ Some node → NamesBelow i node.shape) → IsNarrow (open_found at o)
+  unfolding IsNarrow
+  narrow_found i None h = tt
+  narrow_found i (Some node) h = narrow_shape i node.shape (h node refl)
+
+narrow_at : (nodes : List Node) → ((i : ℕ) (node : Node) → slice_get nodes i ≡ Some node → NamesBelow i node.shape) → (d i : ℕ) → IsNarrow (type_at nodes d i)
+unfolding type_at IsNarrow
+narrow_at nodes h zero i = tt
+narrow_at nodes h (suc d) i = narrow_found (type_at nodes d) (narrow_at nodes h d) i (slice_get nodes i) (h i)
+
+narrow_type : (nodes : List Node) → ((i : ℕ) (node : Node) → slice_get nodes i ≡ Some node → NamesBelow i node.shape) → (i : ℕ) → IsNarrow (type_of nodes i)
+unfolding type_of
+narrow_type nodes h i = narrow_at nodes h (suc i) i
+
+pub bounds_in_slots : BoundsAreSlots
+bounds_in_slots table id packs vector m =
+    in_slots packs vector (slot_takes vector) m (vector_slot packs vector m) (type_of table.nodes.items id.node) (λ e. narrow_type table.nodes.items table.sound.below id.node)

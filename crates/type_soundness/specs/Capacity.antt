@@ -1,0 +1,104 @@
+-- How much of each vector of a store a mapping of a type takes at most, on m bits.
+use Rattle.std.specs.Prelude.{ℕ, ◌+◌, ◌*◌, ◌/◌, max, Bool, Option, Some, None}
+use Rattle.pickle_types.specs.Types.{PokeType, IntegerOf, OffsetOf, StringOf, ArrayOf, StructOf, IntegralOf, UnionOf, Fields, NoFields, FieldThen, Parts, NoParts, PartThen}
+use Rattle.pickle_types.specs.Bounds.{least_width, count_of}
+use Rattle.value_store.specs.Packed.{bytes_for}
+use Rattle.value_store.specs.Takes.{Vector, NodesOf, FamiliesOf, LinksOf, PendingOf, TextsOf, BytesOf, where_packed}
+
+-- a number takes a node, and its place in a frame
+abbrev pub number_bound : Vector → ℕ
+number_bound NodesOf = 1
+number_bound FamiliesOf = 0
+number_bound LinksOf = 0
+number_bound PendingOf = 1
+number_bound TextsOf = 0
+number_bound BytesOf = 0
+
+-- a string also takes a text, of at most all bytes of the file
+abbrev pub string_bound : Vector → ℕ → ℕ
+string_bound NodesOf m = 1
+string_bound FamiliesOf m = 0
+string_bound LinksOf m = 0
+string_bound PendingOf m = 1
+string_bound TextsOf m = 1
+string_bound BytesOf m = m / 8
+
+-- an array, a struct or a union takes a family, beside what its members take
+abbrev pub family_bound : Vector → ℕ
+family_bound NodesOf = 1
+family_bound FamiliesOf = 1
+family_bound LinksOf = 0
+family_bound PendingOf = 1
+family_bound TextsOf = 0
+family_bound BytesOf = 0
+
+-- and a link for each member
+abbrev pub link_bound : Vector → ℕ
+link_bound NodesOf = 0
+link_bound FamiliesOf = 0
+link_bound LinksOf = 1
+link_bound PendingOf = 0
+link_bound TextsOf = 0
+link_bound BytesOf = 0
+
+-- packed numbers take one text, with the bytes of all; an array without elements takes a family
+abbrev pub row_bound : Vector → (width count : ℕ) → ℕ
+row_bound NodesOf width count = 1
+row_bound FamiliesOf width count = 1
+row_bound LinksOf width count = 0
+row_bound PendingOf width count = 1
+row_bound TextsOf width count = 1
+row_bound BytesOf width count = bytes_for width * count
+
+-- an array of at most `count` elements: packed numbers of a width, or values that take `each`
+abbrev pub array_bound : Option ℕ → Vector → (count each : ℕ) → ℕ
+array_bound None vector count each = family_bound vector + count * (link_bound vector + each)
+array_bound (Some width) vector count each = row_bound vector width count
+
+-- the width of the numbers of a type, which a store may pack
+abbrev pub element_bits : PokeType → Option ℕ
+element_bits (IntegerOf type) = Some type.width
+element_bits (OffsetOf type unit) = Some type.width
+element_bits StringOf = None
+element_bits (ArrayOf element bound) = None
+element_bits (StructOf name pinned _) = None
+element_bits (IntegralOf name type _) = None
+element_bits (UnionOf name alternatives) = None
+
+unfoldable mutual
+  -- what a mapping of a type on m bits takes of a vector at most, in a store that packs arrays of numbers or in one that
+  -- doesn't
+  pub capacity_bound : (packs : Bool) → Vector → PokeType → (m : ℕ) → ℕ
+  capacity_bound packs vector (IntegerOf type) m = number_bound vector
+  capacity_bound packs vector (OffsetOf type unit) m = number_bound vector
+  capacity_bound packs vector StringOf m = string_bound vector m
+  capacity_bound packs vector (ArrayOf element bound) m =
+      array_bound (where_packed packs (element_bits element)) vector (count_of m (least_width element)) (capacity_bound packs vector element m)
+  capacity_bound packs vector (StructOf name pinned fields) m = family_bound vector + fields_bound packs vector fields m
+  capacity_bound packs vector (IntegralOf name type fields) m = family_bound vector + parts_bound packs vector fields m
+  capacity_bound packs vector (UnionOf name alternatives) m = family_bound vector + greatest_bound packs vector alternatives m
+
+  pub fields_bound : (packs : Bool) → Vector → Fields → (m : ℕ) → ℕ
+  fields_bound packs vector NoFields m = 0
+  fields_bound packs vector (FieldThen name order type constraint label condition rest) m =
+      (link_bound vector + capacity_bound packs vector type m) + fields_bound packs vector rest m
+
+  pub parts_bound : (packs : Bool) → Vector → Parts → (m : ℕ) → ℕ
+  parts_bound packs vector NoParts m = 0
+  parts_bound packs vector (PartThen name order type constraint rest) m =
+      (link_bound vector + capacity_bound packs vector type m) + parts_bound packs vector rest m
+
+  pub greatest_bound : (packs : Bool) → Vector → Parts → (m : ℕ) → ℕ
+  greatest_bound packs vector NoParts m = 0
+  greatest_bound packs vector (PartThen name order type constraint rest) m =
+      max (link_bound vector + capacity_bound packs vector type m) (greatest_bound packs vector rest m)
+
+-- how much of a vector a slot takes at most: up to 4 bytes, since a packed number of up to 64 bits has two slots, its own
+-- and that of its link
+abbrev pub slot_takes : Vector → ℕ
+slot_takes NodesOf = 1
+slot_takes FamiliesOf = 1
+slot_takes LinksOf = 1
+slot_takes PendingOf = 1
+slot_takes TextsOf = 1
+slot_takes BytesOf = 4
