@@ -1,6 +1,7 @@
 //! The list of the installed pickles, from the heads of their files.
 use crate::files::{FileFault, read_pickle_of};
-use crate::installed::{path_in, pickles_folder, pickles_in};
+use crate::installed::{names_installed, path_in, pickle_path, pickles_folder, pickles_in};
+use crate::reason_text::add;
 use poke_batch::file_line::put_name;
 use poke_batch::outcome::Outcome;
 use poke_batch::pickle::PickleFault;
@@ -46,6 +47,30 @@ fn put_format<O: Write>(out: &mut O, name: &[u8], head: Head<'_>) -> Result<(), 
         put_name(out, column)?;
     }
     put(out, b"\n")
+}
+
+/// If the arguments name an installed pickle and not its type to map, adds the type and the options that its head says.
+pub fn tell_main<R: Files + Env + Input + AllocGlobal>(
+    rt: &R,
+    words: &[String],
+    text: &mut Vec<u8>,
+) -> Result<(), FileFault> {
+    let Some(word) = words.iter().find(|word| names_installed(word.as_str())) else {
+        return Ok(());
+    };
+    let path = pickle_path(rt, word.as_str())?;
+    let pickle = read_pickle_of(rt, path.as_str())?;
+    let head = head_of(b"", &pickle);
+    if head.main.is_empty() || words.iter().any(|word| word.as_bytes() == head.main) {
+        return Ok(());
+    }
+    add(text, &["  the type of ", word.as_str(), " is "])?;
+    text.extend_from_slice(head.main)?;
+    if !head.options.is_empty() {
+        add(text, &[", with "])?;
+        text.extend_from_slice(head.options)?;
+    }
+    Ok(add(text, &["\n"])?)
 }
 
 /// Whether the head of a pickle has the option for files in little-endian order.

@@ -26,6 +26,7 @@ mod with_progress;
 use arrayvec::ArrayVec;
 use command_words::request::{FileNames, Over};
 use ending::Ending;
+use formats::tell_main;
 use given::{given_words, stands_for};
 use hints::{has_more, hint, takes_why};
 use jobs::do_job;
@@ -236,6 +237,13 @@ fn explain_words(rt: &HostRuntime, fault: &WordFault, reason: &mut Vec<u8>) {
     };
     if told.is_err() {
         reason.clear();
+        return;
+    }
+    if matches!(fault, WordFault::Usage(_)) {
+        let said = reason.len();
+        if tell_main(rt, words.as_slice(), reason).is_err() {
+            reason.truncate(said);
+        }
     }
 }
 
