@@ -10,7 +10,7 @@ use Rattle.text_forms.specs.declared.style.Chars.TheVariants as chars
 use Rattle.text_forms.specs.Styles.{plain}
 use Rattle.poke_batch.specs.ValueText.{integer_text}
 use Rattle.poke_batch.specs.JsonText.{json_string}
-use Rattle.value_text.specs.StyledNumbers.{hexadecimal, hex_integer, offset_in, quoted_hex, json_offset_in}
+use Rattle.value_text.specs.StyledNumbers.{hexadecimal, hex_integer, unit_in, offset_in, quoted_hex, json_offset_in}
 use Rattle.text_bounds.specs.TextRoom.{size_of, most_text}
 
 abbrev unsigned : ℕ → PokeType

@@ -16,7 +16,7 @@ use Rattle.value_text.specs.PathText.{step_text, path_text}
 use Rattle.value_text.specs.LinesText.{place_cells, is_parted, leaf_line, leaves_text, branches_text}
 use Rattle.value_text.specs.Printed.{printed}
 use Rattle.value_text.specs.Laws.{PrintsPlain}
-use Rattle.value_text.specs.StyledNumbers.{offset_in, json_offset_in}
+use Rattle.value_text.specs.StyledNumbers.{unit_in, offset_in, json_offset_in}
 use Rattle.value_text.specs.CutArrays.{limit_of}
 use Rattle.value_text.specs.StyledValue.{styled_value, styled_members}
 use Rattle.value_text.specs.StyledTree.{styled_head, styled_lines, styled_parts}

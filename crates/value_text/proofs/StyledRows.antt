@@ -10,7 +10,7 @@ use Rattle.text_forms.specs.declared.style.Chars.TheVariants as char_form
 use Rattle.value_text.specs.ValueText.{integer_text, offset_text, string_text}
 use Rattle.value_text.specs.JsonText.{json_string}
 use Rattle.value_text.specs.CharTexts.{trimmed, chars_in, has_chars}
-use Rattle.value_text.specs.StyledNumbers.{hex_integer, hexadecimal, integer_in, offset_in, quoted_hex, json_offset_in}
+use Rattle.value_text.specs.StyledNumbers.{hex_integer, hexadecimal, integer_in, unit_in, offset_in, quoted_hex, json_offset_in}
 use Rattle.value_text.specs.Styled.{styled}
 
 abbrev unsigned_type : ℕ → IntegerType
