@@ -1,12 +1,10 @@
 -- What a value that a type means takes of each vector, and what slots it fills.
-use Rattle.std.proofs.Common.{◌≡◌, ℕ, ◌+◌, ◌≤◌, length, Bool, false, List, [], ◌∷◌, Some, Result, Ok, Err, sym, subst, arith}
+use Rattle.std.proofs.Common.{ℕ, ◌≤◌, length, Bool, false, List, [], ◌∷◌, Some, Ok, sym, subst, arith}
 use Rattle.bit_space.specs.declared.order.Order.{Order}
 use Rattle.pickle_types.specs.Types.{PokeType}
 use Rattle.pickle_meaning.specs.Numbers.{number_at}
 use Rattle.pickle_meaning.specs.Values.{Value, Levels}
-use Rattle.pickle_meaning.specs.Clauses.{FaultAt}
 use Rattle.pickle_meaning.specs.Means.{Means}
-use Rattle.pickle_meaning.specs.Room.{Slot}
 use Rattle.mapping_plans.specs.Plan.{Plan, Ended, Tick, Made, Read, result_of}
 use Rattle.mapping_plans.specs.Mapping.{plan}
 use Rattle.mapping_plans.proofs.Always.{OfValue}

@@ -1,9 +1,9 @@
 -- Rows of capacity bounds, computed by their definition.
-use Rattle.std.proofs.Common.{◌≡◌, Bool, true, false, ℕ, Some, None, refl}
+use Rattle.std.proofs.Common.{◌≡◌, Bool, true, false, ℕ, None, refl}
 use Rattle.pickle_types.specs.Types.{PokeType, IntegerOf, StringOf, ArrayOf, StructOf, UnionOf, Unbounded, NoFields, FieldThen, NoParts, PartThen}
 use Rattle.pickle_types.specs.Bounds.{least_width, room}
 use Rattle.pickle_types.specs.Operators.{whole}
-use Rattle.value_store.specs.Takes.{Vector, NodesOf, FamiliesOf, LinksOf, PendingOf, TextsOf, BytesOf}
+use Rattle.value_store.specs.Takes.{NodesOf, FamiliesOf, LinksOf, PendingOf, TextsOf, BytesOf}
 use Rattle.type_soundness.specs.Capacity.{capacity_bound}
 
 -- what each vector has: nodes, families, links, pending children, texts and bytes

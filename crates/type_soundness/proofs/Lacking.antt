@@ -1,24 +1,20 @@
 -- A mapping that returned `Memory`: some vector of its store had less capacity than the bound of its type.
-use Rattle.std.proofs.Common.{◌≡◌, ℕ, ◌+◌, ◌*◌, ◌<◌, ◌≤◌, Some, Result, Ok, Err, subst, arith}
+use Rattle.std.proofs.Common.{ℕ, ◌+◌, ◌*◌, ◌<◌, ◌≤◌, Some, Ok, Err, subst, arith}
 use Rattle.bit_space.specs.declared.order.Order.{Order}
-use Rattle.bit_space.specs.declared.meter.Meter.{Meter}
-use Rattle.bit_space.specs.SpaceView.{SpaceView}
 use Rattle.pickle_types.specs.Types.{PokeType}
 use Rattle.pickle_types.specs.TypeTable.{type_named}
-use Rattle.pickle_meaning.specs.declared.faults.MapFaultKind.TheVariants as fault
-use Rattle.pickle_meaning.specs.Values.{Value, Levels, no_values}
-use Rattle.pickle_meaning.specs.Clauses.{FaultAt}
+use Rattle.pickle_meaning.specs.Values.{Levels, no_values}
 use Rattle.mapping_plans.specs.Plan.{Plan, Ended, Tick, Made, Read}
 use Rattle.mapping_plans.specs.Mapping.{plan}
 use Rattle.mapping_plans.proofs.Always.{OfValue}
 use Rattle.pickle_map.specs.Follows.{World, NoRoom, NeedsRoom, Follows}
 use Rattle.pickle_map.specs.Framed.{Runs}
 use Rattle.pickle_map.specs.Mapped.{fault_finish}
-use Rattle.value_store.specs.Slots.{Held, packs}
+use Rattle.value_store.specs.Slots.{packs}
 use Rattle.value_store.specs.Takes.{Vector, of_vector, member_takes, levels_take, kept_takes}
 use Rattle.type_soundness.specs.Capacity.{capacity_bound}
 use Rattle.type_soundness.specs.CapacityLaws.{MemoryLacksCapacity}
-use Rattle.type_soundness.proofs.Stored.{Stores, at_made, walk_stores, now_made}
+use Rattle.type_soundness.proofs.Stored.{Stores, walk_stores, now_made}
 use Rattle.type_soundness.proofs.Capacity.{capacity_enough}
 
 -- some vector has less capacity than so much

@@ -1,14 +1,14 @@
 -- What members and frames take of a vector, and what a type's bound has for them.
-use Rattle.std.proofs.Common.{◌≡◌, ℕ, ◌+◌, ◌*◌, ◌/◌, ◌≤◌, length, Bool, true, false, List, [], ◌∷◌, ◌++◌, Option, Some, None, refl, ap, ◌∙◌, arith}
+use Rattle.std.proofs.Common.{◌≡◌, ℕ, ◌+◌, ◌/◌, ◌≤◌, length, Bool, true, false, List, [], ◌∷◌, ◌++◌, Option, Some, None, refl, ap, ◌∙◌, arith}
 use Rattle.std.proofs.Math.Nat.{mul-le-mul_left}
 use Rattle.pickle_types.specs.declared.integer.IntegerType.{IntegerType}
 use Rattle.pickle_types.specs.Types.{PokeType, IntegerOf, OffsetOf, StringOf, ArrayOf, StructOf, IntegralOf, UnionOf}
 use Rattle.pickle_types.specs.Bounds.{least_width, count_of}
-use Rattle.pickle_meaning.specs.Values.{Naming, Label, IntegerLabel, OffsetLabel, TextLabel, ArrayLabel, StructLabel, UnionLabel, Value, Mapped, Members, NoMembers, member_count, label_of, end_of, text_value, Levels, pushed, top_of, outer_of, gathered}
+use Rattle.pickle_meaning.specs.Values.{Naming, Label, ArrayLabel, StructLabel, UnionLabel, Value, Mapped, NoMembers, member_count, label_of, end_of, text_value, Levels, pushed, top_of, outer_of, gathered}
 use Rattle.pickle_meaning.specs.Means.{Taken, integer_value, offset_value, union_value}
 use Rattle.pickle_meaning.specs.Room.{text_length}
 use Rattle.value_store.specs.Packed.{bytes_for}
-use Rattle.value_store.specs.Takes.{Vector, NodesOf, FamiliesOf, LinksOf, PendingOf, TextsOf, BytesOf, number_width, row_width, where_packed, packed_width, families_taken, texts_taken, own_takes, row_takes, kept_as, value_takes, members_take, place_takes, member_takes, level_takes, levels_take, row_levels_take, kept_takes}
+use Rattle.value_store.specs.Takes.{Vector, NodesOf, FamiliesOf, LinksOf, PendingOf, TextsOf, BytesOf, number_width, row_width, where_packed, packed_width, families_taken, texts_taken, own_takes, row_takes, kept_as, value_takes, members_take, place_takes, member_takes, level_takes, levels_take, kept_takes}
 use Rattle.value_store.proofs.Taken.{levels_take-pushed, member_count-of}
 use Rattle.type_soundness.specs.Capacity.{number_bound, string_bound, family_bound, link_bound, row_bound, array_bound, element_bits, capacity_bound}
 
