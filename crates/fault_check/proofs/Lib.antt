@@ -6,3 +6,4 @@ pub mod IntegralFields
 pub mod ArrayElements
 pub mod Own
 pub mod Located
+pub mod Searching

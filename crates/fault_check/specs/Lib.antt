@@ -3,3 +3,4 @@ pub mod Digits
 pub mod Elements
 pub mod Calls
 pub mod Sites
+pub mod Searched

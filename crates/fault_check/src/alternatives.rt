@@ -7,6 +7,7 @@ ghost use Rattle.pickle_meaning.specs.Values.{outer_of};
 ghost use Rattle.pickle_map.specs.Mappable.{IsPartOf};
 ghost use Rattle.value_store.specs.Slots.{levels, level_count};
 ghost use Rattle.fault_check.specs.Calls.{EntersAlternatives, MissesOne};
+ghost use Rattle.fault_check.specs.Searched.{SearchesAlternative, SearchesAlternatives};
 ghost use Rattle.fault_check.specs.Sites.{MayGoOn, FindsAlternative, LeavesLevels, TriesAlternative};
 ghost use Rattle.fault_check.specs.Ways.{OnBits, Leaves, EntersAlternative, GoesOn, fault_of};
 
@@ -124,6 +125,8 @@ pub fn find_alternative<S: Space>(
     ensures depth { level_count store.new ≡ level_count store.old }
     ensures goes_on { IfOk result (MayGoOn nodes.now (level_count store.old)) }
     ensures is { IfOk result (λ site. OnBits (S.view space.old) (FindsAlternative nodes.now alternatives.now order start store.old store.new site)) }
+    ensures spends { let says = SearchesAlternatives nodes.now (S.view space.old) (S.view space.new) meter.old meter.new in
+        says store.old store.new alternatives.now order start result }
 {
     for (place, alternative) in alternatives.iter().enumerate() {
         match try_alternative(nodes, alternative, order, start, space, meter, store)? {
@@ -162,6 +165,8 @@ fn try_alternative<S: Space>(
     ensures depth { level_count store.new ≡ level_count store.old }
     ensures same { IfOk result (LeavesLevels nodes.now store.old store.new) }
     ensures is { IfOk result (λ found. OnBits (S.view space.old) (TriesAlternative nodes.now alternative.now order start store.old store.new found)) }
+    ensures spends { let says = SearchesAlternative nodes.now (S.view space.old) (S.view space.new) meter.old meter.new in
+        says store.old store.new alternative.now order start result }
 {
     let tried = try_part(
         nodes,

@@ -9,6 +9,7 @@ ghost use Rattle.value_store.specs.Slots.{levels, level_count};
 ghost use Rattle.fault_parts.specs.Arises.{NumberArises};
 ghost use Rattle.fault_check.specs.Ways.{OnBits, Leaves, fault_of};
 ghost use Rattle.fault_check.specs.Calls.{Reaches};
+ghost use Rattle.fault_check.specs.Searched.{SearchesCut, SearchesDigits, SearchesNumber, SpendsNumber};
 ghost use Rattle.fault_check.specs.Sites.{path_cut, DigitsGoOn, FindsDigits, StopsNumber, TriesDigitsAs};
 ghost use Rattle.fault_check.specs.Digits.{KeepsNumber, PassesNumber, RefusesNumber, ArisesAt};
 
@@ -214,6 +215,7 @@ fn keep_number(
     ensures depth { level_count store.new ≡ level_count store.old }
     ensures is { IfOk result (λ _. KeepsNumber (type_of nodes.now at) digits start (levels nodes.now store.old) (levels nodes.now store.new)) }
     ensures stops { IfErr result (StopsNumber (type_of nodes.now at) digits start (levels nodes.now store.old) (levels nodes.now store.new)) }
+    ensures spends { SpendsNumber nodes.now meter.old meter.new store.old at digits start result }
 {
     meter.tick()?;
     let mut mapper = Mapper {
@@ -239,6 +241,7 @@ pub fn locate_in_number(
     requires start { number.start < 2 ^ 63 }
     ensures limit { meter.new.limit ≡ meter.old.limit }
     ensures is { IfOk result (λ _. path.new.items ≡ path.old.items ++ path_cut nodes.now (levels nodes.now store.old) number) }
+    ensures spends { SearchesCut nodes.now meter.old meter.new store.old number result }
 {
     let Shape::Integral {
         name: _,
@@ -285,6 +288,7 @@ fn find_digits(
     ensures depth { level_count store.new ≡ level_count store.old }
     ensures goes_on { IfOk result (DigitsGoOn nodes.now (level_count store.old) start) }
     ensures is { IfOk result (FindsDigits nodes.now fields.now digits width start store.old store.new) }
+    ensures spends { SearchesDigits nodes.now meter.old meter.new store.old store.new fields.now digits width start result }
 {
     let mut left = width;
     for (place, field) in fields.iter().enumerate() {
@@ -324,6 +328,7 @@ fn try_digits(
     ensures limit { meter.new.limit ≡ meter.old.limit }
     ensures depth { level_count store.new ≡ level_count store.old }
     ensures is { IfOk result (TriesDigitsAs nodes.now digits start field.now (levels nodes.now store.old) (levels nodes.now store.new)) }
+    ensures spends { SearchesNumber nodes.now meter.old meter.new store.old digits start field.now result }
 {
     match keep_number(nodes, field.node, digits, start, meter, store) {
         Ok(()) => match check_constraint(&field.constraint, u128::from(start), meter, store) {

@@ -7,6 +7,7 @@ ghost use Rattle.pickle_types.specs.Sound.{IsSoundBound};
 ghost use Rattle.pickle_map.specs.Framed.{IsEnd};
 ghost use Rattle.value_store.specs.Slots.{level_count};
 ghost use Rattle.fault_check.specs.Ways.{OnBits, Leaves, GoesOn};
+ghost use Rattle.fault_check.specs.Searched.{SearchesArray, SearchesElements};
 ghost use Rattle.fault_check.specs.Sites.{MayGoOn, HasFrame, FindsElement, FindsInArray};
 ghost use Rattle.fault_check.specs.Elements.{IsElement, OutgrowsSize, ArrayArises, EntersArray, EntersElements, KeepsElements, FindsEmpty};
 
@@ -281,6 +282,8 @@ pub fn find_in_array<S: Space>(
     ensures frame { IfOk result (HasFrame store.old store.new) }
     ensures goes_on { IfOk result (MayGoOn nodes.now (level_count store.new)) }
     ensures is { IfOk result (λ site. OnBits (S.view space.old) (FindsInArray nodes.now element bound.now order start store.old store.new site)) }
+    ensures spends { let says = SearchesArray nodes.now (S.view space.old) (S.view space.new) meter.old meter.new in
+        says store.old store.new element bound.now order start result }
 {
     match find_extent(bound, store, u128::from(start), meter) {
         Ok(extent) => {
@@ -313,6 +316,8 @@ fn find_element<S: Space>(
     ensures depth { level_count store.new ≡ level_count store.old }
     ensures goes_on { IfOk result (MayGoOn nodes.now (level_count store.old)) }
     ensures is { IfOk result (λ site. OnBits (S.view space.old) (FindsElement nodes.now element extent order start store.old store.new site)) }
+    ensures spends { let says = SearchesElements nodes.now (S.view space.old) (S.view space.new) meter.old meter.new in
+        says store.old store.new element extent order start result }
 {
     let bits = 8 * space.len();
     let mut behind = start;

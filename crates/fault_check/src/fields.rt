@@ -6,6 +6,7 @@ ghost use Rattle.pickle_types.specs.Table.{IsTable, optional_term};
 ghost use Rattle.pickle_map.specs.Mappable.{IsFieldOf};
 ghost use Rattle.value_store.specs.Slots.{levels, level_count};
 ghost use Rattle.fault_check.specs.Calls.{EntersFields, Passes};
+ghost use Rattle.fault_check.specs.Searched.{SearchesField, SearchesFields};
 ghost use Rattle.fault_check.specs.Sites.{MayGoOn, FindsField, TriesField};
 ghost use Rattle.fault_check.specs.Ways.{OnBits, Leaves, EntersField, GoesOn, fault_of};
 
@@ -145,6 +146,8 @@ pub fn find_field<S: Space>(
     ensures depth { level_count store.new ≡ level_count store.old }
     ensures goes_on { IfOk result (MayGoOn nodes.now (level_count store.old)) }
     ensures is { IfOk result (λ site. OnBits (S.view space.old) (FindsField nodes.now pinned fields.now order start store.old store.new site)) }
+    ensures spends { let says = SearchesFields nodes.now (S.view space.old) (S.view space.new) meter.old meter.new in
+        says store.old store.new pinned fields.now order start result }
 {
     let mut behind = start;
     for (place, field) in fields.iter().enumerate() {
@@ -184,6 +187,8 @@ fn try_field<S: Space>(
     requires field { IsFieldOf nodes.now (level_count store.old) field.now }
     ensures leaves { Leaves (S.view space.old) (S.view space.new) meter.old meter.new }
     ensures is { IfOk result (λ found. OnBits (S.view space.old) (TriesField nodes.now pinned start order field.now store.old store.new behind found)) }
+    ensures spends { let says = SearchesField nodes.now (S.view space.old) (S.view space.new) meter.old meter.new in
+        says store.old store.new pinned start order field.now behind result }
     ensures depth { level_count store.new ≡ level_count store.old }
 {
     match is_there(&field.condition, start, meter, store) {

@@ -1,11 +1,12 @@
 //! Finds the part of a type in which its fault arises.
 
-ghost use Rattle.std.specs.Prelude.{◌≡◌, ◌+◌, ◌*◌, ◌≤◌, ◌<◌, length, IfOk};
+ghost use Rattle.std.specs.Prelude.{◌≡◌, ◌+◌, ◌*◌, ◌≤◌, ◌<◌, length, IfErr, IfOk};
 ghost use Rattle.pickle_types.specs.Types.{depth};
 ghost use Rattle.pickle_types.specs.Table.{IsTable, type_of};
 ghost use Rattle.pickle_types.specs.TypeTable.{type_named, IsInTable};
 ghost use Rattle.value_store.specs.Slots.{emptied, level_count};
 ghost use Rattle.pickle_types.specs.Table.{IsWidth};
+ghost use Rattle.fault_check.specs.Searched.{EndsSearch, SearchesIn, SearchesRead, SearchesSite};
 ghost use Rattle.fault_check.specs.Sites.{FindsPart, GoesAlong, MayGoOn, HasFrame, FindsSite, ReadsSite, IsSmallSite};
 ghost use Rattle.fault_check.specs.Ways.{OnBits, Leaves};
 
@@ -41,6 +42,7 @@ pub fn find_part<S: Space>(
     requires empty { store.old ≡ emptied store.old }
     ensures leaves { Leaves (S.view space.old) (S.view space.new) meter.old meter.new }
     ensures is { IfOk result (λ path. OnBits (S.view space.old) (FindsPart (type_named table.now id) order start path.items)) }
+    ensures ended { IfErr result (EndsSearch (type_named table.now id) order start (S.view space.old) (S.view space.new) meter.old) }
     ensures emptied { store.new ≡ emptied store.new }
 {
     let mut path = Vec::new(alloc);
@@ -69,6 +71,7 @@ fn locate<S: Space>(
     requires open { level_count store.old + depth (type_of nodes.now part.node) ≤ 65 }
     ensures leaves { Leaves (S.view space.old) (S.view space.new) meter.old meter.new }
     ensures is { IfOk result (λ _. OnBits (S.view space.old) (GoesAlong nodes.now part store.old path.old.items path.new.items)) }
+    ensures spends { SearchesIn nodes.now (S.view space.old) (S.view space.new) meter.old meter.new store.old part result }
 {
     match find_site(nodes, part, space, meter, store)? {
         Site::Itself => Ok(()),
@@ -96,6 +99,7 @@ fn find_site<S: Space>(
     ensures frame { IfOk result (HasFrame store.old store.new) }
     ensures goes_on { IfOk result (MayGoOn nodes.now (level_count store.new)) }
     ensures is { IfOk result (λ site. OnBits (S.view space.old) (FindsSite nodes.now part store.old store.new site)) }
+    ensures spends { SearchesSite nodes.now (S.view space.old) (S.view space.new) meter.old meter.new store.old store.new part result }
 {
     if u128::from(8 * space.len()) < part.start {
         return Ok(Site::Itself);
@@ -142,6 +146,7 @@ fn read_site<S: Space>(
     ensures leaves { Leaves (S.view space.old) (S.view space.new) meter.old meter.new }
     ensures is { IfOk result (λ site. OnBits (S.view space.old) (ReadsSite part number start site)) }
     ensures small { IfOk result (IsSmallSite part.node start) }
+    ensures spends { SearchesRead (S.view space.old) (S.view space.new) meter.old meter.new result }
 {
     match read_digits(space, start, number.width, part.order, meter) {
         Ok(digits) => Ok(Site::Number(Cut {

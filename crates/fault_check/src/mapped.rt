@@ -10,6 +10,7 @@ ghost use Rattle.pickle_meaning.specs.Values.{outer_of};
 ghost use Rattle.pickle_map.specs.Framed.{Frame, IsEnd, AddsToLevel, LevelStays};
 ghost use Rattle.value_store.specs.Slots.{levels, level_count};
 ghost use Rattle.fault_check.specs.Calls.{FindsStart, MapsChecked, MapsType};
+ghost use Rattle.fault_check.specs.Searched.{SearchesPart, SpendsClause, SpendsLabel, SpendsType};
 ghost use Rattle.fault_check.specs.Sites.{TriesPart};
 ghost use Rattle.fault_check.specs.Ways.{OnBits, Settled, IsThere, IsFault, Leaves};
 
@@ -42,6 +43,7 @@ pub fn map_part<S: Space>(
     ensures is { OnBits (S.view space.old) (MapsType nodes.now node order start store.old store.new result) }
     ensures level { AddsToLevel nodes.now store.old store.new result }
     ensures outer { outer_of (levels nodes.now store.new) ≡ outer_of (levels nodes.now store.old) }
+    ensures spends { SpendsType nodes.now (S.view space.old) (S.view space.new) meter.old meter.new store.old node order start result }
 {
     map_part_watched(
         nodes,
@@ -74,6 +76,7 @@ pub fn map_part_watched<S: Space, W: Watch>(
     ensures is { OnBits (S.view space.old) (MapsType nodes.now node order start store.old store.new result) }
     ensures level { AddsToLevel nodes.now store.old store.new result }
     ensures outer { outer_of (levels nodes.now store.new) ≡ outer_of (levels nodes.now store.old) }
+    ensures spends { SpendsType nodes.now (S.view space.old) (S.view space.new) meter.old meter.new store.old node order start result }
 {
     let mut mapper = Mapper {
         nodes,
@@ -94,6 +97,7 @@ pub fn check_constraint(
     requires sound { IsSoundClause (optional_term clause.now) }
     ensures limit { meter.new.limit ≡ meter.old.limit }
     ensures is { (nodes : List TableNode) → Settled result (constraint (optional_term clause.now) (levels nodes store.now) place) }
+    ensures spends { SpendsClause meter.old meter.new store.now clause.now result }
 {
     clauses::check(clause, store, place, meter)
 }
@@ -108,6 +112,7 @@ pub fn is_there(
     requires sound { IsSoundClause (optional_term clause.now) }
     ensures limit { meter.new.limit ≡ meter.old.limit }
     ensures is { (nodes : List TableNode) → Settled result (condition (optional_term clause.now) (levels nodes store.now) start) }
+    ensures spends { SpendsClause meter.old meter.new store.now clause.now result }
 {
     clauses::is_there(clause, store, u128::from(start), meter)
 }
@@ -124,6 +129,7 @@ pub fn find_start(
     requires sound { IsSoundClause (optional_term label.now) }
     ensures limit { meter.new.limit ≡ meter.old.limit }
     ensures is { FindsStart pinned label.now store.now start behind result }
+    ensures spends { SpendsLabel meter.old meter.new store.now pinned label.now result }
 {
     clauses::find_start(pinned, label, store, start, behind, meter)
 }
@@ -170,6 +176,7 @@ pub fn try_part<S: Space>(
     requires sound { IsSoundClause (optional_term clause.now) }
     ensures leaves { Leaves (S.view space.old) (S.view space.new) meter.old meter.new }
     ensures is { IfOk result (λ found. OnBits (S.view space.old) (TriesPart nodes.now node clause.now order start store.old store.new found)) }
+    ensures spends { SearchesPart nodes.now (S.view space.old) (S.view space.new) meter.old meter.new store.old node clause.now order start result }
     ensures level { LevelStays nodes.now store.old store.new }
 {
     match map_part(nodes, node, order, start, space, meter, store) {

@@ -1,7 +1,8 @@
 //! Where the fault of a type arises, step by step.
 
-ghost use Rattle.std.specs.Prelude.{◌≡◌, ◌++◌, ◌∷◌, [], IfOk};
-ghost use Rattle.pickle_map.specs.declared.mapper.stop.Stop.TheVariants.{Fault};
+ghost use Rattle.std.specs.Prelude.{◌≡◌, ◌++◌, ◌∷◌, [], IfOk, IfErr};
+ghost use Rattle.fault_check.specs.declared.site.Ended.TheVariants.{Memory};
+ghost use Rattle.fault_check.specs.Searched.{IsFaultIn};
 
 use bit_space::Order;
 use pickle_map::mapper::stop::Stop;
@@ -79,7 +80,7 @@ pub enum Attempt {
 
 /// The fault of a stop. An error if the stop isn't one of a type, but of the run.
 pub fn fault_in(stop: Stop) -> Result<MapFault, Ended>
-    ensures { IfOk result (λ fault. stop ≡ Fault fault.kind fault.at) }
+    ensures { IsFaultIn stop result }
 {
     match stop {
         Stop::Fault(kind, at) => Ok(MapFault { kind, at }),
@@ -91,7 +92,8 @@ pub fn fault_in(stop: Stop) -> Result<MapFault, Ended>
 
 /// Adds a place to a path.
 pub fn keep(path: &mut Vec<usize>, place: usize) -> Result<(), Ended>
-    ensures { IfOk result (λ _. path.new.items ≡ path.old.items ++ place ∷ []) }
+    ensures is { IfOk result (λ _. path.new.items ≡ path.old.items ++ place ∷ []) }
+    ensures memory { IfErr result (λ e. e ≡ Memory) }
 {
     match path.push(place) {
         Ok(()) => Ok(()),

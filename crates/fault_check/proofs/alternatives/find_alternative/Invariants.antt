@@ -1,7 +1,8 @@
-use Rattle.std.proofs.Common.{◌≡◌, drop}
+use Rattle.std.proofs.Common.{◌≡◌, ◌+◌, ◌≤◌, drop}
 use Rattle.pickle_types.specs.Table.{type_of, open_parts}
 use Rattle.value_store.specs.Slots.{levels, level_count}
 use Rattle.fault_parts.specs.Arises.{MissesBefore}
+use Rattle.fault_check.specs.Searched.{alternatives_search}
 use Rattle.fault_check.specs.Ways.{OnBits, Leaves}
 use Rattle.fault_check.proofs.alternatives.find_alternative.Given as goal
 
@@ -12,4 +13,7 @@ invariant-loop-place g l = record {
   same : levels l.nodes l.store ≡ levels l.nodes l.initial.store;
   so_far : OnBits (g.S.Space.view l.initial.space) (λ bits. MissesBefore bits l.order (open_parts (type_of l.nodes) l.alternatives) (levels l.nodes l.initial.store) l.start l.place
       (open_parts (type_of l.nodes) (drop l.place l.alternatives)));
+  spent : OnBits (g.S.Space.view l.initial.space) (λ bits.
+      l.meter.steps + alternatives_search bits (open_parts (type_of l.nodes) (drop l.place l.alternatives)) l.order (levels l.nodes l.initial.store) l.start
+      ≤ l.initial.meter.steps + alternatives_search bits (open_parts (type_of l.nodes) l.alternatives) l.order (levels l.nodes l.initial.store) l.start);
 }

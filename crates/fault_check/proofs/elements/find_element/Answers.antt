@@ -1,11 +1,14 @@
-use Rattle.std.proofs.Common.{rules, ◌≡◌, ◌*◌, ◌≤◌, length, true, false, sym, ap, ◌∙◌, arith}
+use Rattle.std.proofs.Common.{rules, ◌≡◌, ◌+◌, ◌*◌, ◌<◌, ◌≤◌, length, true, false, sym, ap, ◌∙◌, arith}
+use Rattle.std.proofs.lemmas.Result.{err_from_is_err_and}
 use Rattle.bit_space.specs.Bits.{bits_of}
 use Rattle.bit_space.proofs.Digits.{length-bits_of}
+use Rattle.bit_space.proofs.Failures.{risen_later}
 use Rattle.pickle_types.specs.Table.{type_of}
 use Rattle.pickle_meaning.specs.Values.{end_of}
 use Rattle.pickle_meaning.specs.Means.{Means}
 use Rattle.fault_check.proofs.ArrayElements.{no_elements, elements_go, due_on}
 use Rattle.fault_check.proofs.Located.{elements_over, elements_empty, elements_ended, elements_inside, comes_as, says_fault, no_less}
+use Rattle.fault_check.proofs.Searching.{among_go, among_least, among_inside, stop_ends}
 use Rattle.fault_check.specs.Ways.{fault_of}
 use Rattle.value_store.specs.Slots.{levels}
 use Rattle.fault_check.proofs.elements.find_element.Goals as goal
@@ -18,6 +21,7 @@ loop-extent-init g c = record {
   depth = search rules;
   counted = search rules;
   before = λ bytes e. no_elements;
+  spent = λ bytes e. (length (bits_of bytes), omega arith, omega arith);
 }
 
 pub loop-extent-preserved : goal.loop-extent-preserved
@@ -34,6 +38,19 @@ loop-extent-preserved g c =
       before = elements_go (g.S.Space.view c.args.space.now) (g.S.Space.view c.loop-extent.space) (g.met.S.Space.whole c.args.space.now) i.leaves.bytes (type_of c.args.nodes.now c.args.element) c.args.order c.args.start c.args.extent
           (levels c.args.nodes.now c.args.store.now) (levels c.args.nodes.now c.loop-extent.store) (levels c.args.nodes.now c.map_part.new.store)
           c.loop-extent.count c.loop-extent.behind c.in-Ok.end _ (ap (λ n. 8 * n) c.len-bits.ensures) due c.if-behind-end.true i.before mapped;
+      spent = λ bytes known.
+          let whole = g.met.S.Space.whole c.args.space.now in
+          let counted = whole bytes known in
+          let h = mapped bytes (i.leaves.bytes ∙ known) in
+          let inside = c.in-Ok.ensures.ends in
+          let few : c.loop-extent.count < length (bits_of bytes) = rw length-bits_of (omega (arith, counted, i.counted, i.leaves.len, c.if-behind-end.true, inside.1)) in
+          let due = due_on (g.S.Space.view c.args.space.now) whole bytes known c.args.extent _ c.args.start c.loop-extent.count c.loop-extent.behind true (ap (λ n. 8 * n) c.len-bits.ensures) due in
+          let took = rw c.from-at.ensures at (c.in-Ok.ensures.spends bytes (i.leaves.bytes ∙ known)) in
+          let so_far = i.spent bytes known in
+          let further : c.loop-extent.behind < end_of h.value = omega (arith, h.ends, c.if-behind-end.true) in
+          rw (h.keeps, ← h.ends)
+          (among_go (bits_of bytes) (type_of c.args.nodes.now c.args.element) c.args.order c.args.start c.args.extent (levels c.args.nodes.now c.loop-extent.store) so_far.0 c.loop-extent.count c.loop-extent.behind so_far.1 few due
+          h.value h.means further c.loop-extent.meter.steps c.map_part.new.meter.steps _ so_far.2 took);
     }
 
 pub returns-in-Ok-2-clause-is : goal.returns-in-Ok-2-clause-is
@@ -94,3 +111,57 @@ returns-clause-is g c =
     let due = due_on (g.S.Space.view c.args.space.now) whole bytes known c.args.extent _ c.args.start c.loop-extent.count c.loop-extent.behind false (ap (λ n. 8 * n) c.len-bits.ensures) (sym c.is_due.ensures ∙ c.loop-extent-test.false) in
     let before = i.before bytes known in
     elements_over (bits_of bytes) (type_of c.args.nodes.now c.args.element) c.args.order c.args.start c.args.extent (levels c.args.nodes.now c.args.store.now) (levels c.args.nodes.now c.loop-extent.store) c.loop-extent.count c.loop-extent.behind here before due
+
+pub returns-in-Ok-2-clause-spends : goal.returns-in-Ok-2-clause-spends
+returns-in-Ok-2-clause-spends g c =
+    λ bytes known.
+    let i = c.loop-extent.invariant in
+    let due = due_on (g.S.Space.view c.args.space.now) (g.met.S.Space.whole c.args.space.now) bytes known c.args.extent _ c.args.start c.loop-extent.count c.loop-extent.behind true (ap (λ n. 8 * n) c.len-bits.ensures) (sym c.is_due.ensures ∙ c.loop-extent-test.true) in
+    let so_far = i.spent bytes known in
+    let took = rw c.from-at.ensures at (c.in-Ok.ensures.spends bytes (i.leaves.bytes ∙ known)) in
+    let least = among_least (bits_of bytes) (type_of c.args.nodes.now c.args.element) c.args.order c.args.start c.args.extent (levels c.args.nodes.now c.loop-extent.store) so_far.0 c.loop-extent.count c.loop-extent.behind due in
+    omega (arith, so_far.2, took, least)
+
+pub returns-then-ends-clause-spends : goal.returns-then-ends-clause-spends
+returns-then-ends-clause-spends g c =
+    λ bytes known.
+    let i = c.loop-extent.invariant in
+    let due = due_on (g.S.Space.view c.args.space.now) (g.met.S.Space.whole c.args.space.now) bytes known c.args.extent _ c.args.start c.loop-extent.count c.loop-extent.behind true (ap (λ n. 8 * n) c.len-bits.ensures) (sym c.is_due.ensures ∙ c.loop-extent-test.true) in
+    let so_far = i.spent bytes known in
+    let took = rw (c.in_ok-_fault-in-Err.ensures, c.from-at.ensures) at (c.in-Err.ensures.spends bytes (i.leaves.bytes ∙ known)) in
+    let least = among_least (bits_of bytes) (type_of c.args.nodes.now c.args.element) c.args.order c.args.start c.args.extent (levels c.args.nodes.now c.loop-extent.store) so_far.0 c.loop-extent.count c.loop-extent.behind due in
+    omega (arith, so_far.2, took, least)
+
+pub returns-in-Err-clause-spends : goal.returns-in-Err-clause-spends
+returns-in-Err-clause-spends g c =
+    λ bytes known.
+    let i = c.loop-extent.invariant in
+    let due = due_on (g.S.Space.view c.args.space.now) (g.met.S.Space.whole c.args.space.now) bytes known c.args.extent _ c.args.start c.loop-extent.count c.loop-extent.behind true (ap (λ n. 8 * n) c.len-bits.ensures) (sym c.is_due.ensures ∙ c.loop-extent-test.true) in
+    let so_far = i.spent bytes known in
+    let took = rw (c.in_ok-_fault-in-Err.ensures, c.from-at.ensures) at (c.in-Err.ensures.spends bytes (i.leaves.bytes ∙ known)) in
+    let means = says_fault (Means (bits_of bytes) (type_of c.args.nodes.now c.args.element) c.args.order (levels c.args.nodes.now c.loop-extent.store) c.from-at.result)
+    (levels c.args.nodes.now c.loop-extent.store) (levels c.args.nodes.now c.map_part.new.store) c.in-Err.stop c.in_ok-_fault-in-Err._fault c.in_ok-_fault-in-Err.ensures
+    (c.in-Err.ensures.is bytes (i.leaves.bytes ∙ known)) in
+    let means = rw c.from-at.ensures at means in
+    let goes = comes_as c.in-Err.stop c.in_ok-_fault-in-Err._fault c.in_ok-_fault-in-Err.ensures c.args.extent false (sym c.ends.ensures ∙ c.if-ends.false) in
+    let least = among_inside (bits_of bytes) (type_of c.args.nodes.now c.args.element) c.args.order c.args.start c.args.extent (levels c.args.nodes.now c.loop-extent.store) so_far.0 c.loop-extent.count c.loop-extent.behind due (fault_of c.in_ok-_fault-in-Err._fault) means goes in
+    rw (c.in-Err.ensures.level.same, c.from-at.ensures) (omega (arith, so_far.2, took, least))
+
+pub returns-clause-spends : goal.returns-clause-spends
+returns-clause-spends g c =
+    λ bytes known.
+    let so_far = c.loop-extent.invariant.spent bytes known in
+    omega (arith, so_far.2)
+
+pub returns-in_err-_fault-in-Err-clause-spends : goal.returns-in_err-_fault-in-Err-clause-spends
+returns-in_err-_fault-in-Err-clause-spends g c =
+    let p = err_from_is_err_and c.from_residual.result c.from_residual.ensures.1 in
+    λ bytes known.
+    let i = c.loop-extent.invariant in
+    let due = due_on (g.S.Space.view c.args.space.now) (g.met.S.Space.whole c.args.space.now) bytes known c.args.extent _ c.args.start c.loop-extent.count c.loop-extent.behind true (ap (λ n. 8 * n) c.len-bits.ensures) (sym c.is_due.ensures ∙ c.loop-extent-test.true) in
+    let so_far = i.spent bytes known in
+    let least = among_least (bits_of bytes) (type_of c.args.nodes.now c.args.element) c.args.order c.args.start c.args.extent (levels c.args.nodes.now c.loop-extent.store) so_far.0 c.loop-extent.count c.loop-extent.behind due in
+    let spends = rw c.from-at.ensures at (c.in-Err.ensures.spends bytes (i.leaves.bytes ∙ known)) in
+    rw (p.1, p.2)
+    (stop_ends c.loop-extent.meter.limit c.args.meter.now.limit c.loop-extent.meter.steps c.args.meter.now.steps _ _ _ c.in-Err.stop _ c.in_err-_fault-in-Err.ensures
+    (risen_later _ _ _ i.leaves.failures c.in-Err.ensures.frame.failures) i.leaves.limit (omega (arith, so_far.2, least)) spends)

@@ -8,10 +8,12 @@ use Rattle.pickle_map.proofs.Shapes.{opened_as}
 use Rattle.fault_parts.specs.Paths.{path_of, fields_path, alternatives_path}
 use Rattle.value_store.specs.Names.{title_at}
 use Rattle.value_store.specs.Slots.{levels, level_count}
-use Rattle.fault_check.specs.Sites.{path_in, IsSite}
+use Rattle.fault_check.specs.Sites.{path_in, IsSite, ReadsSite}
 use Rattle.fault_check.specs.Ways.{OnBits}
 use Rattle.fault_check.proofs.Nodes.{struct_node, union_node, array_node, integral_node}
+use Rattle.fault_check.specs.Searched.{search_of}
 use Rattle.fault_check.proofs.Located.{past_is, struct_path, union_path, if_site, if_read}
+use Rattle.fault_check.proofs.Searching.{struct_search, union_search, if_read_search, on_known}
 use Rattle.fault_check.proofs.locate.find_site.Goals as goal
 
 pub returns-then-from-part-clause-is : goal.returns-then-from-part-clause-is
@@ -115,3 +117,39 @@ pub returns-in-String-clause-is : goal.returns-in-String-clause-is
 returns-in-String-clause-is g c =
     λ bytes known.
     ap (λ ty. path_of (bits_of bytes) ty c.args.part.order (levels c.args.nodes.now c.args.store.now) c.args.part.start) (opened_as c.args.nodes.now c.requires.table c.args.part.node c.requires.at c.index-nodes-part.result _ c.in-String.is)
+
+pub returns-in-Struct-clause-spends : goal.returns-in-Struct-clause-spends
+returns-in-Struct-clause-spends g c =
+    let n = struct_node c.args.nodes.now c.requires.table c.args.part.node c.requires.at (level_count c.args.store.now) c.requires.open c.index-nodes-part.result _ _ _ c.in-Struct.is in
+    let found = rw (c.open_level.ensures.levels c.args.nodes.now, c.deref.ensures.value) at c.find_field.ensures.spends in
+    λ bytes known.
+    let whole = g.met.S.Space.whole c.args.space.now bytes known in
+    let here : c.args.part.start ≤ length (bits_of bytes) = rw length-bits_of (omega (arith, whole, c.if-from-part.false, c.from.ensures, c.len.ensures)) in
+    let same = ap (λ ty. search_of (bits_of bytes) ty c.args.part.order (levels c.args.nodes.now c.args.store.now) c.args.part.start) n.type_is
+    ∙ struct_search (bits_of bytes) c.args.part.order (levels c.args.nodes.now c.args.store.now) c.args.part.start here (title_at c.args.nodes.now c.args.part.node) c.in-Struct.pinned (open_fields (type_of c.args.nodes.now) c.in-Struct.fields.items) in
+    rw same (found bytes known)
+
+pub returns-in-Union-clause-spends : goal.returns-in-Union-clause-spends
+returns-in-Union-clause-spends g c =
+    let n = union_node c.args.nodes.now c.requires.table c.args.part.node c.requires.at (level_count c.args.store.now) c.requires.open c.index-nodes-part.result _ _ c.in-Union.is in
+    let found = rw (c.open_level-in-Union.ensures.levels c.args.nodes.now, c.deref-in-Union.ensures.value) at c.find_alternative.ensures.spends in
+    λ bytes known.
+    let whole = g.met.S.Space.whole c.args.space.now bytes known in
+    let here : c.args.part.start ≤ length (bits_of bytes) = rw length-bits_of (omega (arith, whole, c.if-from-part.false, c.from.ensures, c.len.ensures)) in
+    let same = ap (λ ty. search_of (bits_of bytes) ty c.args.part.order (levels c.args.nodes.now c.args.store.now) c.args.part.start) n.type_is
+    ∙ union_search (bits_of bytes) c.args.part.order (levels c.args.nodes.now c.args.store.now) c.args.part.start here (title_at c.args.nodes.now c.args.part.node) (open_parts (type_of c.args.nodes.now) c.in-Union.alternatives.items) in
+    rw same (found bytes known)
+
+pub returns-in-Array-clause-spends : goal.returns-in-Array-clause-spends
+returns-in-Array-clause-spends g c =
+    let n = array_node c.args.nodes.now c.requires.table c.args.part.node c.requires.at (level_count c.args.store.now) c.requires.open c.index-nodes-part.result _ _ c.in-Array.is in
+    λ bytes known. rw n.type_is (c.find_in_array.ensures.spends bytes known)
+
+pub returns-in-Integral-clause-spends : goal.returns-in-Integral-clause-spends
+returns-in-Integral-clause-spends g c =
+    let n = integral_node c.args.nodes.now c.requires.table c.args.part.node c.requires.at (level_count c.args.store.now) c.requires.open c.index-nodes-part.result _ _ _ c.in-Integral.is in
+    λ bytes known.
+    let whole = g.met.S.Space.whole c.args.space.now bytes known in
+    let here : c.args.part.start ≤ length (bits_of bytes) = rw length-bits_of (omega (arith, whole, c.if-from-part.false, c.from.ensures, c.len.ensures)) in
+    if_read_search _ c.args.meter.now.limit c.args.meter.now.steps c.read_site.new.meter.steps (bits_of bytes) c.args.nodes.now (levels c.args.nodes.now c.args.store.now) c.args.part _ c.in-Integral.number _ c.args.part.start refl here n.type_is
+    c.read_site.result c.read_site.ensures.small (on_known (g.S.Space.view c.args.space.now) (ReadsSite c.args.part c.in-Integral.number c.args.part.start) c.read_site.result c.read_site.ensures.is bytes known) (c.read_site.ensures.spends bytes known)
