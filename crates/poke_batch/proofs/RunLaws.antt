@@ -156,7 +156,7 @@ module _ (pickle : List ℕ) (ask : Ask) (before : SpaceView) (status : Status) 
   under_said terms after saying (mapped_under {type = type} {mapped = mapped} table id named asked means fits) h follows =
       value_said table id terms mapped (follows table id type mapped named asked means fits) h
   under_said terms after saying (ended_under {status = line_status} {line = line} right) h follows = no_line line_status line (line_is after (Line line_status line) right line_status line refl) h
-  under_said terms after saying (slots_under asked most few) h follows = no_line Fault _ (λ e. cc) h
+  under_said terms after saying (slots_under asked most less few) h follows = no_line Fault _ (λ e. cc) h
 
   module _ (mode : ask.mode ≡ Json) where
     json_reads : (path : Option Path) (type : PokeType) (mapped : Value) → IsAsked pickle ask.name.now type → IsMeant type mapped → Fits (8 * before.len) type no_values ask.start mapped

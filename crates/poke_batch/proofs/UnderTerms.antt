@@ -5,12 +5,17 @@ use Rattle.std.proofs.lemmas.Bool.{le-leb, lt-leb}
 use Rattle.pickle_types.specs.Types.{PokeType, IntegerOf, OffsetOf, StringOf, ArrayOf, StructOf, IntegralOf, UnionOf, Fields, NoFields, FieldThen, Parts, NoParts, PartThen}
 use Rattle.pickle_meaning.specs.Fits.{ElementsFit, no_more_fit, one_more_fits, Fits, FitsNumber, FieldsFit, AlternativeFits}
 use Rattle.pickle_meaning.specs.Means.{Taken}
-use Rattle.value_store.specs.Slots.{Held, emptied}
+use Rattle.value_store.specs.Slots.{Held, packs, emptied, fixed, each_of}
+use Rattle.value_store.specs.Takes.{AreWithin}
+use Rattle.value_store.specs.declared.store.room.Growth.TheVariants.{Never}
+use Rattle.bit_space.specs.Bits.{bits_of}
+use Rattle.mapping_plans.specs.Kept.{KeepsBy}
+use Rattle.mapping_plans.specs.Mapping.{plan}
 use Rattle.value_store.specs.declared.store.room.Room.{Room}
 use Rattle.pickle_types.specs.Bounds.{room}
 use Rattle.std.proofs.lemmas.Option.{same_Some}
 use Rattle.poke_batch.specs.Runs.{IsAsked}
-use Rattle.pickle_meaning.specs.Values.{Value, Levels, start_of, end_of, pushed, opened}
+use Rattle.pickle_meaning.specs.Values.{Value, Levels, no_values, start_of, end_of, pushed, opened}
 use Rattle.bit_space.specs.SpaceView.{SpaceView}
 use Rattle.pickle_meaning.specs.declared.faults.MapFaultKind.{MapFaultKind}
 use Rattle.pickle_meaning.specs.declared.faults.MapFaultKind.TheVariants as fault
@@ -24,7 +29,7 @@ use Rattle.run_parts.specs.Lines.{fault_line, fault_at_line}
 use Rattle.run_parts.specs.Accepted.{Refuses, refusal_saying}
 use Rattle.run_parts.specs.FaultLines.{fault_saying}
 use Rattle.poke_batch.specs.Runs.{MapsAs, value, refused_map, no_memory}
-use Rattle.poke_batch.specs.RunsUnder.{MapsUnder, mapped_under, ended_under, slots_under, IsStoreOf, end_saying, fixed_saying, SaysIt, said_so, no_memory_for_it, is_left, text_saying, part_saying, kept_saying, value_saying}
+use Rattle.poke_batch.specs.RunsUnder.{MapsUnder, mapped_under, ended_under, slots_under, AreTooFew, IsStoreOf, end_saying, fixed_saying, SaysIt, said_so, no_memory_for_it, is_left, text_saying, part_saying, kept_saying, value_saying}
 use Rattle.run_parts.specs.Told.{Saying, Text, Line, Says}
 use Rattle.pickle_types.specs.declared.table.Table.{Table}
 use Rattle.pickle_types.specs.declared.table.TypeId.{TypeId}
@@ -141,7 +146,7 @@ pub without_terms : (pickle : List ℕ) (ask : Ask) (before after : SpaceView) (
 without_terms pickle ask before after saying (mapped_under {mapped = mapped} table id named asked answer fits) =
     subst (λ text. MapsAs pickle ask before after (Text text)) (sym (prints_plain (nodes_of table) (char_node_of table) (Some id.node) ask.mode mapped)) (value asked answer fits)
 without_terms pickle ask before after saying (ended_under ends) = ends
-without_terms pickle ask before after saying (slots_under asked e less) = absurd cc
+without_terms pickle ask before after saying (slots_under asked e less few) = absurd cc
 
 -- a fault of a mapping is reported as without terms
 pub fault_under : (pickle : List ℕ) (ask : Ask) (terms : Terms) (before after : SpaceView) (kind : MapFaultKind) (at : ℕ)
@@ -174,22 +179,41 @@ least_of None old cleared is same less n e = absurd cc
 least_of (Some m) old cleared {bound} is same less n e =
     subst (λ x. x < bound) (ap (λ (h : Held). h.room.least) same ∙ ap (λ (r : Room). r.least) is ∙ same_Some m n e) less
 
+-- what is too much for a store of the most slots is so for slots of that number
+pub few_of : (most : Option ℕ) (old cleared : Held) (type : PokeType) (ask : Ask) (before : SpaceView) (left : ℕ) → IsStoreOf most old → cleared ≡ emptied old
+    → (cleared.room.growth ≡ Never → cleared.capacity ≡ each_of cleared.room.least) → left ≡ ask.limit
+    → ((bytes : List ℕ) → before.bytes ≡ Some bytes → KeepsBy (λ row levels. AreWithin (packs cleared.room) row levels cleared.capacity) (bits_of bytes) (plan (8 * before.len) type ask.order no_values ask.start) left → ⊥)
+    → (n : ℕ) → most ≡ Some n → AreTooFew n type ask before
+few_of None old cleared type ask before left is same exact full wants n e = absurd cc
+few_of (Some m) old cleared type ask before left is same exact full wants n e =
+    let made : cleared.room ≡ fixed n = ap (λ (h : Held). h.room) same ∙ is ∙ ap fixed (same_Some m n e) in
+    let each : cleared.capacity ≡ each_of n = exact (ap (λ (r : Room). r.growth) made) ∙ ap (λ (r : Room). each_of r.least) made in
+    let planned = plan (8 * before.len) type ask.order no_values ask.start in
+    record {
+      lack = λ bytes known kept.
+          wants bytes known
+          (subst (λ (r : Room). KeepsBy (λ row levels. AreWithin (packs r) row levels cleared.capacity) (bits_of bytes) planned left) (sym made)
+          (subst (λ k. KeepsBy (λ row levels. AreWithin false row levels k) (bits_of bytes) planned left) (sym each)
+          (subst (KeepsBy (λ row levels. AreWithin false row levels (each_of n)) (bits_of bytes) planned) (sym full) kept)));
+    }
+
 end_by : (pickle : List ℕ) (ask : Ask) (terms : Terms) (before after : SpaceView) {type : PokeType} (most : Option ℕ) (kind : MapFaultKind) (at : ℕ)
     → terms.most_slots ≡ most → IsAsked pickle ask.name.now type
     → (kind ≡ fault.Memory → (n : ℕ) → most ≡ Some n → n < room type (8 * before.len))
+    → (kind ≡ fault.Memory → (n : ℕ) → most ≡ Some n → AreTooFew n type ask before)
     → MapsUnder pickle ask terms before after (fault_saying kind at) → MapsUnder pickle ask terms before after (end_saying most ask.start kind at)
-end_by pickle ask terms before after None kind at e asked less right = right
-end_by pickle ask terms before after (Some n) fault.End at e asked less right = right
-end_by pickle ask terms before after (Some n) fault.Constraint at e asked less right = right
-end_by pickle ask terms before after (Some n) fault.Bounds at e asked less right = right
-end_by pickle ask terms before after (Some n) fault.NoBits at e asked less right = right
-end_by pickle ask terms before after (Some n) fault.Zero at e asked less right = right
-end_by pickle ask terms before after (Some n) fault.Overflow at e asked less right = right
-end_by pickle ask terms before after (Some n) fault.Absent at e asked less right = right
-end_by pickle ask terms before after (Some n) fault.Index at e asked less right = right
-end_by pickle ask terms before after (Some n) fault.Limit at e asked less right = right
-end_by pickle ask terms before after (Some n) fault.Device at e asked less right = right
-end_by pickle ask terms before after (Some n) fault.Memory at e asked less right = slots_under asked e (less refl n refl)
+end_by pickle ask terms before after None kind at e asked less few right = right
+end_by pickle ask terms before after (Some n) fault.End at e asked less few right = right
+end_by pickle ask terms before after (Some n) fault.Constraint at e asked less few right = right
+end_by pickle ask terms before after (Some n) fault.Bounds at e asked less few right = right
+end_by pickle ask terms before after (Some n) fault.NoBits at e asked less few right = right
+end_by pickle ask terms before after (Some n) fault.Zero at e asked less few right = right
+end_by pickle ask terms before after (Some n) fault.Overflow at e asked less few right = right
+end_by pickle ask terms before after (Some n) fault.Absent at e asked less few right = right
+end_by pickle ask terms before after (Some n) fault.Index at e asked less few right = right
+end_by pickle ask terms before after (Some n) fault.Limit at e asked less few right = right
+end_by pickle ask terms before after (Some n) fault.Device at e asked less few right = right
+end_by pickle ask terms before after (Some n) fault.Memory at e asked less few right = slots_under asked e (less refl n refl) (few refl n refl)
 
 -- a fault in a store of the most slots, other than an allocation failure
 pub fixed_as_fault : (start : ℕ) (kind : MapFaultKind) (at : ℕ) → kind ≢ fault.Memory → fault_saying kind at ≡ fixed_saying start kind at
@@ -209,5 +233,6 @@ fixed_as_fault start fault.Memory at other = absurd (other refl)
 pub end_under : (pickle : List ℕ) (ask : Ask) (terms : Terms) (before after : SpaceView) {type : PokeType} (kind : MapFaultKind) (at : ℕ)
     → IsAsked pickle ask.name.now type
     → (kind ≡ fault.Memory → (n : ℕ) → terms.most_slots ≡ Some n → n < room type (8 * before.len))
+    → (kind ≡ fault.Memory → (n : ℕ) → terms.most_slots ≡ Some n → AreTooFew n type ask before)
     → MapsUnder pickle ask terms before after (fault_saying kind at) → MapsUnder pickle ask terms before after (end_saying terms.most_slots ask.start kind at)
-end_under pickle ask terms before after kind at asked less right = end_by pickle ask terms before after terms.most_slots kind at refl asked less right
+end_under pickle ask terms before after kind at asked less few right = end_by pickle ask terms before after terms.most_slots kind at refl asked less few right

@@ -1,5 +1,5 @@
 -- What a run must print for a pickle under terms.
-use Rattle.std.specs.Prelude.{◌*◌, ◌<◌, ◌≡◌, ℕ, Bool, ◌&&◌, List, Option, Some, None, Ok, length, nat_le, nat_lt, if◌then◌else◌, codes}
+use Rattle.std.specs.Prelude.{◌*◌, ◌<◌, ◌≡◌, ℕ, Bool, false, ◌&&◌, List, Option, Some, None, Ok, length, nat_le, nat_lt, if◌then◌else◌, codes}
 use Rattle.bit_space.specs.SpaceView.{SpaceView}
 use Rattle.pickle_types.specs.declared.table.Table.{Table}
 use Rattle.pickle_types.specs.declared.table.TypeId.{TypeId}
@@ -7,8 +7,12 @@ use Rattle.pickle_types.specs.NodeParts.{char_node_of}
 use Rattle.pickle_types.specs.TypeTable.{nodes_of, type_named}
 use Rattle.pickle_types.specs.Types.{PokeType}
 use Rattle.pickle_types.specs.Bounds.{room}
+use Rattle.mapping_plans.specs.Kept.{KeepsBy}
+use Rattle.mapping_plans.specs.Mapping.{plan}
+use Rattle.bit_space.specs.Bits.{bits_of}
 use Rattle.pickle_meaning.specs.Fits.{Fits}
-use Rattle.value_store.specs.Slots.{Held, fixed}
+use Rattle.value_store.specs.Slots.{Held, fixed, each_of}
+use Rattle.value_store.specs.Takes.{AreWithin}
 use Rattle.pickle_meaning.specs.declared.faults.MapFaultKind.{MapFaultKind}
 use Rattle.pickle_meaning.specs.declared.faults.MapFaultKind.TheVariants as fault
 use Rattle.value_store.specs.declared.store.room.Growth.TheVariants.{Free}
@@ -66,6 +70,11 @@ pub data SaysIt (saying : Saying) : Saying → Type 0 where
   said_so : SaysIt saying saying
   no_memory_for_it : SaysIt saying (Line Outside (fault_line (codes "Memory")))
 
+-- so many slots of each kind are too few for what a mapping stores on the file's bits, if these are known
+pub record AreTooFew (most : ℕ) (type : PokeType) (ask : Ask) (space : SpaceView) : Type 0 where
+  pub lack : (bytes : List ℕ) → space.bytes ≡ Some bytes
+      → KeepsBy (λ row levels. AreWithin false row levels (each_of most)) (bits_of bytes) (plan (8 * space.len) type ask.order no_values ask.start) ask.limit → ⊥
+
 -- what a mapping under terms prints
 pub data MapsUnder (pickle : List ℕ) (ask : Ask) (terms : Terms) (before after : SpaceView) : Saying → Type 0 where
   -- what the terms make of the value that the type means on the file's bits, if these are known; over any space, of one
@@ -79,7 +88,7 @@ pub data MapsUnder (pickle : List ℕ) (ask : Ask) (terms : Terms) (before after
       → MapsUnder pickle ask terms before after (Line status line)
   -- so many slots of each kind, fewer than the mapping's bound, don't suffice
   slots_under : {type : PokeType} {most : ℕ} → IsAsked pickle ask.name.now type → terms.most_slots ≡ Some most
-      → most < room type (8 * before.len) → MapsUnder pickle ask terms before after (Line Fault (fault_at_line (codes "Slots") ask.start))
+      → most < room type (8 * before.len) → AreTooFew most type ask before → MapsUnder pickle ask terms before after (Line Fault (fault_at_line (codes "Slots") ask.start))
 
 -- a store for a mapping under terms: with a most it has exactly that capacity
 abbrev pub IsStoreOf : (most : Option ℕ) → Held → Type 0

@@ -79,7 +79,7 @@ saying_bounded : (pickle : List ℕ) (ask : Ask) (terms : Terms) (before after :
 saying_bounded pickle ask terms before after saying status out out' err err' look all (mapped_under {type = type} {mapped = mapped} table id named asked means fits) h =
     of_type pickle ask terms.style before.len out out' type asked (value_said ask terms (8 * before.len) type mapped fits status out out' err err' table id look all h)
 saying_bounded pickle ask terms before after saying status out out' err err' look all (ended_under right) h = inl h.0
-saying_bounded pickle ask terms before after saying status out out' err err' look all (slots_under asked most few) h = inl h.0
+saying_bounded pickle ask terms before after saying status out out' err err' look all (slots_under asked most less few) h = inl h.0
 
 pub output_under_terms_bounded : OutputsUnderTermsAreBounded
 output_under_terms_bounded pickle ask terms before after status out out' err err' look all h = saying_bounded pickle ask terms before after h.saying status out out' err err' look all h.right h.said

@@ -561,6 +561,10 @@ abbrev pub IsContentNumber : Bool → ℤ → Type 0
 IsContentNumber true z = FitsSigned w64 z
 IsContentNumber false z = FitsUnsigned w64 z
 
+-- n entries of each vector
+abbrev pub each_of : ℕ → Marks
+each_of n = record { nodes = n; families = n; links = n; pending = n; texts = n; bytes = n }
+
 -- each vector has a capacity of exactly n
 pub record AreAll (n : ℕ) (capacity : Marks) : Type 0 where
   pub nodes : capacity.nodes ≡ n

@@ -5,7 +5,7 @@ ghost use Rattle.pickle_meaning.specs.Values.{no_values};
 ghost use Rattle.value_store.specs.Levels.{FitsIn};
 ghost use Rattle.value_store.specs.Names.{Names};
 ghost use Rattle.value_store.specs.declared.store.room.Growth.TheVariants.{Never};
-ghost use Rattle.value_store.specs.Slots.{empty, emptied, growing, fixed, marks_of, innermost, levels, HoldsInRoom};
+ghost use Rattle.value_store.specs.Slots.{empty, emptied, growing, fixed, each_of, marks_of, innermost, levels, HoldsInRoom};
 
 mod append;
 mod bytes;
@@ -138,9 +138,11 @@ impl Store {
         })
     }
 
-    /// Empties the store. Its vectors stay as large as they are.
+    /// Empties the store. Its vectors stay as large as they are. Those of a store that never grows have the capacity that
+    /// it was made with.
     pub fn clear(&mut self)
         ensures empty { self.new ≡ emptied self.old }
+        ensures fixed { self.new.room.growth ≡ Never → self.new.capacity ≡ each_of self.new.room.least }
         ensures levels { (names : Names) → levels names self.new ≡ no_values }
     {
         self.nodes.clear();
