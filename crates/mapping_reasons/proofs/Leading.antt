@@ -1,13 +1,14 @@
 -- Ways with one more step.
-use Rattle.std.proofs.Common.{◌≡◌, ℕ, ◌+◌, ◌<◌, List, [], ◌∷◌, ◌++◌, Some, length, get_or, take, sym, ap, ◌∙◌, subst}
-use Rattle.std.proofs.lemmas.List.{append-nil, append_assoc, map_more}
+use Rattle.std.proofs.Common.{◌≡◌, ℕ, ◌+◌, ◌<◌, List, [], ◌∷◌, ◌++◌, Some, length, None, get_or, take, drop, sym, ap, ◌∙◌, subst}
+use Rattle.std.proofs.lemmas.List.{append-nil, append_assoc, map_more, drop_more}
+use Rattle.std.proofs.lemmas.Option.{none-some}
 use Rattle.pickle_types.specs.declared.node.Node.{Node}
 use Rattle.pickle_types.specs.Types.{PokeType}
 use Rattle.pickle_types.specs.Table.{type_of}
 use Rattle.mapping_reasons.specs.declared.way.Portion.{Portion}
 use Rattle.mapping_reasons.specs.declared.way.Step.{Step}
 use Rattle.mapping_reasons.specs.Found.{places_of}
-use Rattle.mapping_reasons.specs.Ways.{TypePart, LeadsTo, here, further, part_at, step_text}
+use Rattle.mapping_reasons.specs.Ways.{TypePart, LeadsTo, here, further, part_at, step_text, HasPart, LacksPart}
 use Rattle.mapping_reasons.specs.Portions.{IsPortion, joint_text, typed}
 
 -- the places of one more step
@@ -31,3 +32,23 @@ steps_on nodes root node places text said to part leads same h is =
     let reached = subst (λ n. LeadsTo (type_of nodes root) places text (type_of nodes n)) (sym same) leads in
     let on = leads_on (typed (type_of nodes) part) to.place reached h.part in
     subst (λ s. LeadsTo (type_of nodes root) (places ++ to.place ∷ []) s (type_of nodes part.node)) (ap (λ s. text ++ s) h.step ∙ sym is) on
+
+-- a way to a part goes on from the part at its first place
+goes_along : {type : PokeType} {place : ℕ} {places steps : List ℕ} {found : PokeType} (part : TypePart) → part_at type place ≡ Some part → LeadsTo type (place ∷ places) steps found → HasPart part.type places
+goes_along {places} part e (further {part = first} k there rest) =
+    let same : first ≡ part = cc in
+    subst (λ (p : TypePart). HasPart p.type places) same (record { steps = _; part = _; leads = rest })
+
+pub goes_on : (type : PokeType) (place : ℕ) (places : List ℕ) (part : TypePart) → part_at type place ≡ Some part → HasPart type (place ∷ places) → HasPart part.type places
+goes_on type place places part e h = goes_along part e h.leads
+
+-- and goes nowhere, if there is no part at that place
+stops : {type : PokeType} {place : ℕ} {places steps : List ℕ} {found : PokeType} → part_at type place ≡ None → LeadsTo type (place ∷ places) steps found → ⊥
+stops e (further {part = first} k there rest) = none-some first (sym e ∙ there)
+
+pub goes_nowhere : (type : PokeType) (place : ℕ) (places : List ℕ) → part_at type place ≡ None → LacksPart type (place ∷ places)
+goes_nowhere type place places e h = stops e h.leads
+
+-- the steps from one on: that one, and those after it
+pub steps_left : (steps : List Step) (i : ℕ) (d : Step) → i < length steps → places_of (drop i steps) ≡ (get_or steps i d).place ∷ places_of (drop (i + 1) steps)
+steps_left steps i d within = ap places_of (drop_more steps i d within)

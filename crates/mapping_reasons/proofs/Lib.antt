@@ -2,3 +2,5 @@ pub mod Portions
 pub mod Leading
 pub mod Laid
 pub mod Meant
+pub mod Kept
+pub mod Shown

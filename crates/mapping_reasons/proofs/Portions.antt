@@ -1,6 +1,6 @@
 -- The parts that the nodes of a table have.
-use Rattle.std.proofs.Common.{◌≡◌, ℕ, zero, suc, ◌<◌, List, [], ◌∷◌, Option, Some, None, length, option_map, get_or, sym, ap, ◌∙◌, arith}
-use Rattle.std.specs.Prelude.{slice_get, IfSome}
+use Rattle.std.proofs.Common.{◌≡◌, ℕ, zero, suc, ◌<◌, ◌≤◌, List, [], ◌∷◌, Option, Some, None, length, option_map, get_or, refl, sym, ap, ◌∙◌, arith}
+use Rattle.std.specs.Prelude.{slice_get, IfSome, IfNone}
 use Rattle.std.proofs.lemmas.Option.{slice_get-get_or, slice_get_within, get_or_from_slice_get}
 use Rattle.pickle_types.specs.declared.node.Field.{Field}
 use Rattle.pickle_types.specs.declared.node.Part.{Part}
@@ -13,7 +13,7 @@ use Rattle.mapping_reasons.specs.declared.way.Joint.{Joint}
 use Rattle.mapping_reasons.specs.declared.way.Portion.{Portion}
 use Rattle.mapping_reasons.specs.declared.way.Step.{Step}
 use Rattle.mapping_reasons.specs.Ways.{TypePart, field_at, alternative_at, part_at, step_text}
-use Rattle.mapping_reasons.specs.Portions.{joint_name, joint_text, IsShapePortion, IsFieldPortion, IsPartPortion, IsPortion}
+use Rattle.mapping_reasons.specs.Portions.{joint_name, joint_text, IsShapePortion, IsFieldPortion, IsPartPortion, IsPortion, LacksField, LacksAlternative, LacksShapePortion, LacksPortion}
 
 module _ (at : ℕ → PokeType) where
   abbrev typed_field : Field → TypePart
@@ -75,3 +75,27 @@ pub if_portion_at : (nodes : List Node) → IsTable nodes → (to : Step) (node 
     → (found : Option Portion) → IfSome found (IsShapePortion node.shape to.place) → IfSome found (IsPortion nodes to)
 if_portion_at nodes table to node within item None h = h
 if_portion_at nodes table to node within item (Some p) h = portion_at nodes table to node p within item h
+
+-- ---- where there is no part
+
+pub field_past : (fs : List Field) (place : ℕ) → length fs ≤ place → LacksField fs place
+field_past [] place le at = refl
+field_past (f ∷ fs) zero le at = absurd (omega (arith, le))
+field_past (f ∷ fs) (suc place) le at = field_past fs place (omega (arith, le)) at
+
+pub part_past : (ps : List Part) (place : ℕ) → length ps ≤ place → LacksAlternative ps place
+part_past [] place le at = refl
+part_past (p ∷ ps) zero le at = absurd (omega (arith, le))
+part_past (p ∷ ps) (suc place) le at = part_past ps place (omega (arith, le)) at
+
+pub if_no_portion : (nodes : List Node) → IsTable nodes → (to : Step) (node : Node) → to.node < length nodes → node ≡ get_or nodes to.node node
+    → (found : Option Portion) → IfNone found (LacksShapePortion node.shape to.place) → IfNone found (LacksPortion nodes to)
+if_no_portion nodes table to node within item (Some p) h = tt
+if_no_portion nodes table to node within item None h =
+    let e = slice_get-get_or nodes to.node node within ∙ ap Some (sym item) in
+    λ _. ap (λ t. part_at t to.place) (opens nodes table to.node node e) ∙ h (type_of nodes)
+
+-- a fact that is said where there is no value
+pub if_none : {A P : Type 0} (o : Option A) → P → IfNone o P
+if_none None p = p
+if_none (Some x) p = tt

@@ -1,5 +1,5 @@
 -- What is found along the ways from a type to its parts, in the table that has these types.
-use Rattle.std.specs.Prelude.{ℕ, List, map, IfErr, IfSome}
+use Rattle.std.specs.Prelude.{ℕ, List, map, Option, Some, None, IfErr}
 use Rattle.bit_space.specs.SpaceView.{SpaceView}
 use Rattle.pickle_types.specs.declared.node.Node.{Node}
 use Rattle.pickle_types.specs.Types.{PokeType}
@@ -13,7 +13,7 @@ use Rattle.mapping_reasons.specs.declared.way.Found.{Found}
 use Rattle.mapping_reasons.specs.declared.way.Step.{Step}
 use Rattle.mapping_reasons.specs.declared.way.Walked.{Walked}
 use Rattle.mapping_reasons.specs.declared.way.Way.{Way}
-use Rattle.mapping_reasons.specs.Meant.{IsFaultAt}
+use Rattle.mapping_reasons.specs.Meant.{IsFaultAt, IsUnfound}
 use Rattle.mapping_reasons.specs.Ways.{LeadsTo, IsWayTo}
 
 -- the type that was mapped
@@ -39,6 +39,11 @@ IsReachedBy nodes root places part = LeadsTo (type_of nodes root) places part.te
 abbrev pub HasThere : SpaceView → PokeType → Ask → MapFault → Fault → Type 0
 HasThere space type ask fault part = IsFaultAt space type ask fault (way_places part.way)
 
--- what is stored of a mapping that ended with a fault: the part that has it, if any
-abbrev pub KeepsPart : SpaceView → PokeType → Ask → Again → Type 0
-KeepsPart space type ask again = IfErr again.end (λ fault. IfSome again.kept.fault (HasThere space type ask fault))
+-- what is stored for a fault: the part that has it, or nothing where it isn't found
+abbrev pub IsKept : (space space' : SpaceView) → PokeType → Ask → MapFault → Option Fault → Type 0
+IsKept space space' type ask fault (Some part) = HasThere space type ask fault part
+IsKept space space' type ask fault None = IsUnfound space space' type ask fault
+
+-- that is stored of a mapping, if it ended with a fault
+abbrev pub KeepsPart : (space space' : SpaceView) → PokeType → Ask → Again → Type 0
+KeepsPart space space' type ask again = IfErr again.end (λ fault. IsKept space space' type ask fault again.kept.fault)

@@ -1,12 +1,13 @@
 -- What a type has on a file's bytes, if they are known.
-use Rattle.std.specs.Prelude.{◌≡◌, ℕ, List, Some, Ok}
+use Rattle.std.specs.Prelude.{◌≡◌, ◌<◌, ◌*◌, ◌-◌, ◌^◌, min, ℕ, List, Some, Ok}
 use Rattle.bit_space.specs.Bits.{bits_of}
-use Rattle.bit_space.specs.SpaceView.{SpaceView}
+use Rattle.bit_space.specs.SpaceView.{SpaceView, HasRisen}
 use Rattle.pickle_types.specs.Types.{PokeType}
 use Rattle.pickle_meaning.specs.declared.faults.MapFault.{MapFault}
 use Rattle.pickle_map.specs.Mapped.{FaultMeans, EndsRun}
 use Rattle.pickle_meaning.specs.Values.{Value, no_values}
 use Rattle.fault_parts.specs.Arises.{Arises}
+use Rattle.fault_check.specs.Searched.{search_of}
 use Rattle.fault_check.specs.Ways.{OnBits, fault_of}
 use Rattle.command_words.specs.declared.ask.Ask.{Ask}
 use Rattle.poke_batch.specs.Runs.{HasAnswer}
@@ -27,6 +28,21 @@ HasFault space type ask fault = (bytes : List ℕ) → space.bytes ≡ Some byte
 pub data IsFaultAt (space : SpaceView) (type : PokeType) (ask : Ask) (fault : MapFault) (places : List ℕ) : Type 0 where
   arises_there : OnBits space (λ bits. Arises bits type ask.order no_values ask.start (fault_of fault) places) → IsFaultAt space type ask fault places
   ended_there : EndsRun fault.kind → IsFaultAt space type ask fault places
+
+-- the most steps that the search for a part takes: four times those that the run may take
+abbrev pub search_limit : Ask → ℕ
+search_limit ask = min (ask.limit * 4) (2 ^ 64 - 1)
+
+-- why the search for the part with a fault ended before it was found: it takes more steps than it may, or a read failed
+pub data CutsSearch (space space' : SpaceView) (type : PokeType) (ask : Ask) (bits : List ℕ) : Type 0 where
+  takes_more : search_limit ask < search_of bits type ask.order no_values ask.start → CutsSearch space space' type ask bits
+  failed_read : HasRisen space.failures space'.failures → CutsSearch space space' type ask bits
+
+-- Why no part is known that has a fault: the fault ends a run, and arises in no part; or, if the bytes of the space are
+-- known, the search for the part was ended.
+pub data IsUnfound (space space' : SpaceView) (type : PokeType) (ask : Ask) (fault : MapFault) : Type 0 where
+  ended_run : EndsRun fault.kind → IsUnfound space space' type ask fault
+  cut : OnBits space (CutsSearch space space' type ask) → IsUnfound space space' type ask fault
 
 -- a value that a type means on the bytes of a space, if these are known
 abbrev pub HasValue : SpaceView → PokeType → Ask → Type 0

@@ -51,3 +51,17 @@ pub record IsPortion (nodes : List Node) (to : Step) (p : Portion) : Type 0 wher
   pub part : part_at (type_of nodes to.node) to.place ≡ Some (typed (type_of nodes) p)
   pub step : step_text (type_of nodes to.node) (joint_name p.joint) to.place ≡ joint_text p.joint to.place
   pub inside : p.node < length nodes
+
+-- there is no part at a place of a shape, whatever the types of the nodes that it names are
+abbrev pub LacksField : List Field → (place : ℕ) → Type 0
+LacksField fields place = (at : ℕ → PokeType) → field_at (open_fields at fields) place ≡ None
+
+abbrev pub LacksAlternative : List Part → (place : ℕ) → Type 0
+LacksAlternative parts place = (at : ℕ → PokeType) → alternative_at (open_parts at parts) place ≡ None
+
+abbrev pub LacksShapePortion : Shape → (place : ℕ) → Type 0
+LacksShapePortion s place = (at : ℕ → PokeType) → part_at (open_shape at s) place ≡ None
+
+-- a step leads from its node to no part
+abbrev pub LacksPortion : List Node → Step → Type 0
+LacksPortion nodes to = to.node < length nodes → part_at (type_of nodes to.node) to.place ≡ None

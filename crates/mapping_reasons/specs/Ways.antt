@@ -47,6 +47,16 @@ pub data LeadsTo : PokeType → (places : List ℕ) → (steps : List ℕ) → P
   further : {type found : PokeType} {part : TypePart} {places steps : List ℕ} (place : ℕ) → part_at type place ≡ Some part → LeadsTo part.type places steps found
       → LeadsTo type (place ∷ places) (step_text type part.name place ++ steps) found
 
+-- they lead from the type to some part of it
+pub record HasPart (type : PokeType) (places : List ℕ) : Type 0 where
+  pub steps : List ℕ
+  pub part : PokeType
+  pub leads : LeadsTo type places steps part
+
+-- they lead to none
+abbrev pub LacksPart : PokeType → (places : List ℕ) → Type 0
+LacksPart type places = HasPart type places → ⊥
+
 -- places lead from a type to a part of it, by this path
 pub record IsWayTo (type : PokeType) (places path : List ℕ) (part : PokeType) : Type 0 where
   pub steps : List ℕ

@@ -1,5 +1,5 @@
 -- What is printed about why a mapping stops.
-use Rattle.std.specs.Prelude.{◌≡◌, ℕ, List, [], ◌++◌, Option, Some, Result, Vec, IfOk, IfSome, codes}
+use Rattle.std.specs.Prelude.{◌≡◌, ℕ, List, [], ◌++◌, Option, Some, Result, Vec, IfOk, codes}
 use Rattle.std.specs.declared.alloc.Global.{Global}
 use Rattle.bit_space.specs.SpaceView.{SpaceView}
 use Rattle.pickle_types.specs.Types.{PokeType}
@@ -16,15 +16,19 @@ use Rattle.poke_batch.specs.Runs.{IsAsked}
 use Rattle.poke_batch.specs.RunsUnder.{end_saying}
 use Rattle.pickle_script.specs.declared.text.Text.{Text}
 use Rattle.mapping_reasons.specs.declared.cause.Fault.{Fault}
-use Rattle.mapping_reasons.specs.Found.{HasThere}
-use Rattle.mapping_reasons.specs.Meant.{HasFault, HasValue, IsFaultAt}
-use Rattle.mapping_reasons.specs.Ways.{IsWayTo}
+use Rattle.mapping_reasons.specs.Found.{IsKept}
+use Rattle.mapping_reasons.specs.Meant.{HasFault, HasValue, IsFaultAt, IsUnfound}
+use Rattle.mapping_reasons.specs.Ways.{IsWayTo, LacksPart}
 
--- lines on the part of a type to which places lead, which begin with its path; or none
+-- lines on the part of a type to which places lead, which begin with its path
 pub data TellsPart (type : PokeType) (places : List ℕ) : List ℕ → Type 0 where
-  no_part : TellsPart type places []
   tells_part : {path text : List ℕ} {part : PokeType} (rest : List ℕ) → IsWayTo type places path part
       → text ≡ codes "  in " ++ (path ++ (codes ", " ++ rest)) → TellsPart type places text
+
+-- these; or none, if the places lead to no part
+pub data ShowsPart (type : PokeType) (places : List ℕ) : List ℕ → Type 0 where
+  shows_part : {text : List ℕ} → TellsPart type places text → ShowsPart type places text
+  shows_none : LacksPart type places → ShowsPart type places []
 
 -- a line on an array, which begins with its path; or none
 pub data TellsArray (type : PokeType) : List ℕ → Type 0 where
@@ -57,20 +61,22 @@ pub data TellsTerm (terms : Terms) : Outcome → List ℕ → Type 0 where
   tells_left : {end : ℕ} {text : List ℕ} → TellsTerm terms (Left end) text
   tells_output : {start : ℕ} {text : List ℕ} → TellsTerm terms (Output start) text
 
--- a finished run: the file, what the run was given, its terms, and its outcome
+-- a finished run: the file, and how it is left after the run was explained; what the run was given, its terms, and its
+-- outcome
 pub record Run : Type 0 where
   pub space : SpaceView
+  pub after : SpaceView
   pub ask : Ask
   pub terms : Terms
   pub outcome : Outcome
 
 -- the run that has these
-abbrev pub run_of : SpaceView → Ask → Terms → Outcome → Run
-run_of space ask terms outcome = record { space = space; ask = ask; terms = terms; outcome = outcome }
+abbrev pub run_of : (space after : SpaceView) → Ask → Terms → Outcome → Run
+run_of space after ask terms outcome = record { space = space; after = after; ask = ask; terms = terms; outcome = outcome }
 
--- lines on the part that has a fault of the run's type; or none
+-- lines on the part that has a fault of the run's type; or none, where it isn't found
 pub data TellsFault (run : Run) (type : PokeType) (fault : MapFault) : List ℕ → Type 0 where
-  no_fault_part : TellsFault run type fault []
+  tells_unfound : IsUnfound run.space run.after type run.ask fault → TellsFault run type fault []
   tells_fault : {places text : List ℕ} → IsFaultAt run.space type run.ask fault places → TellsPart type places text → TellsFault run type fault text
 
 -- What is printed about a finished run: for a fault the part and the arrays, for a value the term that it fails to
@@ -83,15 +89,15 @@ pub data TellsWhy (run : Run) (type : PokeType) : List ℕ → Type 0 where
   of_value : {term arrays : List ℕ} → HasValue run.space type run.ask
       → TellsTerm run.terms run.outcome term → TellsArrays type arrays → TellsWhy run type (term ++ arrays)
 
--- the text is about a run's fault, if the stored part has it
+-- the text is about a run's fault, if what is stored for it is right
 abbrev pub TellsOfPart : {E : Type 0} → PokeType → Option Fault → Result Text E → Type 0
 TellsOfPart type kept made =
-    (run : Run) (fault : MapFault) → IfSome kept (HasThere run.space type run.ask fault) → IfOk made (λ text. TellsFault run type fault text.bytes.items)
+    (run : Run) (fault : MapFault) → IsKept run.space run.after type run.ask fault kept → IfOk made (λ text. TellsFault run type fault text.bytes.items)
 
--- the text is about the run, if its type has this fault on the file's bytes and the stored part has it
+-- the text is about the run, if its type has this fault on the file's bytes, for which the right part is stored
 abbrev pub TellsOfFault : {E : Type 0} → Run → PokeType → MapFault → Option Fault → Result (Vec ℕ Global) E → Type 0
 TellsOfFault run type fault kept made =
-    HasFault run.space type run.ask fault → IfSome kept (HasThere run.space type run.ask fault) → IfOk made (λ text. TellsWhy run type text.items)
+    HasFault run.space type run.ask fault → IsKept run.space run.after type run.ask fault kept → IfOk made (λ text. TellsWhy run type text.items)
 
 -- the same, if its type has a value there
 abbrev pub TellsOfValue : {E : Type 0} → Run → PokeType → Result (Vec ℕ Global) E → Type 0

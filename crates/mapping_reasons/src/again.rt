@@ -49,7 +49,7 @@ pub fn map_again<S: Space>(
 ) -> Result<Again, AllocError>
     requires known { IsInTable table.now id }
     ensures fault { IfOk result (λ again. IfErr again.end (HasFault (S.view space.old) (type_named table.now id) ask.now)) }
-    ensures part { IfOk result (KeepsPart (S.view space.old) (type_named table.now id) ask.now) }
+    ensures part { IfOk result (KeepsPart (S.view space.old) (S.view space.new) (type_named table.now id) ask.now) }
     ensures value { IfOk result (λ again. OnOk again.end (HasValue (S.view space.old) (type_named table.now id) ask.now)) }
     ensures keeps { Keeps (S.view space.old) (S.view space.new) }
 {

@@ -1,5 +1,7 @@
 //! What failed where a mapping stopped.
 
+ghost use Rattle.std.specs.Prelude.{◌≡◌};
+
 use crate::way::Way;
 use bit_space::Order;
 use pickle_map::MapFault;
@@ -20,7 +22,9 @@ pub struct Fault {
 
 impl Fault {
     /// A part with a fault, with nothing known of what is around it.
-    pub fn new(alloc: Global, way: Way, stop: Stop, cause: Cause) -> Fault {
+    pub fn new(alloc: Global, way: Way, stop: Stop, cause: Cause) -> Fault
+        ensures { result.way ≡ way }
+    {
         Fault {
             way,
             stop,

@@ -91,7 +91,7 @@ pub fn reasons<S: Space>(
     space: &mut S,
     outcome: Outcome,
 ) -> Result<Explained, AllocError>
-    ensures why { let run = run_of (S.view space.old) ask.now terms.now outcome in
+    ensures why { let run = run_of (S.view space.old) (S.view space.new) ask.now terms.now outcome in
         IfOk result (λ reasons. ExplainsRun pickle.now run reasons.text.items) }
     ensures keeps { Keeps (S.view space.old) (S.view space.new) }
 {
@@ -118,7 +118,7 @@ pub fn reasons_in<S: Space>(
     outcome: Outcome,
 ) -> Result<Explained, AllocError>
     requires known { IsInTable table.now id }
-    ensures why { let run = run_of (S.view space.old) ask.now terms.now outcome in
+    ensures why { let run = run_of (S.view space.old) (S.view space.new) ask.now terms.now outcome in
         IfOk result (λ reasons. TellsWhy run (type_named table.now id) reasons.text.items) }
     ensures keeps { Keeps (S.view space.old) (S.view space.new) }
 {
@@ -205,7 +205,7 @@ fn value_reasons(
 ) -> Result<Vec<u8>, AllocError>
     requires table { IsTable scene.now.nodes.now }
     requires root { scene.now.root < length scene.now.nodes.now }
-    ensures why { (space : SpaceView) (ask : Ask) → TellsOfValue (run_of space ask terms.now outcome) (scene_type scene.now) result }
+    ensures why { (space after : SpaceView) (ask : Ask) → TellsOfValue (run_of space after ask terms.now outcome) (scene_type scene.now) result }
 {
     if !is_of_value(outcome) {
         return Ok(Vec::new(scene.alloc));
@@ -226,7 +226,7 @@ fn fault_reasons(
 ) -> Result<Vec<u8>, AllocError>
     requires table { IsTable scene.now.nodes.now }
     requires root { scene.now.root < length scene.now.nodes.now }
-    ensures why { (space : SpaceView) → TellsOfFault (run_of space ask.now terms.now outcome) (scene_type scene.now) fault kept.now.fault result }
+    ensures why { (space after : SpaceView) → TellsOfFault (run_of space after ask.now terms.now outcome) (scene_type scene.now) fault kept.now.fault result }
 {
     if is_outcome_of(outcome, ask, terms, fault) {
         let part = part_text(scene, &kept.fault)?;

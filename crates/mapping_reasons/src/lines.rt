@@ -3,7 +3,7 @@
 ghost use Rattle.std.specs.Prelude.{◌≡◌, ◌<◌, ◌++◌, length, codes, IfOk};
 ghost use Rattle.pickle_types.specs.Table.{IsTable};
 ghost use Rattle.mapping_reasons.specs.Found.{scene_type, way_places};
-ghost use Rattle.mapping_reasons.specs.Why.{TellsPart, TellsArray, TellsArrays, planned_ending};
+ghost use Rattle.mapping_reasons.specs.Why.{ShowsPart, TellsArray, TellsArrays, planned_ending};
 
 use crate::again::Kept;
 use crate::cause::{Blamed, Cause, Ended, Fault, Lead, Miss, Misses, Said};
@@ -26,7 +26,7 @@ use std::alloc::{AllocError, Global};
 pub fn fault_text(scene: &Scene<'_, '_>, fault: &Fault) -> Result<Text, AllocError>
     requires table { IsTable scene.now.nodes.now }
     requires root { scene.now.root < length scene.now.nodes.now }
-    ensures part { IfOk result (λ text. TellsPart (scene_type scene.now) (way_places fault.now.way) text.bytes.items) }
+    ensures part { IfOk result (λ text. ShowsPart (scene_type scene.now) (way_places fault.now.way) text.bytes.items) }
 {
     let Some(found) = scene.find(&fault.way)? else {
         return Ok(Text::new(scene.alloc));

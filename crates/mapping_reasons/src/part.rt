@@ -1,20 +1,24 @@
 //! The part in which the fault of a type arises.
 
-ghost use Rattle.std.specs.Prelude.{◌≡◌, IfOk, IfSome, IsTrue};
+ghost use Rattle.std.specs.Prelude.{◌≡◌, IfOk, IfSome, IfNone, IsTrue, IsFalse};
 ghost use Rattle.bit_space.specs.SpaceView.{Keeps};
 ghost use Rattle.pickle_types.specs.TypeTable.{IsInTable, type_named};
 ghost use Rattle.pickle_map.specs.Mapped.{EndsRun};
 ghost use Rattle.value_store.specs.Slots.{emptied};
-ghost use Rattle.mapping_reasons.specs.Found.{HasThere, way_places};
-ghost use Rattle.mapping_reasons.specs.Meant.{IsFaultAt};
+ghost use Rattle.mapping_reasons.specs.Found.{HasThere, IsKept, way_places};
+ghost use Rattle.mapping_reasons.specs.Meant.{HasFault, IsFaultAt};
 
 use crate::approach::{Approach, Approached};
 use crate::cause::{Around, Cause, Fault};
 use crate::front::front;
 use crate::met::met_lines;
 use crate::other::other_order;
+use crate::way::Way;
 use bit_space::{Meter, Order, Space};
 use fault_check::arises::find_there;
+use fault_check::locate::find_part;
+use fault_check::site::Ended;
+use pickle_map::mapper::stop::Stop;
 use pickle_map::mapper::told;
 use pickle_map::{MapFault, MapFaultKind, Store};
 use pickle_types::table::{Table, TypeId};
@@ -22,12 +26,15 @@ use poke_batch::ask::Ask;
 use poke_batch::style::Look;
 use std::alloc::{AllocError, Global};
 
-/// The search for a part may take this many times the run's limit of steps. All that it maps was mapped within the
-/// limit before, but it maps some of that more than once.
+/// The check and the search for a part may each take this many times the run's limit of steps. All that they map was
+/// mapped within the limit before, but they map some of that more than once.
 const MOST_TIMES: u64 = 4;
 
 /// The part with the fault that ended a mapping: the one that the watcher stored or, if the walk went into no part, the
-/// type itself. `None` if the check doesn't find the fault there. With a look, what the mapping had met is shown beside it.
+/// type itself. If the check doesn't find the fault there, the part is searched for. With a look, what the mapping had met
+/// is shown beside it.
+///
+/// `None` if the search ends before the part is found, or if the fault ends a run and the watcher stored another.
 pub fn part_with<S: Space>(
     alloc: Global,
     table: &Table,
@@ -41,21 +48,56 @@ pub fn part_with<S: Space>(
 ) -> Result<Option<Fault>, AllocError>
     requires known { IsInTable table.now id }
     requires empty { store.old ≡ emptied store.old }
-    ensures part { let has = HasThere (S.view space.old) (type_named table.now id) ask.now fault in
-        IfOk result (λ part. IfSome part has) }
+    requires meant { HasFault (S.view space.old) (type_named table.now id) ask.now fault }
+    ensures part { let is = IsKept (S.view space.old) (S.view space.new) (type_named table.now id) ask.now fault in IfOk result is }
     ensures keeps { Keeps (S.view space.old) (S.view space.new) }
 {
     let part = match kept {
         Some(part) => part,
         None => Fault::of_type(alloc, fault),
     };
+    if ends_run(fault.kind) {
+        return Ok(with_stop(part, ask, fault));
+    }
+    match checked(alloc, table, id, ask, look, fault, part, space, store)? {
+        Some(part) => Ok(Some(part)),
+        None => searched(alloc, table, id, ask, fault, space, store),
+    }
+}
+
+/// A part, if its stop is the one that ended the mapping.
+fn with_stop(part: Fault, ask: &Ask<'_>, fault: MapFault) -> Option<Fault> {
+    if told(part.stop, ask.start) == fault {
+        Some(part)
+    } else {
+        None
+    }
+}
+
+/// A part with what was seen near it, if its stop is the fault and the check finds the fault there. Otherwise the store
+/// is empty afterwards.
+fn checked<S: Space>(
+    alloc: Global,
+    table: &Table,
+    id: TypeId,
+    ask: &Ask<'_>,
+    look: Option<Look>,
+    fault: MapFault,
+    part: Fault,
+    space: &mut S,
+    store: &mut Store,
+) -> Result<Option<Fault>, AllocError>
+    requires known { IsInTable table.now id }
+    requires empty { store.old ≡ emptied store.old }
+    ensures part { let has = HasThere (S.view space.old) (type_named table.now id) ask.now fault in
+        IfOk result (λ part. IfSome part has) }
+    ensures emptied { IfOk result (λ part. IfNone part (store.new ≡ emptied store.new)) }
+    ensures keeps { Keeps (S.view space.old) (S.view space.new) }
+{
     if told(part.stop, ask.start) != fault {
         return Ok(None);
     }
     let places = part.way.places(alloc)?;
-    if ends_run(fault.kind) {
-        return Ok(Some(part));
-    }
     let mut watch = Approach::new(
         alloc,
         table.nodes(),
@@ -72,6 +114,7 @@ pub fn part_with<S: Space>(
         store,
         &mut watch,
     ) {
+        store.clear();
         return Ok(None);
     }
     let approached = watch.into_approached()?;
@@ -83,6 +126,37 @@ pub fn part_with<S: Space>(
     store.clear();
     let fits = other_order(table, id, ask, fault, &part, space, store);
     Ok(Some(seen_near(part, approached, front, fits, met)))
+}
+
+/// The part with a fault that the type means, found without the watcher. `None` if the search ends before it is found.
+fn searched<S: Space>(
+    alloc: Global,
+    table: &Table,
+    id: TypeId,
+    ask: &Ask<'_>,
+    fault: MapFault,
+    space: &mut S,
+    store: &mut Store,
+) -> Result<Option<Fault>, AllocError>
+    requires known { IsInTable table.now id }
+    requires empty { store.old ≡ emptied store.old }
+    requires meant { HasFault (S.view space.old) (type_named table.now id) ask.now fault }
+    requires of_type { EndsRun fault.kind → ⊥ }
+    ensures part { let is = IsKept (S.view space.old) (S.view space.new) (type_named table.now id) ask.now fault in IfOk result is }
+    ensures keeps { Keeps (S.view space.old) (S.view space.new) }
+{
+    let mut meter = Meter::new(ask.limit.saturating_mul(MOST_TIMES));
+    match find_part(
+        alloc, table, id, ask.order, ask.start, space, &mut meter, store,
+    ) {
+        Ok(places) => {
+            let way = Way::along(alloc, table.nodes(), id.node, places.as_slice())?;
+            let stop = Stop::Fault(fault.kind, fault.at);
+            Ok(Some(Fault::new(alloc, way, stop, Cause::Plain)))
+        }
+        Err(Ended::Limit | Ended::Device) => Ok(None),
+        Err(Ended::Memory) => Err(AllocError),
+    }
 }
 
 /// Whether the check finds that a fault is that of the part to which places lead.
@@ -161,7 +235,8 @@ fn seen_near(
 
 /// Whether a fault ends a run, and isn't one that a type means.
 fn ends_run(kind: MapFaultKind) -> bool
-    ensures { IsTrue result → EndsRun kind }
+    ensures ends { IsTrue result → EndsRun kind }
+    ensures is { IsFalse result → EndsRun kind → ⊥ }
 {
     matches!(
         kind,

@@ -1,8 +1,9 @@
 //! What reasons are printed from: a type of a pickle, and a file.
 
-ghost use Rattle.std.specs.Prelude.{◌<◌, length, IfOk, IfSome};
+ghost use Rattle.std.specs.Prelude.{◌<◌, length, IfOk, IfSome, IfNone};
 ghost use Rattle.pickle_types.specs.Table.{IsTable};
-ghost use Rattle.mapping_reasons.specs.Found.{IsPartOf};
+ghost use Rattle.mapping_reasons.specs.Found.{IsPartOf, scene_type, way_places};
+ghost use Rattle.mapping_reasons.specs.Ways.{LacksPart};
 
 use crate::cause::{Blamed, Said};
 use crate::place::say_bit;
@@ -38,6 +39,7 @@ impl<'p, 't> Scene<'p, 't> {
         requires table { IsTable self.now.nodes.now }
         requires root { self.now.root < length self.now.nodes.now }
         ensures way { IfOk result (λ found. IfSome found (IsPartOf self.now.nodes.now self.now.root way.now)) }
+        ensures lacks { IfOk result (λ found. IfNone found (LacksPart (scene_type self.now) (way_places way.now))) }
     {
         way.find(self.alloc, self.nodes, self.root)
     }

@@ -1,12 +1,14 @@
 //! Paths from a type to its parts.
 
-ghost use Rattle.std.specs.Prelude.{◌≡◌, ℕ, ◌<◌, ◌++◌, length, IfOk, IfSome};
+ghost use Rattle.std.specs.Prelude.{◌≡◌, ℕ, ◌<◌, ◌++◌, ◌∷◌, [], length, IfOk, IfSome, IfNone};
 ghost use Rattle.std.specs.Option.{option_map};
-ghost use Rattle.pickle_types.specs.Table.{IsTable, name_of};
+ghost use Rattle.pickle_types.specs.Table.{IsTable, name_of, type_of};
 ghost use Rattle.value_text.specs.PathText.{field_step, path_text};
 ghost use Rattle.text_forms.specs.Brackets.{in_brackets};
 ghost use Rattle.mapping_reasons.specs.Found.{IsPartOf, IsReachedBy, places_of, way_places};
 ghost use Rattle.mapping_reasons.specs.Portions.{IsPortion, IsShapePortion, IsFieldPortion, IsPartPortion, joint_text, joint_name};
+ghost use Rattle.mapping_reasons.specs.Portions.{LacksPortion, LacksShapePortion, LacksField, LacksAlternative};
+ghost use Rattle.mapping_reasons.specs.Ways.{LacksPart};
 
 use pickle_script::site;
 use pickle_script::text::Text;
@@ -62,14 +64,42 @@ struct Walked {
 
 impl Way {
     /// The way to the type itself.
-    pub fn new(alloc: Global) -> Way {
+    pub fn new(alloc: Global) -> Way
+        ensures { way_places result ≡ [] }
+    {
         Way {
             steps: Vec::new(alloc),
         }
     }
 
+    /// The way along places from the type at a place of the table.
+    pub fn along(
+        alloc: Global,
+        nodes: &[Node],
+        root: usize,
+        places: &[usize],
+    ) -> Result<Way, AllocError>
+        ensures { IfOk result (λ way. way_places way ≡ places.now) }
+    {
+        let mut way = Way::new(alloc);
+        let mut node = root;
+        for place in places {
+            let step = Step {
+                node,
+                place: *place,
+            };
+            way.go(step)?;
+            if let Some(part) = part_of(nodes, step) {
+                node = part.node;
+            }
+        }
+        Ok(way)
+    }
+
     /// Adds a step at the end.
-    pub fn go(&mut self, step: Step) -> Result<(), AllocError> {
+    pub fn go(&mut self, step: Step) -> Result<(), AllocError>
+        ensures { IfOk result (λ _. way_places self.new ≡ way_places self.old ++ step.place ∷ []) }
+    {
         self.steps.push(step)?;
         Ok(())
     }
@@ -118,6 +148,7 @@ impl Way {
         requires table { IsTable nodes.now }
         requires root { root < length nodes.now }
         ensures way { IfOk result (λ found. IfSome found (IsPartOf nodes.now root self.now)) }
+        ensures lacks { IfOk result (λ found. IfNone found (LacksPart (type_of nodes.now root) (way_places self.now))) }
     {
         match walk(alloc, nodes, root, self.steps.as_slice())? {
             Some(walked) => Ok(Some(Found {
@@ -154,7 +185,7 @@ fn whole_path(alloc: Global, steps: Vec<u8>) -> Result<Vec<u8>, AllocError>
     }
 }
 
-/// Goes along steps from the type at a place of the table. `None` if that type has no such part.
+/// Goes along the places of steps from the type at a place of the table. `None` if that type has no such part.
 fn walk(
     alloc: Global,
     nodes: &[Node],
@@ -164,16 +195,15 @@ fn walk(
     requires table { IsTable nodes.now }
     requires root { root < length nodes.now }
     ensures way { IfOk result (λ walked. IfSome walked (IsReachedBy nodes.now root (places_of steps.now))) }
+    ensures lacks { IfOk result (λ walked. IfNone walked (LacksPart (type_of nodes.now root) (places_of steps.now))) }
 {
     let mut text = Text::new(alloc);
     let mut node = root;
     for step in steps {
-        if step.node != node {
-            return Ok(None);
-        }
-        match part_of(nodes, *step) {
+        let place = step.place;
+        match part_of(nodes, Step { node, place }) {
             Some(part) => {
-                text = say_joint(text, part.joint, step.place)?;
+                text = say_joint(text, part.joint, place)?;
                 node = part.node;
             }
             None => return Ok(None),
@@ -185,12 +215,14 @@ fn walk(
 /// The part to which a step leads. `None` if there is no such part.
 pub fn part_of(nodes: &[Node], step: Step) -> Option<Portion<'_>>
     ensures is { IsTable nodes.now → IfSome result (IsPortion nodes.now step) }
+    ensures lacks { IsTable nodes.now → IfNone result (LacksPortion nodes.now step) }
 {
     portion_in(&nodes.get(step.node)?.shape, step.place)
 }
 
 fn portion_in(shape: &Shape, place: usize) -> Option<Portion<'_>>
-    ensures { IfSome result (IsShapePortion shape.now place) }
+    ensures is { IfSome result (IsShapePortion shape.now place) }
+    ensures lacks { IfNone result (LacksShapePortion shape.now place) }
 {
     match shape {
         Shape::Array(element, _) => Some(Portion {
@@ -205,7 +237,8 @@ fn portion_in(shape: &Shape, place: usize) -> Option<Portion<'_>>
 }
 
 fn field_at(fields: &[Field], place: usize) -> Option<Portion<'_>>
-    ensures { IfSome result (IsFieldPortion fields.now place) }
+    ensures is { IfSome result (IsFieldPortion fields.now place) }
+    ensures lacks { IfNone result (LacksField fields.now place) }
 {
     let field = fields.get(place)?;
     Some(Portion {
@@ -215,7 +248,8 @@ fn field_at(fields: &[Field], place: usize) -> Option<Portion<'_>>
 }
 
 fn portion_at(parts: &[Part], place: usize) -> Option<Portion<'_>>
-    ensures { IfSome result (IsPartPortion parts.now place) }
+    ensures is { IfSome result (IsPartPortion parts.now place) }
+    ensures lacks { IfNone result (LacksAlternative parts.now place) }
 {
     let part = parts.get(place)?;
     Some(Portion {

@@ -1,8 +1,10 @@
-use Rattle.mapping_reasons.specs.Why.{no_fault_part, tells_fault}
+use Rattle.mapping_reasons.specs.Found.{scene_type}
+use Rattle.mapping_reasons.specs.Why.{tells_unfound}
+use Rattle.mapping_reasons.proofs.Shown.{shown_fault}
 use Rattle.mapping_reasons.proofs.part_text.Goals as goal
 
 pub returns-in_default : goal.returns-in_default
-returns-in_default c = record { part = λ run fault there. rw c.new.ensures no_fault_part }
+returns-in_default c = record { part = λ run fault kept. rw c.new.ensures (tells_unfound (rw c.in_default.is at kept)) }
 
 pub returns : goal.returns
-returns c = record { part = λ run fault there. tells_fault (rw c.in-Some.is at there) c.in_ok-text.ensures.part }
+returns c = record { part = λ run fault kept. shown_fault run (scene_type c.args.scene.now) fault _ _ (rw c.in-Some.is at kept) c.in_ok-text.ensures.part }

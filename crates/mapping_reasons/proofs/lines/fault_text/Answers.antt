@@ -1,11 +1,11 @@
-use Rattle.mapping_reasons.specs.Why.{no_part, tells_part}
+use Rattle.mapping_reasons.specs.Why.{tells_part, shows_part, shows_none}
 use Rattle.mapping_reasons.proofs.lines.fault_text.Goals as goal
 
 pub returns-in_default : goal.returns-in_default
-returns-in_default c = record { part = rw c.new.ensures no_part }
+returns-in_default c = record { part = rw c.new.ensures (shows_none (rw c.in_default.is at c.in_ok-found.ensures.lacks)) }
 
 pub returns : goal.returns
 returns c =
     let way = rw c.in-Some.is at c.in_ok-found.ensures.way in
     let said = rw c.as_slice.ensures.value at c.in_ok-text.ensures in
-    record { part = tells_part _ way said }
+    record { part = shows_part (tells_part _ way said) }

@@ -1,10 +1,11 @@
--- The steps so far lead to the node that is reached.
-use Rattle.std.proofs.Common.{◌<◌, length, take}
+-- The steps so far lead to the node that is reached, and each way along all steps goes on from there.
+use Rattle.std.proofs.Common.{◌<◌, length, take, drop}
 use Rattle.pickle_types.specs.Table.{type_of}
 use Rattle.mapping_reasons.specs.Found.{places_of}
-use Rattle.mapping_reasons.specs.Ways.{LeadsTo}
+use Rattle.mapping_reasons.specs.Ways.{LeadsTo, HasPart}
 use Rattle.mapping_reasons.proofs.way.walk.Given as goal
 
 abbrev pub invariant-loop-step : goal.invariant-loop-step
 invariant-loop-step l =
     LeadsTo (type_of l.nodes l.root) (places_of (take l.step-index l.steps)) l.text.bytes.items (type_of l.nodes l.node) × (l.node < length l.nodes)
+    × (HasPart (type_of l.nodes l.root) (places_of l.steps) → HasPart (type_of l.nodes l.node) (places_of (drop l.step-index l.steps)))
