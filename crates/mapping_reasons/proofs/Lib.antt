@@ -4,3 +4,5 @@ pub mod Laid
 pub mod Meant
 pub mod Kept
 pub mod Shown
+pub mod Outcomes
+pub mod Results

@@ -13,7 +13,7 @@ use Rattle.command_words.specs.declared.ask.Ask.{Ask}
 use Rattle.mapping_reasons.specs.declared.again.Again.{Again}
 use Rattle.mapping_reasons.specs.Meant.{HasFault, HasValue}
 use Rattle.mapping_reasons.specs.Found.{IsKept, KeepsPart}
-use Rattle.mapping_reasons.specs.Why.{Run, TellsWhy}
+use Rattle.mapping_reasons.specs.Why.{Run, FailsRead, TellsWhy}
 
 module _ {A : Type 0} (space : SpaceView) (type : PokeType) (ask : Ask) (limit steps made : ℕ) (same : limit ≡ ask.limit) where
   pub fault_meant : (r : Result A MapFault)
@@ -33,12 +33,13 @@ module _ {A : Type 0} (space : SpaceView) (type : PokeType) (ask : Ask) (limit s
 
 -- what is printed about a fault that ended the mapping, for a type that is the one that was mapped
 pub told_again : (run : Run) (type found : PokeType) (again : Again) (fault : MapFault) (text : List ℕ) → found ≡ type → again.end ≡ Err fault
-    → IfErr again.end (HasFault run.space type run.ask) → KeepsPart run.space run.after type run.ask again
-    → (HasFault run.space found run.ask fault → IsKept run.space run.after found run.ask fault again.kept.fault → TellsWhy run found text) → TellsWhy run type text
-told_again run type found again fault text same ended has part tells =
+    → IfErr again.end (HasFault run.space type run.ask) → KeepsPart run.space run.after type run.ask again → IfErr again.end (FailsRead run)
+    → (HasFault run.space found run.ask fault → IsKept run.space run.after found run.ask fault again.kept.fault → FailsRead run fault → TellsWhy run found text) → TellsWhy run type text
+told_again run type found again fault text same ended has part fails tells =
     let had = subst (λ (end : Result (Unit {0}) MapFault). IfErr end (HasFault run.space type run.ask)) ended has in
     let there = subst (λ (end : Result (Unit {0}) MapFault). IfErr end (λ f. IsKept run.space run.after type run.ask f again.kept.fault)) ended part in
+    let failed = subst (λ (end : Result (Unit {0}) MapFault). IfErr end (FailsRead run)) ended fails in
     let back = sym same in
     let has_found = subst (λ (t : PokeType). HasFault run.space t run.ask fault) back had in
     let there_found = subst (λ (t : PokeType). IsKept run.space run.after t run.ask fault again.kept.fault) back there in
-    subst (λ (t : PokeType). TellsWhy run t text) same (tells has_found there_found)
+    subst (λ (t : PokeType). TellsWhy run t text) same (tells has_found there_found failed)

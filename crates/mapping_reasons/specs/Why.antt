@@ -1,21 +1,27 @@
 -- What is printed about why a mapping stops.
-use Rattle.std.specs.Prelude.{◌≡◌, ℕ, List, [], ◌++◌, Option, Some, Result, Vec, IfOk, codes}
+use Rattle.std.specs.Prelude.{◌≡◌, ◌≢◌, ℕ, Bool, true, false, List, [], ◌++◌, Option, Some, None, Result, Vec, IfOk, codes}
 use Rattle.std.specs.declared.alloc.Global.{Global}
-use Rattle.bit_space.specs.SpaceView.{SpaceView}
+use Rattle.bit_space.specs.SpaceView.{SpaceView, HasRisen}
+use Rattle.pickle_tree.specs.Tree.{DeclarationTree}
+use Rattle.pickle_types.specs.Names.{Names, find_type}
 use Rattle.pickle_types.specs.Types.{PokeType}
 use Rattle.pickle_meaning.specs.declared.faults.MapFault.{MapFault}
+use Rattle.pickle_meaning.specs.declared.faults.MapFaultKind.TheVariants as faults
 use Rattle.command_words.specs.declared.ask.Ask.{Ask}
 use Rattle.command_words.specs.declared.path.Path.{Path}
 use Rattle.command_words.specs.declared.selection.Selection.{Selection}
 use Rattle.command_words.specs.declared.terms.Terms.{Terms}
+use Rattle.run_parts.specs.Accepted.{IsAccepted, Refuses}
+use Rattle.run_parts.specs.declared.accept.Refusal.{Refusal}
+use Rattle.run_parts.specs.declared.accept.Refusal.TheVariants.{Memory}
 use Rattle.run_parts.specs.declared.status.Status.TheVariants.{Fault as Faulty}
-use Rattle.run_parts.specs.Outcomes.{outcome_saying, outcome_status}
+use Rattle.run_parts.specs.Outcomes.{fault_status, outcome_saying, outcome_status}
 use Rattle.run_parts.specs.declared.outcome.Outcome.{Outcome}
-use Rattle.run_parts.specs.declared.outcome.Outcome.TheVariants.{Left, NoSuchPart, Output}
+use Rattle.run_parts.specs.declared.outcome.Outcome.TheVariants.{Done, Fault, Slots, Left, NoSuchPart, Output}
 use Rattle.poke_batch.specs.Runs.{IsAsked}
 use Rattle.poke_batch.specs.RunsUnder.{end_saying}
 use Rattle.pickle_script.specs.declared.text.Text.{Text}
-use Rattle.mapping_reasons.specs.declared.cause.Fault.{Fault}
+use Rattle.mapping_reasons.specs.declared.cause.Fault.{Fault as Part}
 use Rattle.mapping_reasons.specs.Found.{IsKept}
 use Rattle.mapping_reasons.specs.Meant.{HasFault, HasValue, IsFaultAt, IsUnfound}
 use Rattle.mapping_reasons.specs.Ways.{IsWayTo, LacksPart}
@@ -48,18 +54,40 @@ pub data TellsArrays (type : PokeType) : List ℕ → Type 0 where
       → TellsArrays type (lines ++ (codes "  " ++ (count ++ codes " ended early before these\n")))
   planned : {lines : List ℕ} (count : List ℕ) → TellsArrays type lines → TellsArrays type (lines ++ (codes "  " ++ (count ++ planned_ending)))
 
--- how far the path to the requested part leads; or nothing
-pub data TellsMissing (part : Option Path) : List ℕ → Type 0 where
-  none_missing : TellsMissing part []
-  tells_missing : {path : Path} (missing : List ℕ) → part ≡ Some path → TellsMissing part missing
+-- a line on how far the path to the requested part leads
+pub data TellsMissing (text : Text) : Type 0 where
+  tells_missing : (path rest : List ℕ) → text.bytes.items ≡ codes "  " ++ (path ++ (codes " is there" ++ rest)) → TellsMissing text
 
--- for a run whose value fails to meet a term, a line on that term; or nothing
-pub data TellsTerm (terms : Terms) : Outcome → List ℕ → Type 0 where
-  untold : {outcome : Outcome} → TellsTerm terms outcome []
-  tells_part : {text : List ℕ} → TellsMissing terms.part text → TellsTerm terms NoSuchPart text
-  tells_selected : {selection : Selection} {text : List ℕ} → terms.selection ≡ Some selection → TellsTerm terms NoSuchPart text
-  tells_left : {end : ℕ} {text : List ℕ} → TellsTerm terms (Left end) text
-  tells_output : {start : ℕ} {text : List ℕ} → TellsTerm terms (Output start) text
+-- a line on what is left behind the value
+pub data TellsRoom (text : Text) : Type 0 where
+  tells_room : (room : List ℕ) → text.bytes.items ≡ codes "  " ++ (room ++ (codes "\n" ++ [])) → TellsRoom text
+
+-- a line on how many bytes the text of the value has
+pub data TellsSize (text : Text) : Type 0 where
+  tells_size : (count : List ℕ) → text.bytes.items ≡ codes "  the text has " ++ (count ++ (codes " bytes\n" ++ [])) → TellsSize text
+
+-- the same; or that the value lacks the requested part
+pub data TellsOutput (terms : Terms) (text : Text) : Type 0 where
+  of_size : TellsSize text → TellsOutput terms text
+  of_missing : {path : Path} → terms.part ≡ Some path → TellsMissing text → TellsOutput terms text
+
+-- For a run whose value fails to meet a term, a line on that term. Nothing for one that is done, or that requests no
+-- part.
+pub data TellsTerm (terms : Terms) : Outcome → Text → Type 0 where
+  tells_done : {text : Text} → text.bytes.items ≡ [] → TellsTerm terms Done text
+  tells_part : {path : Path} {text : Text} → terms.part ≡ Some path → TellsMissing text → TellsTerm terms NoSuchPart text
+  tells_selected : {selection : Selection} {text : Text} → terms.selection ≡ Some selection → TellsTerm terms NoSuchPart text
+  requests_none : {text : Text} → terms.part ≡ None → terms.selection ≡ None → TellsTerm terms NoSuchPart text
+  tells_left : {end : ℕ} {text : Text} → TellsRoom text → TellsTerm terms (Left end) text
+  tells_output : {start : ℕ} {text : Text} → TellsOutput terms text → TellsTerm terms (Output start) text
+
+-- whether a run with a value may end so
+abbrev pub is_of_value : Outcome → Bool
+is_of_value Done = true
+is_of_value (Left end) = true
+is_of_value NoSuchPart = true
+is_of_value (Output start) = true
+is_of_value ended = false
 
 -- a finished run: the file, and how it is left after the run was explained; what the run was given, its terms, and its
 -- outcome
@@ -79,31 +107,51 @@ pub data TellsFault (run : Run) (type : PokeType) (fault : MapFault) : List ℕ 
   tells_unfound : IsUnfound run.space run.after type run.ask fault → TellsFault run type fault []
   tells_fault : {places text : List ℕ} → IsFaultAt run.space type run.ask fault places → TellsPart type places text → TellsFault run type fault text
 
+-- for the fault Device, a read of the file failed
+abbrev pub FailsRead : Run → MapFault → Type 0
+FailsRead run fault = fault.kind ≡ faults.Device → HasRisen run.space.failures run.after.failures
+
+-- an outcome is the one of a fault, with exit status 1: the fault itself or, in a store of the most slots, that they
+-- don't suffice
+pub data IsOutcomeOf (start : ℕ) (most : Option ℕ) (fault : MapFault) : Outcome → Type 0 where
+  itself : fault_status fault.kind ≡ Faulty → IsOutcomeOf start most fault (Fault fault)
+  too_few_slots : {slots : ℕ} → most ≡ Some slots → fault.kind ≡ faults.Memory → IsOutcomeOf start most fault (Slots start)
+
 -- What is printed about a finished run: for a fault the part and the arrays, for a value the term that it fails to
 -- meet, if any, and the arrays. The outcome is that of the fault which the type has on the file's bits.
+--
+-- Nothing is printed where the mapping ends otherwise than the run when it is done again: with a fault or a value of
+-- which the outcome isn't, or by a read that failed.
 pub data TellsWhy (run : Run) (type : PokeType) : List ℕ → Type 0 where
-  nothing : TellsWhy run type []
   of_fault : {fault : MapFault} {part arrays : List ℕ} → HasFault run.space type run.ask fault
       → end_saying run.terms.most_slots run.ask.start fault.kind fault.at ≡ outcome_saying run.outcome → outcome_status run.outcome ≡ Faulty
       → TellsFault run type fault part → TellsArrays type arrays → TellsWhy run type (part ++ arrays)
-  of_value : {term arrays : List ℕ} → HasValue run.space type run.ask
-      → TellsTerm run.terms run.outcome term → TellsArrays type arrays → TellsWhy run type (term ++ arrays)
+  of_value : {term : Text} {arrays : List ℕ} → HasValue run.space type run.ask
+      → TellsTerm run.terms run.outcome term → TellsArrays type arrays → TellsWhy run type (term.bytes.items ++ arrays)
+  another_fault : {fault : MapFault} → HasFault run.space type run.ask fault → fault_status fault.kind ≡ Faulty
+      → (IsOutcomeOf run.ask.start run.terms.most_slots fault run.outcome → ⊥) → TellsWhy run type []
+  another_value : HasValue run.space type run.ask → is_of_value run.outcome ≡ false → TellsWhy run type []
+  failed_read : HasRisen run.space.failures run.after.failures → TellsWhy run type []
 
 -- the text is about a run's fault, if what is stored for it is right
-abbrev pub TellsOfPart : {E : Type 0} → PokeType → Option Fault → Result Text E → Type 0
+abbrev pub TellsOfPart : {E : Type 0} → PokeType → Option Part → Result Text E → Type 0
 TellsOfPart type kept made =
     (run : Run) (fault : MapFault) → IsKept run.space run.after type run.ask fault kept → IfOk made (λ text. TellsFault run type fault text.bytes.items)
 
--- the text is about the run, if its type has this fault on the file's bytes, for which the right part is stored
-abbrev pub TellsOfFault : {E : Type 0} → Run → PokeType → MapFault → Option Fault → Result (Vec ℕ Global) E → Type 0
+-- the text is about the run, if its type has this fault on the file's bytes, for which the right part is stored, and if
+-- a read failed for the fault Device
+abbrev pub TellsOfFault : {E : Type 0} → Run → PokeType → MapFault → Option Part → Result (Vec ℕ Global) E → Type 0
 TellsOfFault run type fault kept made =
-    HasFault run.space type run.ask fault → IsKept run.space run.after type run.ask fault kept → IfOk made (λ text. TellsWhy run type text.items)
+    HasFault run.space type run.ask fault → IsKept run.space run.after type run.ask fault kept → FailsRead run fault → IfOk made (λ text. TellsWhy run type text.items)
 
 -- the same, if its type has a value there
 abbrev pub TellsOfValue : {E : Type 0} → Run → PokeType → Result (Vec ℕ Global) E → Type 0
 TellsOfValue run type made = HasValue run.space type run.ask → IfOk made (λ text. TellsWhy run type text.items)
 
--- What is printed about a run from its pickle: nothing, or the above for the type of the requested name.
+-- What is printed about a run from its pickle: the above for the type of the requested name. Nothing where the pickle is
+-- refused, for more than want of memory, or has no such type.
 pub data ExplainsRun (pickle : List ℕ) (run : Run) : List ℕ → Type 0 where
-  untold : ExplainsRun pickle run []
   explains : {type : PokeType} {text : List ℕ} → IsAsked pickle run.ask.name.now type → TellsWhy run type text → ExplainsRun pickle run text
+  of_refused : {refusal : Refusal} → refusal ≢ Memory → Refuses pickle refusal → ExplainsRun pickle run []
+  of_no_type : {declarations : List DeclarationTree} {types : Names} → IsAccepted pickle declarations types → find_type run.ask.name.now types ≡ None
+      → ExplainsRun pickle run []

@@ -1,8 +1,11 @@
 //! A mapping with a watcher.
 
-ghost use Rattle.std.specs.Prelude.{ℕ, List, ◌≡◌, Some, IfOk, IfErr, OnOk};
-ghost use Rattle.bit_space.specs.SpaceView.{Keeps};
-ghost use Rattle.pickle_types.specs.TypeTable.{IsInTable, type_named};
+ghost use Rattle.std.specs.Prelude.{ℕ, List, ◌≡◌, Some, IfOk, IfErr, OnOk, IsSome};
+ghost use Rattle.bit_space.specs.SpaceView.{Keeps, HasRisen};
+ghost use Rattle.pickle_types.specs.TypeTable.{IsInTable, type_named, nodes_of};
+ghost use Rattle.pickle_meaning.specs.declared.faults.MapFaultKind.TheVariants.{Device};
+ghost use Rattle.pickle_meaning.specs.Values.{value_at};
+ghost use Rattle.value_store.specs.Slots.{levels};
 ghost use Rattle.mapping_reasons.specs.Found.{KeepsPart};
 ghost use Rattle.mapping_reasons.specs.Meant.{HasFault, HasValue};
 
@@ -51,6 +54,9 @@ pub fn map_again<S: Space>(
     ensures fault { IfOk result (λ again. IfErr again.end (HasFault (S.view space.old) (type_named table.now id) ask.now)) }
     ensures part { IfOk result (KeepsPart (S.view space.old) (S.view space.new) (type_named table.now id) ask.now) }
     ensures value { IfOk result (λ again. OnOk again.end (HasValue (S.view space.old) (type_named table.now id) ask.now)) }
+    ensures device { let risen = HasRisen (S.view space.old).failures (S.view space.new).failures in
+        IfOk result (λ again. IfErr again.end (λ fault. fault.kind ≡ Device → risen)) }
+    ensures held { IfOk result (λ again. OnOk again.end (IsSome (value_at (levels (nodes_of table.now) store.new) 0 0))) }
     ensures keeps { Keeps (S.view space.old) (S.view space.new) }
 {
     store.clear();

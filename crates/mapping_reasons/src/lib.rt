@@ -1,16 +1,20 @@
 //! Why a mapping stops, or an array in it: more lines, after the line of the fault.
 #![tactic(auto)]
 
-ghost use Rattle.std.specs.Prelude.{◌≡◌, ◌<◌, ◌++◌, [], length, IfOk, IsTrue};
+ghost use Rattle.std.specs.Prelude.{◌≡◌, ◌≢◌, ◌<◌, ◌++◌, [], length, IfOk, IsTrue, IsFalse, IsSome};
 ghost use Rattle.pickle_types.specs.Table.{IsTable};
 ghost use Rattle.pickle_types.specs.TypeTable.{IsInTable, nodes_of, type_named};
 ghost use Rattle.bit_space.specs.SpaceView.{Keeps, SpaceView};
 ghost use Rattle.command_words.specs.declared.ask.Ask.{Ask};
 ghost use Rattle.poke_batch.specs.RunsUnder.{end_saying};
 ghost use Rattle.run_parts.specs.Outcomes.{outcome_saying, outcome_status};
+ghost use Rattle.run_parts.specs.declared.accept.Refusal.TheVariants.{Memory};
 ghost use Rattle.run_parts.specs.declared.status.Status.TheVariants.{Fault as Faulty};
+ghost use Rattle.pickle_meaning.specs.declared.faults.MapFaultKind.TheVariants as faults;
+ghost use Rattle.pickle_meaning.specs.Values.{value_at};
+ghost use Rattle.value_store.specs.Slots.{levels};
 ghost use Rattle.mapping_reasons.specs.Found.{scene_type};
-ghost use Rattle.mapping_reasons.specs.Why.{run_of, ExplainsRun, TellsOfFault, TellsOfPart, TellsOfValue, TellsWhy};
+ghost use Rattle.mapping_reasons.specs.Why.{run_of, ExplainsRun, IsOutcomeOf, TellsOfFault, TellsOfPart, TellsOfValue, TellsWhy};
 
 mod absent;
 mod again;
@@ -43,15 +47,15 @@ use crate::lines::{arrays_text, fault_text};
 use crate::scene::Scene;
 use crate::term::term_text;
 use bit_space::Space;
-use pickle_map::{MapFault, Store};
+use pickle_map::{MapFault, MapFaultKind, Store};
 use pickle_script::script::Script;
 use pickle_script::text::Text;
 use pickle_types::table::{Table, TypeId};
 use poke_batch::ask::Ask;
 use poke_batch::outcome::Outcome;
-use poke_batch::run::{end_outcome, store_of};
+use poke_batch::run::store_of;
 use poke_batch::terms::Terms;
-use run_parts::accept::accept;
+use run_parts::accept::{Refusal, accept};
 use run_parts::status::Status;
 use std::alloc::{AllocError, Global};
 use text_forms::mode::Mode;
@@ -95,14 +99,26 @@ pub fn reasons<S: Space>(
         IfOk result (λ reasons. ExplainsRun pickle.now run reasons.text.items) }
     ensures keeps { Keeps (S.view space.old) (S.view space.new) }
 {
-    let Ok(table) = accept(alloc, pickle) else {
-        return Ok(Explained::none(alloc));
+    let table = match accept(alloc, pickle) {
+        Ok(table) => table,
+        Err(refusal) => return none_refused(alloc, refusal),
     };
     let Some(id) = table.find(ask.name) else {
         return Ok(Explained::none(alloc));
     };
     let reasons = reasons_in(alloc, pickle, path, &table, id, ask, terms, space, outcome)?;
     Ok(reasons)
+}
+
+/// What is said of a run with a refused pickle: nothing. An error if it is refused for want of memory.
+fn none_refused(alloc: Global, refusal: Refusal) -> Result<Explained, AllocError>
+    ensures text { IfOk result (λ reasons. reasons.text.items ≡ []) }
+    ensures refused { IfOk result (λ _. refusal ≢ Memory) }
+{
+    match refusal {
+        Refusal::Memory => Err(AllocError),
+        _ => Ok(Explained::none(alloc)),
+    }
 }
 
 /// What [`reasons`] returns, from the table of the pickle's types.
@@ -156,14 +172,13 @@ fn met_of(alloc: Global, kept: Kept, text: &[u8]) -> Vec<u8> {
 }
 
 /// The value of a type that a store holds, beside its type.
-fn root_of<'a>(
-    store: &'a Store,
-    table: &'a Table,
-    types: &'a Types<'a>,
-    id: TypeId,
-) -> Option<Typed<'a>> {
-    let value = store.root(table)?;
-    Some(Typed::new(value, types, Some(id.node)))
+fn root_of<'a>(store: &'a Store, table: &'a Table, types: &'a Types<'a>, id: TypeId) -> Typed<'a>
+    requires held { IsSome (value_at (levels (nodes_of table.now) store.now) 0 0) }
+{
+    match store.root(table) {
+        Some(value) => Typed::new(value, types, Some(id.node)),
+        None => unreachable!(),
+    }
 }
 
 /// What the reasons are printed from.
@@ -197,7 +212,7 @@ fn scene_of<'p, 't>(
 /// meet.
 fn value_reasons(
     scene: &Scene<'_, '_>,
-    value: Option<Typed<'_>>,
+    value: Typed<'_>,
     terms: &Terms,
     mode: Mode,
     kept: &Kept,
@@ -207,15 +222,15 @@ fn value_reasons(
     requires root { scene.now.root < length scene.now.nodes.now }
     ensures why { (space after : SpaceView) (ask : Ask) → TellsOfValue (run_of space after ask terms.now outcome) (scene_type scene.now) result }
 {
-    if !is_of_value(outcome) {
+    let Some(term) = term_text(scene.alloc, value, terms, mode, scene.bits, outcome)? else {
         return Ok(Vec::new(scene.alloc));
-    }
-    let term = term_text(scene.alloc, value, terms, mode, scene.bits, outcome)?;
+    };
     let text = joined(term, arrays_text(scene, kept, outcome != Outcome::Done)?)?;
     Ok(text)
 }
 
-/// The lines on a mapping that stopped, if the run's outcome is its fault.
+/// The lines on a mapping that stopped, if the run's outcome is its fault. An error if it isn't, and the mapping stopped
+/// for want of memory.
 fn fault_reasons(
     scene: &Scene<'_, '_>,
     ask: &Ask<'_>,
@@ -228,21 +243,23 @@ fn fault_reasons(
     requires root { scene.now.root < length scene.now.nodes.now }
     ensures why { (space after : SpaceView) → TellsOfFault (run_of space after ask.now terms.now outcome) (scene_type scene.now) fault kept.now.fault result }
 {
-    if is_outcome_of(outcome, ask, terms, fault) {
-        let part = part_text(scene, &kept.fault)?;
-        let text = joined(part, arrays_text(scene, kept, true)?)?;
-        Ok(text)
-    } else {
-        Ok(Vec::new(scene.alloc))
+    if !is_outcome_of(outcome, ask.start, terms.most_slots, fault) {
+        return none_stopped(scene.alloc, fault.kind);
     }
+    let part = part_text(scene, &kept.fault)?;
+    let text = joined(part, arrays_text(scene, kept, true)?)?;
+    Ok(text)
 }
 
-/// Whether a run with a value may end so: it is done, or the value fails to meet a term.
-fn is_of_value(outcome: Outcome) -> bool {
-    matches!(
-        outcome,
-        Outcome::Done | Outcome::Left(_) | Outcome::NoSuchPart | Outcome::Output(_)
-    )
+/// What is said of a mapping that stopped otherwise than its run: nothing. An error if it stopped for want of memory.
+fn none_stopped(alloc: Global, kind: MapFaultKind) -> Result<Vec<u8>, AllocError>
+    ensures text { IfOk result (λ text. text.items ≡ []) }
+    ensures kind { IfOk result (λ _. kind ≢ faults.Memory) }
+{
+    match kind {
+        MapFaultKind::Memory => Err(AllocError),
+        _ => Ok(Vec::new(alloc)),
+    }
 }
 
 /// The lines on the part with the fault of a mapping. Empty if the part isn't known.
@@ -259,11 +276,18 @@ fn part_text(scene: &Scene<'_, '_>, part: &Option<Fault>) -> Result<Text, AllocE
 }
 
 /// Whether an outcome is the one of a fault, with exit status 1.
-fn is_outcome_of(outcome: Outcome, ask: &Ask<'_>, terms: &Terms, fault: MapFault) -> bool
-    ensures saying { IsTrue result → end_saying terms.now.most_slots ask.now.start fault.kind fault.at ≡ outcome_saying outcome }
+fn is_outcome_of(outcome: Outcome, start: u64, most: Option<u64>, fault: MapFault) -> bool
+    ensures saying { IsTrue result → end_saying most start fault.kind fault.at ≡ outcome_saying outcome }
     ensures faulty { IsTrue result → outcome_status outcome ≡ Faulty }
+    ensures other { IsFalse result → IsOutcomeOf start most fault outcome → ⊥ }
 {
-    outcome.status() == Status::Fault && outcome == end_outcome(fault, terms.most_slots, ask.start)
+    match outcome {
+        Outcome::Fault(told) => outcome.status() == Status::Fault && told == fault,
+        Outcome::Slots(at) => {
+            most.is_some() && fault.kind == MapFaultKind::Memory && at == start
+        }
+        _ => false,
+    }
 }
 
 fn joined(front: Text, back: Text) -> Result<Vec<u8>, AllocError>

@@ -43,7 +43,7 @@ pub fn fault_text(scene: &Scene<'_, '_>, fault: &Fault) -> Result<Text, AllocErr
 }
 
 /// A text of four parts.
-fn laid(
+pub fn laid(
     alloc: Global,
     head: &[u8],
     path: &[u8],

@@ -3,6 +3,7 @@
 ghost use Rattle.std.specs.Prelude.{IfOk};
 ghost use Rattle.mapping_reasons.specs.Why.{TellsMissing};
 
+use crate::lines::laid;
 use crate::members::{name_in, say_members};
 use crate::way::say_element;
 use pickle_map::ValueRef;
@@ -11,54 +12,55 @@ use poke_batch::part::step_to;
 use poke_batch::path::{Path, Step};
 use std::alloc::{AllocError, Global};
 
-/// The line that says how far a path leads into a value that lacks the part. Empty without a path.
-pub fn missing_text(
-    alloc: Global,
-    value: ValueRef<'_>,
-    path: &Option<Path>,
-) -> Result<Text, AllocError>
-    ensures { IfOk result (λ text. TellsMissing path.now text.bytes.items) }
+/// The line that says how far a path leads into a value that lacks the part.
+pub fn missing_text(alloc: Global, value: ValueRef<'_>, path: &Path) -> Result<Text, AllocError>
+    ensures { IfOk result TellsMissing }
 {
-    match path {
-        Some(path) => say_missing(alloc, value, path.steps.as_slice()),
-        None => Ok(Text::new(alloc)),
-    }
-}
-
-/// A line on the first step of a path that leads to no part. Empty if all steps lead to parts.
-fn say_missing(alloc: Global, value: ValueRef<'_>, steps: &[Step]) -> Result<Text, AllocError> {
     let mut part = value;
+    let steps = path.steps.as_slice();
     for (count, step) in steps.iter().enumerate() {
         match step_to(part, step) {
             Some(next) => part = next,
             None => return say_first_missing(alloc, part, steps, count),
         }
     }
-    Ok(Text::new(alloc))
+    say_first_missing(alloc, part, steps, steps.len())
 }
 
-/// A line on a path whose first `count` steps lead to a part, and the step after them to none.
+/// A line on a path whose first `count` steps lead to a part, and the step after them, if there is one, to none.
 fn say_first_missing(
     alloc: Global,
     part: ValueRef<'_>,
     steps: &[Step],
     count: usize,
-) -> Result<Text, AllocError> {
+) -> Result<Text, AllocError>
+    ensures { IfOk result TellsMissing }
+{
     let (there, rest) = steps.split_at(count.min(steps.len()));
     let there = path_text(alloc, there)?;
-    let text = Text::new(alloc).say(b"  ")?;
-    let text = match there.as_slice() {
-        [] => text.say(b".")?,
-        path => text.say(path)?,
+    let shown: &[u8] = match there.as_slice() {
+        [] => b".",
+        path => path,
     };
-    let text = text.say(b" is there, ")?.say(there.as_slice())?;
-    match rest.first() {
-        Some(step) => {
-            let text = say_step(text, step)?.say(b" isn't")?;
-            say_members(alloc, text, part, name_in(step))?.say(b"\n")
-        }
-        None => Ok(text),
-    }
+    let behind = match rest.first() {
+        Some(step) => say_behind(alloc, part, there.as_slice(), step)?,
+        None => Text::new(alloc),
+    };
+    let behind = behind.say(b"\n")?.into_bytes();
+    let text = laid(alloc, b"  ", shown, b" is there", behind.as_slice())?;
+    Ok(text)
+}
+
+/// What is printed of a step that leads to no part, behind the path to the part from which it leads.
+fn say_behind(
+    alloc: Global,
+    part: ValueRef<'_>,
+    there: &[u8],
+    step: &Step,
+) -> Result<Text, AllocError> {
+    let text = Text::new(alloc).say(b", ")?.say(there)?;
+    let text = say_step(text, step)?.say(b" isn't")?;
+    say_members(alloc, text, part, name_in(step))
 }
 
 fn path_text(alloc: Global, steps: &[Step]) -> Result<Vec<u8>, AllocError> {

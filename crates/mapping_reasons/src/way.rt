@@ -82,15 +82,15 @@ impl Way {
         ensures { IfOk result (λ way. way_places way ≡ places.now) }
     {
         let mut way = Way::new(alloc);
-        let mut node = root;
+        let mut at = root;
         for place in places {
             let step = Step {
-                node,
+                node: at,
                 place: *place,
             };
             way.go(step)?;
             if let Some(part) = part_of(nodes, step) {
-                node = part.node;
+                at = part.node;
             }
         }
         Ok(way)

@@ -17,5 +17,5 @@ returns-clause-why g c =
       | in-Err+in_ok-text-in-Err w ↦
           let ended : c.in_ok-end.field-0.end ≡ Err w.in-Err.fault = (cc) in
           rw w.text-is
-          (told_again run type found c.in_ok-end.field-0 w.in-Err.fault _ same ended c.in_ok-end.ensures.fault c.in_ok-end.ensures.part (w.in_ok-text-in-Err.ensures.why run.space run.after))
+          (told_again run type found c.in_ok-end.field-0 w.in-Err.fault _ same ended c.in_ok-end.ensures.fault c.in_ok-end.ensures.part c.in_ok-end.ensures.device (w.in_ok-text-in-Err.ensures.why run.space run.after))
     ]
