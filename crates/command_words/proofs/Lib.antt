@@ -1,3 +1,6 @@
+pub mod Declared
+pub mod Parsed
+pub mod Entered
 pub mod NumberLaws
 pub mod OffsetWords
 pub mod PathTexts

@@ -5,9 +5,13 @@ pub mod WordText
 pub mod Words
 pub mod Paths
 pub mod Patterns
+pub mod Commands
 pub mod Flags
+pub mod Lines
+pub mod Ties
 pub mod Selects
 pub mod StepCuts
 pub mod Styles
 pub mod Found
 pub mod Requests
+pub mod Commanded

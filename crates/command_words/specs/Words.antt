@@ -1,8 +1,7 @@
 -- What arguments request.
-use Rattle.std.specs.Prelude.{◌≡◌, ◌≢◌, ◌⊎◌, ℕ, false, List, Option, Some, None, string_bytes, codes}
+use Rattle.std.specs.Prelude.{◌≡◌, ◌≢◌, ℕ, false, List, Option, Some, None, string_bytes, codes}
 use Rattle.text_forms.specs.declared.mode.Mode.{Mode}
 use Rattle.text_forms.specs.declared.mode.Mode.TheVariants.{Flat, Tree, Json, Lines}
-use Rattle.command_words.specs.declared.answer_form.AnswerForm.{AnswerForm}
 use Rattle.command_words.specs.declared.answer_form.AnswerForm.TheVariants as answer
 use Rattle.command_words.specs.declared.words.Asked.{Asked}
 use Rattle.command_words.specs.declared.words.Job.{Job}
@@ -19,14 +18,9 @@ IsCheckOf name (Types pickle) = ⊥
 IsCheckOf name Formats = ⊥
 IsCheckOf name (Dump from size ruler file) = ⊥
 
--- the same, without an explanation of a refusal, and in words
+-- the same, without an explanation of a refusal, in words, and of no dump
 abbrev pub IsBareCheckOf : List ℕ → Asked → Type 0
-IsBareCheckOf name asked = IsCheckOf name asked.job × (asked.why ≡ false) × (asked.answer ≡ answer.Text)
-
--- only these two commands answer in JSON
-abbrev pub AnswersBy : (command : Option (List ℕ)) → AnswerForm → Type 0
-AnswersBy command answer.Text = Unit {0}
-AnswersBy command answer.Json = (command ≡ Some (codes "check")) ⊎ (command ≡ Some (codes "types"))
+IsBareCheckOf name asked = IsCheckOf name asked.job × (asked.why ≡ false) × (asked.default_size ≡ false) × (asked.answer ≡ answer.Text)
 
 -- `tree`, `json` and `lines` name their modes, any other text is the mode `flat`
 abbrev pub NamesMode : List ℕ → Mode → Type 0

@@ -1,16 +1,22 @@
 //! Reads the arguments.
+mod arguments;
 mod bytes;
+mod choices;
 mod commands;
 mod found;
+mod line;
 mod mapping;
 mod selected;
 mod shown;
 mod style;
+mod ties;
 mod usage;
 
-ghost use Rattle.std.specs.Prelude.{◌≡◌, ◌≢◌, ◌⊎◌, [], Some, codes, map, string_bytes, MatchResult, IfOk, IfErr, true, false};
-ghost use Rattle.clap.specs.Matches.{found_of, first_value, subcommand_name_of};
-ghost use Rattle.command_words.specs.Words.{AnswersBy, IsCheckOf, IsBareCheckOf, NamesMode, NamesModeIfAny};
+ghost use Rattle.std.specs.Prelude.{◌≡◌, ◌≢◌, ◌⊎◌, ℕ, List, [], Some, codes, map, string_bytes, MatchResult, IfOk, IfErr, true, false};
+ghost use Rattle.clap.specs.Matches.{found_of, first_value};
+ghost use Rattle.command_words.specs.Commanded.{Finds, Fails, AsksOf, AnswersIn, IsAskedBy, IsJobAskedBy, has_no_size};
+ghost use Rattle.command_words.specs.Lines.{command_line};
+ghost use Rattle.command_words.specs.Words.{IsCheckOf, IsBareCheckOf, NamesMode, NamesModeIfAny};
 ghost use Rattle.command_words.specs.Found.{word_in, NumberIfAny, HasTerms, no_terms, NamesFiles, StartsNowhere};
 ghost use Rattle.command_words.specs.Found.{Asks, IsJobOf, IsNoRange, IsNoBound};
 ghost use Rattle.command_words.specs.declared.words.WordFault.TheVariants.{Memory};
@@ -23,11 +29,12 @@ use crate::start::Start;
 use crate::terms::Terms;
 use bit_space::Order;
 use bytes::bytes_in;
+use choices::{Choices, Ties};
 use clap::ArgMatches;
 use clap::error::ErrorKind;
-use clap::parser::ValueSource;
 use commands::{PROGRAM, SHOWN_ELEMENTS, SHOWN_LEVELS, program};
 use found::{flag_of, number_if_any, number_of, word, word_of};
+use line::{command_line, without_help_of_help};
 use mapping::mapping_words;
 use selected::{part_beside, selection_of};
 use shown::shown_words;
@@ -36,6 +43,7 @@ use style::{answer_of, color_of, depth_of, faults_of, style_of};
 use text_forms::mode::Mode;
 use text_forms::style::{Chars, Numbers, Style};
 use thiserror::Error;
+use ties::{is_given, keeps_ties};
 
 /// The usage error for arguments that are wrong, but whose escaped forms clap accepts.
 const WRONG_WORD: &str = "error: a word has bytes that aren't printed\n";
@@ -134,7 +142,8 @@ pub struct Asked {
 /// clap reads all arguments before any of them is read as an offset or a path. The commands, their options and their
 /// defaults are this project's own; `--help` prints them.
 pub fn read_words(alloc: Global, words: Vec<String>) -> Result<Job, WordFault>
-    ensures { words.items ≡ [] → MatchResult result (IsCheckOf (codes "-")) (λ fault. fault ≡ WordFault.Memory) }
+    ensures empty { words.items ≡ [] → MatchResult result (IsCheckOf (codes "-")) (λ fault. fault ≡ WordFault.Memory) }
+    ensures asks { words.items ≢ [] → IfOk result (IsJobAskedBy (command_line (map string_bytes words.items))) }
 {
     Ok(read_asked(alloc, words)?.job)
 }
@@ -142,7 +151,8 @@ pub fn read_words(alloc: Global, words: Vec<String>) -> Result<Job, WordFault>
 /// Reads the arguments, without the program's name, as a job, and whether `--why` is among them. Without arguments the
 /// job is a check of standard input, `-`, without `--why`.
 pub fn read_asked(alloc: Global, words: Vec<String>) -> Result<Asked, WordFault>
-    ensures { words.items ≡ [] → MatchResult result (IsBareCheckOf (codes "-")) (λ fault. fault ≡ WordFault.Memory) }
+    ensures empty { words.items ≡ [] → MatchResult result (IsBareCheckOf (codes "-")) (λ fault. fault ≡ WordFault.Memory) }
+    ensures asks { words.items ≢ [] → IfOk result (IsAskedBy (command_line (map string_bytes words.items))) }
 {
     if words.is_empty() {
         let pickle = String::from_str(alloc, "-")?;
@@ -153,64 +163,62 @@ pub fn read_asked(alloc: Global, words: Vec<String>) -> Result<Asked, WordFault>
             answer: AnswerForm::Text,
         });
     }
+    let line = command_line(alloc, words.as_slice())?;
     let words = without_help_of_help(words.as_slice());
-    let named = after_name(alloc, words)?;
-    match program(alloc)?.try_get_matches_from(named.as_slice()) {
-        Ok(matches) => Ok(Asked {
-            job: read_command(alloc, &matches)?,
-            why: asks_why(&matches),
-            default_size: has_no_size(&matches),
-            answer: answer_form(&matches),
-        }),
-        Err(error) => match told(alloc, &error, words) {
-            Ok(fault) => Err(fault),
-            Err(AllocError) => Err(WordFault::Memory),
-        },
+    match matches_of(alloc, line.as_slice()) {
+        Ok(matches) => read_matches(alloc, &matches, words),
+        Err(error) => Err(told(alloc, &error, words)?),
     }
 }
 
-// Whether a command that reads a pickle has the flag `--why`.
-fn asks_why(matches: &ArgMatches<'_>) -> bool {
+// What the parser finds in the words of a command line.
+fn matches_of<'a>(alloc: Global, line: &'a [String]) -> Result<ArgMatches<'a>, clap::Error>
+    ensures finds { IfOk result (Finds (map string_bytes line.entry.now)) }
+    ensures fails { IfErr result (Fails (map string_bytes line.entry.now)) }
+{
+    program(alloc, Choices::all(), Ties::Without)?.try_get_matches_from(line)
+}
+
+// The job of the command that was found.
+fn read_matches(
+    alloc: Global,
+    matches: &ArgMatches<'_>,
+    words: &[String],
+) -> Result<Asked, WordFault>
+    ensures asks { IfOk result (λ asked. (line : List (List ℕ)) → Finds line matches.now → IsAskedBy line asked) }
+{
     match matches.subcommand() {
-        Some(("map" | "each" | "bound" | "check" | "types", found)) => found.get_flag("why"),
-        _ => false,
+        Some((command, found)) if keeps_ties(command, found) => read_found(alloc, command, found),
+        _ => Err(WordFault::Usage(usage_of(alloc, words)?)),
     }
+}
+
+fn read_found(alloc: Global, command: &str, found: &ArgMatches<'_>) -> Result<Asked, WordFault>
+    ensures asks { IfOk result (AsksOf command.now (found_of found.now)) }
+{
+    Ok(Asked {
+        job: read_command(alloc, command, found)?,
+        why: flag_of(found, "why"),
+        default_size: has_no_size(command, found),
+        answer: answer_form(command, found),
+    })
 }
 
 // How a command answers that has the option `--mode` for that.
-fn answer_form(matches: &ArgMatches<'_>) -> AnswerForm
-    ensures { AnswersBy (subcommand_name_of matches.now) result }
+fn answer_form(command: &str, found: &ArgMatches<'_>) -> AnswerForm
+    ensures { AnswersIn command.now (word_in (found_of found.now) (codes "mode")) result }
 {
-    match matches.subcommand() {
-        Some(("check" | "types", found)) => answer_of(word(found, "mode")),
+    match command {
+        "check" | "types" => answer_of(word(found, "mode")),
         _ => AnswerForm::Text,
     }
 }
 
 // Whether a dump has no size among its arguments.
-fn has_no_size(matches: &ArgMatches<'_>) -> bool {
-    match matches.subcommand() {
-        Some(("dump", found)) => {
-            found.value_source("size") != Some(ValueSource::CommandLine)
-                && !found.contains_id("length")
-        }
-        _ => false,
-    }
-}
-
-// The arguments without the request for help that is the last argument of the command `help`. clap would take it for the
-// name of a command.
-fn without_help_of_help(words: &[String]) -> &[String] {
-    let [rest @ .., last] = words else {
-        return words;
-    };
-    let Some(first) = rest.first() else {
-        return words;
-    };
-    match (first.as_str(), last.as_str()) {
-        ("help", "-h" | "--help") => rest,
-        _ => words,
-    }
+fn has_no_size(command: &str, found: &ArgMatches<'_>) -> bool
+    ensures { result ≡ has_no_size command.now (found_of found.now) }
+{
+    command == "dump" && !is_given(found, "size") && !is_given(found, "length")
 }
 
 // The arguments after the program's name, which clap's messages print.
@@ -228,10 +236,19 @@ fn told(alloc: Global, error: &clap::Error, words: &[String]) -> Result<WordFaul
 {
     match error.kind() {
         ErrorKind::DisplayHelp | ErrorKind::DisplayVersion => {
-            Ok(WordFault::Help(text_of(alloc, error)?))
+            Ok(WordFault::Help(help_of(alloc, error, words)?))
         }
         ErrorKind::OutOfMemory => Ok(WordFault::Memory),
         _ => Ok(WordFault::Usage(usage_of(alloc, words)?)),
+    }
+}
+
+// The text of help for arguments, by the program with ties.
+fn help_of(alloc: Global, error: &clap::Error, words: &[String]) -> Result<String, AllocError> {
+    let named = after_name(alloc, words)?;
+    match program(alloc, Choices::all(), Ties::With)?.try_get_matches_from(named.as_slice()) {
+        Ok(_matches) => text_of(alloc, error),
+        Err(tied) => text_of(alloc, &tied),
     }
 }
 
@@ -241,7 +258,7 @@ fn told(alloc: Global, error: &clap::Error, words: &[String]) -> Result<WordFaul
 fn usage_of(alloc: Global, words: &[String]) -> Result<String, AllocError> {
     let shown = shown_words(alloc, words)?;
     let named = after_name(alloc, shown.as_slice())?;
-    match program(alloc)?.try_get_matches_from(named.as_slice()) {
+    match program(alloc, Choices::all(), Ties::With)?.try_get_matches_from(named.as_slice()) {
         Ok(_matches) => String::from_str(alloc, WRONG_WORD),
         Err(error) => text_of(alloc, &error),
     }
@@ -257,19 +274,19 @@ fn text_of(alloc: Global, error: &clap::Error) -> Result<String, AllocError> {
     }
 }
 
-fn read_command(alloc: Global, matches: &ArgMatches<'_>) -> Result<Job, WordFault>
-    ensures { IfOk result (IsJobOf (subcommand_name_of matches.now)) }
+fn read_command(alloc: Global, command: &str, found: &ArgMatches<'_>) -> Result<Job, WordFault>
+    ensures asks { IfOk result (Asks (found_of found.now)) }
+    ensures command { IfOk result (IsJobOf (Some command.now)) }
 {
-    match matches.subcommand() {
-        Some(("map", found)) => read_map(alloc, found),
-        Some(("show", found)) => read_show(alloc, found),
-        Some(("each", found)) => read_each(alloc, found),
-        Some(("bound", found)) => read_bound(alloc, found),
-        Some(("types", found)) => read_types(alloc, found),
-        Some(("formats", _)) => Ok(Job::Formats),
-        Some(("dump", found)) => read_dump(alloc, found),
-        Some((_, found)) => read_check(alloc, found),
-        None => read_check(alloc, matches),
+    match command {
+        "map" => read_map(alloc, found),
+        "show" => read_show(alloc, found),
+        "each" => read_each(alloc, found),
+        "bound" => read_bound(alloc, found),
+        "types" => read_types(alloc, found),
+        "formats" => Ok(Job::Formats),
+        "dump" => read_dump(alloc, found),
+        _ => read_check(alloc, found),
     }
 }
 
@@ -481,7 +498,8 @@ fn mode_in(found: &ArgMatches<'_>) -> Option<Mode>
 }
 
 fn read_check(alloc: Global, found: &ArgMatches<'_>) -> Result<Job, WordFault>
-    ensures asks { IfOk result (IsCheckOf (word_in (found_of found.now) (codes "PICKLE"))) }
+    ensures asks { IfOk result (Asks (found_of found.now)) }
+    ensures check { IfOk result (IsCheckOf (word_in (found_of found.now) (codes "PICKLE"))) }
     ensures memory { IfErr result (λ fault. fault ≡ Memory) }
 {
     Ok(Job::Check {

@@ -1,6 +1,18 @@
-//! The commands, their options, and the texts of their help.
-use clap::builder::ValueParser;
-use clap::{Arg, ArgAction, Command};
+//! The commands, and the texts of their help.
+ghost use Rattle.std.specs.Prelude.{◌≡◌, IfOk};
+ghost use Rattle.clap.specs.Walk.{Rule};
+ghost use Rattle.clap.specs.Simple.{App, new_app};
+ghost use Rattle.command_words.specs.Commands.{IsArg, IsApp, with_rules, mapping_rules, style_rules, bound_style_rules, the_program, without_commands};
+ghost use Rattle.command_words.specs.Commands.{map_command, show_command, each_command, bound_command, check_command, types_command, formats_command, dump_command};
+
+use crate::words::arguments::{
+    absent, answer, at, bits, bound_chars, bound_elements, bound_mode, bound_numbers, byte, chars,
+    color, depth, elements, endian, faults, file, files, flush, from, header, length, limit,
+    list_of_files, max_output, mode, name, no_ruler, numbers, part, parts, paths, pickle, progress,
+    rows, size, skip, slots, spool, text, whole, why,
+};
+use crate::words::choices::{Choices, Ties};
+use clap::{Arg, Command};
 use std::alloc::{AllocError, Global};
 
 /// The program's name, by which it is installed.
@@ -206,81 +218,99 @@ Exit status:
   3  memory, a file or an output failed";
 
 /// The program with its commands.
-pub fn program<'a>(alloc: Global) -> Result<Command<'a>, AllocError> {
+pub fn program<'a>(
+    alloc: Global,
+    choices: Choices<'a>,
+    ties: Ties,
+) -> Result<Command<'a>, AllocError>
+    ensures { IfOk result (λ command. ties ≡ Ties.Without → IsApp (the_program choices.entry) command) }
+{
+    without_commands(alloc)
+        .subcommand(map(alloc, choices, ties)?)?
+        .subcommand(show(alloc, choices, ties)?)?
+        .subcommand(each(alloc, choices, ties)?)?
+        .subcommand(bound(alloc, choices, ties)?)?
+        .subcommand(check(alloc, choices)?)?
+        .subcommand(types(alloc, choices)?)?
+        .subcommand(formats(alloc))?
+        .subcommand(dump(alloc, ties)?)
+}
+
+fn without_commands<'a>(alloc: Global) -> Command<'a>
+    ensures { IsApp without_commands result }
+{
     Command::new(alloc, PROGRAM)
         .version(VERSION)
         .about("Maps the types of GNU poke pickles over files and prints the values")
         .after_help(PROGRAM_SHORT_HELP)
         .after_long_help(PROGRAM_HELP)
         .subcommand_required(true)
-        .subcommand(map(alloc)?)?
-        .subcommand(show(alloc)?)?
-        .subcommand(each(alloc)?)?
-        .subcommand(bound(alloc)?)?
-        .subcommand(check(alloc)?)?
-        .subcommand(types(alloc)?)?
-        .subcommand(formats(alloc))?
-        .subcommand(dump(alloc)?)
 }
 
-fn map<'a>(alloc: Global) -> Result<Command<'a>, AllocError> {
-    let modes = ["flat", "tree", "json", "lines"].as_slice();
-    let command = Command::new(alloc, "map")
-        .about("Maps a type over a file and prints the value")
-        .after_long_help(MAP_HELP);
-    let command = with_mapping(alloc, command, parts(alloc))?
-        .arg(rows(alloc)?)?
-        .arg(header(alloc)?)?
-        .arg(absent(alloc))?;
-    with_style(alloc, command, modes)?
+// A command without arguments.
+fn described<'a>(alloc: Global, name: &'a str, about: &'a str, help: &'a str) -> Command<'a>
+    ensures { IsApp (new_app name.entry.now) result }
+{
+    Command::new(alloc, name).about(about).after_long_help(help)
+}
+
+fn map<'a>(alloc: Global, choices: Choices<'a>, ties: Ties) -> Result<Command<'a>, AllocError>
+    ensures { IfOk result (λ command. ties ≡ Ties.Without → IsApp (map_command choices.entry) command) }
+{
+    let command = described(
+        alloc,
+        "map",
+        "Maps a type over a file and prints the value",
+        MAP_HELP,
+    );
+    let command = with_mapping(alloc, command, parts(alloc), choices, ties)?
+        .arg(rows(alloc, ties)?)?
+        .arg(header(alloc, ties)?)?
+        .arg(absent(alloc, choices))?;
+    with_style(alloc, command, mode(alloc, choices.modes), choices)?
         .arg(why(alloc))?
         .arg(pickle(alloc))?
         .arg(name(alloc))?
         .arg(file(alloc))
 }
 
-fn show<'a>(alloc: Global) -> Result<Command<'a>, AllocError> {
-    let times = ["auto", "always", "never"].as_slice();
-    let command = Command::new(alloc, "show")
-        .about("Maps a type over a file and shows the value, or what a fault is about, to the eye")
-        .after_long_help(SHOW_HELP);
-    with_mapping(alloc, command, part(alloc))?
+fn show<'a>(alloc: Global, choices: Choices<'a>, ties: Ties) -> Result<Command<'a>, AllocError>
+    ensures { IfOk result (λ command. ties ≡ Ties.Without → IsApp (show_command choices.entry) command) }
+{
+    let command = described(
+        alloc,
+        "show",
+        "Maps a type over a file and shows the value, or what a fault is about, to the eye",
+        SHOW_HELP,
+    );
+    with_mapping(alloc, command, part(alloc), choices, ties)?
         .arg(elements(alloc, "16"))?
         .arg(depth(alloc))?
-        .arg(option(alloc, "color", "WHEN", "When colors are printed", "auto").value_parser(times))?
+        .arg(color(alloc, choices))?
         .arg(pickle(alloc))?
         .arg(name(alloc))?
         .arg(file(alloc))
 }
 
-fn each<'a>(alloc: Global) -> Result<Command<'a>, AllocError> {
-    let modes = ["flat", "json"].as_slice();
-    let files = Arg::new(alloc, "FILE")
-        .num_args(0..)
-        .required_unless_present("files0-from")?
-        .conflicts_with("files0-from")?
-        .help("The files of the bytes");
-    let names = Arg::new(alloc, "files0-from")
-        .long("files0-from")
-        .value_name("PATH")
-        .help(
-            "Read the names of the files from PATH, or from standard input for -, each ended by a byte 0",
-        );
-    let flush = Arg::new(alloc, "flush")
-        .long("flush")
-        .action(ArgAction::SetTrue)
-        .help("Write the line of a file before the next file is mapped [default: no]");
-    let command = Command::new(alloc, "each")
-        .about("Maps a type over many files, one after the other, and prints a line for each")
-        .after_long_help(EACH_HELP);
-    let command = with_mapping(alloc, command, paths(alloc))?.arg(absent(alloc))?;
-    with_style(alloc, command, modes)?
+fn each<'a>(alloc: Global, choices: Choices<'a>, ties: Ties) -> Result<Command<'a>, AllocError>
+    ensures { IfOk result (λ command. ties ≡ Ties.Without → IsApp (each_command choices.entry) command) }
+{
+    let command = described(
+        alloc,
+        "each",
+        "Maps a type over many files, one after the other, and prints a line for each",
+        EACH_HELP,
+    );
+    let command = with_mapping(alloc, command, paths(alloc), choices, ties)?.arg(absent(
+        alloc, choices,
+    ))?;
+    with_style(alloc, command, mode(alloc, choices.line_modes), choices)?
         .arg(why(alloc))?
-        .arg(flush)?
-        .arg(names)?
+        .arg(flush(alloc))?
+        .arg(list_of_files(alloc))?
         .arg(pickle(alloc))?
         .arg(name(alloc))?
-        .arg(files)
+        .arg(files(alloc, ties)?)
 }
 
 // The options of a mapping, with the one that chooses parts. The short help leaves out those that few need.
@@ -288,20 +318,17 @@ fn with_mapping<'a>(
     alloc: Global,
     command: Command<'a>,
     get: Arg<'a>,
-) -> Result<Command<'a>, AllocError> {
-    let orders = ["big", "little"].as_slice();
+    choices: Choices<'a>,
+    ties: Ties,
+) -> Result<Command<'a>, AllocError>
+    ensures { IfOk result (λ made. (app : App) (rule : Rule) → ties ≡ Ties.Without → IsApp app command.entry → IsArg rule get.entry
+        → IsApp (with_rules app (mapping_rules choices.entry rule)) made) }
+{
     command
-        .arg(offset(alloc, "at", "Where the value begins in FILE", "0#b"))?
-        .arg(byte(alloc)?)?
-        .arg(option(alloc, "endian", "ORDER", "The byte order", "big").value_parser(orders))?
-        .arg(option(
-            alloc,
-            "limit",
-            "N",
-            "The most steps of the mapping, 0 to 18446744073709551615",
-            "1000000000",
-        )
-        .value_parser(clap::value_parser!(u64)))?
+        .arg(at(alloc))?
+        .arg(byte(alloc, ties)?)?
+        .arg(endian(alloc, choices))?
+        .arg(limit(alloc))?
         .arg(whole(alloc))?
         .arg(max_output(alloc))?
         .arg(slots(alloc))?
@@ -310,327 +337,110 @@ fn with_mapping<'a>(
         .arg(progress(alloc))
 }
 
-fn progress<'a>(alloc: Global) -> Arg<'a> {
-    Arg::new(alloc, "progress")
-        .long("progress")
-        .action(ArgAction::SetTrue)
-        .help("Show how much is done, if standard error is a terminal [default: no]")
-        .hide_short_help(true)
-}
-
-// The options of a printed value.
+// The options of a printed value, with the one that chooses the mode.
 fn with_style<'a>(
     alloc: Global,
     command: Command<'a>,
-    modes: &'a [&'a str],
-) -> Result<Command<'a>, AllocError> {
+    mode: Arg<'a>,
+    choices: Choices<'a>,
+) -> Result<Command<'a>, AllocError>
+    ensures { IfOk result (λ made. (app : App) (rule : Rule) → IsApp app command.entry → IsArg rule mode.entry
+        → IsApp (with_rules app (style_rules choices.entry rule)) made) }
+{
     command
-        .arg(option(alloc, "mode", "MODE", "How the value is printed", "flat").value_parser(modes))?
-        .arg(numbers(alloc))?
-        .arg(chars(alloc))?
+        .arg(mode)?
+        .arg(numbers(alloc, choices))?
+        .arg(chars(alloc, choices))?
         .arg(elements(alloc, "all"))?
-        .arg(faults(alloc))
+        .arg(faults(alloc, choices))
 }
 
-fn byte<'a>(alloc: Global) -> Result<Arg<'a>, AllocError> {
-    Ok(
-        Arg::new(alloc, "byte")
-            .long("byte")
-            .value_name("N")
-            .allow_hyphen_values(true)
-            .conflicts_with("at")?
-            .help(
-                "The byte where the value begins, as 446, 0x1be or, from the end of FILE, -512 [default: 0]",
-            ),
-    )
-}
-
-fn whole<'a>(alloc: Global) -> Arg<'a> {
-    Arg::new(alloc, "whole")
-        .long("whole")
-        .action(ArgAction::SetTrue)
-        .help("Accept only a value that ends where FILE does [default: any end]")
-}
-
-fn slots<'a>(alloc: Global) -> Arg<'a> {
-    Arg::new(alloc, "slots")
-        .long("slots")
-        .value_name("N")
-        .help(
-            "The most slots of the mapping, of each kind, reserved before it, 0 to 18446744073709551615 [default: any number]",
-        )
-        .value_parser(clap::value_parser!(u64))
-        .hide_short_help(true)
-}
-
-fn max_output<'a>(alloc: Global) -> Arg<'a> {
-    Arg::new(alloc, "max-output")
-        .long("max-output")
-        .value_name("N")
-        .help(
-            "The most bytes of the printed value, 0 to 18446744073709551615 [default: any length]",
-        )
-        .value_parser(clap::value_parser!(u64))
-        .hide_short_help(true)
-}
-
-fn spool<'a>(alloc: Global) -> Arg<'a> {
-    Arg::new(alloc, "spool")
-        .long("spool")
-        .value_name("BYTES")
-        .help(
-            "Read a FILE without a length, as a pipe, into memory, up to so many bytes, 0 to 18446744073709551615 [default: it isn't opened]",
-        )
-        .value_parser(clap::value_parser!(u64))
-        .hide_short_help(true)
-}
-
-fn part<'a>(alloc: Global) -> Arg<'a> {
-    Arg::new(alloc, "get").long("get").value_name("PATH").help(
-        "Print a part of the value: . or steps of .name, .place, [place] [default: .]",
-    )
-}
-
-// The parts of a value, each with its option.
-fn paths<'a>(alloc: Global) -> Arg<'a> {
-    part(alloc).action(ArgAction::Append).help(
-        "Print a part of the value, as a column if there are many: . or steps of .name, .place, [place] [default: .]",
-    )
-}
-
-// The same, and patterns.
-fn parts<'a>(alloc: Global) -> Arg<'a> {
-    part(alloc).action(ArgAction::Append).help(
-        "Print parts of the value: . or steps of .name, .place, [place], [*], [2:5], .* [default: .]",
-    )
-}
-
-fn rows<'a>(alloc: Global) -> Result<Arg<'a>, AllocError> {
-    Arg::new(alloc, "rows")
-        .long("rows")
-        .value_name("PATTERN")
-        .help("Print a line for each part that PATTERN leads to, with a column for each --get")
-        .requires_arg("get")
-}
-
-fn header<'a>(alloc: Global) -> Result<Arg<'a>, AllocError> {
-    let header = Arg::new(alloc, "header")
-        .long("header")
-        .action(ArgAction::SetTrue)
-        .help("Print the paths of the columns first [default: no]")
-        .hide_short_help(true);
-    header.requires_arg("rows")
-}
-
-fn absent<'a>(alloc: Global) -> Arg<'a> {
-    let forms = ["fault", "empty"].as_slice();
-    option(
+fn bound<'a>(alloc: Global, choices: Choices<'a>, ties: Ties) -> Result<Command<'a>, AllocError>
+    ensures { IfOk result (λ command. ties ≡ Ties.Without → IsApp (bound_command choices.entry) command) }
+{
+    let command = described(
         alloc,
-        "absent",
-        "WHAT",
-        "What a part that isn't there is: a fault, or an empty column or line",
-        "fault",
+        "bound",
+        "Prints the most steps and slots that mapping a type over so many bits takes",
+        BOUND_HELP,
     )
-    .value_parser(forms)
-    .hide_short_help(true)
-}
-
-fn numbers<'a>(alloc: Global) -> Arg<'a> {
-    let forms = ["decimal", "hex", "digits"].as_slice();
-    option(
-        alloc,
-        "numbers",
-        "FORM",
-        "How numbers are printed",
-        "decimal",
-    )
-    .value_parser(forms)
-}
-
-fn chars<'a>(alloc: Global) -> Arg<'a> {
-    let forms = ["numbers", "text"].as_slice();
-    option(
-        alloc,
-        "chars",
-        "FORM",
-        "How arrays of char are printed",
-        "numbers",
-    )
-    .value_parser(forms)
-}
-
-fn faults<'a>(alloc: Global) -> Arg<'a> {
-    let forms = ["text", "json"].as_slice();
-    option(
-        alloc,
-        "faults",
-        "FORM",
-        "How a refusal or a fault is printed",
-        "text",
-    )
-    .value_parser(forms)
-    .hide_short_help(true)
-}
-
-fn elements<'a>(alloc: Global, default: &'a str) -> Arg<'a> {
-    let help = "The most elements that are printed of an array, or all";
-    option(alloc, "elements", "N", help, default)
-}
-
-fn depth<'a>(alloc: Global) -> Arg<'a> {
-    let help = "The most levels of parts below the value that are shown, or all";
-    option(alloc, "depth", "N", help, "6")
-}
-
-fn bound<'a>(alloc: Global) -> Result<Command<'a>, AllocError> {
-    let bits = Arg::new(alloc, "BITS")
-        .required(true)
-        .help("The size of a file in bits, 0 to 18446744073709551615")
-        .value_parser(clap::value_parser!(u64));
-    let text = Arg::new(alloc, "text")
-        .long("text")
-        .action(ArgAction::SetTrue)
-        .help("Print the most bytes of the printed value too");
-    let modes = ["flat", "tree", "json", "lines"].as_slice();
-    let mode = Arg::new(alloc, "mode")
-        .long("mode")
-        .value_name("MODE")
-        .help("With --text, in this mode alone [default: in any]")
-        .value_parser(modes)
-        .requires_arg("text")?;
-    let command = Command::new(alloc, "bound")
-        .about("Prints the most steps and slots that mapping a type over so many bits takes")
-        .after_long_help(BOUND_HELP)
-        .arg(text)?
-        .arg(mode)?;
-    with_bound_style(alloc, command)?
+    .arg(text(alloc))?
+    .arg(bound_mode(alloc, choices, ties)?)?;
+    with_bound_style(alloc, command, choices, ties)?
         .arg(why(alloc))?
         .arg(pickle(alloc))?
         .arg(name(alloc))?
-        .arg(bits)
+        .arg(bits(alloc))
 }
 
 // The options of the style that a bound is for. They say nothing without the bound on the printed value.
-fn with_bound_style<'a>(alloc: Global, command: Command<'a>) -> Result<Command<'a>, AllocError> {
-    let number_forms = ["decimal", "hex", "digits"].as_slice();
-    let char_forms = ["numbers", "text"].as_slice();
-    let numbers = bound_option(alloc, "numbers", "FORM")
-        .help("With --text, for numbers in this form [default: decimal]")
-        .value_parser(number_forms)
-        .requires_arg("text")?;
-    let chars = bound_option(alloc, "chars", "FORM")
-        .help("With --text, for arrays of char in this form [default: numbers]")
-        .value_parser(char_forms)
-        .requires_arg("text")?;
-    let elements = bound_option(alloc, "elements", "N")
-        .help("With --text, for so many elements of an array, or all [default: all]")
-        .requires_arg("text")?;
-    command.arg(numbers)?.arg(chars)?.arg(elements)
-}
-
-fn bound_option<'a>(alloc: Global, name: &'a str, value: &'a str) -> Arg<'a> {
-    Arg::new(alloc, name).long(name).value_name(value)
-}
-
-fn check<'a>(alloc: Global) -> Result<Command<'a>, AllocError> {
-    Command::new(alloc, "check")
-        .about("Checks a pickle and prints the number of its types")
-        .after_long_help(CHECK_HELP)
-        .arg(answer(alloc))?
-        .arg(why(alloc))?
-        .arg(pickle(alloc))
-}
-
-fn types<'a>(alloc: Global) -> Result<Command<'a>, AllocError> {
-    Command::new(alloc, "types")
-        .about("Prints the name, the kind and the least width of each type of a pickle")
-        .after_long_help(TYPES_HELP)
-        .arg(answer(alloc))?
-        .arg(why(alloc))?
-        .arg(pickle(alloc))
-}
-
-fn formats<'a>(alloc: Global) -> Command<'a> {
-    Command::new(alloc, "formats")
-        .about(
-            "Prints the name, the type, the options and a sentence of each pickle that is installed",
-        )
-        .after_long_help(FORMATS_HELP)
-}
-
-fn dump<'a>(alloc: Global) -> Result<Command<'a>, AllocError> {
-    let no_ruler = Arg::new(alloc, "no-ruler")
-        .long("no-ruler")
-        .action(ArgAction::SetTrue)
-        .help("Leave out the line above the bytes [default: it is printed]");
-    Command::new(alloc, "dump")
-        .about("Prints the bytes of a file in hexadecimal digits and as text")
-        .after_long_help(DUMP_HELP)
-        .arg(offset(alloc, "from", "The first byte, in whole bytes", "0#B"))?
-        .arg(offset(
-            alloc,
-            "size",
-            "How much to dump at most, in whole bytes",
-            "128#B",
-        ))?
-        .arg(count(alloc, "skip", 's', "The first byte, as 446 or 0x1be").conflicts_with("from")?)?
-        .arg(count(alloc, "length", 'n', "How many bytes to dump at most").conflicts_with("size")?)?
-        .arg(no_ruler)?
-        .arg(file(alloc))
-}
-
-fn option<'a>(
+fn with_bound_style<'a>(
     alloc: Global,
-    name: &'a str,
-    value: &'a str,
-    help: &'a str,
-    default: &'a str,
-) -> Arg<'a> {
-    Arg::new(alloc, name)
-        .long(name)
-        .value_name(value)
-        .help(help)
-        .default_value(default)
+    command: Command<'a>,
+    choices: Choices<'a>,
+    ties: Ties,
+) -> Result<Command<'a>, AllocError>
+    ensures { IfOk result (λ made. (app : App) → ties ≡ Ties.Without → IsApp app command.entry
+        → IsApp (with_rules app (bound_style_rules choices.entry)) made) }
+{
+    command
+        .arg(bound_numbers(alloc, choices, ties)?)?
+        .arg(bound_chars(alloc, choices, ties)?)?
+        .arg(bound_elements(alloc, ties)?)
 }
 
-fn offset<'a>(alloc: Global, name: &'a str, help: &'a str, default: &'a str) -> Arg<'a> {
-    option(alloc, name, "OFFSET", help, default)
+fn check<'a>(alloc: Global, choices: Choices<'a>) -> Result<Command<'a>, AllocError>
+    ensures { IfOk result (IsApp (check_command choices.entry)) }
+{
+    described(
+        alloc,
+        "check",
+        "Checks a pickle and prints the number of its types",
+        CHECK_HELP,
+    )
+    .arg(answer(alloc, choices))?
+    .arg(why(alloc))?
+    .arg(pickle(alloc))
 }
 
-fn count<'a>(alloc: Global, name: &'a str, letter: char, help: &'a str) -> Arg<'a> {
-    Arg::new(alloc, name)
-        .short(letter)
-        .long(name)
-        .value_name("BYTES")
-        .help(help)
+fn types<'a>(alloc: Global, choices: Choices<'a>) -> Result<Command<'a>, AllocError>
+    ensures { IfOk result (IsApp (types_command choices.entry)) }
+{
+    described(
+        alloc,
+        "types",
+        "Prints the name, the kind and the least width of each type of a pickle",
+        TYPES_HELP,
+    )
+    .arg(answer(alloc, choices))?
+    .arg(why(alloc))?
+    .arg(pickle(alloc))
 }
 
-fn answer<'a>(alloc: Global) -> Arg<'a> {
-    let forms = ["text", "json"].as_slice();
-    option(alloc, "mode", "MODE", "How the answer is printed", "text").value_parser(forms)
-}
-
-fn why<'a>(alloc: Global) -> Arg<'a> {
-    Arg::new(alloc, "why")
-        .long("why")
-        .action(ArgAction::SetTrue)
-        .help("Explain why the pickle or TYPE is refused, or what stops a mapping [default: no]")
-}
-
-fn pickle<'a>(alloc: Global) -> Arg<'a> {
-    Arg::new(alloc, "PICKLE").required(true).help(
-        "The file of the pickle, - for standard input, or +NAME for one that is installed",
+fn formats<'a>(alloc: Global) -> Command<'a>
+    ensures { IsApp formats_command result }
+{
+    described(
+        alloc,
+        "formats",
+        "Prints the name, the type, the options and a sentence of each pickle that is installed",
+        FORMATS_HELP,
     )
 }
 
-fn name<'a>(alloc: Global) -> Arg<'a> {
-    Arg::new(alloc, "TYPE")
-        .required(true)
-        .help("The name of the type to map")
-}
-
-fn file<'a>(alloc: Global) -> Arg<'a> {
-    Arg::new(alloc, "FILE")
-        .required(true)
-        .help("The file of the bytes")
+fn dump<'a>(alloc: Global, ties: Ties) -> Result<Command<'a>, AllocError>
+    ensures { IfOk result (λ command. ties ≡ Ties.Without → IsApp dump_command command) }
+{
+    described(
+        alloc,
+        "dump",
+        "Prints the bytes of a file in hexadecimal digits and as text",
+        DUMP_HELP,
+    )
+    .arg(from(alloc))?
+    .arg(size(alloc))?
+    .arg(skip(alloc, ties)?)?
+    .arg(length(alloc, ties)?)?
+    .arg(no_ruler(alloc))?
+    .arg(file(alloc))
 }

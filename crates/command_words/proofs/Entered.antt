@@ -1,0 +1,51 @@
+-- The command that the parser finds.
+use Rattle.std.proofs.Common.{◌≡◌, ◌∙◌, ℕ, true, List, Option, Some, None, Result, IfOk, option_map, refl, sym, ap, ap₂}
+use Rattle.std.proofs.lemmas.Result.{IfOk-weaker}
+use Rattle.std.specs.Borrow.{Bor}
+use Rattle.clap.specs.Walk.{Row, Text, rows_of}
+use Rattle.clap.specs.Simple.{subcommand_rows_of}
+use Rattle.clap.specs.Matches.{found_of, subcommand_name_of}
+use Rattle.clap.specs.declared.ArgMatches.{ArgMatches}
+use Rattle.command_words.specs.declared.words.Asked.{Asked}
+use Rattle.command_words.specs.declared.words.WordFault.{WordFault}
+use Rattle.command_words.specs.Commanded.{Finds, AsksOf, IsAskedBy}
+use Rattle.command_words.specs.Ties.{keeps_ties}
+
+composed : {X Y Z : Type 0} (g : Y → Z) (f : X → Y) (o : Option X) → option_map g (option_map f o) ≡ option_map (λ x. g (f x)) o
+composed g f None = refl
+composed g f (Some x) = refl
+
+name_of : (m : ArgMatches) → option_map (λ p. p.0) (subcommand_rows_of m) ≡ subcommand_name_of m
+name_of m = composed _ _ _
+
+pair_of : {X Y : Type 0} (o : Option (X × Y)) (x : X) (y : Y) → option_map (λ p. p.0) o ≡ Some x → option_map (λ p. p.1) o ≡ Some y → o ≡ Some (x, y)
+pair_of None x y first second = cc
+pair_of (Some p) x y first second =
+    let at_first : p.0 ≡ x = cc in
+    let at_second : p.1 ≡ y = cc in
+    ap₂ (λ a b. Some (a, b)) at_first at_second
+
+pub entered : (m : ArgMatches) (name : Text) (rows : List Row) → subcommand_name_of m ≡ Some name → option_map (λ p. p.1) (subcommand_rows_of m) ≡ Some rows
+    → subcommand_rows_of m ≡ Some (name, rows)
+entered m name rows first second = pair_of (subcommand_rows_of m) name rows (name_of m ∙ first) second
+
+found_here : (m : ArgMatches) (s : Option (Bor Text × Bor ArgMatches)) (command : Bor Text) (found : Bor ArgMatches) → s ≡ Some (command, found)
+    → option_map (λ p. p.0.now) s ≡ subcommand_name_of m → option_map (λ p. rows_of (found_of p.1.now)) s ≡ option_map (λ p. p.1) (subcommand_rows_of m)
+    → subcommand_rows_of m ≡ Some (command.now, rows_of (found_of found.now))
+found_here m s command found is named matched = entered m command.now (rows_of (found_of found.now))
+    (sym named ∙ ap (option_map (λ p. p.0.now)) is) (sym matched ∙ ap (option_map (λ p. rows_of (found_of p.1.now))) is)
+
+pub asked_by : (m : ArgMatches) (s : Option (Bor Text × Bor ArgMatches)) (command : Bor Text) (found : Bor ArgMatches) (r : Result Asked WordFault) → s ≡ Some (command, found)
+    → option_map (λ p. p.0.now) s ≡ subcommand_name_of m → option_map (λ p. rows_of (found_of p.1.now)) s ≡ option_map (λ p. p.1) (subcommand_rows_of m)
+    → keeps_ties command.now (found_of found.now) ≡ true → IfOk r (AsksOf command.now (found_of found.now))
+    → IfOk r (λ asked. (line : List (List ℕ)) → Finds line m → IsAskedBy line asked)
+asked_by m s command found r is named matched tied asks = IfOk-weaker r _ _ (λ asked h line finds. record {
+  choices = finds.choices;
+  listed = finds.listed;
+  taken = finds.taken;
+  command = command.now;
+  found = found_of found.now;
+  enters = sym finds.found ∙ found_here m s command found is named matched;
+  tied = tied;
+  asks = h;
+}) asks

@@ -1,0 +1,52 @@
+-- The ties between the arguments of a command: those that exclude or require one another.
+use Rattle.std.specs.Prelude.{◌&&◌, ◌||◌, Bool, true, false, not, ℕ, List, Option, Some, None, codes, if◌then◌else◌, option_and_then}
+use Rattle.std.specs.Str.{bytes_eq}
+use Rattle.clap.specs.Matches.{matched_of}
+use Rattle.clap.specs.declared.parser.matches.Found.{Found}
+use Rattle.clap.specs.declared.parser.ValueSource.{ValueSource}
+use Rattle.clap.specs.declared.parser.ValueSource.TheVariants.{CommandLine, DefaultValue}
+
+abbrev pub is_from_words : Option ValueSource → Bool
+is_from_words (Some CommandLine) = true
+is_from_words (Some DefaultValue) = false
+is_from_words None = false
+
+-- an argument was given, and hasn't just its default
+abbrev pub is_given : Found → (name : List ℕ) → Bool
+is_given found name = is_from_words (option_and_then (λ a. a.source) (matched_of found name))
+
+-- not both arguments were given
+abbrev pub are_apart : Found → List ℕ → List ℕ → Bool
+are_apart found name other = not (is_given found name && is_given found other)
+
+-- one was given only beside the other
+abbrev pub needs : Found → List ℕ → List ℕ → Bool
+needs found name other = not (is_given found name) || is_given found other
+
+-- just one was given
+abbrev pub is_either_given : Found → List ℕ → List ℕ → Bool
+is_either_given found name other = if is_given found name then not (is_given found other) else is_given found other
+
+abbrev pub keeps_map_ties : Found → Bool
+keeps_map_ties found = are_apart found (codes "byte") (codes "at")
+    && (needs found (codes "rows") (codes "get") && needs found (codes "header") (codes "rows"))
+
+abbrev pub keeps_each_ties : Found → Bool
+keeps_each_ties found = are_apart found (codes "byte") (codes "at") && is_either_given found (codes "FILE") (codes "files0-from")
+
+abbrev pub keeps_bound_ties : Found → Bool
+keeps_bound_ties found = needs found (codes "mode") (codes "text") && (needs found (codes "numbers") (codes "text")
+    && (needs found (codes "chars") (codes "text") && needs found (codes "elements") (codes "text")))
+
+abbrev pub keeps_dump_ties : Found → Bool
+keeps_dump_ties found = are_apart found (codes "skip") (codes "from") && are_apart found (codes "length") (codes "size")
+
+-- the ties of the command of this name are kept
+abbrev pub keeps_ties : (command : List ℕ) → Found → Bool
+keeps_ties command found =
+    if bytes_eq command (codes "map") then keeps_map_ties found
+    else if bytes_eq command (codes "show") then are_apart found (codes "byte") (codes "at")
+    else if bytes_eq command (codes "each") then keeps_each_ties found
+    else if bytes_eq command (codes "bound") then keeps_bound_ties found
+    else if bytes_eq command (codes "dump") then keeps_dump_ties found
+    else true
