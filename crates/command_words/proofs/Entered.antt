@@ -1,14 +1,18 @@
 -- The command that the parser finds.
-use Rattle.std.proofs.Common.{◌≡◌, ◌∙◌, ℕ, true, List, Option, Some, None, Result, IfOk, option_map, refl, sym, ap, ap₂}
-use Rattle.std.proofs.lemmas.Result.{IfOk-weaker}
+use Rattle.std.proofs.Common.{◌≡◌, ◌∙◌, ℕ, true, List, Option, Some, None, Result, Ok, Err, IfOk, IfErr, OnOk, option_map, inl, inr, ◌⊎◌, refl, sym, ap, ap₂}
+use Rattle.std.proofs.lemmas.Result.{IfErr-weaker}
 use Rattle.std.specs.Borrow.{Bor}
 use Rattle.clap.specs.Walk.{Row, Text, rows_of}
-use Rattle.clap.specs.Simple.{subcommand_rows_of}
+use Rattle.clap.specs.Simple.{subcommand_of, subcommand_rows_of}
 use Rattle.clap.specs.Matches.{found_of, subcommand_name_of}
 use Rattle.clap.specs.declared.ArgMatches.{ArgMatches}
 use Rattle.command_words.specs.declared.words.Asked.{Asked}
 use Rattle.command_words.specs.declared.words.WordFault.{WordFault}
-use Rattle.command_words.specs.Commanded.{Finds, AsksOf, IsAskedBy}
+use Rattle.clap.specs.declared.parser.matches.Found.{Found}
+use Rattle.command_words.specs.Commands.{the_program}
+use Rattle.command_words.specs.Commanded.{Finds, AsksOf, IsAskedBy, IsTakenAs, IsMisread, IsMisplaced, IsUnread, FindsNone}
+use Rattle.command_words.specs.Misread.{FailsFor}
+use Rattle.command_words.proofs.Misreads.{fails_weaker}
 use Rattle.command_words.specs.Ties.{keeps_ties}
 
 composed : {X Y Z : Type 0} (g : Y → Z) (f : X → Y) (o : Option X) → option_map g (option_map f o) ≡ option_map (λ x. g (f x)) o
@@ -35,17 +39,58 @@ found_here : (m : ArgMatches) (s : Option (Bor Text × Bor ArgMatches)) (command
 found_here m s command found is named matched = entered m command.now (rows_of (found_of found.now))
     (sym named ∙ ap (option_map (λ p. p.0.now)) is) (sym matched ∙ ap (option_map (λ p. rows_of (found_of p.1.now))) is)
 
+-- it is in the matches that the parser finds for a line
+entered_by : (m : ArgMatches) (line : List (List ℕ)) (finds : Finds line m) (command : List ℕ) (rows : List Row) → subcommand_rows_of m ≡ Some (command, rows)
+    → subcommand_of (the_program finds.choices) line ≡ Some (command, rows)
+entered_by m line finds command rows here = sym finds.found ∙ here
+
 pub asked_by : (m : ArgMatches) (s : Option (Bor Text × Bor ArgMatches)) (command : Bor Text) (found : Bor ArgMatches) (r : Result Asked WordFault) → s ≡ Some (command, found)
     → option_map (λ p. p.0.now) s ≡ subcommand_name_of m → option_map (λ p. rows_of (found_of p.1.now)) s ≡ option_map (λ p. p.1) (subcommand_rows_of m)
-    → keeps_ties command.now (found_of found.now) ≡ true → IfOk r (AsksOf command.now (found_of found.now))
+    → OnOk r (keeps_ties command.now (found_of found.now) ≡ true) → IfOk r (AsksOf command.now (found_of found.now))
     → IfOk r (λ asked. (line : List (List ℕ)) → Finds line m → IsAskedBy line asked)
-asked_by m s command found r is named matched tied asks = IfOk-weaker r _ _ (λ asked h line finds. record {
+asked_by m s command found (Ok asked) is named matched tied asks = λ line finds. record {
   choices = finds.choices;
   listed = finds.listed;
   taken = finds.taken;
   command = command.now;
   found = found_of found.now;
-  enters = sym finds.found ∙ found_here m s command found is named matched;
+  enters = entered_by m line finds command.now (rows_of (found_of found.now)) (found_here m s command found is named matched);
   tied = tied;
-  asks = h;
-}) asks
+  asks = asks;
+}
+asked_by m s command found (Err fault) is named matched tied asks = tt
+
+taken_as : (m : ArgMatches) (line : List (List ℕ)) (finds : Finds line m) (command : List ℕ) (found : Found) (IsSuch : List ℕ → Found → Type 0)
+    → subcommand_rows_of m ≡ Some (command, rows_of found) → IsSuch command found → IsTakenAs line IsSuch
+taken_as m line finds command found IsSuch here such = record {
+  choices = finds.choices;
+  listed = finds.listed;
+  taken = finds.taken;
+  command = command;
+  found = found;
+  enters = entered_by m line finds command (rows_of found) here;
+  such = such;
+}
+
+pub unread_by : (m : ArgMatches) (s : Option (Bor Text × Bor ArgMatches)) (command : Bor Text) (found : Bor ArgMatches) (r : Result Asked WordFault) → s ≡ Some (command, found)
+    → option_map (λ p. p.0.now) s ≡ subcommand_name_of m → option_map (λ p. rows_of (found_of p.1.now)) s ≡ option_map (λ p. p.1) (subcommand_rows_of m)
+    → IfErr r (FailsFor (IsMisread command.now (found_of found.now)) (IsMisplaced command.now (found_of found.now)))
+    → IfErr r (λ fault. (line : List (List ℕ)) → Finds line m → IsUnread line fault)
+unread_by m s command found r is named matched misread = IfErr-weaker r _ _ (λ fault h line finds.
+    let here = found_here m s command found is named matched in
+    fails_weaker _ _ _ _
+    (λ wrong. inl (taken_as m line finds command.now (found_of found.now) IsMisread here wrong))
+    (taken_as m line finds command.now (found_of found.now) IsMisplaced here) fault h) misread
+
+-- the parser finds no command
+no_rows : {X Y : Type 0} (o : Option (X × Y)) → option_map (λ p. p.0) o ≡ None → o ≡ None
+no_rows None none = refl
+no_rows (Some p) none = cc
+
+pub none_by : (m : ArgMatches) (s : Option (Bor Text × Bor ArgMatches)) → s ≡ None → option_map (λ p. p.0.now) s ≡ subcommand_name_of m
+    → (line : List (List ℕ)) → Finds line m → IsTakenAs line IsMisread ⊎ FindsNone line
+none_by m s is named line finds = inr (record {
+  choices = finds.choices;
+  listed = finds.listed;
+  none = sym finds.found ∙ no_rows (subcommand_rows_of m) (name_of m ∙ (sym named ∙ ap (option_map (λ p. p.0.now)) is));
+})

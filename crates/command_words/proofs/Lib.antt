@@ -1,6 +1,7 @@
 pub mod Declared
 pub mod Parsed
 pub mod Entered
+pub mod Misreads
 pub mod NumberLaws
 pub mod OffsetWords
 pub mod PathTexts

@@ -1,11 +1,13 @@
 -- What the words of a command line request: what the parser finds in them, and the job that this is.
-use Rattle.std.specs.Prelude.{◌≡◌, ◌&&◌, Bool, true, not, ℕ, List, [], Some, codes, if◌then◌else◌}
+use Rattle.std.specs.Prelude.{◌≡◌, ◌≢◌, ◌⊎◌, ◌&&◌, Bool, true, false, not, ℕ, List, [], Some, None, codes, if◌then◌else◌}
 use Rattle.std.specs.Str.{bytes_eq}
 use Rattle.clap.specs.Walk.{rows_of}
 use Rattle.clap.specs.Simple.{subcommand_of, subcommand_rows_of}
 use Rattle.clap.specs.Matches.{one_text}
 use Rattle.clap.specs.Faults.{fault_of}
-use Rattle.clap.specs.Kinds.{HasKind}
+use Rattle.clap.specs.Kinds.{HasKind, IsAmong}
+use Rattle.clap.specs.declared.error.ErrorKind.{ErrorKind}
+use Rattle.clap.specs.declared.error.ErrorKind.TheVariants as kinds
 use Rattle.clap.specs.declared.parser.matches.Found.{Found}
 use Rattle.clap.specs.declared.ArgMatches.{ArgMatches}
 use Rattle.clap.specs.declared.Error.{Error}
@@ -14,9 +16,12 @@ use Rattle.command_words.specs.declared.answer_form.AnswerForm.{AnswerForm}
 use Rattle.command_words.specs.declared.answer_form.AnswerForm.TheVariants as answer
 use Rattle.command_words.specs.declared.words.Asked.{Asked}
 use Rattle.command_words.specs.declared.words.Job.{Job}
+use Rattle.command_words.specs.declared.words.WordFault.{WordFault}
+use Rattle.command_words.specs.declared.words.WordFault.TheVariants.{Usage, Help, Offset, Memory}
 use Rattle.command_words.specs.Commands.{AreChoices, the_program}
 use Rattle.command_words.specs.Flags.{FlagIn}
 use Rattle.command_words.specs.Found.{Asks, IsJobOf, word_in}
+use Rattle.command_words.specs.Misread.{FailsFor, Misplaced, Misread}
 use Rattle.command_words.specs.Styles.{NamesAnswer}
 use Rattle.command_words.specs.Ties.{is_given, keeps_ties}
 
@@ -67,3 +72,55 @@ pub record IsAskedBy (line : List (List ℕ)) (asked : Asked) : Type 0 where
 -- the same of a job alone
 abbrev pub IsJobAskedBy : (line : List (List ℕ)) → Job → Type 0
 IsJobAskedBy line job = (asked : Asked) × IsAskedBy line asked × (job ≡ asked.job)
+
+-- the parser refuses the words, by an error of such a kind
+pub record IsRefusedBy (line : List (List ℕ)) (IsSuch : ErrorKind → Type 0) : Type 0 where
+  pub choices : Choices
+  pub listed : AreChoices choices
+  pub kind : ErrorKind
+  pub among : IsAmong kind (fault_of (the_program choices) line)
+  pub such : IsSuch kind
+
+abbrev pub IsHelp : ErrorKind → Type 0
+IsHelp kind = (kind ≡ kinds.DisplayHelp) ⊎ (kind ≡ kinds.DisplayVersion)
+
+abbrev pub IsMisuse : ErrorKind → Type 0
+IsMisuse kind = (kind ≢ kinds.DisplayHelp) × (kind ≢ kinds.DisplayVersion)
+
+-- the parser refuses the words as a request for help, or as misused
+abbrev pub IsRefused : (line : List (List ℕ)) → WordFault → Type 0
+IsRefused line (Usage text) = IsRefusedBy line IsMisuse
+IsRefused line (Help text) = IsRefusedBy line IsHelp
+IsRefused line Offset = ⊥
+IsRefused line Memory = Unit {0}
+
+-- the parser takes the words, and finds a command with such matches
+pub record IsTakenAs (line : List (List ℕ)) (IsSuch : (command : List ℕ) → Found → Type 0) : Type 0 where
+  pub choices : Choices
+  pub listed : AreChoices choices
+  pub taken : fault_of (the_program choices) line ≡ []
+  pub command : List ℕ
+  pub found : Found
+  pub enters : subcommand_of (the_program choices) line ≡ Some (command, rows_of found)
+  pub such : IsSuch command found
+
+-- the parser finds no command
+pub record FindsNone (line : List (List ℕ)) : Type 0 where
+  pub choices : Choices
+  pub listed : AreChoices choices
+  pub none : subcommand_of (the_program choices) line ≡ None
+
+-- a tie is broken, or the ties are kept and an argument is wrong
+abbrev pub IsMisread : (command : List ℕ) → Found → Type 0
+IsMisread command found = (keeps_ties command found ≡ false) ⊎ ((keeps_ties command found ≡ true) × Misread command found)
+
+abbrev pub IsMisplaced : (command : List ℕ) → Found → Type 0
+IsMisplaced command found = (keeps_ties command found ≡ true) × Misplaced command found
+
+-- the parser takes the words, but they aren't a job
+abbrev pub IsUnread : (line : List (List ℕ)) → WordFault → Type 0
+IsUnread line = FailsFor (IsTakenAs line IsMisread ⊎ FindsNone line) (IsTakenAs line IsMisplaced)
+
+-- why the words of a line aren't a job
+abbrev pub FailsTo : (line : List (List ℕ)) → WordFault → Type 0
+FailsTo line fault = IsRefused line fault ⊎ IsUnread line fault

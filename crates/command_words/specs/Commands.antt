@@ -1,4 +1,5 @@
 -- The commands and their arguments, as the parser reads them: without the ties between arguments and without help texts.
+use Rattle.std.specs.Borrow.{Bor}
 use Rattle.std.specs.Prelude.{◌≡◌, true, false, ℕ, List, [], ◌∷◌, ◌++◌, Some, codes}
 use Rattle.clap.specs.Walk.{Rule, Text, rule_of, texts}
 use Rattle.clap.specs.Simple.{App, app_of, new_rule, new_shape, with_rule}
@@ -40,6 +41,10 @@ argument_rule name = record (new_rule name) { required = true }
 abbrev pub numbered : Rule → Rule
 numbered rule = record rule { parser = Some (Unsigned 0 18446744073709551615) }
 
+-- the value is one of these words
+abbrev pub chosen : Rule → Bor (List (Bor Text)) → Rule
+chosen rule names = record rule { parser = Some (Names names) }
+
 -- the option may be given many times
 abbrev pub repeated : Rule → Rule
 repeated rule = record rule { action = Some Append }
@@ -54,32 +59,32 @@ files_rule = record (new_rule (codes "FILE")) { range = Some (record { start_inc
 
 module _ (choices : Choices) where
   abbrev pub endian_rule : Rule
-  endian_rule = record (default_rule (codes "endian") (codes "big")) { parser = Some (Names choices.orders) }
+  endian_rule = chosen (default_rule (codes "endian") (codes "big")) choices.orders
 
   abbrev pub absent_rule : Rule
-  absent_rule = record (default_rule (codes "absent") (codes "fault")) { parser = Some (Names choices.absent) }
+  absent_rule = chosen (default_rule (codes "absent") (codes "fault")) choices.absent
 
   abbrev pub numbers_rule : Rule
-  numbers_rule = record (default_rule (codes "numbers") (codes "decimal")) { parser = Some (Names choices.numbers) }
+  numbers_rule = chosen (default_rule (codes "numbers") (codes "decimal")) choices.numbers
 
   abbrev pub chars_rule : Rule
-  chars_rule = record (default_rule (codes "chars") (codes "numbers")) { parser = Some (Names choices.chars) }
+  chars_rule = chosen (default_rule (codes "chars") (codes "numbers")) choices.chars
 
   abbrev pub faults_rule : Rule
-  faults_rule = record (default_rule (codes "faults") (codes "text")) { parser = Some (Names choices.forms) }
+  faults_rule = chosen (default_rule (codes "faults") (codes "text")) choices.forms
 
   abbrev pub answer_rule : Rule
-  answer_rule = record (default_rule (codes "mode") (codes "text")) { parser = Some (Names choices.forms) }
+  answer_rule = chosen (default_rule (codes "mode") (codes "text")) choices.forms
 
   abbrev pub color_rule : Rule
-  color_rule = record (default_rule (codes "color") (codes "auto")) { parser = Some (Names choices.times) }
+  color_rule = chosen (default_rule (codes "color") (codes "auto")) choices.times
 
   -- how a value is printed, in all modes or in those of one line
   abbrev pub mode_rule : Rule
-  mode_rule = record (default_rule (codes "mode") (codes "flat")) { parser = Some (Names choices.modes) }
+  mode_rule = chosen (default_rule (codes "mode") (codes "flat")) choices.modes
 
   abbrev pub line_mode_rule : Rule
-  line_mode_rule = record (default_rule (codes "mode") (codes "flat")) { parser = Some (Names choices.line_modes) }
+  line_mode_rule = chosen (default_rule (codes "mode") (codes "flat")) choices.line_modes
 
   -- the options of a mapping, with the one that chooses parts
   abbrev pub mapping_rules : (get : Rule) → List Rule
@@ -94,8 +99,8 @@ module _ (choices : Choices) where
 
   -- the options of the style that a bound is for
   abbrev pub bound_style_rules : List Rule
-  bound_style_rules = record (option_rule (codes "numbers")) { parser = Some (Names choices.numbers) }
-      ∷ record (option_rule (codes "chars")) { parser = Some (Names choices.chars) } ∷ option_rule (codes "elements") ∷ []
+  bound_style_rules = chosen (option_rule (codes "numbers")) choices.numbers
+      ∷ chosen (option_rule (codes "chars")) choices.chars ∷ option_rule (codes "elements") ∷ []
 
 -- the pickle and the type
 abbrev pub pickle_rules : List Rule
@@ -133,7 +138,7 @@ module _ (choices : Choices) where
 
   abbrev pub bound_command : App
   bound_command = command_of (codes "bound")
-      ((flag_rule (codes "text") ∷ record (option_rule (codes "mode")) { parser = Some (Names choices.modes) } ∷ []) ++ bound_style_rules choices
+      ((flag_rule (codes "text") ∷ chosen (option_rule (codes "mode")) choices.modes ∷ []) ++ bound_style_rules choices
       ++ why_rule ∷ [] ++ pickle_rules ++ numbered (argument_rule (codes "BITS")) ∷ [])
 
   abbrev pub check_command : App

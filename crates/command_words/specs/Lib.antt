@@ -14,4 +14,5 @@ pub mod StepCuts
 pub mod Styles
 pub mod Found
 pub mod Requests
+pub mod Misread
 pub mod Commanded

@@ -12,13 +12,15 @@ mod style;
 mod ties;
 mod usage;
 
-ghost use Rattle.std.specs.Prelude.{◌≡◌, ◌≢◌, ◌⊎◌, ℕ, List, [], Some, codes, map, string_bytes, MatchResult, IfOk, IfErr, true, false};
+ghost use Rattle.std.specs.Prelude.{◌≡◌, ◌≢◌, ◌⊎◌, ℕ, List, [], Some, codes, map, string_bytes, MatchResult, IfOk, IfErr, OnOk, true, false};
 ghost use Rattle.clap.specs.Matches.{found_of, first_value};
-ghost use Rattle.command_words.specs.Commanded.{Finds, Fails, AsksOf, AnswersIn, IsAskedBy, IsJobAskedBy, has_no_size};
+ghost use Rattle.command_words.specs.Commanded.{Finds, Fails, AsksOf, AnswersIn, IsAskedBy, IsJobAskedBy, IsRefused, IsUnread, IsMisread, IsMisplaced, FailsTo, has_no_size};
+ghost use Rattle.command_words.specs.Ties.{keeps_ties};
+ghost use Rattle.command_words.specs.Misread.{FailsFor, MisreadRequest, Misread, Misplaced};
 ghost use Rattle.command_words.specs.Lines.{command_line};
 ghost use Rattle.command_words.specs.Words.{IsCheckOf, IsBareCheckOf, NamesMode, NamesModeIfAny};
 ghost use Rattle.command_words.specs.Found.{word_in, NumberIfAny, HasTerms, no_terms, NamesFiles, StartsNowhere};
-ghost use Rattle.command_words.specs.Found.{Asks, IsJobOf, IsNoRange, IsNoBound};
+ghost use Rattle.command_words.specs.Found.{Asks, IsJobOf, IsNoRange, IsNoBound, IsNoNumberIfAny};
 ghost use Rattle.command_words.specs.declared.words.WordFault.TheVariants.{Memory};
 
 use crate::answer_form::AnswerForm;
@@ -144,6 +146,7 @@ pub struct Asked {
 pub fn read_words(alloc: Global, words: Vec<String>) -> Result<Job, WordFault>
     ensures empty { words.items ≡ [] → MatchResult result (IsCheckOf (codes "-")) (λ fault. fault ≡ WordFault.Memory) }
     ensures asks { words.items ≢ [] → IfOk result (IsJobAskedBy (command_line (map string_bytes words.items))) }
+    ensures fails { words.items ≢ [] → IfErr result (FailsTo (command_line (map string_bytes words.items))) }
 {
     Ok(read_asked(alloc, words)?.job)
 }
@@ -153,6 +156,7 @@ pub fn read_words(alloc: Global, words: Vec<String>) -> Result<Job, WordFault>
 pub fn read_asked(alloc: Global, words: Vec<String>) -> Result<Asked, WordFault>
     ensures empty { words.items ≡ [] → MatchResult result (IsBareCheckOf (codes "-")) (λ fault. fault ≡ WordFault.Memory) }
     ensures asks { words.items ≢ [] → IfOk result (IsAskedBy (command_line (map string_bytes words.items))) }
+    ensures fails { words.items ≢ [] → IfErr result (FailsTo (command_line (map string_bytes words.items))) }
 {
     if words.is_empty() {
         let pickle = String::from_str(alloc, "-")?;
@@ -186,15 +190,34 @@ fn read_matches(
     words: &[String],
 ) -> Result<Asked, WordFault>
     ensures asks { IfOk result (λ asked. (line : List (List ℕ)) → Finds line matches.now → IsAskedBy line asked) }
+    ensures unread { IfErr result (λ fault. (line : List (List ℕ)) → Finds line matches.now → IsUnread line fault) }
 {
     match matches.subcommand() {
-        Some((command, found)) if keeps_ties(command, found) => read_found(alloc, command, found),
-        _ => Err(WordFault::Usage(usage_of(alloc, words)?)),
+        Some((command, found)) => read_tied(alloc, command, found, words),
+        None => Err(WordFault::Usage(usage_of(alloc, words)?)),
     }
+}
+
+// The same, if the ties between the arguments are kept.
+fn read_tied(
+    alloc: Global,
+    command: &str,
+    found: &ArgMatches<'_>,
+    words: &[String],
+) -> Result<Asked, WordFault>
+    ensures tied { OnOk result (keeps_ties command.now (found_of found.now) ≡ true) }
+    ensures asks { IfOk result (AsksOf command.now (found_of found.now)) }
+    ensures misread { IfErr result (FailsFor (IsMisread command.now (found_of found.now)) (IsMisplaced command.now (found_of found.now))) }
+{
+    if !keeps_ties(command, found) {
+        return Err(WordFault::Usage(usage_of(alloc, words)?));
+    }
+    read_found(alloc, command, found)
 }
 
 fn read_found(alloc: Global, command: &str, found: &ArgMatches<'_>) -> Result<Asked, WordFault>
     ensures asks { IfOk result (AsksOf command.now (found_of found.now)) }
+    ensures misread { IfErr result (FailsFor (Misread command.now (found_of found.now)) (Misplaced command.now (found_of found.now))) }
 {
     Ok(Asked {
         job: read_command(alloc, command, found)?,
@@ -232,7 +255,8 @@ fn after_name<'a>(alloc: Global, words: &'a [String]) -> Result<Vec<&'a str>, Al
 }
 
 fn told(alloc: Global, error: &clap::Error, words: &[String]) -> Result<WordFault, AllocError>
-    ensures { IfOk result (λ fault. fault ≢ WordFault.Offset) }
+    ensures fault { IfOk result (λ fault. fault ≢ WordFault.Offset) }
+    ensures refused { IfOk result (λ fault. (line : List (List ℕ)) → Fails line error.now → IsRefused line fault) }
 {
     match error.kind() {
         ErrorKind::DisplayHelp | ErrorKind::DisplayVersion => {
@@ -277,6 +301,7 @@ fn text_of(alloc: Global, error: &clap::Error) -> Result<String, AllocError> {
 fn read_command(alloc: Global, command: &str, found: &ArgMatches<'_>) -> Result<Job, WordFault>
     ensures asks { IfOk result (Asks (found_of found.now)) }
     ensures command { IfOk result (IsJobOf (Some command.now)) }
+    ensures misread { IfErr result (FailsFor (Misread command.now (found_of found.now)) (Misplaced command.now (found_of found.now))) }
 {
     match command {
         "map" => read_map(alloc, found),
@@ -294,6 +319,7 @@ fn read_map(alloc: Global, found: &ArgMatches<'_>) -> Result<Job, WordFault>
     ensures asks { IfOk result (Asks (found_of found.now)) }
     ensures command { IfOk result (IsJobOf (Some (codes "map"))) }
     ensures offset { IfErr result (λ fault. fault ≡ WordFault.Offset → StartsNowhere (found_of found.now)) }
+    ensures misread { IfErr result (FailsFor (MisreadRequest (found_of found.now) Choice.Parts) (StartsNowhere (found_of found.now))) }
 {
     let terms = terms_of(alloc, found, Choice::Parts, None)?;
     let spool = spool_of(alloc, found)?;
@@ -331,6 +357,7 @@ fn read_show(alloc: Global, found: &ArgMatches<'_>) -> Result<Job, WordFault>
     ensures asks { IfOk result (Asks (found_of found.now)) }
     ensures command { IfOk result (IsJobOf (Some (codes "show"))) }
     ensures offset { IfErr result (λ fault. fault ≡ WordFault.Offset → StartsNowhere (found_of found.now)) }
+    ensures misread { IfErr result (FailsFor (MisreadRequest (found_of found.now) Choice.Part) (StartsNowhere (found_of found.now))) }
 {
     let mapping = mapping_words(alloc, found)?;
     let spool = spool_of(alloc, found)?;
@@ -358,6 +385,7 @@ fn read_each(alloc: Global, found: &ArgMatches<'_>) -> Result<Job, WordFault>
     ensures asks { IfOk result (Asks (found_of found.now)) }
     ensures command { IfOk result (IsJobOf (Some (codes "each"))) }
     ensures offset { IfErr result (λ fault. fault ≡ WordFault.Offset → StartsNowhere (found_of found.now)) }
+    ensures misread { IfErr result (FailsFor (MisreadRequest (found_of found.now) Choice.Columns) (StartsNowhere (found_of found.now))) }
 {
     let mapping = mapping_words(alloc, found)?;
     let spool = spool_of(alloc, found)?;
@@ -387,6 +415,7 @@ fn read_each(alloc: Global, found: &ArgMatches<'_>) -> Result<Job, WordFault>
 fn spool_of(alloc: Global, found: &ArgMatches<'_>) -> Result<Option<u64>, WordFault>
     ensures ok { IfOk result (NumberIfAny (first_value (found_of found.now) (codes "spool"))) }
     ensures fault { IfErr result (λ fault. fault ≢ WordFault.Offset) }
+    ensures misread { IfErr result (FailsFor (IsNoNumberIfAny (first_value (found_of found.now) (codes "spool"))) ⊥) }
 {
     number_if_any(alloc, found, "spool", "--spool <BYTES>")
 }
@@ -420,6 +449,7 @@ fn terms_of(
 ) -> Result<Terms, WordFault>
     ensures terms { IfOk result (HasTerms (found_of found.now) choice most_elements) }
     ensures path { IfErr result (λ fault. fault ≡ WordFault.Offset → ⊥) }
+    ensures misread { IfErr result (FailsFor (MisreadRequest (found_of found.now) choice) ⊥) }
 {
     let selection = selection_of(alloc, found, choice)?;
     Ok(Terms {
@@ -471,6 +501,7 @@ fn read_bound(alloc: Global, found: &ArgMatches<'_>) -> Result<Job, WordFault>
     ensures command { IfOk result (IsJobOf (Some (codes "bound"))) }
     ensures usage { IfErr result (λ fault. (fault ≡ Memory) ⊎ IsNoBound (found_of found.now)) }
     ensures fault { IfErr result (λ fault. fault ≢ WordFault.Offset) }
+    ensures misread { IfErr result (FailsFor (IsNoBound (found_of found.now)) ⊥) }
 {
     let pickle = word_of(alloc, found, "PICKLE")?;
     let name = word_of(alloc, found, "TYPE")?;
@@ -521,6 +552,7 @@ fn read_dump(alloc: Global, found: &ArgMatches<'_>) -> Result<Job, WordFault>
     ensures asks { IfOk result (Asks (found_of found.now)) }
     ensures command { IfOk result (IsJobOf (Some (codes "dump"))) }
     ensures offset { IfErr result (λ fault. fault ≡ WordFault.Offset → IsNoRange (found_of found.now)) }
+    ensures misread { IfErr result (FailsFor ⊥ (IsNoRange (found_of found.now))) }
 {
     let from = bytes_in(found, "skip", "from")?;
     let size = bytes_in(found, "length", "size")?;

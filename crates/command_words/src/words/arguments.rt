@@ -1,12 +1,9 @@
 //! The arguments of the commands, with the texts of their help.
-ghost use Rattle.std.specs.Prelude.{◌≡◌, Some, None, IfOk, codes};
-ghost use Rattle.clap.specs.Walk.{rule_of};
-ghost use Rattle.clap.specs.declared.builder.ValueParser.TheVariants.{Names};
-ghost use Rattle.command_words.specs.Commands.{IsArg, option_rule, default_rule, flag_rule, argument_rule, numbered, repeated, count_rule, files_rule};
+ghost use Rattle.std.specs.Prelude.{◌≡◌, IfOk, codes};
+ghost use Rattle.command_words.specs.Commands.{IsArg, option_rule, default_rule, flag_rule, argument_rule, numbered, chosen, repeated, count_rule, files_rule};
 ghost use Rattle.command_words.specs.Commands.{endian_rule, absent_rule, numbers_rule, chars_rule, faults_rule, answer_rule, color_rule, get_rule, why_rule};
 
 use crate::words::choices::{Choices, Ties};
-use clap::builder::ValueParser;
 use clap::{Arg, ArgAction};
 use std::alloc::{AllocError, Global};
 
@@ -150,7 +147,7 @@ pub fn absent<'a>(alloc: Global, choices: Choices<'a>) -> Arg<'a>
 
 /// How a value is printed, in one of these modes.
 pub fn mode<'a>(alloc: Global, modes: &'a [&'a str]) -> Arg<'a>
-    ensures { IsArg (record (default_rule (codes "mode") (codes "flat")) { parser = Some (Names modes.entry) }) result }
+    ensures { IsArg (chosen (default_rule (codes "mode") (codes "flat")) modes.entry) result }
 {
     defaulted(alloc, "mode", "MODE", "How the value is printed", "flat").value_parser(modes)
 }
@@ -260,7 +257,7 @@ pub fn bound_mode<'a>(
     choices: Choices<'a>,
     ties: Ties,
 ) -> Result<Arg<'a>, AllocError>
-    ensures { IfOk result (λ arg. ties ≡ Ties.Without → IsArg (record (option_rule (codes "mode")) { parser = Some (Names choices.entry.modes) }) arg) }
+    ensures { IfOk result (λ arg. ties ≡ Ties.Without → IsArg (chosen (option_rule (codes "mode")) choices.entry.modes) arg) }
 {
     let mode = option(alloc, "mode", "MODE")
         .help("With --text, in this mode alone [default: in any]")
@@ -274,7 +271,7 @@ pub fn bound_numbers<'a>(
     choices: Choices<'a>,
     ties: Ties,
 ) -> Result<Arg<'a>, AllocError>
-    ensures { IfOk result (λ arg. ties ≡ Ties.Without → IsArg (record (option_rule (codes "numbers")) { parser = Some (Names choices.entry.numbers) }) arg) }
+    ensures { IfOk result (λ arg. ties ≡ Ties.Without → IsArg (chosen (option_rule (codes "numbers")) choices.entry.numbers) arg) }
 {
     let numbers = option(alloc, "numbers", "FORM")
         .help("With --text, for numbers in this form [default: decimal]")
@@ -288,7 +285,7 @@ pub fn bound_chars<'a>(
     choices: Choices<'a>,
     ties: Ties,
 ) -> Result<Arg<'a>, AllocError>
-    ensures { IfOk result (λ arg. ties ≡ Ties.Without → IsArg (record (option_rule (codes "chars")) { parser = Some (Names choices.entry.chars) }) arg) }
+    ensures { IfOk result (λ arg. ties ≡ Ties.Without → IsArg (chosen (option_rule (codes "chars")) choices.entry.chars) arg) }
 {
     let chars = option(alloc, "chars", "FORM")
         .help("With --text, for arrays of char in this form [default: numbers]")

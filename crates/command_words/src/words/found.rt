@@ -4,6 +4,7 @@ ghost use Rattle.clap.specs.Matches.{found_of, first_value, one_text};
 ghost use Rattle.command_words.specs.Numerals.{IsNumber, IsNoNumber};
 ghost use Rattle.command_words.specs.Found.{word_in, NumberIn, NumberIfAny, IsNoNumberIfAny};
 ghost use Rattle.command_words.specs.Flags.{FlagIn};
+ghost use Rattle.command_words.specs.Misread.{FailsFor};
 ghost use Rattle.command_words.specs.declared.words.WordFault.TheVariants.{Memory};
 
 use crate::numerals::decimal;
@@ -36,6 +37,7 @@ pub fn number_if_any(
     ensures ok { IfOk result (NumberIfAny (first_value (found_of found.now) name.now)) }
     ensures err { IfErr result (λ fault. (fault ≡ Memory) ⊎ IsNoNumberIfAny (first_value (found_of found.now) name.now)) }
     ensures fault { IfErr result (λ fault. fault ≢ WordFault.Offset) }
+    ensures misread { IfErr result (FailsFor (IsNoNumberIfAny (first_value (found_of found.now) name.now)) ⊥) }
 {
     match found.get_str(name) {
         Some(word) => Ok(Some(number_of_word(alloc, word, place)?)),
@@ -54,6 +56,7 @@ pub fn number_of(
     ensures ok { IfOk result (NumberIn (first_value (found_of found.now) name.now) default) }
     ensures err { IfErr result (λ fault. (fault ≡ Memory) ⊎ IsNoNumberIfAny (first_value (found_of found.now) name.now)) }
     ensures fault { IfErr result (λ fault. fault ≢ WordFault.Offset) }
+    ensures misread { IfErr result (FailsFor (IsNoNumberIfAny (first_value (found_of found.now) name.now)) ⊥) }
 {
     match found.get_str(name) {
         Some(word) => number_of_word(alloc, word, place),
@@ -66,6 +69,7 @@ fn number_of_word(alloc: Global, word: &str, place: &str) -> Result<u64, WordFau
     ensures ok { IfOk result (IsNumber word.now) }
     ensures err { IfErr result (λ fault. (fault ≡ Memory) ⊎ IsNoNumber word.now) }
     ensures fault { IfErr result (λ fault. fault ≢ WordFault.Offset) }
+    ensures misread { IfErr result (FailsFor (IsNoNumber word.now) ⊥) }
 {
     match decimal(word.as_bytes()) {
         Some(number) => Ok(number),

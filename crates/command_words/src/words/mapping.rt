@@ -1,7 +1,8 @@
 //! What a mapping is given, as arguments request it.
 ghost use Rattle.std.specs.Prelude.{◌≡◌, ◌≢◌, IfOk, IfErr, codes};
 ghost use Rattle.clap.specs.Matches.{found_of, first_value};
-ghost use Rattle.command_words.specs.Found.{NumberIn, NamesOrder, AsksMappingOf, StartsNowhere};
+ghost use Rattle.command_words.specs.Found.{NumberIn, NamesOrder, AsksMappingOf, StartsNowhere, IsNoNumberIfAny};
+ghost use Rattle.command_words.specs.Misread.{FailsFor};
 ghost use Rattle.command_words.specs.declared.words.WordFault.TheVariants.{Offset};
 
 use crate::start::Start;
@@ -32,6 +33,7 @@ pub struct MappingWords {
 pub fn mapping_words(alloc: Global, found: &ArgMatches<'_>) -> Result<MappingWords, WordFault>
     ensures asks { IfOk result (AsksMappingOf (found_of found.now)) }
     ensures offset { IfErr result (λ fault. fault ≡ Offset → StartsNowhere (found_of found.now)) }
+    ensures misread { IfErr result (FailsFor (IsNoNumberIfAny (first_value (found_of found.now) (codes "limit"))) (StartsNowhere (found_of found.now))) }
 {
     Ok(MappingWords {
         start: start_of(found)?,
@@ -56,6 +58,7 @@ fn order_of(word: &str) -> Order
 fn limit_of(alloc: Global, found: &ArgMatches<'_>) -> Result<u64, WordFault>
     ensures ok { IfOk result (NumberIn (first_value (found_of found.now) (codes "limit")) 1000000000) }
     ensures fault { IfErr result (λ fault. fault ≢ Offset) }
+    ensures misread { IfErr result (FailsFor (IsNoNumberIfAny (first_value (found_of found.now) (codes "limit"))) ⊥) }
 {
     number_of(alloc, found, "limit", "--limit <N>", DEFAULT_LIMIT)
 }

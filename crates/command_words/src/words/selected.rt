@@ -3,6 +3,7 @@ ghost use Rattle.std.specs.Prelude.{◌≡◌, ◌≢◌, map, codes, IfOk, IfEr
 ghost use Rattle.clap.specs.Matches.{found_of, first_value};
 ghost use Rattle.command_words.specs.Paths.{steps_of, IsPath};
 ghost use Rattle.command_words.specs.Patterns.{parts_of, IsPattern};
+ghost use Rattle.command_words.specs.Misread.{FailsFor, AnyWord, IsNoPath, IsNoPathIfAny, IsNoPattern, IsNoOnePath, MisreadSelection, MisreadColumns, MisreadRows};
 ghost use Rattle.command_words.specs.Selects.{NamesAbsent, ArePatterns, AreColumns, IsOnePath, NamesRows, SelectsParts, SelectsColumns, Selects, PartBeside, HasRows, IsColumn, is_one_path};
 ghost use Rattle.command_words.specs.declared.words.WordFault.TheVariants.{Offset};
 
@@ -31,6 +32,7 @@ pub fn selection_of(
 ) -> Result<Option<Selection>, WordFault>
     ensures ok { IfOk result (Selects (found_of found.now) choice) }
     ensures fault { IfErr result (λ fault. fault ≢ Offset) }
+    ensures misread { IfErr result (FailsFor (MisreadSelection (found_of found.now) choice) ⊥) }
 {
     let absent = absent_of(word(found, "absent"));
     let words = found.get_strs("get").unwrap_or(&[]);
@@ -55,6 +57,7 @@ pub fn part_beside(
 ) -> Result<Option<Path>, WordFault>
     ensures part { IfOk result (PartBeside (first_value (found_of found.now) (codes "get")) selection.now) }
     ensures fault { IfErr result (λ fault. fault ≢ Offset) }
+    ensures misread { IfErr result (FailsFor (IsNoPathIfAny (first_value (found_of found.now) (codes "get"))) ⊥) }
 {
     match (selection, found.get_str("get")) {
         (None, Some(word)) => Ok(Some(path_of(alloc, word)?)),
@@ -76,6 +79,7 @@ fn absent_of(word: &str) -> Absent
 fn parts_of(alloc: Global, words: &[&str], absent: Absent) -> Result<Option<Selection>, WordFault>
     ensures ok { IfOk result (SelectsParts (map (λ word. word.now) words.now) absent) }
     ensures fault { IfErr result (λ fault. fault ≢ Offset) }
+    ensures misread { IfErr result (FailsFor (AnyWord IsNoPattern (map (λ word. word.now) words.now)) ⊥) }
 {
     if words.is_empty() {
         return Ok(None);
@@ -107,6 +111,7 @@ fn columns_selection(
 ) -> Result<Option<Selection>, WordFault>
     ensures ok { IfOk result (SelectsColumns (map (λ word. word.now) words.now) absent) }
     ensures fault { IfErr result (λ fault. fault ≢ Offset) }
+    ensures misread { IfErr result (FailsFor (MisreadColumns (map (λ word. word.now) words.now)) ⊥) }
 {
     if words.len() > 1 {
         let rows = Rows {
@@ -132,6 +137,7 @@ fn columns_selection(
 fn lone_path(alloc: Global, word: &str) -> Result<Vec<Pattern>, WordFault>
     ensures ok { IfOk result (λ patterns. IsOnePath word.now patterns.items) }
     ensures fault { IfErr result (λ fault. fault ≢ Offset) }
+    ensures misread { IfErr result (FailsFor (IsNoOnePath word.now) ⊥) }
 {
     let patterns = patterns_of(alloc, &[word])?;
     if is_one_path(patterns.as_slice()) {
@@ -149,6 +155,7 @@ fn rows_of(
 ) -> Result<Rows, WordFault>
     ensures ok { IfOk result (NamesRows (found_of found.now) pattern.now (map (λ word. word.now) words.now)) }
     ensures fault { IfErr result (λ fault. fault ≢ Offset) }
+    ensures misread { IfErr result (FailsFor (MisreadRows (found_of found.now) pattern.now (map (λ word. word.now) words.now)) ⊥) }
 {
     let header = flag_of(found, "header");
     check_mode(alloc, word(found, "mode"), header)?;
@@ -163,6 +170,7 @@ fn rows_of(
 fn check_mode(alloc: Global, mode: &str, header: bool) -> Result<(), WordFault>
     ensures ok { OnOk result (HasRows mode.now header) }
     ensures fault { IfErr result (λ fault. fault ≢ Offset) }
+    ensures misread { IfErr result (FailsFor (¬ (HasRows mode.now header)) ⊥) }
 {
     let why = match mode {
         "tree" | "lines" => "--rows prints flat or json",
@@ -175,6 +183,7 @@ fn check_mode(alloc: Global, mode: &str, header: bool) -> Result<(), WordFault>
 fn patterns_of(alloc: Global, words: &[&str]) -> Result<Vec<Pattern>, WordFault>
     ensures ok { IfOk result (λ patterns. ArePatterns (map (λ word. word.now) words.now) patterns.items) }
     ensures fault { IfErr result (λ fault. fault ≢ Offset) }
+    ensures misread { IfErr result (FailsFor (AnyWord IsNoPattern (map (λ word. word.now) words.now)) ⊥) }
 {
     let mut patterns = Vec::new(alloc);
     for word in words {
@@ -190,6 +199,7 @@ fn patterns_of(alloc: Global, words: &[&str]) -> Result<Vec<Pattern>, WordFault>
 fn columns_of(alloc: Global, words: &[&str]) -> Result<Vec<Column>, WordFault>
     ensures ok { IfOk result (λ columns. AreColumns (map (λ word. word.now) words.now) columns.items) }
     ensures fault { IfErr result (λ fault. fault ≢ Offset) }
+    ensures misread { IfErr result (FailsFor (AnyWord IsNoPath (map (λ word. word.now) words.now)) ⊥) }
 {
     let mut columns = Vec::new(alloc);
     for word in words {
@@ -206,6 +216,7 @@ fn columns_of(alloc: Global, words: &[&str]) -> Result<Vec<Column>, WordFault>
 fn column_of(alloc: Global, word: &str) -> Result<Column, WordFault>
     ensures ok { IfOk result (IsColumn word.now) }
     ensures fault { IfErr result (λ fault. fault ≢ Offset) }
+    ensures misread { IfErr result (FailsFor (IsNoPath word.now) ⊥) }
 {
     let path = path_of(alloc, word)?;
     Ok(Column {
@@ -218,6 +229,7 @@ fn column_of(alloc: Global, word: &str) -> Result<Column, WordFault>
 fn pattern_of(alloc: Global, word: &str, place: &str, why: &str) -> Result<Pattern, WordFault>
     ensures ok { IfOk result (λ pattern. IsPattern word.now (parts_of pattern.steps.items)) }
     ensures fault { IfErr result (λ fault. fault ≢ Offset) }
+    ensures misread { IfErr result (FailsFor (IsNoPattern word.now) ⊥) }
 {
     match read_pattern(alloc, word.as_bytes()) {
         Ok(pattern) => Ok(pattern),
@@ -230,6 +242,7 @@ fn pattern_of(alloc: Global, word: &str, place: &str, why: &str) -> Result<Patte
 fn path_of(alloc: Global, word: &str) -> Result<Path, WordFault>
     ensures path { IfOk result (λ path. IsPath word.now (steps_of path.steps.items)) }
     ensures fault { IfErr result (λ fault. fault ≢ Offset) }
+    ensures misread { IfErr result (FailsFor (IsNoPath word.now) ⊥) }
 {
     match read_path(alloc, word.as_bytes()) {
         Ok(path) => Ok(path),

@@ -3,6 +3,7 @@ ghost use Rattle.std.specs.Prelude.{◌≡◌, ◌≢◌, ◌⊎◌, IfOk, IfErr
 ghost use Rattle.clap.specs.Matches.{found_of, first_value};
 ghost use Rattle.command_words.specs.Styles.{NamesNumbers, NamesChars, NamesElements, NamesElementsOr, IsNoElements, IsNoElementsIfAny, NamesAnswer, NamesColor, NamesFaults};
 ghost use Rattle.command_words.specs.Found.{NamesStyle};
+ghost use Rattle.command_words.specs.Misread.{FailsFor};
 ghost use Rattle.command_words.specs.declared.words.WordFault.TheVariants.{Offset, Memory};
 
 use crate::answer_form::AnswerForm;
@@ -25,6 +26,7 @@ pub fn style_of(
     ensures style { IfOk result (NamesStyle (found_of found.now) most_elements) }
     ensures usage { IfErr result (λ fault. (fault ≡ Memory) ⊎ IsNoElementsIfAny (first_value (found_of found.now) (codes "elements"))) }
     ensures fault { IfErr result (λ fault. fault ≢ Offset) }
+    ensures misread { IfErr result (FailsFor (IsNoElementsIfAny (first_value (found_of found.now) (codes "elements"))) ⊥) }
 {
     Ok(Style {
         numbers: numbers_of(word(found, "numbers")),
@@ -44,6 +46,7 @@ pub fn depth_of(
 ) -> Result<Option<u64>, WordFault>
     ensures depth { IfOk result (NamesElementsOr most_levels (first_value (found_of found.now) (codes "depth"))) }
     ensures fault { IfErr result (λ fault. fault ≢ Offset) }
+    ensures misread { IfErr result (FailsFor (IsNoElementsIfAny (first_value (found_of found.now) (codes "depth"))) ⊥) }
 {
     match found.get_str("depth") {
         Some(word) => most_of(alloc, word, "--depth <N>"),
@@ -108,6 +111,7 @@ fn most_of(alloc: Global, word: &str, option: &str) -> Result<Option<u64>, WordF
     ensures ok { IfOk result (NamesElements word.now) }
     ensures usage { IfErr result (λ fault. (fault ≡ Memory) ⊎ IsNoElements word.now) }
     ensures fault { IfErr result (λ fault. fault ≢ Offset) }
+    ensures misread { IfErr result (FailsFor (IsNoElements word.now) ⊥) }
 {
     if word == "all" {
         return Ok(None);
