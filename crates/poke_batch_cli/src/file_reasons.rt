@@ -1,31 +1,11 @@
 //! Why a file couldn't be opened, as the system tells it.
 use crate::reason_text::{add, add_word};
+use jobs::Lengthless;
 use std::alloc::AllocError;
 use std::fs::{self, File};
 use std::io::ErrorKind;
 use std::os::unix::fs::FileTypeExt;
 use std::rt::Files;
-
-/// What a command does with a file that has no length, such as a FIFO.
-#[derive(Clone, Copy)]
-pub enum Lengthless {
-    /// It reads it, as a pickle or with `--spool`.
-    Reads,
-    /// It would read it with `--spool`, which wasn't given.
-    NeedsSpool,
-    /// It never reads it.
-    Refuses,
-}
-
-impl Lengthless {
-    /// What a mapping does with it, by its option `--spool`.
-    pub fn with_spool(spool: Option<u64>) -> Lengthless {
-        match spool {
-            Some(_) => Lengthless::Reads,
-            None => Lengthless::NeedsSpool,
-        }
-    }
-}
 
 /// Adds why the file at a path couldn't be opened to a text, on a line that begins with the path.
 pub fn tell_unopened<R: Files<File = File>>(

@@ -1,86 +1,95 @@
-//! The files that a job names.
+//! The files that a job names, from the system.
+ghost use Rattle.jobs.specs.Gives.{anything};
+
+use crate::file_reasons::reason_of;
+use crate::given::{argument, stands_for};
+use crate::installed::pickle_path;
 use crate::with_progress::ShownSpace;
-use bit_space::{FileSpace, MemSpace, Memory, OpenFault, Paged, Space};
-use poke_batch::DumpFault;
-use poke_batch::outcome::Failure;
+use bit_space::{FileSpace, MemSpace, OpenFault, Space};
+use jobs::{FileFault, Lengthless, NamedPickle, Opener};
 use poke_batch::pickle::{PickleFault, read_pickle};
-use spool::{Source, StreamFault, read_stream};
+use spool::{Source, read_stream};
 use std::alloc::AllocError;
 use std::fs::{self, File};
-use std::io::{Input, Write};
+use std::io::{self, Input, Read, Write};
 use std::os::unix::fs::MetadataExt;
-use std::rt::{Clock, Files};
-use thiserror::Error;
+use std::rt::{Clock, Env, Files};
 
-/// What failed with the files of a job. It displays as its line.
-#[derive(Clone, Copy, Debug, Drop, PartialEq, Eq, Error)]
-#[error("fault {}", self.failure().name())]
-pub enum FileFault {
-    /// The pickle couldn't be opened or read.
-    Pickle(PickleFault),
-    /// The file couldn't be opened.
-    Space(OpenFault),
-    /// The file has no length, and couldn't be read into memory.
-    Stream(StreamFault),
-    /// The dump of the file ended early.
-    Dump(DumpFault),
-    /// An allocation failed.
-    Memory,
+/// The files of the system. How far one of them is read may be shown on `err`.
+#[derive(Drop)]
+pub struct SystemFiles<R: Drop, E: Drop> {
+    rt: R,
+    err: E,
 }
 
-impl FileFault {
-    /// What failed.
-    pub fn failure(self) -> Failure {
+impl<R: Drop, E: Drop> SystemFiles<R, E> {
+    pub fn new(rt: R, err: E) -> SystemFiles<R, E> {
+        SystemFiles { rt, err }
+    }
+}
+
+/// A list of names: standard input, or a file.
+#[derive(Drop)]
+pub enum NameList<I: Read + Drop> {
+    Input(I),
+    File(File),
+}
+
+impl<I: Read + Drop> Read for NameList<I> {
+    fn read(&mut self, buf: &mut [u8]) -> io::Result<usize> {
         match self {
-            FileFault::Pickle(PickleFault::Read) => Failure::Read,
-            FileFault::Space(OpenFault::NotOpened) => Failure::Open,
-            FileFault::Space(OpenFault::TooLong) | FileFault::Stream(StreamFault::TooLong) => {
-                Failure::TooLong
-            }
-            FileFault::Dump(DumpFault::Device) | FileFault::Stream(StreamFault::Device) => {
-                Failure::Device
-            }
-            FileFault::Dump(DumpFault::Write) => Failure::Write,
-            FileFault::Pickle(PickleFault::Memory)
-            | FileFault::Stream(StreamFault::Memory)
-            | FileFault::Memory => Failure::Memory,
+            NameList::Input(input) => input.read(buf),
+            NameList::File(file) => file.read(buf),
         }
     }
 }
 
-impl From<PickleFault> for FileFault {
-    fn from(fault: PickleFault) -> FileFault {
-        FileFault::Pickle(fault)
-    }
-}
+impl<
+    R: Files<File = File> + Env + Input + Clock + AllocGlobal + Clone + Drop,
+    E: Write + Copy,
+> Opener for SystemFiles<R, E> {
+    // Nothing is known of what the system has.
+    ghost gives = { λ _. anything };
 
-impl From<OpenFault> for FileFault {
-    fn from(fault: OpenFault) -> FileFault {
-        FileFault::Space(fault)
-    }
-}
+    type Bytes = ShownSpace<Source, R, E>;
 
-impl From<StreamFault> for FileFault {
-    fn from(fault: StreamFault) -> FileFault {
-        FileFault::Stream(fault)
-    }
-}
+    type List = NameList<R::Reader>;
 
-impl From<DumpFault> for FileFault {
-    fn from(fault: DumpFault) -> FileFault {
-        FileFault::Dump(fault)
+    fn read_pickle(&self, word: &str) -> Result<NamedPickle, FileFault> {
+        let path = pickle_path(&self.rt, word)?;
+        let bytes = read_pickle_of(&self.rt, path.as_str())?;
+        Ok(NamedPickle { path, bytes })
     }
-}
 
-impl From<AllocError> for FileFault {
-    fn from(_error: AllocError) -> FileFault {
-        FileFault::Memory
+    fn open(
+        &self,
+        path: &str,
+        spool: Option<u64>,
+        shows: bool,
+    ) -> Result<ShownSpace<Source, R, E>, FileFault> {
+        let source = open_source(&self.rt, path, spool)?;
+        Ok(ShownSpace::new(source, self.rt.clone()?, self.err, shows))
     }
-}
 
-impl From<Memory> for FileFault {
-    fn from(_memory: Memory) -> FileFault {
-        FileFault::Memory
+    fn file_name(&self, word: &str) -> Result<Vec<u8>, AllocError> {
+        match stands_for(word) {
+            Some(place) => argument(&self.rt, place),
+            None => Ok(String::from_str(self.rt.alloc(), word)?.into_bytes()),
+        }
+    }
+
+    fn open_list(&self, path: &str) -> Option<NameList<R::Reader>> {
+        if path == "-" {
+            return Some(NameList::Input(self.rt.reader()));
+        }
+        match File::open(&self.rt, path) {
+            Ok(file) => Some(NameList::File(file)),
+            Err(_) => None,
+        }
+    }
+
+    fn reason(&self, path: &str, lengthless: Lengthless) -> &'static str {
+        reason_of(&self.rt, path, lengthless)
     }
 }
 
@@ -98,29 +107,8 @@ pub fn read_pickle_of<R: Files + Input + AllocGlobal>(
     }
 }
 
-/// Opens a file, and reads it through pages. With `spool` a file that has no length is read into memory first, if it has
-/// at most so many bytes; without it such a file isn't opened.
-pub fn open_space<R: Files<File = File> + AllocGlobal>(
-    rt: &R,
-    path: &str,
-    spool: Option<u64>,
-) -> Result<Paged<Source>, FileFault> {
-    Ok(Paged::new(rt.alloc(), open_source(rt, path, spool)?)?)
-}
-
-/// Opens a file as [`open_space`] does. If `shows`, `err` shows how far it was read.
-pub fn open_shown<R: Files<File = File> + Clock + AllocGlobal + Clone + Drop, E: Write + Copy>(
-    rt: &R,
-    path: &str,
-    spool: Option<u64>,
-    shows: bool,
-    err: E,
-) -> Result<Paged<ShownSpace<Source, R, E>>, FileFault> {
-    let source = open_source(rt, path, spool)?;
-    let shown = ShownSpace::new(source, rt.clone()?, err, shows);
-    Ok(Paged::new(rt.alloc(), shown)?)
-}
-
+// Opens a file. With `spool` a file that has no length is read into memory first, if it has at most so many bytes; without
+// it such a file isn't opened.
 fn open_source<R: Files<File = File> + AllocGlobal>(
     rt: &R,
     path: &str,

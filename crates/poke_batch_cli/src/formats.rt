@@ -1,7 +1,9 @@
 //! The list of the installed pickles, from the heads of their files.
-use crate::files::{FileFault, read_pickle_of};
+use crate::files::read_pickle_of;
 use crate::installed::{names_installed, path_in, pickle_path, pickles_folder, pickles_in};
 use crate::reason_text::add;
+use jobs::FileFault;
+use jobs::head::{Head, head_of};
 use poke_batch::file_line::put_name;
 use poke_batch::outcome::Outcome;
 use poke_batch::pickle::PickleFault;
@@ -9,18 +11,6 @@ use poke_batch::tell::answer;
 use poke_batch::write::{WriteFault, put};
 use std::io::{Input, Write};
 use std::rt::{Env, Files};
-
-/// The first two lines of a pickle: `// NAME: SENTENCE`, and `// main: TYPE` or `// main: TYPE, options: OPTIONS`. What
-/// isn't there is empty.
-#[derive(Clone, Copy, Debug, Drop, PartialEq, Eq)]
-struct Head<'a> {
-    /// The type to map.
-    main: &'a [u8],
-    /// The options to map it with.
-    options: &'a [u8],
-    /// What the pickle is for.
-    sentence: &'a [u8],
-}
 
 /// Prints a line for each installed pickle: its name, the type to map, the options, and a sentence, with tabs between.
 #[inline(never)]
@@ -71,48 +61,4 @@ pub fn tell_main<R: Files + Env + Input + AllocGlobal>(
         text.extend_from_slice(head.options)?;
     }
     Ok(add(text, &["\n"])?)
-}
-
-/// Whether the head of a pickle has the option for files in little-endian order.
-pub fn wants_little(pickle: &[u8]) -> bool {
-    match str::from_utf8(head_of(b"", pickle).options) {
-        Ok(options) => options.contains("--endian little"),
-        Err(_) => false,
-    }
-}
-
-// The head of the pickle with a name.
-fn head_of<'a>(name: &[u8], pickle: &'a [u8]) -> Head<'a> {
-    let (first, rest) = line_of(pickle);
-    let (second, _) = line_of(rest);
-    let (main, options) = parted(behind(second, b"// main: "), b", options: ");
-    let sentence = behind(behind(behind(first, b"// "), name), b": ");
-    Head {
-        main,
-        options,
-        sentence,
-    }
-}
-
-// The first line of a text, and the text after it.
-fn line_of(text: &[u8]) -> (&[u8], &[u8]) {
-    match text.iter().position(|byte| *byte == b'\n') {
-        Some(end) => (&text[..end], &text[end..][1..]),
-        None => (text, b""),
-    }
-}
-
-// The text after a prefix. Empty if the text doesn't begin with the prefix.
-fn behind<'a>(text: &'a [u8], front: &[u8]) -> &'a [u8] {
-    text.strip_prefix(front).unwrap_or(b"")
-}
-
-// The text before a mark, and the text after it.
-fn parted<'a>(text: &'a [u8], mark: &[u8]) -> (&'a [u8], &'a [u8]) {
-    for place in 0..text.len() {
-        if let Some(rest) = text[place..].strip_prefix(mark) {
-            return (&text[..place], rest);
-        }
-    }
-    (text, b"")
 }

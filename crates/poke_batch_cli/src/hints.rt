@@ -1,6 +1,6 @@
 //! The hint that `--why` tells more.
-use crate::ending::Ending;
 use command_words::request::{Form, Over};
+use jobs::Ending;
 use poke_batch::accept::Refusal;
 use poke_batch::fault_form::FaultForm;
 use poke_batch::outcome::{Failure, Outcome};

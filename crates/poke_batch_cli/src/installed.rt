@@ -1,5 +1,5 @@
 //! The pickles that are installed with the program. `+NAME` instead of a pickle's path names one.
-use crate::files::FileFault;
+use jobs::FileFault;
 use pickle_script::near::nearest;
 use poke_batch::pickle::PickleFault;
 use std::alloc::{AllocError, Global};

@@ -1,35 +1,28 @@
 //! The program `poke_batch`: its arguments, files and standard streams. The library of that name makes the output.
 #![tactic(auto)]
 
-mod answers;
-mod dumps;
-mod each;
-mod ending;
+mod aside;
 mod file_reasons;
 mod files;
 mod formats;
 mod given;
 mod hints;
 mod installed;
-mod jobs;
+mod job;
 mod looks;
-mod mapping;
-mod mappings;
 mod offset_reasons;
-mod pickles;
 mod progress;
 mod reason_text;
 mod usage_reasons;
-mod why;
 mod with_progress;
 
 use arrayvec::ArrayVec;
 use command_words::request::{FileNames, Over};
-use ending::Ending;
 use formats::tell_main;
 use given::{given_words, stands_for};
 use hints::{has_more, hint, takes_why};
-use jobs::do_job;
+use job::do_job;
+use jobs::Ending;
 use looks::give_look;
 use offset_reasons::tell_offset;
 use poke_batch::fault_form::FaultForm;

@@ -1,0 +1,4 @@
+mod Written
+mod Answered
+mod FilesWritten
+mod EachWritten

@@ -1,0 +1,9 @@
+pub mod Aims
+pub mod FaultNames
+pub mod Gives
+pub mod Names
+pub mod Opened
+pub mod Files
+pub mod Every
+pub mod Jobs
+pub mod Given

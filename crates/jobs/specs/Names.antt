@@ -1,0 +1,40 @@
+-- The names of a list, each ended by a byte 0, which the last may lack.
+use Rattle.std.specs.Prelude.{◌≡◌, ◌<◌, ℕ, List, [], ◌∷◌, ◌++◌, Option, IfSome, length, String, string_bytes}
+use Rattle.std.specs.declared.alloc.Global.{Global}
+use Rattle.std.specs.Io.KnownBytes.{IsAtEnd}
+use Rattle.command_words.specs.declared.request.FileNames.{FileNames}
+use Rattle.command_words.specs.declared.request.FileNames.TheVariants.{Words, EndedByZero}
+use Rattle.jobs.specs.Gives.{Gives}
+use Rattle.std.specs.Io.BufRead.{first_piece, DropsThrough}
+
+-- if the bytes of a list are known: a name is what they begin with, up to the first byte 0; the others are left
+pub record IsNextName (list : Option (List ℕ)) (name : List ℕ) (rest : Option (List ℕ)) : Type 0 where
+  pub some : IfSome list (λ bytes. 0 < length bytes)
+  pub is : IfSome list (λ bytes. name ≡ first_piece 0 bytes)
+  pub left : DropsThrough list rest 0
+
+-- these names were read of a list, one after the other
+pub data ReadsNames (list : Option (List ℕ)) : (rest : Option (List ℕ)) → (names : List (List ℕ)) → Type 0 where
+  none_read : ReadsNames list list []
+  one_read : {rest rest' : Option (List ℕ)} {names : List (List ℕ)} {name : List ℕ} → ReadsNames list rest names → IsNextName rest name rest'
+      → ReadsNames list rest' (names ++ name ∷ [])
+
+-- each word stands for a name
+abbrev pub AreNamed : (IsName : (word name : List ℕ) → Type 0) → List (String Global) → (names : List (List ℕ)) → Type 0
+AreNamed IsName [] [] = Unit {0}
+AreNamed IsName [] (name ∷ names) = ⊥
+AreNamed IsName (word ∷ words) [] = ⊥
+AreNamed IsName (word ∷ words) (name ∷ names) = IsName (string_bytes word) name × AreNamed IsName words names
+
+-- these are all the names of a list
+pub record AreListed (IsList : Option (List ℕ) → Type 0) (names : List (List ℕ)) : Type 0 where
+  pub list : Option (List ℕ)
+  pub rest : Option (List ℕ)
+  pub is : IsList list
+  pub read : ReadsNames list rest names
+  pub end : IsAtEnd rest
+
+-- the names of files: those for which words stand, or those of the list at a path
+abbrev pub AreNamesOf : Gives → FileNames → (names : List (List ℕ)) → Type 0
+AreNamesOf gives (Words words) = AreNamed gives.is_name words.items
+AreNamesOf gives (EndedByZero path) = AreListed (gives.is_list (string_bytes path))

@@ -1,0 +1,327 @@
+//! A type of a pickle, mapped over one file among many.
+ghost use Rattle.std.specs.Prelude.{◌≡◌, [], false, IfOk, IfErr, OnOk};
+ghost use Rattle.std.specs.Io.KnownBytes.{Appends, Keeps};
+ghost use Rattle.poke_batch.specs.RunsUnder.{IsStoreOf};
+ghost use Rattle.run_parts.specs.Outcomes.{outcome_status};
+ghost use Rattle.jobs.specs.Every.{AppendsFile, IsTyped, every_of, unmapped_text};
+ghost use Rattle.jobs.specs.Files.{AppendsOver, file_form};
+ghost use Rattle.jobs.specs.Opened.{FailsNamed};
+ghost use Rattle.jobs.specs.Aims.{IsAskOf, aim_of};
+
+use crate::aside::Aside;
+use crate::fault::FileFault;
+use crate::mapping::Mapping;
+use crate::mappings::is_mapped;
+use crate::opener::{Lengthless, NamedPickle, Opener};
+use bit_space::{OpenFault, Paged, Space};
+use mapping_reasons::reasons_in;
+use pickle_types::table::{Table, TypeId};
+use poke_batch::ask::Ask;
+use poke_batch::each::{Kept, map_file, run_file};
+use poke_batch::fault_form::FaultForm;
+use poke_batch::file_line::{put_file_line, put_name};
+use poke_batch::file_object::put_file_object;
+use poke_batch::mode::Mode;
+use poke_batch::outcome::Outcome;
+use poke_batch::status::Status;
+use poke_batch::terms::Terms;
+use poke_batch::write::{WriteFault, put};
+use std::alloc::Global;
+use std::io::Write;
+
+/// What the mapping of every file uses.
+#[derive(Clone, Copy)]
+pub struct Typed<'a> {
+    pub alloc: Global,
+    pub pickle: &'a NamedPickle,
+    pub table: &'a Table,
+    pub id: TypeId,
+    pub mapping: Mapping<'a>,
+    pub terms: &'a Terms,
+    pub form: FileForm,
+    /// Whether the line of a file is written before the next file is mapped.
+    pub flush: bool,
+    /// Whether reasons are requested.
+    pub explains: bool,
+}
+
+/// A file, and what its run is given.
+#[derive(Clone, Copy)]
+struct FileRun<'a> {
+    typed: Typed<'a>,
+    name: &'a [u8],
+    ask: Ask<'a>,
+}
+
+/// How the run of a file is written.
+#[derive(Clone, Copy)]
+pub enum FileForm {
+    /// As a line of columns, with the refusal or fault in a form. The reasons go aside.
+    Line(FaultForm),
+    /// As a JSON object with the reasons in it.
+    Object,
+}
+
+impl FileForm {
+    /// The form that a mode requests. An object has its fault in JSON, whatever the form of faults.
+    pub fn of(mode: Mode, faults: FaultForm) -> FileForm
+        ensures { result ≡ file_form mode faults }
+    {
+        match mode {
+            Mode::Json => FileForm::Object,
+            _ => FileForm::Line(faults),
+        }
+    }
+}
+
+/// Maps a type over a file, and writes its line. A file that can't be opened has a line too.
+pub fn run_name<P: Opener, A: Aside, O: Write>(
+    opener: &P,
+    typed: Typed<'_>,
+    kept: &mut Kept,
+    name: &[u8],
+    aside: &mut A,
+    out: &mut O,
+) -> Result<Status, WriteFault>
+    requires typed { IsTyped typed }
+    requires store { IsStoreOf typed.terms.now.most_slots kept.old.store }
+    ensures store { IsStoreOf typed.entry.terms.now.most_slots kept.new.store }
+    ensures ok { IfOk result (AppendsFile (P.gives opener.now) (every_of typed.entry) name.now (O.contents out.old) (O.contents out.new)) }
+{
+    aside.show();
+    let status = match open_named(opener, typed, name) {
+        Ok(mut space) => run_space(typed, kept, name, &mut space, aside, out)?,
+        Err(fault) => run_unopened(opener, typed, name, fault, aside, out)?,
+    };
+    if typed.flush {
+        aside.clear();
+        flush(out)?;
+    }
+    aside.count();
+    Ok(status)
+}
+
+// Opens the file of a name.
+fn open_named<P: Opener>(
+    opener: &P,
+    typed: Typed<'_>,
+    name: &[u8],
+) -> Result<Paged<P::Bytes>, FileFault>
+    ensures ok { IfOk result (λ space. (P.gives opener.now).is_file name.now typed.entry.mapping.spool (P.Bytes.view space)) }
+    ensures err { IfErr result (FailsNamed (P.gives opener.now) name.now typed.entry.mapping.spool) }
+{
+    let Ok(path) = str::from_utf8(name) else {
+        return Err(OpenFault::NotOpened.into());
+    };
+    let bytes = opener.open(path, typed.mapping.spool, false)?;
+    Ok(Paged::new(typed.alloc, bytes)?)
+}
+
+/// Writes what waits to be written.
+pub fn flush<O: Write>(out: &mut O) -> Result<(), WriteFault>
+    ensures { Keeps (O.contents out.old) (O.contents out.new) }
+{
+    match out.flush() {
+        Ok(()) => Ok(()),
+        Err(_) => Err(WriteFault),
+    }
+}
+
+// Writes the outcome of a file that wasn't mapped, with the lines that explain it, and returns its exit status.
+fn put_unmapped<O: Write>(
+    form: FileForm,
+    name: &[u8],
+    outcome: Outcome,
+    lines: &[u8],
+    out: &mut O,
+) -> Result<Status, WriteFault>
+    ensures status { IfOk result (λ status. status ≡ outcome_status outcome) }
+    ensures ok { OnOk result (Appends (O.contents out.old) (O.contents out.new) (unmapped_text form name.now outcome lines.now)) }
+{
+    match form {
+        FileForm::Line(faults) => put_file_line(out, name, outcome, faults, b"")?,
+        FileForm::Object => put_file_object(out, name, outcome, b"", lines)?,
+    }
+    Ok(outcome.status())
+}
+
+// Writes the outcome of a file that wasn't opened and, if it is requested, why it wasn't.
+fn run_unopened<P: Opener, A: Aside, O: Write>(
+    opener: &P,
+    typed: Typed<'_>,
+    name: &[u8],
+    fault: FileFault,
+    aside: &mut A,
+    out: &mut O,
+) -> Result<Status, WriteFault>
+    requires fails { FailsNamed (P.gives opener.now) name.now typed.mapping.spool fault }
+    ensures ok { IfOk result (AppendsFile (P.gives opener.now) (every_of typed.entry) name.now (O.contents out.old) (O.contents out.new)) }
+{
+    let lines = unopened_lines(opener, typed, name, fault);
+    let outcome = Outcome::Failed(fault.failure());
+    let status = put_unmapped(typed.form, name, outcome, &lines, out)?;
+    tell_reasons(typed, name, &lines, aside, out)?;
+    Ok(status)
+}
+
+// The line that tells why a file wasn't opened, if that is requested. If an allocation fails there is none.
+fn unopened_lines<P: Opener>(opener: &P, typed: Typed<'_>, name: &[u8], fault: FileFault) -> Vec<u8>
+    ensures quiet { typed.entry.explains ≡ false → result.items ≡ [] }
+{
+    let mut lines = Vec::new(typed.alloc);
+    if typed.explains && fault == FileFault::Space(OpenFault::NotOpened) {
+        let reason = match str::from_utf8(name) {
+            Ok(path) => opener.reason(path, Lengthless::with_spool(typed.mapping.spool)),
+            Err(_) => "the name isn't UTF-8",
+        };
+        if put_line(&mut lines, reason).is_err() {
+            lines.clear();
+        }
+    }
+    lines
+}
+
+fn put_line(lines: &mut Vec<u8>, reason: &str) -> Result<(), WriteFault> {
+    put(lines, b"  ")?;
+    put(lines, reason.as_bytes())?;
+    put(lines, b"\n")
+}
+
+// Maps a type over an open file, and writes the run in its form.
+fn run_space<S: Space, A: Aside, O: Write>(
+    typed: Typed<'_>,
+    kept: &mut Kept,
+    name: &[u8],
+    space: &mut S,
+    aside: &mut A,
+    out: &mut O,
+) -> Result<Status, WriteFault>
+    requires typed { IsTyped typed }
+    requires store { IsStoreOf typed.terms.now.most_slots kept.old.store }
+    ensures store { IsStoreOf typed.entry.terms.now.most_slots kept.new.store }
+    ensures ok { IfOk result (AppendsOver (S.view space.old) (every_of typed.entry) name.now (O.contents out.old) (O.contents out.new)) }
+{
+    let Some(ask) = typed.mapping.ask_in(space) else {
+        return put_unmapped(typed.form, name, Outcome::Offset, b"", out);
+    };
+    let run = FileRun { typed, name, ask };
+    match typed.form {
+        FileForm::Line(faults) => run_line(run, faults, kept, space, aside, out),
+        FileForm::Object => run_object(run, kept, space, out),
+    }
+}
+
+// Maps a type over an open file, and writes its line and, if requested, the reasons after it.
+fn run_line<S: Space, A: Aside, O: Write>(
+    run: FileRun<'_>,
+    faults: FaultForm,
+    kept: &mut Kept,
+    space: &mut S,
+    aside: &mut A,
+    out: &mut O,
+) -> Result<Status, WriteFault>
+    requires typed { IsTyped run.typed }
+    requires form { run.typed.form ≡ FileForm.Line faults }
+    requires ask { IsAskOf (aim_of run.typed.mapping) (S.view space.old).len run.ask }
+    requires store { IsStoreOf run.typed.terms.now.most_slots kept.old.store }
+    ensures store { IsStoreOf run.entry.typed.terms.now.most_slots kept.new.store }
+    ensures ok { IfOk result (AppendsOver (S.view space.old) (every_of run.entry.typed) run.entry.name.now
+        (O.contents out.old) (O.contents out.new)) }
+{
+    let FileRun { typed, name, ask } = run;
+    let Typed {
+        table,
+        id,
+        terms,
+        ..
+    } = typed;
+    let status = run_file(table, id, &ask, terms, faults, kept, name, space, out)?;
+    let lines = reasons_of(run, kept.outcome(), space);
+    tell_reasons(typed, name, &lines, aside, out)?;
+    Ok(status)
+}
+
+// Maps a type over an open file, and writes its object with the reasons, if they are requested.
+fn run_object<S: Space, O: Write>(
+    run: FileRun<'_>,
+    kept: &mut Kept,
+    space: &mut S,
+    out: &mut O,
+) -> Result<Status, WriteFault>
+    requires typed { IsTyped run.typed }
+    requires form { run.typed.form ≡ FileForm.Object }
+    requires ask { IsAskOf (aim_of run.typed.mapping) (S.view space.old).len run.ask }
+    requires store { IsStoreOf run.typed.terms.now.most_slots kept.old.store }
+    ensures store { IsStoreOf run.entry.typed.terms.now.most_slots kept.new.store }
+    ensures ok { IfOk result (AppendsOver (S.view space.old) (every_of run.entry.typed) run.entry.name.now
+        (O.contents out.old) (O.contents out.new)) }
+{
+    let typed = run.typed;
+    map_file(typed.table, typed.id, &run.ask, typed.terms, kept, space);
+    let lines = reasons_of(run, kept.outcome(), space);
+    kept.put_object(out, run.name, &lines)
+}
+
+// The lines that explain how the run of a file ended, if they are requested and the file was mapped. If an allocation
+// fails there are none.
+fn reasons_of<S: Space>(run: FileRun<'_>, outcome: Outcome, space: &mut S) -> Vec<u8>
+    requires typed { IsTyped run.typed }
+    ensures quiet { run.entry.typed.explains ≡ false → result.items ≡ [] }
+{
+    let typed = run.typed;
+    if !typed.explains || !is_mapped(outcome.status()) {
+        return Vec::new(typed.alloc);
+    }
+    let Typed {
+        alloc,
+        pickle,
+        table,
+        id,
+        terms,
+        ..
+    } = typed;
+    let path = pickle.path.as_bytes();
+    match reasons_in(
+        alloc,
+        &pickle.bytes,
+        path,
+        table,
+        id,
+        &run.ask,
+        terms,
+        space,
+        outcome,
+    ) {
+        Ok(reasons) => reasons.text,
+        Err(_) => Vec::new(alloc),
+    }
+}
+
+// Writes the reasons of a file aside, after its name and after what `out` has of it. Those of an object are in it.
+fn tell_reasons<A: Aside, O: Write>(
+    typed: Typed<'_>,
+    name: &[u8],
+    lines: &[u8],
+    aside: &mut A,
+    out: &mut O,
+) -> Result<(), WriteFault>
+    ensures { Keeps (O.contents out.old) (O.contents out.new) }
+{
+    if lines.is_empty() || matches!(typed.form, FileForm::Object) {
+        return Ok(());
+    }
+    aside.clear();
+    flush(out)?;
+    // The file's exit status is that of its line, even if its reasons can't be written.
+    let mut text = Vec::new(typed.alloc);
+    if gather_reasons(&mut text, name, lines).is_ok() {
+        aside.tell(&text);
+    }
+    Ok(())
+}
+
+fn gather_reasons(text: &mut Vec<u8>, name: &[u8], lines: &[u8]) -> Result<(), WriteFault> {
+    put_name(text, name)?;
+    put(text, b":\n")?;
+    put(text, lines)
+}

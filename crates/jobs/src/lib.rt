@@ -1,0 +1,28 @@
+//! The jobs of the program, over an opener of files and a writer.
+//!
+//! [`run_job`](run::run_job) does a job. What it is given to read comes from an [`Opener`], so a program that has its
+//! files elsewhere can do the same jobs.
+#![tactic(auto)]
+
+mod answers;
+pub mod aside;
+mod dumps;
+pub mod each;
+pub mod ending;
+pub mod fault;
+pub mod file_run;
+pub mod head;
+pub mod mapping;
+pub mod mappings;
+pub mod names;
+pub mod opener;
+mod pickles;
+pub mod run;
+pub mod why;
+
+pub use answers::report_in_json;
+pub use aside::Aside;
+pub use ending::Ending;
+pub use fault::FileFault;
+pub use opener::{Lengthless, NamedPickle, Opener};
+pub use run::run_job;

@@ -1,0 +1,71 @@
+//! Where the pickles and files of jobs come from.
+
+ghost use Rattle.std.specs.Prelude.{IfOk, IfErr, IfSome};
+ghost use Rattle.jobs.specs.Gives.{Gives};
+
+use crate::fault::FileFault;
+use bit_space::Space;
+use std::alloc::AllocError;
+use std::io::Read;
+
+/// The bytes of a pickle, and the path that its reasons name it by.
+#[derive(Drop)]
+pub struct NamedPickle {
+    pub path: String,
+    pub bytes: Vec<u8>,
+}
+
+/// What a job does with a file that has no length, such as a FIFO.
+#[derive(Clone, Copy)]
+pub enum Lengthless {
+    /// It reads it, as a pickle or with `--spool`.
+    Reads,
+    /// It would read it with `--spool`, which wasn't given.
+    NeedsSpool,
+    /// It never reads it.
+    Refuses,
+}
+
+impl Lengthless {
+    /// What a mapping does with it, by its option `--spool`.
+    pub fn with_spool(spool: Option<u64>) -> Lengthless {
+        match spool {
+            Some(_) => Lengthless::Reads,
+            None => Lengthless::NeedsSpool,
+        }
+    }
+}
+
+/// Reads the pickles and opens the files that arguments name.
+pub trait Opener {
+    /// What it gives for words and paths.
+    ghost gives: { Self → Gives };
+
+    /// The space of a file.
+    type Bytes: Space + Drop;
+
+    /// A list of names.
+    type List: Read + Drop;
+
+    /// Reads the pickle that an argument names.
+    fn read_pickle(&self, word: &str) -> Result<NamedPickle, FileFault>
+        ensures ok { IfOk result (λ pickle. (gives self.now).is_pickle word.now pickle.bytes.items) }
+        ensures err { IfErr result ((gives self.now).is_unread word.now) };
+
+    /// Opens the file at a path. Of a file that has no length at most `spool` bytes are read into memory; without `spool`
+    /// such a file isn't opened. If `shows`, a terminal may show how far the file is read.
+    fn open(&self, path: &str, spool: Option<u64>, shows: bool) -> Result<Self::Bytes, FileFault>
+        ensures ok { IfOk result (λ space. (gives self.now).is_file path.now spool (Self.Bytes.view space)) }
+        ensures err { IfErr result ((gives self.now).is_unopened path.now spool) };
+
+    /// The name of a file for which an argument stands.
+    fn file_name(&self, word: &str) -> Result<Vec<u8>, AllocError>
+        ensures { IfOk result (λ name. (gives self.now).is_name word.now name.items) };
+
+    /// Opens the list of names at a path; `None` if it can't be opened.
+    fn open_list(&self, path: &str) -> Option<Self::List>
+        ensures { IfSome result (λ list. (gives self.now).is_list path.now (Self.List.remaining list)) };
+
+    /// Why the file at a path isn't opened, in words.
+    fn reason(&self, path: &str, lengthless: Lengthless) -> &'static str;
+}

@@ -1,0 +1,69 @@
+//! What goes to standard error while many files are mapped.
+use crate::progress::{Counted, Progress};
+use command_words::request::{FileNames, Over};
+use jobs::Aside;
+use poke_batch::words::Job;
+use poke_batch::write::put;
+use std::io::Write;
+use std::rt::Clock;
+
+/// Standard error, with how many files are done, if that is shown.
+#[derive(Drop)]
+pub struct StandardError<C: Clock + Drop, E: Write + Drop> {
+    clock: C,
+    err: E,
+    progress: Option<Progress>,
+}
+
+impl<C: Clock + Drop, E: Write + Drop> StandardError<C, E> {
+    pub fn new(clock: C, err: E, job: &Job) -> StandardError<C, E> {
+        StandardError {
+            clock,
+            err,
+            progress: progress_of(job),
+        }
+    }
+}
+
+impl<C: Clock + Drop, E: Write + Drop> Aside for StandardError<C, E> {
+    fn show(&mut self) {
+        if let Some(progress) = &mut self.progress {
+            progress.show(&self.clock, &mut self.err);
+        }
+    }
+
+    fn count(&mut self) {
+        if let Some(progress) = &mut self.progress {
+            progress.count();
+        }
+    }
+
+    fn clear(&mut self) {
+        if let Some(progress) = &mut self.progress {
+            progress.clear(&mut self.err);
+        }
+    }
+
+    fn tell(&mut self, reasons: &[u8]) {
+        // What can't be written is left out.
+        let _told = put(&mut self.err, reasons);
+    }
+}
+
+// How many files are done before the first of them, if a job shows that.
+fn progress_of(job: &Job) -> Option<Progress> {
+    let Job::Request(request) = job else {
+        return None;
+    };
+    let Over::Files { names, .. } = &request.over else {
+        return None;
+    };
+    if !request.progress {
+        return None;
+    }
+    let total = match names {
+        FileNames::Words(names) => Some(names.len() as u64),
+        FileNames::EndedByZero(_) => None,
+    };
+    Some(Progress::new(Counted::Files, total))
+}

@@ -1,0 +1,208 @@
+//! Each job, over its files and a writer for its answer.
+use crate::aside::StandardError;
+use crate::file_reasons::{is_there, tell_unopened};
+use crate::files::SystemFiles;
+use crate::formats::list_formats;
+use crate::installed::{names_installed, tell_installed, tell_missing, tell_unlisted};
+use crate::reason_text::{add, add_word};
+use crate::with_progress::ClearedWriter;
+use bit_space::OpenFault;
+use command_words::answer_form::AnswerForm;
+use command_words::request::{Over, Request};
+use jobs::why::Why;
+use jobs::{Ending, FileFault, Lengthless, report_in_json, run_job};
+use poke_batch::outcome::{Failure, Outcome};
+use poke_batch::pickle::PickleFault;
+use poke_batch::status::Status;
+use poke_batch::words::{Asked, Job};
+use std::alloc::AllocError;
+use std::fs::File;
+use std::io::{BufWriter, Input, Write};
+use std::rt::{Clock, Env, Files};
+
+/// The bytes of an answer that are gathered before they are written.
+const GATHERED: usize = 65_536;
+
+/// Does a job, and returns how it ended once the whole answer is written to `out`. If reasons are requested they go to
+/// `reason`; those of one file among many go to `aside`, after the file's line.
+pub fn do_job<
+    R: Files<File = File> + Env + Input + Clock + AllocGlobal + Clone + Drop,
+    O: Write + Drop,
+    A: Write + Copy,
+>(rt: &R, asked: Asked, out: O, aside: A, reason: &mut Vec<u8>) -> Ending {
+    let out = ClearedWriter::new(out, aside, shows_reads(&asked.job));
+    let Ok(mut out) = BufWriter::with_capacity(rt.alloc(), GATHERED, out) else {
+        return Ending::Run(Outcome::Failed(Failure::Memory));
+    };
+    let mut why = Why {
+        text: reason,
+        asked: asked.why,
+    };
+    let ending = match run_any(rt, &asked, &mut out, aside, &mut why) {
+        Ok(ending) => ending,
+        Err(fault) => {
+            explain_fault(rt, &asked.job, fault, &mut why);
+            end_by_fault(
+                Outcome::Failed(fault.failure()),
+                asked.answer,
+                why.text,
+                &mut out,
+            )
+        }
+    };
+    if out.flush().is_ok() {
+        return ending;
+    }
+    // Bytes that the writer didn't accept aren't offered to it again.
+    let (_writer, _rest) = out.into_parts();
+    reason.clear();
+    // One line is printed: that of the first failure, if it has one.
+    match ending {
+        Ending::Run(outcome) if outcome.status() == Status::Outside => ending,
+        _ => Ending::Run(Outcome::Failed(Failure::Write)),
+    }
+}
+
+// How a job ends that found no file. An answer in JSON has the fault in it, and the lines that explain it.
+fn end_by_fault<O: Write>(
+    outcome: Outcome,
+    form: AnswerForm,
+    lines: &mut Vec<u8>,
+    out: &mut O,
+) -> Ending {
+    match form {
+        AnswerForm::Text => Ending::Run(outcome),
+        AnswerForm::Json => {
+            let ending = report_in_json(outcome, lines.as_slice(), out);
+            lines.clear();
+            ending
+        }
+    }
+}
+
+// Explains why the pickle or the file wasn't opened, if that is requested. If an allocation fails there is only the line.
+fn explain_fault<R: Files<File = File> + Env + AllocGlobal + Clone + Drop>(
+    rt: &R,
+    job: &Job,
+    fault: FileFault,
+    why: &mut Why<'_>,
+) {
+    if !why.asked {
+        return;
+    }
+    let told = match fault {
+        FileFault::Pickle(PickleFault::Read) if matches!(job, Job::Formats) => {
+            tell_unlisted(rt, why.text).map_err(FileFault::from)
+        }
+        FileFault::Pickle(PickleFault::Read) => tell_unread(rt, pickle_of(job), why.text),
+        FileFault::Space(OpenFault::NotOpened) => match file_of(job) {
+            Some(path) => tell_file(rt, job, path, why.text).map_err(FileFault::from),
+            None => Ok(()),
+        },
+        _ => Ok(()),
+    };
+    if told.is_err() {
+        why.text.clear();
+    }
+}
+
+// Adds why the file of a job wasn't opened, and which arguments may be swapped.
+fn tell_file<R: Files<File = File>>(
+    rt: &R,
+    job: &Job,
+    path: &str,
+    text: &mut Vec<u8>,
+) -> Result<(), AllocError> {
+    tell_unopened(rt, path, lengthless_of(job), text)?;
+    match type_of(job) {
+        Some(name) if is_there(rt, name) && !is_there(rt, path) => {
+            add(text, &["  "])?;
+            add_word(text, name)?;
+            add(text, &[" is a file: are TYPE and FILE swapped?\n"])
+        }
+        _ => Ok(()),
+    }
+}
+
+// Adds why the pickle that an argument names wasn't read. Of standard input the system tells nothing.
+fn tell_unread<R: Files<File = File> + Env + AllocGlobal + Clone + Drop>(
+    rt: &R,
+    word: Option<&str>,
+    text: &mut Vec<u8>,
+) -> Result<(), FileFault> {
+    match word {
+        Some("-") | None => Ok(()),
+        Some(word) if names_installed(word) => tell_missing(rt, word, text),
+        Some(word) => {
+            tell_unopened(rt, word, Lengthless::Reads, text)?;
+            tell_installed(rt, word, text)
+        }
+    }
+}
+
+// The argument that names the file of a job, if it has one.
+fn file_of(job: &Job) -> Option<&str> {
+    match job {
+        Job::Map { file, .. }
+        | Job::Request(
+            Request {
+                over: Over::File(file),
+                ..
+            },
+        )
+        | Job::Dump { file, .. } => Some(file.as_str()),
+        _ => None,
+    }
+}
+
+// Whether a job shows how far its file was read.
+fn shows_reads(job: &Job) -> bool {
+    match job {
+        Job::Request(request) => request.progress && matches!(request.over, Over::File(_)),
+        _ => false,
+    }
+}
+
+// What a job does with a file that has no length.
+fn lengthless_of(job: &Job) -> Lengthless {
+    match job {
+        Job::Request(request) => Lengthless::with_spool(request.spool),
+        Job::Map { .. } => Lengthless::NeedsSpool,
+        _ => Lengthless::Refuses,
+    }
+}
+
+// The argument that names the type of a job over a file, if it has one.
+fn type_of(job: &Job) -> Option<&str> {
+    match job {
+        Job::Map { name, .. } | Job::Request(Request { name, .. }) => Some(name.as_str()),
+        _ => None,
+    }
+}
+
+// The argument that names the pickle of a job, if it has one.
+fn pickle_of(job: &Job) -> Option<&str> {
+    match job {
+        Job::Map { pickle, .. }
+        | Job::Request(Request { pickle, .. })
+        | Job::Bound { pickle, .. }
+        | Job::BoundText { pickle, .. }
+        | Job::Check { pickle }
+        | Job::Types { pickle } => Some(pickle.as_str()),
+        Job::Formats | Job::Dump { .. } => None,
+    }
+}
+
+// Runs a job, or lists the formats.
+fn run_any<
+    R: Files<File = File> + Env + Input + Clock + AllocGlobal + Clone + Drop,
+    O: Write,
+    A: Write + Copy,
+>(rt: &R, asked: &Asked, out: &mut O, aside: A, why: &mut Why<'_>) -> Result<Ending, FileFault> {
+    let opener = SystemFiles::new(rt.clone()?, aside);
+    let mut aside = StandardError::new(rt.clone()?, aside, &asked.job);
+    match run_job(rt.alloc(), &opener, asked, out, &mut aside, why)? {
+        Some(ending) => Ok(ending),
+        None => Ok(Ending::Run(list_formats(rt, out)?)),
+    }
+}
