@@ -1,0 +1,121 @@
+//! What jobs write over files in memory.
+
+use crate::shelf::{Notes, Shelf};
+use jobs::run_job;
+use jobs::why::Why;
+use poke_batch::fault_form::FaultForm;
+use poke_batch::words::read_asked;
+use std::alloc::Global;
+use std::process::Abort;
+use std::test::Fail;
+
+/// A command line, what its job writes to the writer, and the line of its ending or of its fault, in a block each.
+const ROWS: [(&str, &str, &str); 18] = [
+    ("map p.pk P a.bin", "P {a=1UB,b=515UH}\n", ""),
+    ("map p.pk P b.bin", "", "fault End at 8#b\n"),
+    ("map --limit 2 p.pk P a.bin", "", "fault Limit at 0#b\n"),
+    ("map --whole --byte 1 p.pk Q a.bin", "[2UB,3UB]\n", ""),
+    ("map --byte -4 p.pk P a.bin", "", "refused offset\n"),
+    ("map --get .b --numbers digits p.pk P a.bin", "515\n", ""),
+    (
+        "map --max-output 3 p.pk P a.bin",
+        "",
+        "fault Output at 0#b\n",
+    ),
+    ("map p.pk R a.bin", "", "refused NoSuchType\n"),
+    ("map none.pk P a.bin", "", "fault Read\n"),
+    ("map p.pk P none", "", "fault Open\n"),
+    (
+        "each p.pk P a.bin none b.bin",
+        "a.bin\t0\tP {a=1UB,b=515UH}\nnone\t3\tfault Open\nb.bin\t1\tfault End at 8#b\n",
+        "",
+    ),
+    (
+        "each --files0-from list p.pk P",
+        "a.bin\t0\tP {a=1UB,b=515UH}\nb.bin\t1\tfault End at 8#b\nnone\t3\tfault Open\n",
+        "",
+    ),
+    ("each --files0-from empty.list p.pk P", "", ""),
+    (
+        "each --files0-from broken.list p.pk P",
+        "a.bin\t0\tP {a=1UB,b=515UH}\n",
+        "fault Read\n",
+    ),
+    ("bound p.pk P 24", "steps 5\nslots 5\n", ""),
+    ("check p.pk", "types 2\n", ""),
+    ("check --mode json p.pk", "{\"accepted\":true}\n", ""),
+    (
+        "dump --no-ruler -n 2 a.bin",
+        "00000000: 0102                                     ..\n",
+        "",
+    ),
+];
+
+// What a job writes, and its line.
+fn answer_of(alloc: Global, line: &str) -> Result<(Vec<u8>, Vec<u8>), Fail> {
+    let mut words = Vec::new(alloc);
+    for word in line.split_ascii_whitespace() {
+        words.push(String::from_str(alloc, word)?)?;
+    }
+    let asked = read_asked(alloc, words)?;
+    let mut out = Vec::new(alloc);
+    let mut told = Vec::new(alloc);
+    let mut reasons = Vec::new(alloc);
+    let mut notes = Notes {
+        text: Vec::new(alloc),
+    };
+    let mut why = Why {
+        text: &mut reasons,
+        asked: asked.why,
+    };
+    let shelf = Shelf { alloc };
+    match run_job(alloc, &shelf, &asked, &mut out, &mut notes, &mut why) {
+        Ok(Some(ending)) => {
+            ending.tell(FaultForm::Text, &mut told);
+        }
+        Ok(None) => return Err(Fail::from("not done")),
+        Err(fault) => {
+            let line = format!(in alloc; "{fault}\n")?;
+            told.extend_from_slice(line.as_bytes())?;
+        }
+    }
+    Ok((out, told))
+}
+
+#[test]
+fn jobs_write_their_answers(rt: HostRuntime) -> Result<(), Fail> {
+    for (line, out, told) in ROWS {
+        let answer = answer_of(rt.alloc(), line)?;
+        assert_eq!(&rt; answer.0.as_slice(), out.as_bytes(), "{line}");
+        assert_eq!(&rt; answer.1.as_slice(), told.as_bytes(), "{line}");
+    }
+    Ok(())
+}
+
+// The reasons of one file among many go aside, after its name.
+#[test]
+fn reasons_go_aside(rt: HostRuntime) -> Result<(), Fail> {
+    let alloc = rt.alloc();
+    let mut words = Vec::new(alloc);
+    for word in ["each", "--why", "p.pk", "P", "none"] {
+        words.push(String::from_str(alloc, word)?)?;
+    }
+    let asked = read_asked(alloc, words)?;
+    let mut out = Vec::new(alloc);
+    let mut reasons = Vec::new(alloc);
+    let mut notes = Notes {
+        text: Vec::new(alloc),
+    };
+    let mut why = Why {
+        text: &mut reasons,
+        asked: asked.why,
+    };
+    let shelf = Shelf { alloc };
+    let _ending = run_job(alloc, &shelf, &asked, &mut out, &mut notes, &mut why)?;
+    assert_eq!(&rt; out.as_slice(), b"none\t3\tfault Open\n".as_slice());
+    assert_eq!(&rt;
+        notes.text.as_slice(),
+        b"none:\n  it isn't on the shelf\n".as_slice()
+    );
+    Ok(())
+}
