@@ -1,10 +1,11 @@
 -- What jobs give to their runs.
 use Rattle.std.specs.Prelude.{ℕ, Bool, List, Option}
 use Rattle.bit_space.specs.SpaceView.{SpaceView}
-use Rattle.jobs.specs.Jobs.{DumpsOver, StopsDump, MapsOver, MapsEach, EndsOfEach}
+use Rattle.jobs.specs.Jobs.{FailsMap, DumpsOver, StopsDump, MapsOver, MapsEach, EndsOfEach}
 use Rattle.jobs.specs.Gives.{Gives}
 use Rattle.jobs.specs.Aims.{aim_of}
 use Rattle.jobs.specs.declared.each.Many.{Many}
+use Rattle.jobs.specs.declared.fault.FileFault.{FileFault}
 use Rattle.jobs.specs.declared.ending.Ending.{Ending}
 use Rattle.jobs.specs.declared.mappings.Target.{Target}
 use Rattle.run_parts.specs.declared.outcome.Outcome.{Outcome}
@@ -38,3 +39,6 @@ MapsMany gives why out out' many = MapsEach gives why out out' many.request.now 
 
 abbrev pub EndsMany : Gives → (why : Bool) → (out out' : Option (List ℕ)) → Many → (pickle : List ℕ) → Ending → Type 0
 EndsMany gives why out out' many pickle = EndsOfEach gives why out out' many.request.now many.names.now pickle
+
+abbrev pub FailsTarget : Gives → Target → FileFault → Type 0
+FailsTarget gives target = FailsMap gives target.pickle.now target.file.now target.mapping.spool

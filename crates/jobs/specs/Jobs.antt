@@ -23,6 +23,9 @@ use Rattle.jobs.specs.Files.{Every, AppendsFiles, WritesRuns, file_form}
 use Rattle.jobs.specs.Gives.{Gives}
 use Rattle.jobs.specs.Names.{AreNamesOf}
 use Rattle.jobs.specs.declared.ending.Ending.{Ending}
+use Rattle.jobs.specs.declared.fault.FileFault.{FileFault}
+use Rattle.jobs.specs.declared.fault.FileFault.TheVariants as fault
+use Rattle.run_parts.specs.declared.dump.DumpFault.{DumpFault}
 use Rattle.jobs.specs.declared.ending.Ending.TheVariants.{Run, Silent}
 use Rattle.pickle_json.specs.Checks.{Answers, AnswersPart}
 use Rattle.pickle_json.specs.TypeObjects.{TypesInJson}
@@ -143,6 +146,18 @@ pub data EndsEach (every : Every) (Done : (out out' : Option (List ℕ)) → Sta
   each_done : {greatest : Status} → Done out out' greatest → EndsEach every Done out out' (Silent greatest)
   each_fails : (why : Failure) → EndsEach every Done out out' (Run (outcome.Failed why))
 
+-- why a mapping isn't run: the pickle isn't read, the file isn't opened, or memory for its pages lacks
+pub data FailsMap (gives : Gives) (word path : List ℕ) (spool : Option ℕ) : FileFault → Type 0 where
+  pickle_fails : {fault : FileFault} → gives.is_unread word fault → FailsMap gives word path spool fault
+  file_fails : {fault : FileFault} → gives.is_unopened path spool fault → FailsMap gives word path spool fault
+  pages_fail : FailsMap gives word path spool fault.Memory
+
+-- why a dump isn't whole: the file isn't opened, memory for its pages lacks, or a read or the output failed
+pub data FailsDump (gives : Gives) (path : List ℕ) : FileFault → Type 0 where
+  file_unopened : {fault : FileFault} → gives.is_unopened path None fault → FailsDump gives path fault
+  no_pages : FailsDump gives path fault.Memory
+  dump_ends : (why : DumpFault) → FailsDump gives path (fault.Dump why)
+
 -- a run ends so, and its line reports it
 abbrev pub Ends : (Outcome → Type 0) → Ending → Type 0
 Ends Holds (Run ended) = Holds ended
@@ -217,3 +232,18 @@ module _ (gives : Gives) (why : Bool) (out out' : Option (List ℕ)) where
   abbrev pub StopsJob : Job → Type 0
   StopsJob (job.Dump from size ruler file) = StopsDump (gives.is_file (string_bytes file) None) from size ruler out out'
   StopsJob job = Keeps out out'
+
+-- why a job fails at a file
+abbrev pub FailsRequest : Gives → Request → Over → FileFault → Type 0
+FailsRequest gives request (File file) = FailsMap gives (string_bytes request.pickle) (string_bytes file) request.spool
+FailsRequest gives request (Files names flush) = gives.is_unread (string_bytes request.pickle)
+
+abbrev pub FailsJob : Gives → Job → FileFault → Type 0
+FailsJob gives (job.Map at order limit mode pickle name file) = FailsMap gives (string_bytes pickle) (string_bytes file) None
+FailsJob gives (job.Request request) = FailsRequest gives request request.over
+FailsJob gives (job.Bound pickle name bits) = gives.is_unread (string_bytes pickle)
+FailsJob gives (job.BoundText pickle name bits mode style) = gives.is_unread (string_bytes pickle)
+FailsJob gives (job.Check pickle) = gives.is_unread (string_bytes pickle)
+FailsJob gives (job.Types pickle) = gives.is_unread (string_bytes pickle)
+FailsJob gives job.Formats = λ fault. ⊥
+FailsJob gives (job.Dump from size ruler file) = FailsDump gives (string_bytes file)

@@ -1,5 +1,5 @@
 //! Answers about a pickle in JSON. They go to standard output, refusals and faults too.
-ghost use Rattle.std.specs.Prelude.{◌≡◌, IfOk, OnErr, OnOk};
+ghost use Rattle.std.specs.Prelude.{◌≡◌, IfOk, IfErr, OnErr, OnOk};
 ghost use Rattle.std.specs.Io.KnownBytes.{Appends, Keeps};
 ghost use Rattle.text_forms.specs.Written.{AppendsPart};
 ghost use Rattle.run_parts.specs.Outcomes.{outcome_status};
@@ -28,6 +28,7 @@ pub fn check_in_json<P: Opener, O: Write>(
 ) -> Result<Ending, FileFault>
     ensures ok { IfOk result (ChecksOver ((P.gives opener.now).is_pickle word.now) explains (O.contents out.old) (O.contents out.new)) }
     ensures err { OnErr result (Keeps (O.contents out.old) (O.contents out.new)) }
+    ensures fault { IfErr result ((P.gives opener.now).is_unread word.now) }
 {
     let pickle = opener.read_pickle(word)?;
     Ok(ending_of(put_check(alloc, &pickle.bytes, explains, out)))
@@ -44,6 +45,7 @@ pub fn types_in_json<P: Opener, O: Write>(
 ) -> Result<Ending, FileFault>
     ensures ok { IfOk result (TypesOver ((P.gives opener.now).is_pickle word.now) explains (O.contents out.old) (O.contents out.new)) }
     ensures err { OnErr result (Keeps (O.contents out.old) (O.contents out.new)) }
+    ensures fault { IfErr result ((P.gives opener.now).is_unread word.now) }
 {
     let pickle = opener.read_pickle(word)?;
     match types_outcome(alloc, &pickle.bytes, out) {

@@ -1,7 +1,8 @@
 //! The job that dumps a file.
-ghost use Rattle.std.specs.Prelude.{◌≡◌, None, IfOk, OnErr, OnOk};
+ghost use Rattle.std.specs.Prelude.{◌≡◌, None, IfOk, IfErr, OnErr, OnOk};
 ghost use Rattle.run_parts.specs.declared.outcome.Outcome.TheVariants.{Done};
 ghost use Rattle.jobs.specs.Given.{DumpsRange, StopsRange};
+ghost use Rattle.jobs.specs.Jobs.{FailsDump};
 
 use crate::fault::FileFault;
 use crate::opener::Opener;
@@ -37,6 +38,7 @@ pub fn dump_file<P: Opener, O: Write>(
     ensures done { IfOk result (λ ended. ended ≡ Done) }
     ensures ok { OnOk result (DumpsRange ((P.gives opener.now).is_file path.now None) range (O.contents out.old) (O.contents out.new)) }
     ensures err { OnErr result (StopsRange ((P.gives opener.now).is_file path.now None) range (O.contents out.old) (O.contents out.new)) }
+    ensures fault { IfErr result (FailsDump (P.gives opener.now) path.now) }
 {
     let mut space = Paged::new(alloc, opener.open(path, None, false)?)?;
     dump(&mut space, range.from, range.size, range.ruler, out)?;

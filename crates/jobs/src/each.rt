@@ -1,5 +1,5 @@
 //! A type of a pickle, mapped over many files, whose names are in the arguments or in a list.
-ghost use Rattle.std.specs.Prelude.{◌≡◌, IfOk, OnErr};
+ghost use Rattle.std.specs.Prelude.{◌≡◌, IfOk, IfErr, OnErr, string_bytes};
 ghost use Rattle.std.specs.Io.KnownBytes.{Keeps};
 ghost use Rattle.jobs.specs.Every.{AppendsNamed, IsTyped, every_of};
 ghost use Rattle.jobs.specs.Files.{greater, rank};
@@ -42,6 +42,7 @@ pub fn map_files<P: Opener, A: Aside, O: Write>(
 ) -> Result<Ending, FileFault>
     ensures ok { IfOk result (MapsMany (P.gives opener.now) why.old.asked (O.contents out.old) (O.contents out.new) many.entry) }
     ensures err { OnErr result (Keeps (O.contents out.old) (O.contents out.new)) }
+    ensures fault { IfErr result ((P.gives opener.now).is_unread (string_bytes many.entry.request.now.pickle)) }
 {
     let mapping = Mapping::of_request(many.request);
     let pickle = opener.read_pickle(&many.request.pickle)?;

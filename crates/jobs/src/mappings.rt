@@ -1,7 +1,7 @@
 //! Mappings of a type of a pickle over a file.
-ghost use Rattle.std.specs.Prelude.{true, IfOk, OnErr};
+ghost use Rattle.std.specs.Prelude.{true, IfOk, IfErr, OnErr};
 ghost use Rattle.std.specs.Io.KnownBytes.{Keeps};
-ghost use Rattle.jobs.specs.Given.{MapsTarget};
+ghost use Rattle.jobs.specs.Given.{FailsTarget, MapsTarget};
 ghost use Rattle.jobs.specs.Jobs.{AddsIf};
 
 use crate::fault::FileFault;
@@ -55,6 +55,7 @@ pub fn map_file<P: Opener, O: Write>(
 ) -> Result<Outcome, FileFault>
     ensures ok { IfOk result (MapsTarget (P.gives opener.now) target.entry why.old.asked (O.contents out.old) (O.contents out.new)) }
     ensures err { OnErr result (Keeps (O.contents out.old) (O.contents out.new)) }
+    ensures fault { IfErr result (FailsTarget (P.gives opener.now) target.entry) }
 {
     let Target { mapping, terms, .. } = target;
     let pickle = opener.read_pickle(target.pickle)?;

@@ -1,5 +1,5 @@
 //! The jobs that read a pickle alone.
-ghost use Rattle.std.specs.Prelude.{◌≡◌, IfOk, OnErr};
+ghost use Rattle.std.specs.Prelude.{◌≡◌, IfOk, IfErr, OnErr};
 ghost use Rattle.std.specs.Io.KnownBytes.{Keeps};
 ghost use Rattle.run_parts.specs.TypesText.{TypesAs};
 ghost use Rattle.poke_batch.specs.Runs.{ChecksAs};
@@ -57,6 +57,7 @@ pub fn check_pickle<P: Opener, O: Write>(
 ) -> Result<Outcome, FileFault>
     ensures ok { IfOk result (EndsOver ((P.gives opener.now).is_pickle word.now) ChecksAs (O.contents out.old) (O.contents out.new)) }
     ensures err { OnErr result (Keeps (O.contents out.old) (O.contents out.new)) }
+    ensures fault { IfErr result ((P.gives opener.now).is_unread word.now) }
 {
     let pickle = opener.read_pickle(word)?;
     let outcome = check_outcome(alloc, &pickle.bytes, out);
@@ -80,6 +81,7 @@ pub fn tell_types<P: Opener, O: Write>(
 ) -> Result<Outcome, FileFault>
     ensures ok { IfOk result (EndsOver ((P.gives opener.now).is_pickle word.now) TypesAs (O.contents out.old) (O.contents out.new)) }
     ensures err { OnErr result (Keeps (O.contents out.old) (O.contents out.new)) }
+    ensures fault { IfErr result ((P.gives opener.now).is_unread word.now) }
 {
     let pickle = opener.read_pickle(word)?;
     let outcome = types_outcome(alloc, &pickle.bytes, out);
@@ -99,6 +101,7 @@ pub fn bound_type<P: Opener, O: Write>(
 ) -> Result<Outcome, FileFault>
     ensures ok { IfOk result (EndsOver ((P.gives opener.now).is_pickle word.now) (bounds_of of.entry) (O.contents out.old) (O.contents out.new)) }
     ensures err { OnErr result (Keeps (O.contents out.old) (O.contents out.new)) }
+    ensures fault { IfErr result ((P.gives opener.now).is_unread word.now) }
 {
     let pickle = opener.read_pickle(word)?;
     let outcome = bound_outcome(alloc, &pickle.bytes, of.name, of.bits, out);
@@ -120,6 +123,7 @@ pub fn bound_text<P: Opener, O: Write>(
     ensures ok { IfOk result (EndsOver ((P.gives opener.now).is_pickle word.now) (text_bounds_of of.entry form)
         (O.contents out.old) (O.contents out.new)) }
     ensures err { OnErr result (Keeps (O.contents out.old) (O.contents out.new)) }
+    ensures fault { IfErr result ((P.gives opener.now).is_unread word.now) }
 {
     let pickle = opener.read_pickle(word)?;
     let bytes = &pickle.bytes;

@@ -1,7 +1,7 @@
 //! A job, done over an opener and a writer.
-ghost use Rattle.std.specs.Prelude.{IfOk, OnErr};
+ghost use Rattle.std.specs.Prelude.{IfOk, IfErr, OnErr};
 ghost use Rattle.std.specs.Io.KnownBytes.{Keeps};
-ghost use Rattle.jobs.specs.Jobs.{ChecksIn, IfDone, MapsRequest, StopsJob, TypesIn};
+ghost use Rattle.jobs.specs.Jobs.{ChecksIn, FailsJob, FailsRequest, IfDone, MapsRequest, StopsJob, TypesIn};
 
 use crate::answers::{check_in_json, types_in_json};
 use crate::aside::Aside;
@@ -39,6 +39,7 @@ pub fn run_job<P: Opener, O: Write, A: Aside>(
         (O.contents out.old) (O.contents out.new) asked.now) }
     ensures stops { OnErr result (StopsJob (P.gives opener.now) why.old.asked
         (O.contents out.old) (O.contents out.new) asked.now.job) }
+    ensures fault { IfErr result (FailsJob (P.gives opener.now) asked.now.job) }
 {
     let outcome = match &asked.job {
         Job::Map {
@@ -122,6 +123,7 @@ fn map_request<P: Opener, O: Write, A: Aside>(
     ensures done { IfOk result (MapsRequest (P.gives opener.now) why.old.asked
         (O.contents out.old) (O.contents out.new) request.now request.now.over) }
     ensures stops { OnErr result (Keeps (O.contents out.old) (O.contents out.new)) }
+    ensures fault { IfErr result (FailsRequest (P.gives opener.now) request.now request.now.over) }
 {
     match &request.over {
         Over::File(file) => {
@@ -156,6 +158,7 @@ fn check_job<P: Opener, O: Write>(
     ensures done { IfOk result (ChecksIn ((P.gives opener.now).is_pickle pickle.now) why.old.asked
         (O.contents out.old) (O.contents out.new) form) }
     ensures stops { OnErr result (Keeps (O.contents out.old) (O.contents out.new)) }
+    ensures fault { IfErr result ((P.gives opener.now).is_unread pickle.now) }
 {
     match form {
         AnswerForm::Text => Ok(Ending::Run(check_pickle(alloc, opener, pickle, out, why)?)),
@@ -175,6 +178,7 @@ fn types_job<P: Opener, O: Write>(
     ensures done { IfOk result (TypesIn ((P.gives opener.now).is_pickle pickle.now) why.old.asked
         (O.contents out.old) (O.contents out.new) form) }
     ensures stops { OnErr result (Keeps (O.contents out.old) (O.contents out.new)) }
+    ensures fault { IfErr result ((P.gives opener.now).is_unread pickle.now) }
 {
     match form {
         AnswerForm::Text => Ok(Ending::Run(tell_types(alloc, opener, pickle, out, why)?)),

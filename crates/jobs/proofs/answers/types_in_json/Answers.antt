@@ -31,4 +31,5 @@ returns g c = record {
         c.report_in_json.ensures;
   };
   err = tt;
+  fault = tt;
 }
