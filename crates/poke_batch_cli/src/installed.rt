@@ -142,14 +142,14 @@ fn tell_folder(folder: &str, text: &mut Vec<u8>) -> Result<(), AllocError> {
     Ok(())
 }
 
-/// If a path names no file, but with a `+` before it an installed pickle, adds that.
+/// If a path names no file, but with a `+` before it an installed pickle, adds that. The path may end as a pickle's does.
 pub fn tell_installed<R: Files + Env + AllocGlobal>(
     rt: &R,
     path: &str,
     text: &mut Vec<u8>,
 ) -> Result<(), FileFault> {
     let mut word = String::from_str(rt.alloc(), "+")?;
-    word.push_str(path)?;
+    word.push_str(path.strip_suffix(ENDING).unwrap_or(path))?;
     if fs::metadata(rt, path).is_ok() || !names_installed(word.as_str()) {
         return Ok(());
     }
@@ -179,7 +179,14 @@ fn tell_near(
     for other in names {
         among.push(other.as_bytes())?;
     }
-    match nearest(alloc, name.as_bytes(), among.as_slice())? {
+    let near = match among
+        .iter()
+        .find(|other| other.eq_ignore_ascii_case(name.as_bytes()))
+    {
+        Some(same) => Some(*same),
+        None => nearest(alloc, name.as_bytes(), among.as_slice())?,
+    };
+    match near {
         Some(other) => {
             text.extend_from_slice(b"  is +")?;
             text.extend_from_slice(other)?;
