@@ -10,6 +10,11 @@ use poke_batch::words::{Asked, Job};
 /// The line that says it.
 const HINT: &[u8] = b"(--why tells more)\n";
 
+/// Whether a job's command has no option `--why`.
+pub fn lacks_why(job: &Job) -> bool {
+    matches!(job, Job::Formats | Job::Dump { .. })
+}
+
 /// Whether a job has the option `--why`, which wasn't given, and prints the line of its ending in words.
 pub fn takes_why(asked: &Asked) -> bool {
     if asked.why {

@@ -20,7 +20,7 @@ use arrayvec::ArrayVec;
 use command_words::request::{FileNames, Over};
 use formats::tell_main;
 use given::{given_words, stands_for};
-use hints::{has_more, hint, takes_why};
+use hints::{has_more, hint, lacks_why, takes_why};
 use job::do_job;
 use jobs::Ending;
 use looks::give_look;
@@ -108,6 +108,8 @@ fn read_job(rt: &HostRuntime) -> Result<Asked, WordFault> {
     }
     let mut asked = read?;
     asked.why |= always_explains(rt);
+    // A command without `--why` tells somebody at a terminal anyway.
+    asked.why |= lacks_why(&asked.job) && rt.stderr().is_terminal();
     give_look(rt, &rt.stdout(), &mut asked);
     // What a dump leaves out is told to somebody at a terminal only.
     asked.default_size &= rt.stderr().is_terminal();
