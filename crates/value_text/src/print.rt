@@ -116,8 +116,8 @@ impl<W: Write> Printer<'_, W> {
         ensures { Puts W.contents self.old self.new (cell style mode (typed_shown value.entry)) }
     {
         match mode {
-            Mode::Json => self.put_json_value(style, value),
-            _ => self.put_value(style, value),
+            Mode::Json => self.put_json_value(&style, &value),
+            _ => self.put_value(&style, &value),
         }
     }
 
@@ -132,10 +132,10 @@ impl<W: Write> Printer<'_, W> {
         ensures { Puts W.contents self.old self.new (styled style mode (typed_shown value.entry)) }
     {
         match mode {
-            Mode::Flat => self.put_flat(style, value),
-            Mode::Tree => self.put_tree(style, value),
-            Mode::Json => self.put_json(style, value),
-            Mode::Lines => self.put_lines(style, value),
+            Mode::Flat => self.put_flat(&style, &value),
+            Mode::Tree => self.put_tree(&style, value),
+            Mode::Json => self.put_json(&style, &value),
+            Mode::Lines => self.put_lines(&style, &value),
         }
     }
 }

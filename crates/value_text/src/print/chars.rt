@@ -18,8 +18,8 @@ use value_store::value::Members;
 impl<W: Write> Printer<'_, W> {
     /// Writes the bytes of a string or of an array of chars, in double quotes.
     #[inline(never)]
-    pub fn put_text(&mut self, escapes: Escapes, value: Typed<'_>)
-        ensures { Puts W.contents self.old self.new (quoted_by escapes (bytes_of (label_of (typed_shown value.entry)))) }
+    pub fn put_text(&mut self, escapes: Escapes, value: &Typed<'_>)
+        ensures { Puts W.contents self.old self.new (quoted_by escapes (bytes_of (label_of (typed_shown value.now)))) }
     {
         if value.is_of_chars() {
             self.put_char_text(escapes, value);
@@ -29,16 +29,16 @@ impl<W: Write> Printer<'_, W> {
     }
 
     // Writes the elements of an array as chars in double quotes, without the zero bytes at its end.
-    fn put_char_text(&mut self, escapes: Escapes, array: Typed<'_>)
-        ensures { Puts W.contents self.old self.new (quoted_by escapes (trimmed (chars_in (members_of (mapped_in array.entry))))) }
+    fn put_char_text(&mut self, escapes: Escapes, array: &Typed<'_>)
+        ensures { Puts W.contents self.old self.new (quoted_by escapes (trimmed (chars_in (members_of (mapped_in array.now))))) }
     {
         self.put(b"\"");
         self.put_chars(escapes, array);
         self.put(b"\"");
     }
 
-    fn put_chars(&mut self, escapes: Escapes, array: Typed<'_>)
-        ensures { Puts W.contents self.old self.new (spelled_by escapes (trimmed (chars_in (members_of (mapped_in array.entry))))) }
+    fn put_chars(&mut self, escapes: Escapes, array: &Typed<'_>)
+        ensures { Puts W.contents self.old self.new (spelled_by escapes (trimmed (chars_in (members_of (mapped_in array.now))))) }
     {
         let value = array.value();
         let elements = value.members();

@@ -11,8 +11,8 @@ use value_store::Kind;
 /// The most members that are printed of a value; None if it has no limit.
 #[tactic(auto, using(crate::proofs::Cuts::by_kind))]
 #[inline(always)]
-pub fn limit_of(style: Style, value: Typed<'_>) -> Option<u64>
-    ensures { result ≡ limit_of style (label_of (typed_shown value.entry)) }
+pub fn limit_of(style: &Style, value: &Typed<'_>) -> Option<u64>
+    ensures { result ≡ limit_of style.now (label_of (typed_shown value.now)) }
 {
     match value.kind() {
         Kind::Array => style.elements,

@@ -26,8 +26,8 @@ use value_store::ranges::with_sign;
 impl<W: Write> Printer<'_, W> {
     /// Writes a value and a line feed.
     #[tactic(auto, using(crate::proofs::Puts::puts))]
-    pub fn put_flat(&mut self, style: Style, value: Typed<'_>)
-        ensures { Puts W.contents self.old self.new (styled_flat style (typed_shown value.entry)) }
+    pub fn put_flat(&mut self, style: &Style, value: &Typed<'_>)
+        ensures { Puts W.contents self.old self.new (styled_flat style.now (typed_shown value.now)) }
     {
         self.put_value(style, value);
         self.put(b"\n");
@@ -38,8 +38,8 @@ impl<W: Write> Printer<'_, W> {
     #[tactic(auto, using(crate::proofs::StyledTexts::by_kind))]
     #[inline(always)]
     #[cycle(flat)]
-    pub fn put_value(&mut self, style: Style, value: Typed<'_>)
-        ensures { Puts W.contents self.old self.new (styled_value style (typed_shown value.entry)) }
+    pub fn put_value(&mut self, style: &Style, value: &Typed<'_>)
+        ensures { Puts W.contents self.old self.new (styled_value style.now (typed_shown value.now)) }
     {
         match value.kind() {
             Kind::Integer => self.put_integer(style.numbers, type_of(value), value.number()),
@@ -56,8 +56,8 @@ impl<W: Write> Printer<'_, W> {
     #[tactic(auto, using(crate::proofs::Puts::puts))]
     #[inline(never)]
     #[cycle(flat)]
-    fn put_array(&mut self, style: Style, value: Typed<'_>)
-        ensures { Puts W.contents self.old self.new (array_text style (typed_shown value.entry)) }
+    fn put_array(&mut self, style: &Style, value: &Typed<'_>)
+        ensures { Puts W.contents self.old self.new (array_text style.now (typed_shown value.now)) }
     {
         self.put(b"[");
         self.put_elements(style, value);
@@ -66,8 +66,8 @@ impl<W: Write> Printer<'_, W> {
 
     // Writes the elements of an array, which have no names.
     #[cycle(flat)]
-    fn put_elements(&mut self, style: Style, value: Typed<'_>)
-        ensures { Puts W.contents self.old self.new (elements_text style (typed_shown value.entry)) }
+    fn put_elements(&mut self, style: &Style, value: &Typed<'_>)
+        ensures { Puts W.contents self.old self.new (elements_text style.now (typed_shown value.now)) }
     {
         let elements = Parts::new(value);
         if is_cut(style.elements, elements.len()) {
@@ -84,8 +84,8 @@ impl<W: Write> Printer<'_, W> {
 
     // Writes elements, each by its kind, and how many are left out.
     #[cycle(flat)]
-    fn put_each(&mut self, style: Style, value: Typed<'_>)
-        ensures { Puts W.contents self.old self.new (elements_text style (typed_shown value.entry)) }
+    fn put_each(&mut self, style: &Style, value: &Typed<'_>)
+        ensures { Puts W.contents self.old self.new (elements_text style.now (typed_shown value.now)) }
     {
         let elements = Parts::new(value);
         let count = elements.len();
@@ -96,7 +96,7 @@ impl<W: Write> Printer<'_, W> {
                 return;
             }
             if let Some(element) = elements.get(place) {
-                self.put_member(style, first, None, element);
+                self.put_member(style, first, None, &element);
                 first = false;
             }
         }
@@ -104,10 +104,10 @@ impl<W: Write> Printer<'_, W> {
     }
 
     // Writes the elements of an array of integers of one type, which is read once.
-    fn put_row(&mut self, style: Style, value: Typed<'_>, number: IntegerType)
-        requires integers { AreIntegersOf number (members_of (typed_shown value)) }
-        requires whole { is_cut style.elements (member_count (members_of (typed_shown value))) ≡ false }
-        ensures { Puts W.contents self.old self.new (elements_text style (typed_shown value.entry)) }
+    fn put_row(&mut self, style: &Style, value: &Typed<'_>, number: IntegerType)
+        requires integers { AreIntegersOf number (members_of (typed_shown value.now)) }
+        requires whole { is_cut style.now.elements (member_count (members_of (typed_shown value.now))) ≡ false }
+        ensures { Puts W.contents self.old self.new (elements_text style.now (typed_shown value.now)) }
     {
         let elements = Parts::new(value);
         let mut first = true;
@@ -175,8 +175,8 @@ impl<W: Write> Printer<'_, W> {
     #[tactic(auto, using(crate::proofs::Puts::puts))]
     #[inline(never)]
     #[cycle(flat)]
-    fn put_titled(&mut self, style: Style, value: Typed<'_>, sort: &[u8])
-        ensures { Puts W.contents self.old self.new (titled_text style sort.now (typed_shown value.entry)) }
+    fn put_titled(&mut self, style: &Style, value: &Typed<'_>, sort: &[u8])
+        ensures { Puts W.contents self.old self.new (titled_text style.now sort.now (typed_shown value.now)) }
     {
         self.put_title(sort, value.type_name());
         self.put(b" {");
@@ -185,8 +185,8 @@ impl<W: Write> Printer<'_, W> {
     }
 
     #[cycle(flat)]
-    fn put_members(&mut self, style: Style, value: Typed<'_>)
-        ensures { Puts W.contents self.old self.new (all_members_text style (typed_shown value.entry)) }
+    fn put_members(&mut self, style: &Style, value: &Typed<'_>)
+        ensures { Puts W.contents self.old self.new (all_members_text style.now (typed_shown value.now)) }
     {
         let members = Parts::new(value);
         let names = value.member_names();
@@ -196,7 +196,7 @@ impl<W: Write> Printer<'_, W> {
                 return;
             }
             if let Some(member) = members.get(place) {
-                self.put_member(style, first, names.get(place), member);
+                self.put_member(style, first, names.get(place), &member);
                 first = false;
             }
         }
@@ -205,8 +205,8 @@ impl<W: Write> Printer<'_, W> {
     #[tactic(auto, using(crate::proofs::Puts::puts))]
     #[inline(always)]
     #[cycle(flat)]
-    fn put_member(&mut self, style: Style, first: bool, name: Option<&[u8]>, member: Typed<'_>)
-        ensures { Puts W.contents self.old self.new (lent_member style first name.entry member.entry) }
+    fn put_member(&mut self, style: &Style, first: bool, name: Option<&[u8]>, member: &Typed<'_>)
+        ensures { Puts W.contents self.old self.new (lent_member style.now first name.entry member.now) }
     {
         self.put_start(first, name);
         self.put_value(style, member);

@@ -22,8 +22,8 @@ use value_store::Kind;
 impl<W: Write> Printer<'_, W> {
     /// Writes a value in JSON, and a line feed.
     #[tactic(auto, using(crate::proofs::Puts::puts))]
-    pub fn put_json(&mut self, style: Style, value: Typed<'_>)
-        ensures { Puts W.contents self.old self.new (styled_json_line style (typed_shown value.entry)) }
+    pub fn put_json(&mut self, style: &Style, value: &Typed<'_>)
+        ensures { Puts W.contents self.old self.new (styled_json_line style.now (typed_shown value.now)) }
     {
         self.put_json_value(style, value);
         self.put(b"\n");
@@ -34,8 +34,8 @@ impl<W: Write> Printer<'_, W> {
     #[tactic(auto, using(crate::proofs::JsonTexts::by_kind))]
     #[inline(always)]
     #[cycle(json)]
-    pub fn put_json_value(&mut self, style: Style, value: Typed<'_>)
-        ensures { Puts W.contents self.old self.new (styled_json style (typed_shown value.entry)) }
+    pub fn put_json_value(&mut self, style: &Style, value: &Typed<'_>)
+        ensures { Puts W.contents self.old self.new (styled_json style.now (typed_shown value.now)) }
     {
         match value.kind() {
             Kind::Integer => self.put_json_number(style.numbers, value.number()),
@@ -84,8 +84,8 @@ impl<W: Write> Printer<'_, W> {
     #[tactic(auto, using(crate::proofs::Puts::puts))]
     #[inline(never)]
     #[cycle(json)]
-    fn put_json_array(&mut self, style: Style, value: Typed<'_>)
-        ensures { Puts W.contents self.old self.new (array_json style (typed_shown value.entry)) }
+    fn put_json_array(&mut self, style: &Style, value: &Typed<'_>)
+        ensures { Puts W.contents self.old self.new (array_json style.now (typed_shown value.now)) }
     {
         self.put(b"[");
         self.put_json_elements(style, value);
@@ -93,8 +93,8 @@ impl<W: Write> Printer<'_, W> {
     }
 
     #[cycle(json)]
-    fn put_json_elements(&mut self, style: Style, value: Typed<'_>)
-        ensures { Puts W.contents self.old self.new (elements_json style (typed_shown value.entry)) }
+    fn put_json_elements(&mut self, style: &Style, value: &Typed<'_>)
+        ensures { Puts W.contents self.old self.new (elements_json style.now (typed_shown value.now)) }
     {
         let elements = Parts::new(value);
         let count = elements.len();
@@ -105,7 +105,7 @@ impl<W: Write> Printer<'_, W> {
                 return;
             }
             if let Some(element) = elements.get(place) {
-                self.put_json_element(style, first, element);
+                self.put_json_element(style, first, &element);
                 first = false;
             }
         }
@@ -138,8 +138,8 @@ impl<W: Write> Printer<'_, W> {
     #[tactic(auto, using(crate::proofs::Puts::puts))]
     #[inline(always)]
     #[cycle(json)]
-    fn put_json_element(&mut self, style: Style, first: bool, element: Typed<'_>)
-        ensures { Puts W.contents self.old self.new (element_json style first (typed_shown element.entry)) }
+    fn put_json_element(&mut self, style: &Style, first: bool, element: &Typed<'_>)
+        ensures { Puts W.contents self.old self.new (element_json style.now first (typed_shown element.now)) }
     {
         self.put_comma(first);
         self.put_json_value(style, element);
@@ -149,8 +149,8 @@ impl<W: Write> Printer<'_, W> {
     #[tactic(auto, using(crate::proofs::Puts::puts))]
     #[inline(never)]
     #[cycle(json)]
-    fn put_object(&mut self, style: Style, value: Typed<'_>)
-        ensures { Puts W.contents self.old self.new (object_json style (typed_shown value.entry)) }
+    fn put_object(&mut self, style: &Style, value: &Typed<'_>)
+        ensures { Puts W.contents self.old self.new (object_json style.now (typed_shown value.now)) }
     {
         self.put(b"{");
         self.put_fields(style, value);
@@ -158,8 +158,8 @@ impl<W: Write> Printer<'_, W> {
     }
 
     #[cycle(json)]
-    fn put_fields(&mut self, style: Style, value: Typed<'_>)
-        ensures { Puts W.contents self.old self.new (fields_json style (typed_shown value.entry)) }
+    fn put_fields(&mut self, style: &Style, value: &Typed<'_>)
+        ensures { Puts W.contents self.old self.new (fields_json style.now (typed_shown value.now)) }
     {
         let fields = Parts::new(value);
         let mut first = true;
@@ -168,7 +168,7 @@ impl<W: Write> Printer<'_, W> {
                 return;
             }
             if let Some(field) = fields.get(place) {
-                self.put_field(style, first, value, place, field);
+                self.put_field(style, first, value, place, &field);
                 first = false;
             }
         }
@@ -180,13 +180,13 @@ impl<W: Write> Printer<'_, W> {
     #[cycle(json)]
     fn put_field(
         &mut self,
-        style: Style,
+        style: &Style,
         first: bool,
-        value: Typed<'_>,
+        value: &Typed<'_>,
         place: usize,
-        field: Typed<'_>,
+        field: &Typed<'_>,
     )
-        ensures { Puts W.contents self.old self.new (field_json style first value.entry place field.entry) }
+        ensures { Puts W.contents self.old self.new (field_json style.now first value.now place field.now) }
     {
         self.put_key(first, value, place);
         self.put_json_value(style, field);
@@ -194,8 +194,8 @@ impl<W: Write> Printer<'_, W> {
 
     // Writes the key of the part at a place, after a comma unless it is the first.
     #[inline(always)]
-    fn put_key(&mut self, first: bool, value: Typed<'_>, place: usize)
-        ensures { Puts W.contents self.old self.new (start_json first value.entry place) }
+    fn put_key(&mut self, first: bool, value: &Typed<'_>, place: usize)
+        ensures { Puts W.contents self.old self.new (start_json first value.now place) }
     {
         match value.field_name(place) {
             Some(name) => self.put_name_key(first, name),

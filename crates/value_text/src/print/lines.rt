@@ -17,8 +17,8 @@ use std::io::Write;
 
 impl<W: Write> Printer<'_, W> {
     /// Writes a line for each part of a value that has no parts itself: its path, start, size and text.
-    pub fn put_lines(&mut self, style: Style, value: Typed<'_>)
-        ensures { Puts W.contents self.old self.new (styled_part_lines style (typed_shown value.entry)) }
+    pub fn put_lines(&mut self, style: &Style, value: &Typed<'_>)
+        ensures { Puts W.contents self.old self.new (styled_part_lines style.now (typed_shown value.now)) }
     {
         self.put_leaves(style, &Steps::Start, value)
     }
@@ -26,8 +26,8 @@ impl<W: Write> Printer<'_, W> {
     // Writes the lines of a value to which steps lead.
     #[inline(always)]
     #[cycle(lines)]
-    fn put_leaves(&mut self, style: Style, steps: &Steps<'_>, value: Typed<'_>)
-        ensures { Puts W.contents self.old self.new (leaves_at style steps.now value.entry) }
+    fn put_leaves(&mut self, style: &Style, steps: &Steps<'_>, value: &Typed<'_>)
+        ensures { Puts W.contents self.old self.new (leaves_at style.now steps.now value.now) }
     {
         if is_parted(value) {
             self.put_branches(style, steps, value)
@@ -39,8 +39,8 @@ impl<W: Write> Printer<'_, W> {
     // Writes the lines of the parts of a value.
     #[inline(never)]
     #[cycle(lines)]
-    fn put_branches(&mut self, style: Style, steps: &Steps<'_>, value: Typed<'_>)
-        ensures { Puts W.contents self.old self.new (branches_at style steps.now value.entry) }
+    fn put_branches(&mut self, style: &Style, steps: &Steps<'_>, value: &Typed<'_>)
+        ensures { Puts W.contents self.old self.new (branches_at style.now steps.now value.now) }
     {
         let parts = Parts::new(value);
         let count = parts.len();
@@ -50,7 +50,7 @@ impl<W: Write> Printer<'_, W> {
                 return;
             }
             if let Some(part) = parts.get(place) {
-                self.put_branch(style, steps, step_to(value, place), part);
+                self.put_branch(style, steps, step_to(value, place), &part);
             }
         }
         if kept < count {
@@ -61,8 +61,8 @@ impl<W: Write> Printer<'_, W> {
     // Writes the lines of a part, whose path has one more step.
     #[inline(always)]
     #[cycle(lines)]
-    fn put_branch(&mut self, style: Style, steps: &Steps<'_>, step: Step<'_>, part: Typed<'_>)
-        ensures { Puts W.contents self.old self.new (branch_at style steps.now step.entry part.entry) }
+    fn put_branch(&mut self, style: &Style, steps: &Steps<'_>, step: Step<'_>, part: &Typed<'_>)
+        ensures { Puts W.contents self.old self.new (branch_at style.now steps.now step.entry part.now) }
     {
         self.put_leaves(style, &Steps::Then(&*steps, step), part)
     }
@@ -70,8 +70,8 @@ impl<W: Write> Printer<'_, W> {
     // Writes the line of a part.
     #[tactic(auto, using(crate::proofs::Puts::puts))]
     #[inline(never)]
-    fn put_leaf(&mut self, style: Style, steps: &Steps<'_>, value: Typed<'_>)
-        ensures { Puts W.contents self.old self.new (leaf_at style steps.now value.entry) }
+    fn put_leaf(&mut self, style: &Style, steps: &Steps<'_>, value: &Typed<'_>)
+        ensures { Puts W.contents self.old self.new (leaf_at style.now steps.now value.now) }
     {
         self.put_path(steps);
         self.put_place_cells(value);
@@ -81,9 +81,9 @@ impl<W: Write> Printer<'_, W> {
     // Writes the line of the elements that are left out of an array from a place on.
     #[tactic(auto, using(crate::proofs::Puts::puts))]
     #[inline(never)]
-    fn put_more_leaf(&mut self, steps: &Steps<'_>, value: Typed<'_>, place: usize, left: usize)
-        requires { place < member_count (members_of (typed_shown value)) }
-        ensures { Puts W.contents self.old self.new (more_leaf_at steps.now value.entry place left) }
+    fn put_more_leaf(&mut self, steps: &Steps<'_>, value: &Typed<'_>, place: usize, left: usize)
+        requires { place < member_count (members_of (typed_shown value.now)) }
+        ensures { Puts W.contents self.old self.new (more_leaf_at steps.now value.now place left) }
     {
         self.put_steps(steps);
         self.put_more_step(place);
@@ -105,8 +105,8 @@ impl<W: Write> Printer<'_, W> {
 
     // Writes where the elements of an array from a bit on are.
     #[tactic(auto, using(crate::proofs::Puts::puts))]
-    fn put_more_cells(&mut self, value: Typed<'_>, from: u64)
-        ensures { Puts W.contents self.old self.new (more_cells (typed_shown value.entry) from) }
+    fn put_more_cells(&mut self, value: &Typed<'_>, from: u64)
+        ensures { Puts W.contents self.old self.new (more_cells (typed_shown value.now) from) }
     {
         self.put_bits(from);
         self.put_bits(size_from(value, from));
@@ -115,8 +115,8 @@ impl<W: Write> Printer<'_, W> {
     // Writes where a value starts and how large it is.
     #[tactic(auto, using(crate::proofs::Puts::puts))]
     #[inline(always)]
-    fn put_place_cells(&mut self, value: Typed<'_>)
-        ensures { Puts W.contents self.old self.new (place_cells (typed_shown value.entry)) }
+    fn put_place_cells(&mut self, value: &Typed<'_>)
+        ensures { Puts W.contents self.old self.new (place_cells (typed_shown value.now)) }
     {
         self.put_bits(value.start());
         self.put_bits(value.size());
@@ -124,8 +124,8 @@ impl<W: Write> Printer<'_, W> {
 
     #[tactic(auto, using(crate::proofs::Puts::puts))]
     #[inline(always)]
-    fn put_text_cell(&mut self, style: Style, value: Typed<'_>)
-        ensures { Puts W.contents self.old self.new (styled_text_cell style (typed_shown value.entry)) }
+    fn put_text_cell(&mut self, style: &Style, value: &Typed<'_>)
+        ensures { Puts W.contents self.old self.new (styled_text_cell style.now (typed_shown value.now)) }
     {
         self.put(b"\t");
         self.put_value(style, value);
@@ -135,14 +135,14 @@ impl<W: Write> Printer<'_, W> {
 
 // Whether the lines of a value are those of its parts.
 #[inline(always)]
-fn is_parted(value: Typed<'_>) -> bool
-    ensures { result ≡ is_parted (label_of (typed_shown value.entry)) (members_of (typed_shown value.entry)) }
+fn is_parted(value: &Typed<'_>) -> bool
+    ensures { result ≡ is_parted (label_of (typed_shown value.now)) (members_of (typed_shown value.now)) }
 {
     has_parts(value.kind()) && any_present(value)
 }
 
-fn any_present(value: Typed<'_>) -> bool
-    ensures { result ≡ any_present (members_of (typed_shown value.entry)) }
+fn any_present(value: &Typed<'_>) -> bool
+    ensures { result ≡ any_present (members_of (typed_shown value.now)) }
 {
     let members = Parts::new(value);
     for place in 0..members.len() {
@@ -154,9 +154,9 @@ fn any_present(value: Typed<'_>) -> bool
 }
 
 // The bit at which the element at a place starts, or the array if the element is absent.
-fn start_at(value: Typed<'_>, place: usize) -> u64
-    requires { place < member_count (members_of (typed_shown value)) }
-    ensures { result ≡ start_from (typed_shown value.entry) place }
+fn start_at(value: &Typed<'_>, place: usize) -> u64
+    requires { place < member_count (members_of (typed_shown value.now)) }
+    ensures { result ≡ start_from (typed_shown value.now) place }
 {
     match Parts::new(value).get(place) {
         Some(element) => element.start(),
@@ -165,8 +165,8 @@ fn start_at(value: Typed<'_>, place: usize) -> u64
 }
 
 // The size of a value, in bits, without what is before a bit of it.
-fn size_from(value: Typed<'_>, from: u64) -> u64
-    ensures { result ≡ end_of (typed_shown value.entry) - start_of (typed_shown value.entry) - (from - start_of (typed_shown value.entry)) }
+fn size_from(value: &Typed<'_>, from: u64) -> u64
+    ensures { result ≡ end_of (typed_shown value.now) - start_of (typed_shown value.now) - (from - start_of (typed_shown value.now)) }
 {
     value
         .size()

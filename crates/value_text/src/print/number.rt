@@ -19,8 +19,8 @@ use pickle_types::integer::IntegerType;
 use std::io::Write;
 
 /// The type of an integer, or of an offset's magnitude.
-pub fn type_of(value: Typed<'_>) -> IntegerType
-    ensures { result ≡ type_of (label_of (typed_shown value.entry)) }
+pub fn type_of(value: &Typed<'_>) -> IntegerType
+    ensures { result ≡ type_of (label_of (typed_shown value.now)) }
 {
     IntegerType {
         width: value.width(),

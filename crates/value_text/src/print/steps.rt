@@ -32,8 +32,8 @@ pub enum Steps<'a> {
 /// The step from a value to its part at a place.
 #[tactic(auto, using(crate::proofs::Paths::by_kind))]
 #[inline(always)]
-pub fn step_to(value: Typed<'_>, place: usize) -> Step<'_>
-    ensures { text_of result ≡ step_text (label_of (typed_shown value.entry)) place }
+pub fn step_to<'a>(value: &Typed<'a>, place: usize) -> Step<'a>
+    ensures { text_of result ≡ step_text (label_of (typed_shown value.now)) place }
 {
     match value.kind() {
         Kind::Array => Step::Element(place),
@@ -42,8 +42,8 @@ pub fn step_to(value: Typed<'_>, place: usize) -> Step<'_>
 }
 
 #[inline(always)]
-fn step_to_field(value: Typed<'_>, place: usize) -> Step<'_>
-    ensures { text_of result ≡ field_step (member_name (label_of (typed_shown value.entry)) place) place }
+fn step_to_field<'a>(value: &Typed<'a>, place: usize) -> Step<'a>
+    ensures { text_of result ≡ field_step (member_name (label_of (typed_shown value.now)) place) place }
 {
     match value.field_name(place) {
         Some(name) => Step::Field(name),

@@ -28,10 +28,10 @@ const LEVELS: u128 = 32;
 impl<W: Write> Printer<'_, W> {
     /// Writes the line of a value, and below it the lines of its parts.
     #[tactic(auto, using(crate::proofs::LineTexts::tree_rest))]
-    pub fn put_tree(&mut self, style: Style, value: Typed<'_>)
-        ensures { Puts W.contents self.old self.new (styled_tree style (typed_shown value.entry)) }
+    pub fn put_tree(&mut self, style: &Style, value: Typed<'_>)
+        ensures { Puts W.contents self.old self.new (styled_tree style.now (typed_shown value.entry)) }
     {
-        self.put_rest(style, 0, value)
+        self.put_rest(style, 0, &value)
     }
 
     // Writes the line of a value at a level from its head on, and the lines below it. Inlined, so that a part that is
@@ -40,9 +40,9 @@ impl<W: Write> Printer<'_, W> {
     #[tactic(auto, using(crate::proofs::Puts::puts))]
     #[inline(always)]
     #[cycle(tree)]
-    fn put_rest(&mut self, style: Style, level: u128, value: Typed<'_>)
-        requires { level + rank_of (value_in value) ≤ 2 ^ 64 }
-        ensures { Puts W.contents self.old self.new (rest_text style level (typed_shown value.entry)) }
+    fn put_rest(&mut self, style: &Style, level: u128, value: &Typed<'_>)
+        requires { level + rank_of (value_in value.now) ≤ 2 ^ 64 }
+        ensures { Puts W.contents self.old self.new (rest_text style.now level (typed_shown value.now)) }
     {
         self.put_head(style, value);
         self.put(b"\n");
@@ -51,8 +51,8 @@ impl<W: Write> Printer<'_, W> {
 
     #[tactic(auto, using(crate::proofs::LineTexts::by_kind))]
     #[inline(always)]
-    fn put_head(&mut self, style: Style, value: Typed<'_>)
-        ensures { Puts W.contents self.old self.new (head_of style (typed_shown value.entry)) }
+    fn put_head(&mut self, style: &Style, value: &Typed<'_>)
+        ensures { Puts W.contents self.old self.new (head_of style.now (typed_shown value.now)) }
     {
         match value.kind() {
             Kind::Integer => self.put_integer(style.numbers, type_of(value), value.number()),
@@ -68,9 +68,9 @@ impl<W: Write> Printer<'_, W> {
 
     #[inline(always)]
     #[cycle(tree)]
-    fn put_below(&mut self, style: Style, level: u128, value: Typed<'_>)
-        requires { level + rank_of (value_in value) ≤ 2 ^ 64 }
-        ensures { Puts W.contents self.old self.new (below_text style level (typed_shown value.entry)) }
+    fn put_below(&mut self, style: &Style, level: u128, value: &Typed<'_>)
+        requires { level + rank_of (value_in value.now) ≤ 2 ^ 64 }
+        ensures { Puts W.contents self.old self.new (below_text style.now level (typed_shown value.now)) }
     {
         if has_parts(value.kind()) {
             self.put_parts(style, level, value);
@@ -80,9 +80,9 @@ impl<W: Write> Printer<'_, W> {
     // Writes the lines of the parts of a value at a level.
     #[inline(never)]
     #[cycle(tree)]
-    fn put_parts(&mut self, style: Style, level: u128, value: Typed<'_>)
-        requires { level + rank_of (value_in value) ≤ 2 ^ 64 }
-        ensures { Puts W.contents self.old self.new (all_parts_text style level (typed_shown value.entry)) }
+    fn put_parts(&mut self, style: &Style, level: u128, value: &Typed<'_>)
+        requires { level + rank_of (value_in value.now) ≤ 2 ^ 64 }
+        ensures { Puts W.contents self.old self.new (all_parts_text style.now level (typed_shown value.now)) }
     {
         let parts = Parts::new(value);
         let count = parts.len();
@@ -92,7 +92,7 @@ impl<W: Write> Printer<'_, W> {
                 return;
             }
             if let Some(part) = parts.get(place) {
-                self.put_part(style, level + 1, value, place, part);
+                self.put_part(style, level + 1, value, place, &part);
             }
         }
         self.put_left_line(level + 1, count - kept);
@@ -126,14 +126,14 @@ impl<W: Write> Printer<'_, W> {
     #[cycle(tree)]
     fn put_part(
         &mut self,
-        style: Style,
+        style: &Style,
         level: u128,
-        value: Typed<'_>,
+        value: &Typed<'_>,
         place: usize,
-        part: Typed<'_>,
+        part: &Typed<'_>,
     )
-        requires { level + rank_of (value_in part) ≤ 2 ^ 64 }
-        ensures { Puts W.contents self.old self.new (lent_part style level value.entry place part.entry) }
+        requires { level + rank_of (value_in part.now) ≤ 2 ^ 64 }
+        ensures { Puts W.contents self.old self.new (lent_part style.now level value.now place part.now) }
     {
         self.put_line_start(level, value, place);
         self.put_rest(style, level, part);
@@ -142,8 +142,8 @@ impl<W: Write> Printer<'_, W> {
     // Writes what is before the head of the part at a place of a value.
     #[tactic(auto, using(crate::proofs::Puts::puts))]
     #[inline(always)]
-    fn put_line_start(&mut self, level: u128, value: Typed<'_>, place: usize)
-        ensures { Puts W.contents self.old self.new (lent_start level value.entry place) }
+    fn put_line_start(&mut self, level: u128, value: &Typed<'_>, place: usize)
+        ensures { Puts W.contents self.old self.new (lent_start level value.now place) }
     {
         self.put_indent(level);
         self.put_prefix(value, place);
@@ -151,8 +151,8 @@ impl<W: Write> Printer<'_, W> {
 
     #[tactic(auto, using(crate::proofs::LineTexts::by_prefix))]
     #[inline(always)]
-    fn put_prefix(&mut self, value: Typed<'_>, place: usize)
-        ensures { Puts W.contents self.old self.new (lent_prefix value.entry place) }
+    fn put_prefix(&mut self, value: &Typed<'_>, place: usize)
+        ensures { Puts W.contents self.old self.new (lent_prefix value.now place) }
     {
         match value.kind() {
             Kind::Array => self.put_element_place(place),

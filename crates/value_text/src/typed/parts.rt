@@ -5,7 +5,7 @@ ghost use Rattle.std.specs.Option.{option_map};
 ghost use Rattle.pickle_meaning.specs.Values.{members_of, member_count, member_at};
 ghost use Rattle.value_store.specs.Integers.{AreIntegersOf, AreBytesOf};
 ghost use Rattle.value_store.specs.Refs.{rank_of};
-ghost use Rattle.value_text.specs.TypedValue.{value_in, typed_shown};
+ghost use Rattle.value_text.specs.TypedValue.{value_in, part_node_in, typed_shown};
 
 use super::{Typed, Types};
 use pickle_types::integer::IntegerType;
@@ -25,8 +25,8 @@ impl<'a> Parts<'a> {
 
     /// The parts of a value.
     #[inline(always)]
-    pub fn new(whole: Typed<'a>) -> Parts<'a>
-        ensures { whole_of result ≡ whole.entry }
+    pub fn new(whole: &Typed<'a>) -> Parts<'a>
+        ensures { whole_of result ≡ whole.now }
     {
         let value = whole.value;
         Parts {
@@ -68,9 +68,30 @@ impl<'a> Parts<'a> {
         ensures below { IfSome result (λ part. rank_of (value_in part) < rank_of (value_in (whole_of self.now))) }
     {
         match self.members.get(place) {
-            Some(part) => Some(self.whole().beside(place, part)),
+            Some(part) => Some(Typed {
+                value: part,
+                types: self.types,
+                node: self.part_node(place),
+            }),
             None => None,
         }
+    }
+
+    #[inline(always)]
+    fn part_node(&self, place: usize) -> Option<usize>
+        ensures { result ≡ part_node_in (whole_of self.now) place }
+    {
+        match self.node {
+            Some(_) => self.known_node(place),
+            None => None,
+        }
+    }
+
+    #[inline(never)]
+    fn known_node(&self, place: usize) -> Option<usize>
+        ensures { result ≡ part_node_in (whole_of self.now) place }
+    {
+        self.whole().part_node(place)
     }
 
     /// The type of the parts, where they are the packed integers of an array. It is found once for all of them.

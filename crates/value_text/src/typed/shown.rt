@@ -28,10 +28,9 @@ impl<'a> Typed<'a> {
     pub fn kind(&self) -> Kind
         ensures { result ≡ kind_of (label_of (typed_shown self.now)) }
     {
-        if self.is_of_chars() {
-            Kind::Text
-        } else {
-            self.value.kind()
+        match self.value.kind() {
+            Kind::Array if self.is_of_chars() => Kind::Text,
+            kind => kind,
         }
     }
 
@@ -108,7 +107,6 @@ impl<'a> Typed<'a> {
     pub fn len(&self) -> usize
         ensures { result ≡ member_count (members_of (typed_shown self.now)) }
     {
-        let parts = Parts::new(*self);
-        parts.len()
+        Parts::new(self).len()
     }
 }

@@ -10,25 +10,25 @@ use Rattle.value_text.proofs.MemberTexts.{members_from}
 use Rattle.value_text.proofs.print.printer.Printer.+flat.Given as goal
 
 abbrev pub decreases-put_array : goal.decreases-put_array
-decreases-put_array g l = 5 * rank_of (value_in l.value) + 3
+decreases-put_array g l = 5 * rank_of (value_in l.value.now) + 3
 
 abbrev pub decreases-put_elements : goal.decreases-put_elements
-decreases-put_elements g l = 5 * rank_of (value_in l.value) + 2
+decreases-put_elements g l = 5 * rank_of (value_in l.value.now) + 2
 
 abbrev pub decreases-put_each : goal.decreases-put_each
-decreases-put_each g l = 5 * rank_of (value_in l.value) + 1
+decreases-put_each g l = 5 * rank_of (value_in l.value.now) + 1
 
 abbrev pub decreases-put_member : goal.decreases-put_member
-decreases-put_member g l = 5 * rank_of (value_in l.member) + 5
+decreases-put_member g l = 5 * rank_of (value_in l.member.now) + 5
 
 abbrev pub decreases-put_members : goal.decreases-put_members
-decreases-put_members g l = 5 * rank_of (value_in l.value) + 1
+decreases-put_members g l = 5 * rank_of (value_in l.value.now) + 1
 
 abbrev pub decreases-put_titled : goal.decreases-put_titled
-decreases-put_titled g l = 5 * rank_of (value_in l.value) + 3
+decreases-put_titled g l = 5 * rank_of (value_in l.value.now) + 3
 
 abbrev pub decreases-put_value : goal.decreases-put_value
-decreases-put_value g l = 5 * rank_of (value_in l.value) + 4
+decreases-put_value g l = 5 * rank_of (value_in l.value.now) + 4
 
 abbrev pub invariant-put_members-loop-place : goal.invariant-put_members-loop-place
 invariant-put_members-loop-place g l =

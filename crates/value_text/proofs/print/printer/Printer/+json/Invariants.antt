@@ -11,25 +11,25 @@ use Rattle.value_text.proofs.MemberTexts.{members_from}
 use Rattle.value_text.proofs.print.printer.Printer.+json.Given as goal
 
 abbrev pub decreases-put_json_array : goal.decreases-put_json_array
-decreases-put_json_array g l = 4 * rank_of (value_in l.value) + 2
+decreases-put_json_array g l = 4 * rank_of (value_in l.value.now) + 2
 
 abbrev pub decreases-put_json_elements : goal.decreases-put_json_elements
-decreases-put_json_elements g l = 4 * rank_of (value_in l.value) + 1
+decreases-put_json_elements g l = 4 * rank_of (value_in l.value.now) + 1
 
 abbrev pub decreases-put_json_element : goal.decreases-put_json_element
-decreases-put_json_element g l = 4 * rank_of (value_in l.element) + 4
+decreases-put_json_element g l = 4 * rank_of (value_in l.element.now) + 4
 
 abbrev pub decreases-put_object : goal.decreases-put_object
-decreases-put_object g l = 4 * rank_of (value_in l.value) + 2
+decreases-put_object g l = 4 * rank_of (value_in l.value.now) + 2
 
 abbrev pub decreases-put_fields : goal.decreases-put_fields
-decreases-put_fields g l = 4 * rank_of (value_in l.value) + 1
+decreases-put_fields g l = 4 * rank_of (value_in l.value.now) + 1
 
 abbrev pub decreases-put_field : goal.decreases-put_field
-decreases-put_field g l = 4 * rank_of (value_in l.field) + 4
+decreases-put_field g l = 4 * rank_of (value_in l.field.now) + 4
 
 abbrev pub decreases-put_json_value : goal.decreases-put_json_value
-decreases-put_json_value g l = 4 * rank_of (value_in l.value) + 3
+decreases-put_json_value g l = 4 * rank_of (value_in l.value.now) + 3
 
 abbrev pub invariant-put_json_elements-loop-place : goal.invariant-put_json_elements-loop-place
 invariant-put_json_elements-loop-place g l = record {

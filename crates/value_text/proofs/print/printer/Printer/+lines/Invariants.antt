@@ -11,13 +11,13 @@ use Rattle.value_text.proofs.MemberTexts.{members_from}
 use Rattle.value_text.proofs.print.printer.Printer.+lines.Given as goal
 
 abbrev pub decreases-put_leaves : goal.decreases-put_leaves
-decreases-put_leaves g l = 4 * rank_of (value_in l.value) + 3
+decreases-put_leaves g l = 4 * rank_of (value_in l.value.now) + 3
 
 abbrev pub decreases-put_branches : goal.decreases-put_branches
-decreases-put_branches g l = 4 * rank_of (value_in l.value) + 1
+decreases-put_branches g l = 4 * rank_of (value_in l.value.now) + 1
 
 abbrev pub decreases-put_branch : goal.decreases-put_branch
-decreases-put_branch g l = 4 * rank_of (value_in l.part) + 4
+decreases-put_branch g l = 4 * rank_of (value_in l.part.now) + 4
 
 abbrev pub invariant-put_branches-loop-place : goal.invariant-put_branches-loop-place
 invariant-put_branches-loop-place g l = record {

@@ -10,16 +10,16 @@ use Rattle.value_text.proofs.MemberTexts.{members_from}
 use Rattle.value_text.proofs.print.printer.Printer.+tree.Given as goal
 
 abbrev pub decreases-put_below : goal.decreases-put_below
-decreases-put_below g l = 4 * rank_of (value_in l.value) + 2
+decreases-put_below g l = 4 * rank_of (value_in l.value.now) + 2
 
 abbrev pub decreases-put_part : goal.decreases-put_part
-decreases-put_part g l = 4 * rank_of (value_in l.part) + 4
+decreases-put_part g l = 4 * rank_of (value_in l.part.now) + 4
 
 abbrev pub decreases-put_parts : goal.decreases-put_parts
-decreases-put_parts g l = 4 * rank_of (value_in l.value) + 1
+decreases-put_parts g l = 4 * rank_of (value_in l.value.now) + 1
 
 abbrev pub decreases-put_rest : goal.decreases-put_rest
-decreases-put_rest g l = 4 * rank_of (value_in l.value) + 3
+decreases-put_rest g l = 4 * rank_of (value_in l.value.now) + 3
 
 abbrev pub invariant-put_parts-loop-place : goal.invariant-put_parts-loop-place
 invariant-put_parts-loop-place g l = record {

@@ -18,8 +18,8 @@ use Rattle.value_text.proofs.print.printer.Printer.put_row.Goals as goal
 
 pub loop-place-preserved : goal.loop-place-preserved
 loop-place-preserved g c =
-    let all = members_of (typed_shown c.args.value) in
-    let style = c.args.style in
+    let all = members_of (typed_shown c.args.value.now) in
+    let style = c.args.style.now in
     let len : c.len-place-end.result ≡ member_count all = c.len-place-end.ensures ∙ ap (λ v. member_count (members_of (typed_shown v))) c.new-elements.ensures in
     let i = c.loop-place.place in
     let lt : i < member_count all = omega (arith, len, c.loop-place-test.true) in
@@ -38,9 +38,9 @@ loop-place-preserved g c =
 
 pub returns : goal.returns
 returns g c =
-    let len : c.len-place-end.result ≡ member_count (members_of (typed_shown c.args.value)) =
+    let len : c.len-place-end.result ≡ member_count (members_of (typed_shown c.args.value.now)) =
     c.len-place-end.ensures ∙ ap (λ v. member_count (members_of (typed_shown v))) c.new-elements.ensures in
-    told_all (text_end c.args.style c.args.style.elements ArrayLabel (members_of (typed_shown c.args.value)) c.loop-place.place c.loop-place.first (omega (arith, len, c.loop-place-test.false))) c.loop-place.invariant
+    told_all (text_end c.args.style.now c.args.style.now.elements ArrayLabel (members_of (typed_shown c.args.value.now)) c.loop-place.place c.loop-place.first (omega (arith, len, c.loop-place-test.false))) c.loop-place.invariant
 
 pub returns-then-self : goal.returns-then-self
 returns-then-self g c = told_failed c.if-self.true c.loop-place.invariant
