@@ -183,6 +183,17 @@ every_for request why pickle = record {
   why = why;
 }
 
+-- a job whose ending is that of its run
+abbrev pub IsPlain : Job → Type 0
+IsPlain (job.Map at order limit mode pickle name file) = Unit {0}
+IsPlain (job.Request request) = ⊥
+IsPlain (job.Bound pickle name bits) = Unit {0}
+IsPlain (job.BoundText pickle name bits mode style) = Unit {0}
+IsPlain (job.Check pickle) = ⊥
+IsPlain (job.Types pickle) = ⊥
+IsPlain job.Formats = ⊥
+IsPlain (job.Dump from size ruler file) = Unit {0}
+
 -- What the jobs write of what an opener gives. Reasons may be requested.
 module _ (gives : Gives) (why : Bool) (out out' : Option (List ℕ)) where
   -- how the mapping of a request over many files ends

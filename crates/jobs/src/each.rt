@@ -46,45 +46,48 @@ pub fn map_files<P: Opener, A: Aside, O: Write>(
 {
     let mapping = Mapping::of_request(many.request);
     let pickle = opener.read_pickle(&many.request.pickle)?;
-    let ending = run_each(alloc, opener, many, &pickle, why.asked, out, aside);
+    let ending = many.run(alloc, opener, &pickle, why.asked, out, aside);
     aside.clear();
     explain(alloc, why, ending.status(), &pickle, Some(mapping.name));
     Ok(ending)
 }
 
-fn run_each<P: Opener, A: Aside, O: Write>(
-    alloc: Global,
-    opener: &P,
-    many: Many<'_>,
-    pickle: &NamedPickle,
-    explains: bool,
-    out: &mut O,
-    aside: &mut A,
-) -> Ending
-    ensures { EndsMany (P.gives opener.now) explains (O.contents out.old) (O.contents out.new) many.entry pickle.now.bytes.items result }
-{
-    let table = match accept(alloc, &pickle.bytes) {
-        Ok(table) => table,
-        Err(refusal) => return Ending::Run(Outcome::Refused(refusal)),
-    };
-    let mapping = Mapping::of_request(many.request);
-    let Some(id) = table.find(mapping.name) else {
-        return Ending::Run(Outcome::NoSuchType);
-    };
-    let typed = Typed {
-        alloc,
-        pickle,
-        table: &table,
-        id,
-        mapping,
-        terms: &many.request.terms,
-        form: FileForm::of(mapping.mode, many.request.faults()),
-        flush: many.flush,
-        explains,
-    };
-    match run_files(opener, typed, many.names, out, aside) {
-        Ok(status) => Ending::Silent(status),
-        Err(fault) => Ending::Run(Outcome::Failed(fault.failure())),
+impl Many<'_> {
+    // Maps over the files, with the pickle that was read.
+    fn run<P: Opener, A: Aside, O: Write>(
+        self,
+        alloc: Global,
+        opener: &P,
+        pickle: &NamedPickle,
+        explains: bool,
+        out: &mut O,
+        aside: &mut A,
+    ) -> Ending
+        ensures { EndsMany (P.gives opener.now) explains (O.contents out.old) (O.contents out.new) self.entry pickle.now.bytes.items result }
+    {
+        let table = match accept(alloc, &pickle.bytes) {
+            Ok(table) => table,
+            Err(refusal) => return Ending::Run(Outcome::Refused(refusal)),
+        };
+        let mapping = Mapping::of_request(self.request);
+        let Some(id) = table.find(mapping.name) else {
+            return Ending::Run(Outcome::NoSuchType);
+        };
+        let typed = Typed {
+            alloc,
+            pickle,
+            table: &table,
+            id,
+            mapping,
+            terms: &self.request.terms,
+            form: FileForm::of(mapping.mode, self.request.faults()),
+            flush: self.flush,
+            explains,
+        };
+        match run_files(opener, typed, self.names, out, aside) {
+            Ok(status) => Ending::Silent(status),
+            Err(fault) => Ending::Run(Outcome::Failed(fault.failure())),
+        }
     }
 }
 

@@ -14,6 +14,7 @@ use crate::mapping::Mapping;
 use crate::mappings::is_mapped;
 use crate::opener::{Lengthless, NamedPickle, Opener};
 use bit_space::{OpenFault, Paged, Space};
+use mapping_reasons::mapping::{Pickle, TypeMapping};
 use mapping_reasons::reasons_in;
 use pickle_types::table::{Table, TypeId};
 use poke_batch::ask::Ask;
@@ -280,18 +281,17 @@ fn reasons_of<S: Space>(run: FileRun<'_>, outcome: Outcome, space: &mut S) -> Ve
         terms,
         ..
     } = typed;
-    let path = pickle.path.as_bytes();
-    match reasons_in(
+    let mapping = TypeMapping {
         alloc,
-        &pickle.bytes,
-        path,
         table,
         id,
-        &run.ask,
-        terms,
-        space,
-        outcome,
-    ) {
+        ask: &run.ask,
+    };
+    let source = Pickle {
+        bytes: &pickle.bytes,
+        path: pickle.path.as_bytes(),
+    };
+    match reasons_in(mapping, source, terms, space, outcome) {
         Ok(reasons) => reasons.text,
         Err(_) => Vec::new(alloc),
     }

@@ -11,6 +11,7 @@ use crate::opener::{NamedPickle, Opener};
 use crate::why::{Why, explain};
 use bit_space::{Order, Paged, Space};
 use command_words::start::Start;
+use mapping_reasons::mapping::Pickle;
 use mapping_reasons::reasons;
 use poke_batch::ask::Ask;
 use poke_batch::outcome::Outcome;
@@ -99,8 +100,11 @@ fn explain_run<S: Space, O: Write>(
     if !is_explained(outcome.status(), terms) {
         return;
     }
-    let path = pickle.path.as_bytes();
-    if let Ok(reasons) = reasons(alloc, &pickle.bytes, path, ask, terms, space, outcome) {
+    let source = Pickle {
+        bytes: &pickle.bytes,
+        path: pickle.path.as_bytes(),
+    };
+    if let Ok(reasons) = reasons(alloc, source, ask, terms, space, outcome) {
         *why.text = reasons.text;
         // What fails here fails again when the answer is flushed.
         let _shown = put(out, reasons.met.as_slice());

@@ -21,18 +21,22 @@ use text_bounds::run::bound_text_outcome;
 /// A type of a pickle, and the bits that it is bounded over.
 #[derive(Clone, Copy)]
 pub struct Bounded<'a> {
+    /// The argument that names the pickle.
+    pub pickle: &'a str,
     /// The name of the type.
     pub name: &'a [u8],
     pub bits: u64,
 }
 
 impl<'a> Bounded<'a> {
-    /// The type of a name, over so many bits.
-    pub fn new(name: &'a str, bits: u64) -> Bounded<'a>
+    /// The type of a name in the pickle that an argument names, over so many bits.
+    pub fn new(pickle: &'a str, name: &'a str, bits: u64) -> Bounded<'a>
+        ensures pickle { result.pickle.now ≡ pickle.now }
         ensures name { result.name.now ≡ name.now }
         ensures bits { result.bits ≡ bits }
     {
         Bounded {
+            pickle,
             name: name.as_bytes(),
             bits,
         }
@@ -94,16 +98,16 @@ pub fn tell_types<P: Opener, O: Write>(
 pub fn bound_type<P: Opener, O: Write>(
     alloc: Global,
     opener: &P,
-    word: &str,
     of: Bounded<'_>,
     out: &mut O,
     why: &mut Why<'_>,
 ) -> Result<Outcome, FileFault>
-    ensures ok { IfOk result (EndsOver ((P.gives opener.now).is_pickle word.now) (bounds_of of.entry) (O.contents out.old) (O.contents out.new)) }
+    ensures ok { IfOk result (EndsOver ((P.gives opener.now).is_pickle of.entry.pickle.now) (bounds_of of.entry)
+        (O.contents out.old) (O.contents out.new)) }
     ensures err { OnErr result (Keeps (O.contents out.old) (O.contents out.new)) }
-    ensures fault { IfErr result ((P.gives opener.now).is_unread word.now) }
+    ensures fault { IfErr result ((P.gives opener.now).is_unread of.entry.pickle.now) }
 {
-    let pickle = opener.read_pickle(word)?;
+    let pickle = opener.read_pickle(of.pickle)?;
     let outcome = bound_outcome(alloc, &pickle.bytes, of.name, of.bits, out);
     explain(alloc, why, outcome.status(), &pickle, Some(of.name));
     Ok(outcome)
@@ -114,18 +118,17 @@ pub fn bound_type<P: Opener, O: Write>(
 pub fn bound_text<P: Opener, O: Write>(
     alloc: Global,
     opener: &P,
-    word: &str,
     of: Bounded<'_>,
     form: TextForm,
     out: &mut O,
     why: &mut Why<'_>,
 ) -> Result<Outcome, FileFault>
-    ensures ok { IfOk result (EndsOver ((P.gives opener.now).is_pickle word.now) (text_bounds_of of.entry form)
+    ensures ok { IfOk result (EndsOver ((P.gives opener.now).is_pickle of.entry.pickle.now) (text_bounds_of of.entry form)
         (O.contents out.old) (O.contents out.new)) }
     ensures err { OnErr result (Keeps (O.contents out.old) (O.contents out.new)) }
-    ensures fault { IfErr result ((P.gives opener.now).is_unread word.now) }
+    ensures fault { IfErr result ((P.gives opener.now).is_unread of.entry.pickle.now) }
 {
-    let pickle = opener.read_pickle(word)?;
+    let pickle = opener.read_pickle(of.pickle)?;
     let bytes = &pickle.bytes;
     let outcome = bound_text_outcome(alloc, bytes, of.name, of.bits, form.style, form.mode, out);
     explain(alloc, why, outcome.status(), &pickle, Some(of.name));

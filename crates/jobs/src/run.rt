@@ -1,7 +1,7 @@
 //! A job, done over an opener and a writer.
-ghost use Rattle.std.specs.Prelude.{IfOk, IfErr, OnErr};
+ghost use Rattle.std.specs.Prelude.{IfOk, IfErr, OnErr, Some};
 ghost use Rattle.std.specs.Io.KnownBytes.{Keeps};
-ghost use Rattle.jobs.specs.Jobs.{ChecksIn, FailsJob, FailsRequest, IfDone, MapsRequest, StopsJob, TypesIn};
+ghost use Rattle.jobs.specs.Jobs.{ChecksIn, FailsJob, FailsRequest, IfDone, IsPlain, MapsRequest, StopsJob, TypesIn};
 
 use crate::answers::{check_in_json, types_in_json};
 use crate::aside::Aside;
@@ -41,7 +41,37 @@ pub fn run_job<P: Opener, O: Write, A: Aside>(
         (O.contents out.old) (O.contents out.new) asked.now.job) }
     ensures fault { IfErr result (FailsJob (P.gives opener.now) asked.now.job) }
 {
-    let outcome = match &asked.job {
+    match &asked.job {
+        Job::Request(request) => { Ok(Some(map_request(alloc, opener, request, out, aside, why)?)) }
+        Job::Check { pickle } => {
+            Ok(Some(check_job(alloc, opener, pickle, asked.answer, out, why)?))
+        }
+        Job::Types { pickle } => {
+            Ok(Some(types_job(alloc, opener, pickle, asked.answer, out, why)?))
+        }
+        Job::Formats => Ok(None),
+        Job::Map { .. } | Job::Bound { .. } | Job::BoundText { .. } | Job::Dump { .. } => {
+            Ok(Some(Ending::Run(run_plain(alloc, opener, asked, out, why)?)))
+        }
+    }
+}
+
+// Does a job whose only ending is that of its run.
+fn run_plain<P: Opener, O: Write>(
+    alloc: Global,
+    opener: &P,
+    asked: &Asked,
+    out: &mut O,
+    why: &mut Why<'_>,
+) -> Result<Outcome, FileFault>
+    requires plain { IsPlain asked.now.job }
+    ensures done { IfOk result (λ outcome. IfDone (P.gives opener.now) why.old.asked
+        (O.contents out.old) (O.contents out.new) asked.now (Some (Ending.Run outcome))) }
+    ensures stops { OnErr result (StopsJob (P.gives opener.now) why.old.asked
+        (O.contents out.old) (O.contents out.new) asked.now.job) }
+    ensures fault { IfErr result (FailsJob (P.gives opener.now) asked.now.job) }
+{
+    match &asked.job {
         Job::Map {
             at,
             order,
@@ -57,10 +87,10 @@ pub fn run_job<P: Opener, O: Write, A: Aside>(
                 mapping: Mapping::from_bit(name, *at, *order, *limit, *mode),
                 terms: &Terms::none(),
             };
-            map_file(alloc, opener, target, out, why)?
+            map_file(alloc, opener, target, out, why)
         }
         Job::Bound { pickle, name, bits } => {
-            bound_type(alloc, opener, pickle, Bounded::new(name, *bits), out, why)?
+            bound_type(alloc, opener, Bounded::new(pickle, name, *bits), out, why)
         }
         Job::BoundText {
             pickle,
@@ -76,12 +106,11 @@ pub fn run_job<P: Opener, O: Write, A: Aside>(
             bound_text(
                 alloc,
                 opener,
-                pickle,
-                Bounded::new(name, *bits),
+                Bounded::new(pickle, name, *bits),
                 form,
                 out,
                 why,
-            )?
+            )
         }
         Job::Dump {
             from,
@@ -95,20 +124,10 @@ pub fn run_job<P: Opener, O: Write, A: Aside>(
                 ruler: *ruler,
                 tells_rest: asked.default_size,
             };
-            dump_file(alloc, opener, file, range, out, why.text)?
+            dump_file(alloc, opener, file, range, out, why.text)
         }
-        Job::Request(request) => {
-            return Ok(Some(map_request(alloc, opener, request, out, aside, why)?));
-        }
-        Job::Check { pickle } => {
-            return Ok(Some(check_job(alloc, opener, pickle, asked.answer, out, why)?));
-        }
-        Job::Types { pickle } => {
-            return Ok(Some(types_job(alloc, opener, pickle, asked.answer, out, why)?));
-        }
-        Job::Formats => return Ok(None),
-    };
-    Ok(Some(Ending::Run(outcome)))
+        Job::Request(_) | Job::Check { .. } | Job::Types { .. } | Job::Formats => unreachable!(),
+    }
 }
 
 // Maps as a request says.

@@ -1,5 +1,6 @@
 pub mod Ways
 pub mod Portions
 pub mod Meant
+pub mod Mapped
 pub mod Found
 pub mod Why

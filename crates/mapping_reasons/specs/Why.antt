@@ -22,7 +22,8 @@ use Rattle.poke_batch.specs.Runs.{IsAsked}
 use Rattle.poke_batch.specs.RunsUnder.{end_saying}
 use Rattle.pickle_script.specs.declared.text.Text.{Text}
 use Rattle.mapping_reasons.specs.declared.cause.Fault.{Fault as Part}
-use Rattle.mapping_reasons.specs.Found.{IsKept}
+use Rattle.mapping_reasons.specs.declared.scene.Scene.{Scene}
+use Rattle.mapping_reasons.specs.Found.{IsKept, scene_type}
 use Rattle.mapping_reasons.specs.Meant.{HasFault, HasValue, IsFaultAt, IsUnfound}
 use Rattle.mapping_reasons.specs.Ways.{IsWayTo, LacksPart}
 
@@ -140,13 +141,14 @@ TellsOfPart type kept made =
 
 -- the text is about the run, if its type has this fault on the file's bytes, for which the right part is stored, and if
 -- a read failed for the fault Device
-abbrev pub TellsOfFault : {E : Type 0} → Run → PokeType → MapFault → Option Part → Result (Vec ℕ Global) E → Type 0
-TellsOfFault run type fault kept made =
-    HasFault run.space type run.ask fault → IsKept run.space run.after type run.ask fault kept → FailsRead run fault → IfOk made (λ text. TellsWhy run type text.items)
+abbrev pub TellsOfFault : {E : Type 0} → Run → Scene → MapFault → Option Part → Result (Vec ℕ Global) E → Type 0
+TellsOfFault run scene fault kept made =
+    HasFault run.space (scene_type scene) run.ask fault → IsKept run.space run.after (scene_type scene) run.ask fault kept → FailsRead run fault
+    → IfOk made (λ text. TellsWhy run (scene_type scene) text.items)
 
 -- the same, if its type has a value there
-abbrev pub TellsOfValue : {E : Type 0} → Run → PokeType → Result (Vec ℕ Global) E → Type 0
-TellsOfValue run type made = HasValue run.space type run.ask → IfOk made (λ text. TellsWhy run type text.items)
+abbrev pub TellsOfValue : {E : Type 0} → Run → Scene → Result (Vec ℕ Global) E → Type 0
+TellsOfValue run scene made = HasValue run.space (scene_type scene) run.ask → IfOk made (λ text. TellsWhy run (scene_type scene) text.items)
 
 -- What is printed about a run from its pickle: the above for the type of the requested name. Nothing where the pickle is
 -- refused, for more than want of memory, or has no such type.

@@ -2,24 +2,23 @@
 
 ghost use Rattle.std.specs.Prelude.{ℕ, List, ◌≡◌, Some, IfOk, IfErr, OnOk, IsSome};
 ghost use Rattle.bit_space.specs.SpaceView.{Keeps, HasRisen};
-ghost use Rattle.pickle_types.specs.TypeTable.{IsInTable, type_named, nodes_of};
+ghost use Rattle.pickle_types.specs.TypeTable.{nodes_of};
 ghost use Rattle.pickle_meaning.specs.declared.faults.MapFaultKind.TheVariants.{Device};
 ghost use Rattle.pickle_meaning.specs.Values.{value_at};
 ghost use Rattle.value_store.specs.Slots.{levels};
 ghost use Rattle.mapping_reasons.specs.Found.{KeepsPart};
-ghost use Rattle.mapping_reasons.specs.Meant.{HasFault, HasValue};
+ghost use Rattle.mapping_reasons.specs.Mapped.{EndsWith, IsKnown, mapped_type};
+ghost use Rattle.mapping_reasons.specs.Meant.{HasValue};
 
 use crate::cause::Fault;
 use crate::endings::Endings;
-use crate::part::part_with;
+use crate::mapping::TypeMapping;
 use crate::watcher::Told;
 use bit_space::{Meter, Space};
 use pickle_map::mapper::map_watched;
 use pickle_map::{MapFault, Store};
-use pickle_types::table::{Table, TypeId};
-use poke_batch::ask::Ask;
 use poke_batch::style::Look;
-use std::alloc::{AllocError, Global};
+use std::alloc::AllocError;
 
 /// What the watcher stored of a finished mapping.
 #[derive(Drop)]
@@ -41,45 +40,54 @@ pub struct Again {
 
 /// Maps a type into a store, which is emptied first, and stores which part has the fault and which arrays ended early.
 /// With a look, what the mapping had met before the fault is shown beside the part.
-pub fn map_again<S: Space>(
-    alloc: Global,
-    table: &Table,
-    id: TypeId,
-    ask: &Ask<'_>,
-    look: Option<Look>,
-    space: &mut S,
-    store: &mut Store,
-) -> Result<Again, AllocError>
-    requires known { IsInTable table.now id }
-    ensures fault { IfOk result (λ again. IfErr again.end (HasFault (S.view space.old) (type_named table.now id) ask.now)) }
-    ensures part { IfOk result (KeepsPart (S.view space.old) (S.view space.new) (type_named table.now id) ask.now) }
-    ensures value { IfOk result (λ again. OnOk again.end (HasValue (S.view space.old) (type_named table.now id) ask.now)) }
-    ensures device { let risen = HasRisen (S.view space.old).failures (S.view space.new).failures in
-        IfOk result (λ again. IfErr again.end (λ fault. fault.kind ≡ Device → risen)) }
-    ensures held { IfOk result (λ again. OnOk again.end (IsSome (value_at (levels (nodes_of table.now) store.new) 0 0))) }
-    ensures keeps { Keeps (S.view space.old) (S.view space.new) }
-{
-    store.clear();
-    let mut told = Told::new(alloc, table.nodes());
-    let mut meter = Meter::new(ask.limit);
-    let end = map_watched(
-        table, id, ask.order, ask.start, space, &mut meter, store, &mut told,
-    );
-    let Kept {
-        fault,
-        broken,
-        planned,
-    } = told.into_kept()?;
-    let fault = match &end {
-        Ok(()) => None,
-        Err(stopped) => part_with(alloc, table, id, ask, look, *stopped, fault, space, store)?,
-    };
-    Ok(Again {
-        end,
-        kept: Kept {
+impl TypeMapping<'_> {
+    /// Maps the type into a store, which is emptied first, and stores which part has the fault and which arrays ended
+    /// early. With a look, what the mapping had met before the fault is shown beside the part.
+    pub fn again<S: Space>(
+        self,
+        look: Option<Look>,
+        space: &mut S,
+        store: &mut Store,
+    ) -> Result<Again, AllocError>
+        requires known { IsKnown self }
+        ensures fault { IfOk result (λ again. IfErr again.end (EndsWith (S.view space.old) self.entry)) }
+        ensures part { IfOk result (KeepsPart (S.view space.old) (S.view space.new) (mapped_type self.entry) self.entry.ask.now) }
+        ensures value { let has = HasValue (S.view space.old) (mapped_type self.entry) self.entry.ask.now in
+            IfOk result (λ again. OnOk again.end has) }
+        ensures device { let risen = HasRisen (S.view space.old).failures (S.view space.new).failures in
+            IfOk result (λ again. IfErr again.end (λ fault. fault.kind ≡ Device → risen)) }
+        ensures held { let held = IsSome (value_at (levels (nodes_of self.entry.table.now) store.new) 0 0) in
+            IfOk result (λ again. OnOk again.end held) }
+        ensures keeps { Keeps (S.view space.old) (S.view space.new) }
+    {
+        let TypeMapping {
+            alloc,
+            table,
+            id,
+            ask,
+        } = self;
+        store.clear();
+        let mut told = Told::new(alloc, table.nodes());
+        let mut meter = Meter::new(ask.limit);
+        let end = map_watched(
+            table, id, ask.order, ask.start, space, &mut meter, store, &mut told,
+        );
+        let Kept {
             fault,
             broken,
             planned,
-        },
-    })
+        } = told.into_kept()?;
+        let fault = match &end {
+            Ok(()) => None,
+            Err(stopped) => self.part_with(look, *stopped, fault, space, store)?,
+        };
+        Ok(Again {
+            end,
+            kept: Kept {
+                fault,
+                broken,
+                planned,
+            },
+        })
+    }
 }

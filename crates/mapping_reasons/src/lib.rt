@@ -3,7 +3,7 @@
 
 ghost use Rattle.std.specs.Prelude.{◌≡◌, ◌≢◌, ◌<◌, ◌++◌, [], length, IfOk, IsTrue, IsFalse, IsSome};
 ghost use Rattle.pickle_types.specs.Table.{IsTable};
-ghost use Rattle.pickle_types.specs.TypeTable.{IsInTable, nodes_of, type_named};
+ghost use Rattle.pickle_types.specs.TypeTable.{nodes_of};
 ghost use Rattle.bit_space.specs.SpaceView.{Keeps, SpaceView};
 ghost use Rattle.command_words.specs.declared.ask.Ask.{Ask};
 ghost use Rattle.poke_batch.specs.RunsUnder.{end_saying};
@@ -14,6 +14,7 @@ ghost use Rattle.pickle_meaning.specs.declared.faults.MapFaultKind.TheVariants a
 ghost use Rattle.pickle_meaning.specs.Values.{value_at};
 ghost use Rattle.value_store.specs.Slots.{levels};
 ghost use Rattle.mapping_reasons.specs.Found.{scene_type};
+ghost use Rattle.mapping_reasons.specs.Mapped.{IsKnown, mapped_type};
 ghost use Rattle.mapping_reasons.specs.Why.{run_of, ExplainsRun, IsOutcomeOf, TellsOfFault, TellsOfPart, TellsOfValue, TellsWhy};
 
 mod absent;
@@ -27,6 +28,7 @@ mod front;
 mod impossible;
 mod indent;
 mod lines;
+pub mod mapping;
 mod members;
 mod met;
 mod missing;
@@ -41,9 +43,10 @@ mod trail;
 mod watcher;
 mod way;
 
-use crate::again::{Again, Kept, map_again};
+use crate::again::{Again, Kept};
 use crate::cause::Fault;
 use crate::lines::{arrays_text, fault_text};
+use crate::mapping::{Pickle, TypeMapping};
 use crate::scene::Scene;
 use crate::term::term_text;
 use bit_space::Space;
@@ -83,30 +86,35 @@ impl Explained {
 }
 
 /// The lines that say why a mapping of a type over a file had its outcome or, if it is done, which arrays ended early.
-/// `path` is the path of the pickle. Bytes outside 0x20 to 0x7e are escaped in these lines.
+/// Bytes outside 0x20 to 0x7e are escaped in these lines.
 ///
 /// The type is mapped again. If that mapping doesn't end so, the result is empty.
 pub fn reasons<S: Space>(
     alloc: Global,
-    pickle: &[u8],
-    path: &[u8],
+    pickle: Pickle<'_>,
     ask: &Ask<'_>,
     terms: &Terms,
     space: &mut S,
     outcome: Outcome,
 ) -> Result<Explained, AllocError>
     ensures why { let run = run_of (S.view space.old) (S.view space.new) ask.now terms.now outcome in
-        IfOk result (λ reasons. ExplainsRun pickle.now run reasons.text.items) }
+        IfOk result (λ reasons. ExplainsRun pickle.entry.bytes.now run reasons.text.items) }
     ensures keeps { Keeps (S.view space.old) (S.view space.new) }
 {
-    let table = match accept(alloc, pickle) {
+    let table = match accept(alloc, pickle.bytes) {
         Ok(table) => table,
         Err(refusal) => return none_refused(alloc, refusal),
     };
     let Some(id) = table.find(ask.name) else {
         return Ok(Explained::none(alloc));
     };
-    let reasons = reasons_in(alloc, pickle, path, &table, id, ask, terms, space, outcome)?;
+    let mapping = TypeMapping {
+        alloc,
+        table: &table,
+        id,
+        ask,
+    };
+    let reasons = reasons_in(mapping, pickle, terms, space, outcome)?;
     Ok(reasons)
 }
 
@@ -123,26 +131,28 @@ fn none_refused(alloc: Global, refusal: Refusal) -> Result<Explained, AllocError
 
 /// What [`reasons`] returns, from the table of the pickle's types.
 pub fn reasons_in<S: Space>(
-    alloc: Global,
-    pickle: &[u8],
-    path: &[u8],
-    table: &Table,
-    id: TypeId,
-    ask: &Ask<'_>,
+    mapping: TypeMapping<'_>,
+    pickle: Pickle<'_>,
     terms: &Terms,
     space: &mut S,
     outcome: Outcome,
 ) -> Result<Explained, AllocError>
-    requires known { IsInTable table.now id }
-    ensures why { let run = run_of (S.view space.old) (S.view space.new) ask.now terms.now outcome in
-        IfOk result (λ reasons. TellsWhy run (type_named table.now id) reasons.text.items) }
+    requires known { IsKnown mapping }
+    ensures why { let run = run_of (S.view space.old) (S.view space.new) mapping.entry.ask.now terms.now outcome in
+        IfOk result (λ reasons. TellsWhy run (mapped_type mapping.entry) reasons.text.items) }
     ensures keeps { Keeps (S.view space.old) (S.view space.new) }
 {
+    let TypeMapping {
+        alloc,
+        table,
+        id,
+        ask,
+    } = mapping;
     let Ok(mut store) = store_of(alloc, terms.most_slots) else {
         return Err(AllocError);
     };
-    let Again { end, kept } = map_again(alloc, table, id, ask, terms.look, space, &mut store)?;
-    let scene = scene_of(alloc, pickle, path, table, id, ask, 8 * space.len())?;
+    let Again { end, kept } = mapping.again(terms.look, space, &mut store)?;
+    let scene = scene_of(mapping, pickle, 8 * space.len())?;
     let text = match end {
         Ok(()) => {
             let types = Types::new(table);
@@ -183,27 +193,24 @@ fn root_of<'a>(store: &'a Store, table: &'a Table, types: &'a Types<'a>, id: Typ
 
 /// What the reasons are printed from.
 fn scene_of<'p, 't>(
-    alloc: Global,
-    pickle: &'p [u8],
-    path: &[u8],
-    table: &'t Table,
-    id: TypeId,
-    ask: &Ask<'_>,
+    mapping: TypeMapping<'t>,
+    pickle: Pickle<'p>,
     bits: u64,
 ) -> Result<Scene<'p, 't>, AllocError>
-    ensures nodes { IfOk result (λ scene. scene.nodes.now ≡ nodes_of table.now) }
-    ensures root { IfOk result (λ scene. scene.root ≡ id.node) }
+    ensures nodes { IfOk result (λ scene. scene.nodes.now ≡ nodes_of mapping.entry.table.now) }
+    ensures root { IfOk result (λ scene. scene.root ≡ mapping.entry.id.node) }
 {
-    let Some(script) = Script::new(alloc, pickle) else {
+    let alloc = mapping.alloc;
+    let Some(script) = Script::new(alloc, pickle.bytes) else {
         return Err(AllocError);
     };
     Ok(Scene {
         alloc,
         script,
-        path: Text::new(alloc).show(path)?.into_bytes(),
-        name: Vec::from_slice(alloc, ask.name)?,
-        nodes: table.nodes(),
-        root: id.node,
+        path: Text::new(alloc).show(pickle.path)?.into_bytes(),
+        name: Vec::from_slice(alloc, mapping.ask.name)?,
+        nodes: mapping.table.nodes(),
+        root: mapping.id.node,
         bits,
     })
 }
@@ -220,7 +227,7 @@ fn value_reasons(
 ) -> Result<Vec<u8>, AllocError>
     requires table { IsTable scene.now.nodes.now }
     requires root { scene.now.root < length scene.now.nodes.now }
-    ensures why { (space after : SpaceView) (ask : Ask) → TellsOfValue (run_of space after ask terms.now outcome) (scene_type scene.now) result }
+    ensures why { (space after : SpaceView) (ask : Ask) → TellsOfValue (run_of space after ask terms.now outcome) scene.now result }
 {
     let Some(term) = term_text(scene.alloc, value, terms, mode, scene.bits, outcome)? else {
         return Ok(Vec::new(scene.alloc));
@@ -241,7 +248,7 @@ fn fault_reasons(
 ) -> Result<Vec<u8>, AllocError>
     requires table { IsTable scene.now.nodes.now }
     requires root { scene.now.root < length scene.now.nodes.now }
-    ensures why { (space after : SpaceView) → TellsOfFault (run_of space after ask.now terms.now outcome) (scene_type scene.now) fault kept.now.fault result }
+    ensures why { (space after : SpaceView) → TellsOfFault (run_of space after ask.now terms.now outcome) scene.now fault kept.now.fault result }
 {
     if !is_outcome_of(outcome, ask.start, terms.most_slots, fault) {
         return none_stopped(scene.alloc, fault.kind);

@@ -2,13 +2,12 @@
 
 use crate::cause::{Cause, Fault};
 use crate::indent::{Indented, digits_of};
+use crate::mapping::TypeMapping;
 use crate::way::{Joint, Step, part_of, say_element};
 use pickle_map::mapper::stop::Stop;
 use pickle_map::{Store, ValueRef};
 use pickle_script::text::Text;
-use pickle_types::table::{Table, TypeId};
 use pickle_types::view::Shape;
-use poke_batch::ask::Ask;
 use poke_batch::style::Look;
 use std::alloc::{AllocError, Global};
 use value_store::names::title;
@@ -41,33 +40,32 @@ struct Frame {
     level: usize,
 }
 
-/// The lines on what a mapping had met before the part with its fault: a line for each value around that part, which
-/// says that the value is unfinished, then the lines of the parts of that value that were finished. The last line is that
-/// of the part with the fault.
-pub fn met_lines(
-    alloc: Global,
-    table: &Table,
-    id: TypeId,
-    ask: &Ask<'_>,
-    store: &Store,
-    fault: &Fault,
-    look: Look,
-) -> Result<Vec<u8>, AllocError> {
-    let types = Types::new(table);
-    let stopped = Stopped {
-        alloc,
-        types: &types,
-        root: id.node,
-        start: ask.start,
-        store,
-        fault,
-        look,
-    };
-    let mut text = Text::new(alloc);
-    for depth in 0..=fault.way.steps().len() {
-        text = stopped.say_value(text, depth)?;
+impl TypeMapping<'_> {
+    /// The lines on what the mapping had met before the part with its fault: a line for each value around that part,
+    /// which says that the value is unfinished, then the lines of the parts of that value that were finished. The last
+    /// line is that of the part with the fault.
+    pub fn met_lines(
+        self,
+        store: &Store,
+        fault: &Fault,
+        look: Look,
+    ) -> Result<Vec<u8>, AllocError> {
+        let types = Types::new(self.table);
+        let stopped = Stopped {
+            alloc: self.alloc,
+            types: &types,
+            root: self.id.node,
+            start: self.ask.start,
+            store,
+            fault,
+            look,
+        };
+        let mut text = Text::new(self.alloc);
+        for depth in 0..=fault.way.steps().len() {
+            text = stopped.say_value(text, depth)?;
+        }
+        Ok(text.into_bytes())
     }
-    Ok(text.into_bytes())
 }
 
 impl Stopped<'_> {

@@ -1,16 +1,15 @@
 //! Whether a file fits a type in the other byte order.
 
 ghost use Rattle.bit_space.specs.SpaceView.{Keeps};
-ghost use Rattle.pickle_types.specs.TypeTable.{IsInTable};
 ghost use Rattle.value_store.specs.Slots.{emptied};
+ghost use Rattle.mapping_reasons.specs.Mapped.{IsKnown};
 ghost use Rattle.std.specs.Prelude.{◌≡◌};
 
 use crate::cause::{Blamed, Cause, Fault};
+use crate::mapping::TypeMapping;
 use bit_space::{Meter, Order, Space};
 use pickle_map::mapper::watch::Clause;
 use pickle_map::{MapFault, MapFaultKind, Store, map};
-use pickle_types::table::{Table, TypeId};
-use poke_batch::ask::Ask;
 
 /// The most steps that the mapping in the other byte order takes. They suffice for the first bits.
 const FEW_STEPS: u64 = 4096;
@@ -18,30 +17,31 @@ const FEW_STEPS: u64 = 4096;
 /// How many bits behind a mapping's start are its first ones: those of a file's head.
 const FIRST_BITS: u128 = 2048;
 
-/// The other byte order, if a type's fault is a constraint in the first bits, and the mapping goes on behind it in the
-/// other one.
-pub fn other_order<S: Space>(
-    table: &Table,
-    id: TypeId,
-    ask: &Ask<'_>,
-    fault: MapFault,
-    part: &Fault,
-    space: &mut S,
-    store: &mut Store,
-) -> Option<Order>
-    requires known { IsInTable table.now id }
-    requires empty { store.old ≡ emptied store.old }
-    ensures keeps { Keeps (S.view space.old) (S.view space.new) }
-{
-    if !is_early(fault, ask.start) || !is_constraint(&part.cause) {
-        return None;
-    }
-    let order = opposite(ask.order);
-    let mut meter = Meter::new(ask.limit.min(FEW_STEPS));
-    match map(table, id, order, ask.start, space, &mut meter, store) {
-        Ok(()) => Some(order),
-        Err(other) if is_behind(other, fault) => Some(order),
-        Err(_) => None,
+impl TypeMapping<'_> {
+    /// The other byte order, if the type's fault is a constraint in the first bits, and the mapping goes on behind it in
+    /// the other one.
+    pub fn other_order<S: Space>(
+        self,
+        fault: MapFault,
+        part: &Fault,
+        space: &mut S,
+        store: &mut Store,
+    ) -> Option<Order>
+        requires known { IsKnown self }
+        requires empty { store.old ≡ emptied store.old }
+        ensures keeps { Keeps (S.view space.old) (S.view space.new) }
+    {
+        let TypeMapping { table, id, ask, .. } = self;
+        if !is_early(fault, ask.start) || !is_constraint(&part.cause) {
+            return None;
+        }
+        let order = opposite(ask.order);
+        let mut meter = Meter::new(ask.limit.min(FEW_STEPS));
+        match map(table, id, order, ask.start, space, &mut meter, store) {
+            Ok(()) => Some(order),
+            Err(other) if is_behind(other, fault) => Some(order),
+            Err(_) => None,
+        }
     }
 }
 

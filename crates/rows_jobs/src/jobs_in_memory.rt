@@ -51,15 +51,23 @@ const ROWS: [(&str, &str, &str); 18] = [
     ),
 ];
 
-// What a job writes, and its line.
-fn answer_of(alloc: Global, line: &str) -> Result<(Vec<u8>, Vec<u8>), Fail> {
-    let mut words = Vec::new(alloc);
-    for word in line.split_ascii_whitespace() {
-        words.push(String::from_str(alloc, word)?)?;
+// What a job writes to the writer, the line of its ending or of its fault, and what it tells aside.
+#[derive(Drop)]
+struct Written {
+    out: Vec<u8>,
+    line: Vec<u8>,
+    aside: Vec<u8>,
+}
+
+// Does the job of a command line, whose words have blanks between them.
+fn written_by(alloc: Global, words: &str) -> Result<Written, Fail> {
+    let mut arguments = Vec::new(alloc);
+    for word in words.split_ascii_whitespace() {
+        arguments.push(String::from_str(alloc, word)?)?;
     }
-    let asked = read_asked(alloc, words)?;
+    let asked = read_asked(alloc, arguments)?;
     let mut out = Vec::new(alloc);
-    let mut told = Vec::new(alloc);
+    let mut line = Vec::new(alloc);
     let mut reasons = Vec::new(alloc);
     let mut notes = Notes {
         text: Vec::new(alloc),
@@ -71,23 +79,28 @@ fn answer_of(alloc: Global, line: &str) -> Result<(Vec<u8>, Vec<u8>), Fail> {
     let shelf = Shelf { alloc };
     match run_job(alloc, &shelf, &asked, &mut out, &mut notes, &mut why) {
         Ok(Some(ending)) => {
-            ending.tell(FaultForm::Text, &mut told);
+            ending.tell(FaultForm::Text, &mut line);
         }
         Ok(None) => return Err(Fail::from("not done")),
         Err(fault) => {
-            let line = format!(in alloc; "{fault}\n")?;
-            told.extend_from_slice(line.as_bytes())?;
+            let text = format!(in alloc; "{fault}\n")?;
+            line.extend_from_slice(text.as_bytes())?;
         }
     }
-    Ok((out, told))
+    Ok(Written {
+        out,
+        line,
+        aside: notes.text,
+    })
 }
 
 #[test]
 fn jobs_write_their_answers(rt: HostRuntime) -> Result<(), Fail> {
-    for (line, out, told) in ROWS {
-        let answer = answer_of(rt.alloc(), line)?;
-        assert_eq!(&rt; answer.0.as_slice(), out.as_bytes(), "{line}");
-        assert_eq!(&rt; answer.1.as_slice(), told.as_bytes(), "{line}");
+    for (words, out, line) in ROWS {
+        let written = written_by(rt.alloc(), words)?;
+        assert_eq!(&rt; written.out.as_slice(), out.as_bytes(), "{words}");
+        assert_eq!(&rt; written.line.as_slice(), line.as_bytes(), "{words}");
+        assert!(rt; written.aside.is_empty(), "{words}");
     }
     Ok(())
 }
@@ -95,26 +108,10 @@ fn jobs_write_their_answers(rt: HostRuntime) -> Result<(), Fail> {
 // The reasons of one file among many go aside, after its name.
 #[test]
 fn reasons_go_aside(rt: HostRuntime) -> Result<(), Fail> {
-    let alloc = rt.alloc();
-    let mut words = Vec::new(alloc);
-    for word in ["each", "--why", "p.pk", "P", "none"] {
-        words.push(String::from_str(alloc, word)?)?;
-    }
-    let asked = read_asked(alloc, words)?;
-    let mut out = Vec::new(alloc);
-    let mut reasons = Vec::new(alloc);
-    let mut notes = Notes {
-        text: Vec::new(alloc),
-    };
-    let mut why = Why {
-        text: &mut reasons,
-        asked: asked.why,
-    };
-    let shelf = Shelf { alloc };
-    let _ending = run_job(alloc, &shelf, &asked, &mut out, &mut notes, &mut why)?;
-    assert_eq!(&rt; out.as_slice(), b"none\t3\tfault Open\n".as_slice());
+    let written = written_by(rt.alloc(), "each --why p.pk P none")?;
+    assert_eq!(&rt; written.out.as_slice(), b"none\t3\tfault Open\n".as_slice());
     assert_eq!(&rt;
-        notes.text.as_slice(),
+        written.aside.as_slice(),
         b"none:\n  it isn't on the shelf\n".as_slice()
     );
     Ok(())

@@ -1,5 +1,5 @@
 use Rattle.std.proofs.Common.{◌≡◌, Err, rules, refl}
-use Rattle.pickle_types.specs.TypeTable.{type_named}
+use Rattle.mapping_reasons.specs.Mapped.{mapped_type}
 use Rattle.mapping_reasons.specs.Found.{scene_type}
 use Rattle.mapping_reasons.specs.Why.{run_of}
 use Rattle.mapping_reasons.proofs.Meant.{told_again}
@@ -8,8 +8,8 @@ use Rattle.mapping_reasons.proofs.reasons_in.Goals as goal
 
 pub returns-clause-why : goal.returns-clause-why
 returns-clause-why g c =
-    let run = run_of (g.S.Space.view c.args.space.now) (g.S.Space.view c.map_again.new.space) c.args.ask.now c.args.terms.now c.args.outcome in
-    let type = type_named c.args.table.now c.args.id in
+    let run = run_of (g.S.Space.view c.args.space.now) (g.S.Space.view c.again.new.space) c.args.mapping.ask.now c.args.terms.now c.args.outcome in
+    let type = mapped_type c.args.mapping in
     let found = scene_type c.in_ok-scene.scene in
     let same : found ≡ type = rw (c.in_ok-scene.ensures.nodes, c.in_ok-scene.ensures.root) refl in
     elim c.match-end.branch [

@@ -6,7 +6,7 @@ use Rattle.jobs.specs.Jobs.{refused_each, no_type, each_done, each_fails}
 use Rattle.jobs.specs.Names.{AreNamesOf}
 use Rattle.jobs.proofs.EachWritten.{every_same}
 use Rattle.run_parts.specs.Accepted.{IsTableOf}
-use Rattle.jobs.proofs.each.run_each.Goals as goal
+use Rattle.jobs.proofs.each.Many.run.Goals as goal
 
 pub returns-in-Err : goal.returns-in-Err
 returns-in-Err g c = refused_each (rw (sym c.deref.ensures.value) c.in-Err.ensures.err) (Keeps-refl _)
@@ -20,8 +20,8 @@ pub returns-in-Ok-run_files : goal.returns-in-Ok-run_files
 returns-in-Ok-run_files g c =
     let gives = g.P.Opener.gives c.args.opener.now in
     let modes = ap (λ (aim : Aim). file_form aim.mode c.faults.result) c.of_request-mapping.ensures.aim in
-    each_done (subst (λ (every : Every). AppendsFiles (WritesRuns gives every) (AreNamesOf gives c.args.many.names.now) (g.O.Write.contents c.args.out.now) (g.O.Write.contents c.run_files.new.out) c.in-Ok-run_files.status)
-    (every_same c.args.many.request.now c.args.explains c.args.pickle.now.bytes.items _ _ _ c.of_request-mapping.ensures.aim c.of_request-mapping.ensures.reads.0 (c.of.ensures ∙ modes ∙ ap (file_form _) c.faults.ensures))
+    each_done (subst (λ (every : Every). AppendsFiles (WritesRuns gives every) (AreNamesOf gives c.args.self.names.now) (g.O.Write.contents c.args.out.now) (g.O.Write.contents c.run_files.new.out) c.in-Ok-run_files.status)
+    (every_same c.args.self.request.now c.args.explains c.args.pickle.now.bytes.items _ _ _ c.of_request-mapping.ensures.aim c.of_request-mapping.ensures.reads.0 (c.of.ensures ∙ modes ∙ ap (file_form _) c.faults.ensures))
     c.in-Ok-run_files.ensures.ok)
 
 pub returns : goal.returns

@@ -1,7 +1,7 @@
 -- The part that is told has the fault where the check found it.
 --
 -- The check finds the fault at the places of the part's way; the notes near it leave the way as it was.
-use Rattle.mapping_reasons.proofs.part.checked.Goals as goal
+use Rattle.mapping_reasons.proofs.mapping.TypeMapping.checked.Goals as goal
 
 pub returns-clause-part : goal.returns-clause-part
 returns-clause-part g c =

@@ -1,13 +1,13 @@
 -- The part that is found has the fault that the type means.
-use Rattle.pickle_types.specs.TypeTable.{type_named}
+use Rattle.mapping_reasons.specs.Mapped.{mapped_type}
 use Rattle.fault_check.specs.Ways.{fault_of}
 use Rattle.mapping_reasons.specs.Meant.{arises_there}
 use Rattle.mapping_reasons.proofs.Kept.{fault_means}
-use Rattle.mapping_reasons.proofs.part.searched.Goals as goal
+use Rattle.mapping_reasons.proofs.mapping.TypeMapping.searched.Goals as goal
 
 pub returns-in_ok-way-in-Ok-clause-part : goal.returns-in_ok-way-in-Ok-clause-part
 returns-in_ok-way-in-Ok-clause-part g c =
     let space = g.S.Space.view c.args.space.now in
-    let means = fault_means space space (type_named c.args.table.now c.args.id) c.args.ask.now c.args.fault c.requires.of_type c.requires.meant in
+    let means = fault_means space space (mapped_type c.args.self) c.args.self.ask.now c.args.fault c.requires.of_type c.requires.meant in
     rw (c.new.ensures, c.in_ok-way-in-Ok.ensures, c.as_slice.ensures.value)
     (arises_there (λ bytes known. c.in-Ok.ensures.is bytes known (fault_of c.args.fault) (means bytes known)))
