@@ -68,6 +68,7 @@ fn about(scene: &Scene<'_, '_>, fault: &Fault, found: &Found) -> Result<Text, Al
         Stop::Limit | Stop::Device | Stop::Memory => text,
     };
     let text = say_cause(scene, text.say(b"\n")?, fault, found)?;
+    let text = say_untried(scene, text, fault)?;
     let text = say_leads(scene, text, fault.around.leads.as_slice())?;
     let text = say_front(scene, text, fault)?;
     say_order(text, fault.around.fits)
@@ -92,6 +93,19 @@ fn say_cause(
         (_, Stop::Fault(MapFaultKind::End, at)) => say_end(scene, text, found, at),
         (_, Stop::Fault(MapFaultKind::NoBits, _)) => text.say(b"  an element has no bits\n"),
         _ => Ok(text),
+    }
+}
+
+/// Adds a line to the text, if a union isn't given its next alternative because of the kind of the fault.
+fn say_untried(scene: &Scene<'_, '_>, text: Text, fault: &Fault) -> Result<Text, AllocError> {
+    if fault.stop.misses() || !scene.has_next_alternative(&fault.way) {
+        return Ok(text);
+    }
+    match fault.stop {
+        Stop::Fault(_, _) => {
+            text.say(b"  only a Constraint fault leads to the next alternative of the union\n")
+        }
+        Stop::Limit | Stop::Device | Stop::Memory => Ok(text),
     }
 }
 

@@ -14,12 +14,12 @@ use pickle_map::{MapFault, MapFaultKind, Store, map};
 /// The most steps that the mapping in the other byte order takes. They suffice for the first bits.
 const FEW_STEPS: u64 = 4096;
 
-/// How many bits behind a mapping's start are its first ones: those of a file's head.
-const FIRST_BITS: u128 = 2048;
+/// How many bits behind a mapping's start are its first ones: those of the head of a file or of a file system.
+const FIRST_BITS: u128 = 16_384;
 
 impl TypeMapping<'_> {
     /// The other byte order, if the type's fault is a constraint in the first bits, and the mapping goes on behind it in
-    /// the other one.
+    /// the other one; or if the fault is End, and the mapping has no fault in the other one.
     pub fn other_order<S: Space>(
         self,
         fault: MapFault,
@@ -32,14 +32,15 @@ impl TypeMapping<'_> {
         ensures keeps { Keeps (S.view space.old) (S.view space.new) }
     {
         let TypeMapping { table, id, ask, .. } = self;
-        if !is_early(fault, ask.start) || !is_constraint(&part.cause) {
+        let ends = fault.kind == MapFaultKind::End;
+        if !ends && !(is_early(fault, ask.start) && is_constraint(&part.cause)) {
             return None;
         }
         let order = opposite(ask.order);
         let mut meter = Meter::new(ask.limit.min(FEW_STEPS));
         match map(table, id, order, ask.start, space, &mut meter, store) {
             Ok(()) => Some(order),
-            Err(other) if is_behind(other, fault) => Some(order),
+            Err(other) if !ends && is_behind(other, fault) => Some(order),
             Err(_) => None,
         }
     }

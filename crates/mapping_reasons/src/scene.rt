@@ -14,7 +14,7 @@ use pickle_script::excerpt::excerpt;
 use pickle_script::script::{Part, Script};
 use pickle_script::site::{Purpose, Site};
 use pickle_script::text::Text;
-use pickle_types::view::Node;
+use pickle_types::view::{Node, Shape};
 use std::alloc::{AllocError, Global};
 
 /// A type of a pickle, and the file over which it was mapped.
@@ -42,6 +42,14 @@ impl<'p, 't> Scene<'p, 't> {
         ensures lacks { IfOk result (λ found. IfNone found (LacksPart (scene_type self.now) (way_places way.now))) }
     {
         way.find(self.alloc, self.nodes, self.root)
+    }
+
+    /// Whether a part is in an alternative of a union that has another one after it.
+    pub fn has_next_alternative(&self, way: &Way) -> bool {
+        way.steps().iter().any(|step| match self.nodes.get(step.node) {
+            Some(node) => has_alternative(&node.shape, step.place.saturating_add(1)),
+            None => false,
+        })
     }
 
     /// The place of a part in the pickle. `None` for a predeclared type.
@@ -159,4 +167,12 @@ fn is_hexadecimal(script: &Script<'_>, part: Part) -> bool {
         }
     }
     false
+}
+
+/// Whether a type is a union with an alternative at a place.
+fn has_alternative(shape: &Shape, place: usize) -> bool {
+    match shape {
+        Shape::Union { alternatives, .. } => place < alternatives.len(),
+        _ => false,
+    }
 }
