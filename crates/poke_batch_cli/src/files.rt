@@ -123,10 +123,10 @@ fn open_source<R: Files<File = File> + AllocGlobal>(
     }
 }
 
-// Opens a file that has a length. A file of /proc is opened only if it says its length.
+// Opens a file that has a length. One that says that it is empty isn't opened if it has bytes, nor if it is in /proc.
 fn open_file<R: Files<File = File>>(rt: &R, path: &str) -> Result<FileSpace, OpenFault> {
     let space = FileSpace::open(rt, path)?;
-    if space.len() == 0 && is_in_proc(rt, path) {
+    if space.len() == 0 && (is_in_proc(rt, path) || has_bytes(rt, path)) {
         return Err(OpenFault::NotOpened);
     }
     Ok(space)
@@ -151,7 +151,16 @@ fn open_readable<R: Files<File = File>>(rt: &R, path: &str) -> Result<File, Open
     Ok(file)
 }
 
-// Whether a file is in /proc. The system makes those up as they are read, and most of them say that they are empty.
+// Whether a file that says that it is empty has bytes, as files of /sys do. One that can't be read may have some.
+fn has_bytes<R: Files<File = File>>(rt: &R, path: &str) -> bool {
+    match File::open(rt, path) {
+        Ok(mut file) => !matches!(file.read(&mut [0]), Ok(0)),
+        Err(_) => false,
+    }
+}
+
+// Whether a file is in /proc. The system makes those up as they are read, and most of them say that they are empty. They
+// aren't read here: that of /proc/kmsg would wait.
 fn is_in_proc<R: Files>(rt: &R, path: &str) -> bool {
     match (fs::metadata(rt, "/proc/self"), fs::metadata(rt, path)) {
         (Ok(proc), Ok(file)) => proc.dev() == file.dev(),
