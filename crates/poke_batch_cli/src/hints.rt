@@ -15,17 +15,28 @@ pub fn lacks_why(job: &Job) -> bool {
     matches!(job, Job::Formats | Job::Dump { .. })
 }
 
-/// Whether a job has the option `--why`, which wasn't given, and prints the line of its ending in words.
-pub fn takes_why(asked: &Asked) -> bool {
+/// The endings of a job about which its option `--why` tells more.
+#[derive(Clone, Copy, PartialEq, Eq)]
+pub enum Explained {
+    /// None: the job has no such option, or it was given, or the ending isn't printed in words.
+    Nothing,
+    /// Those by a pickle that is refused, or by a type that it lacks.
+    Refusals,
+    /// All that have a reason.
+    Endings,
+}
+
+/// The endings of a job that `--why` would explain.
+pub fn explained_endings(asked: &Asked) -> Explained {
     if asked.why {
-        return false;
+        return Explained::Nothing;
     }
     match &asked.job {
         Job::Map { .. }
         | Job::Bound { .. }
         | Job::BoundText { .. }
         | Job::Check { .. }
-        | Job::Types { .. } => true,
+        | Job::Types { .. } => Explained::Endings,
         Job::Request(request) => match (&request.over, &request.form) {
             (
                 Over::File(_),
@@ -33,18 +44,36 @@ pub fn takes_why(asked: &Asked) -> bool {
                     faults: FaultForm::Text,
                     ..
                 },
-            ) => true,
-            _ => false,
+            ) => Explained::Endings,
+            (
+                Over::Files { .. },
+                Form::Printed {
+                    faults: FaultForm::Text,
+                    ..
+                },
+            ) => Explained::Refusals,
+            _ => Explained::Nothing,
         },
-        Job::Formats | Job::Dump { .. } => false,
+        Job::Formats | Job::Dump { .. } => Explained::Nothing,
     }
 }
 
-/// Whether `--why` explains an ending.
-pub fn has_more(ending: Ending) -> bool {
-    let Ending::Run(outcome) = ending else {
-        return false;
-    };
+impl Explained {
+    /// Whether an ending is one of these.
+    pub fn has(self, ending: Ending) -> bool {
+        let Ending::Run(outcome) = ending else {
+            return false;
+        };
+        match self {
+            Explained::Nothing => false,
+            Explained::Refusals => outcome.status() == Status::Refused && has_reason(outcome),
+            Explained::Endings => has_reason(outcome),
+        }
+    }
+}
+
+// Whether an outcome has a reason that `--why` tells.
+fn has_reason(outcome: Outcome) -> bool {
     match outcome {
         Outcome::Done | Outcome::Refused(Refusal::Memory) => false,
         Outcome::Failed(failure) => matches!(failure, Failure::Open | Failure::Read),

@@ -20,7 +20,7 @@ use arrayvec::ArrayVec;
 use command_words::request::{FileNames, Over};
 use formats::tell_main;
 use given::{given_words, stands_for};
-use hints::{has_more, hint, lacks_why, takes_why};
+use hints::{Explained, explained_endings, hint, lacks_why};
 use job::do_job;
 use jobs::Ending;
 use looks::give_look;
@@ -53,14 +53,18 @@ fn main(rt: HostRuntime) -> ExitCode {
     let (faults, explainable, ending) = match read_job(&rt) {
         Ok(asked) => (
             faults_in(&asked.job),
-            takes_why(&asked),
+            explained_endings(&asked),
             do_job(&rt, asked, rt.stdout(), rt.stderr(), &mut reason),
         ),
         Err(fault) => {
             explain_words(&rt, &fault, &mut reason);
             (
                 FaultForm::Text,
-                reason.is_empty() && maps(&rt),
+                if reason.is_empty() && maps(&rt) {
+                    Explained::Endings
+                } else {
+                    Explained::Nothing
+                },
                 tell_words(
                     fault,
                     !reason.is_empty(),
@@ -70,7 +74,7 @@ fn main(rt: HostRuntime) -> ExitCode {
             )
         }
     };
-    if explainable && has_more(ending) && rt.stderr().is_terminal() {
+    if explainable.has(ending) && rt.stderr().is_terminal() {
         hint(&mut reason);
     }
     // The line is written by one call, so that those of parallel runs don't mix.
@@ -222,7 +226,7 @@ fn explain_words(rt: &HostRuntime, fault: &WordFault, reason: &mut Vec<u8>) {
         return;
     };
     let asks = words.iter().any(|word| word.as_str() == "--why");
-    if !asks && !always_explains(rt) {
+    if !asks && !always_explains(rt) && !dumps_to_somebody(rt, words.as_slice()) {
         return;
     }
     let told = match fault {
@@ -239,6 +243,14 @@ fn explain_words(rt: &HostRuntime, fault: &WordFault, reason: &mut Vec<u8>) {
         if tell_main(rt, words.as_slice(), reason).is_err() {
             reason.truncate(said);
         }
+    }
+}
+
+// Whether the arguments request a dump, and somebody reads standard error at a terminal.
+fn dumps_to_somebody(rt: &HostRuntime, words: &[String]) -> bool {
+    match words.first() {
+        Some(first) => first.as_str() == "dump" && rt.stderr().is_terminal(),
+        None => false,
     }
 }
 
