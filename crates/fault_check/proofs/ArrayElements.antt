@@ -21,7 +21,9 @@ use Rattle.fault_check.specs.declared.part.Part.{Part}
 use Rattle.fault_check.specs.declared.part.Entered.{Entered}
 use Rattle.fault_check.specs.declared.part.Entered.TheVariants as entered
 use Rattle.fault_check.specs.Ways.{OnBits, Comes, Enters, IsFault, fault_of}
-use Rattle.fault_check.specs.Elements.{ElementsTo, IsElement, IsEmpty}
+use Rattle.fault_check.specs.declared.site.Inner.{Inner}
+use Rattle.fault_check.specs.Elements.{ElementsTo, IsEmpty}
+use Rattle.fault_check.specs.Parts.{IsBare}
 
 one_more : {bits : List ℕ} {ty : PokeType} {order : Order} {s : ℕ} {extent : Extent} {i : ℕ} {levels : Levels} {p n : ℕ} {inside : Levels} {pn k j k' j' : ℕ} {v : Value} →
     Elements bits ty order s extent i levels p n inside pn k j → is_due extent (length bits) s n pn ≡ true → Means bits ty order inside pn (Ok v) k' j' → pn < end_of v →
@@ -73,14 +75,17 @@ same_fault kind place f e =
 -- the element after those that are values is entered
 module _ (bits : List ℕ) (nodes : List Node) (element : ℕ) (order : Order) (s : ℕ) (extent : Extent) (levels inside : Levels) (n p : ℕ) (f : FaultAt)
     (before : ElementsTo bits (type_of nodes element) order s extent levels inside n p) (due : is_due extent (length bits) s n p ≡ true) (goes : ends_before extent f.0 ≡ false) where
-  pub enters_element : (next : Part) → IsElement element order p next → Enters bits nodes inside n f (ElementsArise bits (type_of nodes element) order s extent levels f) (entered.Part next)
+  abbrev here : Inner
+  here = record { node = element; order = order; start = p }
+
+  pub enters_element : (next : Part) → IsBare here next → Enters bits nodes inside n f (ElementsArise bits (type_of nodes element) order s extent levels f) (entered.Part next)
   enters_element next is path h =
-      let h = of_bare is.bare h in
-      let h = rw (is.node, is.order_is, is.start) at h in
+      let h = of_bare is.clause_is h in
+      let h = rw is.inner_is at h in
       in_element before.holds due goes h
 
   -- or is a value without bits
-  pub enters_empty : (inside' : Levels) → f ≡ (fault.NoBits, p) → (result : Entered) → IsEmpty bits (type_of nodes element) element order inside inside' p result →
+  pub enters_empty : (inside' : Levels) → f ≡ (fault.NoBits, p) → (result : Entered) → IsEmpty bits (type_of nodes element) here inside inside' result →
       Enters bits nodes inside' n f (ElementsArise bits (type_of nodes element) order s extent levels f) result
   enters_empty inside' ef (entered.Part next) h = λ path arises. enters_element next h.0 path (rw h.1 at arises)
   enters_empty inside' ef entered.There h = rw ef (of_no_bits before.holds due h.means.holds h.ends)

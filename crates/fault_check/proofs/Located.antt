@@ -37,11 +37,13 @@ use Rattle.fault_parts.proofs.Faults.{faults_arise}
 use Rattle.fault_parts.proofs.Once as once
 use Rattle.fault_check.specs.declared.site.Tried.{Tried}
 use Rattle.fault_check.specs.declared.site.Tried.TheVariants as tried
+use Rattle.fault_check.specs.Digits.{RefusesNumber}
 use Rattle.fault_check.specs.Elements.{ElementsTo}
+use Rattle.fault_check.specs.declared.part.Elements.{Elements}
 use Rattle.fault_check.specs.declared.site.Inner.{Inner}
 use Rattle.fault_check.specs.declared.site.Site.{Site}
 use Rattle.fault_check.specs.declared.site.Site.TheVariants as site
-use Rattle.fault_check.specs.Sites.{TriesAs, TriesFieldAs, IsRefused, IsFaulty, RefusesDigits, IsSite, path_in, ReadsSite, IsSmallSite}
+use Rattle.fault_check.specs.Sites.{TriesAs, TriesFieldAs, IsRefused, IsFaulty, IsSite, path_in, path_among, ReadsSite, IsSmallSite}
 use Rattle.fault_check.specs.Ways.{Meaning, Comes, Misses, OnBits, field_then, part_then, fault_of}
 
 -- what a type means is the result of its plan
@@ -72,12 +74,12 @@ module _ (bits : List ℕ) (nodes : List Node) (pinned : Bool) (s : ℕ) (order 
   field_tried levels' p c st (tried.Inside at fault) h = λ rest. rw (h.keeps, h.there, c, st, result_is h.means) refl
 
 -- the same of a call, over a space whose bytes may be known
-pub fields_tried : {E : Type 0} (space : SpaceView) (nodes : List Node) (pinned : Bool) (s : ℕ) (order : Order) (f : Field) (levels : Levels) (behind : ℕ) (levels' : Levels) (p : ℕ) (order' : Order) → order' ≡ ordered f.order order
+pub fields_tried : {E : Type 0} (space : SpaceView) (nodes : List Node) (pinned : Bool) (s : ℕ) (order : Order) (f : Field) (levels : Levels) (behind : ℕ) (levels' : Levels) (p : ℕ)
     → condition (optional_term f.condition) levels s ≡ Ok true → field_start pinned (optional_term f.label) levels s behind ≡ Ok p → (result : Result Tried E)
-    → IfOk result (λ found. OnBits space (λ bits. TriesAs bits (type_of nodes f.node) (optional_term f.constraint) order' levels levels' p found))
+    → IfOk result (λ found. OnBits space (λ bits. TriesAs bits (type_of nodes f.node) (optional_term f.constraint) (ordered f.order order) levels levels' p found))
     → IfOk result (λ found. OnBits space (λ bits. TriesFieldAs bits nodes pinned s order f levels levels' behind found))
-fields_tried space nodes pinned s order f levels behind levels' p order' e c st (Ok found) h = λ bytes known. field_tried (bits_of bytes) nodes pinned s order f levels behind levels' p c st found (rw e at (h bytes known))
-fields_tried space nodes pinned s order f levels behind levels' p order' e c st (Err x) h = tt
+fields_tried space nodes pinned s order f levels behind levels' p c st (Ok found) h = λ bytes known. field_tried (bits_of bytes) nodes pinned s order f levels behind levels' p c st found (h bytes known)
+fields_tried space nodes pinned s order f levels behind levels' p c st (Err x) h = tt
 
 pub field_found : {bits : List ℕ} {pinned : Bool} {s : ℕ} {order : Order} {fields rest : Fields} {levels inside : Levels} {i behind : ℕ} (path : Path) → FieldsBefore bits pinned s order fields levels i rest inside behind
     → fields_path bits pinned s rest order inside behind ≡ 0 ∷ path → fields_path bits pinned s fields order levels s ≡ i ∷ path
@@ -156,7 +158,7 @@ pub digits_passed : {n s : ℕ} {fields : Parts} {width : ℕ} {levels inside : 
 digits_passed before = once.digits_along before
 
 module _ (nodes : List Node) (n s left cut w : ℕ) (p : Alternative) (rest : Parts) (inside : Levels) (ew : w ≡ width_in (number_type (type_of nodes p.node))) (ec : cut ≡ first_digits n left w) where
-  pub digits_beside : {x : FaultAt} → RefusesDigits (type_of nodes p.node) (optional_term p.constraint) cut s inside x → digits_path (part_then nodes p rest) n left inside s ≡ 0 ∷ []
+  pub digits_beside : {x : FaultAt} → RefusesNumber nodes cut s p inside x → digits_path (part_then nodes p rest) n left inside s ≡ 0 ∷ []
   digits_beside h =
       let means = rw (ec, ew) at h.means.holds in
       rw (once.number_result means, h.refused) refl
@@ -194,6 +196,14 @@ module _ (bits : List ℕ) (order : Order) (levels : Levels) (s : ℕ) (here : s
 
   pub bound_path : (ty : PokeType) (bound : Bound) (x : FaultAt) → extent_of bound levels s ≡ Err x → path_of bits (ArrayOf ty bound) order levels s ≡ []
   bound_path ty bound x e = rw (le-leb s (length bits) here, e) refl
+
+-- an array, by its elements
+pub array_among : (bits : List ℕ) (nodes : List Node) (levels inside : Levels) (all now : Elements) → all ≡ now → inside ≡ opened levels → now.start ≤ length bits → (bound : Bound) → extent_of bound levels now.start ≡ Ok now.extent
+    → path_of bits (ArrayOf (type_of nodes now.element) bound) now.order levels now.start ≡ path_among bits nodes inside all
+array_among bits nodes levels inside all now are opens here bound e =
+    let path = path_of bits (ArrayOf (type_of nodes now.element) bound) now.order levels now.start in
+    subst (λ (a : Elements). path ≡ path_among bits nodes inside a) (sym are)
+    (subst (λ (l : Levels). path ≡ path_among bits nodes l now) (sym opens) (array_path bits now.order levels now.start here (type_of nodes now.element) bound now.extent e))
 
 -- a number that ends past the last bit, one whose bits are all there, and a type that starts past the last bit
 pub short_is : (bits : List ℕ) (ty : PokeType) (type : IntegerType) (order : Order) (levels : Levels) (s : ℕ) → number_type ty ≡ Some type → length bits < s + type.width → path_of bits ty order levels s ≡ []

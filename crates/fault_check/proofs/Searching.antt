@@ -1,7 +1,7 @@
 -- Steps of a search, call by call.
-use Rattle.std.proofs.Common.{◌≡◌, ℕ, zero, suc, ◌+◌, ◌-◌, ◌*◌, ◌<◌, ◌≤◌, length, Bool, true, false, List, [], Option, Some, None, Result, Ok, Err, refl, option_map, sym, ap, ◌∙◌, arith}
-use Rattle.std.specs.Prelude.{IfErr, IfOk, ◌≢◌, if◌then◌else◌, nat_eq}
-use Rattle.std.proofs.lemmas.Bool.{le-leb, lt-leb, eq-eqb, ne_eqb}
+use Rattle.std.proofs.Common.{◌≡◌, ℕ, zero, suc, ◌+◌, ◌-◌, ◌*◌, ◌<◌, ◌≤◌, length, Bool, true, false, List, [], Option, Some, None, Result, Ok, Err, refl, option_map, sym, ap, ◌∙◌, subst, arith}
+use Rattle.std.specs.Prelude.{IfErr, IfOk, ◌≢◌, nat_eq}
+use Rattle.std.proofs.lemmas.Bool.{le-leb, ne_eqb}
 use Rattle.bit_space.specs.declared.meter.Meter.{Meter}
 use Rattle.bit_space.specs.declared.order.Order.{Order}
 use Rattle.bit_space.specs.Bits.{bits_of}
@@ -16,7 +16,7 @@ use Rattle.pickle_types.specs.Types.{Term, Bound, PokeType, ArrayOf, StructOf, I
 use Rattle.pickle_types.specs.Table.{type_of, optional_term}
 use Rattle.pickle_meaning.specs.declared.extent.Extent.{Extent}
 use Rattle.pickle_meaning.specs.Values.{Naming, Value, end_of, Levels, pushed, opened}
-use Rattle.pickle_meaning.specs.Clauses.{FaultAt, constraint, clause_steps, condition, field_start, label_steps, extent_of, bound_steps, is_due, ends_before, misses}
+use Rattle.pickle_meaning.specs.Clauses.{FaultAt, clause_steps, condition, field_start, label_steps, extent_of, bound_steps, is_due, ends_before, misses}
 use Rattle.pickle_meaning.specs.Means.{ordered, Means, NumberMeans, number_type, width_in, first_digits}
 use Rattle.mapping_plans.specs.Mapping.{plan, number_plan}
 use Rattle.mapping_plans.specs.Plan.{Plan, Ended as Done_with, Tick, Made, Read, result_of, steps_of}
@@ -30,19 +30,18 @@ use Rattle.pickle_map.proofs.Followed.{walk_leaves}
 use Rattle.value_store.specs.Slots.{Held, levels}
 use Rattle.fault_parts.specs.Somehow.{Somehow}
 use Rattle.fault_parts.proofs.Once as once
-use Rattle.fault_check.specs.declared.site.Attempt.{Attempt}
-use Rattle.fault_check.specs.declared.site.Attempt.TheVariants as attempt
 use Rattle.fault_check.specs.declared.site.Ended.{Ended}
 use Rattle.fault_check.specs.declared.site.Ended.TheVariants as ended
 use Rattle.fault_check.specs.declared.site.Tried.{Tried}
 use Rattle.fault_check.specs.declared.site.Tried.TheVariants as tried
-use Rattle.fault_check.specs.Ways.{OnBits, KeepsMeant, field_then, part_then, fault_of}
+use Rattle.fault_check.specs.Ways.{OnBits, KeepsMeant, field_then, part_then}
 use Rattle.fault_check.specs.Digits.{KeepsNumber, PassesNumber}
+use Rattle.fault_check.specs.declared.part.Elements.{Elements}
 use Rattle.fault_check.specs.declared.site.Inner.{Inner}
 use Rattle.fault_check.specs.declared.site.Site.{Site}
 use Rattle.fault_check.specs.declared.site.Site.TheVariants as site
-use Rattle.fault_check.specs.Sites.{TriesAs, IsPassed, IsRefused, IsFaulty, ReadsSite, IsSmallSite}
-use Rattle.fault_check.specs.Searched.{Stops, Spends, Ends, Searches, SpendsReading, SpendsAlone, SearchesReading, stop_of, part_steps, number_steps, value_steps, field_left, alternative_left, digits_search, number_search, fields_search, alternatives_search, search_of, search_in, site_left, elements_search}
+use Rattle.fault_check.specs.Sites.{TriesAs, IsRefused, IsFaulty, ReadsSite, IsSmallSite}
+use Rattle.fault_check.specs.Searched.{Stops, Spends, Ends, Searches, SpendsReading, SpendsAlone, SearchesReading, stop_of, part_steps, number_steps, field_left, digits_search, number_search, fields_search, alternatives_search, search_of, search_in, search_among, site_left, elements_search}
 use Rattle.fault_check.proofs.Located.{result_is}
 
 -- ---- calls of the mapper
@@ -259,6 +258,15 @@ module _ (bits : List ℕ) (order : Order) (levels : Levels) (s : ℕ) (here : s
 
   pub bound_search : (ty : PokeType) (bound : Bound) → bound_steps bound levels ≤ search_of bits (ArrayOf ty bound) order levels s
   bound_search ty bound = rw (le-leb s (length bits) here) (omega arith)
+
+-- an array, by its elements
+pub array_least : (bits : List ℕ) (nodes : List Node) (levels inside : Levels) (all now : Elements) → all ≡ now → inside ≡ opened levels → now.start ≤ length bits → (bound : Bound) → extent_of bound levels now.start ≡ Ok now.extent
+    → bound_steps bound levels + search_among bits nodes inside all ≤ search_of bits (ArrayOf (type_of nodes now.element) bound) now.order levels now.start
+array_least bits nodes levels inside all now are opens here bound e =
+    let whole = search_of bits (ArrayOf (type_of nodes now.element) bound) now.order levels now.start in
+    subst (λ (a : Elements). bound_steps bound levels + search_among bits nodes inside a ≤ whole) (sym are)
+    (subst (λ (l : Levels). bound_steps bound levels + search_among bits nodes l now ≤ whole) (sym opens)
+    (array_search bits now.order levels now.start here (type_of nodes now.element) bound now.extent e))
 
 -- an integral struct that was read as a number
 site_read_left : (bits : List ℕ) (nodes : List Node) (levels : Levels) (whole : Inner) (name : Naming) (number : IntegerType) (fields : Parts) (start : ℕ) → whole.start ≡ start → start ≤ length bits

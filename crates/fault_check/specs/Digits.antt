@@ -1,5 +1,4 @@
 -- What is found on a path through the fields of integral structs.
-use Rattle.bit_space.specs.declared.order.Order.{Order}
 use Rattle.std.specs.Prelude.{◌≡◌, ℕ, ◌<◌, ◌≤◌, length, drop, List, Some, Ok, Err}
 use Rattle.pickle_types.specs.declared.node.Node.{Node}
 use Rattle.pickle_types.specs.declared.node.Part.{Part}
@@ -8,10 +7,7 @@ use Rattle.pickle_types.specs.Table.{type_of, open_parts, optional_term}
 use Rattle.pickle_meaning.specs.Values.{Value, Levels, pushed}
 use Rattle.pickle_meaning.specs.Clauses.{FaultAt, constraint}
 use Rattle.pickle_meaning.specs.Means.{NumberMeans}
-use Rattle.pickle_meaning.specs.declared.faults.MapFault.{MapFault}
-use Rattle.value_store.specs.Slots.{Held, levels}
-use Rattle.fault_check.specs.Ways.{fault_of}
-use Rattle.fault_parts.specs.Arises.{Path, DigitsBefore, Arises}
+use Rattle.fault_parts.specs.Arises.{DigitsBefore}
 use Rattle.fault_parts.specs.Somehow.{Somehow}
 
 -- one more value was stored, which the number means
@@ -38,7 +34,3 @@ pub record ReachesNumber (nodes : List Node) (n s : ℕ) (fields : List Part) (w
   pub inside : place < length fields
   pub few : left ≤ 64
   pub before : DigitsBefore n s (open_parts (type_of nodes) fields) width levels place (open_parts (type_of nodes) (drop place fields)) left levels'
-
--- the fault arises at the end of a path in the type at a place of a table, on bits
-abbrev pub ArisesAt : List Node → (at : ℕ) → Order → (start : ℕ) → MapFault → Held → Path → (bits : List ℕ) → Type 0
-ArisesAt nodes at order start fault store path bits = Arises bits (type_of nodes at) order (levels nodes store) start (fault_of fault) path

@@ -4,7 +4,6 @@ use Rattle.std.specs.declared.alloc.Global.{Global}
 use Rattle.bit_space.specs.declared.meter.Meter.{Meter}
 use Rattle.bit_space.specs.declared.order.Order.{Order}
 use Rattle.bit_space.specs.SpaceView.{SpaceView, HasRisen}
-use Rattle.pickle_types.specs.declared.node.Extent.{Extent as Bound}
 use Rattle.pickle_types.specs.declared.node.Field.{Field}
 use Rattle.pickle_types.specs.declared.node.Node.{Node}
 use Rattle.pickle_types.specs.declared.node.Part.{Part as Alternative}
@@ -22,6 +21,11 @@ use Rattle.pickle_map.specs.declared.mapper.stop.Stop.TheVariants as stop
 use Rattle.mapping_plans.specs.Mapping.{plan, number_plan}
 use Rattle.mapping_plans.specs.Plan.{result_of, steps_of}
 use Rattle.value_store.specs.Slots.{Held, levels}
+use Rattle.fault_check.specs.declared.checker.Checker.{Checker}
+use Rattle.fault_check.specs.declared.part.Array.{Array}
+use Rattle.fault_check.specs.declared.part.Elements.{Elements}
+use Rattle.fault_check.specs.declared.part.Part.{Part}
+use Rattle.fault_check.specs.declared.part.StructStart.{StructStart}
 use Rattle.fault_check.specs.declared.site.Attempt.{Attempt}
 use Rattle.fault_check.specs.declared.site.Attempt.TheVariants as attempt
 use Rattle.fault_check.specs.declared.site.Cut.{Cut}
@@ -34,7 +38,7 @@ use Rattle.fault_check.specs.declared.site.Site.{Site}
 use Rattle.fault_check.specs.declared.site.Site.TheVariants as site
 use Rattle.fault_check.specs.declared.site.Tried.{Tried}
 use Rattle.fault_check.specs.declared.site.Tried.TheVariants as tried
-use Rattle.fault_check.specs.Ways.{OnBits, field_then, part_then}
+use Rattle.fault_check.specs.Ways.{OnBits, constraint_of, field_then, part_then}
 
 -- ---- how many steps a search takes
 
@@ -187,6 +191,13 @@ search_cut nodes levels cut = number_search (type_of nodes cut.node) cut.digits 
 abbrev pub search_in : (bits : List ℕ) → List Node → Levels → Inner → ℕ
 search_in bits nodes levels part = search_of bits (type_of nodes part.node) part.order levels part.start
 
+-- the search among the elements of an array
+abbrev pub search_among : (bits : List ℕ) → List Node → Levels → Elements → ℕ
+search_among bits nodes levels all =
+    elements_search (λ inside p. steps_of bits (plan (length bits) (type_of nodes all.element) all.order inside p))
+    (λ inside p. result_of bits (plan (length bits) (type_of nodes all.element) all.order inside p)) (search_of bits (type_of nodes all.element) all.order)
+    (length bits) all.start all.extent (suc (length bits)) 0 levels all.start
+
 -- what is left after a site was found
 abbrev pub site_left : (bits : List ℕ) → List Node → Levels → Site → ℕ
 site_left bits nodes levels site.Itself = 0
@@ -211,65 +222,74 @@ alternative_left bits nodes order p rest before levels s attempt.Misses = altern
 alternative_left bits nodes order p rest before levels s attempt.Beside = 0
 alternative_left bits nodes order p rest before levels s (attempt.Inside at) = search_of bits (type_of nodes p.node) (ordered p.order order) levels at
 
--- What calls say that read the space, where its bytes are known, between the space, the meter and the store before the
--- call and after it.
-module _ (nodes : List Node) (space space' : SpaceView) (meter meter' : Meter) where
-  -- the type at a place of the table was mapped
-  abbrev pub SpendsType : Held → (at : ℕ) → Order → (start : ℕ) → Result ℕ Stop → Type 0
-  SpendsType store at order start result =
-      OnBits space (λ bits. SpendsReading space space' meter meter' result (steps_of bits (plan (length bits) (type_of nodes at) order (levels nodes store) start)))
+-- What calls say that read the space, where its bytes are known, between the space and the checker before the call and
+-- after it.
+module _ (space space' : SpaceView) (old new : Checker) where
+  -- so many steps of the search, and so many left after what was found
+  abbrev pub SearchesOn : {A : Type 0} → (whole : List ℕ → ℕ) → (left : List ℕ → A → ℕ) → Result A Ended → Type 0
+  SearchesOn whole left result = OnBits space (λ bits. SearchesReading space space' old.meter.now new.meter.now (whole bits) (left bits) result)
+
+  -- a type was mapped
+  abbrev pub SpendsType : Inner → Result ℕ Stop → Type 0
+  SpendsType inner result =
+      OnBits space (λ bits. SpendsReading space space' old.meter.now new.meter.now result
+      (steps_of bits (plan (length bits) (type_of old.nodes.now inner.node) inner.order (levels old.nodes.now old.store.now) inner.start)))
 
   -- it was tried, with its constraint
-  abbrev pub SearchesPart : Held → (at : ℕ) → Option (Box Resolved Global) → Order → (start : ℕ) → Result Tried Ended → Type 0
-  SearchesPart store at clause order start result =
-      OnBits space (λ bits. SearchesReading space space' meter meter' (part_steps bits (type_of nodes at) (optional_term clause) order (levels nodes store) start) none_left result)
+  abbrev pub SearchesPart : Part → Result Tried Ended → Type 0
+  SearchesPart part =
+      SearchesOn (λ bits. part_steps bits (type_of old.nodes.now part.inner.node) (constraint_of part) part.inner.order (levels old.nodes.now old.store.now) part.inner.start)
+      (λ bits. none_left)
 
-  -- the search in a part, and one step of it
-  abbrev pub SearchesIn : Held → Inner → Result (Unit {0}) Ended → Type 0
-  SearchesIn store part result = OnBits space (λ bits. SearchesReading space space' meter meter' (search_in bits nodes (levels nodes store) part) none_left result)
+  -- the search in a type, and one step of it
+  abbrev pub SearchesIn : Inner → Result (Unit {0}) Ended → Type 0
+  SearchesIn inner = SearchesOn (λ bits. search_in bits old.nodes.now (levels old.nodes.now old.store.now) inner) (λ bits. none_left)
 
-  abbrev pub SearchesSite : (store store' : Held) → Inner → Result Site Ended → Type 0
-  SearchesSite store store' part result =
-      OnBits space (λ bits. SearchesReading space space' meter meter' (search_in bits nodes (levels nodes store) part) (site_left bits nodes (levels nodes store')) result)
+  abbrev pub SearchesSite : Inner → Result Site Ended → Type 0
+  SearchesSite inner =
+      SearchesOn (λ bits. search_in bits old.nodes.now (levels old.nodes.now old.store.now) inner) (λ bits. site_left bits old.nodes.now (levels old.nodes.now new.store.now))
 
   -- the fields of a struct, and one of them
-  abbrev pub SearchesFields : (store store' : Held) → (pinned : Bool) → List Field → Order → (start : ℕ) → Result Site Ended → Type 0
-  SearchesFields store store' pinned fields order start result =
-      OnBits space (λ bits. SearchesReading space space' meter meter' (fields_search bits pinned start (open_fields (type_of nodes) fields) order (levels nodes store) start)
-      (site_left bits nodes (levels nodes store')) result)
+  abbrev pub SearchesFields : StructStart → List Field → Result Site Ended → Type 0
+  SearchesFields whole fields =
+      SearchesOn (λ bits. fields_search bits whole.pinned whole.start (open_fields (type_of old.nodes.now) fields) whole.order (levels old.nodes.now old.store.now) whole.start)
+      (λ bits. site_left bits old.nodes.now (levels old.nodes.now new.store.now))
 
-  abbrev pub SearchesField : (store store' : Held) → (pinned : Bool) → (start : ℕ) → Order → Field → (behind : ℕ) → Result Tried Ended → Type 0
-  SearchesField store store' pinned start order f behind result =
-      OnBits space (λ bits. (rest : Fields) → SearchesReading space space' meter meter' (fields_search bits pinned start (field_then nodes f rest) order (levels nodes store) behind)
-      (field_left bits nodes pinned start order f rest (levels nodes store')) result)
+  abbrev pub SearchesField : StructStart → Field → (behind : ℕ) → Result Tried Ended → Type 0
+  SearchesField whole field behind result =
+      OnBits space (λ bits. (rest : Fields) → SearchesReading space space' old.meter.now new.meter.now
+      (fields_search bits whole.pinned whole.start (field_then old.nodes.now field rest) whole.order (levels old.nodes.now old.store.now) behind)
+      (field_left bits old.nodes.now whole.pinned whole.start whole.order field rest (levels old.nodes.now new.store.now)) result)
 
   -- the alternatives of a union, and one of them
-  abbrev pub SearchesAlternatives : (store store' : Held) → List Alternative → Order → (start : ℕ) → Result Site Ended → Type 0
-  SearchesAlternatives store store' alternatives order start result =
-      OnBits space (λ bits. SearchesReading space space' meter meter' (alternatives_search bits (open_parts (type_of nodes) alternatives) order (levels nodes store) start)
-      (site_left bits nodes (levels nodes store')) result)
+  abbrev pub SearchesAlternatives : List Alternative → Order → (start : ℕ) → Result Site Ended → Type 0
+  SearchesAlternatives alternatives order start =
+      SearchesOn (λ bits. alternatives_search bits (open_parts (type_of old.nodes.now) alternatives) order (levels old.nodes.now old.store.now) start)
+      (λ bits. site_left bits old.nodes.now (levels old.nodes.now new.store.now))
 
-  abbrev pub SearchesAlternative : (store store' : Held) → Alternative → Order → (start : ℕ) → Result Attempt Ended → Type 0
-  SearchesAlternative store store' p order start result =
-      OnBits space (λ bits. (rest : Parts) → SearchesReading space space' meter meter' (alternatives_search bits (part_then nodes p rest) order (levels nodes store) start)
-      (alternative_left bits nodes order p rest (levels nodes store) (levels nodes store') start) result)
+  abbrev pub SearchesAlternative : Alternative → Order → (start : ℕ) → Result Attempt Ended → Type 0
+  SearchesAlternative alternative order start result =
+      OnBits space (λ bits. (rest : Parts) → SearchesReading space space' old.meter.now new.meter.now
+      (alternatives_search bits (part_then old.nodes.now alternative rest) order (levels old.nodes.now old.store.now) start)
+      (alternative_left bits old.nodes.now order alternative rest (levels old.nodes.now old.store.now) (levels old.nodes.now new.store.now) start) result)
 
   -- an array, and its elements
-  abbrev pub SearchesArray : (store store' : Held) → (element : ℕ) → Bound → Order → (start : ℕ) → Result Site Ended → Type 0
-  SearchesArray store store' element bound order start result =
-      OnBits space (λ bits. SearchesReading space space' meter meter' (search_of bits (ArrayOf (type_of nodes element) (bound_of bound)) order (levels nodes store) start)
-      (site_left bits nodes (levels nodes store')) result)
+  abbrev pub SearchesArray : Array → Result Site Ended → Type 0
+  SearchesArray array =
+      SearchesOn (λ bits. search_of bits (ArrayOf (type_of old.nodes.now array.element) (bound_of array.bound.now)) array.order (levels old.nodes.now old.store.now) array.start)
+      (λ bits. site_left bits old.nodes.now (levels old.nodes.now new.store.now))
 
-  abbrev pub SearchesElements : (store store' : Held) → (element : ℕ) → Extent → Order → (start : ℕ) → Result Site Ended → Type 0
-  SearchesElements store store' element extent order start result =
-      OnBits space (λ bits. SearchesReading space space' meter meter'
-      (elements_search (λ inside p. steps_of bits (plan (length bits) (type_of nodes element) order inside p)) (λ inside p. result_of bits (plan (length bits) (type_of nodes element) order inside p))
-      (search_of bits (type_of nodes element) order) (length bits) start extent (suc (length bits)) 0 (levels nodes store) start)
-      (site_left bits nodes (levels nodes store')) result)
+  abbrev pub SearchesElements : Elements → Result Site Ended → Type 0
+  SearchesElements all =
+      SearchesOn (λ bits. search_among bits old.nodes.now (levels old.nodes.now old.store.now) all) (λ bits. site_left bits old.nodes.now (levels old.nodes.now new.store.now))
 
 -- an expression beside a type was evaluated, whatever the names of the table are
 abbrev pub SpendsClause : {A : Type 0} → (meter meter' : Meter) → Held → Option (Box Resolved Global) → Result A Stop → Type 0
 SpendsClause meter meter' store clause result = (nodes : List Node) → SpendsAlone meter meter' result (clause_steps (optional_term clause) (levels nodes store))
+
+-- the constraint of a part was
+abbrev pub SpendsConstraint : (meter meter' : Meter) → Held → Part → Result (Unit {0}) Stop → Type 0
+SpendsConstraint meter meter' store part result = (nodes : List Node) → SpendsAlone meter meter' result (clause_steps (constraint_of part) (levels nodes store))
 
 abbrev pub SpendsLabel : {A : Type 0} → (meter meter' : Meter) → Held → (pinned : Bool) → Option (Box Resolved Global) → Result A Stop → Type 0
 SpendsLabel meter meter' store pinned label result = (nodes : List Node) → SpendsAlone meter meter' result (label_steps pinned (optional_term label) (levels nodes store))
@@ -279,23 +299,25 @@ abbrev pub SearchesRead : (space space' : SpaceView) → (meter meter' : Meter) 
 SearchesRead space space' meter meter' result = OnBits space (λ bits. SearchesReading space space' meter meter' 1 none_left result)
 
 -- what calls say that read nothing
-module _ (nodes : List Node) (meter meter' : Meter) (store : Held) where
-  -- a number was stored, and tried with its constraint
-  abbrev pub SpendsNumber : (at digits start : ℕ) → Result (Unit {0}) Stop → Type 0
-  SpendsNumber at digits start result = SpendsAlone meter meter' result (1 + steps_of [] (number_plan (type_of nodes at) digits (levels nodes store) start))
+module _ (old new : Checker) where
+  -- a number was stored as a type, and tried with its constraint as a field
+  abbrev pub SpendsCut : Cut → Result (Unit {0}) Stop → Type 0
+  SpendsCut cut result =
+      SpendsAlone old.meter.now new.meter.now result (1 + steps_of [] (number_plan (type_of old.nodes.now cut.node) cut.digits (levels old.nodes.now old.store.now) cut.start))
 
-  abbrev pub SearchesNumber : (digits start : ℕ) → Alternative → Result Tried Ended → Type 0
-  SearchesNumber digits start p result =
-      SearchesAlone meter meter' (number_steps (type_of nodes p.node) (optional_term p.constraint) digits (levels nodes store) start) none_left result
+  abbrev pub SearchesNumber : Alternative → (digits start : ℕ) → Result Tried Ended → Type 0
+  SearchesNumber p digits start result =
+      SearchesAlone old.meter.now new.meter.now (number_steps (type_of old.nodes.now p.node) (optional_term p.constraint) digits (levels old.nodes.now old.store.now) start) none_left result
 
   -- the fields of a number
-  abbrev pub SearchesDigits : (store' : Held) → List Alternative → (digits width start : ℕ) → Result Digits Ended → Type 0
-  SearchesDigits store' fields digits width start result =
-      SearchesAlone meter meter' (digits_search (open_parts (type_of nodes) fields) digits width (levels nodes store) start) (digits_left nodes (levels nodes store')) result
+  abbrev pub SearchesDigits : List Alternative → (digits width start : ℕ) → Result Digits Ended → Type 0
+  SearchesDigits fields digits width start result =
+      SearchesAlone old.meter.now new.meter.now (digits_search (open_parts (type_of old.nodes.now) fields) digits width (levels old.nodes.now old.store.now) start)
+      (digits_left old.nodes.now (levels old.nodes.now new.store.now)) result
 
   -- the search in a number
   abbrev pub SearchesCut : Cut → Result (Unit {0}) Ended → Type 0
-  SearchesCut cut result = SearchesAlone meter meter' (search_cut nodes (levels nodes store) cut) none_left result
+  SearchesCut cut result = SearchesAlone old.meter.now new.meter.now (search_cut old.nodes.now (levels old.nodes.now old.store.now) cut) none_left result
 
 -- Why a search ended for the part of a type, from the bit `start` on: where the bytes are known, fewer steps were left
 -- than it takes, a read failed, or an allocation did.

@@ -1,17 +1,13 @@
 -- Where the fault of a type arises, as it is found step by step.
-use Rattle.std.specs.Prelude.{◌≡◌, ℕ, ◌+◌, ◌<◌, ◌≤◌, ◌^◌, length, suc, Bool, List, [], ◌∷◌, ◌++◌, Option, Some, Box, Ok, Err}
-use Rattle.std.specs.declared.alloc.Global.{Global}
+use Rattle.std.specs.Prelude.{◌≡◌, ℕ, ◌+◌, ◌<◌, ◌≤◌, ◌^◌, length, suc, Bool, List, [], ◌∷◌, ◌++◌, Option, Some, Ok, Err}
 use Rattle.bit_space.specs.declared.order.Order.{Order}
-use Rattle.pickle_types.specs.declared.node.Extent.{Extent as Bound}
 use Rattle.pickle_types.specs.declared.node.Field.{Field}
 use Rattle.pickle_types.specs.declared.node.Node.{Node}
 use Rattle.pickle_types.specs.declared.node.Part.{Part as Alternative}
-use Rattle.pickle_types.specs.declared.node.Resolved.{Resolved}
 use Rattle.pickle_types.specs.declared.integer.IntegerType.{IntegerType}
 use Rattle.pickle_meaning.specs.Numbers.{number_at}
 use Rattle.pickle_types.specs.Types.{Term, PokeType, ArrayOf, Fields, Parts, depth}
-use Rattle.pickle_types.specs.Table.{type_of, open_fields, open_parts, optional_term, bound_of}
-use Rattle.pickle_meaning.specs.declared.extent.Extent.{Extent}
+use Rattle.pickle_types.specs.Table.{type_of, open_fields, open_parts, bound_of}
 use Rattle.pickle_meaning.specs.Values.{Value, end_of, Levels, pushed, no_values}
 use Rattle.pickle_meaning.specs.Clauses.{FaultAt, constraint}
 use Rattle.pickle_meaning.specs.Means.{ordered, Means, NumberMeans}
@@ -23,6 +19,11 @@ use Rattle.value_store.specs.Slots.{Held, levels, level_count}
 use Rattle.fault_parts.specs.Arises.{Path, Arises}
 use Rattle.fault_parts.specs.Paths.{path_of, number_path, fields_path, alternatives_path, elements_path, digits_path}
 use Rattle.fault_parts.specs.Somehow.{Somehow}
+use Rattle.fault_check.specs.declared.checker.Checker.{Checker}
+use Rattle.fault_check.specs.declared.part.Array.{Array}
+use Rattle.fault_check.specs.declared.part.Elements.{Elements}
+use Rattle.fault_check.specs.declared.part.Part.{Part}
+use Rattle.fault_check.specs.declared.part.StructStart.{StructStart}
 use Rattle.fault_check.specs.declared.site.Attempt.{Attempt}
 use Rattle.fault_check.specs.declared.site.Attempt.TheVariants as attempt
 use Rattle.fault_check.specs.declared.site.Cut.{Cut}
@@ -33,8 +34,8 @@ use Rattle.fault_check.specs.declared.site.Site.{Site}
 use Rattle.fault_check.specs.declared.site.Site.TheVariants as site
 use Rattle.fault_check.specs.declared.site.Tried.{Tried}
 use Rattle.fault_check.specs.declared.site.Tried.TheVariants as tried
-use Rattle.fault_check.specs.Digits.{PassesNumber}
-use Rattle.fault_check.specs.Ways.{PassesField, Misses, fault_of, field_then, part_then}
+use Rattle.fault_check.specs.Digits.{KeepsNumber, PassesNumber, RefusesNumber}
+use Rattle.fault_check.specs.Ways.{PassesField, Misses, constraint_of, fault_of, field_then, part_then}
 
 -- if a type means a fault on these bits, it arises at the end of the path
 abbrev pub FindsPart : PokeType → Order → (start : ℕ) → Path → (bits : List ℕ) → Type 0
@@ -46,6 +47,12 @@ path_in bits nodes levels part = path_of bits (type_of nodes part.node) part.ord
 
 abbrev pub path_cut : List Node → Levels → Cut → Path
 path_cut nodes levels cut = number_path (type_of nodes cut.node) cut.digits levels cut.start
+
+-- the path from the elements of an array to where a fault among them arises
+abbrev pub path_among : (bits : List ℕ) → List Node → Levels → Elements → Path
+path_among bits nodes levels all =
+    elements_path (λ inside p. result_of bits (plan (length bits) (type_of nodes all.element) all.order inside p)) (path_of bits (type_of nodes all.element) all.order)
+    (length bits) all.start all.extent (suc (length bits)) 0 levels all.start
 
 -- how a path begins: with nothing, with a place alone, or with a place and the path from its part
 abbrev pub IsSite : (bits : List ℕ) → List Node → Levels → Path → Site → Type 0
@@ -145,15 +152,10 @@ StopsNumber ty n s levels levels' stop.Limit = Unit {0}
 StopsNumber ty n s levels levels' stop.Device = Unit {0}
 StopsNumber ty n s levels levels' stop.Memory = Unit {0}
 
--- it is a value whose constraint has a fault
-pub record RefusesDigits (ty : PokeType) (c : Option Term) (n s : ℕ) (levels : Levels) (f : FaultAt) : Type 0 where
-  pub value : Value
-  pub means : Somehow (NumberMeans ty n levels s (Ok value))
-  pub refused : constraint c (pushed levels (Some value)) s ≡ Err f
-
+-- it is stored, and its constraint holds; or its constraint or its number has a fault
 abbrev pub TriesDigitsAs : List Node → (n s : ℕ) → Alternative → (levels levels' : Levels) → Tried → Type 0
 TriesDigitsAs nodes n s p levels levels' (tried.Passed end) = PassesNumber nodes n s p levels levels'
-TriesDigitsAs nodes n s p levels levels' (tried.Beside fault) = RefusesDigits (type_of nodes p.node) (optional_term p.constraint) n s levels (fault_of fault)
+TriesDigitsAs nodes n s p levels levels' (tried.Beside fault) = RefusesNumber nodes n s p levels (fault_of fault)
 TriesDigitsAs nodes n s p levels levels' (tried.Inside at fault) = Somehow (NumberMeans (type_of nodes p.node) n levels s (Err (fault_of fault))) × (levels' ≡ levels)
 
 -- ---- an integral struct as a number
@@ -172,48 +174,64 @@ IsSmallSite node start (site.Beside place) = ⊥
 IsSmallSite node start (site.Inside place inner) = ⊥
 IsSmallSite node start (site.Number cut) = (cut.node ≡ node) × (cut.start ≡ start) × (cut.start < 2 ^ 63)
 
--- ---- what the calls say, from the store before the call and the store after it
+-- ---- what the calls say, from the state of the checker before the call and after it
 
-module _ (nodes : List Node) where
-  -- a path grew by the path to where the fault of a part arises
-  abbrev pub GoesAlong : Inner → Held → (path path' : Path) → (bits : List ℕ) → Type 0
-  GoesAlong part store path path' bits = path' ≡ path ++ path_in bits nodes (levels nodes store) part
+-- a path grew by the path to where the fault of a type arises
+abbrev pub GoesAlong : Checker → Inner → (path path' : Path) → (bits : List ℕ) → Type 0
+GoesAlong checker inner path path' bits = path' ≡ path ++ path_in bits checker.nodes.now (levels checker.nodes.now checker.store.now) inner
 
-  abbrev pub FindsSite : Inner → (store store' : Held) → Site → (bits : List ℕ) → Type 0
-  FindsSite part store store' found bits = IsSite bits nodes (levels nodes store') (path_in bits nodes (levels nodes store) part) found
+-- the part that was found may be mapped
+abbrev pub MayFollow : Checker → Site → Type 0
+MayFollow checker found = MayGoOn checker.nodes.now (level_count checker.store.now) found
 
-  abbrev pub FindsField : (pinned : Bool) → List Field → Order → (start : ℕ) → (store store' : Held) → Site → (bits : List ℕ) → Type 0
-  FindsField pinned fields order start store store' found bits =
-      IsSite bits nodes (levels nodes store') (fields_path bits pinned start (open_fields (type_of nodes) fields) order (levels nodes store) start) found
+module _ (old new : Checker) where
+  abbrev pub FindsSite : Inner → Site → (bits : List ℕ) → Type 0
+  FindsSite inner found bits = IsSite bits old.nodes.now (levels old.nodes.now new.store.now) (path_in bits old.nodes.now (levels old.nodes.now old.store.now) inner) found
 
-  abbrev pub FindsAlternative : List Alternative → Order → (start : ℕ) → (store store' : Held) → Site → (bits : List ℕ) → Type 0
-  FindsAlternative alternatives order start store store' found bits =
-      IsSite bits nodes (levels nodes store') (alternatives_path bits (open_parts (type_of nodes) alternatives) order (levels nodes store) start) found
+  abbrev pub FindsField : StructStart → List Field → Site → (bits : List ℕ) → Type 0
+  FindsField whole fields found bits =
+      IsSite bits old.nodes.now (levels old.nodes.now new.store.now)
+      (fields_path bits whole.pinned whole.start (open_fields (type_of old.nodes.now) fields) whole.order (levels old.nodes.now old.store.now) whole.start) found
 
-  abbrev pub FindsInArray : (element : ℕ) → Bound → Order → (start : ℕ) → (store store' : Held) → Site → (bits : List ℕ) → Type 0
-  FindsInArray element bound order start store store' found bits =
-      IsSite bits nodes (levels nodes store') (path_of bits (ArrayOf (type_of nodes element) (bound_of bound)) order (levels nodes store) start) found
+  abbrev pub FindsAlternative : List Alternative → Order → (start : ℕ) → Site → (bits : List ℕ) → Type 0
+  FindsAlternative alternatives order start found bits =
+      IsSite bits old.nodes.now (levels old.nodes.now new.store.now)
+      (alternatives_path bits (open_parts (type_of old.nodes.now) alternatives) order (levels old.nodes.now old.store.now) start) found
 
-  abbrev pub FindsElement : (element : ℕ) → Extent → Order → (start : ℕ) → (store store' : Held) → Site → (bits : List ℕ) → Type 0
-  FindsElement element extent order start store store' found bits =
-      IsSite bits nodes (levels nodes store')
-      (elements_path (λ inside p. result_of bits (plan (length bits) (type_of nodes element) order inside p)) (path_of bits (type_of nodes element) order) (length bits) start extent (suc (length bits)) 0 (levels nodes store) start)
-      found
+  abbrev pub FindsInArray : Array → Site → (bits : List ℕ) → Type 0
+  FindsInArray array found bits =
+      IsSite bits old.nodes.now (levels old.nodes.now new.store.now)
+      (path_of bits (ArrayOf (type_of old.nodes.now array.element) (bound_of array.bound.now)) array.order (levels old.nodes.now old.store.now) array.start) found
 
-  abbrev pub FindsDigits : List Alternative → (n width start : ℕ) → (store store' : Held) → Digits → Type 0
-  FindsDigits fields n width start store store' found =
-      AreDigits nodes (levels nodes store') (digits_path (open_parts (type_of nodes) fields) n width (levels nodes store) start) found
+  abbrev pub FindsElement : Elements → Site → (bits : List ℕ) → Type 0
+  FindsElement all found bits = IsSite bits old.nodes.now (levels old.nodes.now new.store.now) (path_among bits old.nodes.now (levels old.nodes.now old.store.now) all) found
 
-  abbrev pub TriesPart : (at : ℕ) → Option (Box Resolved Global) → Order → (start : ℕ) → (store store' : Held) → Tried → (bits : List ℕ) → Type 0
-  TriesPart at clause order start store store' found bits =
-      TriesAs bits (type_of nodes at) (optional_term clause) order (levels nodes store) (levels nodes store') start found
+  abbrev pub FindsDigits : List Alternative → (digits width start : ℕ) → Digits → Type 0
+  FindsDigits fields digits width start found =
+      AreDigits old.nodes.now (levels old.nodes.now new.store.now)
+      (digits_path (open_parts (type_of old.nodes.now) fields) digits width (levels old.nodes.now old.store.now) start) found
 
-  abbrev pub TriesField : (pinned : Bool) → (start : ℕ) → Order → Field → (store store' : Held) → (behind : ℕ) → Tried → (bits : List ℕ) → Type 0
-  TriesField pinned start order f store store' behind found bits =
-      TriesFieldAs bits nodes pinned start order f (levels nodes store) (levels nodes store') behind found
+  abbrev pub TriesPart : Part → Tried → (bits : List ℕ) → Type 0
+  TriesPart part found bits =
+      TriesAs bits (type_of old.nodes.now part.inner.node) (constraint_of part) part.inner.order (levels old.nodes.now old.store.now) (levels old.nodes.now new.store.now) part.inner.start found
 
-  abbrev pub TriesAlternative : Alternative → Order → (start : ℕ) → (store store' : Held) → Attempt → (bits : List ℕ) → Type 0
-  TriesAlternative p order start store store' found bits = TriesAlternativeAs bits nodes p order (levels nodes store) (levels nodes store') start found
+  abbrev pub TriesField : StructStart → Field → (behind : ℕ) → Tried → (bits : List ℕ) → Type 0
+  TriesField whole field behind found bits =
+      TriesFieldAs bits old.nodes.now whole.pinned whole.start whole.order field (levels old.nodes.now old.store.now) (levels old.nodes.now new.store.now) behind found
 
-  abbrev pub LeavesLevels : (store store' : Held) → Attempt → Type 0
-  LeavesLevels store store' found = LeavesFrame (levels nodes store) (levels nodes store') found
+  abbrev pub TriesAlternative : Alternative → Order → (start : ℕ) → Attempt → (bits : List ℕ) → Type 0
+  TriesAlternative alternative order start found bits =
+      TriesAlternativeAs bits old.nodes.now alternative order (levels old.nodes.now old.store.now) (levels old.nodes.now new.store.now) start found
+
+  abbrev pub LeavesLevels : Attempt → Type 0
+  LeavesLevels found = LeavesFrame (levels old.nodes.now old.store.now) (levels old.nodes.now new.store.now) found
+
+  -- a number was stored as a type, or stopped, and was tried as a field
+  abbrev pub StoresCut : Cut → Type 0
+  StoresCut cut = KeepsNumber (type_of old.nodes.now cut.node) cut.digits cut.start (levels old.nodes.now old.store.now) (levels old.nodes.now new.store.now)
+
+  abbrev pub StopsCut : Cut → Stop → Type 0
+  StopsCut cut told = StopsNumber (type_of old.nodes.now cut.node) cut.digits cut.start (levels old.nodes.now old.store.now) (levels old.nodes.now new.store.now) told
+
+  abbrev pub TriesDigits : Alternative → (digits start : ℕ) → Tried → Type 0
+  TriesDigits field digits start found = TriesDigitsAs old.nodes.now digits start field (levels old.nodes.now old.store.now) (levels old.nodes.now new.store.now) found

@@ -23,6 +23,7 @@ use Rattle.fault_parts.specs.Arises.{Path, FieldsBefore, MissesBefore, Arises, P
 use Rattle.fault_check.specs.declared.part.Part.{Part}
 use Rattle.fault_check.specs.declared.part.Entered.{Entered}
 use Rattle.fault_check.specs.declared.part.Entered.TheVariants as entered
+use Rattle.fault_check.specs.declared.site.Inner.{Inner}
 
 -- a fact about the bits of a space, where its bytes are known
 abbrev pub OnBits : SpaceView → (List ℕ → Type 0) → Type 0
@@ -75,8 +76,8 @@ constraint_of part = beside (option_copied part.constraint)
 
 -- a part of a type in a table, where so many frames are open
 pub record IsPart (nodes : List Node) (levels : ℕ) (part : Part) : Type 0 where
-  pub inside : part.node < length nodes
-  pub deep : levels + depth (type_of nodes part.node) ≤ 65
+  pub inside : part.inner.node < length nodes
+  pub deep : levels + depth (type_of nodes part.inner.node) ≤ 65
   pub sound : IsSoundClause (constraint_of part)
 
 -- a field of a table, and fields after it
@@ -96,15 +97,15 @@ PassesField bits nodes pinned s order f levels levels' behind behind' =
 
 -- the fault arises in a part, with its constraint, at the end of a path
 abbrev pub InPart : List ℕ → List Node → Levels → Part → FaultAt → Path → Type 0
-InPart bits nodes levels part f path = PartArises bits (type_of nodes part.node) (constraint_of part) part.order levels part.start f path
+InPart bits nodes levels part f path = PartArises bits (type_of nodes part.inner.node) (constraint_of part) part.inner.order levels part.inner.start f path
 
--- the fault arises at the end of a path in the part itself
-abbrev pub InType : List ℕ → List Node → Levels → Part → FaultAt → Path → Type 0
-InType bits nodes levels part f path = Arises bits (type_of nodes part.node) part.order levels part.start f path
+-- the fault arises at the end of a path in the type itself
+abbrev pub InType : List ℕ → List Node → Levels → Inner → FaultAt → Path → Type 0
+InType bits nodes levels inner f path = Arises bits (type_of nodes inner.node) inner.order levels inner.start f path
 
--- the part means the fault
-abbrev pub HasFault : List ℕ → List Node → Levels → Part → FaultAt → Type 0
-HasFault bits nodes levels part f = Somehow (Means bits (type_of nodes part.node) part.order levels part.start (Err f))
+-- the type means the fault
+abbrev pub HasFault : List ℕ → List Node → Levels → Inner → FaultAt → Type 0
+HasFault bits nodes levels inner f = Somehow (Means bits (type_of nodes inner.node) inner.order levels inner.start (Err f))
 
 -- What one step of a path found: the goal follows for each path on from here where the fault arises in the entered
 -- part, or for this place alone.

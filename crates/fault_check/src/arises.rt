@@ -5,15 +5,14 @@ ghost use Rattle.pickle_types.specs.Table.{IsTable};
 ghost use Rattle.pickle_types.specs.TypeTable.{type_named, IsInTable};
 ghost use Rattle.pickle_types.specs.Sound.{IsSoundClause};
 ghost use Rattle.value_store.specs.Slots.{emptied, level_count};
-ghost use Rattle.fault_check.specs.Calls.{ArisesFrom, PartHas, TypeHas, MeansFault, Refuses, EntersPart};
-ghost use Rattle.fault_check.specs.Ways.{OnBits, Leaves, IsPart, GoesOn, constraint_of};
+ghost use Rattle.fault_check.specs.AtWork.{Frame, MayMap, MayTry};
+ghost use Rattle.fault_check.specs.Calls.{ArisesFrom, EntersType, MeansFault, PartHas, Refuses, TypeHas};
+ghost use Rattle.fault_check.specs.Ways.{OnBits, Leaves, GoesOn, constraint_of};
 
-use crate::alternatives::enter_alternatives;
-use crate::digits::is_in_digits;
-use crate::elements::{enter_array, is_own_array};
-use crate::fields::enter_fields;
-use crate::mapped::{check_constraint, is_fault, map_part_watched};
-use crate::part::{Entered, Part};
+use crate::checker::Checker;
+use crate::mapped::{check_part, is_fault};
+use crate::part::{Array, Entered, Part, StructStart, bare_part};
+use crate::site::Inner;
 use bit_space::{Meter, Order, Space};
 use pickle_map::mapper::stop::Stop;
 use pickle_map::mapper::watch::{Unwatched, Watch};
@@ -84,115 +83,152 @@ pub fn find_there<S: Space, W: Watch>(
     ensures leaves { Leaves (S.view space.old) (S.view space.new) meter.old meter.new }
     ensures is { IsTrue result → OnBits (S.view space.old) (ArisesFrom (type_named table.now id) order start fault path.now) }
 {
-    let whole = Part {
+    let whole = Inner {
         node: id.node,
         order,
         start: u128::from(start),
-        constraint: None,
     };
-    follow(
-        table.nodes(),
-        whole,
-        fault,
-        path,
-        space,
+    let mut checker = Checker {
+        nodes: table.nodes(),
         meter,
         store,
-        watch,
-    )
+    };
+    checker.follow(bare_part(whole), fault, path, space, watch)
 }
 
-/// Whether the fault arises in the part of `whole` to which a path leads.
-fn follow<S: Space, W: Watch>(
-    nodes: &[Node],
-    whole: Part<'_>,
-    fault: MapFault,
-    path: &[usize],
-    space: &mut S,
-    meter: &mut Meter,
-    store: &mut Store,
-    watch: &mut W,
-) -> bool
-    requires table { IsTable nodes.now }
-    requires part { IsPart nodes.now (level_count store.old) whole }
-    ensures leaves { Leaves (S.view space.old) (S.view space.new) meter.old meter.new }
-    ensures is { IsTrue result → OnBits (S.view space.old) (PartHas nodes.now whole.entry fault store.old path.now) }
-{
-    let mut part = whole;
-    for (step, place) in path.iter().enumerate() {
-        if is_integral(nodes, part.node) {
-            return is_in_digits(
-                nodes,
-                part.node,
-                part.order,
-                part.start,
-                fault,
-                &path[step..],
-                space,
-                meter,
-                store,
-            );
+impl<'a> Checker<'a> {
+    /// Whether the fault arises in the part of `whole` to which a path leads.
+    fn follow<S: Space, W: Watch>(
+        &mut self,
+        whole: Part<'_>,
+        fault: MapFault,
+        path: &[usize],
+        space: &mut S,
+        watch: &mut W,
+    ) -> bool
+        requires table { IsTable self.old.nodes.now }
+        requires part { MayTry self.old whole }
+        ensures frame { Frame (S.view space.old) (S.view space.new) self.old self.new }
+        ensures is { IsTrue result → OnBits (S.view space.old) (PartHas self.old whole.entry fault path.now) }
+    {
+        let nodes = self.nodes;
+        let mut part = whole;
+        for (step, place) in path.iter().enumerate() {
+            if is_integral(nodes, part.inner.node) {
+                return self.is_in_digits(part.inner, fault, &path[step..], space);
+            }
+            watch.open(part.inner.node);
+            match self.enter(part.inner, *place, fault, space, watch) {
+                Entered::Part(next) => part = next,
+                Entered::There => return step + 1 == path.len(),
+                Entered::Nowhere => return false,
+            }
         }
-        watch.open(part.node);
-        match enter(nodes, part, *place, fault, space, meter, store, watch) {
-            Entered::Part(next) => part = next,
-            Entered::There => return step + 1 == path.len(),
-            Entered::Nowhere => return false,
-        }
+        self.is_own(part, fault, space, watch)
     }
-    is_own(nodes, part, fault, space, meter, store, watch)
-}
 
-/// Enters the part of a part at a place.
-fn enter<'a, S: Space, W: Watch>(
-    nodes: &'a [Node],
-    part: Part<'_>,
-    place: usize,
-    fault: MapFault,
-    space: &mut S,
-    meter: &mut Meter,
-    store: &mut Store,
-    watch: &mut W,
-) -> Entered<'a>
-    requires table { IsTable nodes.now }
-    requires part { IsPart nodes.now (level_count store.old) part }
-    ensures leaves { Leaves (S.view space.old) (S.view space.new) meter.old meter.new }
-    ensures goes_on { GoesOn nodes.now (level_count store.new) result }
-    ensures is { OnBits (S.view space.old) (EntersPart nodes.now part.entry place fault store.old store.new result) }
-{
-    if u128::from(8 * space.len()) < part.start {
-        return Entered::Nowhere;
+    /// Enters the part of a type at a place.
+    fn enter<S: Space, W: Watch>(
+        &mut self,
+        inner: Inner,
+        place: usize,
+        fault: MapFault,
+        space: &mut S,
+        watch: &mut W,
+    ) -> Entered<'a>
+        requires table { IsTable self.old.nodes.now }
+        requires part { MayMap self.old inner.node }
+        ensures frame { Frame (S.view space.old) (S.view space.new) self.old self.new }
+        ensures goes_on { GoesOn self.old.nodes.now (level_count self.new.store.now) result }
+        ensures is { OnBits (S.view space.old) (EntersType self.old self.new inner place fault result) }
+    {
+        if u128::from(8 * space.len()) < inner.start {
+            return Entered::Nowhere;
+        }
+        let nodes = self.nodes;
+        let order = inner.order;
+        let start = inner.start as u64;
+        match &nodes[inner.node].shape {
+            Shape::Struct { pinned, fields, .. } => {
+                self.store.open_level();
+                let whole = StructStart {
+                    pinned: *pinned,
+                    order,
+                    start,
+                };
+                self.enter_fields(whole, fields, place, fault, space, watch)
+            }
+            Shape::Union { alternatives, .. } => {
+                self.store.open_level();
+                self.enter_alternatives(alternatives, order, start, place, fault, space)
+            }
+            Shape::Array(element, bound) => {
+                let array = Array {
+                    element: *element,
+                    bound,
+                    order,
+                    start: inner.start,
+                };
+                self.enter_array(array, place, fault, space, watch)
+            }
+            Shape::Integer(_) | Shape::Offset(..) | Shape::Integral { .. } | Shape::String => {
+                Entered::Nowhere
+            }
+        }
     }
-    let start = part.start as u64;
-    match &nodes[part.node].shape {
-        Shape::Struct { pinned, fields, .. } => {
-            store.open_level();
-            enter_fields(
-                nodes, *pinned, fields, part.order, start, place, fault, space, meter, store, watch,
-            )
+
+    /// Whether a fault arises in a part itself: in its constraint, or in its type.
+    fn is_own<S: Space, W: Watch>(
+        &mut self,
+        part: Part<'_>,
+        fault: MapFault,
+        space: &mut S,
+        watch: &mut W,
+    ) -> bool
+        requires table { IsTable self.old.nodes.now }
+        requires part { MayTry self.old part }
+        ensures frame { Frame (S.view space.old) (S.view space.new) self.old self.new }
+        ensures is { IsTrue result → OnBits (S.view space.old) (PartHas self.old part.entry fault []) }
+    {
+        match self.map_watched(part.inner, space, watch) {
+            Ok(_) => is_refused(part, fault, self.meter, self.store),
+            Err(stop) => is_fault(stop, fault) && self.is_own_fault(part.inner, fault, space),
         }
-        Shape::Union { alternatives, .. } => {
-            store.open_level();
-            enter_alternatives(
-                nodes,
-                alternatives,
-                part.order,
-                start,
-                place,
-                fault,
-                space,
-                meter,
-                store,
-            )
+    }
+
+    /// Whether a fault that a type means arises in that type itself, and in none of its parts.
+    fn is_own_fault<S: Space>(&mut self, inner: Inner, fault: MapFault, space: &mut S) -> bool
+        requires table { IsTable self.old.nodes.now }
+        requires part { MayMap self.old inner.node }
+        requires has { OnBits (S.view space.old) (MeansFault self.old inner fault) }
+        ensures frame { Frame (S.view space.old) (S.view space.new) self.old self.new }
+        ensures is { IsTrue result → OnBits (S.view space.old) (TypeHas self.old inner fault []) }
+    {
+        let bits = u128::from(8 * space.len());
+        if bits < inner.start {
+            return true;
         }
-        Shape::Array(element, bound) => {
-            enter_array(
-                nodes, *element, bound, part.order, part.start, place, fault, space, meter, store,
-                watch,
-            )
-        }
-        Shape::Integer(_) | Shape::Offset(..) | Shape::Integral { .. } | Shape::String => {
-            Entered::Nowhere
+        let nodes = self.nodes;
+        match &nodes[inner.node].shape {
+            Shape::Integer(_) => true,
+            Shape::Offset(..) => true,
+            Shape::String => true,
+            Shape::Struct { .. } => false,
+            Shape::Union { .. } => Stop::Fault(fault.kind, fault.at).misses(),
+            Shape::Integral {
+                name: _,
+                number,
+                fields: _,
+            } => bits < inner.start + u128::from(number.width),
+            Shape::Array(element, bound) => {
+                let array = Array {
+                    element: *element,
+                    bound,
+                    order: inner.order,
+                    start: inner.start,
+                };
+                self.is_own_array(array, fault, space)
+            }
         }
     }
 }
@@ -204,86 +240,14 @@ fn is_integral(nodes: &[Node], at: usize) -> bool
     matches!(nodes[at].shape, Shape::Integral { .. })
 }
 
-/// Whether a fault arises in a part itself: in its constraint, or in its type.
-fn is_own<S: Space, W: Watch>(
-    nodes: &[Node],
-    part: Part<'_>,
-    fault: MapFault,
-    space: &mut S,
-    meter: &mut Meter,
-    store: &mut Store,
-    watch: &mut W,
-) -> bool
-    requires table { IsTable nodes.now }
-    requires part { IsPart nodes.now (level_count store.old) part }
-    ensures leaves { Leaves (S.view space.old) (S.view space.new) meter.old meter.new }
-    ensures is { IsTrue result → OnBits (S.view space.old) (PartHas nodes.now part.entry fault store.old []) }
-{
-    match map_part_watched(
-        nodes, part.node, part.order, part.start, space, meter, store, watch,
-    ) {
-        Ok(_) => is_refused(nodes, part, fault, meter, store),
-        Err(stop) => {
-            is_fault(stop, fault) && is_own_fault(nodes, part, fault, space, meter, store)
-        }
-    }
-}
-
 /// Whether the constraint of a part stops with the fault, where the part's value is the last one.
-fn is_refused(
-    nodes: &[Node],
-    part: Part<'_>,
-    fault: MapFault,
-    meter: &mut Meter,
-    store: &Store,
-) -> bool
+fn is_refused(part: Part<'_>, fault: MapFault, meter: &mut Meter, store: &Store) -> bool
     requires sound { IsSoundClause (constraint_of part) }
     ensures limit { meter.new.limit ≡ meter.old.limit }
-    ensures is { IsTrue result → Refuses nodes.now part.entry fault store.now }
+    ensures is { IsTrue result → Refuses part.entry fault store.now }
 {
-    match part.constraint {
-        Some(clause) => match check_constraint(clause, part.start, meter, store) {
-            Ok(()) => false,
-            Err(stop) => is_fault(stop, fault),
-        },
-        None => false,
-    }
-}
-
-/// Whether a fault that the type of a part means arises in that type itself, and in none of its parts.
-fn is_own_fault<S: Space>(
-    nodes: &[Node],
-    part: Part<'_>,
-    fault: MapFault,
-    space: &mut S,
-    meter: &mut Meter,
-    store: &mut Store,
-) -> bool
-    requires table { IsTable nodes.now }
-    requires part { IsPart nodes.now (level_count store.old) part }
-    requires has { OnBits (S.view space.old) (MeansFault nodes.now part fault store.old) }
-    ensures leaves { Leaves (S.view space.old) (S.view space.new) meter.old meter.new }
-    ensures is { IsTrue result → OnBits (S.view space.old) (TypeHas nodes.now part.entry fault store.old []) }
-{
-    let bits = u128::from(8 * space.len());
-    if bits < part.start {
-        return true;
-    }
-    match &nodes[part.node].shape {
-        Shape::Integer(_) => true,
-        Shape::Offset(..) => true,
-        Shape::String => true,
-        Shape::Struct { .. } => false,
-        Shape::Union { .. } => Stop::Fault(fault.kind, fault.at).misses(),
-        Shape::Integral {
-            name: _,
-            number,
-            fields: _,
-        } => bits < part.start + u128::from(number.width),
-        Shape::Array(element, bound) => {
-            is_own_array(
-                nodes, *element, bound, part.order, part.start, fault, space, meter, store,
-            )
-        }
+    match check_part(part, meter, store) {
+        Ok(()) => false,
+        Err(stop) => is_fault(stop, fault),
     }
 }

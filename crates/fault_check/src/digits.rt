@@ -1,340 +1,256 @@
 //! Integral structs, on the path to the field in which a fault arises.
 
-ghost use Rattle.std.specs.Prelude.{◌≡◌, ◌+◌, ◌<◌, ◌≤◌, ◌^◌, ◌++◌, length, All, IfOk, IfErr, IfSome, IsTrue};
-ghost use Rattle.pickle_types.specs.Types.{depth};
+ghost use Rattle.std.specs.Prelude.{◌≡◌, ◌<◌, ◌≤◌, ◌^◌, ◌++◌, All, IfOk, IfErr, IfSome, IsTrue};
 ghost use Rattle.pickle_types.specs.Table.{IsTable, type_of};
 ghost use Rattle.pickle_meaning.specs.Means.{number_type, width_in};
 ghost use Rattle.pickle_map.specs.Mappable.{IsPartOf};
 ghost use Rattle.value_store.specs.Slots.{levels, level_count};
-ghost use Rattle.fault_parts.specs.Arises.{NumberArises};
-ghost use Rattle.fault_check.specs.Ways.{OnBits, Leaves, fault_of};
-ghost use Rattle.fault_check.specs.Calls.{Reaches};
-ghost use Rattle.fault_check.specs.Searched.{SearchesCut, SearchesDigits, SearchesNumber, SpendsNumber};
-ghost use Rattle.fault_check.specs.Sites.{path_cut, DigitsGoOn, FindsDigits, StopsNumber, TriesDigitsAs};
-ghost use Rattle.fault_check.specs.Digits.{KeepsNumber, PassesNumber, RefusesNumber, ArisesAt};
+ghost use Rattle.fault_check.specs.AtWork.{DepthStays, Frame, MayMap, WorkFrame};
+ghost use Rattle.fault_check.specs.Calls.{NumberHas, Reaches, TypeHas};
+ghost use Rattle.fault_check.specs.Searched.{SearchesCut, SearchesDigits, SearchesNumber, SpendsCut};
+ghost use Rattle.fault_check.specs.Sites.{DigitsGoOn, FindsDigits, StopsCut, StoresCut, TriesDigits, path_cut};
+ghost use Rattle.fault_check.specs.Ways.{OnBits};
 
-use crate::mapped::{check_constraint, is_fault};
-use crate::site::{Cut, Digits, Ended, Tried, fault_in, keep};
-use bit_space::{Meter, Order, Space};
+use crate::checker::Checker;
+use crate::mapped::check_constraint;
+use crate::site::{Cut, Digits, Ended, Inner, Tried, fault_in, keep};
+use bit_space::Space;
 use pickle_map::mapper::number::{first_digits, width_at};
 use pickle_map::mapper::read::read_digits;
 use pickle_map::mapper::state::Mapper;
 use pickle_map::mapper::stop::Stop;
 use pickle_map::mapper::watch::Unwatched;
 use pickle_meaning::faults::MapFault;
-use pickle_types::view::{Node, Part as Field, Shape};
-use value_store::store::Store;
+use pickle_types::view::{Part as Field, Shape};
 
-/// Whether a fault of the type at a place of the table, which is read as one number from the bit `start` on, arises in
-/// the field to which a path leads.
-pub fn is_in_digits<S: Space>(
-    nodes: &[Node],
-    at: usize,
-    order: Order,
-    start: u128,
-    fault: MapFault,
-    path: &[usize],
-    space: &mut S,
-    meter: &mut Meter,
-    store: &mut Store,
-) -> bool
-    requires table { IsTable nodes.now }
-    requires at { at < length nodes.now }
-    requires open { level_count store.old + depth (type_of nodes.now at) ≤ 65 }
-    ensures leaves { Leaves (S.view space.old) (S.view space.new) meter.old meter.new }
-    ensures is { IsTrue result → OnBits (S.view space.old) (ArisesAt nodes.now at order start fault store.old path.now) }
-{
-    let Shape::Integral {
-        name: _,
-        number,
-        fields: _,
-    } = &nodes[at].shape
-    else {
-        return false;
-    };
-    if u128::from(8 * space.len()) < start {
-        return false;
-    }
-    let start = start as u64;
-    match read_digits(space, start, number.width, order, meter) {
-        Ok(digits) => number_arises(nodes, at, digits, start, fault, path, meter, store),
-        Err(_) => false,
-    }
-}
-
-/// Whether the fault of a number, which is read as the type at a place of the table, arises in the field to which a
-/// path leads.
-fn number_arises(
-    nodes: &[Node],
-    at: usize,
-    digits: u64,
-    start: u64,
-    fault: MapFault,
-    path: &[usize],
-    meter: &mut Meter,
-    store: &mut Store,
-) -> bool
-    requires table { IsTable nodes.now }
-    requires at { at < length nodes.now }
-    requires open { level_count store.old + depth (type_of nodes.now at) ≤ 65 }
-    requires start { start < 2 ^ 63 }
-    ensures limit { meter.new.limit ≡ meter.old.limit }
-    ensures is { IsTrue result → NumberArises (type_of nodes.now at) digits (levels nodes.now store.old) start (fault_of fault) path.now }
-{
-    let [place, rest @ ..] = path else {
-        return false;
-    };
-    let Shape::Integral {
-        name: _,
-        number,
-        fields,
-    } = &nodes[at].shape
-    else {
-        return false;
-    };
-    store.open_level();
-    match reach_field(
-        nodes,
-        fields,
-        *place,
-        digits,
-        number.width,
-        start,
-        meter,
-        store,
-    ) {
-        Some(left) => {
-            let field = &fields[*place];
-            let cut = first_digits(digits, left, width_at(nodes, field.node));
-            if rest.is_empty() {
-                is_refused(nodes, field, cut, start, fault, meter, store)
-            } else {
-                number_arises(nodes, field.node, cut, start, fault, rest, meter, store)
-            }
-        }
-        None => false,
-    }
-}
-
-/// Stores the fields before a place, and returns how many binary digits of the number are left after them.
-fn reach_field(
-    nodes: &[Node],
-    fields: &[Field],
-    place: usize,
-    digits: u64,
-    width: u8,
-    start: u64,
-    meter: &mut Meter,
-    store: &mut Store,
-) -> Option<u8>
-    requires table { IsTable nodes.now }
-    requires fields { All (IsPartOf nodes.now (level_count store.old)) fields.now }
-    requires width { width ≤ 64 }
-    requires start { start < 2 ^ 63 }
-    ensures limit { meter.new.limit ≡ meter.old.limit }
-    ensures depth { level_count store.new ≡ level_count store.old }
-    ensures is { IfSome result (Reaches nodes.now digits start fields.now width place store.old store.new) }
-{
-    let mut left = width;
-    for (index, field) in fields.iter().enumerate() {
-        if index == place {
-            return Some(left);
-        }
-        let width = width_at(nodes, field.node);
-        let cut = first_digits(digits, left, width);
-        let Ok(()) = pass_field(nodes, field, cut, start, meter, store) else {
-            return None;
+impl Checker<'_> {
+    /// Whether a fault of a type that is read as one number arises in the field to which a path leads.
+    pub fn is_in_digits<S: Space>(
+        &mut self,
+        inner: Inner,
+        fault: MapFault,
+        path: &[usize],
+        space: &mut S,
+    ) -> bool
+        requires table { IsTable self.old.nodes.now }
+        requires part { MayMap self.old inner.node }
+        ensures frame { Frame (S.view space.old) (S.view space.new) self.old self.new }
+        ensures is { IsTrue result → OnBits (S.view space.old) (TypeHas self.old inner fault path.now) }
+    {
+        let nodes = self.nodes;
+        let Shape::Integral {
+            name: _,
+            number,
+            fields: _,
+        } = &nodes[inner.node].shape
+        else {
+            return false;
         };
-        left = left.saturating_sub(width);
-    }
-    None
-}
-
-/// Stores a field of an integral struct, whose constraint holds.
-fn pass_field(
-    nodes: &[Node],
-    field: &Field,
-    digits: u64,
-    start: u64,
-    meter: &mut Meter,
-    store: &mut Store,
-) -> Result<(), Stop>
-    requires table { IsTable nodes.now }
-    requires field { IsPartOf nodes.now (level_count store.old) field.now }
-    requires digits { digits < 2 ^ width_in (number_type (type_of nodes.now field.now.node)) }
-    requires start { start < 2 ^ 63 }
-    ensures limit { meter.new.limit ≡ meter.old.limit }
-    ensures depth { level_count store.new ≡ level_count store.old }
-    ensures is { IfOk result (λ _. PassesNumber nodes.now digits start field.now (levels nodes.now store.old) (levels nodes.now store.new)) }
-{
-    keep_number(nodes, field.node, digits, start, meter, store)?;
-    check_constraint(&field.constraint, u128::from(start), meter, store)
-}
-
-/// Whether a fault is that of the constraint of a field of an integral struct.
-fn is_refused(
-    nodes: &[Node],
-    field: &Field,
-    digits: u64,
-    start: u64,
-    fault: MapFault,
-    meter: &mut Meter,
-    store: &mut Store,
-) -> bool
-    requires table { IsTable nodes.now }
-    requires field { IsPartOf nodes.now (level_count store.old) field.now }
-    requires digits { digits < 2 ^ width_in (number_type (type_of nodes.now field.now.node)) }
-    requires start { start < 2 ^ 63 }
-    ensures limit { meter.new.limit ≡ meter.old.limit }
-    ensures is { IsTrue result → RefusesNumber nodes.now digits start field.now (levels nodes.now store.old) (fault_of fault) }
-{
-    let Ok(()) = keep_number(nodes, field.node, digits, start, meter, store) else {
-        return false;
-    };
-    match check_constraint(&field.constraint, u128::from(start), meter, store) {
-        Ok(()) => false,
-        Err(stop) => is_fault(stop, fault),
-    }
-}
-
-/// Stores a number as the type at a place of the table.
-fn keep_number(
-    nodes: &[Node],
-    at: usize,
-    digits: u64,
-    start: u64,
-    meter: &mut Meter,
-    store: &mut Store,
-) -> Result<(), Stop>
-    requires table { IsTable nodes.now }
-    requires at { at < length nodes.now }
-    requires open { level_count store.old + depth (type_of nodes.now at) ≤ 65 }
-    requires digits { digits < 2 ^ width_in (number_type (type_of nodes.now at)) }
-    requires start { start < 2 ^ 63 }
-    ensures limit { meter.new.limit ≡ meter.old.limit }
-    ensures depth { level_count store.new ≡ level_count store.old }
-    ensures is { IfOk result (λ _. KeepsNumber (type_of nodes.now at) digits start (levels nodes.now store.old) (levels nodes.now store.new)) }
-    ensures stops { IfErr result (StopsNumber (type_of nodes.now at) digits start (levels nodes.now store.old) (levels nodes.now store.new)) }
-    ensures spends { SpendsNumber nodes.now meter.old meter.new store.old at digits start result }
-{
-    meter.tick()?;
-    let mut mapper = Mapper {
-        nodes,
-        meter,
-        store,
-        watch: &mut Unwatched,
-    };
-    mapper.place_number(at, digits, start)
-}
-
-/// Adds the path to the field in which the fault of a number arises to `path`.
-pub fn locate_in_number(
-    nodes: &[Node],
-    number: Cut,
-    path: &mut Vec<usize>,
-    meter: &mut Meter,
-    store: &mut Store,
-) -> Result<(), Ended>
-    requires table { IsTable nodes.now }
-    requires at { number.node < length nodes.now }
-    requires open { level_count store.old + depth (type_of nodes.now number.node) ≤ 65 }
-    requires start { number.start < 2 ^ 63 }
-    ensures limit { meter.new.limit ≡ meter.old.limit }
-    ensures is { IfOk result (λ _. path.new.items ≡ path.old.items ++ path_cut nodes.now (levels nodes.now store.old) number) }
-    ensures spends { SearchesCut nodes.now meter.old meter.new store.old number result }
-{
-    let Shape::Integral {
-        name: _,
-        number: whole,
-        fields,
-    } = &nodes[number.node].shape
-    else {
-        return Ok(());
-    };
-    store.open_level();
-    match find_digits(
-        nodes,
-        fields,
-        number.digits,
-        whole.width,
-        number.start,
-        meter,
-        store,
-    )? {
-        Digits::Itself => Ok(()),
-        Digits::Beside(place) => keep(path, place),
-        Digits::Inside(place, next) => {
-            keep(path, place)?;
-            locate_in_number(nodes, next, path, meter, store)
+        if u128::from(8 * space.len()) < inner.start {
+            return false;
+        }
+        let start = inner.start as u64;
+        match read_digits(space, start, number.width, inner.order, self.meter) {
+            Ok(digits) => {
+                let whole = Cut {
+                    node: inner.node,
+                    digits,
+                    start,
+                };
+                self.number_arises(whole, fault, path)
+            }
+            Err(_) => false,
         }
     }
-}
 
-/// Finds the field of an integral struct at which the fault of its number arises.
-fn find_digits(
-    nodes: &[Node],
-    fields: &[Field],
-    digits: u64,
-    width: u8,
-    start: u64,
-    meter: &mut Meter,
-    store: &mut Store,
-) -> Result<Digits, Ended>
-    requires table { IsTable nodes.now }
-    requires fields { All (IsPartOf nodes.now (level_count store.old)) fields.now }
-    requires width { width ≤ 64 }
-    requires start { start < 2 ^ 63 }
-    ensures limit { meter.new.limit ≡ meter.old.limit }
-    ensures depth { level_count store.new ≡ level_count store.old }
-    ensures goes_on { IfOk result (DigitsGoOn nodes.now (level_count store.old) start) }
-    ensures is { IfOk result (FindsDigits nodes.now fields.now digits width start store.old store.new) }
-    ensures spends { SearchesDigits nodes.now meter.old meter.new store.old store.new fields.now digits width start result }
-{
-    let mut left = width;
-    for (place, field) in fields.iter().enumerate() {
-        let width = width_at(nodes, field.node);
-        let cut = first_digits(digits, left, width);
-        match try_digits(nodes, field, cut, start, meter, store)? {
-            Tried::Passed(_) => left = left.saturating_sub(width),
-            Tried::Beside(_) => return Ok(Digits::Beside(place)),
-            Tried::Inside(_, _) => {
-                return Ok(Digits::Inside(
-                    place,
-                    Cut {
-                        node: field.node,
-                        digits: cut,
-                        start,
-                    },
-                ));
+    /// Whether the fault of a number arises in the field to which a path leads.
+    fn number_arises(&mut self, whole: Cut, fault: MapFault, path: &[usize]) -> bool
+        requires table { IsTable self.old.nodes.now }
+        requires part { MayMap self.old whole.node }
+        requires start { whole.start < 2 ^ 63 }
+        ensures frame { WorkFrame self.old self.new }
+        ensures is { IsTrue result → NumberHas self.old whole fault path.now }
+    {
+        let [place, rest @ ..] = path else {
+            return false;
+        };
+        let nodes = self.nodes;
+        let Shape::Integral {
+            name: _,
+            number,
+            fields,
+        } = &nodes[whole.node].shape
+        else {
+            return false;
+        };
+        self.store.open_level();
+        let Some(left) = self.reach_field(fields, *place, whole.digits, number.width, whole.start)
+        else {
+            return false;
+        };
+        let field = &fields[*place];
+        let cut = Cut {
+            node: field.node,
+            digits: first_digits(whole.digits, left, width_at(nodes, field.node)),
+            start: whole.start,
+        };
+        if !rest.is_empty() {
+            return self.number_arises(cut, fault, rest);
+        }
+        match self.try_digits(field, cut.digits, cut.start) {
+            Ok(Tried::Beside(told)) => told == fault,
+            _ => false,
+        }
+    }
+
+    /// Stores the fields before a place, and returns how many binary digits of the number are left after them.
+    fn reach_field(
+        &mut self,
+        fields: &[Field],
+        place: usize,
+        digits: u64,
+        width: u8,
+        start: u64,
+    ) -> Option<u8>
+        requires table { IsTable self.old.nodes.now }
+        requires fields { All (IsPartOf self.old.nodes.now (level_count self.old.store.now)) fields.now }
+        requires width { width ≤ 64 }
+        requires start { start < 2 ^ 63 }
+        ensures frame { WorkFrame self.old self.new }
+        ensures depth { DepthStays self.old self.new }
+        ensures is { IfSome result (Reaches self.old self.new fields.now place digits width start) }
+    {
+        let nodes = self.nodes;
+        let mut left = width;
+        for (index, field) in fields.iter().enumerate() {
+            if index == place {
+                return Some(left);
+            }
+            let width = width_at(nodes, field.node);
+            let cut = first_digits(digits, left, width);
+            let Ok(Tried::Passed(_)) = self.try_digits(field, cut, start) else {
+                return None;
+            };
+            left = left.saturating_sub(width);
+        }
+        None
+    }
+
+    /// Stores a number.
+    fn store_number(&mut self, number: Cut) -> Result<(), Stop>
+        requires table { IsTable self.old.nodes.now }
+        requires part { MayMap self.old number.node }
+        requires digits { number.digits < 2 ^ width_in (number_type (type_of self.old.nodes.now number.node)) }
+        requires start { number.start < 2 ^ 63 }
+        ensures frame { WorkFrame self.old self.new }
+        ensures depth { DepthStays self.old self.new }
+        ensures is { IfOk result (λ _. StoresCut self.old self.new number) }
+        ensures stops { IfErr result (StopsCut self.old self.new number) }
+        ensures spends { SpendsCut self.old self.new number result }
+    {
+        self.meter.tick()?;
+        let mut mapper = Mapper {
+            nodes: self.nodes,
+            meter: self.meter,
+            store: self.store,
+            watch: &mut Unwatched,
+        };
+        mapper.place_number(number.node, number.digits, number.start)
+    }
+
+    /// Adds the path to the field in which the fault of a number arises to `path`.
+    pub fn locate_in_number(&mut self, number: Cut, path: &mut Vec<usize>) -> Result<(), Ended>
+        requires table { IsTable self.old.nodes.now }
+        requires part { MayMap self.old number.node }
+        requires start { number.start < 2 ^ 63 }
+        ensures frame { WorkFrame self.old self.new }
+        ensures is { IfOk result (λ _. path.new.items ≡ path.old.items ++ path_cut self.old.nodes.now (levels self.old.nodes.now self.old.store.now) number) }
+        ensures spends { SearchesCut self.old self.new number result }
+    {
+        let nodes = self.nodes;
+        let Shape::Integral {
+            name: _,
+            number: whole,
+            fields,
+        } = &nodes[number.node].shape
+        else {
+            return Ok(());
+        };
+        self.store.open_level();
+        match self.find_digits(fields, number.digits, whole.width, number.start)? {
+            Digits::Itself => Ok(()),
+            Digits::Beside(place) => keep(path, place),
+            Digits::Inside(place, next) => {
+                keep(path, place)?;
+                self.locate_in_number(next, path)
             }
         }
     }
-    Ok(Digits::Itself)
-}
 
-/// Stores a field of an integral struct, and checks its constraint. Says which of them has a fault.
-fn try_digits(
-    nodes: &[Node],
-    field: &Field,
-    digits: u64,
-    start: u64,
-    meter: &mut Meter,
-    store: &mut Store,
-) -> Result<Tried, Ended>
-    requires table { IsTable nodes.now }
-    requires field { IsPartOf nodes.now (level_count store.old) field.now }
-    requires digits { digits < 2 ^ width_in (number_type (type_of nodes.now field.now.node)) }
-    requires start { start < 2 ^ 63 }
-    ensures limit { meter.new.limit ≡ meter.old.limit }
-    ensures depth { level_count store.new ≡ level_count store.old }
-    ensures is { IfOk result (TriesDigitsAs nodes.now digits start field.now (levels nodes.now store.old) (levels nodes.now store.new)) }
-    ensures spends { SearchesNumber nodes.now meter.old meter.new store.old digits start field.now result }
-{
-    match keep_number(nodes, field.node, digits, start, meter, store) {
-        Ok(()) => match check_constraint(&field.constraint, u128::from(start), meter, store) {
-            Ok(()) => Ok(Tried::Passed(start)),
-            Err(stop) => Ok(Tried::Beside(fault_in(stop)?)),
-        },
-        Err(stop) => Ok(Tried::Inside(u128::from(start), fault_in(stop)?)),
+    /// Finds the field of an integral struct at which the fault of its number arises.
+    fn find_digits(
+        &mut self,
+        fields: &[Field],
+        digits: u64,
+        width: u8,
+        start: u64,
+    ) -> Result<Digits, Ended>
+        requires table { IsTable self.old.nodes.now }
+        requires fields { All (IsPartOf self.old.nodes.now (level_count self.old.store.now)) fields.now }
+        requires width { width ≤ 64 }
+        requires start { start < 2 ^ 63 }
+        ensures frame { WorkFrame self.old self.new }
+        ensures depth { DepthStays self.old self.new }
+        ensures goes_on { IfOk result (DigitsGoOn self.old.nodes.now (level_count self.old.store.now) start) }
+        ensures is { IfOk result (FindsDigits self.old self.new fields.now digits width start) }
+        ensures spends { SearchesDigits self.old self.new fields.now digits width start result }
+    {
+        let nodes = self.nodes;
+        let mut left = width;
+        for (place, field) in fields.iter().enumerate() {
+            let width = width_at(nodes, field.node);
+            let cut = first_digits(digits, left, width);
+            match self.try_digits(field, cut, start)? {
+                Tried::Passed(_) => left = left.saturating_sub(width),
+                Tried::Beside(_) => return Ok(Digits::Beside(place)),
+                Tried::Inside(_, _) => {
+                    return Ok(Digits::Inside(
+                        place,
+                        Cut {
+                            node: field.node,
+                            digits: cut,
+                            start,
+                        },
+                    ));
+                }
+            }
+        }
+        Ok(Digits::Itself)
+    }
+
+    /// Stores a field of an integral struct, and checks its constraint. Says which of them has a fault.
+    fn try_digits(&mut self, field: &Field, digits: u64, start: u64) -> Result<Tried, Ended>
+        requires table { IsTable self.old.nodes.now }
+        requires field { IsPartOf self.old.nodes.now (level_count self.old.store.now) field.now }
+        requires digits { digits < 2 ^ width_in (number_type (type_of self.old.nodes.now field.now.node)) }
+        requires start { start < 2 ^ 63 }
+        ensures frame { WorkFrame self.old self.new }
+        ensures depth { DepthStays self.old self.new }
+        ensures is { IfOk result (TriesDigits self.old self.new field.now digits start) }
+        ensures spends { SearchesNumber self.old self.new field.now digits start result }
+    {
+        let number = Cut {
+            node: field.node,
+            digits,
+            start,
+        };
+        let place = u128::from(start);
+        match self.store_number(number) {
+            Ok(()) => match check_constraint(&field.constraint, place, self.meter, self.store) {
+                Ok(()) => Ok(Tried::Passed(start)),
+                Err(stop) => Ok(Tried::Beside(fault_in(stop)?)),
+            },
+            Err(stop) => Ok(Tried::Inside(place, fault_in(stop)?)),
+        }
     }
 }

@@ -3,6 +3,7 @@
 
 pub mod alternatives;
 pub mod arises;
+pub mod checker;
 pub mod digits;
 pub mod elements;
 pub mod fields;

@@ -1,25 +1,22 @@
 //! Finds the part of a type in which its fault arises.
 
-ghost use Rattle.std.specs.Prelude.{◌≡◌, ◌+◌, ◌*◌, ◌≤◌, ◌<◌, length, IfErr, IfOk};
-ghost use Rattle.pickle_types.specs.Types.{depth};
-ghost use Rattle.pickle_types.specs.Table.{IsTable, type_of};
+ghost use Rattle.std.specs.Prelude.{◌≡◌, ◌*◌, ◌≤◌, IfErr, IfOk};
+ghost use Rattle.pickle_types.specs.Table.{IsTable, IsWidth};
 ghost use Rattle.pickle_types.specs.TypeTable.{type_named, IsInTable};
-ghost use Rattle.value_store.specs.Slots.{emptied, level_count};
-ghost use Rattle.pickle_types.specs.Table.{IsWidth};
+ghost use Rattle.value_store.specs.Slots.{emptied};
+ghost use Rattle.fault_check.specs.AtWork.{Frame, MayMap};
 ghost use Rattle.fault_check.specs.Searched.{EndsSearch, SearchesIn, SearchesRead, SearchesSite};
-ghost use Rattle.fault_check.specs.Sites.{FindsPart, GoesAlong, MayGoOn, HasFrame, FindsSite, ReadsSite, IsSmallSite};
+ghost use Rattle.fault_check.specs.Sites.{FindsPart, FindsSite, GoesAlong, HasFrame, IsSmallSite, MayFollow, ReadsSite};
 ghost use Rattle.fault_check.specs.Ways.{OnBits, Leaves};
 
-use crate::alternatives::find_alternative;
-use crate::digits::locate_in_number;
-use crate::elements::find_in_array;
-use crate::fields::find_field;
+use crate::checker::Checker;
+use crate::part::{Array, StructStart};
 use crate::site::{Cut, Ended, Inner, Site, fault_in, keep};
 use bit_space::{Meter, Order, Space};
 use pickle_map::mapper::read::read_digits;
 use pickle_types::integer::IntegerType;
 use pickle_types::table::{Table, TypeId};
-use pickle_types::view::{Node, Shape};
+use pickle_types::view::Shape;
 use std::alloc::Global;
 use value_store::store::Store;
 
@@ -51,84 +48,89 @@ pub fn find_part<S: Space>(
         order,
         start: u128::from(start),
     };
-    let located = locate(table.nodes(), whole, &mut path, space, meter, store);
-    store.clear();
+    let mut checker = Checker {
+        nodes: table.nodes(),
+        meter,
+        store,
+    };
+    let located = checker.locate(whole, &mut path, space);
+    checker.store.clear();
     located?;
     Ok(path)
 }
 
-/// Adds the path to the part in which the fault of a part arises to `path`.
-fn locate<S: Space>(
-    nodes: &[Node],
-    part: Inner,
-    path: &mut Vec<usize>,
-    space: &mut S,
-    meter: &mut Meter,
-    store: &mut Store,
-) -> Result<(), Ended>
-    requires table { IsTable nodes.now }
-    requires at { part.node < length nodes.now }
-    requires open { level_count store.old + depth (type_of nodes.now part.node) ≤ 65 }
-    ensures leaves { Leaves (S.view space.old) (S.view space.new) meter.old meter.new }
-    ensures is { IfOk result (λ _. OnBits (S.view space.old) (GoesAlong nodes.now part store.old path.old.items path.new.items)) }
-    ensures spends { SearchesIn nodes.now (S.view space.old) (S.view space.new) meter.old meter.new store.old part result }
-{
-    match find_site(nodes, part, space, meter, store)? {
-        Site::Itself => Ok(()),
-        Site::Beside(place) => keep(path, place),
-        Site::Inside(place, next) => {
-            keep(path, place)?;
-            locate(nodes, next, path, space, meter, store)
+impl Checker<'_> {
+    /// Adds the path to the part in which the fault of a type arises to `path`.
+    fn locate<S: Space>(
+        &mut self,
+        inner: Inner,
+        path: &mut Vec<usize>,
+        space: &mut S,
+    ) -> Result<(), Ended>
+        requires table { IsTable self.old.nodes.now }
+        requires part { MayMap self.old inner.node }
+        ensures frame { Frame (S.view space.old) (S.view space.new) self.old self.new }
+        ensures is { IfOk result (λ _. OnBits (S.view space.old) (GoesAlong self.old inner path.old.items path.new.items)) }
+        ensures spends { SearchesIn (S.view space.old) (S.view space.new) self.old self.new inner result }
+    {
+        match self.find_site(inner, space)? {
+            Site::Itself => Ok(()),
+            Site::Beside(place) => keep(path, place),
+            Site::Inside(place, next) => {
+                keep(path, place)?;
+                self.locate(next, path, space)
+            }
+            Site::Number(number) => self.locate_in_number(number, path),
         }
-        Site::Number(number) => locate_in_number(nodes, number, path, meter, store),
     }
-}
 
-/// Where the fault of a part arises: in itself, or at one of its parts.
-fn find_site<S: Space>(
-    nodes: &[Node],
-    part: Inner,
-    space: &mut S,
-    meter: &mut Meter,
-    store: &mut Store,
-) -> Result<Site, Ended>
-    requires table { IsTable nodes.now }
-    requires at { part.node < length nodes.now }
-    requires open { level_count store.old + depth (type_of nodes.now part.node) ≤ 65 }
-    ensures leaves { Leaves (S.view space.old) (S.view space.new) meter.old meter.new }
-    ensures frame { IfOk result (HasFrame store.old store.new) }
-    ensures goes_on { IfOk result (MayGoOn nodes.now (level_count store.new)) }
-    ensures is { IfOk result (λ site. OnBits (S.view space.old) (FindsSite nodes.now part store.old store.new site)) }
-    ensures spends { SearchesSite nodes.now (S.view space.old) (S.view space.new) meter.old meter.new store.old store.new part result }
-{
-    if u128::from(8 * space.len()) < part.start {
-        return Ok(Site::Itself);
-    }
-    let start = part.start as u64;
-    match &nodes[part.node].shape {
-        Shape::Struct { pinned, fields, .. } => {
-            store.open_level();
-            find_field(
-                nodes, *pinned, fields, part.order, start, space, meter, store,
-            )
+    /// Where the fault of a type arises: in itself, or at one of its parts.
+    fn find_site<S: Space>(&mut self, inner: Inner, space: &mut S) -> Result<Site, Ended>
+        requires table { IsTable self.old.nodes.now }
+        requires part { MayMap self.old inner.node }
+        ensures frame { Frame (S.view space.old) (S.view space.new) self.old self.new }
+        ensures found { IfOk result (HasFrame self.old.store.now self.new.store.now) }
+        ensures goes_on { IfOk result (MayFollow self.new) }
+        ensures is { IfOk result (λ site. OnBits (S.view space.old) (FindsSite self.old self.new inner site)) }
+        ensures spends { SearchesSite (S.view space.old) (S.view space.new) self.old self.new inner result }
+    {
+        if u128::from(8 * space.len()) < inner.start {
+            return Ok(Site::Itself);
         }
-        Shape::Union { alternatives, .. } => {
-            store.open_level();
-            find_alternative(nodes, alternatives, part.order, start, space, meter, store)
+        let nodes = self.nodes;
+        let start = inner.start as u64;
+        match &nodes[inner.node].shape {
+            Shape::Struct { pinned, fields, .. } => {
+                self.store.open_level();
+                let whole = StructStart {
+                    pinned: *pinned,
+                    order: inner.order,
+                    start,
+                };
+                self.find_field(whole, fields, space)
+            }
+            Shape::Union { alternatives, .. } => {
+                self.store.open_level();
+                self.find_alternative(alternatives, inner.order, start, space)
+            }
+            Shape::Array(element, bound) => {
+                let array = Array {
+                    element: *element,
+                    bound,
+                    order: inner.order,
+                    start: inner.start,
+                };
+                self.find_in_array(array, space)
+            }
+            Shape::Integral {
+                name: _,
+                number,
+                fields: _,
+            } => read_site(inner, *number, start, space, self.meter),
+            Shape::Integer(_) => Ok(Site::Itself),
+            Shape::Offset(..) => Ok(Site::Itself),
+            Shape::String => Ok(Site::Itself),
         }
-        Shape::Array(element, bound) => {
-            find_in_array(
-                nodes, *element, bound, part.order, start, space, meter, store,
-            )
-        }
-        Shape::Integral {
-            name: _,
-            number,
-            fields: _,
-        } => read_site(part, *number, start, space, meter),
-        Shape::Integer(_) => Ok(Site::Itself),
-        Shape::Offset(..) => Ok(Site::Itself),
-        Shape::String => Ok(Site::Itself),
     }
 }
 

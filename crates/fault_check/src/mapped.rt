@@ -1,90 +1,101 @@
 //! Maps parts on a path, and says what they mean.
 
-ghost use Rattle.std.specs.Prelude.{◌≡◌, ◌+◌, ◌≤◌, ◌<◌, length, IfOk, IsTrue, List};
+ghost use Rattle.std.specs.Prelude.{◌≡◌, IfOk, IsTrue, List};
 ghost use Rattle.pickle_types.specs.declared.node.Node.{Node as TableNode};
-ghost use Rattle.pickle_types.specs.Types.{depth};
-ghost use Rattle.pickle_types.specs.Table.{IsTable, type_of, optional_term};
+ghost use Rattle.pickle_types.specs.Table.{IsTable, optional_term};
 ghost use Rattle.pickle_types.specs.Sound.{IsSoundClause};
 ghost use Rattle.pickle_meaning.specs.Clauses.{constraint, condition};
-ghost use Rattle.pickle_meaning.specs.Values.{outer_of};
-ghost use Rattle.pickle_map.specs.Framed.{Frame, IsEnd, AddsToLevel, LevelStays};
-ghost use Rattle.value_store.specs.Slots.{levels, level_count};
-ghost use Rattle.fault_check.specs.Calls.{FindsStart, MapsChecked, MapsType};
-ghost use Rattle.fault_check.specs.Searched.{SearchesPart, SpendsClause, SpendsLabel, SpendsType};
+ghost use Rattle.pickle_map.specs.Framed.{IsEnd};
+ghost use Rattle.value_store.specs.Slots.{levels};
+ghost use Rattle.fault_check.specs.AtWork.{Frame, MapFrame, AddsToLevel, LevelStays, MayMap, MayTry};
+ghost use Rattle.fault_check.specs.Calls.{FindsStart, MapsType};
+ghost use Rattle.fault_check.specs.Searched.{SearchesPart, SpendsClause, SpendsConstraint, SpendsLabel, SpendsType};
 ghost use Rattle.fault_check.specs.Sites.{TriesPart};
-ghost use Rattle.fault_check.specs.Ways.{OnBits, Settled, IsThere, IsFault, Leaves};
+ghost use Rattle.fault_check.specs.Ways.{OnBits, Settled, IsThere, IsFault, constraint_of};
 
-use crate::part::Entered;
-use crate::site::{Ended, Tried, fault_in};
-use bit_space::{Meter, Order, Space};
+use crate::checker::Checker;
+use crate::part::{Entered, Part};
+use crate::site::{Ended, Inner, Tried, fault_in};
+use bit_space::{Meter, Space};
 use pickle_map::mapper::clauses;
 use pickle_map::mapper::state::Mapper;
 use pickle_map::mapper::stop::Stop;
 use pickle_map::mapper::watch::{Unwatched, Watch};
 use pickle_meaning::faults::MapFault;
-use pickle_types::view::{Node, Resolved};
+use pickle_types::view::Resolved;
 use value_store::store::Store;
 
-/// Maps the type at a place of the table from the bit `start` on into the innermost frame. Returns the bit after it.
-pub fn map_part<S: Space>(
-    nodes: &[Node],
-    node: usize,
-    order: Order,
-    start: u128,
-    space: &mut S,
-    meter: &mut Meter,
-    store: &mut Store,
-) -> Result<u64, Stop>
-    requires table { IsTable nodes.now }
-    requires at { node < length nodes.now }
-    requires open { level_count store.old + depth (type_of nodes.now node) ≤ 65 }
-    ensures frame { Frame (S.view space.old) (S.view space.new) meter.old meter.new store.old store.new 0 result }
-    ensures ends { IfOk result (IsEnd start (S.view space.old)) }
-    ensures is { OnBits (S.view space.old) (MapsType nodes.now node order start store.old store.new result) }
-    ensures level { AddsToLevel nodes.now store.old store.new result }
-    ensures outer { outer_of (levels nodes.now store.new) ≡ outer_of (levels nodes.now store.old) }
-    ensures spends { SpendsType nodes.now (S.view space.old) (S.view space.new) meter.old meter.new store.old node order start result }
-{
-    map_part_watched(
-        nodes,
-        node,
-        order,
-        start,
-        space,
-        meter,
-        store,
-        &mut Unwatched,
-    )
+impl Checker<'_> {
+    /// Maps a type into the innermost frame. Returns the bit after it.
+    pub fn map_part<S: Space>(&mut self, inner: Inner, space: &mut S) -> Result<u64, Stop>
+        requires table { IsTable self.old.nodes.now }
+        requires part { MayMap self.old inner.node }
+        ensures frame { MapFrame (S.view space.old) (S.view space.new) self.old self.new result }
+        ensures ends { IfOk result (IsEnd inner.start (S.view space.old)) }
+        ensures is { OnBits (S.view space.old) (MapsType self.old self.new inner result) }
+        ensures level { AddsToLevel self.old self.new result }
+        ensures outer { LevelStays self.old self.new }
+        ensures spends { SpendsType (S.view space.old) (S.view space.new) self.old self.new inner result }
+    {
+        self.map_watched(inner, space, &mut Unwatched)
+    }
+
+    /// Maps as [`Checker::map_part`] does, and reports to a watcher.
+    pub fn map_watched<S: Space, W: Watch>(
+        &mut self,
+        inner: Inner,
+        space: &mut S,
+        watch: &mut W,
+    ) -> Result<u64, Stop>
+        requires table { IsTable self.old.nodes.now }
+        requires part { MayMap self.old inner.node }
+        ensures frame { MapFrame (S.view space.old) (S.view space.new) self.old self.new result }
+        ensures ends { IfOk result (IsEnd inner.start (S.view space.old)) }
+        ensures is { OnBits (S.view space.old) (MapsType self.old self.new inner result) }
+        ensures level { AddsToLevel self.old self.new result }
+        ensures outer { LevelStays self.old self.new }
+        ensures spends { SpendsType (S.view space.old) (S.view space.new) self.old self.new inner result }
+    {
+        let mut mapper = Mapper {
+            nodes: self.nodes,
+            meter: self.meter,
+            store: self.store,
+            watch,
+        };
+        mapper.map_type(inner.node, inner.order, inner.start, space)
+    }
+
+    /// Maps a part, and checks its constraint. Says which of them has a fault.
+    pub fn try_part<S: Space>(&mut self, part: Part<'_>, space: &mut S) -> Result<Tried, Ended>
+        requires table { IsTable self.old.nodes.now }
+        requires part { MayTry self.old part }
+        ensures frame { Frame (S.view space.old) (S.view space.new) self.old self.new }
+        ensures is { IfOk result (λ found. OnBits (S.view space.old) (TriesPart self.old self.new part.entry found)) }
+        ensures spends { SearchesPart (S.view space.old) (S.view space.new) self.old self.new part.entry result }
+        ensures level { LevelStays self.old self.new }
+    {
+        let start = part.inner.start;
+        match self.map_part(part.inner, space) {
+            Ok(end) => match check_part(part, self.meter, self.store) {
+                Ok(()) => Ok(Tried::Passed(end)),
+                Err(stop) => Ok(Tried::Beside(fault_in(stop)?)),
+            },
+            Err(stop) => Ok(Tried::Inside(start, fault_in(stop)?)),
+        }
+    }
 }
 
-/// Maps as [`map_part`] does, and reports to a watcher.
-pub fn map_part_watched<S: Space, W: Watch>(
-    nodes: &[Node],
-    node: usize,
-    order: Order,
-    start: u128,
-    space: &mut S,
-    meter: &mut Meter,
-    store: &mut Store,
-    watch: &mut W,
-) -> Result<u64, Stop>
-    requires table { IsTable nodes.now }
-    requires at { node < length nodes.now }
-    requires open { level_count store.old + depth (type_of nodes.now node) ≤ 65 }
-    ensures frame { Frame (S.view space.old) (S.view space.new) meter.old meter.new store.old store.new 0 result }
-    ensures ends { IfOk result (IsEnd start (S.view space.old)) }
-    ensures is { OnBits (S.view space.old) (MapsType nodes.now node order start store.old store.new result) }
-    ensures level { AddsToLevel nodes.now store.old store.new result }
-    ensures outer { outer_of (levels nodes.now store.new) ≡ outer_of (levels nodes.now store.old) }
-    ensures spends { SpendsType nodes.now (S.view space.old) (S.view space.new) meter.old meter.new store.old node order start result }
+/// Checks the constraint of a part, whose value is the last one of the innermost frame.
+pub fn check_part(part: Part<'_>, meter: &mut Meter, store: &Store) -> Result<(), Stop>
+    requires sound { IsSoundClause (constraint_of part) }
+    ensures limit { meter.new.limit ≡ meter.old.limit }
+    ensures is { (nodes : List TableNode) → Settled result (constraint (constraint_of part.entry) (levels nodes store.now) part.entry.inner.start) }
+    ensures spends { SpendsConstraint meter.old meter.new store.now part.entry result }
 {
-    let mut mapper = Mapper {
-        nodes,
-        meter,
-        store,
-        watch,
-    };
-    mapper.map_type(node, order, start, space)
+    match part.constraint {
+        Some(clause) => check_constraint(clause, part.inner.start, meter, store),
+        None => Ok(()),
+    }
 }
 
 /// Checks a constraint on the last value of the innermost frame, which began at the bit `place`.
@@ -132,60 +143,6 @@ pub fn find_start(
     ensures spends { SpendsLabel meter.old meter.new store.now pinned label.now result }
 {
     clauses::find_start(pinned, label, store, start, behind, meter)
-}
-
-/// Maps the type at a place of the table, and checks its constraint.
-pub fn map_checked<S: Space>(
-    nodes: &[Node],
-    node: usize,
-    clause: &Option<Box<Resolved>>,
-    order: Order,
-    start: u128,
-    space: &mut S,
-    meter: &mut Meter,
-    store: &mut Store,
-) -> Result<u64, Stop>
-    requires table { IsTable nodes.now }
-    requires at { node < length nodes.now }
-    requires open { level_count store.old + depth (type_of nodes.now node) ≤ 65 }
-    requires sound { IsSoundClause (optional_term clause.now) }
-    ensures leaves { Leaves (S.view space.old) (S.view space.new) meter.old meter.new }
-    ensures ends { IfOk result (IsEnd start (S.view space.old)) }
-    ensures is { OnBits (S.view space.old) (MapsChecked nodes.now node clause.now order start store.old store.new result) }
-    ensures level { LevelStays nodes.now store.old store.new }
-{
-    let end = map_part(nodes, node, order, start, space, meter, store)?;
-    check_constraint(clause, start, meter, store)?;
-    Ok(end)
-}
-
-/// Maps the type at a place of the table, and checks its constraint. Says which of them has a fault.
-pub fn try_part<S: Space>(
-    nodes: &[Node],
-    node: usize,
-    clause: &Option<Box<Resolved>>,
-    order: Order,
-    start: u128,
-    space: &mut S,
-    meter: &mut Meter,
-    store: &mut Store,
-) -> Result<Tried, Ended>
-    requires table { IsTable nodes.now }
-    requires at { node < length nodes.now }
-    requires open { level_count store.old + depth (type_of nodes.now node) ≤ 65 }
-    requires sound { IsSoundClause (optional_term clause.now) }
-    ensures leaves { Leaves (S.view space.old) (S.view space.new) meter.old meter.new }
-    ensures is { IfOk result (λ found. OnBits (S.view space.old) (TriesPart nodes.now node clause.now order start store.old store.new found)) }
-    ensures spends { SearchesPart nodes.now (S.view space.old) (S.view space.new) meter.old meter.new store.old node clause.now order start result }
-    ensures level { LevelStays nodes.now store.old store.new }
-{
-    match map_part(nodes, node, order, start, space, meter, store) {
-        Ok(end) => match check_constraint(clause, start, meter, store) {
-            Ok(()) => Ok(Tried::Passed(end)),
-            Err(stop) => Ok(Tried::Beside(fault_in(stop)?)),
-        },
-        Err(stop) => Ok(Tried::Inside(start, fault_in(stop)?)),
-    }
 }
 
 /// Whether a stop is this fault.

@@ -1,15 +1,45 @@
 //! Parts of a type, on the path to the one in which a fault arises.
 
-use bit_space::Order;
-use pickle_types::view::Resolved;
+ghost use Rattle.std.specs.Prelude.{◌≡◌, ◌<◌, ◌^◌};
+ghost use Rattle.fault_check.specs.Parts.{IsFieldPart, IsAlternativePart, IsBare, element_at, elements_of};
 
-/// A type at a place of the table, which starts at a bit, and its constraint, if any.
+use crate::site::Inner;
+use bit_space::Order;
+use pickle_map::mapper::types::ordered;
+use pickle_meaning::extent::Extent;
+use pickle_types::view::{Extent as Bound, Field, Part as Alternative, Resolved};
+
+/// A type, and its constraint, if any.
 #[derive(Clone, Copy)]
 pub struct Part<'a> {
-    pub node: usize,
+    pub inner: Inner,
+    pub constraint: Option<&'a Option<Box<Resolved>>>,
+}
+
+/// A struct that starts at a bit, in the byte order around it.
+#[derive(Clone, Copy)]
+pub struct StructStart {
+    pub pinned: bool,
+    pub order: Order,
+    pub start: u64,
+}
+
+/// An array that starts at a bit. Its elements are the type at a place of the table.
+#[derive(Clone, Copy)]
+pub struct Array<'a> {
+    pub element: usize,
+    pub bound: &'a Bound,
     pub order: Order,
     pub start: u128,
-    pub constraint: Option<&'a Option<Box<Resolved>>>,
+}
+
+/// The elements of an array that starts at a bit, up to its extent.
+#[derive(Clone, Copy)]
+pub struct Elements {
+    pub element: usize,
+    pub extent: Extent,
+    pub order: Order,
+    pub start: u64,
 }
 
 /// The result of one step of a path.
@@ -20,4 +50,66 @@ pub enum Entered<'a> {
     There,
     /// The fault doesn't arise after this step, or what is before it could not be mapped.
     Nowhere,
+}
+
+/// A field, which starts at the bit `start`, of a struct in this byte order.
+pub fn field_part<'a>(field: &'a Field, order: Order, start: u128) -> Part<'a>
+    ensures { IsFieldPart field.now order start result }
+{
+    Part {
+        inner: Inner {
+            node: field.node,
+            order: ordered(field.order, order),
+            start,
+        },
+        constraint: Some(&field.constraint),
+    }
+}
+
+/// An alternative of a union that starts at the bit `start`, in this byte order.
+pub fn alternative_part<'a>(alternative: &'a Alternative, order: Order, start: u64) -> Part<'a>
+    ensures { IsAlternativePart alternative.now order start result }
+{
+    Part {
+        inner: Inner {
+            node: alternative.node,
+            order: ordered(alternative.order, order),
+            start: u128::from(start),
+        },
+        constraint: Some(&alternative.constraint),
+    }
+}
+
+/// The elements of an array, up to this extent. The array starts inside the file.
+pub fn elements_of(array: Array<'_>, extent: Extent) -> Elements
+    requires { array.start < 2 ^ 64 }
+    ensures { result ≡ elements_of array.entry extent }
+{
+    Elements {
+        element: array.element,
+        extent,
+        order: array.order,
+        start: array.start as u64,
+    }
+}
+
+/// The element of an array that starts at the bit `start`.
+pub fn element_at(elements: Elements, start: u64) -> Inner
+    ensures { result ≡ element_at elements start }
+{
+    Inner {
+        node: elements.element,
+        order: elements.order,
+        start: u128::from(start),
+    }
+}
+
+/// A type with no constraint.
+pub fn bare_part<'a>(inner: Inner) -> Part<'a>
+    ensures { IsBare inner result }
+{
+    Part {
+        inner,
+        constraint: None,
+    }
 }

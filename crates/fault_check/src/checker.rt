@@ -1,0 +1,14 @@
+//! The state of a check.
+
+use bit_space::Meter;
+use pickle_types::view::Node;
+use value_store::store::Store;
+
+/// The state of a check: the nodes of the table that it walks over, the meter that counts for it, and the store that it
+/// fills. Calls that read borrow the space, and calls that report borrow the watcher.
+#[derive(Drop)]
+pub struct Checker<'a> {
+    pub nodes: &'a [Node],
+    pub meter: &'a mut Meter,
+    pub store: &'a mut Store,
+}
