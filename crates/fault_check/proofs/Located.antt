@@ -8,6 +8,7 @@ use Rattle.bit_space.specs.Bits.{bits_of}
 use Rattle.bit_space.specs.SpaceView.{SpaceView}
 use Rattle.bit_space.specs.declared.order.Order.{Order}
 use Rattle.pickle_types.specs.declared.integer.IntegerType.{IntegerType}
+use Rattle.pickle_types.specs.declared.node.Extent.{Extent as Extents}
 use Rattle.pickle_types.specs.declared.node.Field.{Field}
 use Rattle.pickle_types.specs.declared.name.Name.{Name}
 use Rattle.pickle_types.specs.declared.node.Node.{Node}
@@ -15,7 +16,7 @@ use Rattle.pickle_types.specs.declared.node.Shape.{Shape}
 use Rattle.pickle_types.specs.declared.node.Shape.TheVariants as shape
 use Rattle.pickle_types.specs.declared.node.Part.{Part as Alternative}
 use Rattle.pickle_types.specs.Types.{Bound, PokeType, ArrayOf, StructOf, UnionOf, Fields, NoFields, Parts, NoParts}
-use Rattle.pickle_types.specs.Table.{IsTable, type_of, optional_term}
+use Rattle.pickle_types.specs.Table.{IsTable, type_of, optional_term, bound_of}
 use Rattle.pickle_meaning.specs.declared.extent.Extent.{Extent}
 use Rattle.pickle_meaning.specs.declared.faults.MapFault.{MapFault}
 use Rattle.pickle_meaning.specs.Numbers.{number_at}
@@ -39,10 +40,12 @@ use Rattle.fault_check.specs.declared.site.Tried.{Tried}
 use Rattle.fault_check.specs.declared.site.Tried.TheVariants as tried
 use Rattle.fault_check.specs.Digits.{RefusesNumber}
 use Rattle.fault_check.specs.Elements.{ElementsTo}
+use Rattle.fault_check.specs.declared.part.Array.{Array}
 use Rattle.fault_check.specs.declared.part.Elements.{Elements}
 use Rattle.fault_check.specs.declared.site.Inner.{Inner}
 use Rattle.fault_check.specs.declared.site.Site.{Site}
 use Rattle.fault_check.specs.declared.site.Site.TheVariants as site
+use Rattle.fault_check.specs.Parts.{IsArrayAt}
 use Rattle.fault_check.specs.Sites.{TriesAs, TriesFieldAs, IsRefused, IsFaulty, IsSite, path_in, path_among, ReadsSite, IsSmallSite}
 use Rattle.fault_check.specs.Ways.{Meaning, Comes, Misses, OnBits, field_then, part_then, fault_of}
 
@@ -196,6 +199,15 @@ module _ (bits : List ℕ) (order : Order) (levels : Levels) (s : ℕ) (here : s
 
   pub bound_path : (ty : PokeType) (bound : Bound) (x : FaultAt) → extent_of bound levels s ≡ Err x → path_of bits (ArrayOf ty bound) order levels s ≡ []
   bound_path ty bound x e = rw (le-leb s (length bits) here, e) refl
+
+-- an array that is a type of a table
+pub array_in : (bits : List ℕ) (nodes : List Node) (levels : Levels) (inner : Inner) (element : ℕ) (bound : Extents) (array : Array) → IsArrayAt inner element bound array → type_of nodes inner.node ≡ ArrayOf (type_of nodes element) (bound_of bound)
+    → path_in bits nodes levels inner ≡ path_of bits (ArrayOf (type_of nodes array.element) (bound_of array.bound.now)) array.order levels array.start
+array_in bits nodes levels inner element bound array is e =
+    let same : type_of nodes inner.node ≡ ArrayOf (type_of nodes array.element) (bound_of array.bound.now) = rw (is.element_is, is.bound_is) e in
+    ap (λ order. path_of bits (type_of nodes inner.node) order levels inner.start) (sym is.order_is)
+    ∙ ap (λ start. path_of bits (type_of nodes inner.node) array.order levels start) (sym is.start_is)
+    ∙ ap (λ ty. path_of bits ty array.order levels array.start) same
 
 -- an array, by its elements
 pub array_among : (bits : List ℕ) (nodes : List Node) (levels inside : Levels) (all now : Elements) → all ≡ now → inside ≡ opened levels → now.start ≤ length bits → (bound : Bound) → extent_of bound levels now.start ≡ Ok now.extent

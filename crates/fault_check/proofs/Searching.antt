@@ -8,12 +8,13 @@ use Rattle.bit_space.specs.Bits.{bits_of}
 use Rattle.bit_space.specs.SpaceView.{SpaceView, IsWhole, HasRisen}
 use Rattle.bit_space.proofs.Digits.{length-bits_of}
 use Rattle.bit_space.proofs.Failures.{risen_later}
+use Rattle.pickle_types.specs.declared.node.Extent.{Extent as Extents}
 use Rattle.pickle_types.specs.declared.node.Field.{Field}
 use Rattle.pickle_types.specs.declared.node.Node.{Node}
 use Rattle.pickle_types.specs.declared.node.Part.{Part as Alternative}
 use Rattle.pickle_types.specs.declared.integer.IntegerType.{IntegerType}
 use Rattle.pickle_types.specs.Types.{Term, Bound, PokeType, ArrayOf, StructOf, IntegralOf, UnionOf, Fields, Parts}
-use Rattle.pickle_types.specs.Table.{type_of, optional_term}
+use Rattle.pickle_types.specs.Table.{type_of, optional_term, bound_of}
 use Rattle.pickle_meaning.specs.declared.extent.Extent.{Extent}
 use Rattle.pickle_meaning.specs.Values.{Naming, Value, end_of, Levels, pushed, opened}
 use Rattle.pickle_meaning.specs.Clauses.{FaultAt, clause_steps, condition, field_start, label_steps, extent_of, bound_steps, is_due, ends_before, misses}
@@ -36,10 +37,12 @@ use Rattle.fault_check.specs.declared.site.Tried.{Tried}
 use Rattle.fault_check.specs.declared.site.Tried.TheVariants as tried
 use Rattle.fault_check.specs.Ways.{OnBits, KeepsMeant, field_then, part_then}
 use Rattle.fault_check.specs.Digits.{KeepsNumber, PassesNumber}
+use Rattle.fault_check.specs.declared.part.Array.{Array}
 use Rattle.fault_check.specs.declared.part.Elements.{Elements}
 use Rattle.fault_check.specs.declared.site.Inner.{Inner}
 use Rattle.fault_check.specs.declared.site.Site.{Site}
 use Rattle.fault_check.specs.declared.site.Site.TheVariants as site
+use Rattle.fault_check.specs.Parts.{IsArrayAt}
 use Rattle.fault_check.specs.Sites.{TriesAs, IsRefused, IsFaulty, ReadsSite, IsSmallSite}
 use Rattle.fault_check.specs.Searched.{Stops, Spends, Ends, Searches, SpendsReading, SpendsAlone, SearchesReading, stop_of, part_steps, number_steps, field_left, digits_search, number_search, fields_search, alternatives_search, search_of, search_in, search_among, site_left, elements_search}
 use Rattle.fault_check.proofs.Located.{result_is}
@@ -258,6 +261,15 @@ module _ (bits : List ℕ) (order : Order) (levels : Levels) (s : ℕ) (here : s
 
   pub bound_search : (ty : PokeType) (bound : Bound) → bound_steps bound levels ≤ search_of bits (ArrayOf ty bound) order levels s
   bound_search ty bound = rw (le-leb s (length bits) here) (omega arith)
+
+-- an array that is a type of a table
+pub array_searched : (bits : List ℕ) (nodes : List Node) (before : Levels) (inner : Inner) (element : ℕ) (bound : Extents) (array : Array) → IsArrayAt inner element bound array → type_of nodes inner.node ≡ ArrayOf (type_of nodes element) (bound_of bound)
+    → search_in bits nodes before inner ≡ search_of bits (ArrayOf (type_of nodes array.element) (bound_of array.bound.now)) array.order before array.start
+array_searched bits nodes before inner element bound array is e =
+    let same : type_of nodes inner.node ≡ ArrayOf (type_of nodes array.element) (bound_of array.bound.now) = rw (is.element_is, is.bound_is) e in
+    ap (λ order. search_of bits (type_of nodes inner.node) order before inner.start) (sym is.order_is)
+    ∙ ap (λ start. search_of bits (type_of nodes inner.node) array.order before start) (sym is.start_is)
+    ∙ ap (λ ty. search_of bits ty array.order before array.start) same
 
 -- an array, by its elements
 pub array_least : (bits : List ℕ) (nodes : List Node) (levels inside : Levels) (all now : Elements) → all ≡ now → inside ≡ opened levels → now.start ≤ length bits → (bound : Bound) → extent_of bound levels now.start ≡ Ok now.extent

@@ -1,7 +1,12 @@
 -- What the calls of a checker leave as it was, and what they may be given, by the states of the checker.
-use Rattle.std.specs.Prelude.{◌≡◌, ℕ, ◌+◌, [], ◌∷◌, Result}
+use Rattle.std.specs.Prelude.{◌≡◌, ℕ, ◌+◌, ◌^◌, ◌<◌, [], ◌∷◌, Result}
 use Rattle.bit_space.specs.SpaceView.{SpaceView}
+use Rattle.pickle_types.specs.declared.node.Field.{Field}
+use Rattle.pickle_types.specs.declared.node.Part.{Part as Alternative}
+use Rattle.pickle_types.specs.Table.{type_of}
+use Rattle.pickle_meaning.specs.Means.{number_type, width_in}
 use Rattle.pickle_map.specs.declared.mapper.stop.Stop.{Stop}
+use Rattle.pickle_map.specs.Mappable.{IsFieldOf, IsPartOf}
 use Rattle.pickle_map.specs.Framed as framed
 use Rattle.pickle_meaning.specs.Values.{outer_of}
 use Rattle.value_store.specs.Slots.{levels, level_count}
@@ -57,6 +62,17 @@ MayOpen checker node = MayEnter checker.nodes.now (level_count checker.store.now
 -- a part may be mapped, with its constraint
 abbrev pub MayTry : Checker → Part → Type 0
 MayTry checker part = IsPart checker.nodes.now (level_count checker.store.now) part
+
+-- a field of a struct may be mapped, and an alternative of a union or a field of an integral struct
+abbrev pub IsFieldIn : Checker → Field → Type 0
+IsFieldIn checker = IsFieldOf checker.nodes.now (level_count checker.store.now)
+
+abbrev pub IsPartIn : Checker → Alternative → Type 0
+IsPartIn checker = IsPartOf checker.nodes.now (level_count checker.store.now)
+
+-- a number has no more binary digits than the type at a place of the table
+abbrev pub FitsType : Checker → (node digits : ℕ) → Type 0
+FitsType checker node digits = digits < 2 ^ width_in (number_type (type_of checker.nodes.now node))
 
 -- the innermost frame is empty
 abbrev pub IsFresh : Checker → Type 0

@@ -6,10 +6,10 @@ use Rattle.pickle_types.specs.declared.node.Field.{Field}
 use Rattle.pickle_types.specs.declared.node.Node.{Node}
 use Rattle.pickle_types.specs.declared.node.Part.{Part as Alternative}
 use Rattle.pickle_types.specs.declared.node.Resolved.{Resolved}
-use Rattle.pickle_types.specs.Types.{PokeType}
+use Rattle.pickle_types.specs.Types.{PokeType, Term}
 use Rattle.pickle_types.specs.Table.{type_of, open_fields, open_parts, optional_term}
 use Rattle.pickle_meaning.specs.declared.faults.MapFault.{MapFault}
-use Rattle.pickle_meaning.specs.Clauses.{constraint, field_start}
+use Rattle.pickle_meaning.specs.Clauses.{constraint, condition, field_start}
 use Rattle.pickle_meaning.specs.Means.{Means}
 use Rattle.pickle_meaning.specs.Values.{no_values}
 use Rattle.pickle_map.specs.declared.mapper.stop.Stop.{Stop}
@@ -17,6 +17,7 @@ use Rattle.fault_check.specs.declared.checker.Checker.{Checker}
 use Rattle.fault_check.specs.declared.part.Part.{Part}
 use Rattle.fault_check.specs.declared.part.Entered.{Entered}
 use Rattle.fault_check.specs.declared.part.StructStart.{StructStart}
+use Rattle.fault_check.specs.declared.part.UnionStart.{UnionStart}
 use Rattle.fault_check.specs.declared.site.Cut.{Cut}
 use Rattle.fault_check.specs.declared.site.Inner.{Inner}
 use Rattle.fault_check.specs.Digits.{ReachesNumber}
@@ -57,16 +58,16 @@ module _ (old new : Checker) where
       Enters bits old.nodes.now (levels old.nodes.now new.store.now) place (fault_of fault) (InType bits old.nodes.now (levels old.nodes.now old.store.now) inner (fault_of fault)) entered
 
   -- the fields of a struct were entered at a place
-  abbrev pub EntersFields : StructStart → List Field → (place : ℕ) → MapFault → Entered → (bits : List ℕ) → Type 0
-  EntersFields whole fields place fault entered bits =
+  abbrev pub EntersStruct : StructStart → List Field → (place : ℕ) → MapFault → Entered → (bits : List ℕ) → Type 0
+  EntersStruct whole fields place fault entered bits =
       Enters bits old.nodes.now (levels old.nodes.now new.store.now) place (fault_of fault)
       (FieldsArise bits whole.pinned whole.start whole.order (open_fields (type_of old.nodes.now) fields) (levels old.nodes.now old.store.now) (fault_of fault)) entered
 
   -- the alternatives of a union were entered at a place
-  abbrev pub EntersAlternatives : List Alternative → Order → (start place : ℕ) → MapFault → Entered → (bits : List ℕ) → Type 0
-  EntersAlternatives alternatives order start place fault entered bits =
+  abbrev pub EntersUnion : UnionStart → List Alternative → (place : ℕ) → MapFault → Entered → (bits : List ℕ) → Type 0
+  EntersUnion whole alternatives place fault entered bits =
       Enters bits old.nodes.now (levels old.nodes.now new.store.now) place (fault_of fault)
-      (AlternativesArise bits order (open_parts (type_of old.nodes.now) alternatives) (levels old.nodes.now old.store.now) start (fault_of fault)) entered
+      (AlternativesArise bits whole.order (open_parts (type_of old.nodes.now) alternatives) (levels old.nodes.now old.store.now) whole.start (fault_of fault)) entered
 
   -- a field was entered, after those that are absent or values
   abbrev pub EntersOne : StructStart → Field → (behind : ℕ) → MapFault → Entered → Type 0
@@ -83,6 +84,13 @@ module _ (old new : Checker) where
   abbrev pub Reaches : List Alternative → (place digits width start left : ℕ) → Type 0
   Reaches fields place digits width start left =
       ReachesNumber old.nodes.now digits start fields width (levels old.nodes.now old.store.now) place (levels old.nodes.now new.store.now) left
+
+-- a constraint on the last value, and a condition, were evaluated, whatever the names of the table are
+abbrev pub Checks : Option Term → Held → (place : ℕ) → Result (Unit {0}) Stop → Type 0
+Checks clause store place result = (nodes : List Node) → Settled result (constraint clause (levels nodes store) place)
+
+abbrev pub TellsThere : Option (Box Resolved Global) → Held → (start : ℕ) → Result Bool Stop → Type 0
+TellsThere clause store start result = (nodes : List Node) → Settled result (condition (optional_term clause) (levels nodes store) start)
 
 -- a field's start was found by its label
 abbrev pub FindsStart : (pinned : Bool) → Option (Box Resolved Global) → Held → (start behind : ℕ) → Result ℕ Stop → Type 0

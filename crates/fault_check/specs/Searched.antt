@@ -26,6 +26,7 @@ use Rattle.fault_check.specs.declared.part.Array.{Array}
 use Rattle.fault_check.specs.declared.part.Elements.{Elements}
 use Rattle.fault_check.specs.declared.part.Part.{Part}
 use Rattle.fault_check.specs.declared.part.StructStart.{StructStart}
+use Rattle.fault_check.specs.declared.part.UnionStart.{UnionStart}
 use Rattle.fault_check.specs.declared.site.Attempt.{Attempt}
 use Rattle.fault_check.specs.declared.site.Attempt.TheVariants as attempt
 use Rattle.fault_check.specs.declared.site.Cut.{Cut}
@@ -250,8 +251,8 @@ module _ (space space' : SpaceView) (old new : Checker) where
       SearchesOn (λ bits. search_in bits old.nodes.now (levels old.nodes.now old.store.now) inner) (λ bits. site_left bits old.nodes.now (levels old.nodes.now new.store.now))
 
   -- the fields of a struct, and one of them
-  abbrev pub SearchesFields : StructStart → List Field → Result Site Ended → Type 0
-  SearchesFields whole fields =
+  abbrev pub SearchesStruct : StructStart → List Field → Result Site Ended → Type 0
+  SearchesStruct whole fields =
       SearchesOn (λ bits. fields_search bits whole.pinned whole.start (open_fields (type_of old.nodes.now) fields) whole.order (levels old.nodes.now old.store.now) whole.start)
       (λ bits. site_left bits old.nodes.now (levels old.nodes.now new.store.now))
 
@@ -262,16 +263,16 @@ module _ (space space' : SpaceView) (old new : Checker) where
       (field_left bits old.nodes.now whole.pinned whole.start whole.order field rest (levels old.nodes.now new.store.now)) result)
 
   -- the alternatives of a union, and one of them
-  abbrev pub SearchesAlternatives : List Alternative → Order → (start : ℕ) → Result Site Ended → Type 0
-  SearchesAlternatives alternatives order start =
-      SearchesOn (λ bits. alternatives_search bits (open_parts (type_of old.nodes.now) alternatives) order (levels old.nodes.now old.store.now) start)
+  abbrev pub SearchesUnion : UnionStart → List Alternative → Result Site Ended → Type 0
+  SearchesUnion whole alternatives =
+      SearchesOn (λ bits. alternatives_search bits (open_parts (type_of old.nodes.now) alternatives) whole.order (levels old.nodes.now old.store.now) whole.start)
       (λ bits. site_left bits old.nodes.now (levels old.nodes.now new.store.now))
 
-  abbrev pub SearchesAlternative : Alternative → Order → (start : ℕ) → Result Attempt Ended → Type 0
-  SearchesAlternative alternative order start result =
+  abbrev pub SearchesOne : UnionStart → Alternative → Result Attempt Ended → Type 0
+  SearchesOne whole alternative result =
       OnBits space (λ bits. (rest : Parts) → SearchesReading space space' old.meter.now new.meter.now
-      (alternatives_search bits (part_then old.nodes.now alternative rest) order (levels old.nodes.now old.store.now) start)
-      (alternative_left bits old.nodes.now order alternative rest (levels old.nodes.now old.store.now) (levels old.nodes.now new.store.now) start) result)
+      (alternatives_search bits (part_then old.nodes.now alternative rest) whole.order (levels old.nodes.now old.store.now) whole.start)
+      (alternative_left bits old.nodes.now whole.order alternative rest (levels old.nodes.now old.store.now) (levels old.nodes.now new.store.now) whole.start) result)
 
   -- an array, and its elements
   abbrev pub SearchesArray : Array → Result Site Ended → Type 0

@@ -1,6 +1,7 @@
 -- Where the fault of a type arises, as it is found step by step.
 use Rattle.std.specs.Prelude.{◌≡◌, ℕ, ◌+◌, ◌<◌, ◌≤◌, ◌^◌, length, suc, Bool, List, [], ◌∷◌, ◌++◌, Option, Some, Ok, Err}
 use Rattle.bit_space.specs.declared.order.Order.{Order}
+use Rattle.bit_space.specs.SpaceView.{SpaceView}
 use Rattle.pickle_types.specs.declared.node.Field.{Field}
 use Rattle.pickle_types.specs.declared.node.Node.{Node}
 use Rattle.pickle_types.specs.declared.node.Part.{Part as Alternative}
@@ -24,6 +25,7 @@ use Rattle.fault_check.specs.declared.part.Array.{Array}
 use Rattle.fault_check.specs.declared.part.Elements.{Elements}
 use Rattle.fault_check.specs.declared.part.Part.{Part}
 use Rattle.fault_check.specs.declared.part.StructStart.{StructStart}
+use Rattle.fault_check.specs.declared.part.UnionStart.{UnionStart}
 use Rattle.fault_check.specs.declared.site.Attempt.{Attempt}
 use Rattle.fault_check.specs.declared.site.Attempt.TheVariants as attempt
 use Rattle.fault_check.specs.declared.site.Cut.{Cut}
@@ -35,7 +37,7 @@ use Rattle.fault_check.specs.declared.site.Site.TheVariants as site
 use Rattle.fault_check.specs.declared.site.Tried.{Tried}
 use Rattle.fault_check.specs.declared.site.Tried.TheVariants as tried
 use Rattle.fault_check.specs.Digits.{KeepsNumber, PassesNumber, RefusesNumber}
-use Rattle.fault_check.specs.Ways.{PassesField, Misses, constraint_of, fault_of, field_then, part_then}
+use Rattle.fault_check.specs.Ways.{OnBits, PassesField, Misses, constraint_of, fault_of, field_then, part_then}
 
 -- if a type means a fault on these bits, it arises at the end of the path
 abbrev pub FindsPart : PokeType → Order → (start : ℕ) → Path → (bits : List ℕ) → Type 0
@@ -177,8 +179,12 @@ IsSmallSite node start (site.Number cut) = (cut.node ≡ node) × (cut.start ≡
 -- ---- what the calls say, from the state of the checker before the call and after it
 
 -- a path grew by the path to where the fault of a type arises
-abbrev pub GoesAlong : Checker → Inner → (path path' : Path) → (bits : List ℕ) → Type 0
-GoesAlong checker inner path path' bits = path' ≡ path ++ path_in bits checker.nodes.now (levels checker.nodes.now checker.store.now) inner
+abbrev pub GoesAlong : SpaceView → Checker → Inner → (path path' : Path) → Type 0
+GoesAlong space checker inner path path' = OnBits space (λ bits. path' ≡ path ++ path_in bits checker.nodes.now (levels checker.nodes.now checker.store.now) inner)
+
+-- the same, into a number
+abbrev pub GoesInto : Checker → Cut → (path path' : Path) → Type 0
+GoesInto checker cut path path' = path' ≡ path ++ path_cut checker.nodes.now (levels checker.nodes.now checker.store.now) cut
 
 -- the part that was found may be mapped
 abbrev pub MayFollow : Checker → Site → Type 0
@@ -193,10 +199,10 @@ module _ (old new : Checker) where
       IsSite bits old.nodes.now (levels old.nodes.now new.store.now)
       (fields_path bits whole.pinned whole.start (open_fields (type_of old.nodes.now) fields) whole.order (levels old.nodes.now old.store.now) whole.start) found
 
-  abbrev pub FindsAlternative : List Alternative → Order → (start : ℕ) → Site → (bits : List ℕ) → Type 0
-  FindsAlternative alternatives order start found bits =
+  abbrev pub FindsAlternative : UnionStart → List Alternative → Site → (bits : List ℕ) → Type 0
+  FindsAlternative whole alternatives found bits =
       IsSite bits old.nodes.now (levels old.nodes.now new.store.now)
-      (alternatives_path bits (open_parts (type_of old.nodes.now) alternatives) order (levels old.nodes.now old.store.now) start) found
+      (alternatives_path bits (open_parts (type_of old.nodes.now) alternatives) whole.order (levels old.nodes.now old.store.now) whole.start) found
 
   abbrev pub FindsInArray : Array → Site → (bits : List ℕ) → Type 0
   FindsInArray array found bits =
@@ -219,9 +225,9 @@ module _ (old new : Checker) where
   TriesField whole field behind found bits =
       TriesFieldAs bits old.nodes.now whole.pinned whole.start whole.order field (levels old.nodes.now old.store.now) (levels old.nodes.now new.store.now) behind found
 
-  abbrev pub TriesAlternative : Alternative → Order → (start : ℕ) → Attempt → (bits : List ℕ) → Type 0
-  TriesAlternative alternative order start found bits =
-      TriesAlternativeAs bits old.nodes.now alternative order (levels old.nodes.now old.store.now) (levels old.nodes.now new.store.now) start found
+  abbrev pub TriesAlternative : UnionStart → Alternative → Attempt → (bits : List ℕ) → Type 0
+  TriesAlternative whole alternative found bits =
+      TriesAlternativeAs bits old.nodes.now alternative whole.order (levels old.nodes.now old.store.now) (levels old.nodes.now new.store.now) whole.start found
 
   abbrev pub LeavesLevels : Attempt → Type 0
   LeavesLevels found = LeavesFrame (levels old.nodes.now old.store.now) (levels old.nodes.now new.store.now) found

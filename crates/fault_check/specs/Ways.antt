@@ -1,5 +1,5 @@
 -- What is found on a path from a type to the part of it in which a fault arises.
-use Rattle.std.specs.Prelude.{◌≡◌, ℕ, ◌+◌, ◌<◌, ◌≤◌, length, Bool, List, [], ◌∷◌, Option, Some, None, Box, Result, Ok, Err, option_copied}
+use Rattle.std.specs.Prelude.{◌≡◌, ℕ, ◌+◌, ◌<◌, ◌≤◌, length, Bool, List, [], ◌∷◌, Option, Some, None, Box, Result, Ok, Err, IfOk, option_copied}
 use Rattle.std.specs.declared.alloc.Global.{Global}
 use Rattle.bit_space.specs.Bits.{bits_of}
 use Rattle.bit_space.specs.SpaceView.{SpaceView}
@@ -14,6 +14,7 @@ use Rattle.pickle_types.specs.Sound.{IsSoundClause}
 use Rattle.pickle_types.specs.Table.{type_of, optional_term, name_of}
 use Rattle.pickle_meaning.specs.declared.faults.MapFault.{MapFault}
 use Rattle.pickle_map.specs.declared.mapper.stop.Stop.{Stop}
+use Rattle.pickle_map.specs.Mappable.{IsPartOf}
 use Rattle.pickle_map.specs.declared.mapper.stop.Stop.TheVariants.{Fault, Limit, Device, Memory}
 use Rattle.pickle_meaning.specs.Values.{Value, end_of, Levels, pushed}
 use Rattle.pickle_meaning.specs.Clauses.{FaultAt}
@@ -28,6 +29,10 @@ use Rattle.fault_check.specs.declared.site.Inner.{Inner}
 -- a fact about the bits of a space, where its bytes are known
 abbrev pub OnBits : SpaceView → (List ℕ → Type 0) → Type 0
 OnBits space P = (bytes : List ℕ) → space.bytes ≡ Some bytes → P (bits_of bytes)
+
+-- the same of what a call found
+abbrev pub IfFound : {A E : Type 0} → SpaceView → (A → List ℕ → Type 0) → Result A E → Type 0
+IfFound space P result = IfOk result (λ found. OnBits space (P found))
 
 -- what each call leaves of the space and of the meter as it was
 pub record Leaves (space space' : SpaceView) (meter meter' : Meter) : Type 0 where
@@ -119,6 +124,10 @@ abbrev pub GoesOn : List Node → (levels : ℕ) → Entered → Type 0
 GoesOn nodes levels (entered.Part next) = IsPart nodes levels next
 GoesOn nodes levels entered.There = Unit {0}
 GoesOn nodes levels entered.Nowhere = Unit {0}
+
+-- it may be, where the alternative may be mapped
+abbrev pub GoesOnAs : Alternative → Entered → Type 0
+GoesOnAs p entered = (nodes : List Node) (levels : ℕ) → IsPartOf nodes levels p → GoesOn nodes levels entered
 
 -- a field was entered, after i fields that are absent or values
 abbrev pub EntersField : List Node → (pinned : Bool) → (s : ℕ) → Order → Field → Levels → (behind : ℕ) → FaultAt → Entered → Type 0

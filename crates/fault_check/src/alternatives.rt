@@ -1,74 +1,69 @@
 //! Alternatives of a union, on the path to one of them.
 
-ghost use Rattle.std.specs.Prelude.{◌≡◌, ℕ, ◌∷◌, [], List, All, IfOk};
-ghost use Rattle.pickle_types.specs.declared.node.Node.{Node};
+ghost use Rattle.std.specs.Prelude.{All, IfOk};
 ghost use Rattle.pickle_types.specs.Table.{IsTable};
-ghost use Rattle.pickle_map.specs.Mappable.{IsPartOf};
 ghost use Rattle.value_store.specs.Slots.{level_count};
-ghost use Rattle.fault_check.specs.AtWork.{DepthStays, Frame, IsFresh};
-ghost use Rattle.fault_check.specs.Calls.{EntersAlternatives};
-ghost use Rattle.fault_check.specs.Searched.{SearchesAlternative, SearchesAlternatives};
+ghost use Rattle.fault_check.specs.AtWork.{DepthStays, Frame, IsFresh, IsPartIn};
+ghost use Rattle.fault_check.specs.Calls.{EntersUnion};
+ghost use Rattle.fault_check.specs.Searched.{SearchesOne, SearchesUnion};
 ghost use Rattle.fault_check.specs.Sites.{FindsAlternative, LeavesLevels, MayFollow, TriesAlternative};
-ghost use Rattle.fault_check.specs.Ways.{OnBits, EntersAlternative, GoesOn, fault_of};
+ghost use Rattle.fault_check.specs.Ways.{OnBits, EntersAlternative, GoesOn, GoesOnAs, IfFound, fault_of};
 
 use crate::checker::Checker;
-use crate::part::{Entered, alternative_part};
+use crate::part::{Entered, UnionStart, alternative_part};
 use crate::site::{Attempt, Ended, Inner, Site, Tried};
-use bit_space::{Order, Space};
+use bit_space::Space;
 use pickle_map::mapper::stop::Stop;
 use pickle_map::mapper::types::ordered;
 use pickle_meaning::faults::MapFault;
 use pickle_types::view::Part as Alternative;
 
 impl Checker<'_> {
-    /// Enters the alternative at a place of a union, which starts at the bit `start`, after those before it don't
-    /// match.
+    /// Enters the alternative at a place of a union, after those before it don't match.
     pub fn enter_alternatives<'f, S: Space>(
         &mut self,
+        whole: UnionStart,
         alternatives: &'f [Alternative],
-        order: Order,
-        start: u64,
         place: usize,
         fault: MapFault,
         space: &mut S,
     ) -> Entered<'f>
         requires table { IsTable self.old.nodes.now }
-        requires alternatives { All (IsPartOf self.old.nodes.now (level_count self.old.store.now)) alternatives.now }
+        requires alternatives { All (IsPartIn self.old) alternatives.now }
         requires fresh { IsFresh self.old }
         ensures frame { Frame (S.view space.old) (S.view space.new) self.old self.new }
         ensures goes_on { GoesOn self.old.nodes.now (level_count self.new.store.now) result }
-        ensures is { OnBits (S.view space.old) (EntersAlternatives self.old self.new alternatives.now order start place fault result) }
+        ensures is { OnBits (S.view space.old) (EntersUnion self.old self.new whole alternatives.now place fault result) }
     {
         for (index, alternative) in alternatives.iter().enumerate() {
             if index == place {
-                return enter_alternative(alternative, order, start, fault);
+                return enter_alternative(whole, alternative, fault);
             }
-            let Ok(Attempt::Misses) = self.try_alternative(alternative, order, start, space) else {
+            let Ok(Attempt::Misses) = self.try_alternative(whole, alternative, space) else {
                 return Entered::Nowhere;
             };
         }
         Entered::Nowhere
     }
 
-    /// Finds the alternative of a union at which its fault arises. The union starts at the bit `start`.
+    /// Finds the alternative of a union at which its fault arises.
     pub fn find_alternative<S: Space>(
         &mut self,
+        whole: UnionStart,
         alternatives: &[Alternative],
-        order: Order,
-        start: u64,
         space: &mut S,
     ) -> Result<Site, Ended>
         requires table { IsTable self.old.nodes.now }
-        requires alternatives { All (IsPartOf self.old.nodes.now (level_count self.old.store.now)) alternatives.now }
+        requires alternatives { All (IsPartIn self.old) alternatives.now }
         requires fresh { IsFresh self.old }
         ensures frame { Frame (S.view space.old) (S.view space.new) self.old self.new }
         ensures depth { DepthStays self.old self.new }
         ensures goes_on { IfOk result (MayFollow self.old) }
-        ensures is { IfOk result (λ site. OnBits (S.view space.old) (FindsAlternative self.old self.new alternatives.now order start site)) }
-        ensures spends { SearchesAlternatives (S.view space.old) (S.view space.new) self.old self.new alternatives.now order start result }
+        ensures is { IfFound (S.view space.old) (FindsAlternative self.old self.new whole alternatives.now) result }
+        ensures spends { SearchesUnion (S.view space.old) (S.view space.new) self.old self.new whole alternatives.now result }
     {
         for (place, alternative) in alternatives.iter().enumerate() {
-            match self.try_alternative(alternative, order, start, space)? {
+            match self.try_alternative(whole, alternative, space)? {
                 Attempt::Misses => (),
                 Attempt::Fits => return Ok(Site::Itself),
                 Attempt::Beside => return Ok(Site::Beside(place)),
@@ -77,7 +72,7 @@ impl Checker<'_> {
                         place,
                         Inner {
                             node: alternative.node,
-                            order: ordered(alternative.order, order),
+                            order: ordered(alternative.order, whole.order),
                             start: at,
                         },
                     ));
@@ -91,21 +86,20 @@ impl Checker<'_> {
     /// that doesn't match is empty afterwards.
     fn try_alternative<S: Space>(
         &mut self,
+        whole: UnionStart,
         alternative: &Alternative,
-        order: Order,
-        start: u64,
         space: &mut S,
     ) -> Result<Attempt, Ended>
         requires table { IsTable self.old.nodes.now }
-        requires alternative { IsPartOf self.old.nodes.now (level_count self.old.store.now) alternative.now }
+        requires alternative { IsPartIn self.old alternative.now }
         requires fresh { IsFresh self.old }
         ensures frame { Frame (S.view space.old) (S.view space.new) self.old self.new }
         ensures depth { DepthStays self.old self.new }
         ensures same { IfOk result (LeavesLevels self.old self.new) }
-        ensures is { IfOk result (λ found. OnBits (S.view space.old) (TriesAlternative self.old self.new alternative.now order start found)) }
-        ensures spends { SearchesAlternative (S.view space.old) (S.view space.new) self.old self.new alternative.now order start result }
+        ensures is { IfFound (S.view space.old) (TriesAlternative self.old self.new whole alternative.now) result }
+        ensures spends { SearchesOne (S.view space.old) (S.view space.new) self.old self.new whole alternative.now result }
     {
-        match self.try_part(alternative_part(alternative, order, start), space)? {
+        match self.try_part(alternative_part(alternative, whole), space)? {
             Tried::Passed(_) => Ok(Attempt::Fits),
             Tried::Beside(fault) => {
                 if Stop::Fault(fault.kind, fault.at).misses() {
@@ -129,16 +123,15 @@ impl Checker<'_> {
 
 /// Enters an alternative, unless the fault means that it doesn't match.
 fn enter_alternative<'a>(
+    whole: UnionStart,
     alternative: &'a Alternative,
-    order: Order,
-    start: u64,
     fault: MapFault,
 ) -> Entered<'a>
-    ensures goes_on { (nodes : List Node) (levels : ℕ) → IsPartOf nodes levels alternative.now → GoesOn nodes levels result }
-    ensures is { EntersAlternative order alternative.now start (fault_of fault) result }
+    ensures goes_on { GoesOnAs alternative.now result }
+    ensures is { EntersAlternative whole.order alternative.now whole.start (fault_of fault) result }
 {
     if Stop::Fault(fault.kind, fault.at).misses() {
         return Entered::Nowhere;
     }
-    Entered::Part(alternative_part(alternative, order, start))
+    Entered::Part(alternative_part(alternative, whole))
 }

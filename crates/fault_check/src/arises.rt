@@ -11,7 +11,7 @@ ghost use Rattle.fault_check.specs.Ways.{OnBits, Leaves, GoesOn, constraint_of};
 
 use crate::checker::Checker;
 use crate::mapped::{check_part, is_fault};
-use crate::part::{Array, Entered, Part, StructStart, bare_part};
+use crate::part::{Entered, Part, array_at, bare_part, struct_at, union_at};
 use crate::site::Inner;
 use bit_space::{Meter, Order, Space};
 use pickle_map::mapper::stop::Stop;
@@ -146,30 +146,24 @@ impl<'a> Checker<'a> {
             return Entered::Nowhere;
         }
         let nodes = self.nodes;
-        let order = inner.order;
-        let start = inner.start as u64;
         match &nodes[inner.node].shape {
             Shape::Struct { pinned, fields, .. } => {
                 self.store.open_level();
-                let whole = StructStart {
-                    pinned: *pinned,
-                    order,
-                    start,
-                };
-                self.enter_fields(whole, fields, place, fault, space, watch)
+                self.enter_fields(
+                    struct_at(inner, *pinned),
+                    fields,
+                    place,
+                    fault,
+                    space,
+                    watch,
+                )
             }
             Shape::Union { alternatives, .. } => {
                 self.store.open_level();
-                self.enter_alternatives(alternatives, order, start, place, fault, space)
+                self.enter_alternatives(union_at(inner), alternatives, place, fault, space)
             }
             Shape::Array(element, bound) => {
-                let array = Array {
-                    element: *element,
-                    bound,
-                    order,
-                    start: inner.start,
-                };
-                self.enter_array(array, place, fault, space, watch)
+                self.enter_array(array_at(inner, *element, bound), place, fault, space, watch)
             }
             Shape::Integer(_) | Shape::Offset(..) | Shape::Integral { .. } | Shape::String => {
                 Entered::Nowhere
@@ -215,19 +209,9 @@ impl<'a> Checker<'a> {
             Shape::String => true,
             Shape::Struct { .. } => false,
             Shape::Union { .. } => Stop::Fault(fault.kind, fault.at).misses(),
-            Shape::Integral {
-                name: _,
-                number,
-                fields: _,
-            } => bits < inner.start + u128::from(number.width),
+            Shape::Integral { number, .. } => bits < inner.start + u128::from(number.width),
             Shape::Array(element, bound) => {
-                let array = Array {
-                    element: *element,
-                    bound,
-                    order: inner.order,
-                    start: inner.start,
-                };
-                self.is_own_array(array, fault, space)
+                self.is_own_array(array_at(inner, *element, bound), fault, space)
             }
         }
     }

@@ -1,14 +1,12 @@
 //! Integral structs, on the path to the field in which a fault arises.
 
-ghost use Rattle.std.specs.Prelude.{◌≡◌, ◌<◌, ◌≤◌, ◌^◌, ◌++◌, All, IfOk, IfErr, IfSome, IsTrue};
-ghost use Rattle.pickle_types.specs.Table.{IsTable, type_of};
-ghost use Rattle.pickle_meaning.specs.Means.{number_type, width_in};
-ghost use Rattle.pickle_map.specs.Mappable.{IsPartOf};
-ghost use Rattle.value_store.specs.Slots.{levels, level_count};
-ghost use Rattle.fault_check.specs.AtWork.{DepthStays, Frame, MayMap, WorkFrame};
+ghost use Rattle.std.specs.Prelude.{◌<◌, ◌≤◌, ◌^◌, All, IfOk, IfErr, IfSome, IsTrue};
+ghost use Rattle.pickle_types.specs.Table.{IsTable};
+ghost use Rattle.value_store.specs.Slots.{level_count};
+ghost use Rattle.fault_check.specs.AtWork.{DepthStays, FitsType, Frame, IsPartIn, MayMap, WorkFrame};
 ghost use Rattle.fault_check.specs.Calls.{NumberHas, Reaches, TypeHas};
 ghost use Rattle.fault_check.specs.Searched.{SearchesCut, SearchesDigits, SearchesNumber, SpendsCut};
-ghost use Rattle.fault_check.specs.Sites.{DigitsGoOn, FindsDigits, StopsCut, StoresCut, TriesDigits, path_cut};
+ghost use Rattle.fault_check.specs.Sites.{DigitsGoOn, FindsDigits, GoesInto, StopsCut, StoresCut, TriesDigits};
 ghost use Rattle.fault_check.specs.Ways.{OnBits};
 
 use crate::checker::Checker;
@@ -38,12 +36,7 @@ impl Checker<'_> {
         ensures is { IsTrue result → OnBits (S.view space.old) (TypeHas self.old inner fault path.now) }
     {
         let nodes = self.nodes;
-        let Shape::Integral {
-            name: _,
-            number,
-            fields: _,
-        } = &nodes[inner.node].shape
-        else {
+        let Shape::Integral { number, .. } = &nodes[inner.node].shape else {
             return false;
         };
         if u128::from(8 * space.len()) < inner.start {
@@ -75,12 +68,7 @@ impl Checker<'_> {
             return false;
         };
         let nodes = self.nodes;
-        let Shape::Integral {
-            name: _,
-            number,
-            fields,
-        } = &nodes[whole.node].shape
-        else {
+        let Shape::Integral { number, fields, .. } = &nodes[whole.node].shape else {
             return false;
         };
         self.store.open_level();
@@ -113,7 +101,7 @@ impl Checker<'_> {
         start: u64,
     ) -> Option<u8>
         requires table { IsTable self.old.nodes.now }
-        requires fields { All (IsPartOf self.old.nodes.now (level_count self.old.store.now)) fields.now }
+        requires fields { All (IsPartIn self.old) fields.now }
         requires width { width ≤ 64 }
         requires start { start < 2 ^ 63 }
         ensures frame { WorkFrame self.old self.new }
@@ -140,7 +128,7 @@ impl Checker<'_> {
     fn store_number(&mut self, number: Cut) -> Result<(), Stop>
         requires table { IsTable self.old.nodes.now }
         requires part { MayMap self.old number.node }
-        requires digits { number.digits < 2 ^ width_in (number_type (type_of self.old.nodes.now number.node)) }
+        requires digits { FitsType self.old number.node number.digits }
         requires start { number.start < 2 ^ 63 }
         ensures frame { WorkFrame self.old self.new }
         ensures depth { DepthStays self.old self.new }
@@ -164,14 +152,14 @@ impl Checker<'_> {
         requires part { MayMap self.old number.node }
         requires start { number.start < 2 ^ 63 }
         ensures frame { WorkFrame self.old self.new }
-        ensures is { IfOk result (λ _. path.new.items ≡ path.old.items ++ path_cut self.old.nodes.now (levels self.old.nodes.now self.old.store.now) number) }
+        ensures is { IfOk result (λ _. GoesInto self.old number path.old.items path.new.items) }
         ensures spends { SearchesCut self.old self.new number result }
     {
         let nodes = self.nodes;
         let Shape::Integral {
-            name: _,
             number: whole,
             fields,
+            ..
         } = &nodes[number.node].shape
         else {
             return Ok(());
@@ -196,7 +184,7 @@ impl Checker<'_> {
         start: u64,
     ) -> Result<Digits, Ended>
         requires table { IsTable self.old.nodes.now }
-        requires fields { All (IsPartOf self.old.nodes.now (level_count self.old.store.now)) fields.now }
+        requires fields { All (IsPartIn self.old) fields.now }
         requires width { width ≤ 64 }
         requires start { start < 2 ^ 63 }
         ensures frame { WorkFrame self.old self.new }
@@ -231,8 +219,8 @@ impl Checker<'_> {
     /// Stores a field of an integral struct, and checks its constraint. Says which of them has a fault.
     fn try_digits(&mut self, field: &Field, digits: u64, start: u64) -> Result<Tried, Ended>
         requires table { IsTable self.old.nodes.now }
-        requires field { IsPartOf self.old.nodes.now (level_count self.old.store.now) field.now }
-        requires digits { digits < 2 ^ width_in (number_type (type_of self.old.nodes.now field.now.node)) }
+        requires field { IsPartIn self.old field.now }
+        requires digits { FitsType self.old field.now.node digits }
         requires start { start < 2 ^ 63 }
         ensures frame { WorkFrame self.old self.new }
         ensures depth { DepthStays self.old self.new }

@@ -6,10 +6,11 @@ ghost use Rattle.pickle_types.specs.Sound.{IsSoundBound};
 ghost use Rattle.pickle_map.specs.Framed.{IsEnd};
 ghost use Rattle.value_store.specs.Slots.{level_count};
 ghost use Rattle.fault_check.specs.AtWork.{DepthStays, Frame, MayMap, MayOpen};
-ghost use Rattle.fault_check.specs.Elements.{ArrayHas, EntersArray, EntersElements, FindsEmpty, OutgrowsSize, StoresElements};
+ghost use Rattle.fault_check.specs.Elements.{ArrayHas, EntersArray, EntersElements, FindsEmpty, OutgrowsSize};
+ghost use Rattle.fault_check.specs.Elements.{StoresElements};
 ghost use Rattle.fault_check.specs.Searched.{SearchesArray, SearchesElements};
 ghost use Rattle.fault_check.specs.Sites.{FindsElement, FindsInArray, HasFrame, MayFollow};
-ghost use Rattle.fault_check.specs.Ways.{OnBits, GoesOn};
+ghost use Rattle.fault_check.specs.Ways.{OnBits, GoesOn, IfFound};
 
 use crate::checker::Checker;
 use crate::mapped::is_fault;
@@ -193,7 +194,7 @@ impl Checker<'_> {
         ensures frame { Frame (S.view space.old) (S.view space.new) self.old self.new }
         ensures found { IfOk result (HasFrame self.old.store.now self.new.store.now) }
         ensures goes_on { IfOk result (MayFollow self.new) }
-        ensures is { IfOk result (λ site. OnBits (S.view space.old) (FindsInArray self.old self.new array.entry site)) }
+        ensures is { IfFound (S.view space.old) (FindsInArray self.old self.new array.entry) result }
         ensures spends { SearchesArray (S.view space.old) (S.view space.new) self.old self.new array.entry result }
     {
         match find_extent(array.bound, self.store, array.start, self.meter) {
@@ -216,7 +217,7 @@ impl Checker<'_> {
         ensures frame { Frame (S.view space.old) (S.view space.new) self.old self.new }
         ensures depth { DepthStays self.old self.new }
         ensures goes_on { IfOk result (MayFollow self.old) }
-        ensures is { IfOk result (λ site. OnBits (S.view space.old) (FindsElement self.old self.new elements site)) }
+        ensures is { IfFound (S.view space.old) (FindsElement self.old self.new elements) result }
         ensures spends { SearchesElements (S.view space.old) (S.view space.new) self.old self.new elements result }
     {
         let extent = elements.extent;

@@ -1,15 +1,14 @@
 //! Fields of a struct, on the path to one of them.
 
-ghost use Rattle.std.specs.Prelude.{◌≡◌, All, IfOk};
+ghost use Rattle.std.specs.Prelude.{All, IfOk};
 ghost use Rattle.pickle_types.specs.Sound.{IsSoundClause};
 ghost use Rattle.pickle_types.specs.Table.{IsTable, optional_term};
-ghost use Rattle.pickle_map.specs.Mappable.{IsFieldOf};
 ghost use Rattle.value_store.specs.Slots.{level_count};
-ghost use Rattle.fault_check.specs.AtWork.{DepthStays, Frame, LookFrame};
-ghost use Rattle.fault_check.specs.Calls.{EntersFields, EntersOne};
-ghost use Rattle.fault_check.specs.Searched.{SearchesField, SearchesFields};
+ghost use Rattle.fault_check.specs.AtWork.{DepthStays, Frame, IsFieldIn, LookFrame};
+ghost use Rattle.fault_check.specs.Calls.{EntersStruct, EntersOne};
+ghost use Rattle.fault_check.specs.Searched.{SearchesField, SearchesStruct};
 ghost use Rattle.fault_check.specs.Sites.{FindsField, MayFollow, TriesField};
-ghost use Rattle.fault_check.specs.Ways.{OnBits, GoesOn};
+ghost use Rattle.fault_check.specs.Ways.{OnBits, GoesOn, IfFound};
 
 use crate::checker::Checker;
 use crate::mapped::{find_start, is_there, there_if};
@@ -35,10 +34,10 @@ impl Checker<'_> {
         watch: &mut W,
     ) -> Entered<'f>
         requires table { IsTable self.old.nodes.now }
-        requires fields { All (IsFieldOf self.old.nodes.now (level_count self.old.store.now)) fields.now }
+        requires fields { All (IsFieldIn self.old) fields.now }
         ensures frame { Frame (S.view space.old) (S.view space.new) self.old self.new }
         ensures goes_on { GoesOn self.old.nodes.now (level_count self.new.store.now) result }
-        ensures is { OnBits (S.view space.old) (EntersFields self.old self.new whole fields.now place fault result) }
+        ensures is { OnBits (S.view space.old) (EntersStruct self.old self.new whole fields.now place fault result) }
     {
         let mut behind = whole.start;
         for (index, field) in fields.iter().enumerate() {
@@ -62,7 +61,7 @@ impl Checker<'_> {
         fault: MapFault,
         watch: &mut W,
     ) -> Entered<'f>
-        requires field { IsFieldOf self.old.nodes.now (level_count self.old.store.now) field.now }
+        requires field { IsFieldIn self.old field.now }
         ensures frame { LookFrame self.old self.new }
         ensures goes_on { GoesOn self.old.nodes.now (level_count self.new.store.now) result }
         ensures is { EntersOne self.old self.new whole field.now behind fault result }
@@ -95,12 +94,12 @@ impl Checker<'_> {
         space: &mut S,
     ) -> Result<Site, Ended>
         requires table { IsTable self.old.nodes.now }
-        requires fields { All (IsFieldOf self.old.nodes.now (level_count self.old.store.now)) fields.now }
+        requires fields { All (IsFieldIn self.old) fields.now }
         ensures frame { Frame (S.view space.old) (S.view space.new) self.old self.new }
         ensures depth { DepthStays self.old self.new }
         ensures goes_on { IfOk result (MayFollow self.old) }
-        ensures is { IfOk result (λ site. OnBits (S.view space.old) (FindsField self.old self.new whole fields.now site)) }
-        ensures spends { SearchesFields (S.view space.old) (S.view space.new) self.old self.new whole fields.now result }
+        ensures is { IfFound (S.view space.old) (FindsField self.old self.new whole fields.now) result }
+        ensures spends { SearchesStruct (S.view space.old) (S.view space.new) self.old self.new whole fields.now result }
     {
         let mut behind = whole.start;
         for (place, field) in fields.iter().enumerate() {
@@ -131,9 +130,9 @@ impl Checker<'_> {
         space: &mut S,
     ) -> Result<Tried, Ended>
         requires table { IsTable self.old.nodes.now }
-        requires field { IsFieldOf self.old.nodes.now (level_count self.old.store.now) field.now }
+        requires field { IsFieldIn self.old field.now }
         ensures frame { Frame (S.view space.old) (S.view space.new) self.old self.new }
-        ensures is { IfOk result (λ found. OnBits (S.view space.old) (TriesField self.old self.new whole field.now behind found)) }
+        ensures is { IfFound (S.view space.old) (TriesField self.old self.new whole field.now behind) result }
         ensures spends { SearchesField (S.view space.old) (S.view space.new) self.old self.new whole field.now behind result }
         ensures depth { DepthStays self.old self.new }
     {

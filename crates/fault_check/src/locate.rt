@@ -7,10 +7,10 @@ ghost use Rattle.value_store.specs.Slots.{emptied};
 ghost use Rattle.fault_check.specs.AtWork.{Frame, MayMap};
 ghost use Rattle.fault_check.specs.Searched.{EndsSearch, SearchesIn, SearchesRead, SearchesSite};
 ghost use Rattle.fault_check.specs.Sites.{FindsPart, FindsSite, GoesAlong, HasFrame, IsSmallSite, MayFollow, ReadsSite};
-ghost use Rattle.fault_check.specs.Ways.{OnBits, Leaves};
+ghost use Rattle.fault_check.specs.Ways.{OnBits, IfFound, Leaves};
 
 use crate::checker::Checker;
-use crate::part::{Array, StructStart};
+use crate::part::{array_at, struct_at, union_at};
 use crate::site::{Cut, Ended, Inner, Site, fault_in, keep};
 use bit_space::{Meter, Order, Space};
 use pickle_map::mapper::read::read_digits;
@@ -70,7 +70,7 @@ impl Checker<'_> {
         requires table { IsTable self.old.nodes.now }
         requires part { MayMap self.old inner.node }
         ensures frame { Frame (S.view space.old) (S.view space.new) self.old self.new }
-        ensures is { IfOk result (λ _. OnBits (S.view space.old) (GoesAlong self.old inner path.old.items path.new.items)) }
+        ensures is { IfOk result (λ _. GoesAlong (S.view space.old) self.old inner path.old.items path.new.items) }
         ensures spends { SearchesIn (S.view space.old) (S.view space.new) self.old self.new inner result }
     {
         match self.find_site(inner, space)? {
@@ -91,42 +91,28 @@ impl Checker<'_> {
         ensures frame { Frame (S.view space.old) (S.view space.new) self.old self.new }
         ensures found { IfOk result (HasFrame self.old.store.now self.new.store.now) }
         ensures goes_on { IfOk result (MayFollow self.new) }
-        ensures is { IfOk result (λ site. OnBits (S.view space.old) (FindsSite self.old self.new inner site)) }
+        ensures is { IfFound (S.view space.old) (FindsSite self.old self.new inner) result }
         ensures spends { SearchesSite (S.view space.old) (S.view space.new) self.old self.new inner result }
     {
         if u128::from(8 * space.len()) < inner.start {
             return Ok(Site::Itself);
         }
         let nodes = self.nodes;
-        let start = inner.start as u64;
         match &nodes[inner.node].shape {
             Shape::Struct { pinned, fields, .. } => {
                 self.store.open_level();
-                let whole = StructStart {
-                    pinned: *pinned,
-                    order: inner.order,
-                    start,
-                };
-                self.find_field(whole, fields, space)
+                self.find_field(struct_at(inner, *pinned), fields, space)
             }
             Shape::Union { alternatives, .. } => {
                 self.store.open_level();
-                self.find_alternative(alternatives, inner.order, start, space)
+                self.find_alternative(union_at(inner), alternatives, space)
             }
             Shape::Array(element, bound) => {
-                let array = Array {
-                    element: *element,
-                    bound,
-                    order: inner.order,
-                    start: inner.start,
-                };
-                self.find_in_array(array, space)
+                self.find_in_array(array_at(inner, *element, bound), space)
             }
-            Shape::Integral {
-                name: _,
-                number,
-                fields: _,
-            } => read_site(inner, *number, start, space, self.meter),
+            Shape::Integral { number, .. } => {
+                read_site(inner, *number, inner.start as u64, space, self.meter)
+            },
             Shape::Integer(_) => Ok(Site::Itself),
             Shape::Offset(..) => Ok(Site::Itself),
             Shape::String => Ok(Site::Itself),
@@ -146,7 +132,7 @@ fn read_site<S: Space>(
     requires start { part.start ≡ start }
     requires inside { start ≤ 8 * (S.view space.old).len }
     ensures leaves { Leaves (S.view space.old) (S.view space.new) meter.old meter.new }
-    ensures is { IfOk result (λ site. OnBits (S.view space.old) (ReadsSite part number start site)) }
+    ensures is { IfFound (S.view space.old) (ReadsSite part number start) result }
     ensures small { IfOk result (IsSmallSite part.node start) }
     ensures spends { SearchesRead (S.view space.old) (S.view space.new) meter.old meter.new result }
 {

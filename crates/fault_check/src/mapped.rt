@@ -1,17 +1,14 @@
 //! Maps parts on a path, and says what they mean.
 
-ghost use Rattle.std.specs.Prelude.{◌≡◌, IfOk, IsTrue, List};
-ghost use Rattle.pickle_types.specs.declared.node.Node.{Node as TableNode};
+ghost use Rattle.std.specs.Prelude.{◌≡◌, IfOk, IsTrue};
 ghost use Rattle.pickle_types.specs.Table.{IsTable, optional_term};
 ghost use Rattle.pickle_types.specs.Sound.{IsSoundClause};
-ghost use Rattle.pickle_meaning.specs.Clauses.{constraint, condition};
 ghost use Rattle.pickle_map.specs.Framed.{IsEnd};
-ghost use Rattle.value_store.specs.Slots.{levels};
 ghost use Rattle.fault_check.specs.AtWork.{Frame, MapFrame, AddsToLevel, LevelStays, MayMap, MayTry};
-ghost use Rattle.fault_check.specs.Calls.{FindsStart, MapsType};
+ghost use Rattle.fault_check.specs.Calls.{Checks, FindsStart, MapsType, TellsThere};
 ghost use Rattle.fault_check.specs.Searched.{SearchesPart, SpendsClause, SpendsConstraint, SpendsLabel, SpendsType};
 ghost use Rattle.fault_check.specs.Sites.{TriesPart};
-ghost use Rattle.fault_check.specs.Ways.{OnBits, Settled, IsThere, IsFault, constraint_of};
+ghost use Rattle.fault_check.specs.Ways.{OnBits, IfFound, IsThere, IsFault, constraint_of};
 
 use crate::checker::Checker;
 use crate::part::{Entered, Part};
@@ -70,7 +67,7 @@ impl Checker<'_> {
         requires table { IsTable self.old.nodes.now }
         requires part { MayTry self.old part }
         ensures frame { Frame (S.view space.old) (S.view space.new) self.old self.new }
-        ensures is { IfOk result (λ found. OnBits (S.view space.old) (TriesPart self.old self.new part.entry found)) }
+        ensures is { IfFound (S.view space.old) (TriesPart self.old self.new part.entry) result }
         ensures spends { SearchesPart (S.view space.old) (S.view space.new) self.old self.new part.entry result }
         ensures level { LevelStays self.old self.new }
     {
@@ -89,7 +86,7 @@ impl Checker<'_> {
 pub fn check_part(part: Part<'_>, meter: &mut Meter, store: &Store) -> Result<(), Stop>
     requires sound { IsSoundClause (constraint_of part) }
     ensures limit { meter.new.limit ≡ meter.old.limit }
-    ensures is { (nodes : List TableNode) → Settled result (constraint (constraint_of part.entry) (levels nodes store.now) part.entry.inner.start) }
+    ensures is { Checks (constraint_of part.entry) store.now part.entry.inner.start result }
     ensures spends { SpendsConstraint meter.old meter.new store.now part.entry result }
 {
     match part.constraint {
@@ -107,7 +104,7 @@ pub fn check_constraint(
 ) -> Result<(), Stop>
     requires sound { IsSoundClause (optional_term clause.now) }
     ensures limit { meter.new.limit ≡ meter.old.limit }
-    ensures is { (nodes : List TableNode) → Settled result (constraint (optional_term clause.now) (levels nodes store.now) place) }
+    ensures is { Checks (optional_term clause.now) store.now place result }
     ensures spends { SpendsClause meter.old meter.new store.now clause.now result }
 {
     clauses::check(clause, store, place, meter)
@@ -122,7 +119,7 @@ pub fn is_there(
 ) -> Result<bool, Stop>
     requires sound { IsSoundClause (optional_term clause.now) }
     ensures limit { meter.new.limit ≡ meter.old.limit }
-    ensures is { (nodes : List TableNode) → Settled result (condition (optional_term clause.now) (levels nodes store.now) start) }
+    ensures is { TellsThere clause.now store.now start result }
     ensures spends { SpendsClause meter.old meter.new store.now clause.now result }
 {
     clauses::is_there(clause, store, u128::from(start), meter)

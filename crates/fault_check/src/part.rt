@@ -1,7 +1,8 @@
 //! Parts of a type, on the path to the one in which a fault arises.
 
 ghost use Rattle.std.specs.Prelude.{◌≡◌, ◌<◌, ◌^◌};
-ghost use Rattle.fault_check.specs.Parts.{IsFieldPart, IsAlternativePart, IsBare, element_at, elements_of};
+ghost use Rattle.fault_check.specs.Parts.{element_at, elements_of, struct_at, union_at};
+ghost use Rattle.fault_check.specs.Parts.{IsFieldPart, IsAlternativePart, IsArrayAt, IsBare};
 
 use crate::site::Inner;
 use bit_space::Order;
@@ -20,6 +21,13 @@ pub struct Part<'a> {
 #[derive(Clone, Copy)]
 pub struct StructStart {
     pub pinned: bool,
+    pub order: Order,
+    pub start: u64,
+}
+
+/// A union that starts at a bit, in the byte order around it.
+#[derive(Clone, Copy)]
+pub struct UnionStart {
     pub order: Order,
     pub start: u64,
 }
@@ -66,21 +74,56 @@ pub fn field_part<'a>(field: &'a Field, order: Order, start: u128) -> Part<'a>
     }
 }
 
-/// An alternative of a union that starts at the bit `start`, in this byte order.
-pub fn alternative_part<'a>(alternative: &'a Alternative, order: Order, start: u64) -> Part<'a>
-    ensures { IsAlternativePart alternative.now order start result }
+/// An alternative of a union.
+pub fn alternative_part<'a>(alternative: &'a Alternative, whole: UnionStart) -> Part<'a>
+    ensures { IsAlternativePart alternative.now whole result }
 {
     Part {
         inner: Inner {
             node: alternative.node,
-            order: ordered(alternative.order, order),
-            start: u128::from(start),
+            order: ordered(alternative.order, whole.order),
+            start: u128::from(whole.start),
         },
         constraint: Some(&alternative.constraint),
     }
 }
 
-/// The elements of an array, up to this extent. The array starts inside the file.
+/// A struct, which is this type and starts inside a file.
+pub fn struct_at(inner: Inner, pinned: bool) -> StructStart
+    requires { inner.start < 2 ^ 64 }
+    ensures { result ≡ struct_at inner pinned }
+{
+    StructStart {
+        pinned,
+        order: inner.order,
+        start: inner.start as u64,
+    }
+}
+
+/// A union, which is this type and starts inside a file.
+pub fn union_at(inner: Inner) -> UnionStart
+    requires { inner.start < 2 ^ 64 }
+    ensures { result ≡ union_at inner }
+{
+    UnionStart {
+        order: inner.order,
+        start: inner.start as u64,
+    }
+}
+
+/// An array, which is this type.
+pub fn array_at<'a>(inner: Inner, element: usize, bound: &'a Bound) -> Array<'a>
+    ensures { IsArrayAt inner element bound.now result }
+{
+    Array {
+        element,
+        bound,
+        order: inner.order,
+        start: inner.start,
+    }
+}
+
+/// The elements of an array, up to this extent. It starts inside a file.
 pub fn elements_of(array: Array<'_>, extent: Extent) -> Elements
     requires { array.start < 2 ^ 64 }
     ensures { result ≡ elements_of array.entry extent }

@@ -35,12 +35,12 @@ enter_alternatives-requires-clause-fresh g c = rw (c.open_level-in-Union.ensures
 pub enter_array-requires-clause-element : goal.enter_array-requires-clause-element
 enter_array-requires-clause-element g c =
     let n = array_node c.args.self.now.nodes.now c.requires.table c.args.inner.node c.requires.part.inside (level_count c.args.self.now.store.now) c.requires.part.deep c.index-nodes-inner.result _ _ c.in-Array.is in
-    record { inside = n.inside; deep = n.deep }
+    rw c.array_at.ensures.element_is (record { inside = n.inside; deep = n.deep })
 
 pub enter_array-requires-clause-sound : goal.enter_array-requires-clause-sound
 enter_array-requires-clause-sound g c =
     let n = array_node c.args.self.now.nodes.now c.requires.table c.args.inner.node c.requires.part.inside (level_count c.args.self.now.store.now) c.requires.part.deep c.index-nodes-inner.result _ _ c.in-Array.is in
-    n.sound
+    rw c.array_at.ensures.bound_is n.sound
 
 pub returns-in-Struct-clause-is : goal.returns-in-Struct-clause-is
 returns-in-Struct-clause-is g c =
@@ -49,7 +49,7 @@ returns-in-Struct-clause-is g c =
     let whole = g.met.S.Space.whole c.args.space.now bytes e in
     let here : c.args.inner.start ≤ length (bits_of bytes) = rw length-bits_of (omega (arith, whole, c.if-from-inner.false, c.from.ensures, c.len.ensures)) in
     let opens = c.open_level.ensures.levels c.args.self.now.nodes.now in
-    let entered = rw (opens, c.deref.ensures.value) at (c.enter_fields.ensures.is bytes e) in
+    let entered = rw (c.struct_at.ensures, opens, c.deref.ensures.value) at (c.enter_fields.ensures.is bytes e) in
     enters_as (bits_of bytes) c.args.self.now.nodes.now c.args.inner.order c.args.inner.start (levels c.args.self.now.nodes.now c.args.self.now.store.now) (levels c.args.self.now.nodes.now c.enter_fields.new.self.store.now) c.args.place (fault_of c.args.fault) (type_of c.args.self.now.nodes.now c.args.inner.node) _ n.type_is c.enter_fields.result
     (enters_struct (bits_of bytes) c.args.self.now.nodes.now c.args.inner.order c.args.inner.start (levels c.args.self.now.nodes.now c.args.self.now.store.now) (levels c.args.self.now.nodes.now c.enter_fields.new.self.store.now) c.args.place (fault_of c.args.fault) here
     (title_at c.args.self.now.nodes.now c.args.inner.node) c.in-Struct.pinned (open_fields (type_of c.args.self.now.nodes.now) c.in-Struct.fields.items) c.enter_fields.result entered)
@@ -61,7 +61,7 @@ returns-in-Union-clause-is g c =
     let whole = g.met.S.Space.whole c.args.space.now bytes e in
     let here : c.args.inner.start ≤ length (bits_of bytes) = rw length-bits_of (omega (arith, whole, c.if-from-inner.false, c.from.ensures, c.len.ensures)) in
     let opens = c.open_level-in-Union.ensures.levels c.args.self.now.nodes.now in
-    let entered = rw (opens, c.deref-in-Union.ensures.value) at (c.enter_alternatives.ensures.is bytes e) in
+    let entered = rw (c.union_at.ensures, opens, c.deref-in-Union.ensures.value) at (c.enter_alternatives.ensures.is bytes e) in
     enters_as (bits_of bytes) c.args.self.now.nodes.now c.args.inner.order c.args.inner.start (levels c.args.self.now.nodes.now c.args.self.now.store.now) (levels c.args.self.now.nodes.now c.enter_alternatives.new.self.store.now) c.args.place (fault_of c.args.fault) (type_of c.args.self.now.nodes.now c.args.inner.node) _ n.type_is c.enter_alternatives.result
     (enters_union (bits_of bytes) c.args.self.now.nodes.now c.args.inner.order c.args.inner.start (levels c.args.self.now.nodes.now c.args.self.now.store.now) (levels c.args.self.now.nodes.now c.enter_alternatives.new.self.store.now) c.args.place (fault_of c.args.fault) here
     (title_at c.args.self.now.nodes.now c.args.inner.node) (open_parts (type_of c.args.self.now.nodes.now) c.in-Union.alternatives.items) c.enter_alternatives.result entered)
@@ -71,4 +71,4 @@ returns-in-Array-clause-is g c =
     λ bytes e.
     let n = array_node c.args.self.now.nodes.now c.requires.table c.args.inner.node c.requires.part.inside (level_count c.args.self.now.store.now) c.requires.part.deep c.index-nodes-inner.result _ _ c.in-Array.is in
     enters_as (bits_of bytes) c.args.self.now.nodes.now c.args.inner.order c.args.inner.start (levels c.args.self.now.nodes.now c.args.self.now.store.now) (levels c.args.self.now.nodes.now c.enter_array.new.self.store.now) c.args.place (fault_of c.args.fault) (type_of c.args.self.now.nodes.now c.args.inner.node) _ n.type_is c.enter_array.result
-    (c.enter_array.ensures.is bytes e)
+    (rw (c.array_at.ensures.element_is, c.array_at.ensures.bound_is, c.array_at.ensures.order_is, c.array_at.ensures.start_is) at (c.enter_array.ensures.is bytes e))

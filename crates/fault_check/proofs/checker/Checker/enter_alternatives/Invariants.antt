@@ -11,6 +11,6 @@ invariant-loop-index g l = record {
   frame : Frame (g.S.Space.view l.initial.space) (g.S.Space.view l.space) l.initial.self l.self;
   depth : level_count l.self.store.now ≡ level_count l.initial.self.store.now;
   same : levels l.initial.self.nodes.now l.self.store.now ≡ levels l.initial.self.nodes.now l.initial.self.store.now;
-  so_far : OnBits (g.S.Space.view l.initial.space) (λ bits. MissesBefore bits l.order (open_parts (type_of l.initial.self.nodes.now) l.alternatives) (levels l.initial.self.nodes.now l.initial.self.store.now) l.start l.index
+  so_far : OnBits (g.S.Space.view l.initial.space) (λ bits. MissesBefore bits l.whole.order (open_parts (type_of l.initial.self.nodes.now) l.alternatives) (levels l.initial.self.nodes.now l.initial.self.store.now) l.whole.start l.index
       (open_parts (type_of l.initial.self.nodes.now) (drop l.index l.alternatives)));
 }

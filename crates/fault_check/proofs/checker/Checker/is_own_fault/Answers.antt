@@ -19,12 +19,12 @@ returns-then-bits-inner-clause-is g c =
 pub is_own_array-requires-clause-element : goal.is_own_array-requires-clause-element
 is_own_array-requires-clause-element g c =
     let n = array_node c.args.self.now.nodes.now c.requires.table c.args.inner.node c.requires.part.inside (level_count c.args.self.now.store.now) c.requires.part.deep c.index-nodes-inner.result _ _ c.in-Array.is in
-    record { inside = n.inside; deep = n.deep }
+    rw c.array_at.ensures.element_is (record { inside = n.inside; deep = n.deep })
 
 pub is_own_array-requires-clause-sound : goal.is_own_array-requires-clause-sound
 is_own_array-requires-clause-sound g c =
     let n = array_node c.args.self.now.nodes.now c.requires.table c.args.inner.node c.requires.part.inside (level_count c.args.self.now.store.now) c.requires.part.deep c.index-nodes-inner.result _ _ c.in-Array.is in
-    n.sound
+    rw c.array_at.ensures.bound_is n.sound
 
 pub returns-in-Integer-clause-is : goal.returns-in-Integer-clause-is
 returns-in-Integer-clause-is g c =
@@ -68,4 +68,5 @@ pub returns-in-Array-clause-is : goal.returns-in-Array-clause-is
 returns-in-Array-clause-is g c =
     λ yes bytes e.
     let n = array_node c.args.self.now.nodes.now c.requires.table c.args.inner.node c.requires.part.inside (level_count c.args.self.now.store.now) c.requires.part.deep c.index-nodes-inner.result _ _ c.in-Array.is in
-    rw n.type_is (c.is_own_array.ensures.is yes bytes e)
+    let has = rw (c.array_at.ensures.element_is, c.array_at.ensures.bound_is, c.array_at.ensures.order_is, c.array_at.ensures.start_is) at (c.is_own_array.ensures.is yes bytes e) in
+    rw n.type_is has
