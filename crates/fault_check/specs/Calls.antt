@@ -93,6 +93,6 @@ abbrev pub TellsThere : Option (Box Resolved Global) → Held → (start : ℕ) 
 TellsThere clause store start result = (nodes : List Node) → Settled result (condition (optional_term clause) (levels nodes store) start)
 
 -- a field's start was found by its label
-abbrev pub FindsStart : (pinned : Bool) → Option (Box Resolved Global) → Held → (start behind : ℕ) → Result ℕ Stop → Type 0
-FindsStart pinned label store start behind result =
-    (nodes : List Node) → Settled result (field_start pinned (optional_term label) (levels nodes store) start behind)
+abbrev pub FindsStart : StructStart → Option (Box Resolved Global) → Held → (behind : ℕ) → Result ℕ Stop → Type 0
+FindsStart whole label store behind result =
+    (nodes : List Node) → Settled result (field_start whole.pinned (optional_term label) (levels nodes store) whole.start behind)

@@ -1,5 +1,5 @@
 -- How many steps the search takes for the part in which the fault of a type arises, and what its calls say of them.
-use Rattle.std.specs.Prelude.{◌≡◌, ℕ, zero, suc, ◌+◌, ◌-◌, ◌<◌, ◌≤◌, length, Bool, List, [], Option, Some, None, Box, Result, Ok, Err, nat_eq, nat_le, if◌then◌else◌}
+use Rattle.std.specs.Prelude.{◌≡◌, ℕ, zero, suc, ◌+◌, ◌-◌, ◌<◌, ◌≤◌, length, Bool, List, [], Option, Some, None, Box, Result, Ok, Err, IfOk, nat_eq, nat_le, if◌then◌else◌}
 use Rattle.std.specs.declared.alloc.Global.{Global}
 use Rattle.bit_space.specs.declared.meter.Meter.{Meter}
 use Rattle.bit_space.specs.declared.order.Order.{Order}
@@ -16,6 +16,7 @@ use Rattle.pickle_meaning.specs.Numbers.{number_at}
 use Rattle.pickle_meaning.specs.Values.{Value, end_of, Levels, pushed, opened, no_values}
 use Rattle.pickle_meaning.specs.Clauses.{FaultAt, constraint, clause_steps, condition, field_start, label_steps, extent_of, bound_steps, is_due, ends_before, misses}
 use Rattle.pickle_meaning.specs.Means.{ordered, number_type, width_in, first_digits}
+use Rattle.pickle_map.specs.Framed.{IsEnd}
 use Rattle.pickle_map.specs.declared.mapper.stop.Stop.{Stop}
 use Rattle.pickle_map.specs.declared.mapper.stop.Stop.TheVariants as stop
 use Rattle.mapping_plans.specs.Mapping.{plan, number_plan}
@@ -39,6 +40,8 @@ use Rattle.fault_check.specs.declared.site.Site.{Site}
 use Rattle.fault_check.specs.declared.site.Site.TheVariants as site
 use Rattle.fault_check.specs.declared.site.Tried.{Tried}
 use Rattle.fault_check.specs.declared.site.Tried.TheVariants as tried
+use Rattle.fault_check.specs.AtWork.{AddsToLevel, LevelStays, MapFrame}
+use Rattle.fault_check.specs.Calls.{MapsType}
 use Rattle.fault_check.specs.Ways.{OnBits, constraint_of, field_then, part_then}
 
 -- ---- how many steps a search takes
@@ -235,6 +238,15 @@ module _ (space space' : SpaceView) (old new : Checker) where
   SpendsType inner result =
       OnBits space (λ bits. SpendsReading space space' old.meter.now new.meter.now result
       (steps_of bits (plan (length bits) (type_of old.nodes.now inner.node) inner.order (levels old.nodes.now old.store.now) inner.start)))
+
+  -- all that is known of a type that was mapped
+  pub record MapsInner (inner : Inner) (result : Result ℕ Stop) : Type 0 where
+    pub frame : MapFrame space space' old new result
+    pub ends : IfOk result (IsEnd inner.start space)
+    pub is : OnBits space (MapsType old new inner result)
+    pub level : AddsToLevel old new result
+    pub outer : LevelStays old new
+    pub spends : SpendsType inner result
 
   -- it was tried, with its constraint
   abbrev pub SearchesPart : Part → Result Tried Ended → Type 0

@@ -11,9 +11,8 @@ ghost use Rattle.fault_check.specs.Ways.{OnBits, EntersAlternative, GoesOn, Goes
 
 use crate::checker::Checker;
 use crate::part::{Entered, UnionStart, alternative_part};
-use crate::site::{Attempt, Ended, Inner, Site, Tried};
+use crate::site::{Attempt, Ended, Inner, Site, Tried, stop_of};
 use bit_space::Space;
-use pickle_map::mapper::stop::Stop;
 use pickle_map::mapper::types::ordered;
 use pickle_meaning::faults::MapFault;
 use pickle_types::view::Part as Alternative;
@@ -102,7 +101,7 @@ impl Checker<'_> {
         match self.try_part(alternative_part(alternative, whole), space)? {
             Tried::Passed(_) => Ok(Attempt::Fits),
             Tried::Beside(fault) => {
-                if Stop::Fault(fault.kind, fault.at).misses() {
+                if stop_of(fault).misses() {
                     self.store.clear_level();
                     Ok(Attempt::Misses)
                 } else {
@@ -110,7 +109,7 @@ impl Checker<'_> {
                 }
             }
             Tried::Inside(at, fault) => {
-                if Stop::Fault(fault.kind, fault.at).misses() {
+                if stop_of(fault).misses() {
                     self.store.clear_level();
                     Ok(Attempt::Misses)
                 } else {
@@ -130,7 +129,7 @@ fn enter_alternative<'a>(
     ensures goes_on { GoesOnAs alternative.now result }
     ensures is { EntersAlternative whole.order alternative.now whole.start (fault_of fault) result }
 {
-    if Stop::Fault(fault.kind, fault.at).misses() {
+    if stop_of(fault).misses() {
         return Entered::Nowhere;
     }
     Entered::Part(alternative_part(alternative, whole))

@@ -12,9 +12,8 @@ ghost use Rattle.fault_check.specs.Ways.{OnBits, Leaves, GoesOn, constraint_of};
 use crate::checker::Checker;
 use crate::mapped::{check_part, is_fault};
 use crate::part::{Entered, Part, array_at, bare_part, struct_at, union_at};
-use crate::site::Inner;
+use crate::site::{Inner, stop_of};
 use bit_space::{Meter, Order, Space};
-use pickle_map::mapper::stop::Stop;
 use pickle_map::mapper::watch::{Unwatched, Watch};
 use pickle_meaning::faults::MapFault;
 use pickle_types::table::{Table, TypeId};
@@ -208,7 +207,7 @@ impl<'a> Checker<'a> {
             Shape::Offset(..) => true,
             Shape::String => true,
             Shape::Struct { .. } => false,
-            Shape::Union { .. } => Stop::Fault(fault.kind, fault.at).misses(),
+            Shape::Union { .. } => stop_of(fault).misses(),
             Shape::Integral { number, .. } => bits < inner.start + u128::from(number.width),
             Shape::Array(element, bound) => {
                 self.is_own_array(array_at(inner, *element, bound), fault, space)

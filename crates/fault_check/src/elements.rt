@@ -15,7 +15,7 @@ ghost use Rattle.fault_check.specs.Ways.{OnBits, GoesOn, IfFound};
 use crate::checker::Checker;
 use crate::mapped::is_fault;
 use crate::part::{Array, Elements, Entered, bare_part, element_at, elements_of};
-use crate::site::{Ended, Inner, Site, fault_in};
+use crate::site::{Ended, Inner, Site, fault_in, stop_of};
 use bit_space::Space;
 use pickle_map::mapper::clauses::find_extent;
 use pickle_map::mapper::stop::Stop;
@@ -73,7 +73,7 @@ impl Checker<'_> {
         };
         let extent = elements.extent;
         let due = extent.is_due(8 * space.len(), elements.start, place as u64, behind);
-        if !due || Stop::Fault(fault.kind, fault.at).ends(extent) {
+        if !due || stop_of(fault).ends(extent) {
             return Entered::Nowhere;
         }
         let element = element_at(elements, behind);

@@ -73,14 +73,7 @@ impl Checker<'_> {
         }
         let stop = Stop::Fault(fault.kind, u128::from(whole.start));
         blame_label(self.nodes, &field.label, self.store, stop, watch);
-        match find_start(
-            whole.pinned,
-            &field.label,
-            whole.start,
-            behind,
-            self.meter,
-            self.store,
-        ) {
+        match find_start(whole, &field.label, behind, self.meter, self.store) {
             Ok(start) => Entered::Part(field_part(field, whole.order, start)),
             Err(stop) => there_if(stop, fault),
         }
@@ -146,14 +139,7 @@ impl Checker<'_> {
             }
             Err(stop) => return Ok(Tried::Beside(fault_in(stop)?)),
         }
-        match find_start(
-            whole.pinned,
-            &field.label,
-            whole.start,
-            behind,
-            self.meter,
-            self.store,
-        ) {
+        match find_start(whole, &field.label, behind, self.meter, self.store) {
             Ok(start) => self.try_part(field_part(field, whole.order, start), space),
             Err(stop) => Ok(Tried::Beside(fault_in(stop)?)),
         }

@@ -1,17 +1,16 @@
 //! Maps parts on a path, and says what they mean.
 
-ghost use Rattle.std.specs.Prelude.{◌≡◌, IfOk, IsTrue};
+ghost use Rattle.std.specs.Prelude.{◌≡◌, IsTrue};
 ghost use Rattle.pickle_types.specs.Table.{IsTable, optional_term};
 ghost use Rattle.pickle_types.specs.Sound.{IsSoundClause};
-ghost use Rattle.pickle_map.specs.Framed.{IsEnd};
-ghost use Rattle.fault_check.specs.AtWork.{Frame, MapFrame, AddsToLevel, LevelStays, MayMap, MayTry};
-ghost use Rattle.fault_check.specs.Calls.{Checks, FindsStart, MapsType, TellsThere};
-ghost use Rattle.fault_check.specs.Searched.{SearchesPart, SpendsClause, SpendsConstraint, SpendsLabel, SpendsType};
+ghost use Rattle.fault_check.specs.AtWork.{Frame, LevelStays, MayMap, MayTry};
+ghost use Rattle.fault_check.specs.Calls.{Checks, FindsStart, TellsThere};
+ghost use Rattle.fault_check.specs.Searched.{MapsInner, SearchesPart, SpendsClause, SpendsConstraint, SpendsLabel};
 ghost use Rattle.fault_check.specs.Sites.{TriesPart};
-ghost use Rattle.fault_check.specs.Ways.{OnBits, IfFound, IsThere, IsFault, constraint_of};
+ghost use Rattle.fault_check.specs.Ways.{IfFound, IsThere, IsFault, constraint_of};
 
 use crate::checker::Checker;
-use crate::part::{Entered, Part};
+use crate::part::{Entered, Part, StructStart};
 use crate::site::{Ended, Inner, Tried, fault_in};
 use bit_space::{Meter, Space};
 use pickle_map::mapper::clauses;
@@ -27,12 +26,7 @@ impl Checker<'_> {
     pub fn map_part<S: Space>(&mut self, inner: Inner, space: &mut S) -> Result<u64, Stop>
         requires table { IsTable self.old.nodes.now }
         requires part { MayMap self.old inner.node }
-        ensures frame { MapFrame (S.view space.old) (S.view space.new) self.old self.new result }
-        ensures ends { IfOk result (IsEnd inner.start (S.view space.old)) }
-        ensures is { OnBits (S.view space.old) (MapsType self.old self.new inner result) }
-        ensures level { AddsToLevel self.old self.new result }
-        ensures outer { LevelStays self.old self.new }
-        ensures spends { SpendsType (S.view space.old) (S.view space.new) self.old self.new inner result }
+        ensures { MapsInner (S.view space.old) (S.view space.new) self.old self.new inner result }
     {
         self.map_watched(inner, space, &mut Unwatched)
     }
@@ -46,12 +40,7 @@ impl Checker<'_> {
     ) -> Result<u64, Stop>
         requires table { IsTable self.old.nodes.now }
         requires part { MayMap self.old inner.node }
-        ensures frame { MapFrame (S.view space.old) (S.view space.new) self.old self.new result }
-        ensures ends { IfOk result (IsEnd inner.start (S.view space.old)) }
-        ensures is { OnBits (S.view space.old) (MapsType self.old self.new inner result) }
-        ensures level { AddsToLevel self.old self.new result }
-        ensures outer { LevelStays self.old self.new }
-        ensures spends { SpendsType (S.view space.old) (S.view space.new) self.old self.new inner result }
+        ensures { MapsInner (S.view space.old) (S.view space.new) self.old self.new inner result }
     {
         let mut mapper = Mapper {
             nodes: self.nodes,
@@ -125,21 +114,20 @@ pub fn is_there(
     clauses::is_there(clause, store, u128::from(start), meter)
 }
 
-/// The bit where a field starts in a struct that starts at the bit `start`, by its label.
+/// The bit where a field of a struct starts, by its label, where the present fields before it end at the bit `behind`.
 pub fn find_start(
-    pinned: bool,
+    whole: StructStart,
     label: &Option<Box<Resolved>>,
-    start: u64,
     behind: u64,
     meter: &mut Meter,
     store: &Store,
 ) -> Result<u128, Stop>
     requires sound { IsSoundClause (optional_term label.now) }
     ensures limit { meter.new.limit ≡ meter.old.limit }
-    ensures is { FindsStart pinned label.now store.now start behind result }
-    ensures spends { SpendsLabel meter.old meter.new store.now pinned label.now result }
+    ensures is { FindsStart whole label.now store.now behind result }
+    ensures spends { SpendsLabel meter.old meter.new store.now whole.pinned label.now result }
 {
-    clauses::find_start(pinned, label, store, start, behind, meter)
+    clauses::find_start(whole.pinned, label, store, whole.start, behind, meter)
 }
 
 /// Whether a stop is this fault.

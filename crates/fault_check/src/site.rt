@@ -90,6 +90,13 @@ pub fn fault_in(stop: Stop) -> Result<MapFault, Ended>
     }
 }
 
+/// The stop of a fault.
+pub fn stop_of(fault: MapFault) -> Stop
+    ensures { result ≡ Stop.Fault fault.kind fault.at }
+{
+    Stop::Fault(fault.kind, fault.at)
+}
+
 /// Adds a place to a path.
 pub fn keep(path: &mut Vec<usize>, place: usize) -> Result<(), Ended>
     ensures is { IfOk result (λ _. path.new.items ≡ path.old.items ++ place ∷ []) }

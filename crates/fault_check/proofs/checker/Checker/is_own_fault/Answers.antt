@@ -52,7 +52,7 @@ returns-in-Union-clause-is g c =
     λ yes bytes e.
     let n = union_node c.args.self.now.nodes.now c.requires.table c.args.inner.node c.requires.part.inside (level_count c.args.self.now.store.now) c.requires.part.deep c.index-nodes-inner.result _ _ c.in-Union.is in
     let has = rw n.type_is at (c.requires.has bytes e) in
-    rw n.type_is (own_union _ _ (sym c.misses.ensures ∙ yes) has)
+    rw n.type_is (own_union _ _ (sym (rw c.stop_of.ensures at c.misses.ensures) ∙ yes) has)
 
 pub returns-in-Integral-clause-is : goal.returns-in-Integral-clause-is
 returns-in-Integral-clause-is g c =
