@@ -1,7 +1,6 @@
 //! Alternatives of a union, on the path to one of them.
 
 ghost use Rattle.std.specs.Prelude.{All, IfOk};
-ghost use Rattle.pickle_types.specs.Table.{IsTable};
 ghost use Rattle.value_store.specs.Slots.{level_count};
 ghost use Rattle.fault_check.specs.AtWork.{DepthStays, Frame, IsFresh, IsPartIn};
 ghost use Rattle.fault_check.specs.Calls.{EntersUnion};
@@ -27,7 +26,6 @@ impl Checker<'_> {
         fault: MapFault,
         space: &mut S,
     ) -> Entered<'f>
-        requires table { IsTable self.old.nodes.now }
         requires alternatives { All (IsPartIn self.old) alternatives.now }
         requires fresh { IsFresh self.old }
         ensures frame { Frame (S.view space.old) (S.view space.new) self.old self.new }
@@ -52,7 +50,6 @@ impl Checker<'_> {
         alternatives: &[Alternative],
         space: &mut S,
     ) -> Result<Site, Ended>
-        requires table { IsTable self.old.nodes.now }
         requires alternatives { All (IsPartIn self.old) alternatives.now }
         requires fresh { IsFresh self.old }
         ensures frame { Frame (S.view space.old) (S.view space.new) self.old self.new }
@@ -89,7 +86,6 @@ impl Checker<'_> {
         alternative: &Alternative,
         space: &mut S,
     ) -> Result<Attempt, Ended>
-        requires table { IsTable self.old.nodes.now }
         requires alternative { IsPartIn self.old alternative.now }
         requires fresh { IsFresh self.old }
         ensures frame { Frame (S.view space.old) (S.view space.new) self.old self.new }

@@ -1,7 +1,6 @@
 //! Checks a whole path.
 
 ghost use Rattle.std.specs.Prelude.{◌≡◌, ◌<◌, [], length, IsTrue};
-ghost use Rattle.pickle_types.specs.Table.{IsTable};
 ghost use Rattle.pickle_types.specs.TypeTable.{type_named, IsInTable};
 ghost use Rattle.pickle_types.specs.Sound.{IsSoundClause};
 ghost use Rattle.value_store.specs.Slots.{emptied, level_count};
@@ -105,7 +104,6 @@ impl<'a> Checker<'a> {
         space: &mut S,
         watch: &mut W,
     ) -> bool
-        requires table { IsTable self.old.nodes.now }
         requires part { MayTry self.old whole }
         ensures frame { Frame (S.view space.old) (S.view space.new) self.old self.new }
         ensures is { IsTrue result → OnBits (S.view space.old) (PartHas self.old whole.entry fault path.now) }
@@ -135,7 +133,6 @@ impl<'a> Checker<'a> {
         space: &mut S,
         watch: &mut W,
     ) -> Entered<'a>
-        requires table { IsTable self.old.nodes.now }
         requires part { MayMap self.old inner.node }
         ensures frame { Frame (S.view space.old) (S.view space.new) self.old self.new }
         ensures goes_on { GoesOn self.old.nodes.now (level_count self.new.store.now) result }
@@ -178,7 +175,6 @@ impl<'a> Checker<'a> {
         space: &mut S,
         watch: &mut W,
     ) -> bool
-        requires table { IsTable self.old.nodes.now }
         requires part { MayTry self.old part }
         ensures frame { Frame (S.view space.old) (S.view space.new) self.old self.new }
         ensures is { IsTrue result → OnBits (S.view space.old) (PartHas self.old part.entry fault []) }
@@ -191,7 +187,6 @@ impl<'a> Checker<'a> {
 
     /// Whether a fault that a type means arises in that type itself, and in none of its parts.
     fn is_own_fault<S: Space>(&mut self, inner: Inner, fault: MapFault, space: &mut S) -> bool
-        requires table { IsTable self.old.nodes.now }
         requires part { MayMap self.old inner.node }
         requires has { OnBits (S.view space.old) (MeansFault self.old inner fault) }
         ensures frame { Frame (S.view space.old) (S.view space.new) self.old self.new }

@@ -1,5 +1,8 @@
 //! The state of a check.
 
+ghost use Rattle.pickle_types.specs.Props.{IsTable-prop};
+ghost use Rattle.pickle_types.specs.Table.{IsTable};
+
 use bit_space::Meter;
 use pickle_types::view::Node;
 use value_store::store::Store;
@@ -11,4 +14,5 @@ pub struct Checker<'a> {
     pub nodes: &'a [Node],
     pub meter: &'a mut Meter,
     pub store: &'a mut Store,
+    ghost table: { IsTable nodes.now } by { IsTable-prop nodes.now },
 }

@@ -1,7 +1,6 @@
 //! Integral structs, on the path to the field in which a fault arises.
 
 ghost use Rattle.std.specs.Prelude.{◌<◌, ◌≤◌, ◌^◌, All, IfOk, IfErr, IfSome, IsTrue};
-ghost use Rattle.pickle_types.specs.Table.{IsTable};
 ghost use Rattle.value_store.specs.Slots.{level_count};
 ghost use Rattle.fault_check.specs.AtWork.{DepthStays, FitsType, Frame, IsPartIn, MayMap, WorkFrame};
 ghost use Rattle.fault_check.specs.Calls.{NumberHas, Reaches, TypeHas};
@@ -30,7 +29,6 @@ impl Checker<'_> {
         path: &[usize],
         space: &mut S,
     ) -> bool
-        requires table { IsTable self.old.nodes.now }
         requires part { MayMap self.old inner.node }
         ensures frame { Frame (S.view space.old) (S.view space.new) self.old self.new }
         ensures is { IsTrue result → OnBits (S.view space.old) (TypeHas self.old inner fault path.now) }
@@ -58,7 +56,6 @@ impl Checker<'_> {
 
     /// Whether the fault of a number arises in the field to which a path leads.
     fn number_arises(&mut self, whole: Cut, fault: MapFault, path: &[usize]) -> bool
-        requires table { IsTable self.old.nodes.now }
         requires part { MayMap self.old whole.node }
         requires start { whole.start < 2 ^ 63 }
         ensures frame { WorkFrame self.old self.new }
@@ -100,7 +97,6 @@ impl Checker<'_> {
         width: u8,
         start: u64,
     ) -> Option<u8>
-        requires table { IsTable self.old.nodes.now }
         requires fields { All (IsPartIn self.old) fields.now }
         requires width { width ≤ 64 }
         requires start { start < 2 ^ 63 }
@@ -126,7 +122,6 @@ impl Checker<'_> {
 
     /// Stores a number.
     fn store_number(&mut self, number: Cut) -> Result<(), Stop>
-        requires table { IsTable self.old.nodes.now }
         requires part { MayMap self.old number.node }
         requires digits { FitsType self.old number.node number.digits }
         requires start { number.start < 2 ^ 63 }
@@ -148,7 +143,6 @@ impl Checker<'_> {
 
     /// Adds the path to the field in which the fault of a number arises to `path`.
     pub fn locate_in_number(&mut self, number: Cut, path: &mut Vec<usize>) -> Result<(), Ended>
-        requires table { IsTable self.old.nodes.now }
         requires part { MayMap self.old number.node }
         requires start { number.start < 2 ^ 63 }
         ensures frame { WorkFrame self.old self.new }
@@ -183,7 +177,6 @@ impl Checker<'_> {
         width: u8,
         start: u64,
     ) -> Result<Digits, Ended>
-        requires table { IsTable self.old.nodes.now }
         requires fields { All (IsPartIn self.old) fields.now }
         requires width { width ≤ 64 }
         requires start { start < 2 ^ 63 }
@@ -218,7 +211,6 @@ impl Checker<'_> {
 
     /// Stores a field of an integral struct, and checks its constraint. Says which of them has a fault.
     fn try_digits(&mut self, field: &Field, digits: u64, start: u64) -> Result<Tried, Ended>
-        requires table { IsTable self.old.nodes.now }
         requires field { IsPartIn self.old field.now }
         requires digits { FitsType self.old field.now.node digits }
         requires start { start < 2 ^ 63 }

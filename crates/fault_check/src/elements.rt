@@ -1,7 +1,7 @@
 //! Arrays, on the path to the element in which a fault arises.
 
-ghost use Rattle.std.specs.Prelude.{◌≡◌, ◌+◌, ◌*◌, ◌≤◌, [], IfOk, IfSome, IsTrue};
-ghost use Rattle.pickle_types.specs.Table.{IsTable, bound_of};
+ghost use Rattle.std.specs.Prelude.{◌+◌, ◌*◌, ◌≤◌, [], IfOk, IfSome, IsTrue};
+ghost use Rattle.pickle_types.specs.Table.{bound_of};
 ghost use Rattle.pickle_types.specs.Sound.{IsSoundBound};
 ghost use Rattle.pickle_map.specs.Framed.{IsEnd};
 ghost use Rattle.value_store.specs.Slots.{level_count};
@@ -34,7 +34,6 @@ impl Checker<'_> {
         space: &mut S,
         watch: &mut W,
     ) -> Entered<'f>
-        requires table { IsTable self.old.nodes.now }
         requires element { MayOpen self.old array.element }
         requires sound { IsSoundBound (bound_of array.bound.now) }
         ensures frame { Frame (S.view space.old) (S.view space.new) self.old self.new }
@@ -61,7 +60,6 @@ impl Checker<'_> {
         fault: MapFault,
         space: &mut S,
     ) -> Entered<'f>
-        requires table { IsTable self.old.nodes.now }
         requires element { MayMap self.old elements.element }
         requires inside { elements.start ≤ 8 * (S.view space.old).len }
         ensures frame { Frame (S.view space.old) (S.view space.new) self.old self.new }
@@ -92,7 +90,6 @@ impl Checker<'_> {
         count: usize,
         space: &mut S,
     ) -> Option<u64>
-        requires table { IsTable self.old.nodes.now }
         requires element { MayMap self.old elements.element }
         requires inside { elements.start ≤ 8 * (S.view space.old).len }
         ensures frame { Frame (S.view space.old) (S.view space.new) self.old self.new }
@@ -120,7 +117,6 @@ impl Checker<'_> {
     /// Enters an element for the fault NoBits. The fault is the element's own where it takes no bits, and may arise
     /// inside where the element stops.
     fn enter_empty<'f, S: Space>(&mut self, element: Inner, space: &mut S) -> Entered<'f>
-        requires table { IsTable self.old.nodes.now }
         requires element { MayMap self.old element.node }
         ensures frame { Frame (S.view space.old) (S.view space.new) self.old self.new }
         ensures is { OnBits (S.view space.old) (FindsEmpty self.old self.new element result) }
@@ -140,7 +136,6 @@ impl Checker<'_> {
         fault: MapFault,
         space: &mut S,
     ) -> bool
-        requires table { IsTable self.old.nodes.now }
         requires element { MayOpen self.old array.element }
         requires sound { IsSoundBound (bound_of array.bound.now) }
         ensures frame { Frame (S.view space.old) (S.view space.new) self.old self.new }
@@ -161,7 +156,6 @@ impl Checker<'_> {
 
     /// Whether the elements of an array whose frame is open end past its size.
     fn outgrows<S: Space>(&mut self, elements: Elements, space: &mut S) -> bool
-        requires table { IsTable self.old.nodes.now }
         requires element { MayMap self.old elements.element }
         requires inside { elements.start ≤ 8 * (S.view space.old).len }
         ensures frame { Frame (S.view space.old) (S.view space.new) self.old self.new }
@@ -187,7 +181,6 @@ impl Checker<'_> {
         array: Array<'_>,
         space: &mut S,
     ) -> Result<Site, Ended>
-        requires table { IsTable self.old.nodes.now }
         requires element { MayOpen self.old array.element }
         requires sound { IsSoundBound (bound_of array.bound.now) }
         requires inside { array.start ≤ 8 * (S.view space.old).len }
@@ -211,7 +204,6 @@ impl Checker<'_> {
 
     /// Finds the element of an array whose frame is open at which its fault arises.
     fn find_element<S: Space>(&mut self, elements: Elements, space: &mut S) -> Result<Site, Ended>
-        requires table { IsTable self.old.nodes.now }
         requires element { MayMap self.old elements.element }
         requires inside { elements.start ≤ 8 * (S.view space.old).len }
         ensures frame { Frame (S.view space.old) (S.view space.new) self.old self.new }

@@ -2,7 +2,7 @@
 
 ghost use Rattle.std.specs.Prelude.{All, IfOk};
 ghost use Rattle.pickle_types.specs.Sound.{IsSoundClause};
-ghost use Rattle.pickle_types.specs.Table.{IsTable, optional_term};
+ghost use Rattle.pickle_types.specs.Table.{optional_term};
 ghost use Rattle.value_store.specs.Slots.{level_count};
 ghost use Rattle.fault_check.specs.AtWork.{DepthStays, Frame, IsFieldIn, LookFrame};
 ghost use Rattle.fault_check.specs.Calls.{EntersStruct, EntersOne};
@@ -33,7 +33,6 @@ impl Checker<'_> {
         space: &mut S,
         watch: &mut W,
     ) -> Entered<'f>
-        requires table { IsTable self.old.nodes.now }
         requires fields { All (IsFieldIn self.old) fields.now }
         ensures frame { Frame (S.view space.old) (S.view space.new) self.old self.new }
         ensures goes_on { GoesOn self.old.nodes.now (level_count self.new.store.now) result }
@@ -86,7 +85,6 @@ impl Checker<'_> {
         fields: &[Field],
         space: &mut S,
     ) -> Result<Site, Ended>
-        requires table { IsTable self.old.nodes.now }
         requires fields { All (IsFieldIn self.old) fields.now }
         ensures frame { Frame (S.view space.old) (S.view space.new) self.old self.new }
         ensures depth { DepthStays self.old self.new }
@@ -122,7 +120,6 @@ impl Checker<'_> {
         behind: u64,
         space: &mut S,
     ) -> Result<Tried, Ended>
-        requires table { IsTable self.old.nodes.now }
         requires field { IsFieldIn self.old field.now }
         ensures frame { Frame (S.view space.old) (S.view space.new) self.old self.new }
         ensures is { IfFound (S.view space.old) (TriesField self.old self.new whole field.now behind) result }

@@ -1,7 +1,7 @@
 //! Finds the part of a type in which its fault arises.
 
 ghost use Rattle.std.specs.Prelude.{◌≡◌, ◌*◌, ◌≤◌, IfErr, IfOk};
-ghost use Rattle.pickle_types.specs.Table.{IsTable, IsWidth};
+ghost use Rattle.pickle_types.specs.Table.{IsWidth};
 ghost use Rattle.pickle_types.specs.TypeTable.{type_named, IsInTable};
 ghost use Rattle.value_store.specs.Slots.{emptied};
 ghost use Rattle.fault_check.specs.AtWork.{Frame, MayMap};
@@ -67,7 +67,6 @@ impl Checker<'_> {
         path: &mut Vec<usize>,
         space: &mut S,
     ) -> Result<(), Ended>
-        requires table { IsTable self.old.nodes.now }
         requires part { MayMap self.old inner.node }
         ensures frame { Frame (S.view space.old) (S.view space.new) self.old self.new }
         ensures is { IfOk result (λ _. GoesAlong (S.view space.old) self.old inner path.old.items path.new.items) }
@@ -86,7 +85,6 @@ impl Checker<'_> {
 
     /// Where the fault of a type arises: in itself, or at one of its parts.
     fn find_site<S: Space>(&mut self, inner: Inner, space: &mut S) -> Result<Site, Ended>
-        requires table { IsTable self.old.nodes.now }
         requires part { MayMap self.old inner.node }
         ensures frame { Frame (S.view space.old) (S.view space.new) self.old self.new }
         ensures found { IfOk result (HasFrame self.old.store.now self.new.store.now) }

@@ -1,7 +1,7 @@
 //! Maps parts on a path, and says what they mean.
 
 ghost use Rattle.std.specs.Prelude.{◌≡◌, IsTrue};
-ghost use Rattle.pickle_types.specs.Table.{IsTable, optional_term};
+ghost use Rattle.pickle_types.specs.Table.{optional_term};
 ghost use Rattle.pickle_types.specs.Sound.{IsSoundClause};
 ghost use Rattle.fault_check.specs.AtWork.{Frame, LevelStays, MayMap, MayTry};
 ghost use Rattle.fault_check.specs.Calls.{Checks, FindsStart, TellsThere};
@@ -24,7 +24,6 @@ use value_store::store::Store;
 impl Checker<'_> {
     /// Maps a type into the innermost frame. Returns the bit after it.
     pub fn map_part<S: Space>(&mut self, inner: Inner, space: &mut S) -> Result<u64, Stop>
-        requires table { IsTable self.old.nodes.now }
         requires part { MayMap self.old inner.node }
         ensures { MapsInner (S.view space.old) (S.view space.new) self.old self.new inner result }
     {
@@ -38,7 +37,6 @@ impl Checker<'_> {
         space: &mut S,
         watch: &mut W,
     ) -> Result<u64, Stop>
-        requires table { IsTable self.old.nodes.now }
         requires part { MayMap self.old inner.node }
         ensures { MapsInner (S.view space.old) (S.view space.new) self.old self.new inner result }
     {
@@ -53,7 +51,6 @@ impl Checker<'_> {
 
     /// Maps a part, and checks its constraint. Says which of them has a fault.
     pub fn try_part<S: Space>(&mut self, part: Part<'_>, space: &mut S) -> Result<Tried, Ended>
-        requires table { IsTable self.old.nodes.now }
         requires part { MayTry self.old part }
         ensures frame { Frame (S.view space.old) (S.view space.new) self.old self.new }
         ensures is { IfFound (S.view space.old) (TriesPart self.old self.new part.entry) result }

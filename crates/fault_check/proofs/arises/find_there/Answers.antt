@@ -6,16 +6,18 @@ use Rattle.value_store.specs.Slots.{level_count}
 use Rattle.fault_check.proofs.ArrayElements.{of_bare}
 use Rattle.fault_check.proofs.arises.find_there.Goals as goal
 
-pub follow-requires-clause-part : goal.follow-requires-clause-part
-follow-requires-clause-part g c =
+pub follow-requires : goal.follow-requires
+follow-requires g c =
     let one = ap level_count c.requires.empty in
     let deep = c.args.table.now.sound.deep c.args.id.node c.requires.known in
     let held : level_count c.args.store.now + depth (type_of c.args.table.now.nodes.items c.args.id.node) ≤ 65 = omega (arith, one, deep) in
     let bare = c.bare_part.ensures in
     record {
-      inside = rw (bare.inner_is, c.nodes.ensures) c.requires.known;
-      deep = rw (bare.inner_is, c.nodes.ensures) held;
-      sound = rw bare.clause_is tt;
+      part = record {
+        inside = rw (bare.inner_is, c.nodes.ensures) c.requires.known;
+        deep = rw (bare.inner_is, c.nodes.ensures) held;
+        sound = rw bare.clause_is tt;
+      };
     }
 
 pub returns-clause-is : goal.returns-clause-is

@@ -12,36 +12,36 @@ use Rattle.fault_check.proofs.checker.Checker.+number_arises.Goals as goal
 
 pub open_level-requires : goal.open_level-requires
 open_level-requires t c =
-    let n = integral_node c.args.self.now.nodes.now c.requires.table c.args.whole.node c.requires.part.inside (level_count c.args.self.now.store.now) c.requires.part.deep c.index-nodes-whole.result _ _ _ c.in-Integral.is in
+    let n = integral_node c.args.self.now.nodes.now c.args.self.now.table c.args.whole.node c.requires.part.inside (level_count c.args.self.now.store.now) c.requires.part.deep c.index-nodes-whole.result _ _ _ c.in-Integral.is in
     n.few
 
 pub reach_field-requires-clause-fields : goal.reach_field-requires-clause-fields
 reach_field-requires-clause-fields t c =
-    let n = integral_node c.args.self.now.nodes.now c.requires.table c.args.whole.node c.requires.part.inside (level_count c.args.self.now.store.now) c.requires.part.deep c.index-nodes-whole.result _ _ _ c.in-Integral.is in
+    let n = integral_node c.args.self.now.nodes.now c.args.self.now.table c.args.whole.node c.requires.part.inside (level_count c.args.self.now.store.now) c.requires.part.deep c.index-nodes-whole.result _ _ _ c.in-Integral.is in
     rw (c.deref.ensures.value, c.open_level.ensures.depth) n.fields_are
 
 pub reach_field-requires-clause-width : goal.reach_field-requires-clause-width
 reach_field-requires-clause-width t c =
-    let n = integral_node c.args.self.now.nodes.now c.requires.table c.args.whole.node c.requires.part.inside (level_count c.args.self.now.store.now) c.requires.part.deep c.index-nodes-whole.result _ _ _ c.in-Integral.is in
+    let n = integral_node c.args.self.now.nodes.now c.args.self.now.table c.args.whole.node c.requires.part.inside (level_count c.args.self.now.store.now) c.requires.part.deep c.index-nodes-whole.result _ _ _ c.in-Integral.is in
     n.width.most
 
 pub width_at-requires-clause-at : goal.width_at-requires-clause-at
 width_at-requires-clause-at t c =
-    let n = integral_node c.args.self.now.nodes.now c.requires.table c.args.whole.node c.requires.part.inside (level_count c.args.self.now.store.now) c.requires.part.deep c.index-nodes-whole.result _ _ _ c.in-Integral.is in
+    let n = integral_node c.args.self.now.nodes.now c.args.self.now.table c.args.whole.node c.requires.part.inside (level_count c.args.self.now.store.now) c.requires.part.deep c.index-nodes-whole.result _ _ _ c.in-Integral.is in
     let inside = rw c.deref.ensures.value at c.in-Some.ensures.is.inside in
     let field = of_one (IsPartOf c.args.self.now.nodes.now (level_count c.args.self.now.store.now + 1)) c.in-Integral.fields.items (get_or c.args.path.now 0 0) c.index-field.result.now n.fields_are inside c.index-field.ensures in
     field.inside
 
 pub try_digits-requires-clause-field : goal.try_digits-requires-clause-field
 try_digits-requires-clause-field t c =
-    let n = integral_node c.args.self.now.nodes.now c.requires.table c.args.whole.node c.requires.part.inside (level_count c.args.self.now.store.now) c.requires.part.deep c.index-nodes-whole.result _ _ _ c.in-Integral.is in
+    let n = integral_node c.args.self.now.nodes.now c.args.self.now.table c.args.whole.node c.requires.part.inside (level_count c.args.self.now.store.now) c.requires.part.deep c.index-nodes-whole.result _ _ _ c.in-Integral.is in
     let inside = rw c.deref.ensures.value at c.in-Some.ensures.is.inside in
     let field = of_one (IsPartOf c.args.self.now.nodes.now (level_count c.args.self.now.store.now + 1)) c.in-Integral.fields.items (get_or c.args.path.now 0 0) c.index-field.result.now n.fields_are inside c.index-field.ensures in
     rw (c.in-Some.ensures.frame.lent.nodes, c.in-Some.ensures.depth, c.open_level.ensures.depth) field
 
 pub number_arises-requires : goal.number_arises-requires
 number_arises-requires t c =
-    let n = integral_node c.args.self.now.nodes.now c.requires.table c.args.whole.node c.requires.part.inside (level_count c.args.self.now.store.now) c.requires.part.deep c.index-nodes-whole.result _ _ _ c.in-Integral.is in
+    let n = integral_node c.args.self.now.nodes.now c.args.self.now.table c.args.whole.node c.requires.part.inside (level_count c.args.self.now.store.now) c.requires.part.deep c.index-nodes-whole.result _ _ _ c.in-Integral.is in
     let inside = rw c.deref.ensures.value at c.in-Some.ensures.is.inside in
     let field = of_one (IsPartOf c.args.self.now.nodes.now (level_count c.args.self.now.store.now + 1)) c.in-Integral.fields.items (get_or c.args.path.now 0 0) c.index-field.result.now n.fields_are inside c.index-field.ensures in
     let field = rw (← c.open_level.ensures.depth, ← c.in-Some.ensures.depth) at field in
@@ -54,7 +54,7 @@ number_arises-requires t c =
 pub returns-in-Ok-Beside-clause-is : goal.returns-in-Ok-Beside-clause-is
 returns-in-Ok-Beside-clause-is t c =
     λ yes.
-    let n = integral_node c.args.self.now.nodes.now c.requires.table c.args.whole.node c.requires.part.inside (level_count c.args.self.now.store.now) c.requires.part.deep c.index-nodes-whole.result _ _ _ c.in-Integral.is in
+    let n = integral_node c.args.self.now.nodes.now c.args.self.now.table c.args.whole.node c.requires.part.inside (level_count c.args.self.now.store.now) c.requires.part.deep c.index-nodes-whole.result _ _ _ c.in-Integral.is in
     let inside = rw c.deref.ensures.value at c.in-Some.ensures.is.inside in
     let next = drop_more c.in-Integral.fields.items (get_or c.args.path.now 0 0) c.index-field.result.now inside in
     let next = rw (← c.index-field.ensures) at next in
@@ -69,7 +69,7 @@ returns-in-Ok-Beside-clause-is t c =
 pub returns-then-not-is_empty-clause-is : goal.returns-then-not-is_empty-clause-is
 returns-then-not-is_empty-clause-is t c =
     λ yes.
-    let n = integral_node c.args.self.now.nodes.now c.requires.table c.args.whole.node c.requires.part.inside (level_count c.args.self.now.store.now) c.requires.part.deep c.index-nodes-whole.result _ _ _ c.in-Integral.is in
+    let n = integral_node c.args.self.now.nodes.now c.args.self.now.table c.args.whole.node c.requires.part.inside (level_count c.args.self.now.store.now) c.requires.part.deep c.index-nodes-whole.result _ _ _ c.in-Integral.is in
     let inside = rw c.deref.ensures.value at c.in-Some.ensures.is.inside in
     let next = drop_more c.in-Integral.fields.items (get_or c.args.path.now 0 0) c.index-field.result.now inside in
     let next = rw (← c.index-field.ensures) at next in

@@ -11,7 +11,7 @@ use Rattle.fault_check.proofs.checker.Checker.is_in_digits.Goals as goal
 pub returns-in-Ok-clause-is : goal.returns-in-Ok-clause-is
 returns-in-Ok-clause-is g c =
     λ yes bytes e.
-    let n = integral_node c.args.self.now.nodes.now c.requires.table c.args.inner.node c.requires.part.inside (level_count c.args.self.now.store.now) c.requires.part.deep c.index-nodes-inner.result _ _ _ c.in-Integral.is in
+    let n = integral_node c.args.self.now.nodes.now c.args.self.now.table c.args.inner.node c.requires.part.inside (level_count c.args.self.now.store.now) c.requires.part.deep c.index-nodes-inner.result _ _ _ c.in-Integral.is in
     let whole = g.met.S.Space.whole c.args.space.now bytes e in
     let here : c.args.inner.start ≤ length (bits_of bytes) = rw length-bits_of (omega (arith, whole, c.if-from-inner.false, c.from.ensures, c.len.ensures)) in
     let ends : c.args.inner.start + c.in-Integral.number.width ≤ length (bits_of bytes) = rw length-bits_of (omega (arith, whole, c.in-Ok.ensures.inside)) in
