@@ -115,8 +115,8 @@ module _ (bits : List ℕ) (nodes : List Node) (p : Alternative) (order : Order)
     refused_beside h other rest = rw (result_is h.means, h.refused, other) refl
 
     pub faulty_inside : (at : ℕ) → IsFaulty bits (type_of nodes p.node) (ordered p.order order) levels levels' s at x → misses x.0 ≡ false → (rest : Parts)
-        → alternatives_from rest ≡ 0 ∷ path_of bits (type_of nodes p.node) (ordered p.order order) levels' at
-    faulty_inside at h other rest = rw (h.keeps, h.there, result_is h.means, other) refl
+        → alternatives_from rest ≡ 0 ∷ path_of bits (type_of nodes p.node) (ordered p.order order) levels' s
+    faulty_inside at h other rest = rw (h.keeps, result_is h.means, other) refl
 
 pub alternative_found : {bits : List ℕ} {order : Order} {alternatives rest : Parts} {levels : Levels} {s i : ℕ} (path : Path) → MissesBefore bits order alternatives levels s i rest
     → alternatives_path bits rest order levels s ≡ 0 ∷ path → alternatives_path bits alternatives order levels s ≡ i ∷ path
@@ -267,15 +267,15 @@ module _ {E : Type 0} where
   if_site space now nodes levels path path' same e (Err x) h = tt
 
 -- an integral struct that was read as a number
-site_read : (bits : List ℕ) (nodes : List Node) (levels : Levels) (whole : Inner) (number : IntegerType) (start : ℕ) → whole.start ≡ start → number_type (type_of nodes whole.node) ≡ Some number → (found : Site)
-    → IsSmallSite whole.node start found → ReadsSite whole number start found bits → IsSite bits nodes levels (path_in bits nodes levels whole) found
-site_read bits nodes levels whole number start e kind site.Itself small h = rw e (short_is bits (type_of nodes whole.node) number whole.order levels start kind h)
-site_read bits nodes levels whole number start e kind (site.Beside place) small h = absurd h
-site_read bits nodes levels whole number start e kind (site.Inside place inner) small h = absurd h
-site_read bits nodes levels whole number start e kind (site.Number cut) small h =
-    rw (e, small.0, small.1, h.1) (whole_is bits (type_of nodes whole.node) number whole.order levels start kind h.0)
+site_read : (bits : List ℕ) (nodes : List Node) (levels : Levels) (whole : Inner) (number : IntegerType) → number_type (type_of nodes whole.node) ≡ Some number → (found : Site)
+    → IsSmallSite whole found → ReadsSite whole number found bits → IsSite bits nodes levels (path_in bits nodes levels whole) found
+site_read bits nodes levels whole number kind site.Itself small h = short_is bits (type_of nodes whole.node) number whole.order levels whole.start kind h
+site_read bits nodes levels whole number kind (site.Beside place) small h = absurd h
+site_read bits nodes levels whole number kind (site.Inside place inner) small h = absurd h
+site_read bits nodes levels whole number kind (site.Number cut) small h =
+    rw (small.0, small.1, h.1) (whole_is bits (type_of nodes whole.node) number whole.order levels whole.start kind h.0)
 
-pub if_read : {E : Type 0} (space : SpaceView) (nodes : List Node) (levels : Levels) (whole : Inner) (number : IntegerType) (start : ℕ) → whole.start ≡ start → number_type (type_of nodes whole.node) ≡ Some number → (result : Result Site E)
-    → IfOk result (IsSmallSite whole.node start) → IfOk result (λ found. OnBits space (ReadsSite whole number start found)) → IfOk result (λ found. OnBits space (λ bits. IsSite bits nodes levels (path_in bits nodes levels whole) found))
-if_read space nodes levels whole number start e kind (Ok found) small h = λ bytes known. site_read (bits_of bytes) nodes levels whole number start e kind found small (h bytes known)
-if_read space nodes levels whole number start e kind (Err x) small h = tt
+pub if_read : {E : Type 0} (space : SpaceView) (nodes : List Node) (levels : Levels) (whole : Inner) (number : IntegerType) → number_type (type_of nodes whole.node) ≡ Some number → (result : Result Site E)
+    → IfOk result (IsSmallSite whole) → IfOk result (λ found. OnBits space (ReadsSite whole number found)) → IfOk result (λ found. OnBits space (λ bits. IsSite bits nodes levels (path_in bits nodes levels whole) found))
+if_read space nodes levels whole number kind (Ok found) small h = λ bytes known. site_read (bits_of bytes) nodes levels whole number kind found small (h bytes known)
+if_read space nodes levels whole number kind (Err x) small h = tt

@@ -221,8 +221,8 @@ module _ (bits : List ℕ) (nodes : List Node) (p : Alternative) (order : Order)
     faulty_after at h missed = rw (result_is h.means, missed) (omega arith)
 
     pub inside_after : (at : ℕ) → IsFaulty bits (type_of nodes p.node) (ordered p.order order) levels levels' s at x → misses x.0 ≡ false
-        → attempt_steps + search_of bits (type_of nodes p.node) (ordered p.order order) levels' at ≤ alternatives_from
-    inside_after at h other = rw (h.keeps, h.there, result_is h.means, other) (omega arith)
+        → attempt_steps + search_of bits (type_of nodes p.node) (ordered p.order order) levels' s ≤ alternatives_from
+    inside_after at h other = rw (h.keeps, result_is h.means, other) (omega arith)
 
 -- ---- elements
 
@@ -281,21 +281,21 @@ array_least bits nodes levels inside all now are opens here bound e =
     (array_search bits now.order levels now.start here (type_of nodes now.element) bound now.extent e))
 
 -- an integral struct that was read as a number
-site_read_left : (bits : List ℕ) (nodes : List Node) (levels : Levels) (whole : Inner) (name : Naming) (number : IntegerType) (fields : Parts) (start : ℕ) → whole.start ≡ start → start ≤ length bits
-    → type_of nodes whole.node ≡ IntegralOf name number fields → (found : Site) → IsSmallSite whole.node start found → ReadsSite whole number start found bits → 1 + site_left bits nodes levels found ≤ search_in bits nodes levels whole
-site_read_left bits nodes levels whole name number fields start e here kind site.Itself small h = rw (e, kind, le-leb start (length bits) here) (omega arith)
-site_read_left bits nodes levels whole name number fields start e here kind (site.Beside place) small h = absurd h
-site_read_left bits nodes levels whole name number fields start e here kind (site.Inside place inner) small h = absurd h
-site_read_left bits nodes levels whole name number fields start e here kind (site.Number cut) small h =
-    rw (e, small.0, small.1, h.1, kind, le-leb start (length bits) here, le-leb (start + number.width) (length bits) h.0) (omega arith)
+site_read_left : (bits : List ℕ) (nodes : List Node) (levels : Levels) (whole : Inner) (name : Naming) (number : IntegerType) (fields : Parts) → whole.start ≤ length bits
+    → type_of nodes whole.node ≡ IntegralOf name number fields → (found : Site) → IsSmallSite whole found → ReadsSite whole number found bits → 1 + site_left bits nodes levels found ≤ search_in bits nodes levels whole
+site_read_left bits nodes levels whole name number fields here kind site.Itself small h = rw (kind, le-leb whole.start (length bits) here) (omega arith)
+site_read_left bits nodes levels whole name number fields here kind (site.Beside place) small h = absurd h
+site_read_left bits nodes levels whole name number fields here kind (site.Inside place inner) small h = absurd h
+site_read_left bits nodes levels whole name number fields here kind (site.Number cut) small h =
+    rw (small.0, small.1, h.1, kind, le-leb whole.start (length bits) here, le-leb (whole.start + number.width) (length bits) h.0) (omega arith)
 
-pub if_read_search : (D : Type 0) (limit before after : ℕ) (bits : List ℕ) (nodes : List Node) (levels : Levels) (whole : Inner) (name : Naming) (number : IntegerType) (fields : Parts) (start : ℕ) → whole.start ≡ start → start ≤ length bits
-    → type_of nodes whole.node ≡ IntegralOf name number fields → (result : Result Site Ended) → IfOk result (IsSmallSite whole.node start) → IfOk result (λ found. ReadsSite whole number start found bits)
+pub if_read_search : (D : Type 0) (limit before after : ℕ) (bits : List ℕ) (nodes : List Node) (levels : Levels) (whole : Inner) (name : Naming) (number : IntegerType) (fields : Parts) → whole.start ≤ length bits
+    → type_of nodes whole.node ≡ IntegralOf name number fields → (result : Result Site Ended) → IfOk result (IsSmallSite whole) → IfOk result (λ found. ReadsSite whole number found bits)
     → Searches D limit before after 1 (λ x. 0) result → Searches D limit before after (search_in bits nodes levels whole) (site_left bits nodes levels) result
-if_read_search D limit before after bits nodes levels whole name number fields start e here kind (Ok found) small reads h =
-    let l = site_read_left bits nodes levels whole name number fields start e here kind found small reads in omega (arith, l, h)
-if_read_search D limit before after bits nodes levels whole name number fields start e here kind (Err x) small reads h =
-    let least : 1 ≤ search_in bits nodes levels whole = rw (e, kind, le-leb start (length bits) here) (omega arith) in
+if_read_search D limit before after bits nodes levels whole name number fields here kind (Ok found) small reads h =
+    let l = site_read_left bits nodes levels whole name number fields here kind found small reads in omega (arith, l, h)
+if_read_search D limit before after bits nodes levels whole name number fields here kind (Err x) small reads h =
+    let least : 1 ≤ search_in bits nodes levels whole = rw (kind, le-leb whole.start (length bits) here) (omega arith) in
     search_ends limit limit before before 1 (search_in bits nodes levels whole) x (λ (d : D). d) refl (omega (arith, least)) h
 
 -- a place was added to a path at the end of a search

@@ -224,7 +224,7 @@ abbrev pub alternative_left : List ℕ → List Node → Order → Alternative �
 alternative_left bits nodes order p rest before levels s attempt.Fits = 0
 alternative_left bits nodes order p rest before levels s attempt.Misses = alternatives_search bits rest order before s
 alternative_left bits nodes order p rest before levels s attempt.Beside = 0
-alternative_left bits nodes order p rest before levels s (attempt.Inside at) = search_of bits (type_of nodes p.node) (ordered p.order order) levels at
+alternative_left bits nodes order p rest before levels s attempt.Inside = search_of bits (type_of nodes p.node) (ordered p.order order) levels s
 
 -- What calls say that read the space, where its bytes are known, between the space and the checker before the call and
 -- after it.

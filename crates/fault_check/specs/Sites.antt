@@ -135,15 +135,15 @@ abbrev pub TriesAlternativeAs : (bits : List ℕ) → List Node → Alternative 
 TriesAlternativeAs bits nodes p order levels levels' s attempt.Fits = (rest : Parts) → alternatives_path bits (part_then nodes p rest) order levels s ≡ []
 TriesAlternativeAs bits nodes p order levels levels' s attempt.Misses = Misses bits nodes p order levels s
 TriesAlternativeAs bits nodes p order levels levels' s attempt.Beside = (rest : Parts) → alternatives_path bits (part_then nodes p rest) order levels s ≡ 0 ∷ []
-TriesAlternativeAs bits nodes p order levels levels' s (attempt.Inside at) =
-    (rest : Parts) → alternatives_path bits (part_then nodes p rest) order levels s ≡ 0 ∷ path_of bits (type_of nodes p.node) (ordered p.order order) levels' at
+TriesAlternativeAs bits nodes p order levels levels' s attempt.Inside =
+    (rest : Parts) → alternatives_path bits (part_then nodes p rest) order levels s ≡ 0 ∷ path_of bits (type_of nodes p.node) (ordered p.order order) levels' s
 
 -- an alternative that doesn't match leaves its frame as it was
 abbrev pub LeavesFrame : (levels levels' : Levels) → Attempt → Type 0
 LeavesFrame levels levels' attempt.Fits = Unit {0}
 LeavesFrame levels levels' attempt.Misses = levels' ≡ levels
 LeavesFrame levels levels' attempt.Beside = Unit {0}
-LeavesFrame levels levels' (attempt.Inside at) = Unit {0}
+LeavesFrame levels levels' attempt.Inside = Unit {0}
 
 -- ---- a field of an integral struct
 
@@ -163,18 +163,18 @@ TriesDigitsAs nodes n s p levels levels' (tried.Inside at fault) = Somehow (Numb
 -- ---- an integral struct as a number
 
 -- it ends past the last bit, or is the number of its bits
-abbrev pub ReadsSite : Inner → IntegerType → (start : ℕ) → Site → (bits : List ℕ) → Type 0
-ReadsSite part number start site.Itself bits = length bits < start + number.width
-ReadsSite part number start (site.Beside place) bits = ⊥
-ReadsSite part number start (site.Inside place inner) bits = ⊥
-ReadsSite part number start (site.Number cut) bits = (start + number.width ≤ length bits) × (cut.digits ≡ number_at bits part.order start number.width)
+abbrev pub ReadsSite : Inner → IntegerType → Site → (bits : List ℕ) → Type 0
+ReadsSite whole number site.Itself bits = length bits < whole.start + number.width
+ReadsSite whole number (site.Beside place) bits = ⊥
+ReadsSite whole number (site.Inside place inner) bits = ⊥
+ReadsSite whole number (site.Number cut) bits = (whole.start + number.width ≤ length bits) × (cut.digits ≡ number_at bits whole.order whole.start number.width)
 
--- that number is read as the type at a place of the table, and starts below 2^63
-abbrev pub IsSmallSite : (node start : ℕ) → Site → Type 0
-IsSmallSite node start site.Itself = Unit {0}
-IsSmallSite node start (site.Beside place) = ⊥
-IsSmallSite node start (site.Inside place inner) = ⊥
-IsSmallSite node start (site.Number cut) = (cut.node ≡ node) × (cut.start ≡ start) × (cut.start < 2 ^ 63)
+-- that number is read as that type, and starts below 2^63
+abbrev pub IsSmallSite : Inner → Site → Type 0
+IsSmallSite whole site.Itself = Unit {0}
+IsSmallSite whole (site.Beside place) = ⊥
+IsSmallSite whole (site.Inside place inner) = ⊥
+IsSmallSite whole (site.Number cut) = (cut.node ≡ whole.node) × (cut.start ≡ whole.start) × (cut.start < 2 ^ 63)
 
 -- ---- what the calls say, from the state of the checker before the call and after it
 

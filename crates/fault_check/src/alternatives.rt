@@ -10,9 +10,8 @@ ghost use Rattle.fault_check.specs.Ways.{OnBits, EntersAlternative, GoesOn, Goes
 
 use crate::checker::Checker;
 use crate::part::{Entered, UnionStart, alternative_part};
-use crate::site::{Attempt, Ended, Inner, Site, Tried, stop_of};
+use crate::site::{Attempt, Ended, Site, Tried, stop_of};
 use bit_space::Space;
-use pickle_map::mapper::types::ordered;
 use pickle_meaning::faults::MapFault;
 use pickle_types::view::Part as Alternative;
 
@@ -63,15 +62,9 @@ impl Checker<'_> {
                 Attempt::Misses => (),
                 Attempt::Fits => return Ok(Site::Itself),
                 Attempt::Beside => return Ok(Site::Beside(place)),
-                Attempt::Inside(at) => {
-                    return Ok(Site::Inside(
-                        place,
-                        Inner {
-                            node: alternative.node,
-                            order: ordered(alternative.order, whole.order),
-                            start: at,
-                        },
-                    ));
+                Attempt::Inside => {
+                    let part = alternative_part(alternative, whole);
+                    return Ok(Site::Inside(place, part.inner));
                 }
             }
         }
@@ -104,12 +97,12 @@ impl Checker<'_> {
                     Ok(Attempt::Beside)
                 }
             }
-            Tried::Inside(at, fault) => {
+            Tried::Inside(_, fault) => {
                 if stop_of(fault).misses() {
                     self.store.clear_level();
                     Ok(Attempt::Misses)
                 } else {
-                    Ok(Attempt::Inside(at))
+                    Ok(Attempt::Inside)
                 }
             }
         }

@@ -145,14 +145,8 @@ impl<'a> Checker<'a> {
         match &nodes[inner.node].shape {
             Shape::Struct { pinned, fields, .. } => {
                 self.store.open_level();
-                self.enter_fields(
-                    struct_at(inner, *pinned),
-                    fields,
-                    place,
-                    fault,
-                    space,
-                    watch,
-                )
+                let whole = struct_at(inner, *pinned);
+                self.enter_fields(whole, fields, place, fault, space, watch)
             }
             Shape::Union { alternatives, .. } => {
                 self.store.open_level();

@@ -13,10 +13,9 @@ ghost use Rattle.fault_check.specs.Ways.{OnBits, GoesOn, IfFound};
 use crate::checker::Checker;
 use crate::mapped::{find_start, is_there, there_if};
 use crate::part::{Entered, StructStart, field_part};
-use crate::site::{Ended, Inner, Site, Tried, fault_in};
+use crate::site::{Ended, Site, Tried, fault_in};
 use bit_space::Space;
 use pickle_map::mapper::stop::Stop;
-use pickle_map::mapper::types::ordered;
 use pickle_map::mapper::watch::{Clause, Watch};
 use pickle_meaning::faults::MapFault;
 use pickle_types::view::{Field, Node, Resolved};
@@ -98,14 +97,8 @@ impl Checker<'_> {
                 Tried::Passed(end) => behind = end,
                 Tried::Beside(_) => return Ok(Site::Beside(place)),
                 Tried::Inside(start, _) => {
-                    return Ok(Site::Inside(
-                        place,
-                        Inner {
-                            node: field.node,
-                            order: ordered(field.order, whole.order),
-                            start,
-                        },
-                    ));
+                    let part = field_part(field, whole.order, start);
+                    return Ok(Site::Inside(place, part.inner));
                 }
             }
         }

@@ -108,9 +108,7 @@ impl Checker<'_> {
             Shape::Array(element, bound) => {
                 self.find_in_array(array_at(inner, *element, bound), space)
             }
-            Shape::Integral { number, .. } => {
-                read_site(inner, *number, inner.start as u64, space, self.meter)
-            },
+            Shape::Integral { number, .. } => read_site(inner, *number, space, self.meter),
             Shape::Integer(_) => Ok(Site::Itself),
             Shape::Offset(..) => Ok(Site::Itself),
             Shape::String => Ok(Site::Itself),
@@ -118,25 +116,24 @@ impl Checker<'_> {
     }
 }
 
-/// Reads an integral struct as a number, from the bit `start` on.
+/// Reads an integral struct as a number.
 fn read_site<S: Space>(
-    part: Inner,
+    inner: Inner,
     number: IntegerType,
-    start: u64,
     space: &mut S,
     meter: &mut Meter,
 ) -> Result<Site, Ended>
     requires width { IsWidth number }
-    requires start { part.start ≡ start }
-    requires inside { start ≤ 8 * (S.view space.old).len }
+    requires inside { inner.start ≤ 8 * (S.view space.old).len }
     ensures leaves { Leaves (S.view space.old) (S.view space.new) meter.old meter.new }
-    ensures is { IfFound (S.view space.old) (ReadsSite part number start) result }
-    ensures small { IfOk result (IsSmallSite part.node start) }
+    ensures is { IfFound (S.view space.old) (ReadsSite inner number) result }
+    ensures small { IfOk result (IsSmallSite inner) }
     ensures spends { SearchesRead (S.view space.old) (S.view space.new) meter.old meter.new result }
 {
-    match read_digits(space, start, number.width, part.order, meter) {
+    let start = inner.start as u64;
+    match read_digits(space, start, number.width, inner.order, meter) {
         Ok(digits) => Ok(Site::Number(Cut {
-            node: part.node,
+            node: inner.node,
             digits,
             start,
         })),

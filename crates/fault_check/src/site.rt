@@ -74,8 +74,8 @@ pub enum Attempt {
     Misses,
     /// Its constraint has a fault that ends the union.
     Beside,
-    /// Its type, which starts at this bit, has one.
-    Inside(u128),
+    /// Its type has one.
+    Inside,
 }
 
 /// The fault of a stop. An error if the stop isn't one of a type, but of the run.

@@ -9,7 +9,7 @@ pub returns-in-Ok-clause-is : goal.returns-in-Ok-clause-is
 returns-in-Ok-clause-is g c =
     λ bytes e.
     let whole = g.met.S.Space.whole c.args.space.now bytes e in
-    let ends : c.args.start + c.args.number.width ≤ length (bits_of bytes) = rw length-bits_of (omega (arith, whole, c.in-Ok.ensures.inside)) in
+    let ends : c.args.inner.start + c.args.number.width ≤ length (bits_of bytes) = rw length-bits_of (omega (arith, whole, c.in-Ok.ensures.inside)) in
     (ends, c.in-Ok.ensures.ok.exact (bits_of bytes) (ap (option_map bits_of) e))
 
 pub returns-in_ok-_fault-in-Err-clause-is : goal.returns-in_ok-_fault-in-Err-clause-is
@@ -17,7 +17,7 @@ returns-in_ok-_fault-in-Err-clause-is g c =
     λ bytes e.
     let whole = g.met.S.Space.whole c.args.space.now bytes e in
     let stopped = rw c.in_ok-_fault-in-Err.ensures at c.in-Err.ensures.err in
-    let past : length (bits_of bytes) < c.args.start + c.args.number.width = rw length-bits_of (omega (arith, whole, stopped.3)) in
+    let past : length (bits_of bytes) < c.args.inner.start + c.args.number.width = rw length-bits_of (omega (arith, whole, stopped.3)) in
     past
 
 pub returns-in-Ok-clause-spends : goal.returns-in-Ok-clause-spends

@@ -49,7 +49,7 @@ returns-in-Struct-clause-is g c =
     let whole = g.met.S.Space.whole c.args.space.now bytes e in
     let here : c.args.inner.start ≤ length (bits_of bytes) = rw length-bits_of (omega (arith, whole, c.if-from-inner.false, c.from.ensures, c.len.ensures)) in
     let opens = c.open_level.ensures.levels c.args.self.now.nodes.now in
-    let entered = rw (c.struct_at.ensures, opens, c.deref.ensures.value) at (c.enter_fields.ensures.is bytes e) in
+    let entered = rw (c.struct_at-whole.ensures, opens, c.deref.ensures.value) at (c.enter_fields.ensures.is bytes e) in
     enters_as (bits_of bytes) c.args.self.now.nodes.now c.args.inner.order c.args.inner.start (levels c.args.self.now.nodes.now c.args.self.now.store.now) (levels c.args.self.now.nodes.now c.enter_fields.new.self.store.now) c.args.place (fault_of c.args.fault) (type_of c.args.self.now.nodes.now c.args.inner.node) _ n.type_is c.enter_fields.result
     (enters_struct (bits_of bytes) c.args.self.now.nodes.now c.args.inner.order c.args.inner.start (levels c.args.self.now.nodes.now c.args.self.now.store.now) (levels c.args.self.now.nodes.now c.enter_fields.new.self.store.now) c.args.place (fault_of c.args.fault) here
     (title_at c.args.self.now.nodes.now c.args.inner.node) c.in-Struct.pinned (open_fields (type_of c.args.self.now.nodes.now) c.in-Struct.fields.items) c.enter_fields.result entered)

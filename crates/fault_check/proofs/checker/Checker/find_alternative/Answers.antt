@@ -44,7 +44,7 @@ returns-in-Inside-clause-is g c =
     let next = rw (← c.index-alternatives-place.is) at next in
     let before = rw next at (i.so_far bytes known) in
     let inside = rw (i.frame.lent.nodes, c.in-Inside.is, i.same) at (c.in_ok-try_alternative.ensures.is bytes (i.frame.left.bytes ∙ known)) in
-    rw c.ordered.ensures (alternative_found _ before (inside (open_parts (type_of c.args.self.now.nodes.now) (drop (c.loop-place.place + 1) c.args.alternatives.now))))
+    rw c.alternative_part-part.ensures.inner_is (alternative_found _ before (inside (open_parts (type_of c.args.self.now.nodes.now) (drop (c.loop-place.place + 1) c.args.alternatives.now))))
 
 pub returns-clause-is : goal.returns-clause-is
 returns-clause-is g c =
@@ -80,7 +80,7 @@ returns-in-Inside-clause-spends g c =
     let next = rw (← c.index-alternatives-place.is) at next in
     let spent = rw next at (i.spent bytes known) in
     let one = rw (i.frame.lent.nodes, c.in-Inside.is, i.same) at (c.in_ok-try_alternative.ensures.spends bytes (i.frame.left.bytes ∙ known) (open_parts (type_of c.args.self.now.nodes.now) (drop (c.loop-place.place + 1) c.args.alternatives.now))) in
-    rw c.ordered.ensures (omega (arith, spent, one))
+    rw c.alternative_part-part.ensures.inner_is (omega (arith, spent, one))
 
 pub loop-place-preserved : goal.loop-place-preserved
 loop-place-preserved g c =

@@ -33,7 +33,7 @@ returns-in-Inside-clause-is g c =
     let next = rw (← c.index-fields-place.is) at next in
     let before = rw next at (i.so_far bytes known) in
     let inside = rw (i.frame.lent.nodes, c.in-Inside.is) at (c.in_ok-end.ensures.is bytes (i.frame.left.bytes ∙ known)) in
-    rw c.ordered.ensures (field_found _ before (inside (open_fields (type_of c.args.self.now.nodes.now) (drop (c.loop-place.place + 1) c.args.fields.now))))
+    rw c.field_part-part.ensures.inner_is (field_found _ before (inside (open_fields (type_of c.args.self.now.nodes.now) (drop (c.loop-place.place + 1) c.args.fields.now))))
 
 pub returns-clause-is : goal.returns-clause-is
 returns-clause-is g c =
@@ -78,7 +78,7 @@ returns-in-Inside-clause-spends g c =
     let next = rw (← c.index-fields-place.is) at next in
     let spent = rw next at (i.spent bytes known) in
     let one = rw (i.frame.lent.nodes, c.in-Inside.is) at (c.in_ok-end.ensures.spends bytes (i.frame.left.bytes ∙ known) (open_fields (type_of c.args.self.now.nodes.now) (drop (c.loop-place.place + 1) c.args.fields.now))) in
-    rw c.ordered.ensures (omega (arith, spent, one))
+    rw c.field_part-part.ensures.inner_is (omega (arith, spent, one))
 
 pub returns-clause-spends : goal.returns-clause-spends
 returns-clause-spends g c =

@@ -100,7 +100,7 @@ returns-in-Array-clause-is g c =
 pub returns-in-Integral-clause-is : goal.returns-in-Integral-clause-is
 returns-in-Integral-clause-is g c =
     let n = integral_node c.args.self.now.nodes.now c.args.self.now.table c.args.inner.node c.requires.part.inside (level_count c.args.self.now.store.now) c.requires.part.deep c.index-nodes-inner.result _ _ _ c.in-Integral.is in
-    if_read (g.S.Space.view c.args.space.now) c.args.self.now.nodes.now (levels c.args.self.now.nodes.now c.args.self.now.store.now) c.args.inner c.in-Integral.number c.args.inner.start refl (ap number_type n.type_is) c.read_site.result c.read_site.ensures.small c.read_site.ensures.is
+    if_read (g.S.Space.view c.args.space.now) c.args.self.now.nodes.now (levels c.args.self.now.nodes.now c.args.self.now.store.now) c.args.inner c.in-Integral.number (ap number_type n.type_is) c.read_site.result c.read_site.ensures.small c.read_site.ensures.is
 
 pub returns-in-Integer-clause-is : goal.returns-in-Integer-clause-is
 returns-in-Integer-clause-is g c =
@@ -155,5 +155,5 @@ returns-in-Integral-clause-spends g c =
     λ bytes known.
     let whole = g.met.S.Space.whole c.args.space.now bytes known in
     let here : c.args.inner.start ≤ length (bits_of bytes) = rw length-bits_of (omega (arith, whole, c.if-from-inner.false, c.from.ensures, c.len.ensures)) in
-    if_read_search _ c.args.self.now.meter.now.limit c.args.self.now.meter.now.steps c.read_site.new.meter.steps (bits_of bytes) c.args.self.now.nodes.now (levels c.args.self.now.nodes.now c.args.self.now.store.now) c.args.inner _ c.in-Integral.number _ c.args.inner.start refl here n.type_is
-    c.read_site.result c.read_site.ensures.small (on_known (g.S.Space.view c.args.space.now) (ReadsSite c.args.inner c.in-Integral.number c.args.inner.start) c.read_site.result c.read_site.ensures.is bytes known) (c.read_site.ensures.spends bytes known)
+    if_read_search _ c.args.self.now.meter.now.limit c.args.self.now.meter.now.steps c.read_site.new.meter.steps (bits_of bytes) c.args.self.now.nodes.now (levels c.args.self.now.nodes.now c.args.self.now.store.now) c.args.inner _ c.in-Integral.number _ here n.type_is
+    c.read_site.result c.read_site.ensures.small (on_known (g.S.Space.view c.args.space.now) (ReadsSite c.args.inner c.in-Integral.number) c.read_site.result c.read_site.ensures.is bytes known) (c.read_site.ensures.spends bytes known)

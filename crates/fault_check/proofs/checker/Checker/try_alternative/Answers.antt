@@ -33,14 +33,14 @@ returns-then-misses-2-clause-is g c =
     λ bytes known.
     let h = rw (c.alternative_part.ensures.inner_is, c.alternative_part.ensures.clause_is, c.in-Inside.is) at (c.in_ok-try_part.ensures.is bytes known) in
     faulty_misses (bits_of bytes) c.args.self.now.nodes.now c.args.alternative.now c.args.whole.order (levels c.args.self.now.nodes.now c.args.self.now.store.now) (levels c.args.self.now.nodes.now c.try_part.new.self.store.now) c.args.whole.start
-    (fault_of c.in-Inside.fault) c.in-Inside.at h (sym (rw c.stop_of-in-Inside.ensures at c.misses-in-Inside.ensures) ∙ c.if-misses-2.true)
+    (fault_of c.in-Inside.fault) c.in-Inside.field-0 h (sym (rw c.stop_of-in-Inside.ensures at c.misses-in-Inside.ensures) ∙ c.if-misses-2.true)
 
 pub returns-else-misses-2-clause-is : goal.returns-else-misses-2-clause-is
 returns-else-misses-2-clause-is g c =
     λ bytes known.
     let h = rw (c.alternative_part.ensures.inner_is, c.alternative_part.ensures.clause_is, c.in-Inside.is) at (c.in_ok-try_part.ensures.is bytes known) in
     faulty_inside (bits_of bytes) c.args.self.now.nodes.now c.args.alternative.now c.args.whole.order (levels c.args.self.now.nodes.now c.args.self.now.store.now) (levels c.args.self.now.nodes.now c.try_part.new.self.store.now) c.args.whole.start
-    (fault_of c.in-Inside.fault) c.in-Inside.at h (sym (rw c.stop_of-in-Inside.ensures at c.misses-in-Inside.ensures) ∙ c.if-misses-2.false)
+    (fault_of c.in-Inside.fault) c.in-Inside.field-0 h (sym (rw c.stop_of-in-Inside.ensures at c.misses-in-Inside.ensures) ∙ c.if-misses-2.false)
 
 pub returns-in-Passed-clause-spends : goal.returns-in-Passed-clause-spends
 returns-in-Passed-clause-spends g c =
@@ -70,7 +70,7 @@ returns-then-misses-2-clause-spends g c =
     λ bytes known rest.
     let h = rw (c.alternative_part.ensures.inner_is, c.alternative_part.ensures.clause_is, c.in-Inside.is) at (c.in_ok-try_part.ensures.is bytes known) in
     let one = rw (c.alternative_part.ensures.inner_is, c.alternative_part.ensures.clause_is) at (c.in_ok-try_part.ensures.spends bytes known) in
-    let least = faulty_after (bits_of bytes) c.args.self.now.nodes.now c.args.alternative.now c.args.whole.order (levels c.args.self.now.nodes.now c.args.self.now.store.now) (levels c.args.self.now.nodes.now c.try_part.new.self.store.now) c.args.whole.start rest (fault_of c.in-Inside.fault) c.in-Inside.at h (sym (rw c.stop_of-in-Inside.ensures at c.misses-in-Inside.ensures) ∙ c.if-misses-2.true) in
+    let least = faulty_after (bits_of bytes) c.args.self.now.nodes.now c.args.alternative.now c.args.whole.order (levels c.args.self.now.nodes.now c.args.self.now.store.now) (levels c.args.self.now.nodes.now c.try_part.new.self.store.now) c.args.whole.start rest (fault_of c.in-Inside.fault) c.in-Inside.field-0 h (sym (rw c.stop_of-in-Inside.ensures at c.misses-in-Inside.ensures) ∙ c.if-misses-2.true) in
     omega (arith, one, least)
 
 pub returns-else-misses-2-clause-spends : goal.returns-else-misses-2-clause-spends
@@ -78,7 +78,7 @@ returns-else-misses-2-clause-spends g c =
     λ bytes known rest.
     let h = rw (c.alternative_part.ensures.inner_is, c.alternative_part.ensures.clause_is, c.in-Inside.is) at (c.in_ok-try_part.ensures.is bytes known) in
     let one = rw (c.alternative_part.ensures.inner_is, c.alternative_part.ensures.clause_is) at (c.in_ok-try_part.ensures.spends bytes known) in
-    let least = inside_after (bits_of bytes) c.args.self.now.nodes.now c.args.alternative.now c.args.whole.order (levels c.args.self.now.nodes.now c.args.self.now.store.now) (levels c.args.self.now.nodes.now c.try_part.new.self.store.now) c.args.whole.start rest (fault_of c.in-Inside.fault) c.in-Inside.at h (sym (rw c.stop_of-in-Inside.ensures at c.misses-in-Inside.ensures) ∙ c.if-misses-2.false) in
+    let least = inside_after (bits_of bytes) c.args.self.now.nodes.now c.args.alternative.now c.args.whole.order (levels c.args.self.now.nodes.now c.args.self.now.store.now) (levels c.args.self.now.nodes.now c.try_part.new.self.store.now) c.args.whole.start rest (fault_of c.in-Inside.fault) c.in-Inside.field-0 h (sym (rw c.stop_of-in-Inside.ensures at c.misses-in-Inside.ensures) ∙ c.if-misses-2.false) in
     omega (arith, one, least)
 
 pub returns-in_err-try_part-clause-spends : goal.returns-in_err-try_part-clause-spends
