@@ -9,9 +9,10 @@ use Rattle.pickle_map.specs.declared.mapper.stop.Stop.{Stop}
 use Rattle.pickle_map.specs.Mappable.{IsFieldOf, IsPartOf}
 use Rattle.pickle_map.specs.Framed as framed
 use Rattle.pickle_meaning.specs.Values.{outer_of}
-use Rattle.value_store.specs.Slots.{levels, level_count}
+use Rattle.value_store.specs.Slots.{level_count}
 use Rattle.fault_check.specs.declared.checker.Checker.{Checker}
 use Rattle.fault_check.specs.declared.part.Part.{Part}
+use Rattle.fault_check.specs.Frames.{frames_of}
 use Rattle.fault_check.specs.Sites.{MayEnter}
 use Rattle.fault_check.specs.Ways.{Leaves, IsPart}
 
@@ -76,4 +77,4 @@ FitsType checker node digits = digits < 2 ^ width_in (number_type (type_of check
 
 -- the innermost frame is empty
 abbrev pub IsFresh : Checker → Type 0
-IsFresh checker = levels checker.nodes.now checker.store.now ≡ [] ∷ outer_of (levels checker.nodes.now checker.store.now)
+IsFresh checker = frames_of checker ≡ [] ∷ outer_of (frames_of checker)

@@ -20,6 +20,7 @@ use Rattle.fault_check.specs.declared.part.StructStart.{StructStart}
 use Rattle.fault_check.specs.declared.part.UnionStart.{UnionStart}
 use Rattle.fault_check.specs.declared.site.Cut.{Cut}
 use Rattle.fault_check.specs.declared.site.Inner.{Inner}
+use Rattle.fault_check.specs.Frames.{frames_after, frames_of}
 use Rattle.fault_check.specs.Digits.{ReachesNumber}
 use Rattle.fault_check.specs.Ways.{Comes, Settled, Enters, EntersField, InPart, InType, HasFault, constraint_of, fault_of}
 use Rattle.fault_parts.specs.Arises.{Path, Arises, FieldsArise, AlternativesArise, NumberArises}
@@ -36,54 +37,54 @@ Refuses part fault store = (nodes : List Node) → constraint (constraint_of par
 module _ (checker : Checker) where
   -- the fault arises in a part, with its constraint, at the end of a path
   abbrev pub PartHas : Part → MapFault → Path → (bits : List ℕ) → Type 0
-  PartHas part fault path bits = InPart bits checker.nodes.now (levels checker.nodes.now checker.store.now) part (fault_of fault) path
+  PartHas part fault path bits = InPart bits checker.nodes.now (frames_of checker) part (fault_of fault) path
 
   -- it arises in a type
   abbrev pub TypeHas : Inner → MapFault → Path → (bits : List ℕ) → Type 0
-  TypeHas inner fault path bits = InType bits checker.nodes.now (levels checker.nodes.now checker.store.now) inner (fault_of fault) path
+  TypeHas inner fault path bits = InType bits checker.nodes.now (frames_of checker) inner (fault_of fault) path
 
   -- a type means the fault
   abbrev pub MeansFault : Inner → MapFault → (bits : List ℕ) → Type 0
-  MeansFault inner fault bits = HasFault bits checker.nodes.now (levels checker.nodes.now checker.store.now) inner (fault_of fault)
+  MeansFault inner fault bits = HasFault bits checker.nodes.now (frames_of checker) inner (fault_of fault)
 
   -- a number that is read as a type has the fault
   abbrev pub NumberHas : Cut → MapFault → Path → Type 0
   NumberHas cut fault path =
-      NumberArises (type_of checker.nodes.now cut.node) cut.digits (levels checker.nodes.now checker.store.now) cut.start (fault_of fault) path
+      NumberArises (type_of checker.nodes.now cut.node) cut.digits (frames_of checker) cut.start (fault_of fault) path
 
 module _ (old new : Checker) where
   -- a type was entered at a place
   abbrev pub EntersType : Inner → (place : ℕ) → MapFault → Entered → (bits : List ℕ) → Type 0
   EntersType inner place fault entered bits =
-      Enters bits old.nodes.now (levels old.nodes.now new.store.now) place (fault_of fault) (InType bits old.nodes.now (levels old.nodes.now old.store.now) inner (fault_of fault)) entered
+      Enters bits old.nodes.now (frames_after old new) place (fault_of fault) (InType bits old.nodes.now (frames_of old) inner (fault_of fault)) entered
 
   -- the fields of a struct were entered at a place
   abbrev pub EntersStruct : StructStart → List Field → (place : ℕ) → MapFault → Entered → (bits : List ℕ) → Type 0
   EntersStruct whole fields place fault entered bits =
-      Enters bits old.nodes.now (levels old.nodes.now new.store.now) place (fault_of fault)
-      (FieldsArise bits whole.pinned whole.start whole.order (open_fields (type_of old.nodes.now) fields) (levels old.nodes.now old.store.now) (fault_of fault)) entered
+      Enters bits old.nodes.now (frames_after old new) place (fault_of fault)
+      (FieldsArise bits whole.pinned whole.start whole.order (open_fields (type_of old.nodes.now) fields) (frames_of old) (fault_of fault)) entered
 
   -- the alternatives of a union were entered at a place
   abbrev pub EntersUnion : UnionStart → List Alternative → (place : ℕ) → MapFault → Entered → (bits : List ℕ) → Type 0
   EntersUnion whole alternatives place fault entered bits =
-      Enters bits old.nodes.now (levels old.nodes.now new.store.now) place (fault_of fault)
-      (AlternativesArise bits whole.order (open_parts (type_of old.nodes.now) alternatives) (levels old.nodes.now old.store.now) whole.start (fault_of fault)) entered
+      Enters bits old.nodes.now (frames_after old new) place (fault_of fault)
+      (AlternativesArise bits whole.order (open_parts (type_of old.nodes.now) alternatives) (frames_of old) whole.start (fault_of fault)) entered
 
   -- a field was entered, after those that are absent or values
   abbrev pub EntersOne : StructStart → Field → (behind : ℕ) → MapFault → Entered → Type 0
   EntersOne whole field behind fault entered =
-      EntersField old.nodes.now whole.pinned whole.start whole.order field (levels old.nodes.now old.store.now) behind (fault_of fault) entered
+      EntersField old.nodes.now whole.pinned whole.start whole.order field (frames_of old) behind (fault_of fault) entered
 
   -- a type was mapped
   abbrev pub MapsType : Inner → Result ℕ Stop → (bits : List ℕ) → Type 0
   MapsType inner result bits =
-      Comes (Means bits (type_of old.nodes.now inner.node) inner.order (levels old.nodes.now old.store.now) inner.start)
-      (levels old.nodes.now old.store.now) (levels old.nodes.now new.store.now) result
+      Comes (Means bits (type_of old.nodes.now inner.node) inner.order (frames_of old) inner.start)
+      (frames_of old) (frames_after old new) result
 
   -- the fields of a number before a place were stored, and so many binary digits are left
   abbrev pub Reaches : List Alternative → (place digits width start left : ℕ) → Type 0
   Reaches fields place digits width start left =
-      ReachesNumber old.nodes.now digits start fields width (levels old.nodes.now old.store.now) place (levels old.nodes.now new.store.now) left
+      ReachesNumber old.nodes.now digits start fields width (frames_of old) place (frames_after old new) left
 
 -- a constraint on the last value, and a condition, were evaluated, whatever the names of the table are
 abbrev pub Checks : Option Term → Held → (place : ℕ) → Result (Unit {0}) Stop → Type 0

@@ -14,6 +14,7 @@ use Rattle.fault_check.specs.declared.part.Elements.{Elements as All}
 use Rattle.fault_check.specs.declared.part.Entered.{Entered}
 use Rattle.fault_check.specs.declared.part.Entered.TheVariants as entered
 use Rattle.fault_check.specs.declared.site.Inner.{Inner}
+use Rattle.fault_check.specs.Frames.{frames_after, frames_of}
 use Rattle.fault_check.specs.Parts.{IsBare}
 use Rattle.fault_check.specs.Ways.{fault_of, Enters}
 use Rattle.fault_parts.specs.Arises.{Path, Arises, ElementsArise}
@@ -50,30 +51,30 @@ module _ (checker : Checker) where
   -- the fault arises in the array at the end of a path
   abbrev pub ArrayHas : Array → MapFault → Path → (bits : List ℕ) → Type 0
   ArrayHas array fault path bits =
-      Arises bits (ArrayOf (type_of checker.nodes.now array.element) (bound_of array.bound.now)) array.order (levels checker.nodes.now checker.store.now) array.start (fault_of fault) path
+      Arises bits (ArrayOf (type_of checker.nodes.now array.element) (bound_of array.bound.now)) array.order (frames_of checker) array.start (fault_of fault) path
 
   -- the elements of an array end past its size
   abbrev pub OutgrowsSize : All → (bits : List ℕ) → Type 0
-  OutgrowsSize all bits = Outgrows bits (type_of checker.nodes.now all.element) all.order all.start all.extent (levels checker.nodes.now checker.store.now)
+  OutgrowsSize all bits = Outgrows bits (type_of checker.nodes.now all.element) all.order all.start all.extent (frames_of checker)
 
 module _ (old new : Checker) where
   -- an array was entered at a place
   abbrev pub EntersArray : Array → (place : ℕ) → MapFault → Entered → (bits : List ℕ) → Type 0
   EntersArray array place fault entered bits =
-      Enters bits old.nodes.now (levels old.nodes.now new.store.now) place (fault_of fault) (λ path. ArrayHas old array fault path bits) entered
+      Enters bits old.nodes.now (frames_after old new) place (fault_of fault) (λ path. ArrayHas old array fault path bits) entered
 
   -- its elements were entered at a place
   abbrev pub EntersElements : All → (place : ℕ) → MapFault → Entered → (bits : List ℕ) → Type 0
   EntersElements all place fault entered bits =
-      Enters bits old.nodes.now (levels old.nodes.now new.store.now) place (fault_of fault)
-      (ElementsArise bits (type_of old.nodes.now all.element) all.order all.start all.extent (levels old.nodes.now old.store.now) (fault_of fault)) entered
+      Enters bits old.nodes.now (frames_after old new) place (fault_of fault)
+      (ElementsArise bits (type_of old.nodes.now all.element) all.order all.start all.extent (frames_of old) (fault_of fault)) entered
 
   -- so many elements were stored, if the call returns their end
   abbrev pub StoresElements : All → (count : ℕ) → Option ℕ → (bits : List ℕ) → Type 0
   StoresElements all count end bits =
-      IfSome end (ElementsTo bits (type_of old.nodes.now all.element) all.order all.start all.extent (levels old.nodes.now old.store.now) (levels old.nodes.now new.store.now) count)
+      IfSome end (ElementsTo bits (type_of old.nodes.now all.element) all.order all.start all.extent (frames_of old) (frames_after old new) count)
 
   -- an element was found to be without bits, or is entered
   abbrev pub FindsEmpty : Inner → Entered → (bits : List ℕ) → Type 0
   FindsEmpty element entered bits =
-      IsEmpty bits (type_of old.nodes.now element.node) element (levels old.nodes.now old.store.now) (levels old.nodes.now new.store.now) entered
+      IsEmpty bits (type_of old.nodes.now element.node) element (frames_of old) (frames_after old new) entered

@@ -1,3 +1,4 @@
+pub mod Frames
 pub mod Ways
 pub mod Parts
 pub mod Digits

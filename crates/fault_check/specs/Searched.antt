@@ -40,6 +40,7 @@ use Rattle.fault_check.specs.declared.site.Site.{Site}
 use Rattle.fault_check.specs.declared.site.Site.TheVariants as site
 use Rattle.fault_check.specs.declared.site.Tried.{Tried}
 use Rattle.fault_check.specs.declared.site.Tried.TheVariants as tried
+use Rattle.fault_check.specs.Frames.{frames_after, frames_of}
 use Rattle.fault_check.specs.AtWork.{AddsToLevel, LevelStays, MapFrame}
 use Rattle.fault_check.specs.Calls.{MapsType}
 use Rattle.fault_check.specs.Ways.{OnBits, constraint_of, field_then, part_then}
@@ -233,11 +234,15 @@ module _ (space space' : SpaceView) (old new : Checker) where
   abbrev pub SearchesOn : {A : Type 0} → (whole : List ℕ → ℕ) → (left : List ℕ → A → ℕ) → Result A Ended → Type 0
   SearchesOn whole left result = OnBits space (λ bits. SearchesReading space space' old.meter.now new.meter.now (whole bits) (left bits) result)
 
+  -- the same, up to where a fault arises
+  abbrev pub SearchesUpTo : (whole : List ℕ → ℕ) → Result Site Ended → Type 0
+  SearchesUpTo whole = SearchesOn whole (λ bits. site_left bits old.nodes.now (frames_after old new))
+
   -- a type was mapped
   abbrev pub SpendsType : Inner → Result ℕ Stop → Type 0
   SpendsType inner result =
       OnBits space (λ bits. SpendsReading space space' old.meter.now new.meter.now result
-      (steps_of bits (plan (length bits) (type_of old.nodes.now inner.node) inner.order (levels old.nodes.now old.store.now) inner.start)))
+      (steps_of bits (plan (length bits) (type_of old.nodes.now inner.node) inner.order (frames_of old) inner.start)))
 
   -- all that is known of a type that was mapped
   pub record MapsInner (inner : Inner) (result : Result ℕ Stop) : Type 0 where
@@ -251,50 +256,45 @@ module _ (space space' : SpaceView) (old new : Checker) where
   -- it was tried, with its constraint
   abbrev pub SearchesPart : Part → Result Tried Ended → Type 0
   SearchesPart part =
-      SearchesOn (λ bits. part_steps bits (type_of old.nodes.now part.inner.node) (constraint_of part) part.inner.order (levels old.nodes.now old.store.now) part.inner.start)
+      SearchesOn (λ bits. part_steps bits (type_of old.nodes.now part.inner.node) (constraint_of part) part.inner.order (frames_of old) part.inner.start)
       (λ bits. none_left)
 
   -- the search in a type, and one step of it
   abbrev pub SearchesIn : Inner → Result (Unit {0}) Ended → Type 0
-  SearchesIn inner = SearchesOn (λ bits. search_in bits old.nodes.now (levels old.nodes.now old.store.now) inner) (λ bits. none_left)
+  SearchesIn inner = SearchesOn (λ bits. search_in bits old.nodes.now (frames_of old) inner) (λ bits. none_left)
 
   abbrev pub SearchesSite : Inner → Result Site Ended → Type 0
-  SearchesSite inner =
-      SearchesOn (λ bits. search_in bits old.nodes.now (levels old.nodes.now old.store.now) inner) (λ bits. site_left bits old.nodes.now (levels old.nodes.now new.store.now))
+  SearchesSite inner = SearchesUpTo (λ bits. search_in bits old.nodes.now (frames_of old) inner)
 
   -- the fields of a struct, and one of them
   abbrev pub SearchesStruct : StructStart → List Field → Result Site Ended → Type 0
   SearchesStruct whole fields =
-      SearchesOn (λ bits. fields_search bits whole.pinned whole.start (open_fields (type_of old.nodes.now) fields) whole.order (levels old.nodes.now old.store.now) whole.start)
-      (λ bits. site_left bits old.nodes.now (levels old.nodes.now new.store.now))
+      SearchesUpTo (λ bits. fields_search bits whole.pinned whole.start (open_fields (type_of old.nodes.now) fields) whole.order (frames_of old) whole.start)
 
   abbrev pub SearchesField : StructStart → Field → (behind : ℕ) → Result Tried Ended → Type 0
   SearchesField whole field behind result =
       OnBits space (λ bits. (rest : Fields) → SearchesReading space space' old.meter.now new.meter.now
-      (fields_search bits whole.pinned whole.start (field_then old.nodes.now field rest) whole.order (levels old.nodes.now old.store.now) behind)
-      (field_left bits old.nodes.now whole.pinned whole.start whole.order field rest (levels old.nodes.now new.store.now)) result)
+      (fields_search bits whole.pinned whole.start (field_then old.nodes.now field rest) whole.order (frames_of old) behind)
+      (field_left bits old.nodes.now whole.pinned whole.start whole.order field rest (frames_after old new)) result)
 
   -- the alternatives of a union, and one of them
   abbrev pub SearchesUnion : UnionStart → List Alternative → Result Site Ended → Type 0
   SearchesUnion whole alternatives =
-      SearchesOn (λ bits. alternatives_search bits (open_parts (type_of old.nodes.now) alternatives) whole.order (levels old.nodes.now old.store.now) whole.start)
-      (λ bits. site_left bits old.nodes.now (levels old.nodes.now new.store.now))
+      SearchesUpTo (λ bits. alternatives_search bits (open_parts (type_of old.nodes.now) alternatives) whole.order (frames_of old) whole.start)
 
   abbrev pub SearchesOne : UnionStart → Alternative → Result Attempt Ended → Type 0
   SearchesOne whole alternative result =
       OnBits space (λ bits. (rest : Parts) → SearchesReading space space' old.meter.now new.meter.now
-      (alternatives_search bits (part_then old.nodes.now alternative rest) whole.order (levels old.nodes.now old.store.now) whole.start)
-      (alternative_left bits old.nodes.now whole.order alternative rest (levels old.nodes.now old.store.now) (levels old.nodes.now new.store.now) whole.start) result)
+      (alternatives_search bits (part_then old.nodes.now alternative rest) whole.order (frames_of old) whole.start)
+      (alternative_left bits old.nodes.now whole.order alternative rest (frames_of old) (frames_after old new) whole.start) result)
 
   -- an array, and its elements
   abbrev pub SearchesArray : Array → Result Site Ended → Type 0
   SearchesArray array =
-      SearchesOn (λ bits. search_of bits (ArrayOf (type_of old.nodes.now array.element) (bound_of array.bound.now)) array.order (levels old.nodes.now old.store.now) array.start)
-      (λ bits. site_left bits old.nodes.now (levels old.nodes.now new.store.now))
+      SearchesUpTo (λ bits. search_of bits (ArrayOf (type_of old.nodes.now array.element) (bound_of array.bound.now)) array.order (frames_of old) array.start)
 
   abbrev pub SearchesElements : Elements → Result Site Ended → Type 0
-  SearchesElements all =
-      SearchesOn (λ bits. search_among bits old.nodes.now (levels old.nodes.now old.store.now) all) (λ bits. site_left bits old.nodes.now (levels old.nodes.now new.store.now))
+  SearchesElements all = SearchesUpTo (λ bits. search_among bits old.nodes.now (frames_of old) all)
 
 -- an expression beside a type was evaluated, whatever the names of the table are
 abbrev pub SpendsClause : {A : Type 0} → (meter meter' : Meter) → Held → Option (Box Resolved Global) → Result A Stop → Type 0
@@ -316,21 +316,21 @@ module _ (old new : Checker) where
   -- a number was stored as a type, and tried with its constraint as a field
   abbrev pub SpendsCut : Cut → Result (Unit {0}) Stop → Type 0
   SpendsCut cut result =
-      SpendsAlone old.meter.now new.meter.now result (1 + steps_of [] (number_plan (type_of old.nodes.now cut.node) cut.digits (levels old.nodes.now old.store.now) cut.start))
+      SpendsAlone old.meter.now new.meter.now result (1 + steps_of [] (number_plan (type_of old.nodes.now cut.node) cut.digits (frames_of old) cut.start))
 
   abbrev pub SearchesNumber : Alternative → (digits start : ℕ) → Result Tried Ended → Type 0
   SearchesNumber p digits start result =
-      SearchesAlone old.meter.now new.meter.now (number_steps (type_of old.nodes.now p.node) (optional_term p.constraint) digits (levels old.nodes.now old.store.now) start) none_left result
+      SearchesAlone old.meter.now new.meter.now (number_steps (type_of old.nodes.now p.node) (optional_term p.constraint) digits (frames_of old) start) none_left result
 
   -- the fields of a number
   abbrev pub SearchesDigits : List Alternative → (digits width start : ℕ) → Result Digits Ended → Type 0
   SearchesDigits fields digits width start result =
-      SearchesAlone old.meter.now new.meter.now (digits_search (open_parts (type_of old.nodes.now) fields) digits width (levels old.nodes.now old.store.now) start)
-      (digits_left old.nodes.now (levels old.nodes.now new.store.now)) result
+      SearchesAlone old.meter.now new.meter.now (digits_search (open_parts (type_of old.nodes.now) fields) digits width (frames_of old) start)
+      (digits_left old.nodes.now (frames_after old new)) result
 
   -- the search in a number
   abbrev pub SearchesCut : Cut → Result (Unit {0}) Ended → Type 0
-  SearchesCut cut result = SearchesAlone old.meter.now new.meter.now (search_cut old.nodes.now (levels old.nodes.now old.store.now) cut) none_left result
+  SearchesCut cut result = SearchesAlone old.meter.now new.meter.now (search_cut old.nodes.now (frames_of old) cut) none_left result
 
 -- Why a search ended for the part of a type, from the bit `start` on: where the bytes are known, fewer steps were left
 -- than it takes, a read failed, or an allocation did.

@@ -36,6 +36,7 @@ use Rattle.fault_check.specs.declared.site.Site.{Site}
 use Rattle.fault_check.specs.declared.site.Site.TheVariants as site
 use Rattle.fault_check.specs.declared.site.Tried.{Tried}
 use Rattle.fault_check.specs.declared.site.Tried.TheVariants as tried
+use Rattle.fault_check.specs.Frames.{frames_after, frames_of}
 use Rattle.fault_check.specs.Digits.{KeepsNumber, PassesNumber, RefusesNumber}
 use Rattle.fault_check.specs.Ways.{OnBits, PassesField, Misses, constraint_of, fault_of, field_then, part_then}
 
@@ -180,11 +181,11 @@ IsSmallSite whole (site.Number cut) = (cut.node ≡ whole.node) × (cut.start �
 
 -- a path grew by the path to where the fault of a type arises
 abbrev pub GoesAlong : SpaceView → Checker → Inner → (path path' : Path) → Type 0
-GoesAlong space checker inner path path' = OnBits space (λ bits. path' ≡ path ++ path_in bits checker.nodes.now (levels checker.nodes.now checker.store.now) inner)
+GoesAlong space checker inner path path' = OnBits space (λ bits. path' ≡ path ++ path_in bits checker.nodes.now (frames_of checker) inner)
 
 -- the same, into a number
 abbrev pub GoesInto : Checker → Cut → (path path' : Path) → Type 0
-GoesInto checker cut path path' = path' ≡ path ++ path_cut checker.nodes.now (levels checker.nodes.now checker.store.now) cut
+GoesInto checker cut path path' = path' ≡ path ++ path_cut checker.nodes.now (frames_of checker) cut
 
 -- the part that was found may be mapped
 abbrev pub MayFollow : Checker → Site → Type 0
@@ -192,52 +193,52 @@ MayFollow checker found = MayGoOn checker.nodes.now (level_count checker.store.n
 
 module _ (old new : Checker) where
   abbrev pub FindsSite : Inner → Site → (bits : List ℕ) → Type 0
-  FindsSite inner found bits = IsSite bits old.nodes.now (levels old.nodes.now new.store.now) (path_in bits old.nodes.now (levels old.nodes.now old.store.now) inner) found
+  FindsSite inner found bits = IsSite bits old.nodes.now (frames_after old new) (path_in bits old.nodes.now (frames_of old) inner) found
 
   abbrev pub FindsField : StructStart → List Field → Site → (bits : List ℕ) → Type 0
   FindsField whole fields found bits =
-      IsSite bits old.nodes.now (levels old.nodes.now new.store.now)
-      (fields_path bits whole.pinned whole.start (open_fields (type_of old.nodes.now) fields) whole.order (levels old.nodes.now old.store.now) whole.start) found
+      IsSite bits old.nodes.now (frames_after old new)
+      (fields_path bits whole.pinned whole.start (open_fields (type_of old.nodes.now) fields) whole.order (frames_of old) whole.start) found
 
   abbrev pub FindsAlternative : UnionStart → List Alternative → Site → (bits : List ℕ) → Type 0
   FindsAlternative whole alternatives found bits =
-      IsSite bits old.nodes.now (levels old.nodes.now new.store.now)
-      (alternatives_path bits (open_parts (type_of old.nodes.now) alternatives) whole.order (levels old.nodes.now old.store.now) whole.start) found
+      IsSite bits old.nodes.now (frames_after old new)
+      (alternatives_path bits (open_parts (type_of old.nodes.now) alternatives) whole.order (frames_of old) whole.start) found
 
   abbrev pub FindsInArray : Array → Site → (bits : List ℕ) → Type 0
   FindsInArray array found bits =
-      IsSite bits old.nodes.now (levels old.nodes.now new.store.now)
-      (path_of bits (ArrayOf (type_of old.nodes.now array.element) (bound_of array.bound.now)) array.order (levels old.nodes.now old.store.now) array.start) found
+      IsSite bits old.nodes.now (frames_after old new)
+      (path_of bits (ArrayOf (type_of old.nodes.now array.element) (bound_of array.bound.now)) array.order (frames_of old) array.start) found
 
   abbrev pub FindsElement : Elements → Site → (bits : List ℕ) → Type 0
-  FindsElement all found bits = IsSite bits old.nodes.now (levels old.nodes.now new.store.now) (path_among bits old.nodes.now (levels old.nodes.now old.store.now) all) found
+  FindsElement all found bits = IsSite bits old.nodes.now (frames_after old new) (path_among bits old.nodes.now (frames_of old) all) found
 
   abbrev pub FindsDigits : List Alternative → (digits width start : ℕ) → Digits → Type 0
   FindsDigits fields digits width start found =
-      AreDigits old.nodes.now (levels old.nodes.now new.store.now)
-      (digits_path (open_parts (type_of old.nodes.now) fields) digits width (levels old.nodes.now old.store.now) start) found
+      AreDigits old.nodes.now (frames_after old new)
+      (digits_path (open_parts (type_of old.nodes.now) fields) digits width (frames_of old) start) found
 
   abbrev pub TriesPart : Part → Tried → (bits : List ℕ) → Type 0
   TriesPart part found bits =
-      TriesAs bits (type_of old.nodes.now part.inner.node) (constraint_of part) part.inner.order (levels old.nodes.now old.store.now) (levels old.nodes.now new.store.now) part.inner.start found
+      TriesAs bits (type_of old.nodes.now part.inner.node) (constraint_of part) part.inner.order (frames_of old) (frames_after old new) part.inner.start found
 
   abbrev pub TriesField : StructStart → Field → (behind : ℕ) → Tried → (bits : List ℕ) → Type 0
   TriesField whole field behind found bits =
-      TriesFieldAs bits old.nodes.now whole.pinned whole.start whole.order field (levels old.nodes.now old.store.now) (levels old.nodes.now new.store.now) behind found
+      TriesFieldAs bits old.nodes.now whole.pinned whole.start whole.order field (frames_of old) (frames_after old new) behind found
 
   abbrev pub TriesAlternative : UnionStart → Alternative → Attempt → (bits : List ℕ) → Type 0
   TriesAlternative whole alternative found bits =
-      TriesAlternativeAs bits old.nodes.now alternative whole.order (levels old.nodes.now old.store.now) (levels old.nodes.now new.store.now) whole.start found
+      TriesAlternativeAs bits old.nodes.now alternative whole.order (frames_of old) (frames_after old new) whole.start found
 
   abbrev pub LeavesLevels : Attempt → Type 0
-  LeavesLevels found = LeavesFrame (levels old.nodes.now old.store.now) (levels old.nodes.now new.store.now) found
+  LeavesLevels found = LeavesFrame (frames_of old) (frames_after old new) found
 
   -- a number was stored as a type, or stopped, and was tried as a field
   abbrev pub StoresCut : Cut → Type 0
-  StoresCut cut = KeepsNumber (type_of old.nodes.now cut.node) cut.digits cut.start (levels old.nodes.now old.store.now) (levels old.nodes.now new.store.now)
+  StoresCut cut = KeepsNumber (type_of old.nodes.now cut.node) cut.digits cut.start (frames_of old) (frames_after old new)
 
   abbrev pub StopsCut : Cut → Stop → Type 0
-  StopsCut cut told = StopsNumber (type_of old.nodes.now cut.node) cut.digits cut.start (levels old.nodes.now old.store.now) (levels old.nodes.now new.store.now) told
+  StopsCut cut told = StopsNumber (type_of old.nodes.now cut.node) cut.digits cut.start (frames_of old) (frames_after old new) told
 
   abbrev pub TriesDigits : Alternative → (digits start : ℕ) → Tried → Type 0
-  TriesDigits field digits start found = TriesDigitsAs old.nodes.now digits start field (levels old.nodes.now old.store.now) (levels old.nodes.now new.store.now) found
+  TriesDigits field digits start found = TriesDigitsAs old.nodes.now digits start field (frames_of old) (frames_after old new) found
