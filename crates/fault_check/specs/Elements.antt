@@ -10,7 +10,7 @@ use Rattle.pickle_meaning.specs.Clauses.{is_due, is_met}
 use Rattle.pickle_meaning.specs.Means.{Means, Elements}
 use Rattle.fault_check.specs.declared.checker.Checker.{Checker}
 use Rattle.fault_check.specs.declared.part.Array.{Array}
-use Rattle.fault_check.specs.declared.part.Elements.{Elements as All}
+use Rattle.fault_check.specs.declared.part.Elements.{Elements as ArrayElements}
 use Rattle.fault_check.specs.declared.part.Entered.{Entered}
 use Rattle.fault_check.specs.declared.part.Entered.TheVariants as entered
 use Rattle.fault_check.specs.declared.site.Inner.{Inner}
@@ -54,7 +54,7 @@ module _ (checker : Checker) where
       Arises bits (ArrayOf (type_of checker.nodes.now array.element) (bound_of array.bound.now)) array.order (frames_of checker) array.start (fault_of fault) path
 
   -- the elements of an array end past its size
-  abbrev pub OutgrowsSize : All → (bits : List ℕ) → Type 0
+  abbrev pub OutgrowsSize : ArrayElements → (bits : List ℕ) → Type 0
   OutgrowsSize all bits = Outgrows bits (type_of checker.nodes.now all.element) all.order all.start all.extent (frames_of checker)
 
 module _ (old new : Checker) where
@@ -64,13 +64,13 @@ module _ (old new : Checker) where
       Enters bits old.nodes.now (frames_after old new) place (fault_of fault) (λ path. ArrayHas old array fault path bits) entered
 
   -- its elements were entered at a place
-  abbrev pub EntersElements : All → (place : ℕ) → MapFault → Entered → (bits : List ℕ) → Type 0
+  abbrev pub EntersElements : ArrayElements → (place : ℕ) → MapFault → Entered → (bits : List ℕ) → Type 0
   EntersElements all place fault entered bits =
       Enters bits old.nodes.now (frames_after old new) place (fault_of fault)
       (ElementsArise bits (type_of old.nodes.now all.element) all.order all.start all.extent (frames_of old) (fault_of fault)) entered
 
   -- so many elements were stored, if the call returns their end
-  abbrev pub StoresElements : All → (count : ℕ) → Option ℕ → (bits : List ℕ) → Type 0
+  abbrev pub StoresElements : ArrayElements → (count : ℕ) → Option ℕ → (bits : List ℕ) → Type 0
   StoresElements all count end bits =
       IfSome end (ElementsTo bits (type_of old.nodes.now all.element) all.order all.start all.extent (frames_of old) (frames_after old new) count)
 

@@ -106,7 +106,7 @@ impl Checker<'_> {
             {
                 return None;
             }
-            match self.map_part(element_at(elements, behind), space) {
+            match self.map_type(element_at(elements, behind), space) {
                 Ok(end) if behind < end => behind = end,
                 _ => return None,
             }
@@ -122,7 +122,7 @@ impl Checker<'_> {
         ensures is { OnBits (S.view space.old) (FindsEmpty self.old self.new element result) }
         ensures goes_on { GoesOn self.old.nodes.now (level_count self.new.store.now) result }
     {
-        match self.map_part(element, space) {
+        match self.map_type(element, space) {
             Ok(end) if u128::from(end) == element.start => Entered::There,
             Ok(_) => Entered::Nowhere,
             Err(_) => Entered::Part(bare_part(element)),
@@ -166,7 +166,7 @@ impl Checker<'_> {
         let mut behind = elements.start;
         let mut count = 0;
         while extent.is_due(bits, elements.start, count, behind) {
-            match self.map_part(element_at(elements, behind), space) {
+            match self.map_type(element_at(elements, behind), space) {
                 Ok(end) if behind < end => behind = end,
                 _ => return false,
             }
@@ -218,7 +218,7 @@ impl Checker<'_> {
         let mut count = 0;
         while extent.is_due(bits, elements.start, count, behind) {
             let element = element_at(elements, behind);
-            match self.map_part(element, space) {
+            match self.map_type(element, space) {
                 Ok(end) if behind < end => behind = end,
                 Ok(_) => return Ok(Site::Beside(count as usize)),
                 Err(stop) => {

@@ -23,14 +23,14 @@ use value_store::store::Store;
 
 impl Checker<'_> {
     /// Maps a type into the innermost frame. Returns the bit after it.
-    pub fn map_part<S: Space>(&mut self, inner: Inner, space: &mut S) -> Result<u64, Stop>
+    pub fn map_type<S: Space>(&mut self, inner: Inner, space: &mut S) -> Result<u64, Stop>
         requires part { MayMap self.old inner.node }
         ensures { MapsInner (S.view space.old) (S.view space.new) self.old self.new inner result }
     {
         self.map_watched(inner, space, &mut Unwatched)
     }
 
-    /// Maps as [`Checker::map_part`] does, and reports to a watcher.
+    /// Maps as [`Checker::map_type`] does, and reports to a watcher.
     pub fn map_watched<S: Space, W: Watch>(
         &mut self,
         inner: Inner,
@@ -58,7 +58,7 @@ impl Checker<'_> {
         ensures level { LevelStays self.old self.new }
     {
         let start = part.inner.start;
-        match self.map_part(part.inner, space) {
+        match self.map_type(part.inner, space) {
             Ok(end) => match check_part(part, self.meter, self.store) {
                 Ok(()) => Ok(Tried::Passed(end)),
                 Err(stop) => Ok(Tried::Beside(fault_in(stop)?)),

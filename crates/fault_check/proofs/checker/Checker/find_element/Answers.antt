@@ -36,7 +36,7 @@ loop-elements-preserved g c =
       depth = search rules;
       counted = search rules;
       before = elements_go (g.S.Space.view c.args.space.now) (g.S.Space.view c.loop-elements.space) (g.met.S.Space.whole c.args.space.now) i.frame.left.bytes (type_of c.args.self.now.nodes.now c.args.elements.element) c.args.elements.order c.args.elements.start c.args.elements.extent
-          (levels c.args.self.now.nodes.now c.args.self.now.store.now) (levels c.args.self.now.nodes.now c.loop-elements.self.store.now) (levels c.args.self.now.nodes.now c.map_part.new.self.store.now)
+          (levels c.args.self.now.nodes.now c.args.self.now.store.now) (levels c.args.self.now.nodes.now c.loop-elements.self.store.now) (levels c.args.self.now.nodes.now c.map_type.new.self.store.now)
           c.loop-elements.count c.loop-elements.behind c.in-Ok.end _ (ap (λ n. 8 * n) c.len-bits.ensures) due c.if-behind-end.true i.before mapped;
       spent = λ bytes known.
           let whole = g.met.S.Space.whole c.args.space.now in
@@ -50,7 +50,7 @@ loop-elements-preserved g c =
           let further : c.loop-elements.behind < end_of h.value = omega (arith, h.ends, c.if-behind-end.true) in
           rw (h.keeps, ← h.ends)
           (among_go (bits_of bytes) (type_of c.args.self.now.nodes.now c.args.elements.element) c.args.elements.order c.args.elements.start c.args.elements.extent (levels c.args.self.now.nodes.now c.loop-elements.self.store.now) so_far.0 c.loop-elements.count c.loop-elements.behind so_far.1 few due
-          h.value h.means further c.loop-elements.self.meter.now.steps c.map_part.new.self.meter.now.steps _ so_far.2 took);
+          h.value h.means further c.loop-elements.self.meter.now.steps c.map_type.new.self.meter.now.steps _ so_far.2 took);
     }
 
 pub returns-in-Ok-2-clause-is : goal.returns-in-Ok-2-clause-is
@@ -80,7 +80,7 @@ returns-then-ends-clause-is g c =
     let nodes = c.loop-elements.self.nodes.now in
     let element = c.element_at-element.result in
     let means = says_fault (Means (bits_of bytes) (type_of nodes element.node) element.order (levels nodes c.loop-elements.self.store.now) element.start)
-    (levels nodes c.loop-elements.self.store.now) (levels nodes c.map_part.new.self.store.now) c.in-Err.stop c.in_ok-_fault-in-Err._fault c.in_ok-_fault-in-Err.ensures
+    (levels nodes c.loop-elements.self.store.now) (levels nodes c.map_type.new.self.store.now) c.in-Err.stop c.in_ok-_fault-in-Err._fault c.in_ok-_fault-in-Err.ensures
     (c.in-Err.ensures.is bytes (i.frame.left.bytes ∙ known)) in
     let means = rw (i.frame.lent.nodes, c.element_at-element.ensures) at means in
     let ends = comes_as c.in-Err.stop c.in_ok-_fault-in-Err._fault c.in_ok-_fault-in-Err.ensures c.args.elements.extent true (sym c.ends.ensures ∙ c.if-ends.true) in
@@ -98,7 +98,7 @@ returns-in-Err-clause-is g c =
     let nodes = c.loop-elements.self.nodes.now in
     let element = c.element_at-element.result in
     let means = says_fault (Means (bits_of bytes) (type_of nodes element.node) element.order (levels nodes c.loop-elements.self.store.now) element.start)
-    (levels nodes c.loop-elements.self.store.now) (levels nodes c.map_part.new.self.store.now) c.in-Err.stop c.in_ok-_fault-in-Err._fault c.in_ok-_fault-in-Err.ensures
+    (levels nodes c.loop-elements.self.store.now) (levels nodes c.map_type.new.self.store.now) c.in-Err.stop c.in_ok-_fault-in-Err._fault c.in_ok-_fault-in-Err.ensures
     (c.in-Err.ensures.is bytes (i.frame.left.bytes ∙ known)) in
     let means = rw (i.frame.lent.nodes, c.element_at-element.ensures) at means in
     let goes = comes_as c.in-Err.stop c.in_ok-_fault-in-Err._fault c.in_ok-_fault-in-Err.ensures c.args.elements.extent false (sym c.ends.ensures ∙ c.if-ends.false) in
@@ -146,7 +146,7 @@ returns-in-Err-clause-spends g c =
     let nodes = c.loop-elements.self.nodes.now in
     let element = c.element_at-element.result in
     let means = says_fault (Means (bits_of bytes) (type_of nodes element.node) element.order (levels nodes c.loop-elements.self.store.now) element.start)
-    (levels nodes c.loop-elements.self.store.now) (levels nodes c.map_part.new.self.store.now) c.in-Err.stop c.in_ok-_fault-in-Err._fault c.in_ok-_fault-in-Err.ensures
+    (levels nodes c.loop-elements.self.store.now) (levels nodes c.map_type.new.self.store.now) c.in-Err.stop c.in_ok-_fault-in-Err._fault c.in_ok-_fault-in-Err.ensures
     (c.in-Err.ensures.is bytes (i.frame.left.bytes ∙ known)) in
     let means = rw (i.frame.lent.nodes, c.element_at-element.ensures) at means in
     let goes = comes_as c.in-Err.stop c.in_ok-_fault-in-Err._fault c.in_ok-_fault-in-Err.ensures c.args.elements.extent false (sym c.ends.ensures ∙ c.if-ends.false) in

@@ -26,6 +26,6 @@ loop-self-preserved g c =
       depth = search rules;
       counted = search rules;
       before = elements_go (g.S.Space.view c.args.space.now) (g.S.Space.view c.loop-self.space) (g.met.S.Space.whole c.args.space.now) i.frame.left.bytes (type_of c.args.self.now.nodes.now c.args.elements.element) c.args.elements.order c.args.elements.start c.args.elements.extent
-          (levels c.args.self.now.nodes.now c.args.self.now.store.now) (levels c.args.self.now.nodes.now c.loop-self.self.store.now) (levels c.args.self.now.nodes.now c.map_part.new.self.store.now)
+          (levels c.args.self.now.nodes.now c.args.self.now.store.now) (levels c.args.self.now.nodes.now c.loop-self.self.store.now) (levels c.args.self.now.nodes.now c.map_type.new.self.store.now)
           c.loop-self.count c.loop-self.behind c.in-Ok.end _ (ap (λ n. 8 * n) c.len-bits.ensures) due c.if-behind-end.true i.before mapped;
     }

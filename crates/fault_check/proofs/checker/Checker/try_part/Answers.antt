@@ -32,6 +32,6 @@ returns-in_err-fault_in-in-Err-check_part-clause-spends g c =
     let took = c.in-Ok.ensures.spends bytes known in
     let least = value_least (bits_of bytes) (type_of c.args.self.now.nodes.now c.args.part.inner.node) (constraint_of c.args.part) c.args.part.inner.order (levels c.args.self.now.nodes.now c.args.self.now.store.now) c.args.part.inner.start (c.in-Ok.ensures.is bytes known) in
     rw (p.1, p.2)
-    (stop_ends c.map_part.new.self.meter.now.limit c.args.self.now.meter.now.limit c.map_part.new.self.meter.now.steps c.args.self.now.meter.now.steps c.check_part.new.meter.steps
-    (clause_steps (constraint_of c.args.part) (levels c.args.self.now.nodes.now c.map_part.new.self.store.now)) (part_steps (bits_of bytes) (type_of c.args.self.now.nodes.now c.args.part.inner.node) (constraint_of c.args.part) c.args.part.inner.order (levels c.args.self.now.nodes.now c.args.self.now.store.now) c.args.part.inner.start) c.in-Err-check_part.stop _ c.in_err-fault_in-in-Err-check_part.ensures
+    (stop_ends c.map_type.new.self.meter.now.limit c.args.self.now.meter.now.limit c.map_type.new.self.meter.now.steps c.args.self.now.meter.now.steps c.check_part.new.meter.steps
+    (clause_steps (constraint_of c.args.part) (levels c.args.self.now.nodes.now c.map_type.new.self.store.now)) (part_steps (bits_of bytes) (type_of c.args.self.now.nodes.now c.args.part.inner.node) (constraint_of c.args.part) c.args.part.inner.order (levels c.args.self.now.nodes.now c.args.self.now.store.now) c.args.part.inner.start) c.in-Err-check_part.stop _ c.in_err-fault_in-in-Err-check_part.ensures
     none_of c.in-Ok.ensures.frame.left.limit (omega (arith, took, least)) (c.in-Err-check_part.ensures.spends c.args.self.now.nodes.now))
