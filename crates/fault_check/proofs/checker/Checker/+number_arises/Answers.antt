@@ -3,11 +3,12 @@ use Rattle.std.proofs.lemmas.List.{drop_more, length-take}
 use Rattle.pickle_meaning.specs.Values.{opened}
 use Rattle.pickle_map.specs.Mappable.{IsPartOf}
 use Rattle.pickle_map.proofs.Shapes.{of_one}
-use Rattle.value_store.specs.Slots.{levels, level_count}
+use Rattle.value_store.specs.Slots.{level_count}
 use Rattle.fault_parts.specs.Arises.{in_digits}
 use Rattle.fault_check.specs.Ways.{fault_of}
 use Rattle.fault_check.proofs.Nodes.{integral_node}
 use Rattle.fault_check.proofs.IntegralFields.{digits_refused_there, digits_arise_inside, path_is, path_ends}
+use Rattle.fault_check.specs.Frames.{frames_after, frames_of}
 use Rattle.fault_check.proofs.checker.Checker.+number_arises.Goals as goal
 
 pub open_level-requires : goal.open_level-requires
@@ -63,7 +64,7 @@ returns-in-Ok-Beside-clause-is t c =
     let same : fault_of c.in-Ok-Beside.told ≡ fault_of c.args.fault = (let h = c.eq.ensures in search rules) in
     let refused = rw (c.in-Some.ensures.frame.lent.nodes, c.in-Ok-Beside.field-0-is, same) at c.in-Ok-Beside.ensures.is in
     let arises = digits_refused_there c.args.self.now.nodes.now c.in-Integral.fields.items c.args.whole.digits c.args.whole.start c.in-Integral.number.width (get_or c.args.path.now 0 0) c.in-Some.left c.first_digits.result c.width_at.result
-    (opened (levels c.args.self.now.nodes.now c.args.self.now.store.now)) (levels c.args.self.now.nodes.now c.reach_field.new.self.store.now) (fault_of c.args.fault) c.index-field.result.now next c.width_at.ensures.is c.first_digits.ensures.is before refused in
+    (opened (frames_of c.args.self.now)) (frames_after c.args.self.now c.reach_field.new.self) (fault_of c.args.fault) c.index-field.result.now next c.width_at.ensures.is c.first_digits.ensures.is before refused in
     rw (n.type_is, path_ends c.args.path.now c.in-len1-up.len_at_least (sym c.is_empty.ensures ∙ c.if-not-is_empty.false)) (in_digits arises)
 
 pub returns-then-not-is_empty-clause-is : goal.returns-then-not-is_empty-clause-is
@@ -76,5 +77,5 @@ returns-then-not-is_empty-clause-is t c =
     let opens = c.open_level.ensures.levels c.args.self.now.nodes.now in
     let before = rw (c.deref.ensures.value, opens) at c.in-Some.ensures.is.before in
     let arises = digits_arise_inside c.args.self.now.nodes.now c.in-Integral.fields.items c.args.whole.digits c.args.whole.start c.in-Integral.number.width (get_or c.args.path.now 0 0) c.in-Some.left c.first_digits.result c.width_at.result
-    (opened (levels c.args.self.now.nodes.now c.args.self.now.store.now)) (levels c.args.self.now.nodes.now c.reach_field.new.self.store.now) (fault_of c.args.fault) c.index-field.result.now next c.width_at.ensures.is c.first_digits.ensures.is before _ (rw c.in-Some.ensures.frame.lent.nodes at (c.number_arises.ensures.is yes)) in
+    (opened (frames_of c.args.self.now)) (frames_after c.args.self.now c.reach_field.new.self) (fault_of c.args.fault) c.index-field.result.now next c.width_at.ensures.is c.first_digits.ensures.is before _ (rw c.in-Some.ensures.frame.lent.nodes at (c.number_arises.ensures.is yes)) in
     rw (n.type_is, path_is c.args.path.now c.in-len1-up.len_at_least) (in_digits arises)

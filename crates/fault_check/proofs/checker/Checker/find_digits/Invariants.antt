@@ -1,9 +1,10 @@
 use Rattle.std.proofs.Common.{◌≡◌, ◌+◌, ◌≤◌, drop}
 use Rattle.pickle_types.specs.Table.{type_of, open_parts}
 use Rattle.fault_check.specs.AtWork.{WorkFrame}
-use Rattle.value_store.specs.Slots.{levels, level_count}
+use Rattle.value_store.specs.Slots.{level_count}
 use Rattle.fault_parts.specs.Arises.{DigitsBefore}
 use Rattle.fault_check.specs.Searched.{digits_search}
+use Rattle.fault_check.specs.Frames.{frames_after, frames_of}
 use Rattle.fault_check.proofs.checker.Checker.find_digits.Given as goal
 
 abbrev pub invariant-loop-place : goal.invariant-loop-place
@@ -11,8 +12,8 @@ invariant-loop-place l = record {
   frame : WorkFrame l.initial.self l.self;
   depth : level_count l.self.store.now ≡ level_count l.initial.self.store.now;
   few : l.left ≤ 64;
-  before : DigitsBefore l.digits l.start (open_parts (type_of l.initial.self.nodes.now) l.fields) l.width (levels l.initial.self.nodes.now l.initial.self.store.now) l.place
-      (open_parts (type_of l.initial.self.nodes.now) (drop l.place l.fields)) l.left (levels l.initial.self.nodes.now l.self.store.now);
-  spent : l.self.meter.now.steps + digits_search (open_parts (type_of l.initial.self.nodes.now) (drop l.place l.fields)) l.digits l.left (levels l.initial.self.nodes.now l.self.store.now) l.start
-      ≤ l.initial.self.meter.now.steps + digits_search (open_parts (type_of l.initial.self.nodes.now) l.fields) l.digits l.width (levels l.initial.self.nodes.now l.initial.self.store.now) l.start;
+  before : DigitsBefore l.digits l.start (open_parts (type_of l.initial.self.nodes.now) l.fields) l.width (frames_of l.initial.self) l.place
+      (open_parts (type_of l.initial.self.nodes.now) (drop l.place l.fields)) l.left (frames_after l.initial.self l.self);
+  spent : l.self.meter.now.steps + digits_search (open_parts (type_of l.initial.self.nodes.now) (drop l.place l.fields)) l.digits l.left (frames_after l.initial.self l.self) l.start
+      ≤ l.initial.self.meter.now.steps + digits_search (open_parts (type_of l.initial.self.nodes.now) l.fields) l.digits l.width (frames_of l.initial.self) l.start;
 }

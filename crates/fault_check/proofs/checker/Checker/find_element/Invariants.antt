@@ -1,10 +1,11 @@
 use Rattle.std.proofs.Common.{◌≡◌, ℕ, suc, ◌+◌, ◌-◌, ◌*◌, ◌≤◌, length}
 use Rattle.pickle_types.specs.Table.{type_of}
 use Rattle.fault_check.specs.AtWork.{Frame}
-use Rattle.value_store.specs.Slots.{levels, level_count}
+use Rattle.value_store.specs.Slots.{level_count}
 use Rattle.fault_check.specs.Ways.{OnBits}
 use Rattle.fault_check.specs.Elements.{ElementsTo}
 use Rattle.fault_check.proofs.Searching.{among}
+use Rattle.fault_check.specs.Frames.{frames_after, frames_of}
 use Rattle.fault_check.proofs.checker.Checker.find_element.Given as goal
 
 abbrev pub invariant-loop-elements : goal.invariant-loop-elements
@@ -15,10 +16,10 @@ invariant-loop-elements g l = record {
   depth : level_count l.self.store.now ≡ level_count l.initial.self.store.now;
   counted : l.count + l.elements.start ≤ l.behind;
   before : OnBits (g.S.Space.view l.initial.space) (λ bits.
-      ElementsTo bits (type_of l.initial.self.nodes.now l.elements.element) l.elements.order l.elements.start l.elements.extent (levels l.initial.self.nodes.now l.initial.self.store.now) (levels l.initial.self.nodes.now l.self.store.now) l.count l.behind);
+      ElementsTo bits (type_of l.initial.self.nodes.now l.elements.element) l.elements.order l.elements.start l.elements.extent (frames_of l.initial.self) (frames_after l.initial.self l.self) l.count l.behind);
   spent : OnBits (g.S.Space.view l.initial.space) (λ bits. (left : ℕ) × (left + l.count ≡ length bits)
-      × (l.self.meter.now.steps + among bits (type_of l.initial.self.nodes.now l.elements.element) l.elements.order l.elements.start l.elements.extent (suc left) l.count (levels l.initial.self.nodes.now l.self.store.now) l.behind
-      ≤ l.initial.self.meter.now.steps + among bits (type_of l.initial.self.nodes.now l.elements.element) l.elements.order l.elements.start l.elements.extent (suc (length bits)) 0 (levels l.initial.self.nodes.now l.initial.self.store.now) l.elements.start));
+      × (l.self.meter.now.steps + among bits (type_of l.initial.self.nodes.now l.elements.element) l.elements.order l.elements.start l.elements.extent (suc left) l.count (frames_after l.initial.self l.self) l.behind
+      ≤ l.initial.self.meter.now.steps + among bits (type_of l.initial.self.nodes.now l.elements.element) l.elements.order l.elements.start l.elements.extent (suc (length bits)) 0 (frames_of l.initial.self) l.elements.start));
 }
 
 abbrev pub decreases-loop-elements : goal.decreases-loop-elements

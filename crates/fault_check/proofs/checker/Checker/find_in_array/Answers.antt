@@ -13,13 +13,14 @@ use Rattle.fault_check.specs.Searched.{search_among, search_of, site_left}
 use Rattle.fault_check.specs.Sites.{path_among}
 use Rattle.fault_check.proofs.Searching.{array_least, bound_search, none_of, searches_later, settled_spends, stop_ends}
 use Rattle.value_store.specs.Slots.{levels}
+use Rattle.fault_check.specs.Frames.{frames_of}
 use Rattle.fault_check.proofs.checker.Checker.find_in_array.Goals as goal
 
 pub returns-in-Ok-clause-is : goal.returns-in-Ok-clause-is
 returns-in-Ok-clause-is g c =
     let nodes = c.args.self.now.nodes.now in
     let array = c.args.array in
-    let before = levels nodes c.args.self.now.store.now in
+    let before = frames_of c.args.self.now in
     if_site (g.S.Space.view c.args.space.now) (g.S.Space.view c.args.space.now) nodes (levels nodes c.find_element.new.self.store.now)
     (λ bits. path_among bits nodes (levels nodes c.open_level.new.self) c.elements_of.result)
     (λ bits. path_of bits (ArrayOf (type_of nodes array.element) (bound_of array.bound.now)) array.order before array.start) refl
@@ -35,7 +36,7 @@ returns-in-Ok-clause-spends g c =
     λ bytes known.
     let nodes = c.args.self.now.nodes.now in
     let array = c.args.array in
-    let before = levels nodes c.args.self.now.store.now in
+    let before = frames_of c.args.self.now in
     let took = (c.in-Ok.ensures.is nodes).1 in
     let whole = g.met.S.Space.whole c.args.space.now bytes known in
     let here : array.start ≤ length (bits_of bytes) = rw length-bits_of (omega (arith, whole, c.requires.inside)) in
@@ -53,7 +54,7 @@ returns-in_ok-_fault-in-Err-clause-spends g c =
     let took = (rw c.in_ok-_fault-in-Err.ensures at (c.in-Err.ensures.is c.args.self.now.nodes.now)).1 in
     let whole = g.met.S.Space.whole c.args.space.now bytes known in
     let here : c.args.array.start ≤ length (bits_of bytes) = rw length-bits_of (omega (arith, whole, c.requires.inside)) in
-    let least = bound_search (bits_of bytes) c.args.array.order (levels c.args.self.now.nodes.now c.args.self.now.store.now) c.args.array.start here (type_of c.args.self.now.nodes.now c.args.array.element) (bound_of c.args.array.bound.now) in
+    let least = bound_search (bits_of bytes) c.args.array.order (frames_of c.args.self.now) c.args.array.start here (type_of c.args.self.now.nodes.now c.args.array.element) (bound_of c.args.array.bound.now) in
     omega (arith, took, least)
 
 pub returns-in_err-_fault-in-Err-clause-spends : goal.returns-in_err-_fault-in-Err-clause-spends
@@ -62,9 +63,9 @@ returns-in_err-_fault-in-Err-clause-spends g c =
     λ bytes known.
     let whole = g.met.S.Space.whole c.args.space.now bytes known in
     let here : c.args.array.start ≤ length (bits_of bytes) = rw length-bits_of (omega (arith, whole, c.requires.inside)) in
-    let least = bound_search (bits_of bytes) c.args.array.order (levels c.args.self.now.nodes.now c.args.self.now.store.now) c.args.array.start here (type_of c.args.self.now.nodes.now c.args.array.element) (bound_of c.args.array.bound.now) in
-    let spends = settled_spends {A = Extent} c.args.self.now.meter.now.limit c.args.self.now.meter.now.steps c.find_extent.new.meter.steps (bound_steps (bound_of c.args.array.bound.now) (levels c.args.self.now.nodes.now c.args.self.now.store.now)) (Err c.in-Err.stop)
-    (extent_of (bound_of c.args.array.bound.now) (levels c.args.self.now.nodes.now c.args.self.now.store.now) c.args.array.start) (c.in-Err.ensures.is c.args.self.now.nodes.now) in
-    rw (p.1, p.2) (stop_ends c.args.self.now.meter.now.limit c.args.self.now.meter.now.limit c.args.self.now.meter.now.steps c.args.self.now.meter.now.steps c.find_extent.new.meter.steps (bound_steps (bound_of c.args.array.bound.now) (levels c.args.self.now.nodes.now c.args.self.now.store.now))
-    (search_of (bits_of bytes) (ArrayOf (type_of c.args.self.now.nodes.now c.args.array.element) (bound_of c.args.array.bound.now)) c.args.array.order (levels c.args.self.now.nodes.now c.args.self.now.store.now) c.args.array.start) c.in-Err.stop _ c.in_err-_fault-in-Err.ensures
+    let least = bound_search (bits_of bytes) c.args.array.order (frames_of c.args.self.now) c.args.array.start here (type_of c.args.self.now.nodes.now c.args.array.element) (bound_of c.args.array.bound.now) in
+    let spends = settled_spends {A = Extent} c.args.self.now.meter.now.limit c.args.self.now.meter.now.steps c.find_extent.new.meter.steps (bound_steps (bound_of c.args.array.bound.now) (frames_of c.args.self.now)) (Err c.in-Err.stop)
+    (extent_of (bound_of c.args.array.bound.now) (frames_of c.args.self.now) c.args.array.start) (c.in-Err.ensures.is c.args.self.now.nodes.now) in
+    rw (p.1, p.2) (stop_ends c.args.self.now.meter.now.limit c.args.self.now.meter.now.limit c.args.self.now.meter.now.steps c.args.self.now.meter.now.steps c.find_extent.new.meter.steps (bound_steps (bound_of c.args.array.bound.now) (frames_of c.args.self.now))
+    (search_of (bits_of bytes) (ArrayOf (type_of c.args.self.now.nodes.now c.args.array.element) (bound_of c.args.array.bound.now)) c.args.array.order (frames_of c.args.self.now) c.args.array.start) c.in-Err.stop _ c.in_err-_fault-in-Err.ensures
     none_of refl (omega (arith, least)) spends)

@@ -1,7 +1,7 @@
 use Rattle.std.proofs.Common.{rules, ◌*◌, sym, ap, ◌∙◌}
 use Rattle.pickle_types.specs.Table.{type_of}
 use Rattle.fault_check.proofs.ArrayElements.{no_elements, elements_go}
-use Rattle.value_store.specs.Slots.{levels}
+use Rattle.fault_check.specs.Frames.{frames_after, frames_of}
 use Rattle.fault_check.proofs.checker.Checker.outgrows.Goals as goal
 
 pub loop-self-init : goal.loop-self-init
@@ -26,6 +26,6 @@ loop-self-preserved g c =
       depth = search rules;
       counted = search rules;
       before = elements_go (g.S.Space.view c.args.space.now) (g.S.Space.view c.loop-self.space) (g.met.S.Space.whole c.args.space.now) i.frame.left.bytes (type_of c.args.self.now.nodes.now c.args.elements.element) c.args.elements.order c.args.elements.start c.args.elements.extent
-          (levels c.args.self.now.nodes.now c.args.self.now.store.now) (levels c.args.self.now.nodes.now c.loop-self.self.store.now) (levels c.args.self.now.nodes.now c.map_type.new.self.store.now)
+          (frames_of c.args.self.now) (frames_after c.args.self.now c.loop-self.self) (frames_after c.args.self.now c.map_type.new.self)
           c.loop-self.count c.loop-self.behind c.in-Ok.end _ (ap (λ n. 8 * n) c.len-bits.ensures) due c.if-behind-end.true i.before mapped;
     }

@@ -3,7 +3,7 @@ use Rattle.std.proofs.lemmas.List.{drop_more}
 use Rattle.pickle_types.specs.Table.{type_of, open_parts}
 use Rattle.fault_parts.specs.Arises.{no_digits_before}
 use Rattle.fault_check.proofs.IntegralFields.{digits_more}
-use Rattle.value_store.specs.Slots.{levels}
+use Rattle.fault_check.specs.Frames.{frames_after, frames_of}
 use Rattle.fault_check.proofs.checker.Checker.reach_field.Goals as goal
 
 pub loop-index-init : goal.loop-index-init
@@ -19,6 +19,6 @@ loop-index-preserved c =
       depth = search rules;
       few = search rules;
       before = digits_more c.args.self.now.nodes.now c.args.fields.now c.args.digits c.args.start c.args.width c.loop-index.index c.loop-index.left c.first_digits-cut.result c.width_at-width.result c.saturating_sub-left.result
-          (open_parts (type_of c.args.self.now.nodes.now) c.args.fields.now) (levels c.args.self.now.nodes.now c.args.self.now.store.now) (levels c.args.self.now.nodes.now c.loop-index.self.store.now) (levels c.args.self.now.nodes.now c.try_digits.new.self.store.now)
+          (open_parts (type_of c.args.self.now.nodes.now) c.args.fields.now) (frames_of c.args.self.now) (frames_after c.args.self.now c.loop-index.self) (frames_after c.args.self.now c.try_digits.new.self)
           c.index-fields-index.result next c.width_at-width.ensures.is c.first_digits-cut.ensures.is c.saturating_sub-left.ensures i.before (rw (i.frame.lent.nodes, c.in-Ok-Passed.field-0-is) at c.in-Ok-Passed.ensures.is);
     }
