@@ -183,16 +183,27 @@ every_for request why pickle = record {
   why = why;
 }
 
--- a job whose ending is that of its run
-abbrev pub IsPlain : Job → Type 0
-IsPlain (job.Map at order limit mode pickle name file) = Unit {0}
-IsPlain (job.Request request) = ⊥
-IsPlain (job.Bound pickle name bits) = Unit {0}
-IsPlain (job.BoundText pickle name bits mode style) = Unit {0}
-IsPlain (job.Check pickle) = ⊥
-IsPlain (job.Types pickle) = ⊥
-IsPlain job.Formats = ⊥
-IsPlain (job.Dump from size ruler file) = Unit {0}
+-- a job over a file, without terms
+abbrev pub IsOverFile : Job → Type 0
+IsOverFile (job.Map at order limit mode pickle name file) = Unit {0}
+IsOverFile (job.Request request) = ⊥
+IsOverFile (job.Bound pickle name bits) = ⊥
+IsOverFile (job.BoundText pickle name bits mode style) = ⊥
+IsOverFile (job.Check pickle) = ⊥
+IsOverFile (job.Types pickle) = ⊥
+IsOverFile job.Formats = ⊥
+IsOverFile (job.Dump from size ruler file) = Unit {0}
+
+-- a job that bounds a type
+abbrev pub IsBound : Job → Type 0
+IsBound (job.Map at order limit mode pickle name file) = ⊥
+IsBound (job.Request request) = ⊥
+IsBound (job.Bound pickle name bits) = Unit {0}
+IsBound (job.BoundText pickle name bits mode style) = Unit {0}
+IsBound (job.Check pickle) = ⊥
+IsBound (job.Types pickle) = ⊥
+IsBound job.Formats = ⊥
+IsBound (job.Dump from size ruler file) = ⊥
 
 -- What the jobs write of what an opener gives. Reasons may be requested.
 module _ (gives : Gives) (why : Bool) (out out' : Option (List ℕ)) where

@@ -1,7 +1,7 @@
 //! A job, done over an opener and a writer.
 ghost use Rattle.std.specs.Prelude.{IfOk, IfErr, OnErr, Some};
 ghost use Rattle.std.specs.Io.KnownBytes.{Keeps};
-ghost use Rattle.jobs.specs.Jobs.{ChecksIn, FailsJob, FailsRequest, IfDone, IsPlain, MapsRequest, StopsJob, TypesIn};
+ghost use Rattle.jobs.specs.Jobs.{ChecksIn, FailsJob, FailsRequest, IfDone, IsBound, IsOverFile, MapsRequest, StopsJob, TypesIn};
 
 use crate::answers::{check_in_json, types_in_json};
 use crate::aside::Aside;
@@ -50,21 +50,24 @@ pub fn run_job<P: Opener, O: Write, A: Aside>(
             Ok(Some(types_job(alloc, opener, pickle, asked.answer, out, why)?))
         }
         Job::Formats => Ok(None),
-        Job::Map { .. } | Job::Bound { .. } | Job::BoundText { .. } | Job::Dump { .. } => {
-            Ok(Some(Ending::Run(run_plain(alloc, opener, asked, out, why)?)))
+        Job::Map { .. } | Job::Dump { .. } => {
+            Ok(Some(Ending::Run(run_file(alloc, opener, asked, out, why)?)))
+        }
+        Job::Bound { .. } | Job::BoundText { .. } => {
+            Ok(Some(Ending::Run(run_bound(alloc, opener, asked, out, why)?)))
         }
     }
 }
 
-// Does a job whose only ending is that of its run.
-fn run_plain<P: Opener, O: Write>(
+// Maps or dumps a file, without terms.
+fn run_file<P: Opener, O: Write>(
     alloc: Global,
     opener: &P,
     asked: &Asked,
     out: &mut O,
     why: &mut Why<'_>,
 ) -> Result<Outcome, FileFault>
-    requires plain { IsPlain asked.now.job }
+    requires file { IsOverFile asked.now.job }
     ensures done { IfOk result (λ outcome. IfDone (P.gives opener.now) why.old.asked
         (O.contents out.old) (O.contents out.new) asked.now (Some (Ending.Run outcome))) }
     ensures stops { OnErr result (StopsJob (P.gives opener.now) why.old.asked
@@ -89,29 +92,6 @@ fn run_plain<P: Opener, O: Write>(
             };
             map_file(alloc, opener, target, out, why)
         }
-        Job::Bound { pickle, name, bits } => {
-            bound_type(alloc, opener, Bounded::new(pickle, name, *bits), out, why)
-        }
-        Job::BoundText {
-            pickle,
-            name,
-            bits,
-            mode,
-            style,
-        } => {
-            let form = TextForm {
-                style: *style,
-                mode: *mode,
-            };
-            bound_text(
-                alloc,
-                opener,
-                Bounded::new(pickle, name, *bits),
-                form,
-                out,
-                why,
-            )
-        }
         Job::Dump {
             from,
             size,
@@ -126,7 +106,44 @@ fn run_plain<P: Opener, O: Write>(
             };
             dump_file(alloc, opener, file, range, out, why.text)
         }
-        Job::Request(_) | Job::Check { .. } | Job::Types { .. } | Job::Formats => unreachable!(),
+        _ => unreachable!(),
+    }
+}
+
+// Bounds a type.
+fn run_bound<P: Opener, O: Write>(
+    alloc: Global,
+    opener: &P,
+    asked: &Asked,
+    out: &mut O,
+    why: &mut Why<'_>,
+) -> Result<Outcome, FileFault>
+    requires bound { IsBound asked.now.job }
+    ensures done { IfOk result (λ outcome. IfDone (P.gives opener.now) why.old.asked
+        (O.contents out.old) (O.contents out.new) asked.now (Some (Ending.Run outcome))) }
+    ensures stops { OnErr result (StopsJob (P.gives opener.now) why.old.asked
+        (O.contents out.old) (O.contents out.new) asked.now.job) }
+    ensures fault { IfErr result (FailsJob (P.gives opener.now) asked.now.job) }
+{
+    match &asked.job {
+        Job::Bound { pickle, name, bits } => {
+            bound_type(alloc, opener, Bounded::new(pickle, name, *bits), out, why)
+        }
+        Job::BoundText {
+            pickle,
+            name,
+            bits,
+            mode,
+            style,
+        } => {
+            let of = Bounded::new(pickle, name, *bits);
+            let form = TextForm {
+                style: *style,
+                mode: *mode,
+            };
+            bound_text(alloc, opener, of, form, out, why)
+        }
+        _ => unreachable!(),
     }
 }
 
