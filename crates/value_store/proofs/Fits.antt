@@ -7,7 +7,7 @@ use Rattle.value_store.specs.declared.store.slots.Marks.{Marks}
 use Rattle.pickle_meaning.specs.Room.{PendingSlot, slots}
 use Rattle.pickle_meaning.specs.Values.{Value, Levels, top_of, outer_of}
 use Rattle.value_store.specs.Exceeding.{Exceeds}
-use Rattle.value_store.specs.Keeping.{Overfills, HoldsLevels, LacksRoom}
+use Rattle.value_store.specs.Keeping.{LacksRoom}
 use Rattle.value_store.specs.Levels.{extended}
 use Rattle.value_store.specs.Names.{Names}
 use Rattle.value_store.specs.Slots.{Slots, Held, no_slots, packs_as, packs, HoldsInRoom, levels, stack, IsSound, cut_to, marks_of, root_marks, level_of, IsLevel, innermost, AreLevels, levels_at, Adds}
@@ -31,8 +31,8 @@ module _ (h : Held) (ls : Levels) (some : 1 ≤ slots PendingSlot ls) where
   exceeds-by vector true e more = packs_no_more h.room ls some e
   exceeds-by vector false e more = let r = taken-slots vector ls in (r.0, omega (arith, more, r.1))
 
-  pub overfills : (vector : Vector) → h.room.least ≤ of_vector vector h.capacity → of_vector vector h.capacity < levels_take (packs h.room) vector ls → Overfills h false ls
-  overfills vector least more = record { least = exceeds-by vector (packs h.room) refl (omega (arith, least, more)); capacity = (vector, more) }
+  pub overfills : (vector : Vector) → h.room.least ≤ of_vector vector h.capacity → of_vector vector h.capacity < levels_take (packs h.room) vector ls → Exceeds h.room ls
+  overfills vector least more = exceeds-by vector (packs h.room) refl (omega (arith, least, more))
 
 root-none : (vector : Vector) → of_vector vector root_marks ≡ 0
 root-none NodesOf = refl
@@ -52,8 +52,8 @@ pub totals : (names : Names) (h : Held) (vector : Vector) → AreLevels h.room h
 unfolding levels
 totals names h vector all = totals_at names h.room h.frames h.slots vector all
 
--- the frames fit where the capacity is enough for that
-pub held-levels : (h : Held) → AreLevels h.room h.frames h.slots → HoldsInRoom h → HoldsLevels h
+-- a store's frames take no more than the capacity of its vectors
+pub held-levels : (h : Held) → AreLevels h.room h.frames h.slots → HoldsInRoom h → (names : Names) (vector : Vector) → levels_take (packs h.room) vector (levels names h) ≤ of_vector vector h.capacity
 held-levels h all in_room names NodesOf = omega (arith, totals names h NodesOf all, in_room.nodes)
 held-levels h all in_room names FamiliesOf = omega (arith, totals names h FamiliesOf all, in_room.families)
 held-levels h all in_room names LinksOf = omega (arith, totals names h LinksOf all, in_room.links)
@@ -62,7 +62,7 @@ held-levels h all in_room names TextsOf = omega (arith, totals names h TextsOf a
 held-levels h all in_room names BytesOf = omega (arith, totals names h BytesOf all, in_room.bytes)
 
 -- they don't fit where slots with these frames lack capacity
-pub overfilled : (names : Names) (h : Held) (s : Slots) (ls : Levels) → AreLevels h.room h.frames s → levels names (record h { slots = s }) ≡ ls → 1 ≤ slots PendingSlot ls → LacksRoom h s → Overfills h false ls
+pub overfilled : (names : Names) (h : Held) (s : Slots) (ls : Levels) → AreLevels h.room h.frames s → levels names (record h { slots = s }) ≡ ls → 1 ≤ slots PendingSlot ls → LacksRoom h s → Exceeds h.room ls
 overfilled names h s ls all e some (vector, (least, more)) =
     overfills h ls some vector least (omega (arith, more, totals names (record h { slots = s }) vector all, ap (levels_take (packs h.room) vector) e))
 

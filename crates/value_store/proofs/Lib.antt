@@ -10,6 +10,7 @@ pub mod Empty
 pub mod Fits
 pub mod Held
 pub mod Frames
+pub mod Moved
 pub mod Writing
 pub mod PackedRows
 pub mod Packed

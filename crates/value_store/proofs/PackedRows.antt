@@ -1,8 +1,8 @@
 -- Open arrays of packed numbers.
-use Rattle.std.proofs.Common.{◌≡◌, ℕ, ◌+◌, ◌*◌, ◌%◌, ◌^◌, ◌<◌, ◌≤◌, pow_mono, Bool, true, false, List, [], ◌∷◌, ◌++◌, Option, Some, None, Result, Ok, Err, OnOk, OnErr, length, take, refl, sym, ◌∙◌, ap, subst, arith, add-one}
+use Rattle.std.proofs.Common.{◌≡◌, ℕ, ◌+◌, ◌*◌, ◌%◌, ◌^◌, ◌<◌, ◌≤◌, pow_mono, Bool, true, false, List, [], ◌∷◌, ◌++◌, Option, Some, None, Result, Ok, Err, OnOk, OnErr, length, take, refl, sym, ◌∙◌, ap, subst, arith}
 use Rattle.std.specs.Prelude.{All}
 use Rattle.std.specs.Int.{to_le_bytes, w64}
-use Rattle.std.proofs.Math.Nat.{mul-zero, mul-suc, mul-le-mul_left}
+use Rattle.std.proofs.Math.Nat.{mul-zero, mul-le-mul_left}
 use Rattle.std.proofs.lemmas.List.{append-nil, length-append, length_push}
 use Rattle.std.proofs.lemmas.List.Elements.{All-push}
 use Rattle.value_store.specs.declared.store.room.Room.{Room}
@@ -12,17 +12,18 @@ use Rattle.value_store.specs.Packed.{bytes_for, number_bytes, packed}
 use Rattle.pickle_meaning.specs.Room.{PendingSlot, slots}
 use Rattle.pickle_meaning.specs.Values.{Mapped, ArrayLabel, NoMembers, Levels, top_of, outer_of, gathered, pushed}
 use Rattle.value_store.specs.Closed.{closed, placed}
-use Rattle.value_store.specs.Filling.{Packs, PacksWithin, CannotPack, SettlesRow, CannotCloseRow}
-use Rattle.value_store.specs.Keeping.{Overfills, HoldsLevels, LacksBytes, CannotPush, IsPlaced, CannotClose, KeepsMembers, StartsWithNoNumber}
+use Rattle.value_store.specs.Filling.{Packs, CannotPack, SettlesRow, CannotCloseRow}
+use Rattle.value_store.specs.Exceeding.{Exceeds}
+use Rattle.value_store.specs.Keeping.{IsPlaced, CannotClose, KeepsMembers, StartsWithNoNumber}
 use Rattle.value_store.specs.Levels.{extended}
 use Rattle.value_store.specs.Names.{Names}
-use Rattle.value_store.specs.Takes.{Vector, NodesOf, BytesOf, of_vector, row_width, where_packed, value_takes, levels_take}
+use Rattle.value_store.specs.Takes.{NodesOf, row_width, where_packed}
 use Rattle.value_store.specs.Slots.{Held, packs, levels, level_of, innermost, AreLevels, IsPacked, element_width, elements, row_value, AreNumbers, AreNumberBytes, with_bytes, with_more, AreBytes, bytes_value, AreSome, MayKeep, HasNoNode, IsFilling, IsPacking, GoesOn, Regrown}
-use Rattle.value_store.proofs.Taken.{pushed-extended, slots-taken, level_pending, none-first, row-taken, row-kept}
+use Rattle.value_store.proofs.Taken.{pushed-extended, slots-taken, level_pending, none-first}
 use Rattle.value_store.proofs.Lent.{length-elements}
-use Rattle.value_store.proofs.Fits.{packs_no_more, totals, innermost-level}
+use Rattle.value_store.proofs.Fits.{packs_no_more, innermost-level}
 use Rattle.value_store.proofs.Packed.{length-packed, length-number_bytes, le_bytes-take, packed-push, numbers_in-packed, packed-none, bytes_for-some, bytes_for-most}
-use Rattle.value_store.proofs.Writing.{some-bytes, filling-levels, filling-all, filling-empty, filling-outer, fresh-empty, empty-fresh, stale-some, fresh-filling, stale-filling, stale-goes_on, opened-filling}
+use Rattle.value_store.proofs.Writing.{some-bytes, filling-levels, filling-empty, filling-outer, fresh-empty, empty-fresh, stale-some, fresh-filling, stale-filling, stale-goes_on, opened-filling}
 
 -- the bytes of an array of packed numbers
 abbrev pub row_bytes : Shape → List ℕ → List ℕ
@@ -185,7 +186,7 @@ module _ (h n : Held) (shape : Shape) (width digits start : ℕ) (own : List ℕ
   stale-packs r stale e = on_ok r (stale-takes stale) e
 
 -- what is packed, and what doesn't fit
-row-packs : (room : Room) (shape : Shape) → IsPacked shape → MayKeep room shape → packs room ≡ true
+pub row-packs : (room : Room) (shape : Shape) → IsPacked shape → MayKeep room shape → packs room ≡ true
 row-packs room (Integer w g) p may = absurd p
 row-packs room (Offset w g u) p may = absurd p
 row-packs room Text p may = absurd p
@@ -209,63 +210,17 @@ numbers-some : (shape : Shape) (numbers : List ℕ) → 0 < length (row_bytes sh
 numbers-some shape [] some = absurd (omega (arith, some))
 numbers-some shape (n ∷ ns) some = omega arith
 
-pub packs-within : {T E : Type 0} (r : Result T E) (h n : Held) (shape : Shape) (digits start : ℕ) → IsPacked shape → OnOk r (Packs h n shape digits start) → OnOk r (HoldsLevels n) → OnOk r (PacksWithin h n shape digits start)
-packs-within (Ok x) h n shape digits start p packing held = λ names numbers outer w short vector.
-    let w' = packing names numbers outer w short in
-    let is = row-levels names n shape (numbers ++ digits ∷ []) start outer w' p (bytes-pushed shape numbers digits p) in
-    let kept = row-kept (packs n.room) vector shape numbers digits start outer (row-packs n.room shape p w'.filling.may) in
-    omega (arith, held names vector, ap (levels_take (packs n.room) vector) is, kept)
-packs-within (Err x) h n shape digits start p packing held = tt
+-- an array with one more number doesn't fit: no slots were requested in advance
+pub packed-exceeds : (names : Names) (h : Held) (shape : Shape) (numbers : List ℕ) (digits start : ℕ) (outer : Levels) → IsPacked shape → IsPacking names h shape numbers start outer → Exceeds h.room (elements shape start (numbers ++ digits ∷ []) ∷ outer)
+packed-exceeds names h shape numbers digits start outer p w =
+    let ls = elements shape start (numbers ++ digits ∷ []) ∷ outer in
+    let some : 1 ≤ slots PendingSlot ls =
+    omega (arith, slots-taken PendingSlot ls, level_pending false (elements shape start (numbers ++ digits ∷ [])), length-elements shape start (numbers ++ digits ∷ []), length_push numbers digits) in
+    packs_no_more h.room ls some (row-packs h.room shape p w.filling.may)
 
--- an array with one more number exceeds a vector's capacity
-module _ (h : Held) (shape : Shape) (digits start : ℕ) (p : IsPacked shape) (numbers : List ℕ) (outer : Levels) (packing : packs h.room ≡ true) where
-  row-overfills : (vector : Vector) → of_vector vector h.capacity < levels_take (packs h.room) vector ((Some (row_value shape (numbers ++ digits ∷ []) start) ∷ []) ∷ outer) →
-      Overfills h true (elements shape start (numbers ++ digits ∷ []) ∷ outer)
-  row-overfills vector more =
-      let ls = elements shape start (numbers ++ digits ∷ []) ∷ outer in
-      let some : 1 ≤ slots PendingSlot ls =
-      omega (arith, slots-taken PendingSlot ls, level_pending false (elements shape start (numbers ++ digits ∷ [])), length-elements shape start (numbers ++ digits ∷ []), length_push numbers digits) in
-      record {
-        least = packs_no_more h.room ls some packing;
-        capacity = (vector, omega (arith, more, row-kept (packs h.room) vector shape numbers digits start outer packing));
-      }
-
-  row-bytes : (ns : List ℕ) → 0 < length ns → value_takes (packs h.room) BytesOf (row_value shape ns start) ≡ bytes_for (element_width shape) * length ns
-  row-bytes ns some = ap (λ b. value_takes b BytesOf (row_value shape ns start)) packing ∙ row-taken BytesOf start shape ns p some
-
-  -- it takes only its bytes more
-  stale-overfills : (names : Names) → IsPacking names h shape numbers start outer → (HasNoNode h → ⊥) → LacksBytes h (bytes_for (element_width shape)) →
-      Overfills h true (elements shape start (numbers ++ digits ∷ []) ∷ outer)
-  stale-overfills names w stale lacks =
-      let some = stale-some names h shape (row_bytes shape numbers) start outer w.filling stale in
-      let k = bytes_for (element_width shape) in
-      let is = row-levels names h shape numbers start outer w p some in
-      let held = totals names h BytesOf (filling-all names h shape (row_bytes shape numbers) start outer w.filling) ∙ ap (levels_take (packs h.room) BytesOf) is in
-      let longer : k * length (numbers ++ digits ∷ []) ≡ k * length numbers + k = ap (λ m. k * m) (length_push numbers digits ∙ add-one (length numbers)) ∙ mul-suc k (length numbers) in
-      row-overfills BytesOf (omega (arith, lacks.1, held, longer, row-bytes numbers (numbers-some shape numbers some), row-bytes (numbers ++ digits ∷ []) (omega (arith, length_push numbers digits))))
-
-pub fresh-cannot : {T E : Type 0} (r : Result T E) (h : Held) (shape : Shape) (digits start : ℕ) (own : List ℕ) → IsPacked shape → digits < 2 ^ element_width shape →
-    own ≡ number_bytes (bytes_for (element_width shape)) digits → HasNoNode h → OnErr r (CannotPush h (Some (bytes_value shape own start))) → OnErr r (CannotPack h shape digits start)
-fresh-cannot (Ok x) h shape digits start own p small is fresh e = tt
-fresh-cannot (Err x) h shape digits start own p small is fresh e = λ names numbers outer w.
-    let none = packing-fresh names h shape numbers start outer w fresh p in
-    let w' : IsPacking names h shape [] start outer = subst (λ ns. IsPacking names h shape ns start outer) none w in
-    let below : All (λ n. n < 2 ^ element_width shape) (digits ∷ []) = All-push (λ n. n < 2 ^ element_width shape) [] digits (λ k d h. absurd (omega arith)) small in
-    let one : bytes_value shape own start ≡ row_value shape (digits ∷ []) start =
-    ap (λ bs. bytes_value shape bs start) (is ∙ sym (append-nil (number_bytes (bytes_for (element_width shape)) digits))) ∙ row-is shape (digits ∷ []) start p below in
-    let ls : pushed (levels names h) (Some (bytes_value shape own start)) ≡ (Some (row_value shape (numbers ++ digits ∷ []) start) ∷ []) ∷ outer =
-    ap (λ l. pushed l (Some (bytes_value shape own start))) (packing-empty names h shape start outer w')
-    ∙ ap (λ v. (Some v ∷ []) ∷ outer) (one ∙ ap (λ ns. row_value shape (ns ++ digits ∷ []) start) (sym none)) in
-    let o = (e names).capacity in
-    row-overfills h shape digits start p numbers outer (row-packs h.room shape p w.filling.may) o.0 (omega (arith, o.1, ap (levels_take (packs h.room) o.0) ls))
-
-pub stale-cannot : {T E : Type 0} (r : Result T E) (h : Held) (shape : Shape) (digits start : ℕ) (own : List ℕ) → IsPacked shape →
-    own ≡ number_bytes (bytes_for (element_width shape)) digits → (HasNoNode h → ⊥) → OnErr r (LacksBytes h (length own)) → OnErr r (CannotPack h shape digits start)
-stale-cannot (Ok x) h shape digits start own p is stale e = tt
-stale-cannot (Err x) h shape digits start own p is stale e = λ names numbers outer w.
-    let k = bytes_for (element_width shape) in
-    let count : length own ≡ k = ap length is ∙ length-number_bytes k digits in
-    stale-overfills h shape digits start p numbers outer (row-packs h.room shape p w.filling.may) names w stale (subst (λ m. LacksBytes h m) count e)
+pub cannot-pack : {T E : Type 0} (A : Type 0) (r : Result T E) (h : Held) (shape : Shape) (digits start : ℕ) → IsPacked shape → OnErr r A → OnErr r (CannotPack h shape digits start)
+cannot-pack A (Ok x) h shape digits start p e = tt
+cannot-pack A (Err x) h shape digits start p e = λ names numbers outer w. packed-exceeds names h shape numbers digits start outer p w
 
 -- the closed array
 
@@ -307,7 +262,7 @@ pub settled-cannot : {T E : Type 0} (r : Result T E) (h : Held) (shape : Shape) 
 settled-cannot (Ok x) h shape start p fresh e = tt
 settled-cannot (Err x) h shape start p fresh e = λ names numbers outer w.
     let is = no-numbers names h shape numbers start outer w p fresh in
-    subst (Overfills h false) (ap (closed ArrayLabel start (start + 0)) is.0 ∙ ap (λ v. pushed outer (Some v)) is.1) (e names)
+    subst (Exceeds h.room) (ap (closed ArrayLabel start (start + 0)) is.0 ∙ ap (λ v. pushed outer (Some v)) is.1) (e names)
 
 pub stale-row_levels : (names : Names) (h : Held) (shape : Shape) (numbers : List ℕ) (start : ℕ) (outer : Levels) → IsPacking names h shape numbers start outer → IsPacked shape → (HasNoNode h → ⊥) →
     levels names h ≡ (Some (row_value shape numbers start) ∷ []) ∷ outer

@@ -1,12 +1,12 @@
 -- What frames take of the vectors of a store, and what slots they fill.
-use Rattle.std.proofs.Common.{◌≡◌, ℕ, ◌+◌, ◌*◌, ◌<◌, ◌≤◌, Bool, true, false, List, [], ◌∷◌, ◌++◌, Option, Some, None, length, refl, sym, ◌∙◌, ap, arith, zero-add}
+use Rattle.std.proofs.Common.{◌≡◌, ℕ, ◌+◌, ◌<◌, ◌≤◌, Bool, true, false, List, [], ◌∷◌, ◌++◌, Option, Some, None, length, refl, sym, ◌∙◌, ap, arith, zero-add}
 use Rattle.value_store.specs.declared.store.slots.Shape.{Shape}
 use Rattle.value_store.specs.declared.store.slots.Shape.TheVariants.{Integer, Offset, Text, Integers, Offsets, Array, Struct, Union}
 use Rattle.pickle_meaning.specs.Room.{Slot, NodeSlot, LinkSlot, PendingSlot, ByteSlot, own_slots, value_slots, members_slots, place_slots, level_slots, slots}
 use Rattle.pickle_meaning.specs.Values.{Label, IntegerLabel, OffsetLabel, TextLabel, ArrayLabel, StructLabel, UnionLabel, Value, Mapped, Members, NoMembers, MemberThen, AbsentThen, Levels, gathered, pushed, member_count}
 use Rattle.value_store.specs.Levels.{extended}
-use Rattle.value_store.specs.Slots.{IsPacked, element_width, element_value, elements, row_value}
-use Rattle.value_store.specs.Takes.{Vector, NodesOf, FamiliesOf, LinksOf, PendingOf, TextsOf, BytesOf, row_width, packed_width, families_taken, texts_taken, own_takes, row_takes, kept_as, value_takes, members_take, place_takes, level_takes, levels_take, row_levels_take, kept_takes}
+use Rattle.value_store.specs.Slots.{IsPacked, element_width, elements, row_value}
+use Rattle.value_store.specs.Takes.{Vector, NodesOf, FamiliesOf, LinksOf, PendingOf, TextsOf, BytesOf, row_width, packed_width, families_taken, texts_taken, own_takes, row_takes, kept_as, value_takes, members_take, place_takes, level_takes, levels_take}
 use Rattle.value_store.proofs.Lent.{length-elements}
 
 pub level_takes-append : (packs : Bool) (vector : Vector) (xs ys : List (Option Value)) → level_takes packs vector (xs ++ ys) ≡ level_takes packs vector xs + level_takes packs vector ys
@@ -196,15 +196,3 @@ module _ (vector : Vector) (start : ℕ) where
       let members = gathered (elements shape start (n ∷ ns)) in
       ap (λ w. kept_as w vector ArrayLabel members (members_take true vector members)) (row-label shape n ns p)
       ∙ ap (row_takes vector (element_width shape)) (member_count-of (elements shape start (n ∷ ns)) ∙ length-elements shape start (n ∷ ns))
-
--- an open array takes what it takes alone in its frame
-row-alone : (vector : Vector) (m : Option Value) (top : List (Option Value)) (outer : Levels) (start end : ℕ) →
-    row_levels_take true vector ((m ∷ top) ∷ outer) ≡ levels_take true vector ((Some (Mapped ArrayLabel start end (gathered (m ∷ top))) ∷ []) ∷ outer)
-row-alone vector m top outer start end = omega (arith, levels_take-pushed true vector outer (Some (Mapped ArrayLabel 0 0 (gathered (m ∷ top)))))
-
-pub row-kept : (packs : Bool) (vector : Vector) (shape : Shape) (ns : List ℕ) (n start : ℕ) (outer : Levels) → packs ≡ true →
-    kept_takes packs true vector (elements shape start (ns ++ n ∷ []) ∷ outer) ≡ levels_take packs vector ((Some (row_value shape (ns ++ n ∷ []) start) ∷ []) ∷ outer)
-row-kept false vector shape ns n start outer e = cc
-row-kept true vector shape [] n start outer e = row-alone vector (Some (element_value shape start n)) [] outer start (start + element_width shape * length (n ∷ []))
-row-kept true vector shape (k ∷ ns) n start outer e =
-    row-alone vector (Some (element_value shape start k)) (elements shape (start + element_width shape) (ns ++ n ∷ [])) outer start (start + element_width shape * length (k ∷ ns ++ n ∷ []))

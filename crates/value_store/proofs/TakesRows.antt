@@ -1,10 +1,9 @@
 -- What some values take.
-use Rattle.std.specs.Prelude.{pos}
 use Rattle.std.proofs.Common.{◌≡◌, ℕ, Bool, true, false, List, [], ◌∷◌, Some, refl}
-use Rattle.pickle_meaning.specs.Values.{Value, Mapped, IntegerLabel, ArrayLabel, TextLabel, NoMembers, MemberThen, Levels}
+use Rattle.pickle_meaning.specs.Values.{Value, Mapped, ArrayLabel, TextLabel, NoMembers, MemberThen, Levels}
 use Rattle.value_store.specs.declared.store.slots.Shape.TheVariants.{Integers}
 use Rattle.value_store.specs.Slots.{row_value}
-use Rattle.value_store.specs.Takes.{NodesOf, FamiliesOf, LinksOf, PendingOf, TextsOf, BytesOf, levels_take, kept_takes}
+use Rattle.value_store.specs.Takes.{NodesOf, FamiliesOf, LinksOf, PendingOf, TextsOf, BytesOf, levels_take}
 
 abbrev taken : (packs : Bool) → Levels → List ℕ
 taken packs levels = levels_take packs NodesOf levels ∷ levels_take packs FamiliesOf levels ∷ levels_take packs LinksOf levels ∷ levels_take packs PendingOf levels ∷ levels_take packs TextsOf levels ∷ levels_take packs BytesOf levels ∷ []
@@ -32,7 +31,3 @@ none-packed = refl
 text-members : (packs : Bool) → taken packs (alone (Mapped ArrayLabel 0 40 (MemberThen (Mapped (TextLabel (65 ∷ 66 ∷ [])) 0 24 NoMembers) (MemberThen (Mapped (TextLabel (67 ∷ [])) 24 40 NoMembers) NoMembers)))) ≡ 3 ∷ 1 ∷ 2 ∷ 1 ∷ 2 ∷ 3 ∷ []
 text-members true = refl
 text-members false = refl
-
--- three bytes of an open array in a packing store are a member of the frame around them
-row-under_way : kept_takes true true PendingOf ((Some (Mapped (IntegerLabel (pos 1) (record { width = 8; signed = false })) 0 8 NoMembers) ∷ Some (Mapped (IntegerLabel (pos 2) (record { width = 8; signed = false })) 8 16 NoMembers) ∷ []) ∷ [] ∷ []) ≡ 1
-row-under_way = refl

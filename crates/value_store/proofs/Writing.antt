@@ -1,5 +1,5 @@
 -- Open values that are made of bytes: texts and arrays of packed numbers.
-use Rattle.std.proofs.Common.{◌≡◌, ℕ, ◌+◌, ◌-◌, ◌*◌, ◌<◌, Bool, false, List, [], ◌∷◌, ◌++◌, Some, Result, Ok, Err, OnOk, OnErr, length, take, refl, sym, ◌∙◌, ap, subst, arith, lit<}
+use Rattle.std.proofs.Common.{◌≡◌, ℕ, ◌+◌, ◌-◌, ◌*◌, ◌<◌, List, [], ◌∷◌, ◌++◌, Some, Result, Ok, Err, OnOk, OnErr, length, take, refl, sym, ◌∙◌, ap, subst, arith, lit<}
 use Rattle.std.specs.Prelude.{slice_set}
 use Rattle.std.proofs.Math.Seq.{take-length}
 use Rattle.std.proofs.lemmas.List.{append_assoc, length-append, length_push, length-set, take_at, take_more_set}
@@ -10,14 +10,15 @@ use Rattle.value_store.specs.declared.store.slots.Shape.TheVariants.{Integer, Of
 use Rattle.pickle_meaning.specs.Room.{Slot, slots}
 use Rattle.pickle_meaning.specs.Values.{Levels, opened, top_of, outer_of, pushed, text_value, text_level}
 use Rattle.value_store.specs.Filling.{closed_text, Writes, ShowsByte, CannotWrite, Settles, CannotCloseText}
-use Rattle.value_store.specs.Keeping.{Overfills, LacksRoom, LacksBytes, IsPushed, CannotPush}
+use Rattle.value_store.specs.Exceeding.{Exceeds}
+use Rattle.value_store.specs.Keeping.{LacksRoom, LacksBytes, IsPushed, CannotPush}
 use Rattle.value_store.specs.Levels.{extended}
 use Rattle.value_store.specs.Names.{Names}
-use Rattle.value_store.specs.Takes.{Vector, BytesOf, levels_take}
+use Rattle.value_store.specs.Takes.{BytesOf, levels_take}
 use Rattle.value_store.specs.Slots.{Slots, Held, packs, levels, AreLevels, levels_at, Adds, IsShort, with_bytes, with_more, AreBytes, bytes_value, AreSome, MayKeep, written, HasNoNode, IsFilling, IsWriting, GoesOn, Regrown}
 use Rattle.value_store.proofs.Counted.{levels-more, levels_at-more, levels-sound}
 use Rattle.value_store.proofs.PlacedBytes.{bytes-adds}
-use Rattle.value_store.proofs.Taken.{pushed-extended, slots-pushed, levels_take-pushed, pushed-some}
+use Rattle.value_store.proofs.Taken.{pushed-extended, slots-pushed, pushed-some}
 use Rattle.value_store.proofs.Fits.{overfills, overfilled, totals}
 use Rattle.value_store.proofs.Held.{refused}
 
@@ -73,7 +74,7 @@ some-bytes (Union t i) bytes some = tt
 
 -- what the slots of an open value hold
 module _ (names : Names) (h : Held) (shape : Shape) (bytes : List ℕ) (start : ℕ) (outer : Levels) (w : IsFilling names h shape bytes start outer) (some : 0 < length bytes) where
-  filling-slots : h.slots ≡ with_bytes shape bytes start w.before
+  pub filling-slots : h.slots ≡ with_bytes shape bytes start w.before
   filling-slots = w.is ∙ written-some shape bytes start w.before some
 
   filling-adds : Adds h.room w.before (with_bytes shape bytes start w.before) (λ names. Some (bytes_value shape bytes start) ∷ [])
@@ -91,7 +92,7 @@ module _ (names : Names) (h : Held) (shape : Shape) (bytes : List ℕ) (start : 
       ∙ levels_at-more names h.room h.frames w.before (with_bytes shape bytes start w.before) (λ names. Some (bytes_value shape bytes start) ∷ []) w.own filling-adds
       ∙ ap (λ ls. extended ls (Some (bytes_value shape bytes start) ∷ [])) w.above
 
-  filling-some : 0 < length h.slots.texts
+  pub filling-some : 0 < length h.slots.texts
   filling-some = omega (arith, ap (λ (x : Slots). length x.texts) filling-slots, length_push w.before.texts (length w.before.bytes + length bytes))
 
   more-slots : (more : List ℕ) → with_more more h.slots ≡ with_bytes shape (bytes ++ more) start w.before
@@ -207,7 +208,7 @@ module _ (names : Names) (h : Held) (byte : ℕ) (bytes : List ℕ) (start : ℕ
       ap (λ ls. pushed ls (Some (text_value (byte ∷ []) start (start + 8 * (length (byte ∷ []) + 1))))) (filling-empty names h Text start outer w') ∙ ap (λ bs. text_level (bs ++ byte ∷ []) start outer) (sym none)
 
   -- it takes only the bytes more
-  pub stale-overfills : (HasNoNode h → ⊥) → LacksBytes h 1 → Overfills h false (text_level (bytes ++ byte ∷ []) start outer)
+  pub stale-overfills : (HasNoNode h → ⊥) → LacksBytes h 1 → Exceeds h.room (text_level (bytes ++ byte ∷ []) start outer)
   stale-overfills n lacks =
       let is = writing-levels names h bytes start outer w (stale-some names h Text bytes start outer w n) in
       let held = totals names h BytesOf (filling-all names h Text bytes start outer w) ∙ ap (levels_take (packs h.room) BytesOf) is in
@@ -227,14 +228,8 @@ close-fresh names h bytes start outer w e =
 closed-slots : (kind : Slot) (bytes : List ℕ) (start : ℕ) (outer : Levels) → slots kind (closed_text bytes start outer) ≡ slots kind (text_level bytes start outer)
 closed-slots kind bytes start outer = let v = Some (text_value bytes start (start + 8 * (length bytes + 1))) in omega (arith, slots-pushed kind outer v)
 
-closed-takes : (packs : Bool) (vector : Vector) (bytes : List ℕ) (start : ℕ) (outer : Levels) → levels_take packs vector (closed_text bytes start outer) ≡ levels_take packs vector (text_level bytes start outer)
-closed-takes packs vector bytes start outer = let v = Some (text_value bytes start (start + 8 * (length bytes + 1))) in omega (arith, levels_take-pushed packs vector outer v)
-
-pub overfills-closed : (h : Held) (bytes : List ℕ) (start : ℕ) (outer : Levels) → Overfills h false (text_level bytes start outer) → Overfills h false (closed_text bytes start outer)
-overfills-closed h bytes start outer o = record {
-  least = (o.least.0, omega (arith, o.least.1, closed-slots o.least.0 bytes start outer));
-  capacity = (o.capacity.0, omega (arith, o.capacity.1, closed-takes (packs h.room) o.capacity.0 bytes start outer));
-}
+pub overfills-closed : (h : Held) (bytes : List ℕ) (start : ℕ) (outer : Levels) → Exceeds h.room (text_level bytes start outer) → Exceeds h.room (closed_text bytes start outer)
+overfills-closed h bytes start outer o = (o.0, omega (arith, o.1, closed-slots o.0 bytes start outer))
 
 -- the clauses of the calls
 on_ok : {T E A B : Type 0} (r : Result T E) → (A → B) → OnOk r A → OnOk r B
@@ -257,7 +252,7 @@ module _ {T E : Type 0} (r : Result T E) (h n : Held) (byte start : ℕ) where
   fresh-clause fresh = on_ok r (λ e names bytes outer w short. e names ∙ fresh-levels names h byte bytes start outer w fresh)
 
   pub fresh-full : HasNoNode h → OnErr r (Refused h (byte ∷ []) start) → OnErr r (CannotWrite h byte start)
-  fresh-full fresh = on_err r (λ e names bytes outer w. subst (Overfills h false) (fresh-levels names h byte bytes start outer w fresh) (e names))
+  fresh-full fresh = on_err r (λ e names bytes outer w. subst (Exceeds h.room) (fresh-levels names h byte bytes start outer w fresh) (e names))
 
   pub fresh-writes : HasNoNode h → OnOk r (Regrown (record h { slots = with_bytes Text (byte ∷ []) start h.slots }) n) → OnOk r (Writes h n byte start)
   fresh-writes fresh = on_ok r (λ e names bytes outer w short.
@@ -279,7 +274,7 @@ module _ {T E : Type 0} (r : Result T E) (h n : Held) (byte start : ℕ) where
 
   pub settled-full : HasNoNode h → OnErr r (Refused h [] start) → OnErr r (CannotCloseText h start)
   settled-full fresh = on_err r (λ e names bytes outer w.
-      overfills-closed h bytes start outer (subst (Overfills h false) (close-fresh names h bytes start outer w fresh) (e names)))
+      overfills-closed h bytes start outer (subst (Exceeds h.room) (close-fresh names h bytes start outer w fresh) (e names)))
 
 -- the frames of a text that is lifted
 pub lifted-text : (bytes : List ℕ) (start : ℕ) (outer ls : Levels) → ls ≡ text_level bytes start outer → extended (outer_of ls) (top_of ls) ≡ closed_text bytes start outer

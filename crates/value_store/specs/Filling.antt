@@ -1,11 +1,10 @@
 -- What calls do to an open text or an open array of packed numbers.
-use Rattle.std.specs.Prelude.{◌≡◌, ℕ, ◌+◌, ◌*◌, ◌<◌, ◌^◌, true, false, List, [], ◌∷◌, ◌++◌, Some, length}
+use Rattle.std.specs.Prelude.{◌≡◌, ℕ, ◌+◌, ◌*◌, ◌<◌, ◌^◌, List, [], ◌∷◌, ◌++◌, Some, length}
 use Rattle.value_store.specs.declared.store.slots.Shape.{Shape}
 use Rattle.pickle_meaning.specs.Values.{Levels, pushed, text_value, text_level}
 use Rattle.value_store.specs.Names.{Names}
-use Rattle.value_store.specs.Takes.{AreWithin}
-use Rattle.value_store.specs.Keeping.{Overfills}
-use Rattle.value_store.specs.Slots.{Held, levels, IsShort, packs, elements, row_value, element_width, IsWriting, IsPacking}
+use Rattle.value_store.specs.Exceeding.{Exceeds}
+use Rattle.value_store.specs.Slots.{Held, levels, IsShort, elements, row_value, element_width, IsWriting, IsPacking}
 
 -- the frames around a text that is closed
 abbrev pub closed_text : List ℕ → (start : ℕ) → Levels → Levels
@@ -21,10 +20,10 @@ abbrev pub ShowsByte : (before after : Held) → (byte start : ℕ) → Type 0
 ShowsByte before after byte start = (names : Names) (bytes : List ℕ) (outer : Levels) →
     IsWriting names before bytes start outer → IsShort (length bytes + 1) → levels names after ≡ text_level (bytes ++ byte ∷ []) start outer
 
--- the byte doesn't fit
+-- the byte doesn't fit in the slots that the store was made with
 abbrev pub CannotWrite : Held → (byte start : ℕ) → Type 0
 CannotWrite before byte start = (names : Names) (bytes : List ℕ) (outer : Levels) →
-    IsWriting names before bytes start outer → Overfills before false (text_level (bytes ++ byte ∷ []) start outer)
+    IsWriting names before bytes start outer → Exceeds before.room (text_level (bytes ++ byte ∷ []) start outer)
 
 -- the text is alone in its frame
 abbrev pub Settles : (before after : Held) → (start : ℕ) → Type 0
@@ -36,26 +35,20 @@ abbrev pub ClosesText : (before after : Held) → (start : ℕ) → Type 0
 ClosesText before after start = (names : Names) (bytes : List ℕ) (outer : Levels) →
     IsWriting names before bytes start outer → levels names after ≡ closed_text bytes start outer
 
--- the closed text doesn't fit
+-- nor does the closed text
 abbrev pub CannotCloseText : Held → (start : ℕ) → Type 0
 CannotCloseText before start = (names : Names) (bytes : List ℕ) (outer : Levels) →
-    IsWriting names before bytes start outer → Overfills before false (closed_text bytes start outer)
+    IsWriting names before bytes start outer → Exceeds before.room (closed_text bytes start outer)
 
 -- the array has one more number
 abbrev pub Packs : (before after : Held) → Shape → (digits start : ℕ) → Type 0
 Packs before after shape digits start = (names : Names) (numbers : List ℕ) (outer : Levels) → IsPacking names before shape numbers start outer →
     start + element_width shape * (length numbers + 1) < 2 ^ 64 → IsPacking names after shape (numbers ++ digits ∷ []) start outer
 
--- its numbers, the new one included, take no more than the capacity
-abbrev pub PacksWithin : (before after : Held) → Shape → (digits start : ℕ) → Type 0
-PacksWithin before after shape digits start = (names : Names) (numbers : List ℕ) (outer : Levels) → IsPacking names before shape numbers start outer →
-    start + element_width shape * (length numbers + 1) < 2 ^ 64 →
-    AreWithin (packs after.room) true (elements shape start (numbers ++ digits ∷ []) ∷ outer) after.capacity
-
--- the number doesn't fit
+-- the number doesn't fit in the slots that the store was made with
 abbrev pub CannotPack : Held → Shape → (digits start : ℕ) → Type 0
 CannotPack before shape digits start = (names : Names) (numbers : List ℕ) (outer : Levels) →
-    IsPacking names before shape numbers start outer → Overfills before true (elements shape start (numbers ++ digits ∷ []) ∷ outer)
+    IsPacking names before shape numbers start outer → Exceeds before.room (elements shape start (numbers ++ digits ∷ []) ∷ outer)
 
 -- the array is alone in its frame
 abbrev pub SettlesRow : (before after : Held) → Shape → (start : ℕ) → Type 0
@@ -67,7 +60,7 @@ abbrev pub ClosesRow : (before after : Held) → Shape → (start : ℕ) → Typ
 ClosesRow before after shape start = (names : Names) (numbers : List ℕ) (outer : Levels) →
     IsPacking names before shape numbers start outer → levels names after ≡ pushed outer (Some (row_value shape numbers start))
 
--- the closed array doesn't fit
+-- nor does the closed array
 abbrev pub CannotCloseRow : Held → Shape → (start : ℕ) → Type 0
 CannotCloseRow before shape start = (names : Names) (numbers : List ℕ) (outer : Levels) →
-    IsPacking names before shape numbers start outer → Overfills before false (pushed outer (Some (row_value shape numbers start)))
+    IsPacking names before shape numbers start outer → Exceeds before.room (pushed outer (Some (row_value shape numbers start)))

@@ -1,22 +1,12 @@
 -- The frames that a store holds, and those that don't fit in it.
-use Rattle.std.specs.Prelude.{◌≡◌, ℕ, ◌+◌, ◌<◌, ◌≤◌, Bool, true, false, Option, None, length}
+use Rattle.std.specs.Prelude.{◌≡◌, ℕ, ◌+◌, ◌<◌, ◌≤◌, true, Option, None, length}
 use Rattle.value_store.specs.declared.store.slots.Shape.{Shape}
-use Rattle.pickle_meaning.specs.Values.{Label, Value, Levels, top_of, gathered, pushed}
+use Rattle.pickle_meaning.specs.Values.{Label, Value, top_of, gathered, pushed}
 use Rattle.value_store.specs.Closed.{closed, placed}
 use Rattle.value_store.specs.Exceeding.{Exceeds}
 use Rattle.value_store.specs.Names.{Names}
-use Rattle.value_store.specs.Takes.{Vector, of_vector, row_width, packed_width, AreWithin, Passes}
+use Rattle.value_store.specs.Takes.{Vector, of_vector, row_width, packed_width}
 use Rattle.value_store.specs.Slots.{Slots, Held, packs, levels, marks_of, composite_label}
-
--- Frames don't fit: neither in the slots that the store was made with, nor in the capacity of its vectors. `row` says
--- that the innermost frame is an open array of packed numbers.
-pub record Overfills (h : Held) (row : Bool) (levels : Levels) : Type 0 where
-  pub least : Exceeds h.room levels
-  pub capacity : Passes (packs h.room) row levels h.capacity
-
--- a store's frames take no more than the capacity of its vectors
-abbrev pub HoldsLevels : Held → Type 0
-HoldsLevels h = (names : Names) → AreWithin (packs h.room) false (levels names h) h.capacity
 
 -- these slots take more of some vector than its capacity
 abbrev pub LacksRoom : Held → Slots → Type 0
@@ -30,9 +20,9 @@ LacksBytes h count = (h.room.least ≤ h.capacity.bytes) × (h.capacity.bytes < 
 abbrev pub IsPushed : (before after : Held) → Option Value → Type 0
 IsPushed before after v = (names : Names) → levels names after ≡ pushed (levels names before) v
 
--- that part doesn't fit
+-- that part doesn't fit in the slots that the store was made with
 abbrev pub CannotPush : Held → Option Value → Type 0
-CannotPush before v = (names : Names) → Overfills before false (pushed (levels names before) v)
+CannotPush before v = (names : Names) → Exceeds before.room (pushed (levels names before) v)
 
 -- the parts of the innermost open value became one value, which takes their place
 abbrev pub IsPlaced : (before after : Held) → (Names → Label) → (start end : ℕ) → Type 0
@@ -42,9 +32,9 @@ IsPlaced before after label start end = (names : Names) → levels names after �
 abbrev pub IsClosed : (before after : Held) → (Names → Label) → (start end : ℕ) → Type 0
 IsClosed before after label start end = (names : Names) → levels names after ≡ closed (label names) start end (levels names before)
 
--- the closed value doesn't fit
+-- nor does the closed value
 abbrev pub CannotClose : Held → (Names → Label) → (start end : ℕ) → Type 0
-CannotClose before label start end = (names : Names) → Overfills before false (closed (label names) start end (levels names before))
+CannotClose before label start end = (names : Names) → Exceeds before.room (closed (label names) start end (levels names before))
 
 -- the innermost value, closed as such a value, isn't stored as packed numbers
 abbrev pub KeepsMembers : Held → Shape → Type 0

@@ -2,6 +2,7 @@ pub mod Labels
 pub mod Scalars
 pub mod Levels
 pub mod Takes
+pub mod Moves
 pub mod Links
 pub mod Packed
 pub mod Slots

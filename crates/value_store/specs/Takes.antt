@@ -1,7 +1,7 @@
 -- How much of each vector of a store its frames take.
-use Rattle.std.specs.Prelude.{ℕ, ◌+◌, ◌*◌, ◌<◌, ◌≤◌, Bool, true, false, List, [], ◌∷◌, Option, Some, None}
+use Rattle.std.specs.Prelude.{ℕ, ◌+◌, ◌*◌, Bool, true, false, List, [], ◌∷◌, Option, Some, None}
 use Rattle.value_store.specs.declared.store.slots.Marks.{Marks}
-use Rattle.pickle_meaning.specs.Values.{Label, IntegerLabel, OffsetLabel, TextLabel, ArrayLabel, StructLabel, UnionLabel, Value, Mapped, Members, NoMembers, MemberThen, AbsentThen, Levels, label_of, member_count, gathered, pushed}
+use Rattle.pickle_meaning.specs.Values.{Label, IntegerLabel, OffsetLabel, TextLabel, ArrayLabel, StructLabel, UnionLabel, Value, Mapped, Members, NoMembers, MemberThen, AbsentThen, Levels, label_of, member_count}
 use Rattle.pickle_meaning.specs.Room.{text_length}
 use Rattle.value_store.specs.Packed.{bytes_for}
 
@@ -121,24 +121,3 @@ level_takes packs vector (m ∷ rest) = member_takes packs vector m + level_take
 abbrev pub levels_take : (packs : Bool) → Vector → Levels → ℕ
 levels_take packs vector [] = 0
 levels_take packs vector (top ∷ outer) = level_takes packs vector top + levels_take packs vector outer
-
--- what frames take where the innermost one is an open array of packed numbers. Once the array has a number, it is a
--- member of the frame around it
-abbrev pub row_levels_take : (packs : Bool) → Vector → Levels → ℕ
-row_levels_take false vector levels = levels_take false vector levels
-row_levels_take true vector [] = levels_take true vector []
-row_levels_take true vector ([] ∷ outer) = levels_take true vector ([] ∷ outer)
-row_levels_take true vector ((m ∷ top) ∷ outer) = levels_take true vector (pushed outer (Some (Mapped ArrayLabel 0 0 (gathered (m ∷ top)))))
-
--- what frames take of a vector; `row` says whether the innermost one is an open array of packed numbers
-abbrev pub kept_takes : (packs row : Bool) → Vector → Levels → ℕ
-kept_takes packs false vector levels = levels_take packs vector levels
-kept_takes packs true vector levels = row_levels_take packs vector levels
-
--- frames that these capacities are enough for
-abbrev pub AreWithin : (packs row : Bool) → Levels → (capacity : Marks) → Type 0
-AreWithin packs row levels capacity = (vector : Vector) → kept_takes packs row vector levels ≤ of_vector vector capacity
-
--- frames that need more than one of the capacities
-abbrev pub Passes : (packs row : Bool) → Levels → (capacity : Marks) → Type 0
-Passes packs row levels capacity = (vector : Vector) × (of_vector vector capacity < kept_takes packs row vector levels)

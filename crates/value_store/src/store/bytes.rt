@@ -1,7 +1,7 @@
 //! Values that are made of bytes: texts, and arrays of packed numbers.
 ghost use Rattle.std.specs.Prelude.{◌≡◌, [], ◌∷◌, Some, length, IsTrue, ◌↔◌, OnOk, OnErr};
-ghost use Rattle.value_store.specs.Keeping.{HoldsLevels, LacksBytes, IsPushed, CannotPush};
-ghost use Rattle.value_store.specs.Slots.{level_count, with_bytes, with_more, bytes_value, AreBytes, AreSome, MayKeep, HasNoNode, GoesOn, KeepsRoom, Regrown};
+ghost use Rattle.value_store.specs.Keeping.{LacksRoom, LacksBytes, IsPushed, CannotPush};
+ghost use Rattle.value_store.specs.Slots.{level_count, with_bytes, with_more, bytes_value, AreBytes, AreSome, MayKeep, HasNoNode, GoesOn, HoldsInRoom, KeepsRoom, Regrown};
 
 use crate::store::Store;
 use crate::store::append::append;
@@ -22,11 +22,12 @@ impl Store {
         requires some { AreSome shape bytes.now }
         ensures slots { OnOk result (Regrown (record self.old { slots = with_bytes shape bytes.now start self.old.slots }) self.new) }
         ensures levels { OnOk result (IsPushed self.old self.new (Some (bytes_value shape bytes.now start))) }
-        ensures within { OnOk result (HoldsLevels self.new) }
+        ensures within { OnOk result (HoldsInRoom self.new) }
         ensures err { OnErr result (Regrown self.old self.new) }
         ensures room { KeepsRoom self.old self.new }
         ensures depth { level_count self.new ≡ level_count self.old }
         ensures full { OnErr result (CannotPush self.old (Some (bytes_value shape bytes.now start))) }
+        ensures lacks { OnErr result (LacksRoom self.old (with_bytes shape bytes.now start self.old.slots)) }
     {
         let index = self.nodes.len();
         let content = self.texts.len() as u64;
@@ -51,7 +52,7 @@ impl Store {
     pub(super) fn append_bytes(&mut self, shape: Shape, more: &[u8]) -> Result<(), Memory>
         requires { GoesOn self.old shape more.now }
         ensures slots { OnOk result (Regrown (record self.old { slots = with_more more.now self.old.slots }) self.new) }
-        ensures within { OnOk result (HoldsLevels self.new) }
+        ensures within { OnOk result (HoldsInRoom self.new) }
         ensures err { OnErr result (Regrown self.old self.new) }
         ensures room { KeepsRoom self.old self.new }
         ensures depth { level_count self.new ≡ level_count self.old }
@@ -69,7 +70,7 @@ impl Store {
     pub(super) fn append_byte(&mut self, shape: Shape, byte: u8) -> Result<(), Memory>
         requires { GoesOn self.old shape (byte ∷ []) }
         ensures slots { OnOk result (Regrown (record self.old { slots = with_more (byte ∷ []) self.old.slots }) self.new) }
-        ensures within { OnOk result (HoldsLevels self.new) }
+        ensures within { OnOk result (HoldsInRoom self.new) }
         ensures err { OnErr result (Regrown self.old self.new) }
         ensures room { KeepsRoom self.old self.new }
         ensures depth { level_count self.new ≡ level_count self.old }

@@ -2,10 +2,10 @@
 
 ghost use Rattle.std.specs.Prelude.{◌≡◌, ◌+◌, ◌-◌, ◌<◌, ◌≤◌, ◌∷◌, [], length, max, take};
 ghost use Rattle.pickle_meaning.specs.Values.{opened, outer_of, top_of};
-ghost use Rattle.value_store.specs.Keeping.{HoldsLevels};
 ghost use Rattle.value_store.specs.Levels.{extended};
+ghost use Rattle.value_store.specs.Moves.{Moves, Opens, Clears, Drops, state_of, lifted};
 ghost use Rattle.value_store.specs.Names.{Names};
-ghost use Rattle.value_store.specs.Slots.{Held, levels, level_count, cut_to, innermost, marks_of, HasNoNode, AreLevels, KeepsRoom};
+ghost use Rattle.value_store.specs.Slots.{Held, levels, level_count, cut_to, innermost, marks_of, HasNoNode, AreLevels, HoldsInRoom, KeepsRoom};
 
 use crate::store::Store;
 use crate::store::slots::Marks;
@@ -20,6 +20,8 @@ impl Store {
         ensures slots { self.new.slots ≡ self.old.slots }
         ensures sound { AreLevels self.new.room self.new.frames self.new.slots }
         ensures fresh { HasNoNode self.new }
+        ensures moves { Moves self.old self.new Opens }
+        ensures within { HoldsInRoom self.new }
     {
         let marks = self.marks();
         self.frames.push(marks);
@@ -28,9 +30,10 @@ impl Store {
     /// Closes the innermost open value. Its parts become parts of the value around it.
     pub(crate) fn lift_level(&mut self)
         ensures levels { (names : Names) → levels names self.new ≡ extended (outer_of (levels names self.old)) (top_of (levels names self.old)) }
-        ensures within { HoldsLevels self.new }
+        ensures within { HoldsInRoom self.new }
         ensures room { KeepsRoom self.old self.new }
         ensures depth { level_count self.new ≡ max 1 (level_count self.old - 1) }
+        ensures lifts { state_of self.new ≡ lifted (state_of self.old) }
     {
         let _ = self.frames.pop();
     }
@@ -40,6 +43,8 @@ impl Store {
         ensures levels { (names : Names) → levels names self.new ≡ opened (outer_of (levels names self.old)) }
         ensures room { KeepsRoom self.old self.new }
         ensures depth { level_count self.new ≡ level_count self.old }
+        ensures moves { Moves self.old self.new Clears }
+        ensures within { HoldsInRoom self.new }
     {
         let marks = self.innermost();
         self.nodes.truncate(marks.nodes);
@@ -56,6 +61,8 @@ impl Store {
         ensures levels { (names : Names) → levels names self.new ≡ outer_of (levels names self.old) }
         ensures room { KeepsRoom self.old self.new }
         ensures depth { level_count self.new + 1 ≡ level_count self.old }
+        ensures moves { Moves self.old self.new Drops }
+        ensures within { HoldsInRoom self.new }
     {
         self.clear_level();
         self.lift_level();

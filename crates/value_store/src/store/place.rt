@@ -6,8 +6,9 @@ ghost use Rattle.pickle_types.specs.Table.{IsWidth};
 ghost use Rattle.pickle_meaning.specs.Means.{integer_value, offset_value};
 ghost use Rattle.pickle_meaning.specs.Values.{ArrayLabel};
 ghost use Rattle.value_store.specs.Closed.{struct_label, union_label};
-ghost use Rattle.value_store.specs.Keeping.{HoldsLevels, IsPushed, CannotPush, IsPlaced, IsClosed, CannotClose, KeepsMembers, StartsWithNoNumber};
-ghost use Rattle.value_store.specs.Slots.{level_count, IsNumber, number_value, number_in, IsContentNumber, IsComposite, composite_label, KeepsRoom, Regrown};
+ghost use Rattle.value_store.specs.Keeping.{IsPushed, CannotPush, IsPlaced, IsClosed, CannotClose, KeepsMembers, StartsWithNoNumber};
+ghost use Rattle.value_store.specs.Moves.{Moves, CannotMove, Places, Leaves, Closes, state_of, joined};
+ghost use Rattle.value_store.specs.Slots.{level_count, IsNumber, number_value, number_in, IsContentNumber, IsComposite, composite_label, HoldsInRoom, KeepsRoom, Regrown};
 
 use crate::ranges::with_sign;
 use crate::store::Store;
@@ -98,11 +99,13 @@ impl Store {
     fn place_number(&mut self, shape: Shape, start: u64, content: u64) -> Result<(), Memory>
         requires number { IsNumber shape }
         ensures ok { OnOk result (IsPushed self.old self.new (Some (number_value shape start content))) }
-        ensures within { OnOk result (HoldsLevels self.new) }
+        ensures within { OnOk result (HoldsInRoom self.new) }
         ensures err { OnErr result (Regrown self.old self.new) }
         ensures room { KeepsRoom self.old self.new }
         ensures depth { level_count self.new ≡ level_count self.old }
         ensures full { OnErr result (CannotPush self.old (Some (number_value shape start content))) }
+        ensures moves { OnOk result (Moves self.old self.new Places) }
+        ensures lacks { OnErr result (CannotMove self.old Places) }
     {
         let index = self.nodes.len();
         self.room.reserve(&mut self.nodes, 1)?;
@@ -126,6 +129,8 @@ impl Store {
         ensures room { KeepsRoom self.old self.new }
         ensures depth { level_count self.new ≡ level_count self.old }
         ensures full { OnErr result (CannotClose self.old (λ names. composite_label names shape) start (start + size)) }
+        ensures joins { OnOk result (state_of self.new ≡ joined (state_of self.old)) }
+        ensures lacks { OnErr result (CannotMove self.old Closes) }
     {
         let mark = self.innermost().pending;
         let index = self.nodes.len();
@@ -158,11 +163,13 @@ impl Store {
         requires width { IsWidth number }
         requires below { digits < 2 ^ number.width }
         ensures ok { OnOk result (IsPushed self.old self.new (Some (integer_value number digits start))) }
-        ensures within { OnOk result (HoldsLevels self.new) }
+        ensures within { OnOk result (HoldsInRoom self.new) }
         ensures err { OnErr result (Regrown self.old self.new) }
         ensures room { KeepsRoom self.old self.new }
         ensures depth { level_count self.new ≡ level_count self.old }
         ensures full { OnErr result (CannotPush self.old (Some (integer_value number digits start))) }
+        ensures moves { OnOk result (Moves self.old self.new Places) }
+        ensures lacks { OnErr result (CannotMove self.old Places) }
     {
         self.place_number(
             Shape::Integer {
@@ -186,11 +193,13 @@ impl Store {
         requires unit { 1 ≤ unit }
         requires below { digits < 2 ^ number.width }
         ensures ok { OnOk result (IsPushed self.old self.new (Some (offset_value number unit digits start))) }
-        ensures within { OnOk result (HoldsLevels self.new) }
+        ensures within { OnOk result (HoldsInRoom self.new) }
         ensures err { OnErr result (Regrown self.old self.new) }
         ensures room { KeepsRoom self.old self.new }
         ensures depth { level_count self.new ≡ level_count self.old }
         ensures full { OnErr result (CannotPush self.old (Some (offset_value number unit digits start))) }
+        ensures moves { OnOk result (Moves self.old self.new Places) }
+        ensures lacks { OnErr result (CannotMove self.old Places) }
     {
         self.place_number(
             Shape::Offset {
@@ -206,11 +215,13 @@ impl Store {
     /// Places an absent field.
     pub fn push_absent(&mut self) -> Result<(), Memory>
         ensures ok { OnOk result (IsPushed self.old self.new None) }
-        ensures within { OnOk result (HoldsLevels self.new) }
+        ensures within { OnOk result (HoldsInRoom self.new) }
         ensures err { OnErr result (Regrown self.old self.new) }
         ensures room { KeepsRoom self.old self.new }
         ensures depth { level_count self.new ≡ level_count self.old }
         ensures full { OnErr result (CannotPush self.old None) }
+        ensures moves { OnOk result (Moves self.old self.new Leaves) }
+        ensures lacks { OnErr result (CannotMove self.old Leaves) }
     {
         self.room.reserve(&mut self.pending, 1)?;
         self.pending.push_reserved(Link::absent());
@@ -223,11 +234,13 @@ impl Store {
         requires composite { IsComposite shape }
         requires members { KeepsMembers self.old shape }
         ensures ok { OnOk result (IsClosed self.old self.new (λ names. composite_label names shape) start (start + size)) }
-        ensures within { OnOk result (HoldsLevels self.new) }
+        ensures within { OnOk result (HoldsInRoom self.new) }
         ensures err { OnErr result (Regrown self.old self.new) }
         ensures room { KeepsRoom self.old self.new }
         ensures depth { OnOk result (level_count self.new ≡ max 1 (level_count self.old - 1)) }
         ensures full { OnErr result (CannotClose self.old (λ names. composite_label names shape) start (start + size)) }
+        ensures moves { OnOk result (Moves self.old self.new Closes) }
+        ensures lacks { OnErr result (CannotMove self.old Closes) }
     {
         self.place_family(shape, start, size)?;
         self.lift_level();
@@ -240,11 +253,13 @@ impl Store {
         requires order { start ≤ end }
         requires members { StartsWithNoNumber self.old }
         ensures ok { OnOk result (IsClosed self.old self.new (λ names. ArrayLabel) start end) }
-        ensures within { OnOk result (HoldsLevels self.new) }
+        ensures within { OnOk result (HoldsInRoom self.new) }
         ensures err { OnErr result (Regrown self.old self.new) }
         ensures room { KeepsRoom self.old self.new }
         ensures depth { OnOk result (level_count self.new ≡ max 1 (level_count self.old - 1)) }
         ensures full { OnErr result (CannotClose self.old (λ names. ArrayLabel) start end) }
+        ensures moves { OnOk result (Moves self.old self.new Closes) }
+        ensures lacks { OnErr result (CannotMove self.old Closes) }
     {
         self.close(Shape::Array, start, end - start)
     }
@@ -254,11 +269,13 @@ impl Store {
     pub fn close_struct(&mut self, of: u32, start: u64, end: u64) -> Result<(), Memory>
         requires order { start ≤ end }
         ensures ok { OnOk result (IsClosed self.old self.new (λ names. struct_label names of) start end) }
-        ensures within { OnOk result (HoldsLevels self.new) }
+        ensures within { OnOk result (HoldsInRoom self.new) }
         ensures err { OnErr result (Regrown self.old self.new) }
         ensures room { KeepsRoom self.old self.new }
         ensures depth { OnOk result (level_count self.new ≡ max 1 (level_count self.old - 1)) }
         ensures full { OnErr result (CannotClose self.old (λ names. struct_label names of) start end) }
+        ensures moves { OnOk result (Moves self.old self.new Closes) }
+        ensures lacks { OnErr result (CannotMove self.old Closes) }
     {
         self.close(Shape::Struct { of }, start, end - start)
     }
@@ -268,11 +285,13 @@ impl Store {
     pub fn close_union(&mut self, of: u32, taken: u16, start: u64, end: u64) -> Result<(), Memory>
         requires order { start ≤ end }
         ensures ok { OnOk result (IsClosed self.old self.new (λ names. union_label names of taken) start end) }
-        ensures within { OnOk result (HoldsLevels self.new) }
+        ensures within { OnOk result (HoldsInRoom self.new) }
         ensures err { OnErr result (Regrown self.old self.new) }
         ensures room { KeepsRoom self.old self.new }
         ensures depth { OnOk result (level_count self.new ≡ max 1 (level_count self.old - 1)) }
         ensures full { OnErr result (CannotClose self.old (λ names. union_label names of taken) start end) }
+        ensures moves { OnOk result (Moves self.old self.new Closes) }
+        ensures lacks { OnErr result (CannotMove self.old Closes) }
     {
         self.close(Shape::Union { taken, of }, start, end - start)
     }

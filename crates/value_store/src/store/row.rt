@@ -1,9 +1,9 @@
 //! Arrays of packed numbers.
 ghost use Rattle.std.specs.Prelude.{◌≡◌, ◌<◌, ◌-◌, ◌^◌, max, take, IsTrue, ◌↔◌, OnOk, OnErr};
-ghost use Rattle.value_store.specs.Filling.{Packs, PacksWithin, CannotPack, SettlesRow, ClosesRow, CannotCloseRow};
-ghost use Rattle.value_store.specs.Keeping.{HoldsLevels};
+ghost use Rattle.value_store.specs.Filling.{Packs, CannotPack, SettlesRow, ClosesRow, CannotCloseRow};
+ghost use Rattle.value_store.specs.Moves.{Moves, CannotMove, Packs as PacksNumber, ClosesRow as ClosesPacked, state_of, settled_row};
 ghost use Rattle.value_store.specs.Packed.{bytes_for, number_bytes};
-ghost use Rattle.value_store.specs.Slots.{level_count, packs, element_width, HasNoNode, IsPacked, IsRowOf, TakesNumber, KeepsRoom, Regrown};
+ghost use Rattle.value_store.specs.Slots.{level_count, packs, element_width, HasNoNode, IsPacked, IsRowOf, TakesNumber, HoldsInRoom, KeepsRoom, Regrown};
 
 use crate::store::Store;
 use crate::store::slots::Shape;
@@ -41,11 +41,13 @@ impl Store {
         requires below { digits < 2 ^ width }
         requires first { IsTrue first ↔ HasNoNode self.old }
         ensures ok { OnOk result (Packs self.old self.new shape digits start) }
-        ensures within { OnOk result (PacksWithin self.old self.new shape digits start) }
+        ensures within { OnOk result (HoldsInRoom self.new) }
         ensures err { OnErr result (Regrown self.old self.new) }
         ensures room { KeepsRoom self.old self.new }
         ensures depth { level_count self.new ≡ level_count self.old }
         ensures full { OnErr result (CannotPack self.old shape digits start) }
+        ensures moves { OnOk result (Moves self.old self.new (PacksNumber width)) }
+        ensures lacks { OnErr result (CannotMove self.old (PacksNumber width)) }
     {
         if !first && width <= 8 {
             return self.append_byte(shape, digits as u8);
@@ -68,6 +70,8 @@ impl Store {
         ensures room { KeepsRoom self.old self.new }
         ensures depth { level_count self.new ≡ level_count self.old }
         ensures full { OnErr result (CannotCloseRow self.old shape start) }
+        ensures settles { OnOk result (state_of self.new ≡ settled_row (packs self.old.room) (state_of self.old)) }
+        ensures lacks { OnErr result (CannotMove self.old (ClosesPacked (element_width shape))) }
     {
         if self.has_no_node() {
             self.place_family(Shape::Array, start, 0)
@@ -81,11 +85,13 @@ impl Store {
         requires row { IsRowOf self.old shape start }
         requires packed { IsPacked shape }
         ensures ok { OnOk result (ClosesRow self.old self.new shape start) }
-        ensures within { OnOk result (HoldsLevels self.new) }
+        ensures within { OnOk result (HoldsInRoom self.new) }
         ensures err { OnErr result (Regrown self.old self.new) }
         ensures room { KeepsRoom self.old self.new }
         ensures depth { OnOk result (level_count self.new ≡ max 1 (level_count self.old - 1)) }
         ensures full { OnErr result (CannotCloseRow self.old shape start) }
+        ensures moves { OnOk result (Moves self.old self.new (ClosesPacked (element_width shape))) }
+        ensures lacks { OnErr result (CannotMove self.old (ClosesPacked (element_width shape))) }
     {
         self.settle_row(shape, start)?;
         self.lift_level();

@@ -4,8 +4,8 @@ ghost use Rattle.std.specs.Prelude.{◌≡◌, ℕ, ◌+◌, ◌-◌, ◌≤◌,
 ghost use Rattle.pickle_meaning.specs.Values.{opened};
 ghost use Rattle.value_store.specs.Names.{Names};
 ghost use Rattle.value_store.specs.Filling.{Writes, ShowsByte, CannotWrite, Settles, ClosesText, CannotCloseText};
-ghost use Rattle.value_store.specs.Keeping.{HoldsLevels};
-ghost use Rattle.value_store.specs.Slots.{levels, level_count, with_more, HasNoNode, IsWriting, IsText, TakesByte, KeepsRoom, Regrown};
+ghost use Rattle.value_store.specs.Moves.{Moves, CannotMove, Opens, Ends, Writes as WritesByte, state_of, settled};
+ghost use Rattle.value_store.specs.Slots.{levels, level_count, with_more, HasNoNode, IsWriting, IsText, TakesByte, HoldsInRoom, KeepsRoom, Regrown};
 ghost use Rattle.value_store.specs.declared.store.slots.Shape.TheVariants as shape;
 
 use crate::store::Store;
@@ -20,6 +20,8 @@ impl Store {
         ensures levels { (names : Names) → levels names self.new ≡ opened (levels names self.old) }
         ensures room { KeepsRoom self.old self.new }
         ensures depth { level_count self.new ≡ level_count self.old + 1 }
+        ensures moves { Moves self.old self.new Opens }
+        ensures within { HoldsInRoom self.new }
     {
         self.open_level();
     }
@@ -31,11 +33,13 @@ impl Store {
         requires first { IsTrue first ↔ HasNoNode self.old }
         ensures writes { OnOk result (Writes self.old self.new byte start) }
         ensures levels { OnOk result (ShowsByte self.old self.new byte start) }
-        ensures within { OnOk result (HoldsLevels self.new) }
+        ensures within { OnOk result (HoldsInRoom self.new) }
         ensures err { OnErr result (Regrown self.old self.new) }
         ensures room { KeepsRoom self.old self.new }
         ensures depth { level_count self.new ≡ level_count self.old }
         ensures full { OnErr result (CannotWrite self.old byte start) }
+        ensures moves { OnOk result (Moves self.old self.new WritesByte) }
+        ensures lacks { OnErr result (CannotMove self.old WritesByte) }
     {
         if first {
             self.place_bytes(Shape::Text, start, &[byte])
@@ -52,6 +56,8 @@ impl Store {
         ensures room { KeepsRoom self.old self.new }
         ensures depth { level_count self.new ≡ level_count self.old }
         ensures full { OnErr result (CannotCloseText self.old start) }
+        ensures settles { OnOk result (state_of self.new ≡ settled (state_of self.old)) }
+        ensures lacks { OnErr result (CannotMove self.old Ends) }
     {
         if self.has_no_node() {
             self.place_bytes(Shape::Text, start, &[])
@@ -64,11 +70,13 @@ impl Store {
     pub fn close_text(&mut self, start: u64) -> Result<(), Memory>
         requires { IsText self.old start }
         ensures ok { OnOk result (ClosesText self.old self.new start) }
-        ensures within { OnOk result (HoldsLevels self.new) }
+        ensures within { OnOk result (HoldsInRoom self.new) }
         ensures err { OnErr result (Regrown self.old self.new) }
         ensures room { KeepsRoom self.old self.new }
         ensures depth { OnOk result (level_count self.new ≡ max 1 (level_count self.old - 1)) }
         ensures full { OnErr result (CannotCloseText self.old start) }
+        ensures moves { OnOk result (Moves self.old self.new Ends) }
+        ensures lacks { OnErr result (CannotMove self.old Ends) }
     {
         self.settle_text(start)?;
         self.lift_level();

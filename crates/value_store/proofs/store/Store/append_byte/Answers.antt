@@ -3,7 +3,6 @@ use Rattle.std.specs.Prelude.{vec_capacity}
 use Rattle.value_store.specs.Keeping.{LacksBytes}
 use Rattle.value_store.specs.Slots.{Slots, Held, GoesOn}
 use Rattle.value_store.specs.contracts.store.Store.{the_view}
-use Rattle.value_store.proofs.Fits.{held-levels}
 use Rattle.value_store.proofs.Held.{refused}
 use Rattle.value_store.proofs.Writing.{more-frames, more-placed}
 use Rattle.value_store.proofs.store.Store.append_byte.Goals as goal
@@ -44,11 +43,3 @@ pub returns-in_err-reserve-clause-full : goal.returns-in_err-reserve-clause-full
 returns-in_err-reserve-clause-full c =
     let lacks : LacksBytes (the_view c.self.inside) 1 = (c.self.invariant.bytes, omega (arith, c.in_err-reserve.ensures.full)) in
     rw (← c.self.view_is) (refused c.from_residual.result lacks)
-
-pub returns-clause-within : goal.returns-clause-within
-returns-clause-within c =
-    let h = the_view c.self.inside in
-    let more = c.args.byte ∷ [] in
-    let g : GoesOn h c.args.shape more = subst (λ (h : Held). GoesOn h c.args.shape more) (sym c.self.view_is) c.requires in
-    let e = more-placed h c.args.shape more c.len-last.result c.len.result c.push_reserved.new.self.items g (search rules) (search rules) (search rules) in
-    held-levels _ (rw e (more-frames g.names h c.args.shape g.bytes g.start g.outer g.filling g.some more g.are)) (search rules)

@@ -1,8 +1,7 @@
-use Rattle.std.proofs.Common.{rules, ◌≡◌, ◌∙◌, ap, reverse}
+use Rattle.std.proofs.Common.{rules, ◌≡◌, refl, ◌∙◌, ap, reverse}
 use Rattle.value_store.specs.Slots.{around}
 use Rattle.value_store.specs.contracts.store.Store.{the_view}
 use Rattle.value_store.proofs.Held.{lift-frames, lift-levels, depth-lift}
-use Rattle.value_store.proofs.Fits.{held-levels}
 use Rattle.value_store.proofs.Frames.{reverse-pop}
 use Rattle.value_store.proofs.store.Store.lift_level.Goals as goal
 
@@ -30,7 +29,7 @@ returns-clause-depth c =
     let e : reverse c.pop.new.self.items ≡ around (the_view c.self.inside).frames = ap reverse c.pop.ensures.rest ∙ reverse-pop c.self.inside.frames.items in
     rw (← c.self.view_is) (depth-lift (the_view c.self.inside).frames _ e)
 
-pub returns-clause-within : goal.returns-clause-within
-returns-clause-within c =
+pub returns-clause-lifts : goal.returns-clause-lifts
+returns-clause-lifts c =
     let e : reverse c.pop.new.self.items ≡ around (the_view c.self.inside).frames = ap reverse c.pop.ensures.rest ∙ reverse-pop c.self.inside.frames.items in
-    held-levels _ (rw e (lift-frames (the_view c.self.inside) c.self.invariant.levels)) (search rules)
+    rw (← c.self.view_is) (rw e refl)

@@ -48,3 +48,9 @@ returns-clause-fresh c =
     let m : c.marks-marks.result ≡ marks_of (the_view c.self.inside).slots = search rules in
     let e : reverse c.push.new.self.items ≡ marks_of (the_view c.self.inside).slots ∷ (the_view c.self.inside).frames = ap reverse c.push.ensures.items ∙ reverse-push c.self.inside.frames.items c.marks-marks.result ∙ ap (λ k. k ∷ (the_view c.self.inside).frames) m in
     rw e refl
+
+pub returns-clause-moves : goal.returns-clause-moves
+returns-clause-moves c =
+    let m : c.marks-marks.result ≡ marks_of (the_view c.self.inside).slots = search rules in
+    let e : reverse c.push.new.self.items ≡ marks_of (the_view c.self.inside).slots ∷ (the_view c.self.inside).frames = ap reverse c.push.ensures.items ∙ reverse-push c.self.inside.frames.items c.marks-marks.result ∙ ap (λ k. k ∷ (the_view c.self.inside).frames) m in
+    rw (← c.self.view_is) (rw e refl)

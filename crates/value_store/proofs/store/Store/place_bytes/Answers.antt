@@ -1,10 +1,9 @@
-use Rattle.std.proofs.Common.{rules, ◌≡◌, ◌+◌, Some, length, subst, sym, arith}
-use Rattle.std.proofs.lemmas.List.{length-append, length_push}
-use Rattle.value_store.specs.declared.store.slots.Node.{Node}
+use Rattle.std.proofs.Common.{rules, ◌≡◌, subst, sym, arith}
 use Rattle.value_store.specs.Slots.{Slots, Held, MayKeep, with_bytes}
 use Rattle.value_store.specs.Takes.{NodesOf, PendingOf, TextsOf, BytesOf}
 use Rattle.value_store.specs.contracts.store.Store.{the_view}
-use Rattle.value_store.proofs.Fits.{held-levels}
+use Rattle.value_store.proofs.Held.{refused}
+use Rattle.value_store.proofs.Moved.{bytes-lack}
 use Rattle.value_store.proofs.Writing.{bytes-frames, bytes-levels, bytes-full}
 use Rattle.value_store.proofs.store.Store.place_bytes.Goals as goal
 
@@ -12,30 +11,53 @@ pub returns-in_err-reserve-clause-full : goal.returns-in_err-reserve-clause-full
 returns-in_err-reserve-clause-full c =
     let h = the_view c.self.inside in
     let may : MayKeep h.room c.args.shape = subst (λ (h : Held). MayKeep h.room c.args.shape) (sym c.self.view_is) c.requires.may in
-    let n : Node = record { start = c.args.start; content = length h.slots.texts; shape = c.args.shape } in
-    rw (← c.self.view_is) (bytes-full h c.args.shape c.args.bytes.now c.args.start c.self.invariant.levels c.requires.are may c.requires.some _
-    (NodesOf, (c.self.invariant.nodes, omega (arith, c.in_err-reserve.ensures.full, length_push h.slots.nodes n))))
+    let lacks = bytes-lack h c.args.shape c.args.bytes.now c.args.start NodesOf c.self.invariant.nodes (omega (arith, c.in_err-reserve.ensures.full)) in
+    rw (← c.self.view_is) (bytes-full h c.args.shape c.args.bytes.now c.args.start c.self.invariant.levels c.requires.are may c.requires.some _ lacks)
+
+pub returns-in_err-reserve-clause-lacks : goal.returns-in_err-reserve-clause-lacks
+returns-in_err-reserve-clause-lacks c =
+    let h = the_view c.self.inside in
+    let lacks = bytes-lack h c.args.shape c.args.bytes.now c.args.start NodesOf c.self.invariant.nodes (omega (arith, c.in_err-reserve.ensures.full)) in
+    rw (← c.self.view_is) (refused _ lacks)
 
 pub returns-in_err-reserve-2-clause-full : goal.returns-in_err-reserve-2-clause-full
 returns-in_err-reserve-2-clause-full c =
     let h = the_view c.self.inside in
     let may : MayKeep h.room c.args.shape = subst (λ (h : Held). MayKeep h.room c.args.shape) (sym c.self.view_is) c.requires.may in
-    rw (← c.self.view_is) (bytes-full h c.args.shape c.args.bytes.now c.args.start c.self.invariant.levels c.requires.are may c.requires.some _
-    (PendingOf, (c.self.invariant.pending, omega (arith, c.in_err-reserve-2.ensures.full, length_push h.slots.pending (Some (length h.slots.nodes))))))
+    let lacks = bytes-lack h c.args.shape c.args.bytes.now c.args.start PendingOf c.self.invariant.pending (omega (arith, c.in_err-reserve-2.ensures.full)) in
+    rw (← c.self.view_is) (bytes-full h c.args.shape c.args.bytes.now c.args.start c.self.invariant.levels c.requires.are may c.requires.some _ lacks)
+
+pub returns-in_err-reserve-2-clause-lacks : goal.returns-in_err-reserve-2-clause-lacks
+returns-in_err-reserve-2-clause-lacks c =
+    let h = the_view c.self.inside in
+    let lacks = bytes-lack h c.args.shape c.args.bytes.now c.args.start PendingOf c.self.invariant.pending (omega (arith, c.in_err-reserve-2.ensures.full)) in
+    rw (← c.self.view_is) (refused _ lacks)
 
 pub returns-in_err-reserve-3-clause-full : goal.returns-in_err-reserve-3-clause-full
 returns-in_err-reserve-3-clause-full c =
     let h = the_view c.self.inside in
     let may : MayKeep h.room c.args.shape = subst (λ (h : Held). MayKeep h.room c.args.shape) (sym c.self.view_is) c.requires.may in
-    rw (← c.self.view_is) (bytes-full h c.args.shape c.args.bytes.now c.args.start c.self.invariant.levels c.requires.are may c.requires.some _
-    (TextsOf, (c.self.invariant.texts, omega (arith, c.in_err-reserve-3.ensures.full, length_push h.slots.texts (length h.slots.bytes + length c.args.bytes.now)))))
+    let lacks = bytes-lack h c.args.shape c.args.bytes.now c.args.start TextsOf c.self.invariant.texts (omega (arith, c.in_err-reserve-3.ensures.full)) in
+    rw (← c.self.view_is) (bytes-full h c.args.shape c.args.bytes.now c.args.start c.self.invariant.levels c.requires.are may c.requires.some _ lacks)
+
+pub returns-in_err-reserve-3-clause-lacks : goal.returns-in_err-reserve-3-clause-lacks
+returns-in_err-reserve-3-clause-lacks c =
+    let h = the_view c.self.inside in
+    let lacks = bytes-lack h c.args.shape c.args.bytes.now c.args.start TextsOf c.self.invariant.texts (omega (arith, c.in_err-reserve-3.ensures.full)) in
+    rw (← c.self.view_is) (refused _ lacks)
 
 pub returns-in_err-reserve-4-clause-full : goal.returns-in_err-reserve-4-clause-full
 returns-in_err-reserve-4-clause-full c =
     let h = the_view c.self.inside in
     let may : MayKeep h.room c.args.shape = subst (λ (h : Held). MayKeep h.room c.args.shape) (sym c.self.view_is) c.requires.may in
-    rw (← c.self.view_is) (bytes-full h c.args.shape c.args.bytes.now c.args.start c.self.invariant.levels c.requires.are may c.requires.some _
-    (BytesOf, (c.self.invariant.bytes, omega (arith, c.in_err-reserve-4.ensures.full, length-append h.slots.bytes c.args.bytes.now))))
+    let lacks = bytes-lack h c.args.shape c.args.bytes.now c.args.start BytesOf c.self.invariant.bytes (omega (arith, c.in_err-reserve-4.ensures.full)) in
+    rw (← c.self.view_is) (bytes-full h c.args.shape c.args.bytes.now c.args.start c.self.invariant.levels c.requires.are may c.requires.some _ lacks)
+
+pub returns-in_err-reserve-4-clause-lacks : goal.returns-in_err-reserve-4-clause-lacks
+returns-in_err-reserve-4-clause-lacks c =
+    let h = the_view c.self.inside in
+    let lacks = bytes-lack h c.args.shape c.args.bytes.now c.args.start BytesOf c.self.invariant.bytes (omega (arith, c.in_err-reserve-4.ensures.full)) in
+    rw (← c.self.view_is) (refused _ lacks)
 
 pub invariant_of-self-2 : goal.invariant_of-self-2
 invariant_of-self-2 c =
@@ -70,12 +92,3 @@ returns-clause-levels c =
     let t : Slots = record { nodes = c.push_reserved-3.new.self.items; families = s.families; links = s.links; pending = c.push_reserved-2.new.self.items; texts = c.push_reserved.new.self.items; bytes = c.append.new.to.items } in
     let e : t ≡ with_bytes c.args.shape c.args.bytes.now c.args.start s = search rules in
     λ names. rw (← c.self.view_is) (rw e (bytes-levels (the_view c.self.inside) c.args.shape c.args.bytes.now c.args.start c.self.invariant.levels c.requires.are may c.requires.some names _))
-
-pub returns-clause-within : goal.returns-clause-within
-returns-clause-within c =
-    let h = the_view c.self.inside in
-    let may : MayKeep h.room c.args.shape = subst (λ (h : Held). MayKeep h.room c.args.shape) (sym c.self.view_is) c.requires.may in
-    let s = h.slots in
-    let t : Slots = record { nodes = c.push_reserved-3.new.self.items; families = s.families; links = s.links; pending = c.push_reserved-2.new.self.items; texts = c.push_reserved.new.self.items; bytes = c.append.new.to.items } in
-    let e : t ≡ with_bytes c.args.shape c.args.bytes.now c.args.start s = search rules in
-    held-levels _ (rw e (bytes-frames h c.args.shape c.args.bytes.now c.args.start c.self.invariant.levels c.requires.are may c.requires.some)) (search rules)

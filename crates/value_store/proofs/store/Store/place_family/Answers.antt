@@ -1,13 +1,15 @@
-use Rattle.std.proofs.Common.{rules, ◌≡◌, ◌+◌, ◌-◌, Some, length, take, drop, sym, ap, subst, arith}
+use Rattle.std.proofs.Common.{rules, ◌≡◌, ◌+◌, ◌-◌, Some, length, take, drop, sym, ◌∙◌, ap, subst, arith}
 use Rattle.std.proofs.lemmas.List.{length-append, length-drop, length-take, length_push}
 use Rattle.value_store.specs.declared.store.slots.Family.{Family}
 use Rattle.value_store.specs.declared.store.slots.Marks.{Marks}
 use Rattle.value_store.specs.declared.store.slots.Node.{Node}
 use Rattle.value_store.specs.Keeping.{KeepsMembers}
+use Rattle.value_store.specs.Moves.{Closes}
 use Rattle.value_store.specs.Slots.{Slots, Held, innermost, with_family}
 use Rattle.value_store.specs.Takes.{NodesOf, FamiliesOf, LinksOf, PendingOf}
 use Rattle.value_store.specs.contracts.store.Store.{the_view}
 use Rattle.value_store.proofs.Held.{family-frames, family-levels, family-full, innermost-within}
+use Rattle.value_store.proofs.Moved.{having, family-joins, unmoved}
 use Rattle.value_store.proofs.store.Store.place_family.Goals as goal
 
 pub returns-in_err-reserve-clause-full : goal.returns-in_err-reserve-clause-full
@@ -79,3 +81,29 @@ returns-clause-ok c =
     let t : Slots = record { nodes = c.push_reserved-3.new.self.items; families = c.push_reserved-2.new.self.items; links = c.move_above.new.to.items; pending = c.push_reserved.new.self.items; texts = s.texts; bytes = s.bytes } in
     let e : t ≡ with_family c.args.shape c.args.start c.args.size c.innermost-mark.result.pending s = search rules in
     λ names. rw (← c.self.view_is) (rw (e, m) (family-levels (the_view c.self.inside) c.args.shape c.args.start c.args.size c.requires.composite members c.self.invariant.levels names _))
+
+pub returns-in_err-reserve-clause-lacks : goal.returns-in_err-reserve-clause-lacks
+returns-in_err-reserve-clause-lacks c = rw (← c.self.view_is) (unmoved (the_view c.self.inside) _ Closes NodesOf (omega (arith, c.in_err-reserve.ensures.full)))
+
+pub returns-in_err-reserve-2-clause-lacks : goal.returns-in_err-reserve-2-clause-lacks
+returns-in_err-reserve-2-clause-lacks c = rw (← c.self.view_is) (unmoved (the_view c.self.inside) _ Closes FamiliesOf (omega (arith, c.in_err-reserve-2.ensures.full)))
+
+pub returns-in_err-reserve_moved-clause-lacks : goal.returns-in_err-reserve_moved-clause-lacks
+returns-in_err-reserve_moved-clause-lacks c =
+    let m : c.innermost-mark.result ≡ innermost (the_view c.self.inside).frames = search rules in
+    rw (← c.self.view_is) (unmoved (the_view c.self.inside) _ Closes LinksOf (omega (arith, c.in_err-reserve_moved.ensures.full, ap (λ (k : Marks). k.pending) m)))
+
+pub returns-in_err-reserve_above-clause-lacks : goal.returns-in_err-reserve_above-clause-lacks
+returns-in_err-reserve_above-clause-lacks c =
+    let m : c.innermost-mark.result ≡ innermost (the_view c.self.inside).frames = search rules in
+    rw (← c.self.view_is) (unmoved (the_view c.self.inside) _ Closes PendingOf (omega (arith, c.in_err-reserve_above.ensures.full, ap (λ (k : Marks). k.pending) m)))
+
+pub returns-clause-joins : goal.returns-clause-joins
+returns-clause-joins c =
+    let h = the_view c.self.inside in
+    let s = h.slots in
+    let m : c.innermost-mark.result ≡ innermost h.frames = search rules in
+    let t : Slots = record { nodes = c.push_reserved-3.new.self.items; families = c.push_reserved-2.new.self.items; links = c.move_above.new.to.items; pending = c.push_reserved.new.self.items; texts = s.texts; bytes = s.bytes } in
+    let e : t ≡ with_family c.args.shape c.args.start c.args.size c.innermost-mark.result.pending s = search rules in
+    let w : Marks → Slots = λ k. with_family c.args.shape c.args.start c.args.size k.pending s in
+    rw (← c.self.view_is) (ap (having h) (e ∙ ap w m) ∙ family-joins h c.args.shape c.args.start c.args.size c.self.invariant.levels)

@@ -1,11 +1,12 @@
-use Rattle.std.proofs.Common.{rules, ◌≡◌, Some, length, arith}
+use Rattle.std.proofs.Common.{rules, ◌≡◌, Some, length, ◌∙◌, ap, arith}
 use Rattle.std.proofs.lemmas.List.{length_push}
 use Rattle.value_store.specs.declared.store.slots.Node.{Node}
+use Rattle.value_store.specs.Moves.{Places}
 use Rattle.value_store.specs.Slots.{Slots, with_leaf}
 use Rattle.value_store.specs.Takes.{NodesOf, PendingOf}
 use Rattle.value_store.specs.contracts.store.Store.{the_view}
-use Rattle.value_store.proofs.Fits.{held-levels}
 use Rattle.value_store.proofs.Held.{number-frames, number-levels, number-full}
+use Rattle.value_store.proofs.Moved.{having, number-moves, unmoved}
 use Rattle.value_store.proofs.store.Store.place_number.Goals as goal
 
 pub returns-in_err-reserve-clause-full : goal.returns-in_err-reserve-clause-full
@@ -51,9 +52,16 @@ returns-clause-ok c =
     let e : t ≡ with_leaf c.args.shape c.args.start c.args.content s = search rules in
     λ names. rw (← c.self.view_is) (rw e (number-levels (the_view c.self.inside) c.args.shape c.args.start c.args.content c.requires.number c.self.invariant.levels names _))
 
-pub returns-clause-within : goal.returns-clause-within
-returns-clause-within c =
-    let s = (the_view c.self.inside).slots in
+pub returns-in_err-reserve-clause-lacks : goal.returns-in_err-reserve-clause-lacks
+returns-in_err-reserve-clause-lacks c = rw (← c.self.view_is) (unmoved (the_view c.self.inside) _ Places NodesOf (omega (arith, c.in_err-reserve.ensures.full)))
+
+pub returns-in_err-reserve-2-clause-lacks : goal.returns-in_err-reserve-2-clause-lacks
+returns-in_err-reserve-2-clause-lacks c = rw (← c.self.view_is) (unmoved (the_view c.self.inside) _ Places PendingOf (omega (arith, c.in_err-reserve-2.ensures.full)))
+
+pub returns-clause-moves : goal.returns-clause-moves
+returns-clause-moves c =
+    let h = the_view c.self.inside in
+    let s = h.slots in
     let t : Slots = record { nodes = c.push_reserved-2.new.self.items; families = s.families; links = s.links; pending = c.push_reserved.new.self.items; texts = s.texts; bytes = s.bytes } in
     let e : t ≡ with_leaf c.args.shape c.args.start c.args.content s = search rules in
-    held-levels _ (rw e (number-frames (the_view c.self.inside) c.args.shape c.args.start c.args.content c.requires.number c.self.invariant.levels)) (search rules)
+    rw (← c.self.view_is) (ap (having h) e ∙ number-moves h c.args.shape c.args.start c.args.content)

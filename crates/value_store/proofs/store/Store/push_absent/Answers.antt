@@ -1,9 +1,10 @@
 use Rattle.std.proofs.Common.{rules, ◌≡◌, ◌++◌, ◌∷◌, [], None, arith}
 use Rattle.std.proofs.lemmas.List.{length_push}
+use Rattle.value_store.specs.Moves.{Leaves}
 use Rattle.value_store.specs.Takes.{PendingOf}
 use Rattle.value_store.specs.contracts.store.Store.{the_view}
-use Rattle.value_store.proofs.Fits.{held-levels}
 use Rattle.value_store.proofs.Held.{absent-frames, absent-levels, absent-full}
+use Rattle.value_store.proofs.Moved.{absent-moves, unmoved}
 use Rattle.value_store.proofs.store.Store.push_absent.Goals as goal
 
 pub returns-in_err-reserve-clause-full : goal.returns-in_err-reserve-clause-full
@@ -38,7 +39,10 @@ returns-clause-ok c =
     let e : c.push_reserved.new.self.items ≡ (the_view c.self.inside).slots.pending ++ None ∷ [] = search rules in
     λ names. rw (← c.self.view_is) (rw e (absent-levels names (the_view c.self.inside) _ c.self.invariant.levels))
 
-pub returns-clause-within : goal.returns-clause-within
-returns-clause-within c =
+pub returns-in_err-reserve-clause-lacks : goal.returns-in_err-reserve-clause-lacks
+returns-in_err-reserve-clause-lacks c = rw (← c.self.view_is) (unmoved (the_view c.self.inside) _ Leaves PendingOf (omega (arith, c.in_err-reserve.ensures.full)))
+
+pub returns-clause-moves : goal.returns-clause-moves
+returns-clause-moves c =
     let e : c.push_reserved.new.self.items ≡ (the_view c.self.inside).slots.pending ++ None ∷ [] = search rules in
-    held-levels _ (rw e (absent-frames (the_view c.self.inside) c.self.invariant.levels)) (search rules)
+    rw (← c.self.view_is) (rw e (absent-moves (the_view c.self.inside)))

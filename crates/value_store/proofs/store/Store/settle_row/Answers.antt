@@ -1,7 +1,9 @@
-use Rattle.std.proofs.Common.{rules}
-use Rattle.value_store.specs.Slots.{HasNoNode}
+use Rattle.std.proofs.Common.{rules, ap}
+use Rattle.value_store.specs.Moves.{Closes, ClosesRow, State}
+use Rattle.value_store.specs.Slots.{HasNoNode, element_width}
 use Rattle.value_store.proofs.Writing.{filling-all}
 use Rattle.value_store.proofs.PackedRows.{row_bytes, fresh-members, settled-row, settled-cannot, stale-row_levels}
+use Rattle.value_store.proofs.Moved.{row-fresh, row-stale, on-state, lacks-same}
 use Rattle.value_store.proofs.store.Store.settle_row.Goals as goal
 
 pub place_family-requires-clause-members : goal.place_family-requires-clause-members
@@ -24,3 +26,20 @@ pub returns-else-has_no_node-clause-ok : goal.returns-else-has_no_node-clause-ok
 returns-else-has_no_node-clause-ok c = λ names numbers outer w.
     let stale : HasNoNode c.args.self.now → ⊥ = search rules in
     stale-row_levels names c.args.self.now c.args.shape numbers c.args.start outer w c.requires.packed stale
+
+pub returns-then-has_no_node-clause-settles : goal.returns-then-has_no_node-clause-settles
+returns-then-has_no_node-clause-settles c =
+    let fresh : HasNoNode c.args.self.now = search rules in
+    let e = row-fresh c.args.self.now c.args.shape c.args.start c.requires.packed c.requires.row fresh in
+    on-state c.place_family.result c.place_family.new.self _ _ e c.place_family.ensures.joins
+
+pub returns-then-has_no_node-clause-lacks : goal.returns-then-has_no_node-clause-lacks
+returns-then-has_no_node-clause-lacks c =
+    let fresh : HasNoNode c.args.self.now = search rules in
+    let e = row-fresh c.args.self.now c.args.shape c.args.start c.requires.packed c.requires.row fresh in
+    lacks-same c.place_family.result c.args.self.now Closes (ClosesRow (element_width c.args.shape)) (ap (λ (s : State). s.now) e) c.place_family.ensures.lacks
+
+pub returns-else-has_no_node-clause-settles : goal.returns-else-has_no_node-clause-settles
+returns-else-has_no_node-clause-settles c =
+    let stale : HasNoNode c.args.self.now → ⊥ = search rules in
+    row-stale c.args.self.now c.args.shape c.args.start c.requires.packed c.requires.row stale

@@ -1,0 +1,204 @@
+-- How the calls of a store change the lengths of its vectors.
+use Rattle.std.proofs.Common.{◌≡◌, ℕ, ◌+◌, ◌-◌, ◌<◌, ◌≤◌, Bool, true, false, List, [], ◌++◌, Some, None, Result, Ok, Err, OnOk, OnErr, length, take, drop, refl, sym, ◌∙◌, ap, eq-eqb, ne_eqb, arith}
+use Rattle.std.specs.Prelude.{nat_eq, if◌then◌else◌}
+use Rattle.std.proofs.lemmas.List.{length-append, length-drop, length-take, length_push}
+use Rattle.value_store.specs.declared.store.slots.Family.{Family}
+use Rattle.value_store.specs.declared.store.slots.Marks.{Marks}
+use Rattle.value_store.specs.declared.store.slots.Node.{Node}
+use Rattle.value_store.specs.declared.store.slots.Shape.{Shape}
+use Rattle.pickle_meaning.specs.Values.{Levels, top_of}
+use Rattle.value_store.specs.Keeping.{LacksRoom, LacksBytes}
+use Rattle.value_store.specs.Moves.{Move, Places, Leaves, Clears, Packs, State, state_of, with_number, with_text, with_links, joined, settled, settled_row, moved, CannotMove}
+use Rattle.value_store.specs.Names.{Names}
+use Rattle.value_store.specs.Packed.{bytes_for, number_bytes}
+use Rattle.value_store.specs.Slots.{Slots, Held, packs, marks_of, cut_to, innermost, AreLevels, level_of, with_leaf, with_family, with_bytes, with_absent, with_more, written, HasNoNode, IsFilling, IsPacked, element_width, TakesNumber, IsRowOf, Regrown}
+use Rattle.value_store.specs.Takes.{Vector, NodesOf, FamiliesOf, LinksOf, PendingOf, TextsOf, BytesOf, of_vector, level_takes}
+use Rattle.value_store.proofs.Counted.{marks-cut}
+use Rattle.value_store.proofs.Fits.{innermost-level}
+use Rattle.value_store.proofs.Packed.{length-number_bytes}
+use Rattle.value_store.proofs.PackedRows.{row_bytes, row-packs}
+use Rattle.value_store.proofs.Writing.{fresh-empty, stale-some, filling-slots, filling-some}
+
+-- marks with the same entries
+same-marks : (a b : Marks) → a.nodes ≡ b.nodes → a.families ≡ b.families → a.links ≡ b.links → a.pending ≡ b.pending →
+    a.texts ≡ b.texts → a.bytes ≡ b.bytes → a ≡ b
+same-marks a b nodes families links pending texts bytes =
+    let eta-a : record { nodes = a.nodes; families = a.families; links = a.links; pending = a.pending; texts = a.texts; bytes = a.bytes } ≡ a = refl in
+    let eta-b : record { nodes = b.nodes; families = b.families; links = b.links; pending = b.pending; texts = b.texts; bytes = b.bytes } ≡ b = refl in
+    cc
+
+-- the marks of slots that have more
+marks-leaf : (shape : Shape) (start c : ℕ) (s : Slots) → marks_of (with_leaf shape start c s) ≡ with_number (marks_of s)
+marks-leaf shape start c s =
+    let n : Node = record { start = start; content = c; shape = shape } in
+    same-marks _ _ (length_push s.nodes n) refl refl (length_push s.pending (Some (length s.nodes))) refl refl
+
+marks-family : (shape : Shape) (start size : ℕ) (k : Marks) (s : Slots) → k.pending ≤ length s.pending →
+    marks_of (with_family shape start size k.pending s) ≡ with_links k (marks_of s)
+marks-family shape start size k s within =
+    let n : Node = record { start = start; content = length s.families; shape = shape } in
+    let f : Family = record { end = length s.links + (length s.pending - k.pending); size = size } in
+    same-marks _ _ (length_push s.nodes n) (length_push s.families f)
+    (omega (arith, length-append s.links (drop k.pending s.pending), length-drop k.pending s.pending))
+    (omega (arith, length_push (take k.pending s.pending) (Some (length s.nodes)), length-take k.pending s.pending, within)) refl refl
+
+marks-bytes : (shape : Shape) (bytes : List ℕ) (start : ℕ) (s : Slots) →
+    marks_of (with_bytes shape bytes start s) ≡ with_text (marks_of s) (length s.bytes + length bytes)
+marks-bytes shape bytes start s =
+    let n : Node = record { start = start; content = length s.texts; shape = shape } in
+    same-marks _ _ (length_push s.nodes n) refl refl (length_push s.pending (Some (length s.nodes)))
+    (length_push s.texts (length s.bytes + length bytes)) (length-append s.bytes bytes)
+
+marks-more : (more : List ℕ) (s : Slots) → 0 < length s.texts →
+    marks_of (with_more more s) ≡ record (marks_of s) { bytes = length s.bytes + length more }
+marks-more more s some =
+    let ends = take (length s.texts - 1) s.texts in
+    same-marks _ _ refl refl refl refl
+    (omega (arith, length_push ends (length (s.bytes ++ more)), length-take (length s.texts - 1) s.texts, some)) (length-append s.bytes more)
+
+abbrev framed : List Marks → Marks → State
+framed frames now = record { now = now; frames = frames }
+
+-- the state of a store with other slots
+abbrev pub having : Held → Slots → State
+having h s = framed h.frames (marks_of s)
+
+-- the calls that make one change
+module _ (h : Held) where
+  pub number-moves : (shape : Shape) (start c : ℕ) → having h (with_leaf shape start c h.slots) ≡ moved (packs h.room) Places (state_of h)
+  number-moves shape start c = ap (framed h.frames) (marks-leaf shape start c h.slots)
+
+  pub absent-moves : having h (with_absent h.slots) ≡ moved (packs h.room) Leaves (state_of h)
+  absent-moves = ap (framed h.frames) (same-marks _ _ refl refl refl (length_push h.slots.pending None) refl refl)
+
+  pub clear-moves : AreLevels h.room h.frames h.slots → having h (cut_to (innermost h.frames) h.slots) ≡ moved (packs h.room) Clears (state_of h)
+  clear-moves all = ap (framed h.frames) (marks-cut (innermost h.frames) h.slots (innermost-level h.room h.frames h.slots all).is.within)
+
+  pub family-joins : (shape : Shape) (start size : ℕ) → AreLevels h.room h.frames h.slots →
+      having h (with_family shape start size (innermost h.frames).pending h.slots) ≡ joined (state_of h)
+  family-joins shape start size all =
+      ap (framed h.frames) (marks-family shape start size (innermost h.frames) h.slots (innermost-level h.room h.frames h.slots all).is.within.pending)
+
+  -- a move that a vector has no capacity for
+  pub unmoved : {T E : Type 0} (r : Result T E) (move : Move) (vector : Vector) →
+      of_vector vector h.capacity < of_vector vector (moved (packs h.room) move (state_of h)).now → OnErr r (CannotMove h move)
+  unmoved (Ok x) move vector more = tt
+  unmoved (Err x) move vector more = (vector, more)
+
+  -- bytes that a vector has no capacity for
+  pub bytes-lack : (shape : Shape) (bytes : List ℕ) (start : ℕ) (vector : Vector) → h.room.least ≤ of_vector vector h.capacity →
+      of_vector vector h.capacity < of_vector vector (with_text (marks_of h.slots) (length h.slots.bytes + length bytes)) →
+      LacksRoom h (with_bytes shape bytes start h.slots)
+  bytes-lack shape bytes start vector least more =
+      (vector, (least, omega (arith, more, ap (of_vector vector) (marks-bytes shape bytes start h.slots))))
+
+-- a text, or an array of packed numbers, is all that its frame has
+module _ (names : Names) (h : Held) (shape : Shape) (bytes : List ℕ) (start : ℕ) (outer : Levels) (w : IsFilling names h shape bytes start outer) where
+  before-entry : (vector : Vector) → of_vector vector (marks_of w.before) ≡ of_vector vector (innermost h.frames)
+  before-entry vector =
+      let i = innermost-level h.room h.frames w.before w.own in
+      let none : level_of names (innermost h.frames) w.before ≡ [] = sym (i.top names) ∙ ap top_of w.above in
+      omega (arith, i.is.takes names vector, ap (level_takes (packs h.room) vector) none)
+
+  before-marks : marks_of w.before ≡ innermost h.frames
+  before-marks =
+      same-marks _ _ (before-entry NodesOf) (before-entry FamiliesOf) (before-entry LinksOf)
+      (before-entry PendingOf) (before-entry TextsOf) (before-entry BytesOf)
+
+  fresh-marks : HasNoNode h → marks_of h.slots ≡ innermost h.frames
+  fresh-marks fresh =
+      let none = fresh-empty names h shape bytes start outer w fresh in
+      ap marks_of (w.is ∙ ap (λ bs. written shape bs start w.before) none) ∙ before-marks
+
+  stale-marks : (HasNoNode h → ⊥) → marks_of h.slots ≡ with_text (innermost h.frames) (length h.slots.bytes)
+  stale-marks stale =
+      let some = stale-some names h shape bytes start outer w stale in
+      let is = filling-slots names h shape bytes start outer w some in
+      let all = marks-bytes shape bytes start w.before in
+      let count : length w.before.bytes + length bytes ≡ length h.slots.bytes =
+      omega (arith, ap (λ (x : Slots). length x.bytes) is, length-append w.before.bytes bytes) in
+      ap marks_of is ∙ all ∙ ap (λ n. with_text (marks_of w.before) n) count ∙ ap (λ k. with_text k (length h.slots.bytes)) before-marks
+
+  -- it is placed, or has more bytes
+  abbrev longer : List ℕ → State
+  longer more = framed h.frames (with_text (innermost h.frames) (length h.slots.bytes + length more))
+
+  pub fresh-longer : HasNoNode h → (more : List ℕ) → having h (with_bytes shape more start h.slots) ≡ longer more
+  fresh-longer fresh more =
+      ap (framed h.frames) (marks-bytes shape more start h.slots ∙ ap (λ k. with_text k (length h.slots.bytes + length more)) (fresh-marks fresh))
+
+  pub stale-longer : (HasNoNode h → ⊥) → (more : List ℕ) → having h (with_more more h.slots) ≡ longer more
+  stale-longer stale more =
+      let some = filling-some names h shape bytes start outer w (stale-some names h shape bytes start outer w stale) in
+      let f : Marks → Marks = λ k. record k { bytes = length h.slots.bytes + length more } in
+      ap (framed h.frames) (marks-more more h.slots some ∙ ap f (stale-marks stale))
+
+  -- it is closed
+  pub fresh-settled : HasNoNode h → having h (with_bytes shape [] start h.slots) ≡ settled (state_of h)
+  fresh-settled fresh =
+      let none : length h.slots.bytes + length {A = ℕ} [] ≡ length h.slots.bytes = omega arith in
+      fresh-longer fresh [] ∙ ap (λ n. framed h.frames (with_text (innermost h.frames) n)) none
+
+  pub stale-settled : (HasNoNode h → ⊥) → state_of h ≡ settled (state_of h)
+  stale-settled stale = ap (framed h.frames) (stale-marks stale)
+
+-- the clauses of the calls
+pub regrown-state : {T E : Type 0} (r : Result T E) (h n : Held) (s : Slots) (state : State) → having h s ≡ state →
+    OnOk r (Regrown (record h { slots = s }) n) → OnOk r (state_of n ≡ state)
+regrown-state (Ok x) h n s state e regrown = ap state_of regrown ∙ e
+regrown-state (Err x) h n s state e regrown = tt
+
+pub lacks-room : {T E : Type 0} (r : Result T E) (h : Held) (s : Slots) (move : Move) → marks_of s ≡ (moved (packs h.room) move (state_of h)).now →
+    OnErr r (LacksRoom h s) → OnErr r (CannotMove h move)
+lacks-room (Ok x) h s move e lacks = tt
+lacks-room (Err x) h s move e (vector, (least, more)) = (vector, omega (arith, more, ap (of_vector vector) e))
+
+pub lacks-bytes : {T E : Type 0} (r : Result T E) (h : Held) (count : ℕ) (move : Move) →
+    (moved (packs h.room) move (state_of h)).now.bytes ≡ length h.slots.bytes + count →
+    OnErr r (LacksBytes h count) → OnErr r (CannotMove h move)
+lacks-bytes (Ok x) h count move e lacks = tt
+lacks-bytes (Err x) h count move e lacks = (BytesOf, omega (arith, lacks.1, e))
+
+-- an array of packed numbers has one more
+module _ (h : Held) (shape : Shape) (start width digits : ℕ) (own : List ℕ) (p : IsPacked shape) (same : width ≡ element_width shape)
+    (is : own ≡ number_bytes (bytes_for (element_width shape)) digits) (t : TakesNumber h shape start) where
+  packs-longer : framed h.frames (with_text (innermost h.frames) (length h.slots.bytes + length own)) ≡ moved (packs h.room) (Packs width) (state_of h)
+  packs-longer =
+      let count : length own ≡ bytes_for width =
+      ap length is ∙ length-number_bytes (bytes_for (element_width shape)) digits ∙ ap bytes_for (sym same) in
+      ap (λ n. framed h.frames (with_text (innermost h.frames) (length h.slots.bytes + n))) count
+      ∙ ap (λ b. moved b (Packs width) (state_of h)) (sym (row-packs h.room shape p t.packing.filling.may))
+
+  pub fresh-packed : HasNoNode h → having h (with_bytes shape own start h.slots) ≡ moved (packs h.room) (Packs width) (state_of h)
+  fresh-packed fresh = fresh-longer t.names h shape (row_bytes shape t.numbers) start t.outer t.packing.filling fresh own ∙ packs-longer
+
+  pub stale-packed : (HasNoNode h → ⊥) → having h (with_more own h.slots) ≡ moved (packs h.room) (Packs width) (state_of h)
+  stale-packed stale = stale-longer t.names h shape (row_bytes shape t.numbers) start t.outer t.packing.filling stale own ∙ packs-longer
+
+  pub packed-bytes : (moved (packs h.room) (Packs width) (state_of h)).now.bytes ≡ length h.slots.bytes + length own
+  packed-bytes = ap (λ (s : State). s.now.bytes) (sym packs-longer)
+
+-- an array of packed numbers is closed: without numbers as a family
+module _ (h : Held) (shape : Shape) (start : ℕ) (p : IsPacked shape) (row : IsRowOf h shape start) where
+  row-settled : (node : Bool) → nat_eq (length h.slots.nodes) (innermost h.frames).nodes ≡ node →
+      settled_row (packs h.room) (state_of h) ≡ framed h.frames (if node then with_links (innermost h.frames) (marks_of h.slots) else marks_of h.slots)
+  row-settled node e =
+      ap (λ b. settled_row b (state_of h)) (row-packs h.room shape p row.packing.filling.may)
+      ∙ ap (λ b. framed h.frames (if b then with_links (innermost h.frames) (marks_of h.slots) else marks_of h.slots)) e
+
+  pub row-fresh : HasNoNode h → joined (state_of h) ≡ settled_row (packs h.room) (state_of h)
+  row-fresh fresh = sym (row-settled true (eq-eqb _ _ fresh))
+
+  pub row-stale : (HasNoNode h → ⊥) → state_of h ≡ settled_row (packs h.room) (state_of h)
+  row-stale stale = sym (row-settled false (ne_eqb _ _ stale))
+
+-- a clause in terms of another state
+pub on-state : {T E : Type 0} (r : Result T E) (n : Held) (s t : State) → s ≡ t → OnOk r (state_of n ≡ s) → OnOk r (state_of n ≡ t)
+on-state (Ok x) n s t e is = is ∙ e
+on-state (Err x) n s t e is = tt
+
+pub lacks-same : {T E : Type 0} (r : Result T E) (h : Held) (one other : Move) →
+    (moved (packs h.room) one (state_of h)).now ≡ (moved (packs h.room) other (state_of h)).now →
+    OnErr r (CannotMove h one) → OnErr r (CannotMove h other)
+lacks-same (Ok x) h one other e lacks = tt
+lacks-same (Err x) h one other e (vector, more) = (vector, omega (arith, more, ap (of_vector vector) e))

@@ -1,0 +1,99 @@
+-- How the lengths of a store's vectors change, one thing at a time.
+use Rattle.std.specs.Prelude.{◌≡◌, ℕ, ◌+◌, ◌-◌, ◌<◌, ◌≤◌, Bool, true, false, List, [], ◌∷◌, nat_eq, if◌then◌else◌}
+use Rattle.value_store.specs.declared.store.slots.Marks.{Marks}
+use Rattle.value_store.specs.Packed.{bytes_for}
+use Rattle.value_store.specs.Slots.{Held, packs, root_marks, innermost, marks_of, around}
+use Rattle.value_store.specs.Takes.{Vector, of_vector}
+
+pub data Move : Type 0 where
+  -- a frame is opened inside the innermost one
+  Opens : Move
+  -- the innermost frame is given up, with all that it has
+  Drops : Move
+  -- what the innermost frame has is given up, and the frame stays open
+  Clears : Move
+  -- a number is one more member of the innermost frame
+  Places : Move
+  -- an absent field is one more member
+  Leaves : Move
+  -- the members of the innermost frame become one value, which is one more member of the frame around it
+  Closes : Move
+  -- a text has one more byte, in the frame of the text
+  Writes : Move
+  -- the text is one more member of the frame around it
+  Ends : Move
+  -- a number of so many bits is one more element of an array, where arrays of numbers are packed; else it is placed
+  Packs : (width : ℕ) → Move
+  -- an array of numbers of so many bits is closed
+  ClosesRow : (width : ℕ) → Move
+
+-- the lengths of the vectors, and what they were when each open value was opened, the innermost first
+pub record State : Type 0 where
+  pub now : Marks
+  pub frames : List Marks
+
+abbrev pub state_of : Held → State
+state_of h = record { now = marks_of h.slots; frames = h.frames }
+
+-- a number is one more node
+abbrev pub with_number : Marks → Marks
+with_number n = record n { nodes = n.nodes + 1; pending = n.pending + 1 }
+
+-- a frame that began at k has just a text, or an array of packed numbers, and there are so many bytes in all
+abbrev pub with_text : (k : Marks) → (bytes : ℕ) → Marks
+with_text k bytes = record k { nodes = k.nodes + 1; pending = k.pending + 1; texts = k.texts + 1; bytes = bytes }
+
+-- the members of a frame that began at k became the links of a family
+abbrev pub with_links : (k n : Marks) → Marks
+with_links k n = record n { nodes = n.nodes + 1; families = n.families + 1; links = n.links + (n.pending - k.pending); pending = k.pending + 1 }
+
+-- an array of numbers that has none is a family
+abbrev pub with_row : (packs : Bool) → (k n : Marks) → Marks
+with_row true k n = if nat_eq n.nodes k.nodes then with_links k n else n
+with_row false k n = with_links k n
+
+abbrev pub packed_now : (packs : Bool) → (width : ℕ) → (k n : Marks) → Marks
+packed_now true width k n = with_text k (n.bytes + bytes_for width)
+packed_now false width k n = with_number n
+
+-- what the innermost frame had is now its one member
+abbrev pub joined : State → State
+joined s = record { now = with_links (innermost s.frames) s.now; frames = s.frames }
+
+abbrev pub settled : State → State
+settled s = record { now = with_text (innermost s.frames) s.now.bytes; frames = s.frames }
+
+abbrev pub settled_row : (packs : Bool) → State → State
+settled_row packs s = record { now = with_row packs (innermost s.frames) s.now; frames = s.frames }
+
+-- the members of the innermost frame are members of the frame around it
+abbrev pub lifted : State → State
+lifted s = record { now = s.now; frames = around s.frames }
+
+abbrev pub moved : (packs : Bool) → Move → State → State
+moved packs Opens s = record { now = s.now; frames = s.now ∷ s.frames }
+moved packs Drops s = record { now = innermost s.frames; frames = around s.frames }
+moved packs Clears s = record { now = innermost s.frames; frames = s.frames }
+moved packs Places s = record { now = with_number s.now; frames = s.frames }
+moved packs Leaves s = record { now = record s.now { pending = s.now.pending + 1 }; frames = s.frames }
+moved packs Closes s = lifted (joined s)
+moved packs Writes s = record { now = with_text (innermost s.frames) (s.now.bytes + 1); frames = s.frames }
+moved packs Ends s = lifted (settled s)
+moved packs (Packs width) s = record { now = packed_now packs width (innermost s.frames) s.now; frames = s.frames }
+moved packs (ClosesRow width) s = lifted (settled_row packs s)
+
+-- a call makes this move
+abbrev pub Moves : (before after : Held) → Move → Type 0
+Moves before after move = state_of after ≡ moved (packs before.room) move (state_of before)
+
+-- the move takes more of some vector than its capacity
+abbrev pub CannotMove : Held → Move → Type 0
+CannotMove before move = (vector : Vector) × (of_vector vector before.capacity < of_vector vector (moved (packs before.room) move (state_of before)).now)
+
+-- what an empty store is
+abbrev pub no_state : State
+no_state = record { now = root_marks; frames = [] }
+
+-- vectors of this capacity hold what is stored
+abbrev pub IsWithin : State → (capacity : Marks) → Type 0
+IsWithin state capacity = (vector : Vector) → of_vector vector state.now ≤ of_vector vector capacity
