@@ -20,16 +20,17 @@ use Rattle.pickle_map.specs.Follows.{World, Follows, Done}
 use Rattle.pickle_map.specs.Settles.{Settles}
 use Rattle.pickle_map.proofs.Followed.{walk_leaves}
 use Rattle.pickle_map.proofs.Walks.{outer_pushed}
+use Rattle.value_store.specs.Moves.{State}
 use Rattle.value_store.specs.Slots.{Held, levels}
 use Rattle.fault_parts.specs.Somehow.{Somehow}
 use Rattle.fault_check.specs.Ways.{OnBits, Comes, Settled}
 
 -- a plan that was followed to its end over known bits
-pub followed_means : {world : World} {limit : ℕ} (bits : List ℕ) (ty : PokeType) (order : Order) (levels : Levels) (s : ℕ) {k j k' j' : ℕ} {r : Result Value FaultAt} → world.known ≡ Some bits →
-    Follows world limit (plan (length bits) ty order levels s) k j k' j' (Done r) → Somehow (Means bits ty order levels s r)
+pub followed_means : {world : World} {limit : ℕ} (bits : List ℕ) (ty : PokeType) (order : Order) (levels : Levels) (s : ℕ) {k j k' j' : ℕ} {state state' : State} {r : Result Value FaultAt} → world.known ≡ Some bits →
+    Follows world limit (plan (length bits) ty order levels s) k j state k' j' state' (Done r) → Somehow (Means bits ty order levels s r)
 followed_means bits ty order levels s known h =
     let l = walk_leaves bits known h.walk in
-    let e = rw h.ends at l.result in
+    let e = rw h.ends.0 at l.result in
     let m = plan_means bits ty order levels s in
     record { steps = _; made = _; holds = rw e at m }
 

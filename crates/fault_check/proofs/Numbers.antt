@@ -6,7 +6,7 @@ use Rattle.pickle_types.specs.Types.{Term, PokeType, IntegerOf, OffsetOf, String
 use Rattle.pickle_meaning.specs.Values.{Naming, Value, Levels, pushed, opened}
 use Rattle.pickle_meaning.specs.Clauses.{FaultAt, constraint, clause_steps}
 use Rattle.pickle_meaning.specs.Means.{NumberMeans, integer, offset, integral, integral_fault, no_number, DigitsMean, no_digits, next_digits, digits_refused, digits_fault, number_type, width_in, first_digits, part_names, struct_value}
-use Rattle.mapping_plans.specs.Plan.{Plan, Ended, Tick, Made, Read, and_then, then_ok, on_value, after, result_of}
+use Rattle.mapping_plans.specs.Plan.{Plan, Ended, Tick, Made, Read, and_then, then_ok, leave_frame, framed, on_value, after, result_of}
 use Rattle.mapping_plans.specs.Mapping.{number_plan, digits_plan, constrained, closes}
 use Rattle.std.specs.Prelude.{IfErr, IfOk}
 use Rattle.bit_space.specs.declared.meter.Meter.{Meter}
@@ -15,6 +15,7 @@ use Rattle.pickle_map.specs.declared.mapper.stop.Stop.{Stop}
 use Rattle.pickle_map.specs.declared.mapper.stop.Stop.TheVariants.{Fault, Limit, Device, Memory}
 use Rattle.pickle_map.specs.Calls.{Places}
 use Rattle.pickle_map.proofs.Followed.{walk_leaves}
+use Rattle.value_store.specs.Moves.{Closes}
 use Rattle.value_store.specs.Slots.{Held, levels}
 use Rattle.fault_check.specs.Digits.{KeepsNumber}
 use Rattle.fault_check.specs.Sites.{StopsNumber}
@@ -24,7 +25,7 @@ module _ (bits : List ℕ) where
   result_then : {A B : Type 0} (p : Plan A) (f : A → Plan B) → result_of bits (and_then p f) ≡ result_of bits (f (result_of bits p))
   result_then (Ended a) f = refl
   result_then (Tick p) f = result_then p f
-  result_then (Made count row levels p) f = result_then p f
+  result_then (Made count move levels p) f = result_then p f
   result_then (Read place width order rest) f = result_then (rest _) f
 
   result_after : {A : Type 0} (n : ℕ) (a : A) → result_of bits (after n a) ≡ a
@@ -39,6 +40,15 @@ module _ (bits : List ℕ) where
   pub goes_wrong : {A B F : Type 0} (p : Plan (Result A F)) (f : A → Plan (Result B F)) (x : F) → result_of bits p ≡ Err x → result_of bits (then_ok p f) ≡ Err x
   unfolding then_ok
   goes_wrong p f x e = result_then p (on_value f) ∙ ap (λ r. result_of bits (on_value f r)) e
+
+  -- what is built in a frame, by its own result
+  in_frame : {A F : Type 0} (outer : Levels) (p : Plan (Result A F)) (r : Result A F) → result_of bits p ≡ r → result_of bits (framed outer p) ≡ r
+  unfolding framed
+  in_frame {A} {F} outer p r e = result_then p (leave_frame outer) ∙ ap (λ x. result_of bits (leave_frame outer x)) e ∙ left r
+    where
+      left : (x : Result A F) → result_of bits (leave_frame outer x) ≡ x
+      left (Ok a) = refl
+      left (Err f) = refl
 
   constrained_goes : (c : Option Term) (levels : Levels) (s : ℕ) (v : Value) → constraint c (pushed levels (Some v)) s ≡ Ok tt → result_of bits (constrained c levels s v) ≡ Ok v
   unfolding constrained
@@ -59,10 +69,12 @@ module _ (bits : List ℕ) where
       Digits fields n type.width (opened levels) s r → Number (IntegralOf name type fields) n levels s (result_of bits (number_plan (IntegralOf name type fields) n levels s))
   unfolding number_plan
   of_fields name type fields n levels s (Ok inside) e m =
-      let is = goes_on (digits_plan fields n type.width (opened levels) s) (closes (struct_value name (part_names fields) s (s + type.width))) inside e in
+      let whole = then_ok (digits_plan fields n type.width (opened levels) s) (closes Closes (struct_value name (part_names fields) s (s + type.width))) in
+      let is = in_frame levels whole _ (goes_on (digits_plan fields n type.width (opened levels) s) (closes Closes (struct_value name (part_names fields) s (s + type.width))) inside e) in
       rw is (record { steps = _; made = _; holds = integral m.holds })
   of_fields name type fields n levels s (Err f) e m =
-      let is = goes_wrong (digits_plan fields n type.width (opened levels) s) (closes (struct_value name (part_names fields) s (s + type.width))) f e in
+      let whole = then_ok (digits_plan fields n type.width (opened levels) s) (closes Closes (struct_value name (part_names fields) s (s + type.width))) in
+      let is = in_frame levels whole _ (goes_wrong (digits_plan fields n type.width (opened levels) s) (closes Closes (struct_value name (part_names fields) s (s + type.width))) f e) in
       rw is (record { steps = _; made = _; holds = integral_fault m.holds })
 
   -- the fields of an integral struct, by the result of the first one
@@ -121,7 +133,7 @@ pub number_kept : (nodes : List Node) (meter meter' : Meter) (store store' : Hel
 number_kept nodes meter meter' store store' ty n s (Ok u) h =
     let one = h (Some []) in
     let leaves = walk_leaves [] refl one.follows.walk in
-    let is = rw one.follows.ends at leaves.result in
+    let is = rw one.follows.ends.0 at leaves.result in
     let m = number_planned [] ty n (levels nodes store) s in
     record { value = one.value; means = rw is at m; keeps = one.kept }
 number_kept nodes meter meter' store store' ty n s (Err stop) h = tt
@@ -133,7 +145,7 @@ number_stopped nodes meter meter' store store' ty n s (Ok u) h same = tt
 number_stopped nodes meter meter' store store' ty n s (Err (Fault kind place)) h same =
     let stopped = h (Some []) in
     let leaves = walk_leaves [] refl stopped.walk in
-    let is = rw stopped.ends at leaves.result in
+    let is = rw stopped.ends.0 at leaves.result in
     let m = number_planned [] ty n (levels nodes store) s in
     (rw is at m, same)
 number_stopped nodes meter meter' store store' ty n s (Err Limit) h same = tt

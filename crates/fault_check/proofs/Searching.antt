@@ -28,6 +28,7 @@ use Rattle.pickle_map.specs.Framed.{StopsReading}
 use Rattle.pickle_map.specs.Follows.{World, Follows, Done, NoSteps, NeedsStep}
 use Rattle.pickle_map.specs.Settles.{Settles}
 use Rattle.pickle_map.proofs.Followed.{walk_leaves}
+use Rattle.value_store.specs.Moves.{State}
 use Rattle.value_store.specs.Slots.{Held, levels}
 use Rattle.fault_parts.specs.Somehow.{Somehow}
 use Rattle.fault_parts.proofs.Once as once
@@ -52,17 +53,17 @@ use Rattle.fault_check.proofs.Located.{result_is}
 one_step : (bits : List ℕ) {A : Type 0} (p : Plan A) → NeedsStep p → 1 ≤ steps_of bits p
 one_step bits (Done_with a) h = absurd h
 one_step bits (Tick p) h = omega arith
-one_step bits (Made count row levels p) h = absurd h
+one_step bits (Made count move levels p) h = absurd h
 one_step bits (Read place width order rest) h = absurd h
 
-module _ {world : World} {limit : ℕ} (bits : List ℕ) (known : world.known ≡ Some bits) {A : Type 0} {p : Plan A} {k j k' j' : ℕ} where
-  done_steps : {a : A} → Follows world limit p k j k' j' (Done a) → k' ≡ k + steps_of bits p
+module _ {world : World} {limit : ℕ} (bits : List ℕ) (known : world.known ≡ Some bits) {A : Type 0} {p : Plan A} {k j k' j' : ℕ} {state state' : State} where
+  done_steps : {a : A} → Follows world limit p k j state k' j' state' (Done a) → k' ≡ k + steps_of bits p
   done_steps h =
       let l = walk_leaves bits known h.walk in
-      let e : steps_of bits h.rest ≡ 0 = ap (steps_of bits) h.ends in
+      let e : steps_of bits h.rest ≡ 0 = ap (steps_of bits) h.ends.0 in
       omega (arith, l.steps, e)
 
-  limit_steps : Follows world limit p k j k' j' NoSteps → limit < k + steps_of bits p
+  limit_steps : Follows world limit p k j state k' j' state' NoSteps → limit < k + steps_of bits p
   limit_steps h =
       let l = walk_leaves bits known h.walk in
       let some = one_step bits h.rest h.ends.0 in

@@ -15,7 +15,7 @@ use Rattle.pickle_meaning.specs.Laws.{HasOneOutcome, ValuesAreWide}
 use Rattle.mapping_plans.specs.PlanLaws.{PlanIsMeant}
 use Rattle.mapping_plans.specs.Mapping.{plan, number_plan, digits_plan, constrained}
 use Rattle.pickle_meaning.specs.Means.{NumberMeans, integer, offset, integral, integral_fault, no_number, DigitsMean, no_digits, next_digits, digits_refused, digits_fault, Means, PartMeans, part, part_refused, part_fault, Elements, no_more, next_element, number_type, width_in}
-use Rattle.mapping_plans.specs.Plan.{Plan, Ended, Tick, Made, Read, and_then, after, on_value, then_ok, result_of}
+use Rattle.mapping_plans.specs.Plan.{Plan, Ended, Tick, Made, Read, and_then, after, on_value, then_ok, leave_frame, framed, result_of}
 use Rattle.fault_parts.specs.Arises.{Path, DigitsBefore, no_digits_before, digits_before, NumberArises, is_no_number, in_digits, DigitsArise, digits_constraint, digits_inside, FieldsBefore, no_field_before, absent_before, value_before, MissesBefore, no_miss_before, miss_before, Arises, starts_past_end, number_past_end, string_past_end, bound_of_array, in_array, ElementsArise, past_size, of_no_bits, in_element, in_struct, in_number, in_union, PartArises, constraint_of_part, in_part, FieldsArise, condition_of_field, label_of_field, in_field, AlternativesArise, none_fits, in_alternative}
 use Rattle.fault_parts.specs.Somehow.{Somehow}
 use Rattle.fault_parts.specs.Laws.{ArisesOnce}
@@ -27,7 +27,7 @@ use Rattle.fault_parts.specs.Paths.{by_outcome, next, checked_path, number_path,
 result_then : {A B : Type 0} (bits : List ℕ) (p : Plan A) (f : A → Plan B) → result_of bits (and_then p f) ≡ result_of bits (f (result_of bits p))
 result_then bits (Ended a) f = refl
 result_then bits (Tick p) f = result_then bits p f
-result_then bits (Made count row levels p) f = result_then bits p f
+result_then bits (Made count move levels p) f = result_then bits p f
 result_then bits (Read place width order rest) f = result_then bits (rest _) f
 
 result_after : {A : Type 0} (bits : List ℕ) (n : ℕ) (a : A) → result_of bits (after n a) ≡ a
@@ -38,6 +38,15 @@ result_after bits (suc n) a = result_after bits n a
 result_ok : {A B : Type 0} (bits : List ℕ) (p : Plan (Result A FaultAt)) (f : A → Plan (Result B FaultAt)) (r : Result A FaultAt) → result_of bits p ≡ r → result_of bits (then_ok p f) ≡ result_of bits (on_value f r)
 unfolding then_ok
 result_ok bits p f r e = result_then bits p (on_value f) ∙ ap (λ x. result_of bits (on_value f x)) e
+
+-- what is built in a frame, by its own outcome
+result_framed : {A : Type 0} (bits : List ℕ) (outer : Levels) (p : Plan (Result A FaultAt)) (r : Result A FaultAt) → result_of bits p ≡ r → result_of bits (framed outer p) ≡ r
+unfolding framed
+result_framed {A} bits outer p r e = result_then bits p (leave_frame outer) ∙ ap (λ x. result_of bits (leave_frame outer x)) e ∙ left r
+  where
+    left : (x : Result A FaultAt) → result_of bits (leave_frame outer x) ≡ x
+    left (Ok v) = refl
+    left (Err f) = refl
 
 constrained_result : (bits : List ℕ) (c : Option Term) (levels : Levels) (s : ℕ) (v : Value) (r : Result (Unit {0}) FaultAt) → constraint c (pushed levels (Some v)) s ≡ r → result_of bits (constrained c levels s v) ≡ result_of bits (on_value (λ (u : Unit {0}). Ended (Ok v)) r)
 unfolding constrained
@@ -59,8 +68,8 @@ mutual
   pub number_result : {ty : PokeType} {n : ℕ} {levels : Levels} {s : ℕ} {r : Result Value FaultAt} {k j : ℕ} → NumberMeans ty n levels s r k j → result_of [] (number_plan ty n levels s) ≡ r
   number_result integer = refl
   number_result offset = refl
-  number_result (integral fs) = result_ok [] _ _ _ (digits_result fs)
-  number_result (integral_fault fs) = result_ok [] _ _ _ (digits_result fs)
+  number_result (integral {levels} fs) = result_framed [] levels _ _ (result_ok [] _ _ _ (digits_result fs))
+  number_result (integral_fault {levels} fs) = result_framed [] levels _ _ (result_ok [] _ _ _ (digits_result fs))
   number_result (no_number {ty} {n} {levels} {s} e) = no_number_result ty n levels s e
 
   digits_result : {parts : Parts} {n left : ℕ} {levels : Levels} {s : ℕ} {r : Result Levels FaultAt} {k j : ℕ} → DigitsMean parts n left levels s r k j → result_of [] (digits_plan parts n left levels s) ≡ r

@@ -4,9 +4,10 @@ use Rattle.std.specs.Prelude.{if◌then◌else◌, nat_le}
 use Rattle.std.proofs.lemmas.Bool.{leb-true}
 use Rattle.bit_space.specs.declared.order.Order.{Order}
 use Rattle.pickle_meaning.specs.declared.faults.MapFaultKind.TheVariants as fault
-use Rattle.pickle_meaning.specs.Values.{Levels}
+use Rattle.pickle_meaning.specs.Values.{Levels, opened}
 use Rattle.pickle_meaning.specs.Clauses.{FaultAt}
-use Rattle.mapping_plans.specs.Plan.{Plan, Ended, Tick, Made, Read, and_then, after, on_value, then_ok, Always, result, after_tick, after_made, after_read}
+use Rattle.value_store.specs.Moves.{Move}
+use Rattle.mapping_plans.specs.Plan.{Plan, Ended, Tick, Made, Read, and_then, after, on_value, then_ok, leave_frame, framed, Always, result, after_tick, after_made, after_read}
 use Rattle.mapping_plans.specs.Mapping.{from_inside}
 
 -- a fact about a value; nothing is said of a fault
@@ -17,10 +18,10 @@ OfValue P (Err e) = Unit {0}
 pub of_tick : {A : Type 0} {M : Levels → Type 0} {Q : A → Type 0} {p : Plan A} → Always M Q (Tick p) → Always M Q p
 of_tick (after_tick h) = h
 
-pub of_made : {A : Type 0} {M : Levels → Type 0} {Q : A → Type 0} {count : ℕ} {row : Bool} {levels : Levels} {p : Plan A} → Always M Q (Made count row levels p) → Always M Q p
+pub of_made : {A : Type 0} {M : Levels → Type 0} {Q : A → Type 0} {count : ℕ} {move : Move} {levels : Levels} {p : Plan A} → Always M Q (Made count move levels p) → Always M Q p
 of_made (after_made l h) = h
 
-pub of_kept : {A : Type 0} {M : Levels → Type 0} {Q : A → Type 0} {count : ℕ} {row : Bool} {levels : Levels} {p : Plan A} → Always M Q (Made count row levels p) → M levels
+pub of_kept : {A : Type 0} {M : Levels → Type 0} {Q : A → Type 0} {count : ℕ} {move : Move} {levels : Levels} {p : Plan A} → Always M Q (Made count move levels p) → M levels
 of_kept (after_made l h) = l
 
 pub of_read : {A : Type 0} {M : Levels → Type 0} {Q : A → Type 0} {place width : ℕ} {order : Order} {ps : ℕ → Plan A} → Always M Q (Read place width order ps) → (n : ℕ) → n < 2 ^ width → Always M Q (ps n)
@@ -52,6 +53,15 @@ value_always f g (Err e) h = result tt
 pub ok_always : {A B F : Type 0} {M : Levels → Type 0} {P : A → Type 0} {Q : B → Type 0} (f : A → Plan (Result B F)) → ((a : A) → P a → Always M (OfValue Q) (f a)) → {p : Plan (Result A F)} → Always M (OfValue P) p → Always M (OfValue Q) (then_ok p f)
 unfolding then_ok
 ok_always {F} {M} {P} {Q} f g h = then_always {P = OfValue {F = F} P} {Q = OfValue {F = F} Q} (on_value f) (value_always {M = M} {P = P} {Q = Q} f g) h
+
+frame_always : {A F : Type 0} {M : Levels → Type 0} {Q : A → Type 0} (outer : Levels) → M outer → (r : Result A F) → OfValue Q r → Always M (OfValue Q) (leave_frame outer r)
+frame_always outer left (Ok a) h = result h
+frame_always outer left (Err e) h = after_made left (result tt)
+
+-- what is built in a frame of its own
+pub framed_always : {A F : Type 0} {M : Levels → Type 0} {Q : A → Type 0} (outer : Levels) → M (opened outer) → M outer → {p : Plan (Result A F)} → Always M (OfValue Q) p → Always M (OfValue Q) (framed outer p)
+unfolding framed
+framed_always {F} {M} {Q} outer inner left h = after_made inner (then_always {P = OfValue {F = F} Q} {Q = OfValue {F = F} Q} (leave_frame outer) (frame_always {M = M} {Q = Q} outer left) h)
 
 -- a value that a function gives, after so many steps
 pub told_always : {A B F : Type 0} {M : Levels → Type 0} {Q : B → Type 0} (n : ℕ) (r : Result A F) (f : A → Plan (Result B F)) → ((a : A) → r ≡ Ok a → Always M (OfValue Q) (f a)) → Always M (OfValue Q) (then_ok (after n r) f)

@@ -13,8 +13,8 @@ use Rattle.pickle_meaning.specs.Arithmetic.{Computed, prefixed, combined, to_int
 use Rattle.pickle_meaning.specs.Evaluation.{Operand, operand_label, Evaluation, gives, present, leads_to, on_outcome, and_operand, truth_of, settled, unless_settled, literal_length, is_text, between, chosen, as_common, selected, element, attribute_of, evaluation}
 use Rattle.pickle_meaning.specs.Clauses.{FaultAt, clause_steps, label_steps, bound_steps, is_due, is_met, ends_before, misses}
 use Rattle.pickle_meaning.specs.Means.{Opened, Taken, number_type, width_in, first_digits, ordered}
-use Rattle.mapping_plans.specs.Plan.{Plan, Tick, and_then, after, on_value, then_ok, AtMost, ended, ticked, noted, given}
-use Rattle.mapping_plans.specs.Mapping.{from_inside, constrained, number_plan, digits_plan, read_plan, after_byte, text_plan, after_element, element_plan, makes_row, elements_plan, after_attempt, plan, fields_plan, alternatives_plan}
+use Rattle.mapping_plans.specs.Plan.{Plan, Tick, and_then, after, on_value, then_ok, leave_frame, framed, AtMost, ended, ticked, noted, given}
+use Rattle.mapping_plans.specs.Mapping.{from_inside, constrained, number_plan, digits_plan, read_plan, after_byte, text_plan, after_element, element_plan, row_width, elements_plan, after_attempt, plan, fields_plan, alternatives_plan}
 use Rattle.mapping_plans.proofs.InRow.{row_at_most}
 
 -- ---- evaluations
@@ -153,6 +153,19 @@ both : {A B F : Type 0} {p : Plan (Result A F)} (f : A → Plan (Result B F)) (c
 unfolding then_ok
 both f c d {e} le h g = at_most_more e le (at_most_then (on_value f) d (at_most_value f d g) h)
 
+at_most_frame : {A F : Type 0} (outer : Levels) (r : Result A F) → AtMost (leave_frame outer r) 0
+at_most_frame outer (Ok a) = ended
+at_most_frame outer (Err e) = noted ended
+
+-- what is done with a frame takes no steps
+framed_at_most : {A F : Type 0} {p : Plan (Result A F)} (outer : Levels) {c : ℕ} → AtMost p c → AtMost (framed outer p) c
+unfolding framed
+framed_at_most outer {c} h = noted (and_both _ c 0 (omega arith) h (at_most_frame outer))
+
+-- it is closed with what was built in it
+closed_at_most : {A B F : Type 0} {p : Plan (Result A F)} (outer : Levels) (f : A → Plan (Result B F)) {c : ℕ} → AtMost p c → ((a : A) → AtMost (f a) 0) → AtMost (framed outer (then_ok p f)) c
+closed_at_most outer f {c} h g = framed_at_most outer (both f c 0 (omega arith) h g)
+
 -- a choice
 one_of : {A : Type 0} (b : Bool) {p q : Plan A} {c : ℕ} → AtMost p c → AtMost q c → AtMost (if b then p else q) c
 one_of true h g = h
@@ -177,7 +190,7 @@ mutual
   number_at_most m (ArrayOf element bound) n levels s = ticked 0 (omega arith) ended
   number_at_most m (StructOf name pinned _) n levels s = ticked 0 (omega arith) ended
   number_at_most m (IntegralOf name type fields) n levels s =
-      ticked (parts_cost fields m) (omega arith) (both _ (parts_cost fields m) 0 (omega arith) (digits_at_most m fields n type.width (opened levels) s) (λ r. noted ended))
+      ticked (parts_cost fields m) (omega arith) (closed_at_most levels _ (digits_at_most m fields n type.width (opened levels) s) (λ r. noted ended))
   number_at_most m (UnionOf name alternatives) n levels s = ticked 0 (omega arith) ended
 
   digits_at_most : (m : ℕ) (parts : Parts) (n left : ℕ) (levels : Levels) (s : ℕ) → AtMost (digits_plan parts n left levels s) (parts_cost parts m)
@@ -211,10 +224,10 @@ elements_at_most element c m s extent h (suc n) i levels at =
     (and_both _ c (n * (1 + c)) (omega arith) (h levels at) (after_at_most extent (elements_plan element m s extent n (i + 1)) (n * (1 + c)) (elements_at_most element c m s extent h n (i + 1)) levels at)))
     (one_of (is_met extent s at) ended ended)
 
-attempt_at_most : (next : Plan (Result Taken FaultAt)) (c index : ℕ) (name : Naming) → AtMost next c → (r : Result Value FaultAt) → AtMost (after_attempt next index name r) c
+attempt_at_most : (levels : Levels) (next : Plan (Result Taken FaultAt)) (c index : ℕ) (name : Naming) → AtMost next c → (r : Result Value FaultAt) → AtMost (after_attempt levels next index name r) c
 unfolding after_attempt
-attempt_at_most next c index name h (Ok v) = ended
-attempt_at_most next c index name h (Err f) = one_of (misses f.0) h ended
+attempt_at_most levels next c index name h (Ok v) = ended
+attempt_at_most levels next c index name h (Err f) = one_of (misses f.0) (noted h) ended
 
 text_at_most : (m n : ℕ) (bytes : List ℕ) (levels : Levels) (s place : ℕ) → AtMost (text_plan m n bytes levels s place) n
 unfolding text_plan after_byte
@@ -231,17 +244,17 @@ mutual
   pub plan_at_most : (m : ℕ) (ty : PokeType) (order : Order) (levels : Levels) (s : ℕ) → AtMost (plan m ty order levels s) (cost ty m)
   plan_at_most m (IntegerOf type) order levels s = inside_at_most m s (read_at_most m (IntegerOf type) type order levels s)
   plan_at_most m (OffsetOf type unit) order levels s = inside_at_most m s (read_at_most m (OffsetOf type unit) type order levels s)
-  plan_at_most m StringOf order levels s = inside_at_most m s (ticked (m / 8 + 1) (omega arith) (text_at_most m (m / 8 + 1) [] levels s s))
+  plan_at_most m StringOf order levels s = inside_at_most m s (ticked (m / 8 + 1) (omega arith) (framed_at_most levels (text_at_most m (m / 8 + 1) [] levels s s)))
   plan_at_most m (ArrayOf element bound) order levels s =
       inside_at_most m s (ticked (bound_weight bound + count_of m (least_width element) * (1 + cost element m)) (omega arith)
       (both _ (bound_weight bound) (count_of m (least_width element) * (1 + cost element m)) (omega arith) (at_most_after _ _ (bound_weight bound) (bound_within bound levels)) (λ extent.
-      both _ (count_of m (least_width element) * (1 + cost element m)) 0 (omega arith)
-      (elements_at_most (element_plan element (plan m element order)) (cost element m) m s extent (λ l p. row_at_most (makes_row element) (plan_at_most m element order l p)) (count_of m (least_width element)) 0 (opened levels) s) (λ r. noted ended))))
+      closed_at_most levels _
+      (elements_at_most (element_plan element (plan m element order)) (cost element m) m s extent (λ l p. row_at_most (row_width element) (plan_at_most m element order l p)) (count_of m (least_width element)) 0 (opened levels) s) (λ r. noted ended))))
   plan_at_most m (StructOf name pinned fields) order levels s =
-      inside_at_most m s (ticked (fields_cost fields m) (omega arith) (both _ (fields_cost fields m) 0 (omega arith) (fields_at_most m pinned s fields order (opened levels) s s) (λ r. noted ended)))
+      inside_at_most m s (ticked (fields_cost fields m) (omega arith) (closed_at_most levels _ (fields_at_most m pinned s fields order (opened levels) s s) (λ r. noted ended)))
   plan_at_most m (IntegralOf name type fields) order levels s = inside_at_most m s (read_at_most m (IntegralOf name type fields) type order levels s)
   plan_at_most m (UnionOf name alternatives) order levels s =
-      inside_at_most m s (ticked (parts_cost alternatives m) (omega arith) (both _ (parts_cost alternatives m) 0 (omega arith) (alternatives_at_most m alternatives 0 order (opened levels) s) (λ t. noted ended)))
+      inside_at_most m s (ticked (parts_cost alternatives m) (omega arith) (closed_at_most levels _ (alternatives_at_most m alternatives 0 order (opened levels) s) (λ t. noted ended)))
 
   fields_at_most : (m : ℕ) (pinned : Bool) (s : ℕ) (fields : Fields) (order : Order) (levels : Levels) (behind top : ℕ) → AtMost (fields_plan m pinned s fields order levels behind top) (fields_cost fields m)
   fields_at_most m pinned s NoFields order levels behind top = ended
@@ -260,4 +273,4 @@ mutual
       ticked ((cost ty m + optional_weight c) + parts_cost rest m) (omega arith)
       (and_both _ (cost ty m + optional_weight c) (parts_cost rest m) (omega arith)
       (both _ (cost ty m) (optional_weight c) (omega arith) (plan_at_most m ty (ordered set order) levels s) (constrained_at_most c levels s))
-      (attempt_at_most _ (parts_cost rest m) index name (alternatives_at_most m rest (index + 1) order levels s)))
+      (attempt_at_most levels _ (parts_cost rest m) index name (alternatives_at_most m rest (index + 1) order levels s)))

@@ -10,8 +10,9 @@ use Rattle.pickle_meaning.specs.Values.{Naming, Label, ArrayLabel, StructLabel, 
 use Rattle.pickle_meaning.specs.Clauses.{FaultAt, is_due, is_met, ends_before, misses}
 use Rattle.pickle_meaning.specs.Means.{Opened, Taken, number_type, width_in, first_digits, ordered, value_of, field_names, part_names, union_value}
 use Rattle.pickle_meaning.specs.Room.{NodeSlot, ByteSlot, text_length, value_slots, members_slots}
-use Rattle.mapping_plans.specs.Plan.{Plan, and_then, after, on_value, then_ok, Counts, counted, count_tick, count_made, count_read}
-use Rattle.mapping_plans.specs.Mapping.{from_inside, makes, closes, constrained, number_plan, digits_plan, read_plan, after_byte, text_plan, after_element, element_plan, makes_row, elements_plan, after_attempt, plan, fields_plan, alternatives_plan}
+use Rattle.value_store.specs.Moves.{Move}
+use Rattle.mapping_plans.specs.Plan.{Plan, and_then, after, on_value, then_ok, leave_frame, framed, Counts, counted, count_tick, count_made, count_read}
+use Rattle.mapping_plans.specs.Mapping.{from_inside, makes, closes, constrained, number_plan, digits_plan, read_plan, after_byte, text_plan, after_element, element_plan, row_width, elements_plan, after_attempt, plan, fields_plan, alternatives_plan}
 use Rattle.pickle_meaning.specs.Laws.{value_size}
 use Rattle.mapping_plans.proofs.Fitting.{longer}
 use Rattle.mapping_plans.proofs.InRow.{row_counts}
@@ -83,6 +84,15 @@ counts_ok {A} {B} {F} size most b c f le h g = counts_then (SizeOn size c) (Size
     told (Ok x) d le = g x d le
     told (Err e) d up = let low : c ≤ d = up in let all : b ≤ d = omega arith in counted all
 
+-- the same in a frame of its own
+counts_framed : {A F : Type 0} (size : A → ℕ) (b : ℕ) (outer : Levels) {p : Plan (Result A F)} {e : ℕ} → Counts (SizeOn size b) p e → Counts (SizeOn size b) (framed outer p) e
+unfolding framed
+counts_framed {A} {F} size b outer {e} h = count_made (counts_then (SizeOn size b) (SizeOn size b) (leave_frame outer) (counts_more (SizeOn size b) (e + 0) (omega arith) h) told)
+  where
+    told : (r : Result A F) (d : ℕ) → SizeOn size b r ≤ d → Counts (SizeOn size b) (leave_frame outer r) d
+    told (Ok x) d le = counted le
+    told (Err e) d up = let low : b ≤ d = up in let all : b ≤ d + 0 = omega arith in count_made (counted all)
+
 counts_after : {A B F : Type 0} (most : B → ℕ) (b : ℕ) (n : ℕ) (r : Result A F) (f : A → Plan (Result B F)) (c : ℕ) → b ≤ c → ((x : A) → Counts (SizeOn most b) (f x) c) → Counts (SizeOn most b) (then_ok (after n r) f) c
 unfolding then_ok
 counts_after most b zero (Ok x) f c le g = g x
@@ -93,10 +103,10 @@ one_of : {A : Type 0} (size : A → ℕ) (b : Bool) {p q : Plan A} {c : ℕ} →
 one_of size true h g = h
 one_of size false h g = g
 
-makes_counts : (levels : Levels) (v : Value) (b c : ℕ) → b + of_value v ≤ c + 1 → Counts (SizeOn of_value b) (makes levels v) c
+makes_counts : {move : Move} (levels : Levels) (v : Value) (b c : ℕ) → b + of_value v ≤ c + 1 → Counts (SizeOn of_value b) (makes move levels v) c
 makes_counts levels v b c le = count_made (counted le)
 
-closes_counts : (label : Label) (start end : ℕ) (r : Levels) (b c : ℕ) → text_length label ≡ 0 → b + of_levels r ≤ c → Counts (SizeOn of_value b) (closes (value_of label start end) r) c
+closes_counts : {move : Move} (label : Label) (start end : ℕ) (r : Levels) (b c : ℕ) → text_length label ≡ 0 → b + of_levels r ≤ c → Counts (SizeOn of_value b) (closes move (value_of label start end) r) c
 closes_counts label start end r b c e le = let h = gathered_size (top_of r) in makes_counts (outer_of r) (value_of label start end r) b c (omega arith)
 
 constrained_counts : (c : Option Term) (levels : Levels) (place : ℕ) (v : Value) (b d : ℕ) → b + of_value v ≤ d → Counts (SizeOn of_value b) (constrained c levels place v) d
@@ -117,7 +127,7 @@ mutual
   number_counts (ArrayOf element bound) n levels s c = counted (omega arith)
   number_counts (StructOf name pinned _) n levels s c = counted (omega arith)
   number_counts (IntegralOf name type fields) n levels s c =
-      counts_ok of_levels of_value c c _ (omega arith) (digits_counts fields n type.width (opened levels) s c c (omega arith)) (λ r d le. closes_counts (StructLabel name (part_names fields)) s (s + type.width) r c d refl le)
+      counts_framed of_value c levels (counts_ok of_levels of_value c c _ (omega arith) (digits_counts fields n type.width (opened levels) s c c (omega arith)) (λ r d le. closes_counts (StructLabel name (part_names fields)) s (s + type.width) r c d refl le))
   number_counts (UnionOf name alternatives) n levels s c = counted (omega arith)
 
   digits_counts : (parts : Parts) (n left : ℕ) (levels : Levels) (s b c : ℕ) → b + of_levels levels ≤ c → Counts (SizeOn of_levels b) (digits_plan parts n left levels s) c
@@ -144,10 +154,10 @@ elements_counts element m s extent b h (suc n) i levels at c le =
     (count_tick (counts_then (SizeOn of_value c) (SizeOn of_opened b) _ (h levels at c) (after_counts extent (elements_plan element m s extent n (i + 1)) b (elements_counts element m s extent b h n (i + 1)) levels at c le)))
     (one_of (SizeOn of_opened b) (is_met extent s at) (counted le) (counted (omega arith)))
 
-attempt_counts : (next : Plan (Result Taken FaultAt)) (index : ℕ) (name : Naming) (b c : ℕ) → b ≤ c → Counts (SizeOn of_taken b) next c → (r : Result Value FaultAt) (d : ℕ) → SizeOn of_value c r ≤ d → Counts (SizeOn of_taken b) (after_attempt next index name r) d
+attempt_counts : (levels : Levels) (next : Plan (Result Taken FaultAt)) (index : ℕ) (name : Naming) (b c : ℕ) → b ≤ c → Counts (SizeOn of_taken b) next c → (r : Result Value FaultAt) (d : ℕ) → SizeOn of_value c r ≤ d → Counts (SizeOn of_taken b) (after_attempt levels next index name r) d
 unfolding after_attempt
-attempt_counts next index name b c le h (Ok v) d up = counted (omega arith)
-attempt_counts next index name b c le h (Err f) d up = one_of (SizeOn of_taken b) (misses f.0) (counts_more (SizeOn of_taken b) d (omega arith) h) (counted (omega arith))
+attempt_counts levels next index name b c le h (Ok v) d up = counted (omega arith)
+attempt_counts levels next index name b c le h (Err f) d up = one_of (SizeOn of_taken b) (misses f.0) (count_made (counts_more (SizeOn of_taken b) (d + 0) (omega arith) h)) (counted (omega arith))
 
 text_counts : (m n : ℕ) (bytes : List ℕ) (levels : Levels) (s place b c : ℕ) → b + length bytes ≤ c → Counts (SizeOn of_value b) (text_plan m n bytes levels s place) c
 unfolding text_plan after_byte
@@ -164,18 +174,18 @@ mutual
   pub plan_counts : (m : ℕ) (ty : PokeType) (order : Order) (levels : Levels) (s c : ℕ) → Counts (SizeOn of_value c) (plan m ty order levels s) c
   plan_counts m (IntegerOf type) order levels s c = inside_counts of_value m s c c (omega arith) (read_counts m (IntegerOf type) type order levels s c)
   plan_counts m (OffsetOf type unit) order levels s c = inside_counts of_value m s c c (omega arith) (read_counts m (OffsetOf type unit) type order levels s c)
-  plan_counts m StringOf order levels s c = inside_counts of_value m s c c (omega arith) (count_tick (text_counts m _ [] levels s s c c (omega arith)))
+  plan_counts m StringOf order levels s c = inside_counts of_value m s c c (omega arith) (count_tick (counts_framed of_value c levels (text_counts m _ [] levels s s c c (omega arith))))
   plan_counts m (ArrayOf element bound) order levels s c =
       inside_counts of_value m s c c (omega arith) (count_tick (counts_after of_value c _ _ _ c (omega arith) (λ extent.
-      counts_ok of_opened of_value c c _ (omega arith) (elements_counts (element_plan element (plan m element order)) m s extent c (λ l p d. row_counts (makes_row element) (plan_counts m element order l p d)) (count_of m (least_width element)) 0 (opened levels) s c (omega arith))
-      (λ r d le. closes_counts ArrayLabel s r.1 r.0 c d refl le))))
+      counts_framed of_value c levels (counts_ok of_opened of_value c c _ (omega arith) (elements_counts (element_plan element (plan m element order)) m s extent c (λ l p d. row_counts (row_width element) (plan_counts m element order l p d)) (count_of m (least_width element)) 0 (opened levels) s c (omega arith))
+      (λ r d le. closes_counts ArrayLabel s r.1 r.0 c d refl le)))))
   plan_counts m (StructOf name pinned fields) order levels s c =
-      inside_counts of_value m s c c (omega arith) (count_tick (counts_ok of_opened of_value c c _ (omega arith) (fields_counts m pinned s fields order (opened levels) s s c c (omega arith))
-      (λ r d le. closes_counts (StructLabel name (field_names fields)) s r.1 r.0 c d refl le)))
+      inside_counts of_value m s c c (omega arith) (count_tick (counts_framed of_value c levels (counts_ok of_opened of_value c c _ (omega arith) (fields_counts m pinned s fields order (opened levels) s s c c (omega arith))
+      (λ r d le. closes_counts (StructLabel name (field_names fields)) s r.1 r.0 c d refl le))))
   plan_counts m (IntegralOf name type fields) order levels s c = inside_counts of_value m s c c (omega arith) (read_counts m (IntegralOf name type fields) type order levels s c)
   plan_counts m (UnionOf name alternatives) order levels s c =
-      inside_counts of_value m s c c (omega arith) (count_tick (counts_ok of_taken of_value c c _ (omega arith) (alternatives_counts m alternatives 0 order (opened levels) s c c (omega arith))
-      (λ t d le. makes_counts levels (union_value name s t) c d (omega arith))))
+      inside_counts of_value m s c c (omega arith) (count_tick (counts_framed of_value c levels (counts_ok of_taken of_value c c _ (omega arith) (alternatives_counts m alternatives 0 order (opened levels) s c c (omega arith))
+      (λ t d le. makes_counts levels (union_value name s t) c d (omega arith)))))
 
   fields_counts : (m : ℕ) (pinned : Bool) (s : ℕ) (fields : Fields) (order : Order) (levels : Levels) (behind top b c : ℕ) → b + of_levels levels ≤ c → Counts (SizeOn of_opened b) (fields_plan m pinned s fields order levels behind top) c
   fields_counts m pinned s NoFields order levels behind top b c le = counted le
@@ -192,7 +202,7 @@ mutual
   alternatives_counts m (PartThen name set ty k rest) index order levels s b c le =
       count_tick (counts_then (SizeOn of_value c) (SizeOn of_taken b) _
       (counts_ok of_value of_value c c _ (omega arith) (plan_counts m ty (ordered set order) levels s c) (λ v d up. constrained_counts k levels s v c d up))
-      (attempt_counts _ index name b c le (alternatives_counts m rest (index + 1) order levels s b c le)))
+      (attempt_counts levels _ index name b c le (alternatives_counts m rest (index + 1) order levels s b c le)))
 
 same_size : {p : Plan (Result Value FaultAt)} {c : ℕ} → Counts (SizeOn of_value 0) p c → Counts value_size p c
 same_size (counted {a} h) = counted (told a h)

@@ -17,13 +17,14 @@ use Rattle.pickle_meaning.specs.declared.faults.MapFaultKind.TheVariants as faul
 use Rattle.pickle_meaning.specs.Values.{Naming, Value, end_of, text_value, Levels, pushed, opened}
 use Rattle.pickle_meaning.specs.Clauses.{FaultAt, constraint, condition, field_start, extent_of, is_due, is_met, ends_before, misses}
 use Rattle.pickle_meaning.specs.Means.{Opened, Taken, number_type, width_in, first_digits, ordered}
-use Rattle.mapping_plans.specs.Plan.{Plan, Ended, Tick, Read, and_then, Always, result, after_tick, after_made, after_read}
-use Rattle.mapping_plans.specs.Mapping.{constrained, number_plan, digits_plan, read_plan, after_byte, text_plan, after_element, element_plan, makes_row, elements_plan, after_attempt, plan, fields_plan, alternatives_plan}
+use Rattle.value_store.specs.Moves.{Clears}
+use Rattle.mapping_plans.specs.Plan.{Plan, Ended, Tick, Made, Read, and_then, Always, result, after_tick, after_made, after_read}
+use Rattle.mapping_plans.specs.Mapping.{constrained, number_plan, digits_plan, read_plan, after_byte, text_plan, after_element, element_plan, row_width, elements_plan, after_attempt, plan, fields_plan, alternatives_plan}
 use Rattle.pickle_meaning.specs.Fits.{IsText, IsWhole, ElementsFit, no_more_fit, one_more_fits, FitsNumber, DigitsFit, Fits, FieldsFit, AlternativeFits}
 use Rattle.pickle_meaning.specs.Laws.{ValueFits}
 use Rattle.mapping_plans.proofs.Basics.{clash}
 use Rattle.mapping_plans.proofs.Widths.{EndsFrom, starts_from, next_start, later_unlabelled, present_least, absent_width, least_first}
-use Rattle.mapping_plans.proofs.Always.{OfValue, weaker, then_always, ok_always, told_always, inside_always}
+use Rattle.mapping_plans.proofs.Always.{OfValue, weaker, then_always, ok_always, framed_always, told_always, inside_always}
 use Rattle.mapping_plans.proofs.InRow.{row_always}
 
 -- ---- a value that fits ends in the file, and is as wide as its type is at least
@@ -152,8 +153,8 @@ mutual
   number_fits (ArrayOf element bound) n levels s lt = result tt
   number_fits (StructOf name pinned _) n levels s lt = result tt
   number_fits (IntegralOf name type fields) n levels s lt =
-      ok_always {P = DigitsFit fields (opened levels) s} {Q = FitsNumber (IntegralOf name type fields) levels s} _
-      (λ inside h. after_made tt (result (inside, h, refl))) (digits_fit fields n type.width (opened levels) s)
+      framed_always levels tt tt (ok_always {P = DigitsFit fields (opened levels) s} {Q = FitsNumber (IntegralOf name type fields) levels s} _
+      (λ inside h. after_made tt (result (inside, h, refl))) (digits_fit fields n type.width (opened levels) s))
   number_fits (UnionOf name alternatives) n levels s lt = result tt
 
   digits_fit : (parts : Parts) (n left : ℕ) (levels : Levels) (s : ℕ) → Always AnyLevels (OfValue (DigitsFit parts levels s)) (digits_plan parts n left levels s)
@@ -276,7 +277,7 @@ there_or_not : {A : Type 0} {Q : A → Type 0} (when : Option Term) (levels : Le
 there_or_not when levels s true h f g = f h
 there_or_not when levels s false h f g = g h
 
-attempt_fits : (m : ℕ) (name : Naming) (set : Option ByteOrder) (ty : PokeType) (c : Option Term) (rest : Parts) (index : ℕ) (levels : Levels) (s : ℕ) (next : Plan (Result Taken FaultAt)) → Always AnyLevels (OfValue (AlternativeFits m rest (index + 1) levels s)) next → (r : Result Value FaultAt) → OfValue (WithConstraint (Fits m ty levels s) c levels s) r → Always AnyLevels (OfValue (AlternativeFits m (PartThen name set ty c rest) index levels s)) (after_attempt next index name r)
+attempt_fits : (m : ℕ) (name : Naming) (set : Option ByteOrder) (ty : PokeType) (c : Option Term) (rest : Parts) (index : ℕ) (levels : Levels) (s : ℕ) (next : Plan (Result Taken FaultAt)) → Always AnyLevels (OfValue (AlternativeFits m rest (index + 1) levels s)) next → (r : Result Value FaultAt) → OfValue (WithConstraint (Fits m ty levels s) c levels s) r → Always AnyLevels (OfValue (AlternativeFits m (PartThen name set ty c rest) index levels s)) (after_attempt levels next index name r)
 unfolding after_attempt Fits
 attempt_fits m name set ty c rest index levels s next g (Ok v) h = result (inl (refl, refl, h.0, h.1, fits_inside m ty levels s v h.0))
 attempt_fits m name set ty c rest index levels s next g (Err f) h = chosen (misses f.0)
@@ -285,8 +286,8 @@ attempt_fits m name set ty c rest index levels s next g (Err f) h = chosen (miss
     later (Ok t) h = inr h
     later (Err f) h = tt
 
-    chosen : (b : Bool) → Always AnyLevels (OfValue (AlternativeFits m (PartThen name set ty c rest) index levels s)) (if b then next else Ended (Err f))
-    chosen true = weaker later g
+    chosen : (b : Bool) → Always AnyLevels (OfValue (AlternativeFits m (PartThen name set ty c rest) index levels s)) (if b then Made 0 Clears levels next else Ended (Err f))
+    chosen true = after_made tt (weaker later g)
     chosen false = result tt
 
 mutual
@@ -295,19 +296,19 @@ mutual
   pub plan_fits : (m : ℕ) (ty : PokeType) (order : Order) (levels : Levels) (s : ℕ) → Always AnyLevels (OfValue (Fits m ty levels s)) (plan m ty order levels s)
   plan_fits m (IntegerOf type) order levels s = inside_always m s (λ le. read_fits m (IntegerOf type) type order levels s refl)
   plan_fits m (OffsetOf type unit) order levels s = inside_always m s (λ le. read_fits m (OffsetOf type unit) type order levels s refl)
-  plan_fits m StringOf order levels s = inside_always m s (λ le. after_tick (text_fits m _ [] levels s s tt (omega arith)))
+  plan_fits m StringOf order levels s = inside_always m s (λ le. after_tick (framed_always levels tt tt (text_fits m _ [] levels s s tt (omega arith))))
   plan_fits m (ArrayOf element bound) order levels s =
       inside_always m s (λ le. after_tick (told_always {Q = Fits m (ArrayOf element bound) levels s} _ (extent_of bound levels s) _
-      (λ extent is. ok_always {P = Goes (Fits m element) m extent s 0 (opened levels) s} {Q = Fits m (ArrayOf element bound) levels s} _
+      (λ extent is. framed_always levels tt tt (ok_always {P = Goes (Fits m element) m extent s 0 (opened levels) s} {Q = Fits m (ArrayOf element bound) levels s} _
       (λ r h. after_made tt (result (extent, is, r.0, r.1, h.0, h.1, h.2, h.3, refl)))
-      (elements_fit m s extent (Fits m element) (element_plan element (plan m element order)) (λ l p. row_always (makes_row element) (plan_fits m element order l p)) (λ l a v fit. (let w = fits_wide m element l a v fit in omega arith, fits_inside m element l a v fit)) (count_of m (least_width element)) 0 (opened levels) s le (none_counted extent)))))
+      (elements_fit m s extent (Fits m element) (element_plan element (plan m element order)) (λ l p. row_always (row_width element) (plan_fits m element order l p)) (λ l a v fit. (let w = fits_wide m element l a v fit in omega arith, fits_inside m element l a v fit)) (count_of m (least_width element)) 0 (opened levels) s le (none_counted extent))))))
   plan_fits m (StructOf name pinned fields) order levels s =
-      inside_always m s (λ le. after_tick (ok_always {P = Fitting m pinned s fields (opened levels) s s} {Q = Fits m (StructOf name pinned fields) levels s} _
-      (λ r h. after_made tt (result (r.0, r.1, h.0, h.1, refl))) (fields_fit m pinned s fields order (opened levels) s s (omega arith) le)))
+      inside_always m s (λ le. after_tick (framed_always levels tt tt (ok_always {P = Fitting m pinned s fields (opened levels) s s} {Q = Fits m (StructOf name pinned fields) levels s} _
+      (λ r h. after_made tt (result (r.0, r.1, h.0, h.1, refl))) (fields_fit m pinned s fields order (opened levels) s s (omega arith) le))))
   plan_fits m (IntegralOf name type fields) order levels s = inside_always m s (λ le. read_fits m (IntegralOf name type fields) type order levels s refl)
   plan_fits m (UnionOf name alternatives) order levels s =
-      inside_always m s (λ le. after_tick (ok_always {P = AlternativeFits m alternatives 0 (opened levels) s} {Q = Fits m (UnionOf name alternatives) levels s} _
-      (λ t h. after_made tt (result (t, h, refl))) (alternatives_fit m alternatives 0 order (opened levels) s)))
+      inside_always m s (λ le. after_tick (framed_always levels tt tt (ok_always {P = AlternativeFits m alternatives 0 (opened levels) s} {Q = Fits m (UnionOf name alternatives) levels s} _
+      (λ t h. after_made tt (result (t, h, refl))) (alternatives_fit m alternatives 0 order (opened levels) s))))
 
   fields_fit : (m : ℕ) (pinned : Bool) (s : ℕ) (fields : Fields) (order : Order) (levels : Levels) (behind top : ℕ) → s ≤ behind → top ≤ m → Always AnyLevels (OfValue (Fitting m pinned s fields levels behind top)) (fields_plan m pinned s fields order levels behind top)
   fields_fit m pinned s NoFields order levels behind top from le = result ((refl, refl), le)

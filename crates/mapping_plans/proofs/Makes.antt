@@ -9,8 +9,9 @@ use Rattle.pickle_meaning.specs.declared.extent.Extent.{Extent}
 use Rattle.pickle_meaning.specs.Values.{Naming, Value, end_of, Levels, pushed, opened}
 use Rattle.pickle_meaning.specs.Clauses.{FaultAt, is_due, is_met, ends_before, misses}
 use Rattle.pickle_meaning.specs.Means.{Opened, Taken, number_type, width_in, first_digits, ordered}
-use Rattle.mapping_plans.specs.Plan.{Plan, Ended, Made, and_then, after, on_value, then_ok, MadeWithin, made_ended, made_tick, made_more, made_read}
-use Rattle.mapping_plans.specs.Mapping.{from_inside, constrained, number_plan, digits_plan, read_plan, after_byte, text_plan, after_element, element_plan, makes_row, elements_plan, after_attempt, plan, fields_plan, alternatives_plan}
+use Rattle.value_store.specs.Moves.{Move}
+use Rattle.mapping_plans.specs.Plan.{Plan, Ended, Made, and_then, after, on_value, then_ok, leave_frame, framed, MadeWithin, made_ended, made_tick, made_more, made_read}
+use Rattle.mapping_plans.specs.Mapping.{from_inside, constrained, number_plan, digits_plan, read_plan, after_byte, text_plan, after_element, element_plan, row_width, elements_plan, after_attempt, plan, fields_plan, alternatives_plan}
 use Rattle.mapping_plans.proofs.InRow.{row_within}
 
 -- with more steps taken before, and fewer required at the end
@@ -34,12 +35,20 @@ within_ok : {A B F : Type 0} (f : A → Plan (Result B F)) (b : ℕ) {p : Plan (
 unfolding then_ok
 within_ok f b le h g = within_then (on_value f) h (within_value f le g)
 
+within_frame : {A F : Type 0} (outer : Levels) {b : ℕ} (r : Result A F) → MadeWithin (leave_frame outer r) b b
+within_frame outer (Ok x) = made_ended (omega arith)
+within_frame outer {b} (Err e) = made_more b (omega arith) (made_ended (omega arith))
+
+within_framed : {A F : Type 0} (outer : Levels) {p : Plan (Result A F)} {a b : ℕ} → MadeWithin p a b → MadeWithin (framed outer p) a b
+unfolding framed
+within_framed outer {a} h = made_more a (omega arith) (within_then (leave_frame outer) h (within_frame outer))
+
 within_after : {A : Type 0} (n : ℕ) (x : A) (a : ℕ) → MadeWithin (after n x) a a
 within_after zero x a = made_ended (omega arith)
 within_after (suc n) x a = made_tick (within_more (a + 1) a (omega arith) (omega arith) (within_after n x a))
 
 -- one value, for a step that was taken
-one_made : {A : Type 0} {row : Bool} {levels : Levels} {x : A} (a : ℕ) → MadeWithin (Made 1 row levels (Ended x)) (a + 1) a
+one_made : {A : Type 0} {move : Move} {levels : Levels} {x : A} (a : ℕ) → MadeWithin (Made 1 move levels (Ended x)) (a + 1) a
 one_made a = made_more a (omega arith) (made_ended (omega arith))
 
 one_of : {A : Type 0} (b : Bool) {p q : Plan A} {a c : ℕ} → MadeWithin p a c → MadeWithin q a c → MadeWithin (if b then p else q) a c
@@ -63,7 +72,7 @@ mutual
   number_within StringOf n levels s a = made_ended (omega arith)
   number_within (ArrayOf element bound) n levels s a = made_ended (omega arith)
   number_within (StructOf name pinned _) n levels s a = made_ended (omega arith)
-  number_within (IntegralOf name type fields) n levels s a = within_ok _ (a + 1) (omega arith) (digits_within fields n type.width (opened levels) s (a + 1)) (λ inside. one_made a)
+  number_within (IntegralOf name type fields) n levels s a = within_framed levels (within_ok _ (a + 1) (omega arith) (digits_within fields n type.width (opened levels) s (a + 1)) (λ inside. one_made a))
   number_within (UnionOf name alternatives) n levels s a = made_ended (omega arith)
 
   digits_within : (parts : Parts) (n left : ℕ) (levels : Levels) (s a : ℕ) → MadeWithin (digits_plan parts n left levels s) a a
@@ -91,10 +100,10 @@ elements_within element m s extent a h (suc n) i levels at =
     (within_then _ (h levels at) (after_within extent (elements_plan element m s extent n (i + 1)) a (elements_within element m s extent a h n (i + 1)) levels at))))
     (one_of (is_met extent s at) (made_ended (omega arith)) (made_ended (omega arith)))
 
-attempt_within : (next : Plan (Result Taken FaultAt)) (index : ℕ) (name : Naming) (a : ℕ) → MadeWithin next a a → (r : Result Value FaultAt) → MadeWithin (after_attempt next index name r) a a
+attempt_within : (levels : Levels) (next : Plan (Result Taken FaultAt)) (index : ℕ) (name : Naming) (a : ℕ) → MadeWithin next a a → (r : Result Value FaultAt) → MadeWithin (after_attempt levels next index name r) a a
 unfolding after_attempt
-attempt_within next index name a h (Ok v) = made_ended (omega arith)
-attempt_within next index name a h (Err f) = one_of (misses f.0) h (made_ended (omega arith))
+attempt_within levels next index name a h (Ok v) = made_ended (omega arith)
+attempt_within levels next index name a h (Err f) = one_of (misses f.0) (made_more a (omega arith) h) (made_ended (omega arith))
 
 text_within : (m n : ℕ) (bytes : List ℕ) (levels : Levels) (s place a : ℕ) → MadeWithin (text_plan m n bytes levels s place) a a
 unfolding text_plan after_byte
@@ -111,16 +120,16 @@ mutual
   pub plan_within : (m : ℕ) (ty : PokeType) (order : Order) (levels : Levels) (s a : ℕ) → MadeWithin (plan m ty order levels s) a a
   plan_within m (IntegerOf type) order levels s a = inside_within m s a (read_within m (IntegerOf type) type order levels s a)
   plan_within m (OffsetOf type unit) order levels s a = inside_within m s a (read_within m (OffsetOf type unit) type order levels s a)
-  plan_within m StringOf order levels s a = inside_within m s a (made_tick (within_more (a + 1) a (omega arith) (omega arith) (text_within m _ [] levels s s a)))
+  plan_within m StringOf order levels s a = inside_within m s a (made_tick (within_more (a + 1) a (omega arith) (omega arith) (within_framed levels (text_within m _ [] levels s s a))))
   plan_within m (ArrayOf element bound) order levels s a =
       inside_within m s a (made_tick
       (within_ok _ (a + 1) (omega arith) (within_after _ _ (a + 1)) (λ extent.
-      within_ok _ (a + 1) (omega arith) (elements_within (element_plan element (plan m element order)) m s extent (a + 1) (λ l p. row_within (makes_row element) (plan_within m element order l p (a + 1))) (count_of m (least_width element)) 0 (opened levels) s) (λ r. one_made a))))
+      within_framed levels (within_ok _ (a + 1) (omega arith) (elements_within (element_plan element (plan m element order)) m s extent (a + 1) (λ l p. row_within (row_width element) (plan_within m element order l p (a + 1))) (count_of m (least_width element)) 0 (opened levels) s) (λ r. one_made a)))))
   plan_within m (StructOf name pinned fields) order levels s a =
-      inside_within m s a (made_tick (within_ok _ (a + 1) (omega arith) (fields_within m pinned s fields order (opened levels) s s (a + 1)) (λ r. one_made a)))
+      inside_within m s a (made_tick (within_framed levels (within_ok _ (a + 1) (omega arith) (fields_within m pinned s fields order (opened levels) s s (a + 1)) (λ r. one_made a))))
   plan_within m (IntegralOf name type fields) order levels s a = inside_within m s a (read_within m (IntegralOf name type fields) type order levels s a)
   plan_within m (UnionOf name alternatives) order levels s a =
-      inside_within m s a (made_tick (within_ok _ (a + 1) (omega arith) (alternatives_within m alternatives 0 order (opened levels) s (a + 1)) (λ t. one_made a)))
+      inside_within m s a (made_tick (within_framed levels (within_ok _ (a + 1) (omega arith) (alternatives_within m alternatives 0 order (opened levels) s (a + 1)) (λ t. one_made a))))
 
   fields_within : (m : ℕ) (pinned : Bool) (s : ℕ) (fields : Fields) (order : Order) (levels : Levels) (behind top a : ℕ) → MadeWithin (fields_plan m pinned s fields order levels behind top) a a
   fields_within m pinned s NoFields order levels behind top a = made_ended (omega arith)
@@ -137,7 +146,7 @@ mutual
   alternatives_within m (PartThen name set ty c rest) index order levels s a =
       made_tick (within_more (a + 1) a (omega arith) (omega arith)
       (within_then _ (within_ok _ a (omega arith) (plan_within m ty (ordered set order) levels s a) (λ v. constrained_within c levels s v a))
-      (attempt_within _ index name a (alternatives_within m rest (index + 1) order levels s a))))
+      (attempt_within levels _ index name a (alternatives_within m rest (index + 1) order levels s a))))
 
 pub made_bounded : (m : ℕ) (ty : PokeType) (order : Order) (levels : Levels) (s : ℕ) → MadeWithin (plan m ty order levels s) 0 0
 made_bounded m ty order levels s = plan_within m ty order levels s 0

@@ -14,9 +14,9 @@ use Rattle.pickle_meaning.specs.Values.{Naming, Value, end_of, text_value, Level
 use Rattle.pickle_meaning.specs.Clauses.{FaultAt, constraint, clause_steps, label_steps, bound_steps, is_due, is_met, ends_before, misses}
 use Rattle.pickle_meaning.specs.Means.{Means, past_end, number_read, number_end, string, string_end, array, bound_fault, struct, struct_fault, union, union_fault, NumberMeans, integer, offset, integral, integral_fault, no_number, DigitsMean, no_digits, next_digits, digits_refused, digits_fault, number_type, Run, no_bytes, next_byte, Elements, no_more, next_element, Closing, none_due, beyond_size, no_bits, ends_without, element_fault, PartMeans, part, part_refused, part_fault, FieldsMean, all_fields, absent, field, condition_fault, label_fault, field_fault, AlternativesMean, none_left, fits, misses_it, other_fault, Opened, Taken}
 use Rattle.mapping_plans.specs.Plan.{Plan, Ended, Tick, on_value, then_ok}
-use Rattle.mapping_plans.specs.Mapping.{from_inside, constrained, number_plan, digits_plan, read_plan, after_byte, text_plan, after_element, element_plan, makes_row, elements_plan, array_closes, after_attempt, plan, fields_plan, alternatives_plan}
+use Rattle.mapping_plans.specs.Mapping.{from_inside, constrained, number_plan, digits_plan, read_plan, after_byte, text_plan, after_element, element_plan, row_width, elements_plan, array_closes, after_attempt, plan, fields_plan, alternatives_plan}
 use Rattle.mapping_plans.proofs.Basics.{clash, same_type, fewer, enough}
-use Rattle.mapping_plans.proofs.Comes.{Comes, comes_ended, comes_tick, comes_made, comes_read, comes_as, comes_after, comes_then, comes_ok, comes_err, comes_inside, comes_past}
+use Rattle.mapping_plans.proofs.Comes.{Comes, comes_ended, comes_tick, comes_made, comes_read, comes_as, comes_after, comes_then, comes_ok, comes_err, comes_on, comes_framed, comes_inside, comes_past}
 use Rattle.mapping_plans.proofs.Widths.{means_inside, elements_inside, means_wide}
 use Rattle.mapping_plans.proofs.InRow.{row_comes}
 
@@ -54,8 +54,8 @@ mutual
   number_comes : {bits : List ℕ} {ty : PokeType} {n : ℕ} {levels : Levels} {s : ℕ} {r : Result Value FaultAt} {k j : ℕ} → NumberMeans ty n levels s r k j → Comes bits (Tick (number_plan ty n levels s)) r k j
   number_comes integer = comes_tick (comes_made {j = 0} comes_ended)
   number_comes offset = comes_tick (comes_made {j = 0} comes_ended)
-  number_comes (integral fs) = comes_as (omega arith) refl (comes_tick (comes_ok _ _ (digits_come fs) (comes_made {j = 0} comes_ended)))
-  number_comes (integral_fault fs) = comes_tick (comes_err _ _ (digits_come fs))
+  number_comes (integral {levels} fs) = comes_as (omega arith) refl (comes_tick (comes_framed levels _ (comes_ok _ _ (digits_come fs) (comes_made {j = 0} comes_ended))))
+  number_comes (integral_fault {levels} fs) = comes_tick (comes_framed levels _ (comes_err _ _ (digits_come fs)))
   number_comes {bits} (no_number {ty} {n} {levels} {s} e) = rw (no_number_plan ty n levels s e) (comes_tick comes_ended)
 
   digits_come : {bits : List ℕ} {parts : Parts} {n left : ℕ} {levels : Levels} {s : ℕ} {r : Result Levels FaultAt} {k j : ℕ} → DigitsMean parts n left levels s r k j → Comes bits (digits_plan parts n left levels s) r k j
@@ -99,7 +99,7 @@ due_comes {bits} {ty} {order} {s} {extent} {i} {levels} {p} {a} {r} {k} {j} {k'}
   where
     tries : (n : ℕ) → length bits < p + n * max 1 (least_width ty) → Comes bits (elements_plan (element_plan ty (plan (length bits) ty order)) (length bits) s extent n i levels p) r (1 + k + k') (j + j')
     tries zero le = absurd (omega arith)
-    tries (suc d) le = rw due (comes_as (omega arith) refl (comes_tick (comes_then _ _ (row_comes (makes_row ty) h) (g d le))))
+    tries (suc d) le = rw due (comes_as (omega arith) refl (comes_tick (comes_then _ _ (row_comes (row_width ty) h) (g d le))))
 
 done_comes : {bits : List ℕ} {ty : PokeType} {order : Order} {s : ℕ} {extent : Extent} {i : ℕ} {levels : Levels} {p : ℕ} → is_due extent (length bits) s i p ≡ false → is_met extent s p ≡ true → p ≤ length bits → EndsWith bits ty order s extent i levels p (Ok (levels, p)) 0 0
 unfolding elements_plan
@@ -134,17 +134,17 @@ module _ {bits : List ℕ} (extent : Extent) (next : Levels → ℕ → Plan (Re
   unfolding after_element
   after_fault f e = rw e comes_ended
 
-attempt_misses : {bits : List ℕ} (rest : Plan (Result Taken FaultAt)) (index : ℕ) (name : Naming) (f : FaultAt) {r : Result Taken FaultAt} {k j : ℕ} → misses f.0 ≡ true → Comes bits rest r k j → Comes bits (after_attempt rest index name (Err f)) r k j
+attempt_misses : {bits : List ℕ} (levels : Levels) (rest : Plan (Result Taken FaultAt)) (index : ℕ) (name : Naming) (f : FaultAt) {r : Result Taken FaultAt} {k j : ℕ} → misses f.0 ≡ true → Comes bits rest r k j → Comes bits (after_attempt levels rest index name (Err f)) r k j
 unfolding after_attempt
-attempt_misses rest index name f e h = rw e h
+attempt_misses levels rest index name f e h = rw e (comes_as refl (omega arith) (comes_made h))
 
-attempt_fault : {bits : List ℕ} (rest : Plan (Result Taken FaultAt)) (index : ℕ) (name : Naming) (f : FaultAt) → misses f.0 ≡ false → Comes bits (after_attempt rest index name (Err f)) (Err f) 0 0
+attempt_fault : {bits : List ℕ} (levels : Levels) (rest : Plan (Result Taken FaultAt)) (index : ℕ) (name : Naming) (f : FaultAt) → misses f.0 ≡ false → Comes bits (after_attempt levels rest index name (Err f)) (Err f) 0 0
 unfolding after_attempt
-attempt_fault rest index name f e = rw e comes_ended
+attempt_fault levels rest index name f e = rw e comes_ended
 
-attempt_fits : {bits : List ℕ} (rest : Plan (Result Taken FaultAt)) (index : ℕ) (name : Naming) (v : Value) → Comes bits (after_attempt rest index name (Ok v)) (Ok (record { index = index; name = name; value = v })) 0 0
+attempt_fits : {bits : List ℕ} (levels : Levels) (rest : Plan (Result Taken FaultAt)) (index : ℕ) (name : Naming) (v : Value) → Comes bits (after_attempt levels rest index name (Ok v)) (Ok (record { index = index; name = name; value = v })) 0 0
 unfolding after_attempt
-attempt_fits rest index name v = comes_ended
+attempt_fits levels rest index name v = comes_ended
 
 -- the result of an array's elements after its last cut point, and of the array
 record Closes (bits : List ℕ) (ty : PokeType) (order : Order) (s : ℕ) (extent : Extent) (i : ℕ) (inside : Levels) (pn : ℕ) (r : Result Value FaultAt) (k j : ℕ) : Type 0 where
@@ -152,7 +152,7 @@ record Closes (bits : List ℕ) (ty : PokeType) (order : Order) (s : ℕ) (exten
   made_in : ℕ
   made_on : ℕ
   ends : EndsWith bits ty order s extent i inside pn ended k made_in
-  closing : Comes bits (on_value (array_closes s) ended) r 0 made_on
+  closing : Comes bits (on_value (array_closes ty s) ended) r 0 made_on
   sum : j ≡ made_in + made_on
 
 -- the result of the bytes of a text from here on, with enough left to try
@@ -191,11 +191,6 @@ run_inside : {bits : List ℕ} {p q : ℕ} {bytes : List ℕ} → Run bits p byt
 run_inside no_bytes le = le
 run_inside (next_byte le e run) h = run_inside run le
 
--- one plan, and then what is done with its result, also with a fault
-comes_on : {A B F : Type 0} {bits : List ℕ} (p : Plan (Result A F)) (f : A → Plan (Result B F)) {a : Result A F} {b : Result B F} {k j k' j' : ℕ} → Comes bits p a k j → Comes bits (on_value f a) b k' j' → Comes bits (then_ok p f) b (k + k') (j + j')
-unfolding then_ok
-comes_on p f h g = comes_then p (on_value f) h g
-
 mutual
   unfolding plan
 
@@ -207,22 +202,22 @@ mutual
       subst (λ p. Comes bits p (Err (fault.End, s)) 1 0) (read_planned (length bits) ty order levels s e) (comes_inside _ _ _ le (read_past ty type order levels s lt))
   means_comes {bits} (string {levels} {s} {q} {bytes} le run inside e) =
       let all = run_comes run [] levels s (text_closes bytes levels s q inside e) in
-      comes_inside _ _ _ le (comes_as (omega arith) refl (comes_tick (all.with_left (length bits / 8 + 1) (enough (length bits) s 8 (omega arith)))))
+      comes_inside _ _ _ le (comes_as (omega arith) refl (comes_tick (comes_framed levels _ (all.with_left (length bits / 8 + 1) (enough (length bits) s 8 (omega arith))))))
   means_comes {bits} (string_end {levels} {s} {q} {bytes} le run lt) =
       let all = run_comes run [] levels s (text_end bytes levels s q (run_inside run le) lt) in
-      comes_inside _ _ _ le (comes_as (omega arith) (omega arith) (comes_tick (all.with_left (length bits / 8 + 1) (enough (length bits) s 8 (omega arith)))))
+      comes_inside _ _ _ le (comes_as (omega arith) (omega arith) (comes_tick (comes_framed levels _ (all.with_left (length bits / 8 + 1) (enough (length bits) s 8 (omega arith))))))
   means_comes {bits} (array {ty} {bound} {order} {extent} {levels} {s} le b es c) =
       let up = elements_inside es le in
       let e = closing_comes up c in
       let all = elements_come le es e.ends in
       let sum = e.sum in
-      let rest = comes_on (elements_plan (element_plan ty (plan (length bits) ty order)) (length bits) s extent (count_of (length bits) (least_width ty)) 0 (opened levels) s) (array_closes s) (all.with_left (count_of (length bits) (least_width ty)) (enough (length bits) s (max 1 (least_width ty)) (omega arith))) e.closing in
-      comes_inside _ _ _ le (comes_as (omega arith) (omega arith) (comes_tick (comes_ok _ _ (comes_after (bound_steps bound levels) b) rest)))
+      let rest = comes_on (elements_plan (element_plan ty (plan (length bits) ty order)) (length bits) s extent (count_of (length bits) (least_width ty)) 0 (opened levels) s) (array_closes ty s) (all.with_left (count_of (length bits) (least_width ty)) (enough (length bits) s (max 1 (least_width ty)) (omega arith))) e.closing in
+      comes_inside _ _ _ le (comes_as (omega arith) (omega arith) (comes_tick (comes_ok _ _ (comes_after (bound_steps bound levels) b) (comes_framed levels _ rest))))
   means_comes (bound_fault {bound} {levels} le b) = comes_inside _ _ _ le (comes_tick (comes_err _ _ (comes_after (bound_steps bound levels) b)))
-  means_comes (struct le fs) = comes_inside _ _ _ le (comes_as (omega arith) refl (comes_tick (comes_ok _ _ (fields_come fs) (comes_made {j = 0} comes_ended))))
-  means_comes (struct_fault le fs) = comes_inside _ _ _ le (comes_tick (comes_err _ _ (fields_come fs)))
-  means_comes (union le fs) = comes_inside _ _ _ le (comes_as (omega arith) refl (comes_tick (comes_ok _ _ (alternatives_come fs) (comes_made {j = 0} comes_ended))))
-  means_comes (union_fault le fs) = comes_inside _ _ _ le (comes_tick (comes_err _ _ (alternatives_come fs)))
+  means_comes (struct {levels} le fs) = comes_inside _ _ _ le (comes_as (omega arith) refl (comes_tick (comes_framed levels _ (comes_ok _ _ (fields_come fs) (comes_made {j = 0} comes_ended)))))
+  means_comes (struct_fault {levels} le fs) = comes_inside _ _ _ le (comes_tick (comes_framed levels _ (comes_err _ _ (fields_come fs))))
+  means_comes (union {levels} le fs) = comes_inside _ _ _ le (comes_as (omega arith) refl (comes_tick (comes_framed levels _ (comes_ok _ _ (alternatives_come fs) (comes_made {j = 0} comes_ended)))))
+  means_comes (union_fault {levels} le fs) = comes_inside _ _ _ le (comes_tick (comes_framed levels _ (comes_err _ _ (alternatives_come fs))))
 
   elements_come : {bits : List ℕ} {ty : PokeType} {order : Order} {s : ℕ} {extent : Extent} {i n : ℕ} {levels inside : Levels} {p pn k j k' j' : ℕ} {r : Result Opened FaultAt} → p ≤ length bits → Elements bits ty order s extent i levels p n inside pn k j → EndsWith bits ty order s extent n inside pn r k' j' → EndsWith bits ty order s extent i levels p r (k + k') (j + j')
   elements_come le no_more h = ends_as (omega arith) (omega arith) h
@@ -253,9 +248,9 @@ mutual
 
   alternatives_come : {bits : List ℕ} {parts : Parts} {index : ℕ} {order : Order} {levels : Levels} {s k j : ℕ} {r : Result Taken FaultAt} → AlternativesMean bits parts index order levels s r k j → Comes bits (alternatives_plan (length bits) parts index order levels s) r k j
   alternatives_come none_left = comes_ended
-  alternatives_come (fits {name} {index} {v} m) = comes_as (omega arith) (omega arith) (comes_tick (comes_then _ _ (part_comes m) (attempt_fits _ index name v)))
-  alternatives_come (misses_it {name} {index} {f} m e fs) = comes_as (omega arith) refl (comes_tick (comes_then _ _ (part_comes m) (attempt_misses _ index name f e (alternatives_come fs))))
-  alternatives_come (other_fault {name} {index} {f} m e) = comes_as (omega arith) (omega arith) (comes_tick (comes_then _ _ (part_comes m) (attempt_fault _ index name f e)))
+  alternatives_come (fits {name} {index} {levels} {v} m) = comes_as (omega arith) (omega arith) (comes_tick (comes_then _ _ (part_comes m) (attempt_fits levels _ index name v)))
+  alternatives_come (misses_it {name} {index} {levels} {f} m e fs) = comes_as (omega arith) refl (comes_tick (comes_then _ _ (part_comes m) (attempt_misses levels _ index name f e (alternatives_come fs))))
+  alternatives_come (other_fault {name} {index} {levels} {f} m e) = comes_as (omega arith) (omega arith) (comes_tick (comes_then _ _ (part_comes m) (attempt_fault levels _ index name f e)))
 
 -- exactly one outcome, number of steps and number of values made
 pub means_one : {bits : List ℕ} {ty : PokeType} {order : Order} {levels : Levels} {s : ℕ} {r r' : Result Value FaultAt} {k k' j j' : ℕ} → Means bits ty order levels s r k j → Means bits ty order levels s r' k' j' → (r ≡ r') × (k ≡ k') × (j ≡ j')

@@ -10,9 +10,10 @@ use Rattle.pickle_meaning.specs.Values.{Naming, Label, ArrayLabel, StructLabel, 
 use Rattle.pickle_meaning.specs.Clauses.{FaultAt, condition, field_start, extent_of, is_due, is_met, ends_before, misses}
 use Rattle.pickle_meaning.specs.Means.{Opened, Taken, number_type, width_in, first_digits, ordered, field_names, part_names, integer_value, offset_value, value_of, union_value}
 use Rattle.pickle_meaning.specs.Room.{Slot, NodeSlot, LinkSlot, PendingSlot, ByteSlot, text_length, members_slots, member_slots, level_slots, slots}
+use Rattle.value_store.specs.Moves.{Move}
 use Rattle.mapping_plans.specs.Plan.{Plan, Always, result, after_tick, after_made, after_read}
-use Rattle.mapping_plans.specs.Mapping.{makes, closes, constrained, number_plan, digits_plan, read_plan, after_byte, text_plan, after_element, element_plan, makes_row, elements_plan, after_attempt, plan, fields_plan, alternatives_plan}
-use Rattle.mapping_plans.proofs.Always.{OfValue, weaker, then_always, ok_always, told_always, inside_always}
+use Rattle.mapping_plans.specs.Mapping.{makes, closes, constrained, number_plan, digits_plan, read_plan, after_byte, text_plan, after_element, element_plan, row_width, elements_plan, after_attempt, plan, fields_plan, alternatives_plan}
+use Rattle.mapping_plans.proofs.Always.{OfValue, weaker, then_always, ok_always, framed_always, told_always, inside_always}
 use Rattle.mapping_plans.proofs.Fitting.{longer}
 use Rattle.mapping_plans.proofs.InRow.{row_always}
 
@@ -119,11 +120,11 @@ Light kind n v = member_slots kind (Some v) ≤ n
 abbrev Grown : Slot → Levels → ℕ → Levels → Type 0
 Grown kind levels n r = (outer_of r ≡ outer_of levels) × (laden kind r ≤ laden kind levels + n)
 
-makes_room : (kind : Slot) (b n : ℕ) (levels : Levels) (v : Value) → Light kind n v → slots kind levels + n ≤ b → Always (UpTo kind b) (OfValue (Light kind n)) (makes levels v)
+makes_room : {move : Move} (kind : Slot) (b n : ℕ) (levels : Levels) (v : Value) → Light kind n v → slots kind levels + n ≤ b → Always (UpTo kind b) (OfValue (Light kind n)) (makes move levels v)
 makes_room kind b n levels v light le = after_made (let p = push_slots kind levels (Some v) in omega arith) (result light)
 
 -- a frame is closed
-closes_room : (kind : Slot) (b n : ℕ) (label : Label) (start end : ℕ) (levels r : Levels) → text_length label ≡ 0 → Grown kind (opened levels) n r → slots kind levels + (1 + n) ≤ b → Always (UpTo kind b) (OfValue (Light kind (1 + n))) (closes (value_of label start end) r)
+closes_room : {move : Move} (kind : Slot) (b n : ℕ) (label : Label) (start end : ℕ) (levels r : Levels) → text_length label ≡ 0 → Grown kind (opened levels) n r → slots kind levels + (1 + n) ≤ b → Always (UpTo kind b) (OfValue (Light kind (1 + n))) (closes move (value_of label start end) r)
 closes_room kind b n label start end levels r e grown le =
     let c = closed_slots kind label start end (top_of r) e in
     let t = top_slots kind r in
@@ -155,9 +156,9 @@ mutual
   number_room kind b m (ArrayOf element bound) n levels s le = result tt
   number_room kind b m (StructOf name pinned _) n levels s le = result tt
   number_room kind b m (IntegralOf name type fields) n levels s le =
-      ok_always {P = Grown kind (opened levels) (parts_room fields m)} {Q = Light kind (1 + parts_room fields m)} _
+      framed_always levels (omega arith) (omega arith) (ok_always {P = Grown kind (opened levels) (parts_room fields m)} {Q = Light kind (1 + parts_room fields m)} _
       (λ r grown. closes_room kind b (parts_room fields m) (StructLabel name (part_names fields)) s (s + type.width) levels r refl grown le)
-      (digits_room kind b m fields n type.width (opened levels) s (omega arith))
+      (digits_room kind b m fields n type.width (opened levels) s (omega arith)))
   number_room kind b m (UnionOf name alternatives) n levels s le = result tt
 
   digits_room : (kind : Slot) (b m : ℕ) (parts : Parts) (n left : ℕ) (levels : Levels) (s : ℕ) → laden kind levels + parts_room parts m ≤ b → Always (UpTo kind b) (OfValue (Grown kind levels (parts_room parts m))) (digits_plan parts n left levels s)
@@ -226,10 +227,10 @@ elements_room kind b c m s extent element g (suc n) i levels at le =
 abbrev TakenLight : Slot → ℕ → Taken → Type 0
 TakenLight kind n t = charge kind + member_slots kind (Some t.value) ≤ n
 
-attempt_room : (kind : Slot) (b n c : ℕ) (next : Plan (Result Taken FaultAt)) → Always (UpTo kind b) (OfValue (TakenLight kind n)) next → 1 + c ≤ n → (index : ℕ) (name : Naming) (r : Result Value FaultAt) → OfValue (Light kind c) r → Always (UpTo kind b) (OfValue (TakenLight kind n)) (after_attempt next index name r)
+attempt_room : (kind : Slot) (b n c : ℕ) (levels : Levels) → slots kind levels ≤ b → (next : Plan (Result Taken FaultAt)) → Always (UpTo kind b) (OfValue (TakenLight kind n)) next → 1 + c ≤ n → (index : ℕ) (name : Naming) (r : Result Value FaultAt) → OfValue (Light kind c) r → Always (UpTo kind b) (OfValue (TakenLight kind n)) (after_attempt levels next index name r)
 unfolding after_attempt
-attempt_room kind b n c next g le index name (Ok v) light = let one = one_charge kind in result (omega arith)
-attempt_room kind b n c next g le index name (Err f) light = one_up (misses f.0) g (result tt)
+attempt_room kind b n c levels left next g le index name (Ok v) light = let one = one_charge kind in result (omega arith)
+attempt_room kind b n c levels left next g le index name (Err f) light = one_up (misses f.0) (after_made left g) (result tt)
 
 light_more : (kind : Slot) (n k : ℕ) → n ≤ k → (r : Result Value FaultAt) → OfValue (Light kind n) r → OfValue (Light kind k) r
 light_more kind n k le (Ok v) h = omega arith
@@ -246,21 +247,21 @@ mutual
   plan_room kind b m (IntegerOf type) order levels s le = inside_always m s (λ inside. read_room kind b m (IntegerOf type) type order levels s le)
   plan_room kind b m (OffsetOf type unit) order levels s le = inside_always m s (λ inside. read_room kind b m (OffsetOf type unit) type order levels s le)
   plan_room kind b m StringOf order levels s le =
-      inside_always m s (λ inside. after_tick (weaker (light_more kind (1 + (m / 8 + 1)) _ (omega arith)) (text_room kind b (m / 8 + 1) m (m / 8 + 1) [] levels s s (omega arith) (omega arith))))
+      inside_always m s (λ inside. after_tick (framed_always levels (omega arith) (omega arith) (weaker (light_more kind (1 + (m / 8 + 1)) _ (omega arith)) (text_room kind b (m / 8 + 1) m (m / 8 + 1) [] levels s s (omega arith) (omega arith)))))
   plan_room kind b m (ArrayOf element bound) order levels s le =
       inside_always m s (λ inside. after_tick (told_always {Q = Light kind (1 + count_of m (least_width element) * (1 + room element m))} _ (extent_of bound levels s) _
-      (λ extent is. ok_always {P = GrownOpen kind (opened levels) (count_of m (least_width element) * (1 + room element m))} {Q = Light kind (1 + count_of m (least_width element) * (1 + room element m))} _
+      (λ extent is. framed_always levels (omega arith) (omega arith) (ok_always {P = GrownOpen kind (opened levels) (count_of m (least_width element) * (1 + room element m))} {Q = Light kind (1 + count_of m (least_width element) * (1 + room element m))} _
       (λ r grown. closes_room kind b (count_of m (least_width element) * (1 + room element m)) ArrayLabel s r.1 levels r.0 refl grown le)
-      (elements_room kind b (room element m) m s extent (element_plan element (plan m element order)) (λ l p up. row_always (makes_row element) (plan_room kind b m element order l p up)) (count_of m (least_width element)) 0 (opened levels) s (omega arith)))))
+      (elements_room kind b (room element m) m s extent (element_plan element (plan m element order)) (λ l p up. row_always (row_width element) (plan_room kind b m element order l p up)) (count_of m (least_width element)) 0 (opened levels) s (omega arith))))))
   plan_room kind b m (StructOf name pinned fields) order levels s le =
-      inside_always m s (λ inside. after_tick (ok_always {P = GrownOpen kind (opened levels) (fields_room fields m)} {Q = Light kind (1 + fields_room fields m)} _
+      inside_always m s (λ inside. after_tick (framed_always levels (omega arith) (omega arith) (ok_always {P = GrownOpen kind (opened levels) (fields_room fields m)} {Q = Light kind (1 + fields_room fields m)} _
       (λ r grown. closes_room kind b (fields_room fields m) (StructLabel name (field_names fields)) s r.1 levels r.0 refl grown le)
-      (fields_up kind b m pinned s fields order (opened levels) s s (omega arith))))
+      (fields_up kind b m pinned s fields order (opened levels) s s (omega arith)))))
   plan_room kind b m (IntegralOf name type fields) order levels s le = inside_always m s (λ inside. read_room kind b m (IntegralOf name type fields) type order levels s le)
   plan_room kind b m (UnionOf name alternatives) order levels s le =
-      inside_always m s (λ inside. after_tick (ok_always {P = TakenLight kind (greatest_room alternatives m)} {Q = Light kind (1 + greatest_room alternatives m)} _
+      inside_always m s (λ inside. after_tick (framed_always levels (omega arith) (omega arith) (ok_always {P = TakenLight kind (greatest_room alternatives m)} {Q = Light kind (1 + greatest_room alternatives m)} _
       (λ t light. let u = union_slots kind name s t in makes_room kind b (1 + greatest_room alternatives m) levels (union_value name s t) (omega arith) le)
-      (alternatives_up kind b m alternatives 0 order (opened levels) s (omega arith))))
+      (alternatives_up kind b m alternatives 0 order (opened levels) s (omega arith)))))
 
   fields_up : (kind : Slot) (b m : ℕ) (pinned : Bool) (s : ℕ) (fields : Fields) (order : Order) (levels : Levels) (behind top : ℕ) → laden kind levels + fields_room fields m ≤ b → Always (UpTo kind b) (OfValue (GrownOpen kind levels (fields_room fields m))) (fields_plan m pinned s fields order levels behind top)
   fields_up kind b m pinned s NoFields order levels behind top le = result (refl, omega arith)
@@ -284,7 +285,7 @@ mutual
   alternatives_up kind b m NoParts index order levels s le = result tt
   alternatives_up kind b m (PartThen name set ty c rest) index order levels s le =
       after_tick (then_always _
-      (attempt_room kind b (max (1 + room ty m) (greatest_room rest m)) (room ty m) _ (weaker (taken_more kind (greatest_room rest m) _ (omega arith)) (alternatives_up kind b m rest (index + 1) order levels s (omega arith))) (omega arith) index name)
+      (attempt_room kind b (max (1 + room ty m) (greatest_room rest m)) (room ty m) levels (omega arith) _ (weaker (taken_more kind (greatest_room rest m) _ (omega arith)) (alternatives_up kind b m rest (index + 1) order levels s (omega arith))) (omega arith) index name)
       (ok_always {P = Light kind (room ty m)} {Q = Light kind (room ty m)} _ (λ v light. constrained_room kind b (room ty m) c levels s v light) (plan_room kind b m ty (ordered set order) levels s (omega arith))))
 
 pub room_enough : (m : ℕ) (ty : PokeType) (order : Order) (levels : Levels) (s : ℕ) (kind : Slot) → Always (λ kept. slots kind kept ≤ slots kind levels + room ty m) (λ r. Unit {0}) (plan m ty order levels s)

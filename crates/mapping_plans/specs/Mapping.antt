@@ -1,5 +1,5 @@
 -- The plan of a mapping: its steps, values and reads at a place for a type.
-use Rattle.std.specs.Prelude.{ℕ, zero, suc, ◌+◌, ◌-◌, ◌/◌, max, List, [], ◌∷◌, ◌++◌, Option, Some, None, Result, Ok, Err, Bool, true, false, nat_eq, nat_le, if◌then◌else◌}
+use Rattle.std.specs.Prelude.{ℕ, zero, suc, ◌+◌, ◌-◌, ◌/◌, max, List, [], ◌∷◌, ◌++◌, Option, Some, None, Result, Ok, Err, Bool, nat_eq, nat_le, if◌then◌else◌}
 use Rattle.bit_space.specs.declared.order.Order.{Order}
 use Rattle.bit_space.specs.declared.order.Order.TheVariants.{Big}
 use Rattle.pickle_types.specs.declared.integer.IntegerType.{IntegerType}
@@ -10,19 +10,20 @@ use Rattle.pickle_meaning.specs.declared.faults.MapFaultKind.TheVariants as faul
 use Rattle.pickle_meaning.specs.Values.{Naming, Value, end_of, text_value, text_level, Levels, pushed, opened, outer_of}
 use Rattle.pickle_meaning.specs.Clauses.{FaultAt, constraint, clause_steps, condition, field_start, label_steps, extent_of, bound_steps, is_due, is_met, ends_before, misses}
 use Rattle.pickle_meaning.specs.Means.{ordered, number_type, width_in, first_digits, field_names, part_names, integer_value, offset_value, array_value, struct_value, Taken, union_value, Opened}
-use Rattle.mapping_plans.specs.Plan.{Plan, Ended, Tick, Made, Read, and_then, after, then_ok, in_row}
+use Rattle.value_store.specs.Moves.{Move, Clears, Places, Leaves, Closes, Writes, Ends, ClosesRow}
+use Rattle.mapping_plans.specs.Plan.{Plan, Ended, Tick, Made, Read, and_then, after, then_ok, framed, in_row}
 
 -- a mapping that starts past the last bit is an End fault, in no steps
 unfoldable pub from_inside : {A : Type 0} → (m s : ℕ) → Plan (Result A FaultAt) → Plan (Result A FaultAt)
 from_inside m s p = if nat_le s m then p else Ended (Err (fault.End, s))
 
--- a value is made, and is added to the innermost of these frames
-abbrev pub makes : Levels → Value → Plan (Result Value FaultAt)
-makes levels v = Made 1 false (pushed levels (Some v)) (Ended (Ok v))
+-- a value is made in this way, and is added to the innermost of these frames
+abbrev pub makes : Move → Levels → Value → Plan (Result Value FaultAt)
+makes move levels v = Made 1 move (pushed levels (Some v)) (Ended (Ok v))
 
 -- the innermost frame is closed, and a value is made of it
-abbrev pub closes : (Levels → Value) → Levels → Plan (Result Value FaultAt)
-closes make inside = makes (outer_of inside) (make inside)
+abbrev pub closes : Move → (Levels → Value) → Levels → Plan (Result Value FaultAt)
+closes move make inside = makes move (outer_of inside) (make inside)
 
 -- the constraint of a value, which is in its frame already
 unfoldable pub constrained : Option Term → Levels → (place : ℕ) → Value → Plan (Result Value FaultAt)
@@ -32,13 +33,13 @@ constrained c levels place v =
 unfoldable mutual
   -- an unsigned number, as an integer, an offset or an integral struct that starts at s, after its own first step
   pub number_plan : PokeType → (n : ℕ) → Levels → (s : ℕ) → Plan (Result Value FaultAt)
-  number_plan (IntegerOf type) n levels s = makes levels (integer_value type n s)
-  number_plan (OffsetOf type unit) n levels s = makes levels (offset_value type unit n s)
+  number_plan (IntegerOf type) n levels s = makes Places levels (integer_value type n s)
+  number_plan (OffsetOf type unit) n levels s = makes Places levels (offset_value type unit n s)
   number_plan StringOf n levels s = Ended (Err (fault.Absent, s))
   number_plan (ArrayOf element bound) n levels s = Ended (Err (fault.Absent, s))
   number_plan (StructOf name pinned _) n levels s = Ended (Err (fault.Absent, s))
   number_plan (IntegralOf name type fields) n levels s =
-      then_ok (digits_plan fields n type.width (opened levels) s) (closes (struct_value name (part_names fields) s (s + type.width)))
+      framed levels (then_ok (digits_plan fields n type.width (opened levels) s) (closes Closes (struct_value name (part_names fields) s (s + type.width))))
   number_plan (UnionOf name alternatives) n levels s = Ended (Err (fault.Absent, s))
 
   -- the fields of an integral struct from here on
@@ -54,8 +55,8 @@ read_plan m ty type order levels s =
 
 -- what comes after a byte of a string that began at s: its end, or the bytes from there on
 unfoldable pub after_byte : (List ℕ → Plan (Result Value FaultAt)) → List ℕ → Levels → (s end : ℕ) → (byte : ℕ) → Plan (Result Value FaultAt)
-after_byte next bytes levels s end zero = makes levels (text_value bytes s end)
-after_byte next bytes levels s end (suc b) = Made 1 false (text_level (bytes ++ suc b ∷ []) s levels) (next (bytes ++ suc b ∷ []))
+after_byte next bytes levels s end zero = makes Ends levels (text_value bytes s end)
+after_byte next bytes levels s end (suc b) = Made 1 Writes (text_level (bytes ++ suc b ∷ []) s levels) (next (bytes ++ suc b ∷ []))
 
 -- The bytes of a string that began at s, from `place` on; at most n are tried. With n as m / 8 + 1 that is enough for
 -- all, and the first line is never reached.
@@ -64,19 +65,24 @@ text_plan m zero bytes levels s place = Ended (Err (fault.End, s))
 text_plan m (suc n) bytes levels s place =
     Tick (if nat_le (place + 8) m then Read place 8 Big (after_byte (λ more. text_plan m n more levels s (place + 8)) bytes levels s (place + 8)) else Ended (Err (fault.End, s)))
 
--- elements of these types are numbers, which a store may pack
-abbrev pub makes_row : PokeType → Bool
-makes_row (IntegerOf type) = true
-makes_row (OffsetOf type unit) = true
-makes_row StringOf = false
-makes_row (ArrayOf element bound) = false
-makes_row (StructOf name pinned _) = false
-makes_row (IntegralOf name type _) = false
-makes_row (UnionOf name alternatives) = false
+-- the width of elements of these types, which are numbers that a store may pack
+abbrev pub row_width : PokeType → Option ℕ
+row_width (IntegerOf type) = Some type.width
+row_width (OffsetOf type unit) = Some type.width
+row_width StringOf = None
+row_width (ArrayOf element bound) = None
+row_width (StructOf name pinned _) = None
+row_width (IntegralOf name type _) = None
+row_width (UnionOf name alternatives) = None
+
+-- how an array is closed
+abbrev pub array_move : Option ℕ → Move
+array_move None = Closes
+array_move (Some width) = ClosesRow width
 
 -- the plan of a type, as that of an array's element
 abbrev pub element_plan : PokeType → (Levels → ℕ → Plan (Result Value FaultAt)) → Levels → ℕ → Plan (Result Value FaultAt)
-element_plan ty p levels place = in_row (makes_row ty) (p levels place)
+element_plan ty p levels place = in_row (row_width ty) (p levels place)
 
 -- what comes after an element: the array continues after it, or ends before it
 unfoldable pub after_element : Extent → (Levels → ℕ → Plan (Result Opened FaultAt)) → Levels → (place : ℕ) → Result Value FaultAt → Plan (Result Opened FaultAt)
@@ -91,42 +97,43 @@ elements_plan element m s extent zero i levels place = Ended (Err (fault.NoBits,
 elements_plan element m s extent (suc n) i levels place =
     if is_due extent m s i place then Tick (and_then (element levels place) (after_element extent (elements_plan element m s extent n (i + 1)) levels place)) else (if is_met extent s place then Ended (Ok (levels, place)) else Ended (Err (fault.Bounds, s)))
 
-abbrev pub array_closes : (s : ℕ) → Opened → Plan (Result Value FaultAt)
-array_closes s r = closes (array_value s r.1) r.0
+abbrev pub array_closes : PokeType → (s : ℕ) → Opened → Plan (Result Value FaultAt)
+array_closes element s r = closes (array_move (row_width element)) (array_value s r.1) r.0
 
 abbrev pub struct_closes : Naming → List Naming → (s : ℕ) → Opened → Plan (Result Value FaultAt)
-struct_closes name names s r = closes (struct_value name names s r.1) r.0
+struct_closes name names s r = closes Closes (struct_value name names s r.1) r.0
 
 abbrev pub union_closes : Naming → Levels → (s : ℕ) → Taken → Plan (Result Value FaultAt)
-union_closes name levels s t = makes levels (union_value name s t)
+union_closes name levels s t = makes Closes levels (union_value name s t)
 
--- what comes after an attempt: the union has that alternative, or the next one is tried
-unfoldable pub after_attempt : Plan (Result Taken FaultAt) → (index : ℕ) → Naming → Result Value FaultAt → Plan (Result Taken FaultAt)
-after_attempt next index name (Ok v) = Ended (Ok (record { index = index; name = name; value = v }))
-after_attempt next index name (Err f) = if misses f.0 then next else Ended (Err f)
+-- what comes after an attempt in these frames: the union has that alternative, or the next one is tried
+unfoldable pub after_attempt : Levels → Plan (Result Taken FaultAt) → (index : ℕ) → Naming → Result Value FaultAt → Plan (Result Taken FaultAt)
+after_attempt levels next index name (Ok v) = Ended (Ok (record { index = index; name = name; value = v }))
+after_attempt levels next index name (Err f) = if misses f.0 then Made 0 Clears levels next else Ended (Err f)
 
 unfoldable mutual
   -- a mapping of the type at bit s of m
   pub plan : (m : ℕ) → PokeType → Order → Levels → (s : ℕ) → Plan (Result Value FaultAt)
   plan m (IntegerOf type) order levels s = from_inside m s (read_plan m (IntegerOf type) type order levels s)
   plan m (OffsetOf type unit) order levels s = from_inside m s (read_plan m (OffsetOf type unit) type order levels s)
-  plan m StringOf order levels s = from_inside m s (Tick (text_plan m (m / 8 + 1) [] levels s s))
+  plan m StringOf order levels s = from_inside m s (Tick (framed levels (text_plan m (m / 8 + 1) [] levels s s)))
   plan m (ArrayOf element bound) order levels s =
-      from_inside m s (Tick (then_ok (after (bound_steps bound levels) (extent_of bound levels s)) (λ extent. then_ok (elements_plan (element_plan element (plan m element order)) m s extent (count_of m (least_width element)) 0 (opened levels) s) (array_closes s))))
+      from_inside m s (Tick (then_ok (after (bound_steps bound levels) (extent_of bound levels s)) (λ extent.
+      framed levels (then_ok (elements_plan (element_plan element (plan m element order)) m s extent (count_of m (least_width element)) 0 (opened levels) s) (array_closes element s)))))
   plan m (StructOf name pinned fields) order levels s =
-      from_inside m s (Tick (then_ok (fields_plan m pinned s fields order (opened levels) s s) (struct_closes name (field_names fields) s)))
+      from_inside m s (Tick (framed levels (then_ok (fields_plan m pinned s fields order (opened levels) s s) (struct_closes name (field_names fields) s))))
   plan m (IntegralOf name type fields) order levels s = from_inside m s (read_plan m (IntegralOf name type fields) type order levels s)
   plan m (UnionOf name alternatives) order levels s =
-      from_inside m s (Tick (then_ok (alternatives_plan m alternatives 0 order (opened levels) s) (union_closes name levels s)))
+      from_inside m s (Tick (framed levels (then_ok (alternatives_plan m alternatives 0 order (opened levels) s) (union_closes name levels s))))
 
   pub fields_plan : (m : ℕ) → (pinned : Bool) → (s : ℕ) → Fields → Order → Levels → (behind top : ℕ) → Plan (Result Opened FaultAt)
   fields_plan m pinned s NoFields order levels behind top = Ended (Ok (levels, top))
   fields_plan m pinned s (FieldThen name set ty c label when rest) order levels behind top =
       Tick (then_ok (after (clause_steps when levels) (condition when levels s)) (λ there.
       if there then then_ok (after (label_steps pinned label levels) (field_start pinned label levels s behind)) (λ p. then_ok (then_ok (plan m ty (ordered set order) levels p) (constrained c levels p)) (λ v. fields_plan m pinned s rest order (pushed levels (Some v)) (end_of v) (max top (end_of v))))
-      else Made 0 false (pushed levels None) (fields_plan m pinned s rest order (pushed levels None) behind top)))
+      else Made 0 Leaves (pushed levels None) (fields_plan m pinned s rest order (pushed levels None) behind top)))
 
   pub alternatives_plan : (m : ℕ) → Parts → (index : ℕ) → Order → Levels → (s : ℕ) → Plan (Result Taken FaultAt)
   alternatives_plan m NoParts index order levels s = Ended (Err (fault.Constraint, s))
   alternatives_plan m (PartThen name set ty c rest) index order levels s =
-      Tick (and_then (then_ok (plan m ty (ordered set order) levels s) (constrained c levels s)) (after_attempt (alternatives_plan m rest (index + 1) order levels s) index name))
+      Tick (and_then (then_ok (plan m ty (ordered set order) levels s) (constrained c levels s)) (after_attempt levels (alternatives_plan m rest (index + 1) order levels s) index name))

@@ -1,94 +1,111 @@
 -- The elements of an array, where they aren't packed.
-use Rattle.std.proofs.Common.{◌≡◌, ℕ, Bool, true, false, List, [], ◌∷◌, ◌++◌, Option, Some, None, Result, refl, sym, ap, subst, ◌∙◌}
-use Rattle.std.proofs.lemmas.Bool.{false≢true}
+use Rattle.std.proofs.Common.{◌≡◌, ℕ, Bool, true, false, List, [], ◌∷◌, ◌++◌, Option, Some, None, Result, refl, sym, ap, ◌∙◌}
 use Rattle.pickle_types.specs.Types.{PokeType, IntegerOf, OffsetOf, StringOf, ArrayOf, StructOf, IntegralOf, UnionOf}
 use Rattle.pickle_types.specs.declared.node.Shape.{Shape}
 use Rattle.pickle_types.specs.declared.node.Shape.TheVariants as shape
 use Rattle.pickle_types.specs.declared.integer.IntegerType.{IntegerType}
+use Rattle.pickle_types.specs.Bounds.{is_some}
 use Rattle.pickle_types.specs.Table.{open_shape}
 use Rattle.pickle_map.specs.declared.mapper.stop.Stop.{Stop}
 use Rattle.pickle_map.specs.declared.mapper.stop.Stop.TheVariants.{Fault, Limit, Device, Memory}
 use Rattle.pickle_meaning.specs.Clauses.{FaultAt}
 use Rattle.pickle_meaning.specs.Fits.{Fits, FitsNumber}
 use Rattle.pickle_meaning.specs.Values.{Value, label_of, Levels, pushed, top_of, gathered}
-use Rattle.mapping_plans.specs.Plan.{Plan, Ended, Tick, Made, Read, as_row, in_row}
-use Rattle.mapping_plans.specs.Mapping.{makes_row}
+use Rattle.value_store.specs.Moves.{Move, Opens, Drops, Clears, Places, Leaves, Closes, Writes, Ends, Packs, ClosesRow, State, moved}
+use Rattle.mapping_plans.proofs.Basics.{clash}
+use Rattle.mapping_plans.specs.Plan.{Plan, Ended, Tick, Made, Read, packed, as_row, in_row}
+use Rattle.mapping_plans.specs.Mapping.{row_width as packed_width, array_move}
 use Rattle.value_store.specs.Slots.{packs}
-use Rattle.value_store.specs.Takes.{Vector, kept_takes, levels_take, number_width, row_width, AreWithin, Passes}
-use Rattle.pickle_map.specs.Follows.{World, Walk, arrived, stepped, kept, read, Done, NeedsStep, NeedsRead, NeedsRoom, Follows}
+use Rattle.value_store.specs.Takes.{number_width, row_width}
+use Rattle.pickle_map.specs.Follows.{World, after_move, MovesTo, LacksRoom, Walk, arrived, stepped, kept, read, Done, NeedsStep, NeedsRead, NeedsRoom, Follows}
 use Rattle.pickle_map.specs.Stops.{stop_finish}
 
 -- ---- a plan as that of an element
 
--- where nothing is packed it doesn't matter whether frames end in an array of numbers
-same_takes : (row : Bool) (vector : Vector) (levels : Levels) → kept_takes false row vector levels ≡ levels_take false vector levels
-same_takes true vector levels = refl
-same_takes false vector levels = refl
+-- where nothing is packed, the elements of an array of numbers are placed as others are
+pub unpacked : (width : ℕ) (move : Move) (state : State) → moved false (packed width move) state ≡ moved false move state
+unpacked width Opens state = refl
+unpacked width Drops state = refl
+unpacked width Clears state = refl
+unpacked width Places state = refl
+unpacked width Leaves state = refl
+unpacked width Closes state = refl
+unpacked width Writes state = refl
+unpacked width Ends state = refl
+unpacked width (Packs other) state = refl
+unpacked width (ClosesRow other) state = refl
 
-within_any : (row row' : Bool) (levels : Levels) (packing : Bool) {capacity : _} → packing ≡ false → AreWithin packing row levels capacity → AreWithin packing row' levels capacity
-within_any row row' levels packing {capacity} none h =
-    subst (λ b. AreWithin b row' levels capacity) (sym none)
-    (λ vector. rw (same_takes row' vector levels ∙ sym (same_takes row vector levels)) (subst (λ b. AreWithin b row levels capacity) none h vector))
+step_as_row : {A : Type 0} (width : ℕ) (p : Plan A) → NeedsStep p → NeedsStep (as_row width p)
+step_as_row width (Ended a) h = absurd h
+step_as_row width (Tick p) h = tt
+step_as_row width (Made count move levels p) h = absurd h
+step_as_row width (Read place bits order rest) h = absurd h
 
-passes_any : (row row' : Bool) (levels : Levels) (packing : Bool) {capacity : _} → packing ≡ false → Passes packing row levels capacity → Passes packing row' levels capacity
-passes_any row row' levels packing {capacity} none h =
-    subst (λ b. Passes b row' levels capacity) (sym none)
-    (let g = subst (λ b. Passes b row levels capacity) none h in (g.0, rw (same_takes row' g.0 levels ∙ sym (same_takes row g.0 levels)) g.1))
+read_as_row : {A : Type 0} (width : ℕ) (p : Plan A) → NeedsRead p → NeedsRead (as_row width p)
+read_as_row width (Ended a) h = absurd h
+read_as_row width (Tick p) h = absurd h
+read_as_row width (Made count move levels p) h = absurd h
+read_as_row width (Read place bits order rest) h = tt
 
-step_as_row : {A : Type 0} (p : Plan A) → NeedsStep p → NeedsStep (as_row p)
-step_as_row (Ended a) h = absurd h
-step_as_row (Tick p) h = tt
-step_as_row (Made count row levels p) h = absurd h
-step_as_row (Read place width order rest) h = absurd h
+module _ (world : World) (none : packs world.room ≡ false) (width : ℕ) where
+  same_after : (move : Move) (state : State) → after_move world (packed width move) state ≡ after_move world move state
+  same_after move state = rw none (unpacked width move state)
 
-read_as_row : {A : Type 0} (p : Plan A) → NeedsRead p → NeedsRead (as_row p)
-read_as_row (Ended a) h = absurd h
-read_as_row (Tick p) h = absurd h
-read_as_row (Made count row levels p) h = absurd h
-read_as_row (Read place width order rest) h = tt
+  room_as_row : {A : Type 0} (state : State) (p : Plan A) → NeedsRoom world state p → NeedsRoom world state (as_row width p)
+  room_as_row state (Ended a) h = absurd h
+  room_as_row state (Tick p) h = absurd h
+  room_as_row state (Made count move levels p) h = record { least = h.least; before = rw (same_after move state) h.before }
+  room_as_row state (Read place bits order rest) h = absurd h
 
-room_as_row : {A : Type 0} (world : World) → packs world.room ≡ false → (p : Plan A) → NeedsRoom world p → NeedsRoom world (as_row p)
-room_as_row world none (Ended a) h = absurd h
-room_as_row world none (Tick p) h = absurd h
-room_as_row world none (Made count row levels p) h = record { least = h.least; before = passes_any row true levels (packs world.room) none h.before }
-room_as_row world none (Read place width order rest) h = absurd h
-
-module _ {world : World} (none : packs world.room ≡ false) {A : Type 0} where
-  walk_as_row : {rest : Plan A} {k' j' : ℕ} {p : Plan A} {k j : ℕ} → Walk world rest k' j' p k j → Walk world (as_row rest) k' j' (as_row p) k j
+  walk_as_row : {A : Type 0} {rest : Plan A} {k' j' : ℕ} {last : State} {p : Plan A} {k j : ℕ} {state : State} → Walk world rest k' j' last p k j state → Walk world (as_row width rest) k' j' last (as_row width p) k j state
   walk_as_row arrived = arrived
   walk_as_row (stepped w) = stepped (walk_as_row w)
-  walk_as_row (kept {row} {levels} has w) = kept (within_any row true levels (packs world.room) none has) (walk_as_row w)
+  walk_as_row (kept {move} {state} has w) = kept (rw (same_after move state) has) (rw (same_after move state) (walk_as_row w))
   walk_as_row (read n m w) = read n m (walk_as_row w)
 
-  done_as_row : {limit : ℕ} {p : Plan A} {k j k' j' : ℕ} {a : A} → Follows world limit p k j k' j' (Done a) → Follows world limit (as_row p) k j k' j' (Done a)
-  done_as_row h = record { rest = as_row h.rest; walk = walk_as_row h.walk; ends = ap as_row h.ends }
+  done_as_row : {A : Type 0} {limit : ℕ} {p : Plan A} {k j k' j' : ℕ} {state state' : State} {a : A} → Follows world limit p k j state k' j' state' (Done a) → Follows world limit (as_row width p) k j state k' j' state' (Done a)
+  done_as_row h = record { rest = as_row width h.rest; at = h.at; walk = walk_as_row h.walk; ends = (ap (as_row width) h.ends.0, h.ends.1) }
 
-stops_as_row : {world : World} → packs world.room ≡ false → {A : Type 0} {limit : ℕ} {p : Plan (Result A FaultAt)} {k j k' j' : ℕ} (stop : Stop) → Follows world limit p k j k' j' (stop_finish stop) →
-    Follows world limit (as_row p) k j k' j' (stop_finish stop)
-stops_as_row {world} none (Fault kind place) h = record { rest = as_row h.rest; walk = walk_as_row none h.walk; ends = ap as_row h.ends }
-stops_as_row {world} none Limit h = record { rest = as_row h.rest; walk = walk_as_row none h.walk; ends = (step_as_row h.rest h.ends.0, h.ends.1) }
-stops_as_row {world} none Device h = record { rest = as_row h.rest; walk = walk_as_row none h.walk; ends = read_as_row h.rest h.ends }
-stops_as_row {world} none Memory h = record { rest = as_row h.rest; walk = walk_as_row none h.walk; ends = room_as_row world none h.rest h.ends }
+  stops_as_row : {A : Type 0} {limit : ℕ} {p : Plan (Result A FaultAt)} {k j k' j' : ℕ} {state state' : State} (stop : Stop) → Follows world limit p k j state k' j' state' (stop_finish stop) →
+      Follows world limit (as_row width p) k j state k' j' state' (stop_finish stop)
+  stops_as_row (Fault kind place) h = done_as_row h
+  stops_as_row Limit h = record { rest = as_row width h.rest; at = h.at; walk = walk_as_row h.walk; ends = (step_as_row width h.rest h.ends.0, h.ends.1) }
+  stops_as_row Device h = record { rest = as_row width h.rest; at = h.at; walk = walk_as_row h.walk; ends = read_as_row width h.rest h.ends }
+  stops_as_row Memory h = record { rest = as_row width h.rest; at = h.at; walk = walk_as_row h.walk; ends = room_as_row h.at h.rest h.ends }
 
 -- a store that doesn't pack such a row packs none
-packs_none : (packing : Bool) → (packing ≡ true → true ≡ false) → packing ≡ false
-packs_none true apart = apart refl
+packs_none : (packing : Bool) {width : ℕ} → (packing ≡ true → Some width ≡ None) → packing ≡ false
+packs_none true apart = clash (ap is_some (apart refl))
 packs_none false apart = refl
 
-pub element_done : {world : World} (row : Bool) → (packs world.room ≡ true → row ≡ false) → {A : Type 0} {limit : ℕ} {p : Plan A} {k j k' j' : ℕ} {a : A} → Follows world limit p k j k' j' (Done a) →
-    Follows world limit (in_row row p) k j k' j' (Done a)
-element_done {world} true apart h = done_as_row (packs_none (packs world.room) apart) h
-element_done false apart h = h
+-- their array is closed as others are
+closes_alike : (world : World) (row : Option ℕ) → (packs world.room ≡ true → row ≡ None) → (state : State) → after_move world (array_move row) state ≡ after_move world Closes state
+closes_alike world (Some width) apart state = let none = packs_none (packs world.room) apart in rw none refl
+closes_alike world None apart state = refl
 
-pub element_stopped : {world : World} (row : Bool) → (packs world.room ≡ true → row ≡ false) → {A : Type 0} {limit : ℕ} {p : Plan (Result A FaultAt)} {k j k' j' : ℕ} (stop : Stop) → Follows world limit p k j k' j' (stop_finish stop) →
-    Follows world limit (in_row row p) k j k' j' (stop_finish stop)
-element_stopped {world} true apart stop h = stops_as_row (packs_none (packs world.room) apart) stop h
-element_stopped false apart stop h = h
+module _ {world : World} (row : Option ℕ) (apart : packs world.room ≡ true → row ≡ None) where
+  pub element_done : {A : Type 0} {limit : ℕ} {p : Plan A} {k j k' j' : ℕ} {state state' : State} {a : A} → Follows world limit p k j state k' j' state' (Done a) → Follows world limit (in_row row p) k j state k' j' state' (Done a)
+  element_done {limit} {p} {k} {j} {k'} {j'} {state} {state'} {a} h = elim row as (λ r. (packs world.room ≡ true → r ≡ None) → Follows world limit (in_row r p) k j state k' j' state' (Done a)) [
+    | Some width ↦ λ apart. done_as_row world (packs_none (packs world.room) apart) width h
+    | None ↦ λ apart. h
+  ] apart
+
+  pub element_stopped : {A : Type 0} {limit : ℕ} {p : Plan (Result A FaultAt)} {k j k' j' : ℕ} {state state' : State} (stop : Stop) → Follows world limit p k j state k' j' state' (stop_finish stop) → Follows world limit (in_row row p) k j state k' j' state' (stop_finish stop)
+  element_stopped {limit} {p} {k} {j} {k'} {j'} {state} {state'} stop h = elim row as (λ r. (packs world.room ≡ true → r ≡ None) → Follows world limit (in_row r p) k j state k' j' state' (stop_finish stop)) [
+    | Some width ↦ λ apart. stops_as_row world (packs_none (packs world.room) apart) width stop h
+    | None ↦ λ apart. h
+  ] apart
+
+  pub array_moves : {state state' : State} → MovesTo world Closes state state' → MovesTo world (array_move row) state state'
+  array_moves {state} h = record { is = h.is ∙ sym (closes_alike world row apart state); has = h.has }
+
+  pub array_lacks : {state : State} {levels : Levels} → LacksRoom world state Closes levels → LacksRoom world state (array_move row) levels
+  array_lacks {state} h = record { least = h.least; before = rw (closes_alike world row apart state) h.before }
 
 -- ---- elements that are no numbers
 
 -- a shape that is neither an integer's nor an offset's
-pub apart_shape : (types : ℕ → PokeType) (s : Shape) → ((number : IntegerType) → s ≡ shape.Integer number → ⊥) → ((number : IntegerType) (unit : ℕ) → s ≡ shape.Offset number unit → ⊥) → makes_row (open_shape types s) ≡ false
+pub apart_shape : (types : ℕ → PokeType) (s : Shape) → ((number : IntegerType) → s ≡ shape.Integer number → ⊥) → ((number : IntegerType) (unit : ℕ) → s ≡ shape.Offset number unit → ⊥) → packed_width (open_shape types s) ≡ None
 apart_shape types (shape.Integer number) no_integer no_offset = absurd (no_integer number refl)
 apart_shape types (shape.Offset number unit) no_integer no_offset = absurd (no_offset number unit refl)
 apart_shape types shape.String no_integer no_offset = refl
@@ -98,10 +115,10 @@ apart_shape types (shape.Integral name number fields) no_integer no_offset = ref
 apart_shape types (shape.Union name alternatives) no_integer no_offset = refl
 
 -- they have no numbers as values
-apart_value : (m : ℕ) (ty : PokeType) (levels : Levels) (s : ℕ) (v : Value) → makes_row ty ≡ false → Fits m ty levels s v → number_width (label_of v) ≡ None
+apart_value : (m : ℕ) (ty : PokeType) (levels : Levels) (s : ℕ) (v : Value) → packed_width ty ≡ None → Fits m ty levels s v → number_width (label_of v) ≡ None
 unfolding Fits FitsNumber
-apart_value m (IntegerOf type) levels s v e h = absurd (false≢true (sym e))
-apart_value m (OffsetOf type unit) levels s v e h = absurd (false≢true (sym e))
+apart_value m (IntegerOf type) levels s v e h = clash (ap is_some e)
+apart_value m (OffsetOf type unit) levels s v e h = clash (ap is_some e)
 apart_value m StringOf levels s v e h = ap (λ v. number_width (label_of v)) h.2
 apart_value m (ArrayOf element bound) levels s v e h = ap (λ v. number_width (label_of v)) h.8
 apart_value m (StructOf name pinned _) levels s v e h = ap (λ v. number_width (label_of v)) h.4
@@ -114,6 +131,6 @@ still_apart [] v h e = e
 still_apart (None ∷ rest) v h e = refl
 still_apart (Some w ∷ rest) v h e = h
 
-pub pushed_apart : (m : ℕ) (ty : PokeType) (before levels : Levels) (s : ℕ) (v : Value) → makes_row ty ≡ false → Fits m ty before s v → row_width (gathered (top_of levels)) ≡ None → row_width (gathered (top_of (pushed levels (Some v)))) ≡ None
+pub pushed_apart : (m : ℕ) (ty : PokeType) (before levels : Levels) (s : ℕ) (v : Value) → packed_width ty ≡ None → Fits m ty before s v → row_width (gathered (top_of levels)) ≡ None → row_width (gathered (top_of (pushed levels (Some v)))) ≡ None
 pushed_apart m ty before [] s v e fit h = apart_value m ty before s v e fit
 pushed_apart m ty before (top ∷ outer) s v e fit h = still_apart top v h (apart_value m ty before s v e fit)

@@ -21,11 +21,12 @@ use Rattle.pickle_meaning.specs.Arithmetic.{Computed, converted, is_zero, brough
 use Rattle.pickle_meaning.specs.Evaluation.{Operand, AtPath, operand_label, Evaluation, gives, present, leads_to, on_outcome, and_operand, truth_of, settled, unless_settled, chosen, number_only, as_common, selected, element, attribute_of, evaluation}
 use Rattle.pickle_meaning.specs.Clauses.{FaultAt, told_at, kind_at, satisfied, constraint, condition, not_negative, behind_start, field_start, count_of, size_of, extent_of, is_due, is_met, ends_before, misses}
 use Rattle.pickle_map.specs.FaultKinds.{IsMeant, OfFault}
+use Rattle.value_store.specs.Moves.{State}
 use Rattle.pickle_map.specs.Follows.{World, Done, Follows}
 use Rattle.mapping_plans.proofs.InRow.{row_always}
-use Rattle.mapping_plans.specs.Mapping.{from_inside, constrained, number_plan, digits_plan, read_plan, after_byte, text_plan, after_element, makes_row, element_plan, elements_plan, after_attempt, plan, fields_plan, alternatives_plan}
+use Rattle.mapping_plans.specs.Mapping.{from_inside, constrained, number_plan, digits_plan, read_plan, after_byte, text_plan, after_element, row_width, element_plan, elements_plan, after_attempt, plan, fields_plan, alternatives_plan}
 use Rattle.pickle_meaning.specs.Means.{Opened, Taken, number_type, width_in, first_digits, ordered}
-use Rattle.mapping_plans.specs.Plan.{Plan, after, on_value, then_ok, Always, result, after_tick, after_made, after_read}
+use Rattle.mapping_plans.specs.Plan.{Plan, after, on_value, then_ok, leave_frame, framed, Always, result, after_tick, after_made, after_read}
 use Rattle.mapping_plans.proofs.Always.{of_result, after_always, then_always}
 use Rattle.pickle_map.proofs.Followed.{walk_keeps}
 
@@ -289,6 +290,15 @@ then_fault {A} {B} p f h g = then_always {P = OfFault {A = A} IsMeant} {Q = OfFa
     goes (Ok a) k = g a
     goes (Err e) k = result k
 
+-- a fault in a frame is the frame's
+frame_fault : {A : Type 0} (outer : Levels) (p : Plan (Result A FaultAt)) → FaultsMeant p → FaultsMeant (framed outer p)
+unfolding framed
+frame_fault {A} outer p h = after_made tt (then_always {P = OfFault {A = A} IsMeant} {Q = OfFault {A = A} IsMeant} (leave_frame outer) left h)
+  where
+    left : (r : Result A FaultAt) → OfFault IsMeant r → FaultsMeant (leave_frame outer r)
+    left (Ok a) k = result tt
+    left (Err e) k = after_made tt (result k)
+
 after_fault : {A B : Type 0} (n : ℕ) (r : Result A FaultAt) (f : A → Plan (Result B FaultAt)) → OfFault IsMeant r → ((a : A) → FaultsMeant (f a)) → FaultsMeant (then_ok (after n r) f)
 after_fault n r f h g = then_fault (after n r) f (after_always n r h) g
 
@@ -309,7 +319,7 @@ mutual
   number_fault StringOf n levels s = result tt
   number_fault (ArrayOf element bound) n levels s = result tt
   number_fault (StructOf name pinned _) n levels s = result tt
-  number_fault (IntegralOf name type fields) n levels s = then_fault _ _ (digits_fault fields n type.width (opened levels) s) (λ inside. after_made tt (result tt))
+  number_fault (IntegralOf name type fields) n levels s = frame_fault levels _ (then_fault _ _ (digits_fault fields n type.width (opened levels) s) (λ inside. after_made tt (result tt)))
   number_fault (UnionOf name alternatives) n levels s = result tt
 
   digits_fault : (parts : Parts) (n left : ℕ) (levels : Levels) (s : ℕ) → FaultsMeant (digits_plan parts n left levels s)
@@ -349,10 +359,10 @@ elements_fault element m s extent g (suc n) i levels place =
     (after_tick (then_always _ (element_fault extent _ levels place (λ inside at. elements_fault element m s extent g n (i + 1) inside at)) (g levels place)))
     (plan_if (is_met extent s place) _ _ (result tt) (result tt))
 
-attempt_fault : (next : Plan (Result Taken FaultAt)) (index : ℕ) (name : Naming) → FaultsMeant next → (r : Result Value FaultAt) → OfFault IsMeant r → FaultsMeant (after_attempt next index name r)
+attempt_fault : (levels : Levels) (next : Plan (Result Taken FaultAt)) (index : ℕ) (name : Naming) → FaultsMeant next → (r : Result Value FaultAt) → OfFault IsMeant r → FaultsMeant (after_attempt levels next index name r)
 unfolding after_attempt
-attempt_fault next index name g (Ok v) h = result tt
-attempt_fault next index name g (Err f) h = plan_if (misses f.0) _ _ g (result h)
+attempt_fault levels next index name g (Ok v) h = result tt
+attempt_fault levels next index name g (Err f) h = plan_if (misses f.0) _ _ (after_made tt g) (result h)
 
 mutual
   unfolding plan
@@ -361,17 +371,17 @@ mutual
   pub plan_faults : (m : ℕ) (ty : PokeType) (order : Order) (levels : Levels) (s : ℕ) → Always (λ kept. Unit {0}) (OfFault IsMeant) (plan m ty order levels s)
   plan_faults m (IntegerOf type) order levels s = inside_fault m s _ (read_fault m (IntegerOf type) type order levels s)
   plan_faults m (OffsetOf type unit) order levels s = inside_fault m s _ (read_fault m (OffsetOf type unit) type order levels s)
-  plan_faults m StringOf order levels s = inside_fault m s _ (after_tick (text_fault m (m / 8 + 1) [] levels s s))
+  plan_faults m StringOf order levels s = inside_fault m s _ (after_tick (frame_fault levels _ (text_fault m (m / 8 + 1) [] levels s s)))
   plan_faults m (ArrayOf element bound) order levels s =
       inside_fault m s _ (after_tick (after_fault _ (extent_of bound levels s) _ (extent_fault bound levels s)
-      (λ extent. then_fault _ _
-      (elements_fault (element_plan element (plan m element order)) m s extent (λ inside at. row_always (makes_row element) (plan_faults m element order inside at)) (bounds.count_of m (least_width element)) 0 (opened levels) s)
-      (λ r. after_made tt (result tt)))))
+      (λ extent. frame_fault levels _ (then_fault _ _
+      (elements_fault (element_plan element (plan m element order)) m s extent (λ inside at. row_always (row_width element) (plan_faults m element order inside at)) (bounds.count_of m (least_width element)) 0 (opened levels) s)
+      (λ r. after_made tt (result tt))))))
   plan_faults m (StructOf name pinned fields) order levels s =
-      inside_fault m s _ (after_tick (then_fault _ _ (fields_faults m pinned s fields order (opened levels) s s) (λ r. after_made tt (result tt))))
+      inside_fault m s _ (after_tick (frame_fault levels _ (then_fault _ _ (fields_faults m pinned s fields order (opened levels) s s) (λ r. after_made tt (result tt)))))
   plan_faults m (IntegralOf name type fields) order levels s = inside_fault m s _ (read_fault m (IntegralOf name type fields) type order levels s)
   plan_faults m (UnionOf name alternatives) order levels s =
-      inside_fault m s _ (after_tick (then_fault _ _ (alternatives_faults m alternatives 0 order (opened levels) s) (λ t. after_made tt (result tt))))
+      inside_fault m s _ (after_tick (frame_fault levels _ (then_fault _ _ (alternatives_faults m alternatives 0 order (opened levels) s) (λ t. after_made tt (result tt)))))
 
   fields_faults : (m : ℕ) (pinned : Bool) (s : ℕ) (fields : Fields) (order : Order) (levels : Levels) (behind top : ℕ) → FaultsMeant (fields_plan m pinned s fields order levels behind top)
   fields_faults m pinned s NoFields order levels behind top = result tt
@@ -387,12 +397,12 @@ mutual
   alternatives_faults : (m : ℕ) (parts : Parts) (index : ℕ) (order : Order) (levels : Levels) (s : ℕ) → FaultsMeant (alternatives_plan m parts index order levels s)
   alternatives_faults m NoParts index order levels s = result tt
   alternatives_faults m (PartThen name set ty c rest) index order levels s =
-      after_tick (then_always _ (attempt_fault _ index name (alternatives_faults m rest (index + 1) order levels s))
+      after_tick (then_always _ (attempt_fault levels _ index name (alternatives_faults m rest (index + 1) order levels s))
       (then_fault _ _ (plan_faults m ty (ordered set order) levels s) (λ v. constrained_fault c levels s v)))
 
 -- a call that followed a type's plan to a fault gives one of the type's meaning
-pub followed_kind : {world : World} {limit : ℕ} (m : ℕ) (ty : PokeType) (order : Order) (levels : Levels) (s : ℕ) {k j k' j' : ℕ} {f : FaultAt} → Follows world limit (plan m ty order levels s) k j k' j' (Done (Err f)) → IsMeant f.0
+pub followed_kind : {world : World} {limit : ℕ} (m : ℕ) (ty : PokeType) (order : Order) (levels : Levels) (s : ℕ) {k j k' j' : ℕ} {state state' : State} {f : FaultAt} → Follows world limit (plan m ty order levels s) k j state k' j' state' (Done (Err f)) → IsMeant f.0
 followed_kind m ty order levels s h =
     let a = walk_keeps h.walk (plan_faults m ty order levels s) in
-    let a = rw h.ends at a in
+    let a = rw h.ends.0 at a in
     of_result a

@@ -5,70 +5,70 @@ use Rattle.bit_space.specs.Bits.{bits_of}
 use Rattle.pickle_meaning.specs.declared.faults.MapFault.{MapFault}
 use Rattle.pickle_meaning.specs.declared.faults.MapFaultKind.{MapFaultKind}
 use Rattle.pickle_meaning.specs.declared.faults.MapFaultKind.TheVariants as fault
-use Rattle.pickle_meaning.specs.Values.{Levels, no_values}
+use Rattle.pickle_meaning.specs.Values.{no_values}
 use Rattle.mapping_plans.specs.Plan.{Plan, Ended, Tick, Made, Read}
 use Rattle.mapping_plans.specs.Mapping.{plan}
 use Rattle.mapping_plans.specs.Kept.{KeepsBy}
 use Rattle.mapping_plans.proofs.Kept.{keeps_less}
-use Rattle.pickle_map.specs.Follows.{World, HasRoom, Walk, arrived, stepped, kept, read, Done, NoSteps, NoRoom, NeedsStep, NeedsRoom, Follows}
+use Rattle.pickle_map.specs.Follows.{World, HasRoom, after_move, Walk, arrived, stepped, kept, read, Done, NoSteps, NoRoom, NeedsStep, NeedsRoom, Follows}
 use Rattle.pickle_map.specs.Mapped.{HasRoomFor, UnlessBreaks, UnlessBroken}
 use Rattle.pickle_map.specs.Repeated.{WantsNoMore}
 use Rattle.value_store.specs.Slots.{packs}
-use Rattle.value_store.specs.Takes.{AreWithin}
+use Rattle.value_store.specs.Moves.{State, IsWithin, no_state}
 use Rattle.pickle_map.proofs.Followed.{walk_rises}
 use Rattle.pickle_map.proofs.Worlds.{within_more, not_within}
 
 -- ---- along a walk over known bits
 
 -- within one step less
-tick_kept : {A : Type 0} (M : Bool → Levels → Type 0) (bits : List ℕ) (p : Plan A) (n m : ℕ) → m ≡ n - 1 → KeepsBy M bits p m → KeepsBy M bits (Tick p) n
-tick_kept M bits p zero m e h = tt
-tick_kept M bits p (suc n) m e h = subst (KeepsBy M bits p) (let same : m ≡ n = omega (arith, e) in same) h
+tick_kept : {A : Type 0} (M : State → Type 0) (packing : Bool) (bits : List ℕ) (p : Plan A) (n m : ℕ) (state : State) → m ≡ n - 1 → KeepsBy M packing bits p m state → KeepsBy M packing bits (Tick p) n state
+tick_kept M packing bits p zero m state e h = tt
+tick_kept M packing bits p (suc n) m state e h = subst (λ x. KeepsBy M packing bits p x state) (let same : m ≡ n = omega (arith, e) in same) h
 
-kept_tick : {A : Type 0} (M : Bool → Levels → Type 0) (bits : List ℕ) (p : Plan A) (n m : ℕ) → n ≡ m + 1 → KeepsBy M bits (Tick p) n → KeepsBy M bits p m
-kept_tick M bits p zero m e h = absurd (omega (arith, e))
-kept_tick M bits p (suc n) m e h = subst (KeepsBy M bits p) (let same : n ≡ m = omega (arith, e) in same) h
+kept_tick : {A : Type 0} (M : State → Type 0) (packing : Bool) (bits : List ℕ) (p : Plan A) (n m : ℕ) (state : State) → n ≡ m + 1 → KeepsBy M packing bits (Tick p) n state → KeepsBy M packing bits p m state
+kept_tick M packing bits p zero m state e h = absurd (omega (arith, e))
+kept_tick M packing bits p (suc n) m state e h = subst (λ x. KeepsBy M packing bits p x state) (let same : n ≡ m = omega (arith, e) in same) h
 
-no_step_left : {A : Type 0} (M : Bool → Levels → Type 0) (bits : List ℕ) (q : Plan A) (n : ℕ) → NeedsStep q → n ≡ 0 → KeepsBy M bits q n
-no_step_left M bits (Ended a) n h e = absurd h
-no_step_left M bits (Tick p) zero h e = tt
-no_step_left M bits (Tick p) (suc n) h e = absurd (omega (arith, e))
-no_step_left M bits (Made count row these p) n h e = absurd h
-no_step_left M bits (Read place width order rest) n h e = absurd h
+no_step_left : {A : Type 0} (M : State → Type 0) (packing : Bool) (bits : List ℕ) (q : Plan A) (n : ℕ) (state : State) → NeedsStep q → n ≡ 0 → KeepsBy M packing bits q n state
+no_step_left M packing bits (Ended a) n state h e = absurd h
+no_step_left M packing bits (Tick p) zero state h e = tt
+no_step_left M packing bits (Tick p) (suc n) state h e = absurd (omega (arith, e))
+no_step_left M packing bits (Made count move these p) n state h e = absurd h
+no_step_left M packing bits (Read place width order rest) n state h e = absurd h
 
-no_room_left : {A : Type 0} (world : World) (bits : List ℕ) (q : Plan A) (n : ℕ) → NeedsRoom world q → KeepsBy (λ row levels. AreWithin (packs world.room) row levels world.before) bits q n → ⊥
-no_room_left world bits (Ended a) n h g = absurd h
-no_room_left world bits (Tick p) n h g = absurd h
-no_room_left world bits (Made count row these p) n h g = not_within (packs world.room) row these world.before h.before g.0
-no_room_left world bits (Read place width order rest) n h g = absurd h
+no_room_left : {A : Type 0} (world : World) (bits : List ℕ) (q : Plan A) (n : ℕ) (state : State) → NeedsRoom world state q → KeepsBy (λ now. IsWithin now world.before) (packs world.room) bits q n state → ⊥
+no_room_left world bits (Ended a) n state h g = absurd h
+no_room_left world bits (Tick p) n state h g = absurd h
+no_room_left world bits (Made count move these p) n state h g = not_within (after_move world move state) world.before h.before g.0
+no_room_left world bits (Read place width order rest) n state h g = absurd h
 
 module _ {world : World} (bits : List ℕ) (limit : ℕ) (known : world.known ≡ Some bits) {A : Type 0} where
   -- all that was stored on the way fitted
-  walk_has_room : {q : Plan A} {k' j' : ℕ} {p : Plan A} {k j : ℕ} → Walk world q k' j' p k j → KeepsBy (HasRoom world) bits q (limit - k') → KeepsBy (HasRoom world) bits p (limit - k)
+  walk_has_room : {q : Plan A} {k' j' : ℕ} {last : State} {p : Plan A} {k j : ℕ} {state : State} → Walk world q k' j' last p k j state → KeepsBy (HasRoom world) (packs world.room) bits q (limit - k') last → KeepsBy (HasRoom world) (packs world.room) bits p (limit - k) state
   walk_has_room arrived h = h
-  walk_has_room (stepped {p} {k} w) h = tick_kept (HasRoom world) bits p (limit - k) (limit - (k + 1)) (omega arith) (walk_has_room w h)
+  walk_has_room (stepped {p} {k} {state} w) h = tick_kept (HasRoom world) (packs world.room) bits p (limit - k) (limit - (k + 1)) state (omega arith) (walk_has_room w h)
   walk_has_room (kept has w) h = (has, walk_has_room w h)
-  walk_has_room (read {ps} {k} n m w) h = subst (λ x. KeepsBy (HasRoom world) bits (ps x) (limit - k)) (m.exact bits known) (walk_has_room w h)
+  walk_has_room (read {ps} {k} {state} n m w) h = subst (λ x. KeepsBy (HasRoom world) (packs world.room) bits (ps x) (limit - k) state) (m.exact bits known) (walk_has_room w h)
 
   -- what holds of all that is stored, holds at the end of the way too
-  walk_still : (M : Bool → Levels → Type 0) {q : Plan A} {k' j' : ℕ} {p : Plan A} {k j : ℕ} → k' ≤ limit → Walk world q k' j' p k j → KeepsBy M bits p (limit - k) → KeepsBy M bits q (limit - k')
+  walk_still : (M : State → Type 0) {q : Plan A} {k' j' : ℕ} {last : State} {p : Plan A} {k j : ℕ} {state : State} → k' ≤ limit → Walk world q k' j' last p k j state → KeepsBy M (packs world.room) bits p (limit - k) state → KeepsBy M (packs world.room) bits q (limit - k') last
   walk_still M within arrived h = h
-  walk_still M within (stepped {p} {k} w) h =
+  walk_still M within (stepped {p} {k} {state} w) h =
       let up = (walk_rises w).0 in
-      walk_still M within w (kept_tick M bits p (limit - k) (limit - (k + 1)) (omega arith) h)
+      walk_still M within w (kept_tick M (packs world.room) bits p (limit - k) (limit - (k + 1)) state (omega arith) h)
   walk_still M within (kept has w) h = walk_still M within w h.1
-  walk_still M within (read {ps} {k} n m w) h = walk_still M within w (subst (λ x. KeepsBy M bits (ps x) (limit - k)) (sym (m.exact bits known)) h)
+  walk_still M within (read {ps} {k} {state} n m w) h = walk_still M within w (subst (λ x. KeepsBy M (packs world.room) bits (ps x) (limit - k) state) (sym (m.exact bits known)) h)
 
   -- ---- consequences for a call that followed a plan
 
-  pub room_when_done : {p : Plan A} {k j k' j' : ℕ} {a : A} → Follows world limit p k j k' j' (Done a) → KeepsBy (HasRoom world) bits p (limit - k)
-  room_when_done {k'} h = walk_has_room h.walk (subst (λ q. KeepsBy (HasRoom world) bits q (limit - k')) (sym h.ends) tt)
+  pub room_when_done : {p : Plan A} {k j k' j' : ℕ} {state state' : State} {a : A} → Follows world limit p k j state k' j' state' (Done a) → KeepsBy (HasRoom world) (packs world.room) bits p (limit - k) state
+  room_when_done {k'} h = walk_has_room h.walk (subst (λ q. KeepsBy (HasRoom world) (packs world.room) bits q (limit - k') h.at) (sym h.ends.0) tt)
 
-  pub room_when_limited : {p : Plan A} {k j k' j' : ℕ} → Follows world limit p k j k' j' NoSteps → KeepsBy (HasRoom world) bits p (limit - k)
-  room_when_limited {k'} h = let e = h.ends.1 in walk_has_room h.walk (no_step_left (HasRoom world) bits h.rest (limit - k') h.ends.0 (omega arith))
+  pub room_when_limited : {p : Plan A} {k j k' j' : ℕ} {state state' : State} → Follows world limit p k j state k' j' state' NoSteps → KeepsBy (HasRoom world) (packs world.room) bits p (limit - k) state
+  room_when_limited {k'} h = let e = h.ends.1 in walk_has_room h.walk (no_step_left (HasRoom world) (packs world.room) bits h.rest (limit - k') h.at h.ends.0 (omega arith))
 
-  pub no_room_before : {p : Plan A} {k j k' j' : ℕ} → k' ≤ limit → Follows world limit p k j k' j' NoRoom → KeepsBy (λ row levels. AreWithin (packs world.room) row levels world.before) bits p (limit - k) → ⊥
-  no_room_before {k'} within h g = no_room_left world bits h.rest (limit - k') h.ends (walk_still (λ row levels. AreWithin (packs world.room) row levels world.before) within h.walk g)
+  pub no_room_before : {p : Plan A} {k j k' j' : ℕ} {state state' : State} → k' ≤ limit → Follows world limit p k j state k' j' state' NoRoom → KeepsBy (λ now. IsWithin now world.before) (packs world.room) bits p (limit - k) state → ⊥
+  no_room_before {k'} within h g = no_room_left world bits h.rest (limit - k') h.at h.ends (walk_still (λ now. IsWithin now world.before) within h.walk g)
 
 -- ---- the same mapping again
 
@@ -98,10 +98,9 @@ wants_no_more type order start first second whole again =
     let bits = bits_of again.bytes in
     let then : HasRoomFor first.store.room first.store'.capacity type order start first.space first.meter again.bytes =
     unbroken first.result (HasRoomFor first.store.room first.store'.capacity type order start first.space first.meter again.bytes) whole.device whole.memory (first.mapped.kept again.bytes again.known) in
-    let more : (row : Bool) (levels : Levels) → AreWithin (packs first.store.room) row levels first.store'.capacity → AreWithin (packs second.store.room) row levels second.store.capacity =
-    λ row levels h. subst (λ b. AreWithin b row levels second.store.capacity) (sym again.packing) (within_more (packs first.store.room) row levels first.store'.capacity second.store.capacity again.room h) in
-    let less = keeps_less (λ row levels. AreWithin (packs first.store.room) row levels first.store'.capacity) (λ row levels. AreWithin (packs second.store.room) row levels second.store.capacity) more
-    bits (plan (8 * first.space.len) type order no_values start) (first.meter.limit - first.meter.steps) (second.meter.limit - second.meter.steps) again.steps then in
+    let less = keeps_less (λ state. IsWithin state first.store'.capacity) (λ state. IsWithin state second.store.capacity) (λ state. within_more state first.store'.capacity second.store.capacity again.room) (packs first.store.room)
+    bits (plan (8 * first.space.len) type order no_values start) (first.meter.limit - first.meter.steps) (second.meter.limit - second.meter.steps) no_state again.steps then in
+    let less = subst (λ b. KeepsBy (λ state. IsWithin state second.store.capacity) b bits (plan (8 * first.space.len) type order no_values start) (second.meter.limit - second.meter.steps) no_state) (sym again.packing) less in
     let now : HasRoomFor second.store.room second.store.capacity type order start second.space second.meter again.bytes =
-    subst (λ n. KeepsBy (λ row levels. AreWithin (packs second.store.room) row levels second.store.capacity) bits (plan (8 * n) type order no_values start) (second.meter.limit - second.meter.steps)) (sym again.len) less in
+    subst (λ n. KeepsBy (λ state. IsWithin state second.store.capacity) (packs second.store.room) bits (plan (8 * n) type order no_values start) (second.meter.limit - second.meter.steps) no_state) (sym again.len) less in
     not_wanted second.result (HasRoomFor second.store.room second.store.capacity type order start second.space second.meter again.bytes) (second.mapped.asked again.bytes again.same) now

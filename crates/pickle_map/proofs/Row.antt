@@ -13,12 +13,13 @@ use Rattle.value_store.specs.declared.store.slots.Shape.TheVariants.{Integer, Of
 use Rattle.pickle_map.specs.declared.mapper.stop.Stop.{Stop}
 use Rattle.pickle_meaning.specs.declared.faults.MapFaultKind.TheVariants.{End}
 use Rattle.pickle_meaning.specs.Clauses.{FaultAt}
+use Rattle.value_store.specs.Moves.{Packs, ClosesRow, State}
 use Rattle.mapping_plans.specs.Plan.{Plan, Ended, Tick, Made, Read, as_row}
-use Rattle.pickle_map.specs.Follows.{World, HasRoom, LacksRoom, Done, NoRoom, Follows}
+use Rattle.pickle_map.specs.Follows.{World, MovesTo, LacksRoom, Done, NoRoom, Follows}
 use Rattle.pickle_map.specs.Framed.{ReadStops}
 use Rattle.pickle_map.specs.Stops.{stop_finish}
 use Rattle.pickle_meaning.specs.Means.{array_value}
-use Rattle.mapping_plans.specs.Mapping.{plan, read_plan, number_plan, element_plan}
+use Rattle.mapping_plans.specs.Mapping.{plan, read_plan, number_plan, row_width, array_move, element_plan}
 use Rattle.pickle_map.specs.Row.{IsArrayOf, row_levels}
 use Rattle.value_store.specs.Slots.{Held, HasNoNode, IsPacked, IsPacking, element_width, element_value, elements, row_value}
 use Rattle.pickle_meaning.specs.Values.{Value, Mapped, ArrayLabel, Levels, end_of, pushed, gathered}
@@ -50,26 +51,41 @@ least_is Array ty h = absurd h
 least_is (Struct t) ty h = absurd h
 least_is (Union t i) ty h = absurd h
 
+-- their numbers have that width
+pub width_is : (shape : Shape) (ty : PokeType) → IsArrayOf shape ty → row_width ty ≡ Some (element_width shape)
+width_is (Integer w g) ty h = absurd h
+width_is (Offset w g u) ty h = absurd h
+width_is Text ty h = absurd h
+width_is (Integers w g) ty h = ap row_width h
+width_is (Offsets w g u) ty h = ap row_width h
+width_is Array ty h = absurd h
+width_is (Struct t) ty h = absurd h
+width_is (Union t i) ty h = absurd h
+
+-- their array is closed as such a row
+pub row_move : (shape : Shape) (ty : PokeType) → IsArrayOf shape ty → array_move (row_width ty) ≡ ClosesRow (element_width shape)
+row_move shape ty h = ap array_move (width_is shape ty h)
+
 -- a read, as that of an element of an array of numbers
-read_in_row : {A : Type 0} (inside : Bool) (place width : ℕ) (order : Order) (rest : ℕ → Plan (Result A FaultAt)) (s : ℕ) →
-    as_row (if inside then Read place width order rest else Ended (Err (End, s))) ≡ (if inside then Read place width order (λ n. as_row (rest n)) else Ended (Err (End, s)))
-read_in_row true place width order rest s = refl
-read_in_row false place width order rest s = refl
+read_in_row : {A : Type 0} (bits : ℕ) (inside : Bool) (place width : ℕ) (order : Order) (rest : ℕ → Plan (Result A FaultAt)) (s : ℕ) →
+    as_row bits (if inside then Read place width order rest else Ended (Err (End, s))) ≡ (if inside then Read place width order (λ n. as_row bits (rest n)) else Ended (Err (End, s)))
+read_in_row bits true place width order rest s = refl
+read_in_row bits false place width order rest s = refl
 
 -- the plan of an element: a read, and the number's value in the row
-abbrev pub goes_in_row : Levels → Value → Plan (Result Value FaultAt)
-goes_in_row levels v = Made 1 true (pushed levels (Some v)) (Ended (Ok v))
+abbrev pub goes_in_row : (width : ℕ) → Levels → Value → Plan (Result Value FaultAt)
+goes_in_row width levels v = Made 1 (Packs width) (pushed levels (Some v)) (Ended (Ok v))
 
 pub element_is : (shape : Shape) (m : ℕ) (ty : PokeType) (order : Order) (levels : Levels) (s : ℕ) → IsArrayOf shape ty → s ≤ m →
-    element_plan ty (plan m ty order) levels s ≡ reading m s s (element_width shape) order (λ n. goes_in_row levels (element_value shape s n))
+    element_plan ty (plan m ty order) levels s ≡ reading m s s (element_width shape) order (λ n. goes_in_row (element_width shape) levels (element_value shape s n))
 unfolding read_plan number_plan
 element_is (Integer w g) m ty order levels s h inside = absurd h
 element_is (Offset w g u) m ty order levels s h inside = absurd h
 element_is Text m ty order levels s h inside = absurd h
 element_is (Integers w g) m ty order levels s h inside =
-    ap (λ t. element_plan t (plan m t order) levels s) h ∙ ap as_row (number_is m _ _ order levels s refl inside) ∙ ap Tick (read_in_row (nat_le (s + w) m) s w order _ s)
+    ap (λ t. element_plan t (plan m t order) levels s) h ∙ ap (as_row w) (number_is m _ _ order levels s refl inside) ∙ ap Tick (read_in_row w (nat_le (s + w) m) s w order _ s)
 element_is (Offsets w g u) m ty order levels s h inside =
-    ap (λ t. element_plan t (plan m t order) levels s) h ∙ ap as_row (number_is m _ _ order levels s refl inside) ∙ ap Tick (read_in_row (nat_le (s + w) m) s w order _ s)
+    ap (λ t. element_plan t (plan m t order) levels s) h ∙ ap (as_row w) (number_is m _ _ order levels s refl inside) ∙ ap Tick (read_in_row w (nat_le (s + w) m) s w order _ s)
 element_is Array m ty order levels s h inside = absurd h
 element_is (Struct t) m ty order levels s h inside = absurd h
 element_is (Union t i) m ty order levels s h inside = absurd h
@@ -102,23 +118,23 @@ pub row_closed : (shape : Shape) (ns : List ℕ) (start end : ℕ) (outer : Leve
 row_closed shape ns start end outer e = ap (λ x. Mapped ArrayLabel start x (gathered (elements shape start ns))) (sym e)
 
 -- an element that is read and stored, or not
-module _ {world : World} {limit : ℕ} (shape : Shape) (m : ℕ) (ty : PokeType) (order : Order) (levels : Levels) (s : ℕ) (are : IsArrayOf shape ty) (inside : s ≤ m) {k j k1 j1 : ℕ} where
+module _ {world : World} {limit : ℕ} (shape : Shape) (m : ℕ) (ty : PokeType) (order : Order) (levels : Levels) (s : ℕ) (are : IsArrayOf shape ty) (inside : s ≤ m) {k j k1 j1 : ℕ} {state : State} where
   pub element_stops : (before after : SpaceView) {limit' : ℕ} (stop : Stop) → limit' ≡ limit → m ≡ 8 * before.len → ReadStops stop s (s + element_width shape) before after limit' k k1 → j1 ≡ j →
-      Follows world limit (element_plan ty (plan m ty order) levels s) k j k1 j1 (stop_finish stop)
+      Follows world limit (element_plan ty (plan m ty order) levels s) k j state k1 j1 state (stop_finish stop)
   element_stops before after stop el em h ej =
       rw (element_is shape m ty order levels s are inside) (read_stops m s s (element_width shape) order _ before after stop el em h ej)
 
   module _ {limit1 : ℕ} (n : ℕ) (el : limit1 ≡ limit) (ek : k1 ≡ k + 1) (ej : j1 ≡ j) (fits : s + element_width shape ≤ m) (may : MayRead world.known order s (element_width shape) n) where
-    pub element_no_room : LacksRoom world true (pushed levels (Some (element_value shape s n))) → Follows world limit (element_plan ty (plan m ty order) levels s) k j k1 j1 NoRoom
+    pub element_no_room : {state' : State} → LacksRoom world state (Packs (element_width shape)) (pushed levels (Some (element_value shape s n))) → Follows world limit (element_plan ty (plan m ty order) levels s) k j state k1 j1 state' NoRoom
     element_no_room lacks =
         rw (element_is shape m ty order levels s are inside)
         (read_goes m s s (element_width shape) order _ n el ek ej fits may (follow_no_room lacks))
 
-    pub element_goes : {k2 j2 : ℕ} → HasRoom world true (pushed levels (Some (element_value shape s n))) → k2 ≡ k1 → j2 ≡ j1 + 1 →
-        Follows world limit (element_plan ty (plan m ty order) levels s) k j k2 j2 (Done (Ok (element_value shape s n)))
-    element_goes has ek2 ej2 =
+    pub element_goes : {k2 j2 : ℕ} {state' : State} → MovesTo world (Packs (element_width shape)) state state' → k2 ≡ k1 → j2 ≡ j1 + 1 →
+        Follows world limit (element_plan ty (plan m ty order) levels s) k j state k2 j2 state' (Done (Ok (element_value shape s n)))
+    element_goes moves ek2 ej2 =
         rw (element_is shape m ty order levels s are inside)
-        (read_goes m s s (element_width shape) order _ n el ek ej fits may (follow_made {limit' = limit1} has refl ek2 ej2 follow_done))
+        (read_goes m s s (element_width shape) order _ n el ek ej fits may (follow_made {limit' = limit1} moves refl ek2 ej2 follow_done))
 
 -- the first number is placed where there is no node
 pub first_is : (nodes : List Node) (h : Held) (shape : Shape) (numbers : List ℕ) (start : ℕ) (outer : Levels) (count : ℕ) → IsPacking nodes h shape numbers start outer → IsPacked shape → count ≡ length numbers → IsTrue (nat_eq count 0) ↔ HasNoNode h

@@ -1,17 +1,16 @@
 -- Worlds of nested calls: the capacity of vectors never gets less.
-use Rattle.std.proofs.Common.{◌≡◌, ℕ, ◌≤◌, Bool, false, Option, List, option_map, refl, subst, ◌∙◌, arith}
+use Rattle.std.proofs.Common.{◌≡◌, ℕ, ◌<◌, ◌≤◌, Option, List, option_map, refl, ap, subst, ◌∙◌, arith}
 use Rattle.bit_space.specs.Bits.{bits_of}
 use Rattle.bit_space.specs.SpaceView.{SpaceView}
-use Rattle.pickle_types.specs.declared.node.Node.{Node}
 use Rattle.value_store.specs.declared.store.room.Room.{Room}
 use Rattle.value_store.specs.declared.store.slots.Marks.{Marks}
 use Rattle.pickle_meaning.specs.Values.{Levels}
 use Rattle.value_store.specs.Exceeding.{Exceeds}
-use Rattle.value_store.specs.Keeping.{Overfills, HoldsLevels}
-use Rattle.value_store.specs.Slots.{Held, packs, KeepsRoom, levels}
-use Rattle.value_store.specs.Takes.{Vector, NodesOf, FamiliesOf, LinksOf, PendingOf, TextsOf, BytesOf, of_vector, AreWithin, Passes}
+use Rattle.value_store.specs.Moves.{Move, State, Moves, CannotMove, IsWithin, moved, state_of}
+use Rattle.value_store.specs.Slots.{Held, packs, HoldsInRoom, KeepsRoom}
+use Rattle.value_store.specs.Takes.{Vector, NodesOf, FamiliesOf, LinksOf, PendingOf, TextsOf, BytesOf, of_vector}
 use Rattle.mapping_plans.specs.Plan.{Plan, Ended, Tick, Made, Read}
-use Rattle.pickle_map.specs.Follows.{World, LacksRoom, Walk, arrived, stepped, kept, read, Finish, Done, NoSteps, Broken, NoRoom, Partly, NeedsRoom, EndsAs, Follows}
+use Rattle.pickle_map.specs.Follows.{World, MovesTo, LacksRoom, Walk, arrived, stepped, kept, read, Finish, Done, NoSteps, Broken, NoRoom, Partly, NeedsRoom, EndsAs, Follows}
 use Rattle.pickle_map.specs.Framed.{world_between, world_of}
 
 -- ---- capacities
@@ -43,15 +42,19 @@ room_then k l = record {
   bytes = omega (arith, k.bytes, l.bytes);
 }
 
-pub within_more : (packing row : Bool) (these : Levels) (capacity capacity' : Marks) → Reaches capacity capacity' → AreWithin packing row these capacity → AreWithin packing row these capacity'
-within_more packing row these capacity capacity' more h vector = let low = h vector in let up = more vector in omega (arith, low, up)
+pub within_more : (state : State) (capacity capacity' : Marks) → Reaches capacity capacity' → IsWithin state capacity → IsWithin state capacity'
+within_more state capacity capacity' more h vector = let low = h vector in let up = more vector in omega (arith, low, up)
 
-passes_less : (packing row : Bool) (these : Levels) (capacity capacity' : Marks) → Reaches capacity' capacity → Passes packing row these capacity → Passes packing row these capacity'
-passes_less packing row these capacity capacity' less h = let up = less h.0 in let over = h.1 in (h.0, omega (arith, up, over))
+-- a length of a vector that passes a capacity
+abbrev Passes : State → (capacity : Marks) → Type 0
+Passes state capacity = (vector : Vector) × (of_vector vector capacity < of_vector vector state.now)
+
+passes_less : (state : State) (capacity capacity' : Marks) → Reaches capacity' capacity → Passes state capacity → Passes state capacity'
+passes_less state capacity capacity' less h = let up = less h.0 in let over = h.1 in (h.0, omega (arith, up, over))
 
 -- what doesn't fit isn't within
-pub not_within : (packing row : Bool) (these : Levels) (capacity : Marks) → Passes packing row these capacity → AreWithin packing row these capacity → ⊥
-not_within packing row these capacity over h = let low = h over.0 in let up = over.1 in omega (arith, low, up)
+pub not_within : (state : State) (capacity : Marks) → Passes state capacity → IsWithin state capacity → ⊥
+not_within state capacity over h = let low = h over.0 in let up = over.1 in omega (arith, low, up)
 
 -- ---- worlds
 
@@ -63,61 +66,70 @@ module _ (known : Option (List ℕ)) (room : Room) (before before' filled filled
   abbrev around : World
   around = record { known = known; room = room; before = before'; filled = filled' }
 
-  walk_wider : {A : Type 0} {rest : Plan A} {k' j' : ℕ} {p : Plan A} {k j : ℕ} → Walk inner rest k' j' p k j → Walk around rest k' j' p k j
+  walk_wider : {A : Type 0} {rest : Plan A} {k' j' : ℕ} {last : State} {p : Plan A} {k j : ℕ} {state : State} → Walk inner rest k' j' last p k j state → Walk around rest k' j' last p k j state
   walk_wider arrived = arrived
   walk_wider (stepped w) = stepped (walk_wider w)
-  walk_wider (kept {row} {levels = these} has w) = kept (within_more (packs room) row these filled filled' more has) (walk_wider w)
+  walk_wider (kept {move} {state} has w) = kept (within_more (moved (packs room) move state) filled filled' more has) (walk_wider w)
   walk_wider (read n m w) = read n m (walk_wider w)
 
-  lacks_wider : {A : Type 0} (p : Plan A) → NeedsRoom inner p → NeedsRoom around p
-  lacks_wider (Ended a) h = absurd h
-  lacks_wider (Tick p) h = absurd h
-  lacks_wider (Made count row these p) h = record { least = h.least; before = passes_less (packs room) row these before before' less h.before }
-  lacks_wider (Read place width order rest) h = absurd h
+  lacks_wider : {A : Type 0} (state : State) (p : Plan A) → NeedsRoom inner state p → NeedsRoom around state p
+  lacks_wider state (Ended a) h = absurd h
+  lacks_wider state (Tick p) h = absurd h
+  lacks_wider state (Made count move these p) h = record { least = h.least; before = passes_less (moved (packs room) move state) before before' less h.before }
+  lacks_wider state (Read place width order rest) h = absurd h
 
-  ends_wider : {A : Type 0} (finish : Finish A) (p : Plan A) (limit k : ℕ) → EndsAs inner finish p limit k → EndsAs around finish p limit k
-  ends_wider (Done a) p limit k h = h
-  ends_wider NoSteps p limit k h = h
-  ends_wider Broken p limit k h = h
-  ends_wider NoRoom p limit k h = lacks_wider p h
-  ends_wider (Partly q) p limit k h = h
+  ends_wider : {A : Type 0} (finish : Finish A) (p : Plan A) (at now : State) (limit k : ℕ) → EndsAs inner finish p at now limit k → EndsAs around finish p at now limit k
+  ends_wider (Done a) p at now limit k h = h
+  ends_wider NoSteps p at now limit k h = h
+  ends_wider Broken p at now limit k h = h
+  ends_wider NoRoom p at now limit k h = lacks_wider at p h
+  ends_wider (Partly q) p at now limit k h = h
 
-  follow_wider : {limit : ℕ} {A : Type 0} {p : Plan A} {k j k' j' : ℕ} {finish : Finish A} → Follows inner limit p k j k' j' finish → Follows around limit p k j k' j' finish
-  follow_wider {limit} {k'} {finish} h = record { rest = h.rest; walk = walk_wider h.walk; ends = ends_wider finish h.rest limit k' h.ends }
+  follow_wider : {limit : ℕ} {A : Type 0} {p : Plan A} {k j : ℕ} {state : State} {k' j' : ℕ} {state' : State} {finish : Finish A} → Follows inner limit p k j state k' j' state' finish → Follows around limit p k j state k' j' state' finish
+  follow_wider {limit} {k'} {state'} {finish} h = record { rest = h.rest; at = h.at; walk = walk_wider h.walk; ends = ends_wider finish h.rest h.at state' limit k' h.ends }
 
 -- a call inside another: between two states of the store that are between the other's
-pub in_store : {known : Option (List ℕ)} {first before after last : Held} {limit : ℕ} {A : Type 0} {p : Plan A} {k j k' j' : ℕ} {finish : Finish A} → KeepsRoom first before → KeepsRoom before after → KeepsRoom after last →
-    Follows (world_between known before after) limit p k j k' j' finish → Follows (world_between known first last) limit p k j k' j' finish
-in_store {known} {first} {before} {after} {last} {limit} {p} {k} {j} {k'} {j'} {finish} earlier call later h =
+pub in_store : {known : Option (List ℕ)} {first before after last : Held} {limit : ℕ} {A : Type 0} {p : Plan A} {k j : ℕ} {state : State} {k' j' : ℕ} {state' : State} {finish : Finish A} → KeepsRoom first before → KeepsRoom before after → KeepsRoom after last →
+    Follows (world_between known before after) limit p k j state k' j' state' finish → Follows (world_between known first last) limit p k j state k' j' state' finish
+in_store {known} {first} {before} {after} {last} {limit} {p} {k} {j} {state} {k'} {j'} {state'} {finish} earlier call later h =
     let w = follow_wider known before.room before.capacity first.capacity after.capacity last.capacity (reaches first before earlier) (reaches after last later) h in
-    subst (λ r. Follows (record { known = known; room = r; before = first.capacity; filled = last.capacity }) limit p k j k' j' finish) earlier.room w
+    subst (λ r. Follows (record { known = known; room = r; before = first.capacity; filled = last.capacity }) limit p k j state k' j' state' finish) earlier.room w
 
 -- it is the other's last
-pub in_call : {known : Option (List ℕ)} {first before after : Held} {limit : ℕ} {A : Type 0} {p : Plan A} {k j k' j' : ℕ} {finish : Finish A} → KeepsRoom first before → KeepsRoom before after →
-    Follows (world_between known before after) limit p k j k' j' finish → Follows (world_between known first after) limit p k j k' j' finish
+pub in_call : {known : Option (List ℕ)} {first before after : Held} {limit : ℕ} {A : Type 0} {p : Plan A} {k j : ℕ} {state : State} {k' j' : ℕ} {state' : State} {finish : Finish A} → KeepsRoom first before → KeepsRoom before after →
+    Follows (world_between known before after) limit p k j state k' j' state' finish → Follows (world_between known first after) limit p k j state k' j' state' finish
 in_call {after} earlier call h = in_store earlier call (same_room after) h
 
 -- it is the other's first
-pub in_later : {known : Option (List ℕ)} {first after last : Held} {limit : ℕ} {A : Type 0} {p : Plan A} {k j k' j' : ℕ} {finish : Finish A} → KeepsRoom first after → KeepsRoom after last →
-    Follows (world_between known first after) limit p k j k' j' finish → Follows (world_between known first last) limit p k j k' j' finish
+pub in_later : {known : Option (List ℕ)} {first after last : Held} {limit : ℕ} {A : Type 0} {p : Plan A} {k j : ℕ} {state : State} {k' j' : ℕ} {state' : State} {finish : Finish A} → KeepsRoom first after → KeepsRoom after last →
+    Follows (world_between known first after) limit p k j state k' j' state' finish → Follows (world_between known first last) limit p k j state k' j' state' finish
 in_later {first} call later h = in_store (same_room first) call later h
 
 -- the last call of another, over a space of the same bytes
-pub in_world : {A : Type 0} (space space' : SpaceView) {first before after : Held} {limit : ℕ} {p : Plan A} {k j k' j' : ℕ} {finish : Finish A} → space'.bytes ≡ space.bytes → KeepsRoom first before → KeepsRoom before after →
-    Follows (world_of space' before after) limit p k j k' j' finish → Follows (world_of space first after) limit p k j k' j' finish
-in_world space space' {before} {after} {limit} {p} {k} {j} {k'} {j'} {finish} same earlier call h =
-    in_call earlier call (subst (λ b. Follows (world_between (option_map bits_of b) before after) limit p k j k' j' finish) same h)
+pub in_world : {A : Type 0} (space space' : SpaceView) {first before after : Held} {limit : ℕ} {p : Plan A} {k j : ℕ} {state : State} {k' j' : ℕ} {state' : State} {finish : Finish A} → space'.bytes ≡ space.bytes → KeepsRoom first before → KeepsRoom before after →
+    Follows (world_of space' before after) limit p k j state k' j' state' finish → Follows (world_of space first after) limit p k j state k' j' state' finish
+in_world space space' {before} {after} {limit} {p} {k} {j} {state} {k'} {j'} {state'} {finish} same earlier call h =
+    in_call earlier call (subst (λ b. Follows (world_between (option_map bits_of b) before after) limit p k j state k' j' state' finish) same h)
 
--- there is capacity for what a store holds in the end
-pub holds_these : (nodes : List Node) {first last : Held} {these : Levels} → KeepsRoom first last → HoldsLevels last → levels nodes last ≡ these → AreWithin (packs first.room) false these last.capacity
-holds_these nodes {first} {last} k h e =
-    let now : AreWithin (packs first.room) false (levels nodes last) last.capacity = subst (λ (r : Room). AreWithin (packs r) false (levels nodes last) last.capacity) k.room (h nodes) in
-    subst (λ l. AreWithin (packs first.room) false l last.capacity) e now
+-- there is capacity for what a store holds
+pub has_room : {after last : Held} → HoldsInRoom after → KeepsRoom after last → IsWithin (state_of after) last.capacity
+has_room h k NodesOf = omega (arith, h.nodes, k.nodes)
+has_room h k FamiliesOf = omega (arith, h.families, k.families)
+has_room h k LinksOf = omega (arith, h.links, k.links)
+has_room h k PendingOf = omega (arith, h.pending, k.pending)
+has_room h k TextsOf = omega (arith, h.texts, k.texts)
+has_room h k BytesOf = omega (arith, h.bytes, k.bytes)
 
--- there was none for what a store can't hold
-pub lacks_these : {known : Option (List ℕ)} {first before : Held} {filled : Marks} {row : Bool} {these : Levels} → KeepsRoom first before → Overfills before row these →
-    LacksRoom (record { known = known; room = first.room; before = first.capacity; filled = filled }) row these
-lacks_these {first} {before} {row} {these} k h =
-    let least : Exceeds first.room these = subst (λ (r : Room). Exceeds r these) k.room h.least in
-    let over : Passes (packs first.room) row these before.capacity = subst (λ (r : Room). Passes (packs r) row these before.capacity) k.room h.capacity in
-    record { least = least; before = passes_less (packs first.room) row these before.capacity first.capacity (reaches first before k) over }
+-- a call of the store made a move
+pub moves_to : {known : Option (List ℕ)} {first before after last : Held} {move : Move} → KeepsRoom first before → KeepsRoom after last → HoldsInRoom after → Moves before after move → MovesTo (world_between known first last) move (state_of before) (state_of after)
+moves_to {before} {move} earlier later holds moves = record {
+  is = moves ∙ ap (λ (r : Room). moved (packs r) move (state_of before)) earlier.room;
+  has = has_room holds later;
+}
+
+-- a move didn't fit
+pub lacks_these : {known : Option (List ℕ)} {first before : Held} {filled : Marks} {move : Move} {these : Levels} → KeepsRoom first before → Exceeds before.room these → CannotMove before move →
+    LacksRoom (record { known = known; room = first.room; before = first.capacity; filled = filled }) (state_of before) move these
+lacks_these {first} {before} {move} {these} k least cannot =
+    let over : Passes (moved (packs first.room) move (state_of before)) before.capacity = subst (λ (r : Room). Passes (moved (packs r) move (state_of before)) before.capacity) k.room cannot in
+    record { least = subst (λ (r : Room). Exceeds r these) k.room least; before = passes_less (moved (packs first.room) move (state_of before)) before.capacity first.capacity (reaches first before k) over }

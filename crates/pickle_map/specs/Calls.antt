@@ -19,11 +19,12 @@ use Rattle.value_store.specs.declared.store.slots.Shape.{Shape}
 use Rattle.pickle_meaning.specs.Values.{Naming, Value, end_of, Levels, pushed, outer_of}
 use Rattle.pickle_meaning.specs.Clauses.{FaultAt}
 use Rattle.pickle_meaning.specs.Means.{Opened, Taken, struct_value, field_names, part_names, number_type, width_in}
-use Rattle.mapping_plans.specs.Plan.{Plan, Tick, then_ok}
+use Rattle.mapping_plans.specs.Plan.{Plan, Tick, then_ok, framed}
 use Rattle.mapping_plans.specs.Mapping.{plan, read_plan, number_plan, digits_plan, text_plan, fields_plan, element_plan, elements_plan, alternatives_plan, constrained, closes, array_closes, struct_closes, union_closes}
 use Rattle.pickle_map.specs.Follows.{Done}
 use Rattle.pickle_map.specs.Framed.{world_between, world_of, KeepsOrStops, Runs, Works}
 use Rattle.pickle_map.specs.Row.{Packs}
+use Rattle.value_store.specs.Moves.{Closes as ClosesFrame, state_of}
 use Rattle.value_store.specs.Slots.{Held, levels}
 use Rattle.value_store.specs.Names.{title_at, part_name}
 use Rattle.pickle_map.specs.Stops.{stop_finish}
@@ -52,7 +53,7 @@ as_integer number order start = λ nodes m levels. read_plan m (IntegerOf number
 
 -- a string, and its bytes in their own frame
 abbrev pub as_text : (start : ℕ) → Planned Value
-as_text start = λ nodes m levels. Tick (text_plan m (m / 8 + 1) [] levels start start)
+as_text start = λ nodes m levels. Tick (framed levels (text_plan m (m / 8 + 1) [] levels start start))
 
 abbrev pub as_text_level : (start : ℕ) → Planned Value
 as_text_level start = λ nodes m levels. text_plan m (m / 8 + 1) [] (outer_of levels) start start
@@ -66,7 +67,7 @@ as_elements element extent order start = λ nodes m levels.
     elements_plan (element_plan (type_of nodes element) (plan m (type_of nodes element) order)) m start extent (count_of m (least_width (type_of nodes element))) 0 levels start
 
 abbrev pub as_array_level : (element : ℕ) → Extent → Order → (start : ℕ) → Planned Value
-as_array_level element extent order start = λ nodes m levels. then_ok (as_elements element extent order start nodes m levels) (array_closes start)
+as_array_level element extent order start = λ nodes m levels. then_ok (as_elements element extent order start nodes m levels) (array_closes (type_of nodes element) start)
 
 -- a struct, its fields, and its frame with them
 abbrev pub as_struct : (at : ℕ) → (pinned : Bool) → List Field → Order → (start : ℕ) → Planned Value
@@ -97,7 +98,7 @@ as_union_level at alternatives order start = λ nodes m levels.
 module _ (nodes : List Node) (space : SpaceView) (meter meter' : Meter) (store store' : Held) where
   -- it stored one more value in these frames, or stopped
   abbrev pub MapsIn : Levels → Plan (Result Value FaultAt) → Result ℕ Stop → Type 0
-  MapsIn before p result = KeepsOrStops (world_of space store store') meter.limit p meter.steps meter.made meter'.steps meter'.made before (levels nodes store') (λ end. end) result
+  MapsIn before p result = KeepsOrStops (world_of space store store') meter.limit p meter.steps meter.made (state_of store) meter'.steps meter'.made (state_of store') before (levels nodes store') (λ end. end) result
 
   -- it stored one more value in the innermost frame
   abbrev pub Maps : Planned Value → Result ℕ Stop → Type 0
@@ -150,7 +151,7 @@ module _ (nodes : List Node) (meter meter' : Meter) (store store' : Held) where
   -- it stored one more value in these frames, which ends at `end`, or stopped
   abbrev pub PlacesIn : Levels → Plan (Result Value FaultAt) → (end : ℕ) → Result (Unit {0}) Stop → Type 0
   PlacesIn before p end result =
-      (known : Option (List ℕ)) → KeepsOrStops (world_between known store store') meter.limit p meter.steps meter.made meter'.steps meter'.made before (levels nodes store') (λ u. end) result
+      (known : Option (List ℕ)) → KeepsOrStops (world_between known store store') meter.limit p meter.steps meter.made (state_of store) meter'.steps meter'.made (state_of store') before (levels nodes store') (λ u. end) result
 
   -- it stored the number as a value of a type, after its own first step
   abbrev pub Places : PokeType → (digits start : ℕ) → Result (Unit {0}) Stop → Type 0
@@ -162,7 +163,7 @@ module _ (nodes : List Node) (meter meter' : Meter) (store store' : Held) where
   PlacesLevel at number fields digits start result =
       PlacesIn (outer_of (levels nodes store))
       (then_ok (digits_plan (open_parts (type_of nodes) fields) digits number.width (levels nodes store) start)
-      (closes (struct_value (title_at nodes at) (part_names (open_parts (type_of nodes) fields)) start (start + number.width))))
+      (closes ClosesFrame (struct_value (title_at nodes at) (part_names (open_parts (type_of nodes) fields)) start (start + number.width))))
       (start + number.width) result
 
   -- it stored a field of an integral struct, whose constraint holds

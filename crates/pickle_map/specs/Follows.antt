@@ -1,13 +1,14 @@
 -- What it means that a call follows a plan.
-use Rattle.std.specs.Prelude.{◌≡◌, ℕ, ◌+◌, Bool, List, Option}
+use Rattle.std.specs.Prelude.{◌≡◌, ℕ, ◌+◌, ◌<◌, List, Option}
 use Rattle.bit_space.specs.declared.order.Order.{Order}
 use Rattle.bit_space.specs.Reading.{MayRead}
 use Rattle.value_store.specs.declared.store.room.Room.{Room}
 use Rattle.pickle_meaning.specs.Values.{Levels}
 use Rattle.value_store.specs.declared.store.slots.Marks.{Marks}
 use Rattle.value_store.specs.Exceeding.{Exceeds}
+use Rattle.value_store.specs.Moves.{Move, State, IsWithin, moved}
 use Rattle.value_store.specs.Slots.{packs}
-use Rattle.value_store.specs.Takes.{AreWithin, Passes}
+use Rattle.value_store.specs.Takes.{Vector, of_vector}
 use Rattle.mapping_plans.specs.Plan.{Plan, Ended, Tick, Made, Read}
 
 -- the bits of the file, where they are known, the slots that the store was made with, and its capacity before a call
@@ -18,22 +19,33 @@ pub record World : Type 0 where
   pub before : Marks
   pub filled : Marks
 
--- in the end the store has capacity for such frames
-abbrev pub HasRoom : World → (row : Bool) → Levels → Type 0
-HasRoom world row levels = AreWithin (packs world.room) row levels world.filled
+-- in the end the store has capacity for vectors of these lengths
+abbrev pub HasRoom : World → State → Type 0
+HasRoom world state = IsWithin state world.filled
 
--- such frames didn't fit: neither in the slots that the store was made with, nor in the capacity of its vectors
-pub record LacksRoom (world : World) (row : Bool) (levels : Levels) : Type 0 where
+-- what comes of a store by a move
+abbrev pub after_move : World → Move → State → State
+after_move world move state = moved (packs world.room) move state
+
+-- the move was made, and what is stored then has capacity
+pub record MovesTo (world : World) (move : Move) (state state' : State) : Type 0 where
+  pub is : state' ≡ after_move world move state
+  pub has : HasRoom world state'
+
+-- A move to such frames didn't fit: neither in the slots that the store was made with, nor in the capacity of its
+-- vectors.
+pub record LacksRoom (world : World) (state : State) (move : Move) (levels : Levels) : Type 0 where
   pub least : Exceeds world.room levels
-  pub before : Passes (packs world.room) row levels world.before
+  pub before : (vector : Vector) × (of_vector vector world.before < of_vector vector (after_move world move state).now)
 
--- a walk along a plan, after k steps with j values made, to its rest, after k' steps with j' values made; all that was
--- stored fitted
-pub data Walk (world : World) {A : Type 0} (rest : Plan A) (k' j' : ℕ) : Plan A → ℕ → ℕ → Type 0 where
-  arrived : Walk world rest k' j' rest k' j'
-  stepped : {p : Plan A} {k j : ℕ} → Walk world rest k' j' p (k + 1) j → Walk world rest k' j' (Tick p) k j
-  kept : {count : ℕ} {row : Bool} {levels : Levels} {p : Plan A} {k j : ℕ} → HasRoom world row levels → Walk world rest k' j' p k (j + count) → Walk world rest k' j' (Made count row levels p) k j
-  read : {place width : ℕ} {order : Order} {ps : ℕ → Plan A} {k j : ℕ} (n : ℕ) → MayRead world.known order place width n → Walk world rest k' j' (ps n) k j → Walk world rest k' j' (Read place width order ps) k j
+-- a walk along a plan, after k steps with j values made in a store of that state, to its rest, after k' steps with j'
+-- values made in a store of the state `last`; all that was stored fitted
+pub data Walk (world : World) {A : Type 0} (rest : Plan A) (k' j' : ℕ) (last : State) : Plan A → ℕ → ℕ → State → Type 0 where
+  arrived : Walk world rest k' j' last rest k' j' last
+  stepped : {p : Plan A} {k j : ℕ} {state : State} → Walk world rest k' j' last p (k + 1) j state → Walk world rest k' j' last (Tick p) k j state
+  kept : {count : ℕ} {move : Move} {levels : Levels} {p : Plan A} {k j : ℕ} {state : State} → HasRoom world (after_move world move state) → Walk world rest k' j' last p k (j + count) (after_move world move state) →
+      Walk world rest k' j' last (Made count move levels p) k j state
+  read : {place width : ℕ} {order : Order} {ps : ℕ → Plan A} {k j : ℕ} {state : State} (n : ℕ) → MayRead world.known order place width n → Walk world rest k' j' last (ps n) k j state → Walk world rest k' j' last (Read place width order ps) k j state
 
 -- how a call ends: with the plan's result, without a step left, by a device, or by an allocation failure; and the state
 -- of a loop
@@ -48,33 +60,36 @@ pub data Finish (A : Type 0) : Type 0 where
 abbrev pub NeedsStep : {A : Type 0} → Plan A → Type 0
 NeedsStep (Ended a) = ⊥
 NeedsStep (Tick p) = Unit {0}
-NeedsStep (Made count row levels p) = ⊥
+NeedsStep (Made count move levels p) = ⊥
 NeedsStep (Read place width order rest) = ⊥
 
 -- a read comes next
 abbrev pub NeedsRead : {A : Type 0} → Plan A → Type 0
 NeedsRead (Ended a) = ⊥
 NeedsRead (Tick p) = ⊥
-NeedsRead (Made count row levels p) = ⊥
+NeedsRead (Made count move levels p) = ⊥
 NeedsRead (Read place width order rest) = Unit {0}
 
 -- the next thing to store doesn't fit
-abbrev pub NeedsRoom : {A : Type 0} → World → Plan A → Type 0
-NeedsRoom world (Ended a) = ⊥
-NeedsRoom world (Tick p) = ⊥
-NeedsRoom world (Made count row levels p) = LacksRoom world row levels
-NeedsRoom world (Read place width order rest) = ⊥
+abbrev pub NeedsRoom : {A : Type 0} → World → State → Plan A → Type 0
+NeedsRoom world state (Ended a) = ⊥
+NeedsRoom world state (Tick p) = ⊥
+NeedsRoom world state (Made count move levels p) = LacksRoom world state move levels
+NeedsRoom world state (Read place width order rest) = ⊥
 
--- what is left of the plan at such an end
-abbrev pub EndsAs : {A : Type 0} → World → Finish A → Plan A → (limit steps : ℕ) → Type 0
-EndsAs world (Done a) rest limit k = rest ≡ Ended a
-EndsAs world NoSteps rest limit k = NeedsStep rest × (k ≡ limit)
-EndsAs world Broken rest limit k = NeedsRead rest
-EndsAs world NoRoom rest limit k = NeedsRoom world rest
-EndsAs world (Partly q) rest limit k = rest ≡ q
+-- What is left of the plan at such an end, which the walk reached in a store of the state `at`. A call that is broken
+-- off gives up what it had stored, so nothing is said of the state that it leaves.
+abbrev pub EndsAs : {A : Type 0} → World → Finish A → Plan A → (at now : State) → (limit steps : ℕ) → Type 0
+EndsAs world (Done a) rest at now limit k = (rest ≡ Ended a) × (at ≡ now)
+EndsAs world NoSteps rest at now limit k = NeedsStep rest × (k ≡ limit)
+EndsAs world Broken rest at now limit k = NeedsRead rest
+EndsAs world NoRoom rest at now limit k = NeedsRoom world at rest
+EndsAs world (Partly q) rest at now limit k = (rest ≡ q) × (at ≡ now)
 
--- a call that began after k steps with j values made, and ended after k' steps with j' made, followed the plan
-pub record Follows (world : World) (limit : ℕ) {A : Type 0} (p : Plan A) (k j k' j' : ℕ) (finish : Finish A) : Type 0 where
+-- a call that began after k steps with j values made in a store of that state, and ended after k' steps with j' made,
+-- followed the plan
+pub record Follows (world : World) (limit : ℕ) {A : Type 0} (p : Plan A) (k j : ℕ) (state : State) (k' j' : ℕ) (state' : State) (finish : Finish A) : Type 0 where
   pub rest : Plan A
-  pub walk : Walk world rest k' j' p k j
-  pub ends : EndsAs world finish rest limit k'
+  pub at : State
+  pub walk : Walk world rest k' j' at p k j state
+  pub ends : EndsAs world finish rest at state' limit k'

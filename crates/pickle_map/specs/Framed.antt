@@ -14,7 +14,8 @@ use Rattle.pickle_meaning.specs.Clauses.{FaultAt}
 use Rattle.mapping_plans.specs.Plan.{Plan}
 use Rattle.pickle_map.specs.Follows.{World, Finish, Done, Follows}
 use Rattle.pickle_map.specs.Stops.{stop_finish}
-use Rattle.value_store.specs.Slots.{Held, KeepsRoom, levels, level_count}
+use Rattle.value_store.specs.Moves.{State, Moves, Drops, state_of}
+use Rattle.value_store.specs.Slots.{Held, HoldsInRoom, KeepsRoom, levels, level_count}
 
 -- What every call leaves, whatever its result: the meter's limit, the store's capacity, which may only rise, and the
 -- bytes of the space. A count of failures never falls. A call makes no more values than it takes steps, counting the
@@ -58,10 +59,17 @@ abbrev pub LeavesLevel : {A : Type 0} → List Node → (store store' : Held) �
 LeavesLevel nodes store store' (Ok x) = level_count store' + 1 ≡ level_count store
 LeavesLevel nodes store store' (Err stop) = LevelStays nodes store store'
 
+-- a frame was rolled back
+pub record DropsLevel (store store' : Held) : Type 0 where
+  pub levels : (nodes : List Node) → levels nodes store' ≡ outer_of (levels nodes store)
+  pub depth : level_count store' + 1 ≡ level_count store
+  pub moves : Moves store store' Drops
+  pub within : HoldsInRoom store'
+
 -- a frame in which a call stopped was rolled back; otherwise the store is as it was
 abbrev pub DropsStopped : {A : Type 0} → (store store' : Held) → Result A Stop → Type 0
 DropsStopped store store' (Ok x) = store' ≡ store
-DropsStopped store store' (Err stop) = ((nodes : List Node) → levels nodes store' ≡ outer_of (levels nodes store)) × (level_count store' + 1 ≡ level_count store)
+DropsStopped store store' (Err stop) = DropsLevel store store'
 
 -- the world of a call over a file's bits, where they are known, between two states of a store
 abbrev pub world_between : Option (List ℕ) → (store store' : Held) → World
@@ -72,24 +80,24 @@ abbrev pub world_of : SpaceView → (store store' : Held) → World
 world_of space store store' = world_between (known_bits space) store store'
 
 -- a call that stored one more value in these frames, which ends at `end`, and followed the plan to it
-pub record KeepsOne (world : World) (limit : ℕ) (p : Plan (Result Value FaultAt)) (k j k' j' : ℕ) (levels levels' : Levels) (end : ℕ) : Type 0 where
+pub record KeepsOne (world : World) (limit : ℕ) (p : Plan (Result Value FaultAt)) (k j : ℕ) (state : State) (k' j' : ℕ) (state' : State) (levels levels' : Levels) (end : ℕ) : Type 0 where
   pub value : Value
   pub kept : levels' ≡ pushed levels (Some value)
   pub ends : end_of value ≡ end
-  pub follows : Follows world limit p k j k' j' (Done (Ok value))
+  pub follows : Follows world limit p k j state k' j' state' (Done (Ok value))
 
 -- a call that stored one more value in that way, ending where `ends` says for its result, or stopped
-abbrev pub KeepsOrStops : {A : Type 0} → World → (limit : ℕ) → Plan (Result Value FaultAt) → (k j k' j' : ℕ) → (levels levels' : Levels) → (ends : A → ℕ) → Result A Stop → Type 0
-KeepsOrStops world limit p k j k' j' levels levels' ends (Ok x) = KeepsOne world limit p k j k' j' levels levels' (ends x)
-KeepsOrStops world limit p k j k' j' levels levels' ends (Err stop) = Follows world limit p k j k' j' (stop_finish stop)
+abbrev pub KeepsOrStops : {A : Type 0} → World → (limit : ℕ) → Plan (Result Value FaultAt) → (k j : ℕ) → State → (k' j' : ℕ) → State → (levels levels' : Levels) → (ends : A → ℕ) → Result A Stop → Type 0
+KeepsOrStops world limit p k j state k' j' state' levels levels' ends (Ok x) = KeepsOne world limit p k j state k' j' state' levels levels' (ends x)
+KeepsOrStops world limit p k j state k' j' state' levels levels' ends (Err stop) = Follows world limit p k j state k' j' state' (stop_finish stop)
 
 -- what a call did between two states of the meter and of a store, by a plan
 abbrev pub Runs : {A : Type 0} → SpaceView → (meter meter' : Meter) → (store store' : Held) → Plan A → Finish A → Type 0
-Runs space meter meter' store store' p finish = Follows (world_of space store store') meter.limit p meter.steps meter.made meter'.steps meter'.made finish
+Runs space meter meter' store store' p finish = Follows (world_of space store store') meter.limit p meter.steps meter.made (state_of store) meter'.steps meter'.made (state_of store') finish
 
 -- what a call did that read nothing
 abbrev pub Works : {A : Type 0} → (meter meter' : Meter) → (store store' : Held) → Plan A → Finish A → Type 0
-Works meter meter' store store' p finish = (known : Option (List ℕ)) → Follows (world_between known store store') meter.limit p meter.steps meter.made meter'.steps meter'.made finish
+Works meter meter' store store' p finish = (known : Option (List ℕ)) → Follows (world_between known store store') meter.limit p meter.steps meter.made (state_of store) meter'.steps meter'.made (state_of store') finish
 
 -- the stop of a refused read, with its fault at `place`
 abbrev pub refusal_at : BitFault → (place : ℕ) → Stop

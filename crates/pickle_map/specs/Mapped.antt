@@ -20,14 +20,15 @@ use Rattle.pickle_meaning.specs.Clauses.{FaultAt}
 use Rattle.pickle_meaning.specs.Fits.{Fits}
 use Rattle.pickle_meaning.specs.Room.{Slot, NodeSlot, ByteSlot, value_slots, slots}
 use Rattle.pickle_map.specs.Follows.{World, Finish, Done, NoSteps, Broken, NoRoom, Follows}
-use Rattle.pickle_map.specs.Framed.{Runs}
+use Rattle.pickle_map.specs.Framed.{world_of}
+use Rattle.mapping_plans.specs.Plan.{Plan}
 use Rattle.mapping_plans.specs.Mapping.{plan}
 use Rattle.mapping_plans.specs.Kept.{KeepsBy}
 use Rattle.value_store.specs.declared.store.room.Growth.TheVariants.{Never}
 use Rattle.value_store.specs.declared.store.room.Room.{Room}
 use Rattle.value_store.specs.declared.store.slots.Marks.{Marks}
 use Rattle.value_store.specs.Slots.{Held, packs, emptied, HoldsInRoom, KeepsRoom, levels}
-use Rattle.value_store.specs.Takes.{AreWithin}
+use Rattle.value_store.specs.Moves.{State, IsWithin, no_state, state_of}
 use Rattle.pickle_meaning.specs.Values.{Value, no_values, pushed}
 
 -- a store that holds one value, with the names of a table, and a fact about that value
@@ -57,10 +58,19 @@ fault_finish faults.Device at = Broken
 fault_finish faults.Memory at = NoRoom
 fault_finish kind at = Done (Err (kind, at))
 
+-- what a mapping into an empty store did by a plan, up to the state `last` of the store
+abbrev pub RunsUpTo : {A : Type 0} → SpaceView → (meter meter' : Meter) → (store store' : Held) → (last : State) → Plan A → Finish A → Type 0
+RunsUpTo space meter meter' store store' last p finish = Follows (world_of space store store') meter.limit p meter.steps meter.made no_state meter'.steps meter'.made last finish
+
+-- whatever that state was: after a fault the store is cleared
+pub record RunsTo {A : Type 0} (space : SpaceView) (meter meter' : Meter) (store store' : Held) (p : Plan A) (finish : Finish A) : Type 0 where
+  pub last : State
+  pub follows : RunsUpTo space meter meter' store store' last p finish
+
 -- on these bytes, within the steps that are left: vectors of this capacity hold all that the mapping of a type stores
 abbrev pub HasRoomFor : Room → (capacity : Marks) → PokeType → Order → (start : ℕ) → SpaceView → Meter → (bytes : List ℕ) → Type 0
 HasRoomFor room capacity type order start space meter bytes =
-    KeepsBy (λ row levels. AreWithin (packs room) row levels capacity) (bits_of bytes) (plan (8 * space.len) type order no_values start) (meter.limit - meter.steps)
+    KeepsBy (λ state. IsWithin state capacity) (packs room) (bits_of bytes) (plan (8 * space.len) type order no_values start) (meter.limit - meter.steps) no_state
 
 -- a fact about a mapping that neither a device nor an allocation failure broke off
 abbrev pub UnlessBreaks : MapFaultKind → Type 0 → Type 0
@@ -108,9 +118,9 @@ module _ (type : PokeType) (order : Order) (start : ℕ) (space : SpaceView) (me
   -- fault. Its steps and values made are those of the run.
   abbrev pub RunsPlan : List Node → (store store' : Held) → Result (Unit {0}) MapFault → Type 0
   RunsPlan nodes store store' (Ok u) =
-      Gives nodes store' (λ v. Runs space meter meter' store store' (plan (8 * space.len) type order no_values start) (Done (Ok v)))
+      Gives nodes store' (λ v. RunsUpTo space meter meter' store store' (state_of store') (plan (8 * space.len) type order no_values start) (Done (Ok v)))
   RunsPlan nodes store store' (Err f) =
-      Runs space meter meter' store store' (plan (8 * space.len) type order no_values start) (fault_finish f.kind f.at)
+      RunsTo space meter meter' store store' (plan (8 * space.len) type order no_values start) (fault_finish f.kind f.at)
 
 module _ (nodes : List Node) (store' : Held) where
   -- a value fits its type by the stored parts
@@ -180,7 +190,8 @@ pub record RunsToFault (space : SpaceView) (type : PokeType) (order : Order) (st
   pub known : world.known ≡ known_bits space
   pub steps : ℕ
   pub made : ℕ
-  pub follows : Follows world limit (plan (8 * space.len) type order no_values start) 0 0 steps made (fault_finish kind at)
+  pub state : State
+  pub follows : Follows world limit (plan (8 * space.len) type order no_values start) 0 0 no_state steps made state (fault_finish kind at)
 
 -- what a mapping of a type of a table does
 abbrev pub MapsNamed : Table → TypeId → Order → (start : ℕ) → (space space' : SpaceView) → (meter meter' : Meter) → (store store' : Held) → Result (Unit {0}) MapFault → Type 0

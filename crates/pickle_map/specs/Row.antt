@@ -1,5 +1,5 @@
 -- Arrays of numbers that a store packs, while they are mapped.
-use Rattle.std.specs.Prelude.{◌≡◌, ℕ, ◌+◌, ◌*◌, length, List, ◌∷◌, Option, Some, None, Result, Ok, true, false}
+use Rattle.std.specs.Prelude.{◌≡◌, ℕ, ◌+◌, ◌*◌, length, List, ◌∷◌, Option, Some, None, Result, Ok, true}
 use Rattle.pickle_types.specs.Types.{PokeType, IntegerOf, OffsetOf}
 use Rattle.pickle_types.specs.declared.node.Node.{Node}
 use Rattle.bit_space.specs.declared.meter.Meter.{Meter}
@@ -12,7 +12,7 @@ use Rattle.pickle_map.specs.Framed.{Runs}
 use Rattle.pickle_map.specs.Follows.{Done}
 use Rattle.pickle_meaning.specs.Means.{Opened}
 use Rattle.mapping_plans.specs.Plan.{Plan}
-use Rattle.mapping_plans.specs.Mapping.{makes_row}
+use Rattle.mapping_plans.specs.Mapping.{row_width as packed_width}
 use Rattle.value_store.specs.Slots.{Held, levels, IsPacked, IsPacking, elements, element_width, packs}
 use Rattle.value_store.specs.Takes.{row_width}
 use Rattle.pickle_meaning.specs.Values.{Levels, top_of, gathered}
@@ -36,7 +36,7 @@ pub record PacksAs (shape : Shape) (ty : PokeType) (room : Room) : Type 0 where
 
 -- elements of that type aren't packed: the store packs none, or they are no numbers
 abbrev pub StandApart : PokeType → Room → Type 0
-StandApart ty room = packs room ≡ true → makes_row ty ≡ false
+StandApart ty room = packs room ≡ true → packed_width ty ≡ None
 
 -- the packed shape of an array of that type, if the store packs it
 abbrev pub PacksOrNot : Option Shape → PokeType → Room → Type 0

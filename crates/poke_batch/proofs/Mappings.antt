@@ -13,8 +13,8 @@ use Rattle.pickle_meaning.specs.Answer.{Answer}
 use Rattle.pickle_meaning.specs.Clauses.{FaultAt}
 use Rattle.bit_space.specs.declared.meter.Meter.{Meter}
 use Rattle.mapping_plans.specs.Mapping.{plan}
-use Rattle.pickle_map.specs.Framed.{Runs, world_of}
-use Rattle.pickle_map.specs.Mapped.{FaultMeans, EndsRun, Gives, fault_finish, RunsToFault}
+use Rattle.pickle_map.specs.Framed.{world_of}
+use Rattle.pickle_map.specs.Mapped.{FaultMeans, EndsRun, Gives, fault_finish, RunsTo, RunsToFault}
 use Rattle.value_store.specs.Slots.{Held, levels}
 use Rattle.pickle_meaning.specs.Values.{Value, no_values, value_at}
 use Rattle.pickle_meaning.specs.declared.faults.MapFaultKind.{MapFaultKind}
@@ -57,14 +57,15 @@ stopped pickle ask before after type at most used taken k j kind same none a mea
 -- the run of a mapping whose meter took no step and made no value before
 pub run_to_fault : (space : SpaceView) (type : PokeType) (order : Order) (start limit : ℕ) (meter meter' : Meter) (store store' : Held) (kind : MapFaultKind) (at : ℕ)
     → meter.limit ≡ limit → meter.steps ≡ 0 → meter.made ≡ 0
-    → Runs space meter meter' store store' (plan (8 * space.len) type order no_values start) (fault_finish kind at)
+    → RunsTo space meter meter' store store' (plan (8 * space.len) type order no_values start) (fault_finish kind at)
     → RunsToFault space type order start limit kind at
 run_to_fault space type order start limit meter meter' store store' kind at same none nothing run = record {
   world = world_of space store store';
   known = refl;
   steps = meter'.steps;
   made = meter'.made;
-  follows = rw (same, none, nothing) at run;
+  state = run.last;
+  follows = rw (same, none, nothing) at run.follows;
 }
 
 -- what a mapping says of its fault

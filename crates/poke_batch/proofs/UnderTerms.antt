@@ -6,7 +6,7 @@ use Rattle.pickle_types.specs.Types.{PokeType, IntegerOf, OffsetOf, StringOf, Ar
 use Rattle.pickle_meaning.specs.Fits.{ElementsFit, no_more_fit, one_more_fits, Fits, FitsNumber, FieldsFit, AlternativeFits}
 use Rattle.pickle_meaning.specs.Means.{Taken}
 use Rattle.value_store.specs.Slots.{Held, packs, emptied, fixed, each_of}
-use Rattle.value_store.specs.Takes.{AreWithin}
+use Rattle.value_store.specs.Moves.{IsWithin, no_state}
 use Rattle.value_store.specs.declared.store.room.Growth.TheVariants.{Never}
 use Rattle.bit_space.specs.Bits.{bits_of}
 use Rattle.mapping_plans.specs.Kept.{KeepsBy}
@@ -182,7 +182,7 @@ least_of (Some m) old cleared {bound} is same less n e =
 -- what is too much for a store of the most slots is so for slots of that number
 pub few_of : (most : Option ℕ) (old cleared : Held) (type : PokeType) (ask : Ask) (before : SpaceView) (left : ℕ) → IsStoreOf most old → cleared ≡ emptied old
     → (cleared.room.growth ≡ Never → cleared.capacity ≡ each_of cleared.room.least) → left ≡ ask.limit
-    → ((bytes : List ℕ) → before.bytes ≡ Some bytes → KeepsBy (λ row levels. AreWithin (packs cleared.room) row levels cleared.capacity) (bits_of bytes) (plan (8 * before.len) type ask.order no_values ask.start) left → ⊥)
+    → ((bytes : List ℕ) → before.bytes ≡ Some bytes → KeepsBy (λ state. IsWithin state cleared.capacity) (packs cleared.room) (bits_of bytes) (plan (8 * before.len) type ask.order no_values ask.start) left no_state → ⊥)
     → (n : ℕ) → most ≡ Some n → AreTooFew n type ask before
 few_of None old cleared type ask before left is same exact full wants n e = absurd cc
 few_of (Some m) old cleared type ask before left is same exact full wants n e =
@@ -192,9 +192,9 @@ few_of (Some m) old cleared type ask before left is same exact full wants n e =
     record {
       lack = λ bytes known kept.
           wants bytes known
-          (subst (λ (r : Room). KeepsBy (λ row levels. AreWithin (packs r) row levels cleared.capacity) (bits_of bytes) planned left) (sym made)
-          (subst (λ k. KeepsBy (λ row levels. AreWithin false row levels k) (bits_of bytes) planned left) (sym each)
-          (subst (KeepsBy (λ row levels. AreWithin false row levels (each_of n)) (bits_of bytes) planned) (sym full) kept)));
+          (subst (λ (r : Room). KeepsBy (λ state. IsWithin state cleared.capacity) (packs r) (bits_of bytes) planned left no_state) (sym made)
+          (subst (λ k. KeepsBy (λ state. IsWithin state k) false (bits_of bytes) planned left no_state) (sym each)
+          (subst (λ steps. KeepsBy (λ state. IsWithin state (each_of n)) false (bits_of bytes) planned steps no_state) (sym full) kept)));
     }
 
 end_by : (pickle : List ℕ) (ask : Ask) (terms : Terms) (before after : SpaceView) {type : PokeType} (most : Option ℕ) (kind : MapFaultKind) (at : ℕ)

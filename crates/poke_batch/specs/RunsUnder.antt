@@ -12,7 +12,7 @@ use Rattle.mapping_plans.specs.Mapping.{plan}
 use Rattle.bit_space.specs.Bits.{bits_of}
 use Rattle.pickle_meaning.specs.Fits.{Fits}
 use Rattle.value_store.specs.Slots.{Held, fixed, each_of}
-use Rattle.value_store.specs.Takes.{AreWithin}
+use Rattle.value_store.specs.Moves.{IsWithin, no_state}
 use Rattle.pickle_meaning.specs.declared.faults.MapFaultKind.{MapFaultKind}
 use Rattle.pickle_meaning.specs.declared.faults.MapFaultKind.TheVariants as fault
 use Rattle.value_store.specs.declared.store.room.Growth.TheVariants.{Free}
@@ -73,7 +73,7 @@ pub data SaysIt (saying : Saying) : Saying → Type 0 where
 -- so many slots of each kind are too few for what a mapping stores on the file's bits, if these are known
 pub record AreTooFew (most : ℕ) (type : PokeType) (ask : Ask) (space : SpaceView) : Type 0 where
   pub lack : (bytes : List ℕ) → space.bytes ≡ Some bytes
-      → KeepsBy (λ row levels. AreWithin false row levels (each_of most)) (bits_of bytes) (plan (8 * space.len) type ask.order no_values ask.start) ask.limit → ⊥
+      → KeepsBy (λ state. IsWithin state (each_of most)) false (bits_of bytes) (plan (8 * space.len) type ask.order no_values ask.start) ask.limit no_state → ⊥
 
 -- what a mapping under terms prints
 pub data MapsUnder (pickle : List ℕ) (ask : Ask) (terms : Terms) (before after : SpaceView) : Saying → Type 0 where

@@ -2,10 +2,8 @@
 use Rattle.std.proofs.Common.{ℕ, ◌≤◌, length, Bool, false, List, [], ◌∷◌, Some, Ok, sym, subst, arith}
 use Rattle.bit_space.specs.declared.order.Order.{Order}
 use Rattle.pickle_types.specs.Types.{PokeType}
-use Rattle.pickle_meaning.specs.Numbers.{number_at}
 use Rattle.pickle_meaning.specs.Values.{Value, Levels}
 use Rattle.pickle_meaning.specs.Means.{Means}
-use Rattle.mapping_plans.specs.Plan.{Plan, Ended, Tick, Made, Read, result_of}
 use Rattle.mapping_plans.specs.Mapping.{plan}
 use Rattle.mapping_plans.proofs.Always.{OfValue}
 use Rattle.mapping_plans.proofs.Exists.{plan_means}
@@ -14,21 +12,15 @@ use Rattle.value_store.specs.Takes.{Vector, member_takes}
 use Rattle.value_store.proofs.Taken.{vector_of, slots-taken}
 use Rattle.type_soundness.specs.Capacity.{capacity_bound}
 use Rattle.type_soundness.specs.CapacityLaws.{ValuesTakeBound, ValuesFillRoom}
-use Rattle.type_soundness.proofs.Stored.{Stores, at_end, at_tick, at_made, at_read}
+use Rattle.type_soundness.proofs.Yields.{yields_on}
 use Rattle.type_soundness.proofs.Capacity.{capacity_enough}
 use Rattle.type_soundness.proofs.InSlots.{unpacked_slots}
-
-stores_on : {A : Type 0} {M : Bool → Levels → Type 0} {Q : A → Type 0} (bits : List ℕ) (p : Plan A) → Stores M Q p → Q (result_of bits p)
-stores_on bits (Ended a) (at_end h) = h
-stores_on bits (Tick p) (at_tick h) = stores_on bits p h
-stores_on bits (Made count row levels p) (at_made l h) = stores_on bits p h
-stores_on bits (Read place width order rest) (at_read h) = let n = number_at bits order place width in stores_on bits (rest n) (h n)
 
 -- as a member of a frame
 member_bound : (bits : List ℕ) (ty : PokeType) (order : Order) (levels : Levels) (s : ℕ) (v : Value) {k j : ℕ} → Means bits ty order levels s (Ok v) k j → (packs : Bool) (vector : Vector) → member_takes packs vector (Some v) ≤ capacity_bound packs vector ty (length bits)
 member_bound bits ty order levels s v h packs vector =
     let one = means_one h (plan_means bits ty order levels s) in
-    subst (OfValue (λ u. member_takes packs vector (Some u) ≤ capacity_bound packs vector ty (length bits))) (sym one.0) (stores_on bits (plan (length bits) ty order levels s) (capacity_enough packs vector (length bits) ty order levels s))
+    subst (OfValue (λ u. member_takes packs vector (Some u) ≤ capacity_bound packs vector ty (length bits))) (sym one.0) (yields_on bits (plan (length bits) ty order levels s) (capacity_enough packs vector (length bits) ty order levels s))
 
 pub values_take : ValuesTakeBound
 values_take bits ty order levels s v k j h packs vector = let m = member_bound bits ty order levels s v h packs vector in omega arith

@@ -12,7 +12,8 @@ use Rattle.pickle_types.specs.Bounds.{least_width, count_of, room, fields_room, 
 use Rattle.pickle_types.specs.Table.{open_fields, open_parts, open_shape, open_found, type_at, type_of, NamesBelow}
 use Rattle.value_store.specs.Packed.{bytes_for}
 use Rattle.value_store.specs.Takes.{Vector, NodesOf, FamiliesOf, LinksOf, PendingOf, TextsOf, BytesOf, where_packed}
-use Rattle.type_soundness.specs.Capacity.{number_bound, string_bound, family_bound, link_bound, row_bound, array_bound, element_bits, capacity_bound, fields_bound, parts_bound, greatest_bound, slot_takes}
+use Rattle.mapping_plans.specs.Mapping.{row_width as element_bits}
+use Rattle.type_soundness.specs.Capacity.{number_bound, string_bound, family_bound, link_bound, row_bound, array_bound, capacity_bound, fields_bound, parts_bound, greatest_bound, slot_takes}
 use Rattle.type_soundness.specs.CapacityLaws.{BoundsAreSlots}
 use Rattle.type_soundness.proofs.Taking.{is_packed}
 

@@ -12,6 +12,8 @@ mod Faults
 mod Answered
 mod Rows
 mod Stored
+mod Yields
+mod Moving
 mod Taking
 mod Capacity
 mod Lacking

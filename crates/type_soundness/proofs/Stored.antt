@@ -1,84 +1,108 @@
--- What holds of all frames that a plan stores, with whether the innermost one is an array of numbers.
-use Rattle.std.proofs.Common.{ℕ, zero, suc, Bool, true, false, Result, Ok, Err}
+-- What holds of all that a plan stores on the way, and of what is stored at its end.
+use Rattle.std.proofs.Common.{◌≡◌, ℕ, zero, suc, Bool, true, false, ◌∷◌, Result, Ok, Err, refl, sym, ap, subst}
 use Rattle.std.specs.Prelude.{if◌then◌else◌, nat_le}
 use Rattle.bit_space.specs.declared.order.Order.{Order}
 use Rattle.pickle_meaning.specs.Values.{Levels}
 use Rattle.pickle_meaning.specs.Clauses.{FaultAt}
-use Rattle.mapping_plans.specs.Plan.{Plan, Ended, Tick, Made, Read, and_then, after, on_value, then_ok, as_row}
+use Rattle.mapping_plans.specs.Plan.{Plan, Ended, Tick, Made, Read, and_then, after, on_value, then_ok, leave_frame, framed, as_row}
 use Rattle.mapping_plans.specs.Mapping.{from_inside}
-use Rattle.mapping_plans.proofs.Always.{OfValue}
 use Rattle.pickle_map.specs.Follows.{World, Walk, arrived, stepped, kept, read}
+use Rattle.pickle_map.proofs.Elements.{unpacked}
+use Rattle.value_store.specs.Moves.{Move, Opens, Drops, State, moved}
+use Rattle.value_store.specs.Slots.{packs, innermost, around}
 
--- whatever the plan reads, M holds of the frames that are stored, and Q of each result
-pub data Stores {A : Type 0} (M : Bool → Levels → Type 0) (Q : A → Type 0) : Plan A → Type 0 where
-  at_end : {a : A} → Q a → Stores M Q (Ended a)
-  at_tick : {p : Plan A} → Stores M Q p → Stores M Q (Tick p)
-  at_made : {count : ℕ} {row : Bool} {levels : Levels} {p : Plan A} → M row levels → Stores M Q p → Stores M Q (Made count row levels p)
-  at_read : {place width : ℕ} {order : Order} {ps : ℕ → Plan A} → ((n : ℕ) → Stores M Q (ps n)) → Stores M Q (Read place width order ps)
+-- whatever the plan reads, M holds of what is stored after each move, and Q of each result with what is stored then
+pub data Stores {A : Type 0} (packing : Bool) (M : State → Type 0) (Q : A → State → Type 0) : Plan A → State → Type 0 where
+  at_end : {a : A} {state : State} → Q a state → Stores packing M Q (Ended a) state
+  at_tick : {p : Plan A} {state : State} → Stores packing M Q p state → Stores packing M Q (Tick p) state
+  at_made : {count : ℕ} {move : Move} {levels : Levels} {p : Plan A} {state : State} → M (moved packing move state) → Stores packing M Q p (moved packing move state) → Stores packing M Q (Made count move levels p) state
+  at_read : {place width : ℕ} {order : Order} {ps : ℕ → Plan A} {state : State} → ((n : ℕ) → Stores packing M Q (ps n) state) → Stores packing M Q (Read place width order ps) state
 
-module _ {A : Type 0} {M : Bool → Levels → Type 0} {Q : A → Type 0} where
-  pub past_tick : {p : Plan A} → Stores M Q (Tick p) → Stores M Q p
+-- a fact about a value, and one about what a fault leaves
+abbrev pub Leaves : {A F : Type 0} → (Q : A → State → Type 0) → (E : State → Type 0) → Result A F → State → Type 0
+Leaves Q E (Ok a) state = Q a state
+Leaves Q E (Err e) state = E state
+
+module _ {A : Type 0} {packing : Bool} {M : State → Type 0} {Q : A → State → Type 0} where
+  pub past_tick : {p : Plan A} {state : State} → Stores packing M Q (Tick p) state → Stores packing M Q p state
   past_tick (at_tick h) = h
 
-  pub past_made : {count : ℕ} {row : Bool} {levels : Levels} {p : Plan A} → Stores M Q (Made count row levels p) → Stores M Q p
+  pub past_made : {count : ℕ} {move : Move} {levels : Levels} {p : Plan A} {state : State} → Stores packing M Q (Made count move levels p) state → Stores packing M Q p (moved packing move state)
   past_made (at_made l h) = h
 
-  pub now_made : {count : ℕ} {row : Bool} {levels : Levels} {p : Plan A} → Stores M Q (Made count row levels p) → M row levels
+  pub now_made : {count : ℕ} {move : Move} {levels : Levels} {p : Plan A} {state : State} → Stores packing M Q (Made count move levels p) state → M (moved packing move state)
   now_made (at_made l h) = l
 
-  pub past_read : {place width : ℕ} {order : Order} {ps : ℕ → Plan A} → Stores M Q (Read place width order ps) → (n : ℕ) → Stores M Q (ps n)
+  pub past_read : {place width : ℕ} {order : Order} {ps : ℕ → Plan A} {state : State} → Stores packing M Q (Read place width order ps) state → (n : ℕ) → Stores packing M Q (ps n) state
   past_read (at_read h) = h
 
 -- it holds along a walk
-pub walk_stores : {world : World} {A : Type 0} {M : Bool → Levels → Type 0} {Q : A → Type 0} {q : Plan A} {k' j' : ℕ} {p : Plan A} {k j : ℕ} → Walk world q k' j' p k j → Stores M Q p → Stores M Q q
+pub walk_stores : {world : World} {A : Type 0} {M : State → Type 0} {Q : A → State → Type 0} {q : Plan A} {k' j' : ℕ} {last : State} {p : Plan A} {k j : ℕ} {state : State} → Walk world q k' j' last p k j state →
+    Stores (packs world.room) M Q p state → Stores (packs world.room) M Q q last
 walk_stores arrived h = h
 walk_stores (stepped w) h = walk_stores w (past_tick h)
 walk_stores (kept has w) h = walk_stores w (past_made h)
 walk_stores (read n m w) h = walk_stores w (past_read h n)
 
-pub weaker_stores : {A : Type 0} {M : Bool → Levels → Type 0} {P Q : A → Type 0} → ((a : A) → P a → Q a) → {p : Plan A} → Stores M P p → Stores M Q p
-weaker_stores g (at_end {a} h) = at_end (g a h)
-weaker_stores g (at_tick h) = at_tick (weaker_stores g h)
-weaker_stores g (at_made l h) = at_made l (weaker_stores g h)
-weaker_stores g (at_read h) = at_read (λ n. weaker_stores g (h n))
+module _ {packing : Bool} {M : State → Type 0} where
+  pub weaker_stores : {A : Type 0} {P Q : A → State → Type 0} → ((a : A) (last : State) → P a last → Q a last) → {p : Plan A} {state : State} → Stores packing M P p state → Stores packing M Q p state
+  weaker_stores g (at_end {a} {state} h) = at_end (g a state h)
+  weaker_stores g (at_tick h) = at_tick (weaker_stores g h)
+  weaker_stores g (at_made l h) = at_made l (weaker_stores g h)
+  weaker_stores g (at_read h) = at_read (λ n. weaker_stores g (h n))
 
--- the same plan as that of an element of an array of numbers
-pub row_stores : {A : Type 0} {M N : Bool → Levels → Type 0} {Q : A → Type 0} → ((row : Bool) (levels : Levels) → M row levels → N true levels) → {p : Plan A} → Stores M Q p → Stores N Q (as_row p)
-row_stores g (at_end h) = at_end h
-row_stores g (at_tick h) = at_tick (row_stores g h)
-row_stores g (at_made {row} {levels} l h) = at_made (g row levels l) (row_stores g h)
-row_stores g (at_read h) = at_read (λ n. row_stores g (h n))
+  pub then_stores : {A B : Type 0} {P : A → State → Type 0} {Q : B → State → Type 0} (f : A → Plan B) → ((a : A) (last : State) → P a last → Stores packing M Q (f a) last) → {p : Plan A} {state : State} → Stores packing M P p state → Stores packing M Q (and_then p f) state
+  then_stores f g (at_end {a} {state} h) = g a state h
+  then_stores f g (at_tick h) = at_tick (then_stores f g h)
+  then_stores f g (at_made l h) = at_made l (then_stores f g h)
+  then_stores f g (at_read h) = at_read (λ n. then_stores f g (h n))
 
-pub then_stores : {A B : Type 0} {M : Bool → Levels → Type 0} {P : A → Type 0} {Q : B → Type 0} (f : A → Plan B) → ((a : A) → P a → Stores M Q (f a)) → {p : Plan A} → Stores M P p → Stores M Q (and_then p f)
-then_stores f g (at_end {a} h) = g a h
-then_stores f g (at_tick h) = at_tick (then_stores f g h)
-then_stores f g (at_made l h) = at_made l (then_stores f g h)
-then_stores f g (at_read h) = at_read (λ n. then_stores f g (h n))
+  value_stores : {A B F : Type 0} {P : A → State → Type 0} {Q : B → State → Type 0} {E : State → Type 0} (f : A → Plan (Result B F)) → ((a : A) (last : State) → P a last → Stores packing M (Leaves Q E) (f a) last) → (r : Result A F) (last : State) → Leaves P E r last → Stores packing M (Leaves Q E) (on_value f r) last
+  value_stores f g (Ok a) last h = g a last h
+  value_stores f g (Err e) last h = at_end h
 
-value_stores : {A B F : Type 0} {M : Bool → Levels → Type 0} {P : A → Type 0} {Q : B → Type 0} (f : A → Plan (Result B F)) → ((a : A) → P a → Stores M (OfValue Q) (f a)) → (r : Result A F) → OfValue P r → Stores M (OfValue Q) (on_value f r)
-value_stores f g (Ok a) h = g a h
-value_stores f g (Err e) h = at_end tt
+  pub ok_stores : {A B F : Type 0} {P : A → State → Type 0} {Q : B → State → Type 0} {E : State → Type 0} (f : A → Plan (Result B F)) → ((a : A) (last : State) → P a last → Stores packing M (Leaves Q E) (f a) last) → {p : Plan (Result A F)} {state : State} →
+      Stores packing M (Leaves P E) p state → Stores packing M (Leaves Q E) (then_ok p f) state
+  unfolding then_ok
+  ok_stores {F} {P} {Q} {E} f g h = then_stores {P = Leaves {F = F} P E} {Q = Leaves {F = F} Q E} (on_value f) (value_stores {P = P} {Q = Q} {E = E} f g) h
 
-pub ok_stores : {A B F : Type 0} {M : Bool → Levels → Type 0} {P : A → Type 0} {Q : B → Type 0} (f : A → Plan (Result B F)) → ((a : A) → P a → Stores M (OfValue Q) (f a)) → {p : Plan (Result A F)} → Stores M (OfValue P) p → Stores M (OfValue Q) (then_ok p f)
-unfolding then_ok
-ok_stores {F} {M} {P} {Q} f g h = then_stores {P = OfValue {F = F} P} {Q = OfValue {F = F} Q} (on_value f) (value_stores {M = M} {P = P} {Q = Q} f g) h
+  after_stores : {A : Type 0} {Q : A → State → Type 0} (n : ℕ) (a : A) {state : State} → Q a state → Stores packing M Q (after n a) state
+  after_stores zero a h = at_end h
+  after_stores (suc n) a h = at_tick (after_stores n a h)
 
-after_stores : {A : Type 0} {M : Bool → Levels → Type 0} {Q : A → Type 0} (n : ℕ) (a : A) → Q a → Stores M Q (after n a)
-after_stores zero a h = at_end h
-after_stores (suc n) a h = at_tick (after_stores n a h)
+  -- a value that a function gives, after so many steps
+  pub told_stores : {A B F : Type 0} {Q : B → State → Type 0} {E : State → Type 0} (n : ℕ) (r : Result A F) (f : A → Plan (Result B F)) {state : State} → E state → ((a : A) → Stores packing M (Leaves Q E) (f a) state) → Stores packing M (Leaves Q E) (then_ok (after n r) f) state
+  told_stores {A} {B} {F} {Q} {E} n r f {state} e g = ok_stores {P = λ a last. last ≡ state} {Q = Q} {E = E} f (λ a last same. subst (λ now. Stores packing M (Leaves Q E) (f a) now) (sym same) (g a)) (after_stores n r (told r))
+    where
+      told : (t : Result A F) → Leaves (λ a last. last ≡ state) E t state
+      told (Ok a) = refl
+      told (Err f) = e
 
--- a value that a function gives, after so many steps
-pub told_stores : {A B F : Type 0} {M : Bool → Levels → Type 0} {Q : B → Type 0} (n : ℕ) (r : Result A F) (f : A → Plan (Result B F)) → ((a : A) → Stores M (OfValue Q) (f a)) → Stores M (OfValue Q) (then_ok (after n r) f)
-told_stores {A} {B} {F} {M} {Q} n r f g = ok_stores {P = λ a. Unit {0}} {Q = Q} f (λ a u. g a) (after_stores n r (any r))
-  where
-    any : (t : Result A F) → OfValue (λ a. Unit {0}) t
-    any (Ok a) = tt
-    any (Err e) = tt
+  pub one_stores : {A : Type 0} {Q : A → State → Type 0} {p q : Plan A} {state : State} (t : Bool) → Stores packing M Q p state → Stores packing M Q q state → Stores packing M Q (if t then p else q) state
+  one_stores true h g = h
+  one_stores false h g = g
 
-pub one_stores : {A : Type 0} {M : Bool → Levels → Type 0} {Q : A → Type 0} {p q : Plan A} (t : Bool) → Stores M Q p → Stores M Q q → Stores M Q (if t then p else q)
-one_stores true h g = h
-one_stores false h g = g
+  pub inside_stores : {A : Type 0} {Q : A → State → Type 0} {E : State → Type 0} (m s : ℕ) {p : Plan (Result A FaultAt)} {state : State} → E state → Stores packing M (Leaves Q E) p state → Stores packing M (Leaves Q E) (from_inside m s p) state
+  unfolding from_inside
+  inside_stores m s e h = one_stores (nat_le s m) h (at_end e)
 
-pub inside_stores : {A : Type 0} {M : Bool → Levels → Type 0} {Q : A → Type 0} (m s : ℕ) {p : Plan (Result A FaultAt)} → Stores M (OfValue Q) p → Stores M (OfValue Q) (from_inside m s p)
-unfolding from_inside
-inside_stores m s h = one_stores (nat_le s m) h (at_end tt)
+  -- what is built in a frame of its own: after a fault all is as before
+  pub framed_stores : {A F : Type 0} {Q : A → State → Type 0} (outer : Levels) {p : Plan (Result A F)} {state : State} → M state → M (moved packing Opens state) →
+      Stores packing M (Leaves Q (λ last. last.frames ≡ state.now ∷ state.frames)) p (moved packing Opens state) → Stores packing M (Leaves Q (λ last. last ≡ state)) (framed outer p) state
+  unfolding framed
+  framed_stores {A} {F} {Q} outer {p} {state} before opened h = at_made opened (then_stores {P = Leaves {F = F} Q (λ last. last.frames ≡ state.now ∷ state.frames)} (leave_frame outer) left h)
+    where
+      left : (r : Result A F) (last : State) → Leaves Q (λ last. last.frames ≡ state.now ∷ state.frames) r last → Stores packing M (Leaves Q (λ last. last ≡ state)) (leave_frame outer r) last
+      left (Ok a) last h = at_end h
+      left (Err e) last h =
+          let same : moved packing Drops last ≡ state = ap (λ frames. record { now = innermost frames; frames = around frames }) h in
+          at_made (subst M (sym same) before) (at_end same)
+
+-- the same plan as that of an element of an array of numbers, where those aren't packed
+pub row_stores : {A : Type 0} {M : State → Type 0} {Q : A → State → Type 0} (width : ℕ) {p : Plan A} {state : State} → Stores false M Q p state → Stores false M Q (as_row width p) state
+row_stores width (at_end h) = at_end h
+row_stores width (at_tick h) = at_tick (row_stores width h)
+row_stores {M} {Q} width (at_made {move} {p} {state} l h) =
+    let same = unpacked width move state in
+    at_made (subst M (sym same) l) (subst (λ now. Stores false M Q (as_row width p) now) (sym same) (row_stores width h))
+row_stores width (at_read h) = at_read (λ n. row_stores width (h n))

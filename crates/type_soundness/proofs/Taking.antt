@@ -8,9 +8,10 @@ use Rattle.pickle_meaning.specs.Values.{Naming, Label, ArrayLabel, StructLabel, 
 use Rattle.pickle_meaning.specs.Means.{Taken, integer_value, offset_value, union_value}
 use Rattle.pickle_meaning.specs.Room.{text_length}
 use Rattle.value_store.specs.Packed.{bytes_for}
-use Rattle.value_store.specs.Takes.{Vector, NodesOf, FamiliesOf, LinksOf, PendingOf, TextsOf, BytesOf, number_width, row_width, where_packed, packed_width, families_taken, texts_taken, own_takes, row_takes, kept_as, value_takes, members_take, place_takes, member_takes, level_takes, levels_take, kept_takes}
+use Rattle.value_store.specs.Takes.{Vector, NodesOf, FamiliesOf, LinksOf, PendingOf, TextsOf, BytesOf, number_width, row_width, where_packed, packed_width, families_taken, texts_taken, own_takes, row_takes, kept_as, value_takes, members_take, place_takes, member_takes, level_takes, levels_take}
 use Rattle.value_store.proofs.Taken.{levels_take-pushed, member_count-of}
-use Rattle.type_soundness.specs.Capacity.{number_bound, string_bound, family_bound, link_bound, row_bound, array_bound, element_bits, capacity_bound}
+use Rattle.mapping_plans.specs.Mapping.{row_width as element_bits}
+use Rattle.type_soundness.specs.Capacity.{number_bound, string_bound, family_bound, link_bound, row_bound, array_bound, capacity_bound}
 
 -- ---- frames
 
@@ -180,15 +181,6 @@ wide_takes vector width count start end (m ∷ rest) h le =
     let members = gathered (m ∷ rest) in
     let e : value_takes true vector (Mapped ArrayLabel start end members) ≡ row_takes vector width (length (m ∷ rest)) = ap (λ o. kept_as (where_packed true o) vector ArrayLabel members (members_take true vector members)) (wide_row width m rest h.0) ∙ ap (row_takes vector width) (member_count-of (m ∷ rest)) in
     let few = row_few vector width (length (m ∷ rest)) count le in
-    omega arith
-
--- such an array while it is open
-pub open_takes : (packs : Bool) (vector : Vector) (width count : ℕ) (level : List (Option Value)) (outer : Levels) → packs ≡ true → AllWide width level → length level ≤ count → kept_takes packs true vector (level ∷ outer) ≤ levels_take packs vector outer + row_bound vector width count
-open_takes false vector width count level outer e h le = absurd cc
-open_takes true vector width count [] outer e h le = omega arith
-open_takes true vector width count (m ∷ rest) outer e h le =
-    let p = push_takes true vector outer (Some (Mapped ArrayLabel 0 0 (gathered (m ∷ rest)))) in
-    let w = wide_takes vector width count 0 0 (m ∷ rest) h le in
     omega arith
 
 pub wide_closed : (packs : Bool) (vector : Vector) (width count start end : ℕ) (level : List (Option Value)) → packs ≡ true → AllWide width level → length level ≤ count → member_takes packs vector (Some (Mapped ArrayLabel start end (gathered level))) ≤ row_bound vector width count

@@ -2,6 +2,7 @@
 use Rattle.std.specs.Prelude.{ℕ, ◌+◌, ◌*◌, ◌/◌, max, Bool, Option, Some, None}
 use Rattle.pickle_types.specs.Types.{PokeType, IntegerOf, OffsetOf, StringOf, ArrayOf, StructOf, IntegralOf, UnionOf, Fields, NoFields, FieldThen, Parts, NoParts, PartThen}
 use Rattle.pickle_types.specs.Bounds.{least_width, count_of}
+use Rattle.mapping_plans.specs.Mapping.{row_width}
 use Rattle.value_store.specs.Packed.{bytes_for}
 use Rattle.value_store.specs.Takes.{Vector, NodesOf, FamiliesOf, LinksOf, PendingOf, TextsOf, BytesOf, where_packed}
 
@@ -55,16 +56,6 @@ abbrev pub array_bound : Option ℕ → Vector → (count each : ℕ) → ℕ
 array_bound None vector count each = family_bound vector + count * (link_bound vector + each)
 array_bound (Some width) vector count each = row_bound vector width count
 
--- the width of the numbers of a type, which a store may pack
-abbrev pub element_bits : PokeType → Option ℕ
-element_bits (IntegerOf type) = Some type.width
-element_bits (OffsetOf type unit) = Some type.width
-element_bits StringOf = None
-element_bits (ArrayOf element bound) = None
-element_bits (StructOf name pinned _) = None
-element_bits (IntegralOf name type _) = None
-element_bits (UnionOf name alternatives) = None
-
 unfoldable mutual
   -- what a mapping of a type on m bits takes of a vector at most, in a store that packs arrays of numbers or in one that
   -- doesn't
@@ -73,7 +64,7 @@ unfoldable mutual
   capacity_bound packs vector (OffsetOf type unit) m = number_bound vector
   capacity_bound packs vector StringOf m = string_bound vector m
   capacity_bound packs vector (ArrayOf element bound) m =
-      array_bound (where_packed packs (element_bits element)) vector (count_of m (least_width element)) (capacity_bound packs vector element m)
+      array_bound (where_packed packs (row_width element)) vector (count_of m (least_width element)) (capacity_bound packs vector element m)
   capacity_bound packs vector (StructOf name pinned fields) m = family_bound vector + fields_bound packs vector fields m
   capacity_bound packs vector (IntegralOf name type fields) m = family_bound vector + parts_bound packs vector fields m
   capacity_bound packs vector (UnionOf name alternatives) m = family_bound vector + greatest_bound packs vector alternatives m

@@ -7,8 +7,7 @@ use Rattle.pickle_meaning.specs.Values.{no_values}
 use Rattle.pickle_map.proofs.Followed.{walk_rises, followed_steps, followed_made, followed_fits, followed_size, followed_result}
 use Rattle.pickle_map.proofs.Keeping.{kept_within}
 use Rattle.pickle_map.proofs.Lent.{given_back}
-use Rattle.pickle_map.proofs.Stopped.{told_there, told_limit, told_memory, told_device, told_counts, told_means, told_kept, told_wanted, none_kept}
-use Rattle.pickle_map.proofs.Repeated.{room_when_done}
+use Rattle.pickle_map.proofs.Stopped.{told_there, told_limit, told_memory, told_device, told_counts, told_means, done_kept, told_kept, told_wanted, none_kept, none_stored, from_none}
 use Rattle.pickle_map.proofs.mapper.map_watched.Goals as goal
 
 pub map_type-requires-clause-open : goal.map_type-requires-clause-open
@@ -23,6 +22,7 @@ returns-in-Ok g c =
     let m = c.in-Ok.ensures.is in
     let keeps = rw (c.nodes.ensures, none) at m.kept in
     let h = rw (c.nodes.ensures, none, c.from.ensures) at m.follows in
+    let h = from_none (none_stored c.args.store.now c.requires.empty) h in
     let bits = 8 * (g.S.Space.view c.args.space.now).len in
     let ty = type_of c.args.table.now.nodes.items c.args.id.node in
     let within = c.map_type.new.self.meter.now.within in
@@ -42,7 +42,7 @@ returns-in-Ok g c =
       memory = tt;
       device = tt;
       counts = record { value = m.value; keeps = keeps; holds = h };
-      kept = λ bytes known. room_when_done (bits_of bytes) c.args.meter.now.limit (ap (option_map bits_of) known) h;
+      kept = λ bytes known. done_kept (bits_of bytes) bits ty c.args.order c.args.start (ap (option_map bits_of) known) h;
       asked = λ bytes known. tt;
       place = tt;
       emptied = tt;
@@ -59,6 +59,7 @@ pub returns-in-Err : goal.returns-in-Err
 returns-in-Err g c =
     let none = none_kept c.args.table.now.nodes.items c.args.store.now c.requires.empty in
     let h = rw (c.nodes.ensures, none, c.from.ensures) at c.in-Err.ensures.is in
+    let h = from_none (none_stored c.args.store.now c.requires.empty) h in
     let bits = 8 * (g.S.Space.view c.args.space.now).len in
     let ty = type_of c.args.table.now.nodes.items c.args.id.node in
     let order = c.args.order in
@@ -80,7 +81,7 @@ returns-in-Err g c =
       limit = rw c.told.ensures (told_limit bits ty order start c.in-Err.stop h);
       memory = rw c.told.ensures (told_memory bits ty order start c.in-Err.stop h);
       device = rw c.told.ensures (λ e. c.in-Err.ensures.frame.left.device (told_device bits ty order start c.in-Err.stop h e));
-      counts = rw (c.told.ensures, c.clear.ensures.empty) (told_counts bits ty order start (g.S.Space.view c.args.space.now) c.args.meter.now c.map_type.new.self.meter.now c.args.store.now (emptied c.map_type.new.self.store.now) c.in-Err.stop h);
+      counts = rw (c.told.ensures, c.clear.ensures.empty) (told_counts bits ty order start (g.S.Space.view c.args.space.now) c.args.meter.now c.map_type.new.self.meter.now c.args.store.now (emptied c.map_type.new.self.store.now) c.in-Err.stop (record { last = _; follows = h }));
       kept = λ bytes known. rw (c.told.ensures, c.clear.ensures.empty) (told_kept (bits_of bytes) bits ty order start (ap (option_map bits_of) known) c.in-Err.stop h);
       asked = λ bytes known. rw c.told.ensures (told_wanted (bits_of bytes) bits ty order start (ap (option_map bits_of) known) (omega (arith, within, limit)) c.in-Err.stop h);
       place = rw c.told.ensures (told_there bits ty order start c.in-Err.stop h);

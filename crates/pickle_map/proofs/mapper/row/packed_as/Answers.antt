@@ -1,7 +1,7 @@
 use Rattle.std.proofs.Common.{refl, sym, ap, ◌∙◌}
 use Rattle.std.proofs.lemmas.Bool.{false≢true}
 use Rattle.pickle_types.specs.Table.{type_of}
-use Rattle.mapping_plans.specs.Mapping.{makes_row}
+use Rattle.mapping_plans.specs.Mapping.{row_width}
 use Rattle.pickle_map.proofs.Elements.{apart_shape}
 use Rattle.pickle_map.proofs.Shapes.{opened_as, below_as}
 use Rattle.pickle_map.proofs.mapper.row.packed_as.Goals as goal
@@ -30,4 +30,4 @@ returns-then-not-packs c = λ packing. absurd (false≢true (sym c.if-not-packs.
 pub returns-in_default : goal.returns-in_default
 returns-in_default c = λ packing.
     let opened = opened_as c.args.nodes.now c.requires.table c.args.element c.requires.element c.index-nodes-element.result _ refl in
-    ap makes_row opened ∙ apart_shape (type_of c.args.nodes.now) _ c.in_default.not-Integer c.in_default.not-Offset
+    ap row_width opened ∙ apart_shape (type_of c.args.nodes.now) _ c.in_default.not-Integer c.in_default.not-Offset

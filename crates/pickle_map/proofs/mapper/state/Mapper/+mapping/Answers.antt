@@ -6,7 +6,7 @@ use Rattle.pickle_types.specs.Types.{depth}
 use Rattle.pickle_types.specs.Bounds.{least_width}
 use Rattle.pickle_types.specs.Table.{type_of}
 use Rattle.pickle_map.specs.Mappable.{IsFieldOf, IsPartOf}
-use Rattle.pickle_map.specs.Row.{BeginsApart}
+use Rattle.pickle_map.specs.Row.{StandApart, BeginsApart}
 use Rattle.mapping_plans.specs.Mapping.{plan}
 use Rattle.pickle_meaning.specs.Means.{number_type}
 use Rattle.value_store.specs.Slots.{levels, level_count}
@@ -15,10 +15,10 @@ use Rattle.pickle_map.proofs.Clauses.{checks_ok, checks_stop, settles_ok, settle
 use Rattle.pickle_map.proofs.Followed.{followed_fits, followed_wide}
 use Rattle.pickle_map.proofs.Keeping.{regrown_stays, pushed_stays}
 use Rattle.pickle_map.proofs.Left.{left_open, left_keeps, left_adds}
-use Rattle.mapping_plans.specs.Mapping.{element_plan, makes_row}
+use Rattle.mapping_plans.specs.Mapping.{row_width, element_plan}
 use Rattle.pickle_map.proofs.Widths.{any_names}
-use Rattle.pickle_map.proofs.Elements.{element_done, element_stopped, pushed_apart}
-use Rattle.pickle_map.proofs.Worlds.{room_then, in_world, in_later, holds_these, lacks_these}
+use Rattle.pickle_map.proofs.Elements.{element_done, element_stopped, array_moves, array_lacks, pushed_apart}
+use Rattle.pickle_map.proofs.Worlds.{same_room, room_then, in_world, in_later, moves_to, lacks_these}
 use Rattle.pickle_map.proofs.Mapping.{few_enough, inside_no_tick, inside_ticks, plan_past, number_is, text_is, struct_is, array_is, union_is, struct_no_room, struct_made, array_no_room, array_made, union_no_room, union_made, fields_end, fields_no_tick, condition_stops, absent_no_room, absent_goes, start_stops, field_stops, field_goes, elements_end, elements_beyond, elements_no_tick, elements_no_bits, elements_goes, elements_over, elements_stop, alternatives_end, alternatives_no_tick, alternatives_fit, alternatives_miss, alternatives_stop}
 use Rattle.value_store.proofs.PackedRows.{row-opened}
 use Rattle.pickle_map.proofs.Shapes.{opened_as, below_as, sound_as, names_as, fields_within, parts_within, fields_bounded, parts_bounded, field_bounded, part_bounded, of_one, name_of_one, struct_opened, union_opened, fields_named}
@@ -158,7 +158,7 @@ map_struct-returns-clause-is g t c =
     let o = c.open_level.ensures in
     let left = c.leave_level.ensures in
     let h = rw (o.levels c.args.self.now.nodes.now) at c.struct_body-mapped.ensures.is in
-    rw struct_is (left_keeps c.args.self.now.nodes.now o.room c.struct_body-mapped.ensures.frame.left.room left.room (λ _ h. inside_ticks _ _ _ c.requires.inside e.limit e.ok e.made h) (λ end. end) _ left.left h)
+    rw struct_is (left_keeps c.args.self.now.nodes.now o.room c.struct_body-mapped.ensures.frame.left.room left.room _ o.moves o.within (λ _ h. inside_ticks _ _ _ c.requires.inside e.limit e.ok e.made h) (λ end. end) _ left.left h)
 
 pub map_struct-returns-clause-level : goal.map_struct-returns-clause-level
 map_struct-returns-clause-level g t c =
@@ -180,7 +180,7 @@ map_union-returns-clause-is g t c =
     let o = c.open_level.ensures in
     let left = c.leave_level.ensures in
     let h = rw (o.levels c.args.self.now.nodes.now) at c.union_body-mapped.ensures.is in
-    rw union_is (left_keeps c.args.self.now.nodes.now o.room c.union_body-mapped.ensures.frame.left.room left.room (λ _ h. inside_ticks _ _ _ c.requires.inside e.limit e.ok e.made h) (λ end. end) _ left.left h)
+    rw union_is (left_keeps c.args.self.now.nodes.now o.room c.union_body-mapped.ensures.frame.left.room left.room _ o.moves o.within (λ _ h. inside_ticks _ _ _ c.requires.inside e.limit e.ok e.made h) (λ end. end) _ left.left h)
 
 pub map_union-returns-clause-level : goal.map_union-returns-clause-level
 map_union-returns-clause-level g t c =
@@ -204,7 +204,7 @@ map_array-returns-clause-is g t c =
     let left = c.leave_level.ensures in
     let h = rw (o.levels c.args.self.now.nodes.now) at c.array_body-mapped.ensures.is in
     let extent = settles_ok _ _ _ refl (rw c.from.ensures at found.is) found.made in
-    rw array_is (left_keeps c.args.self.now.nodes.now o.room c.array_body-mapped.ensures.frame.left.room left.room (λ _ h. inside_ticks _ _ _ c.requires.inside e.limit e.ok e.made (follow_then_ok _ _ extent (follow_at found.limit refl refl h))) (λ end. end) _ left.left h)
+    rw array_is (left_keeps c.args.self.now.nodes.now o.room c.array_body-mapped.ensures.frame.left.room left.room _ o.moves o.within (λ _ h. inside_ticks _ _ _ c.requires.inside e.limit e.ok e.made (follow_then_ok _ _ extent (follow_at found.limit refl refl h))) (λ end. end) _ left.left h)
 
 pub map_array-returns-clause-level : goal.map_array-returns-clause-level
 map_array-returns-clause-level g t c =
@@ -248,7 +248,7 @@ struct_body-returns-in_err-close_struct-clause-is g t c =
     let p = err_from_is_err_and c.from_residual-in_err-close_struct.result c.from_residual-in_err-close_struct.ensures.1 in
     let named = c.requires.names ∙ sym (fields_named (type_of c.args.self.now.nodes.now) c.args.fields.now) in
     let full = rw named at (c.in_err-close_struct.ensures.full c.args.self.now.nodes.now) in
-    rw (p.1, p.2) (struct_no_room _ _ _ _ (in_later c.in_ok-end.ensures.frame.left.room c.in_err-close_struct.ensures.room c.in_ok-end.ensures.is) _ _ (lacks_these c.in_ok-end.ensures.frame.left.room full))
+    rw (p.1, p.2) (struct_no_room _ _ _ _ (in_later c.in_ok-end.ensures.frame.left.room c.in_err-close_struct.ensures.room c.in_ok-end.ensures.is) _ _ (lacks_these c.in_ok-end.ensures.frame.left.room full c.in_err-close_struct.ensures.lacks))
 
 pub struct_body-returns-in_err-close_struct-clause-level : goal.struct_body-returns-in_err-close_struct-clause-level
 struct_body-returns-in_err-close_struct-clause-level g t c =
@@ -262,8 +262,8 @@ struct_body-returns-clause-is g t c =
     let closed = rw named at (c.in_ok-close_struct.ensures.ok c.args.self.now.nodes.now) in
     let h = rw c.in_ok-end.ensures.level.outer at closed in
     let room = c.in_ok-close_struct.ensures.room in
-    let has = holds_these c.args.self.now.nodes.now (room_then c.in_ok-end.ensures.frame.left.room room) c.in_ok-close_struct.ensures.within closed in
-    record { value = _; kept = h; ends = refl; follows = struct_made _ _ _ _ (in_later c.in_ok-end.ensures.frame.left.room room c.in_ok-end.ensures.is) _ _ has n.steps n.made }
+    let moves = moves_to c.in_ok-end.ensures.frame.left.room (same_room c.close_struct.new.self) c.in_ok-close_struct.ensures.within c.in_ok-close_struct.ensures.moves in
+    record { value = _; kept = h; ends = refl; follows = struct_made _ _ _ _ (in_later c.in_ok-end.ensures.frame.left.room room c.in_ok-end.ensures.is) _ _ moves n.steps n.made }
 
 pub array_body-row_body-requires-clause-packing : goal.array_body-row_body-requires-clause-packing
 array_body-row_body-requires-clause-packing g t c =
@@ -287,7 +287,9 @@ array_body-returns-in_err-end-clause-is g t c =
 pub array_body-returns-in_err-close_array-clause-is : goal.array_body-returns-in_err-close_array-clause-is
 array_body-returns-in_err-close_array-clause-is g t c =
     let p = err_from_is_err_and c.from_residual-in_err-close_array.result c.from_residual-in_err-close_array.ensures.1 in
-    rw (p.1, p.2) (array_no_room _ _ _ _ (in_later c.in_ok-end.ensures.frame.left.room c.in_err-close_array.ensures.room c.in_ok-end.ensures.is) (lacks_these c.in_ok-end.ensures.frame.left.room (c.in_err-close_array.ensures.full c.args.self.now.nodes.now)))
+    let apart : StandApart (type_of c.args.self.now.nodes.now c.args.element) c.args.self.now.store.now.room = search rules in
+    let lacks = lacks_these c.in_ok-end.ensures.frame.left.room (c.in_err-close_array.ensures.full c.args.self.now.nodes.now) c.in_err-close_array.ensures.lacks in
+    rw (p.1, p.2) (array_no_room _ _ _ _ (in_later c.in_ok-end.ensures.frame.left.room c.in_err-close_array.ensures.room c.in_ok-end.ensures.is) (type_of c.args.self.now.nodes.now c.args.element) (array_lacks (row_width (type_of c.args.self.now.nodes.now c.args.element)) apart lacks))
 
 pub array_body-returns-in_err-close_array-clause-level : goal.array_body-returns-in_err-close_array-clause-level
 array_body-returns-in_err-close_array-clause-level g t c =
@@ -300,8 +302,9 @@ array_body-returns-clause-is g t c =
     let closed = c.in_ok-close_array.ensures.ok c.args.self.now.nodes.now in
     let h = rw c.in_ok-end.ensures.level.outer at closed in
     let room = c.in_ok-close_array.ensures.room in
-    let has = holds_these c.args.self.now.nodes.now (room_then c.in_ok-end.ensures.frame.left.room room) c.in_ok-close_array.ensures.within closed in
-    record { value = _; kept = h; ends = refl; follows = array_made _ _ _ _ (in_later c.in_ok-end.ensures.frame.left.room room c.in_ok-end.ensures.is) has n.steps n.made }
+    let moves = moves_to c.in_ok-end.ensures.frame.left.room (same_room c.close_array.new.self) c.in_ok-close_array.ensures.within c.in_ok-close_array.ensures.moves in
+    let apart : StandApart (type_of c.args.self.now.nodes.now c.args.element) c.args.self.now.store.now.room = search rules in
+    record { value = _; kept = h; ends = refl; follows = array_made _ _ _ _ (in_later c.in_ok-end.ensures.frame.left.room room c.in_ok-end.ensures.is) (type_of c.args.self.now.nodes.now c.args.element) (array_moves (row_width (type_of c.args.self.now.nodes.now c.args.element)) apart moves) n.steps n.made }
 
 pub union_body-returns-in_err-index-clause-is : goal.union_body-returns-in_err-index-clause-is
 union_body-returns-in_err-index-clause-is g t c =
@@ -315,7 +318,7 @@ union_body-returns-in_err-close_union-clause-is g t c =
     let fresh = c.requires.fresh in
     let inside = h.keeps ∙ ap (λ ls. pushed ls (Some h.value)) fresh in
     let full = rw (inside, c.requires.names, ← h.ends) at (c.in_err-close_union.ensures.full c.args.self.now.nodes.now) in
-    rw (p.1, p.2) (union_no_room _ _ _ _ _ (in_later c.in_ok-index.ensures.frame.left.room c.in_err-close_union.ensures.room h.follows) (lacks_these c.in_ok-index.ensures.frame.left.room full))
+    rw (p.1, p.2) (union_no_room _ _ _ _ _ (in_later c.in_ok-index.ensures.frame.left.room c.in_err-close_union.ensures.room h.follows) (lacks_these c.in_ok-index.ensures.frame.left.room full c.in_err-close_union.ensures.lacks))
 
 pub union_body-returns-in_err-close_union-clause-level : goal.union_body-returns-in_err-close_union-clause-level
 union_body-returns-in_err-close_union-clause-level g t c =
@@ -330,8 +333,8 @@ union_body-returns-clause-is g t c =
     let n = c.note_made.ensures in
     let closed = rw (inside, c.requires.names, ← h.ends) at (c.in_ok-close_union.ensures.ok c.args.self.now.nodes.now) in
     let room = c.in_ok-close_union.ensures.room in
-    let has = holds_these c.args.self.now.nodes.now (room_then c.in_ok-index.ensures.frame.left.room room) c.in_ok-close_union.ensures.within closed in
-    record { value = _; kept = closed; ends = h.ends; follows = union_made _ _ _ _ _ (in_later c.in_ok-index.ensures.frame.left.room room h.follows) has n.steps n.made }
+    let moves = moves_to c.in_ok-index.ensures.frame.left.room (same_room c.close_union.new.self) c.in_ok-close_union.ensures.within c.in_ok-close_union.ensures.moves in
+    record { value = _; kept = closed; ends = h.ends; follows = union_made _ _ _ _ _ (in_later c.in_ok-index.ensures.frame.left.room room h.follows) moves n.steps n.made }
 
 pub map_fields-loop-field-init : goal.map_fields-loop-field-init
 map_fields-loop-field-init g t c = record {
@@ -404,7 +407,7 @@ map_fields-returns-in_err-push_absent-clause-is g t c =
     let next = rw (← c.field-item.is) at next in
     let there = c.in_ok-is_there.ensures in
     let there_is = rw (c.if-branch.false, c.from-origin.ensures) at there.is in
-    rw (p.1, p.2) (follow_on (in_later i.frame.room c.in_err-push_absent.ensures.room i.so_far) (absent_no_room _ _ _ _ _ _ _ _ _ _ _ next (e.limit ∙ i.frame.limit) e.ok e.made there.made there_is (lacks_these i.frame.room (c.in_err-push_absent.ensures.full c.args.self.now.nodes.now))))
+    rw (p.1, p.2) (follow_on (in_later i.frame.room c.in_err-push_absent.ensures.room i.so_far) (absent_no_room _ _ _ _ _ _ _ _ _ _ _ next (e.limit ∙ i.frame.limit) e.ok e.made there.made there_is (lacks_these i.frame.room (c.in_err-push_absent.ensures.full c.args.self.now.nodes.now) c.in_err-push_absent.ensures.lacks)))
 
 pub map_fields-returns-in_err-push_absent-clause-level : goal.map_fields-returns-in_err-push_absent-clause-level
 map_fields-returns-in_err-push_absent-clause-level g t c = regrown_stays c.args.self.now.nodes.now _ _ _ c.loop-field.invariant.level c.in_err-push_absent.ensures.err
@@ -435,14 +438,14 @@ map_fields-loop-field-preserved g t c =
           let there_is = rw (w.if-branch.false, c.from-origin.ensures) at there.is in
           let keeps = (w.in_ok-push_absent.ensures.ok c.args.self.now.nodes.now) in
           let room = w.in_ok-push_absent.ensures.room in
-          let has = holds_these c.args.self.now.nodes.now (room_then i.frame.room room) w.in_ok-push_absent.ensures.within keeps in
+          let moves = moves_to i.frame.room (same_room w.push_absent.new.self) w.in_ok-push_absent.ensures.within w.in_ok-push_absent.ensures.moves in
           rw (w.space-is, w.self-is, w.behind-is, w.top-is) (record {
             lent = search rules;
             frame = search rules;
             after = search rules;
             inside = search rules;
             level = pushed_stays c.args.self.now.nodes.now _ _ _ _ i.level keeps w.in_ok-push_absent.ensures.depth;
-            so_far = rw keeps (follow_on (in_later i.frame.room room i.so_far) (absent_goes _ _ _ _ _ _ _ _ _ _ _ next (e.limit ∙ i.frame.limit) e.ok e.made there.made there_is has));
+            so_far = rw keeps (follow_on (in_later i.frame.room room i.so_far) (absent_goes _ _ _ _ _ _ _ _ _ _ _ next (e.limit ∙ i.frame.limit) e.ok e.made there.made there_is moves));
           })
     ]
 
@@ -483,7 +486,7 @@ map_elements-returns-then-end-place-clause-is g t c =
     let m = rw i.lent.nodes at c.in-Ok.ensures.is in
     let h = rw i.frame.len at m.follows in
     let h = in_world (g.S.Space.view c.args.space.now) (g.S.Space.view c.loop-order.space) i.frame.bytes i.frame.room c.in-Ok.ensures.frame.left.room h in
-    let h = element_done (makes_row (type_of c.args.self.now.nodes.now c.args.element)) c.requires.apart h in
+    let h = element_done (row_width (type_of c.args.self.now.nodes.now c.args.element)) c.requires.apart h in
     rw c.from.ensures (follow_on (in_later i.frame.room c.in-Ok.ensures.frame.left.room i.so_far.2) (elements_no_bits _ _ _ _ _ _ _ (max 1 (least_width (type_of c.args.self.now.nodes.now c.args.element))) _ i.so_far.1 i.inside due (e.limit ∙ i.frame.limit) e.ok e.made _ (m.ends ∙ c.if-end-place.true) h))
 
 pub map_elements-loop-order-preserved : goal.map_elements-loop-order-preserved
@@ -499,7 +502,7 @@ map_elements-loop-order-preserved g t c =
     let ends = m.ends in
     let far : c.loop-order.place + max 1 (least_width (type_of c.args.self.now.nodes.now c.args.element)) ≤ c.in-Ok.end = omega (arith, wide, ends, c.in-Ok.ensures.ends.0, c.if-end-place.false) in
     let fit = followed_fits _ _ _ _ _ h in
-    let h = element_done (makes_row (type_of c.args.self.now.nodes.now c.args.element)) c.requires.apart h in
+    let h = element_done (row_width (type_of c.args.self.now.nodes.now c.args.element)) c.requires.apart h in
     let next = elements_goes (element_plan (type_of c.args.self.now.nodes.now c.args.element) (plan (8 * (g.S.Space.view c.args.space.now).len) (type_of c.args.self.now.nodes.now c.args.element) c.args.order)) (8 * (g.S.Space.view c.args.space.now).len) c.args.start c.args.extent c.loop-order.count (levels c.args.self.now.nodes.now c.loop-order.self.store.now) c.loop-order.place (max 1 (least_width (type_of c.args.self.now.nodes.now c.args.element))) _ i.so_far.1 i.inside due (e.limit ∙ i.frame.limit) e.ok e.made m.value c.in-Ok.end (c.loop-order.count + 1) refl ends c.if-end-place.false far h in
     record {
       lent = search rules;
@@ -524,7 +527,7 @@ map_elements-returns-then-ends-clause-is g t c =
     let h = rw (i.lent.nodes, i.frame.len) at c.in-Err.ensures.is in
     let h = in_world (g.S.Space.view c.args.space.now) (g.S.Space.view c.loop-order.space) i.frame.bytes i.frame.room c.in-Err.ensures.frame.left.room h in
     let ends = sym c.ends.ensures ∙ c.if-ends.true in
-    let h = element_stopped (makes_row (type_of c.args.self.now.nodes.now c.args.element)) c.requires.apart _ h in
+    let h = element_stopped (row_width (type_of c.args.self.now.nodes.now c.args.element)) c.requires.apart _ h in
     let stays = rw i.lent.nodes at c.in-Err.ensures.level in
     rw stays.same (follow_on (in_later i.frame.room c.in-Err.ensures.frame.left.room i.so_far.2) (elements_over _ _ _ _ _ _ _ (max 1 (least_width (type_of c.args.self.now.nodes.now c.args.element))) _ i.so_far.1 i.inside due (e.limit ∙ i.frame.limit) e.ok e.made _ ends h))
 
@@ -543,7 +546,7 @@ map_elements-returns-in-Err-clause-is g t c =
     let h = rw (i.lent.nodes, i.frame.len) at c.in-Err.ensures.is in
     let h = in_world (g.S.Space.view c.args.space.now) (g.S.Space.view c.loop-order.space) i.frame.bytes i.frame.room c.in-Err.ensures.frame.left.room h in
     let ends = sym c.ends.ensures ∙ c.if-ends.false in
-    let h = element_stopped (makes_row (type_of c.args.self.now.nodes.now c.args.element)) c.requires.apart _ h in
+    let h = element_stopped (row_width (type_of c.args.self.now.nodes.now c.args.element)) c.requires.apart _ h in
     follow_on (in_later i.frame.room c.in-Err.ensures.frame.left.room i.so_far.2) (elements_stop _ _ _ _ _ _ _ (max 1 (least_width (type_of c.args.self.now.nodes.now c.args.element))) _ i.so_far.1 i.inside due (e.limit ∙ i.frame.limit) e.ok e.made _ ends h)
 
 pub map_elements-returns-then-is_met-clause-is : goal.map_elements-returns-then-is_met-clause-is
@@ -617,6 +620,7 @@ map_alternatives-loop-index-preserved g t c =
     let h = rw (i.lent.nodes, i.frame.len, i.same, c.ordered-prefixed.ensures, c.from-origin.ensures) at c.in-Err.ensures.is in
     let h = in_world (g.S.Space.view c.args.space.now) (g.S.Space.view c.loop-index.space) i.frame.bytes i.frame.room c.in-Err.ensures.frame.left.room h in
     let h = in_later (room_then i.frame.room c.in-Err.ensures.frame.left.room) c.clear_level.ensures.room h in
+    let clears = moves_to (room_then i.frame.room c.in-Err.ensures.frame.left.room) (same_room c.clear_level.new.self) c.clear_level.ensures.within c.clear_level.ensures.moves in
     let cleared = c.clear_level.ensures.levels c.args.self.now.nodes.now in
     let stays = rw i.lent.nodes at c.in-Err.ensures.level in
     record {
@@ -624,7 +628,7 @@ map_alternatives-loop-index-preserved g t c =
       frame = search rules;
       same = cleared ∙ ap (λ o. [] ∷ o) (stays.outer ∙ ap outer_of i.same) ∙ sym c.requires.fresh;
       depth = search rules;
-      so_far = follow_on (in_later i.frame.room (room_then c.in-Err.ensures.frame.left.room c.clear_level.ensures.room) i.so_far) (alternatives_miss _ _ _ _ _ _ _ _ _ next (e.limit ∙ i.frame.limit) e.ok e.made _ (sym c.misses.ensures ∙ c.if-not-misses.false) h);
+      so_far = follow_on (in_later i.frame.room (room_then c.in-Err.ensures.frame.left.room c.clear_level.ensures.room) i.so_far) (alternatives_miss _ _ _ _ _ _ _ _ _ next (e.limit ∙ i.frame.limit) e.ok e.made clears _ (sym c.misses.ensures ∙ c.if-not-misses.false) h);
     }
 
 pub map_alternatives-returns-clause-is : goal.map_alternatives-returns-clause-is

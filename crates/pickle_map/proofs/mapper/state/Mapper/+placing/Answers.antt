@@ -13,7 +13,7 @@ use Rattle.pickle_map.proofs.Left.{left_open, left_keeps, left_adds}
 use Rattle.pickle_map.proofs.Clauses.{checks_ok, checks_stop}
 use Rattle.pickle_map.proofs.Placing.{digits_end, digits_no_tick, digits_stop, digits_goes}
 use Rattle.pickle_map.proofs.Walks.{follow_done, follow_here, follow_on, follow_tick, follow_stop, closes_no_room, closes_made, first_no_tick}
-use Rattle.pickle_map.proofs.Worlds.{room_then, in_call, in_later, holds_these, lacks_these}
+use Rattle.pickle_map.proofs.Worlds.{same_room, in_call, in_later, moves_to, lacks_these}
 use Rattle.pickle_map.proofs.mapper.state.Mapper.+placing.Goals as goal
 
 pub integral_body-returns-in_err-place_fields-clause-is : goal.integral_body-returns-in_err-place_fields-clause-is
@@ -27,7 +27,7 @@ integral_body-returns-in_err-close_struct-clause-is g t c =
     let named = c.requires.names ∙ sym (parts_named (type_of c.args.self.now.nodes.now) c.args.fields.now) in
     let full = rw (named, c.from.ensures) at (c.in_err-close_struct.ensures.full c.args.self.now.nodes.now) in
     let keeps = c.in_ok-place_fields.ensures.frame.left.room in
-    rw (p.1, p.2) (λ known. closes_no_room _ _ _ (in_later keeps c.in_err-close_struct.ensures.room (c.in_ok-place_fields.ensures.is known)) (lacks_these keeps full))
+    rw (p.1, p.2) (λ known. closes_no_room _ _ _ (in_later keeps c.in_err-close_struct.ensures.room (c.in_ok-place_fields.ensures.is known)) (lacks_these keeps full c.in_err-close_struct.ensures.lacks))
 
 pub integral_body-returns-in_err-close_struct-clause-level : goal.integral_body-returns-in_err-close_struct-clause-level
 integral_body-returns-in_err-close_struct-clause-level g t c =
@@ -41,8 +41,7 @@ integral_body-returns-clause-is g t c =
     let closed = rw (named, c.from.ensures) at (c.in_ok-close_struct.ensures.ok c.args.self.now.nodes.now) in
     let h = rw c.in_ok-place_fields.ensures.level.outer at closed in
     let room = c.in_ok-close_struct.ensures.room in
-    let has = holds_these c.args.self.now.nodes.now (room_then c.in_ok-place_fields.ensures.frame.left.room room) c.in_ok-close_struct.ensures.within closed in
-    λ known. record { value = _; kept = h; ends = refl; follows = closes_made _ _ _ (in_later c.in_ok-place_fields.ensures.frame.left.room room (c.in_ok-place_fields.ensures.is known)) has n.steps n.made }
+    λ known. record { value = _; kept = h; ends = refl; follows = closes_made _ _ _ (in_later c.in_ok-place_fields.ensures.frame.left.room room (c.in_ok-place_fields.ensures.is known)) (moves_to c.in_ok-place_fields.ensures.frame.left.room (same_room c.close_struct.new.self) c.in_ok-close_struct.ensures.within c.in_ok-close_struct.ensures.moves) n.steps n.made }
 
 pub place_fields-loop-part-init : goal.place_fields-loop-part-init
 place_fields-loop-part-init g t c = record {
@@ -121,7 +120,7 @@ place_integral-returns-clause-is g t c =
     let left = c.leave_level.ensures in
     λ known.
     let h = rw (o.levels c.args.self.now.nodes.now) at (c.integral_body-placed.ensures.is known) in
-    left_keeps c.args.self.now.nodes.now o.room c.integral_body-placed.ensures.frame.left.room left.room (λ _ h. h) _ _ left.left h
+    left_keeps c.args.self.now.nodes.now o.room c.integral_body-placed.ensures.frame.left.room left.room _ o.moves o.within (λ _ h. h) _ _ left.left h
 
 pub place_integral-returns-clause-level : goal.place_integral-returns-clause-level
 place_integral-returns-clause-level g t c =

@@ -1,4 +1,4 @@
-use Rattle.std.proofs.Common.{rules, ◌≡◌, ◌+◌, ◌*◌, ◌≤◌, max, [], ◌∷◌, ◌++◌, length, refl, sym, ap, ◌∙◌, arith}
+use Rattle.std.proofs.Common.{rules, ◌≡◌, ◌+◌, ◌*◌, ◌≤◌, max, [], ◌∷◌, ◌++◌, length, refl, sym, ap, subst, ◌∙◌, arith}
 use Rattle.std.proofs.lemmas.List.{length_push}
 use Rattle.std.proofs.lemmas.Result.{err_from_is_err_and}
 use Rattle.pickle_types.specs.Bounds.{least_width, count_of}
@@ -7,11 +7,12 @@ use Rattle.pickle_map.specs.declared.mapper.stop.Stop.TheVariants.{Memory}
 use Rattle.pickle_map.specs.Framed.{world_of}
 use Rattle.mapping_plans.specs.Mapping.{plan, element_plan}
 use Rattle.pickle_map.specs.Row.{row_levels}
+use Rattle.value_store.specs.Exceeding.{Exceeds}
 use Rattle.value_store.specs.Slots.{levels, element_width, element_value}
 use Rattle.pickle_meaning.specs.Values.{outer_of}
 use Rattle.value_store.proofs.PackedRows.{packing-outer, packing-empty}
 use Rattle.pickle_map.proofs.Keeping.{regrown_stays}
-use Rattle.pickle_map.proofs.Worlds.{same_room, in_world, in_later, lacks_these}
+use Rattle.pickle_map.proofs.Worlds.{same_room, in_world, in_later, moves_to, lacks_these}
 use Rattle.pickle_map.proofs.Mapping.{few_enough, elements_end, elements_beyond, elements_no_tick, elements_goes, elements_over, elements_stop}
 use Rattle.pickle_map.proofs.Row.{some_bits, least_is, element_end, element_stops, element_no_room, element_goes, row_more, first_is}
 use Rattle.pickle_map.proofs.Walks.{follow_here, follow_on}
@@ -59,8 +60,9 @@ returns-in_err-push_packed-in-Ok-clause-is g c =
     let may = rw c.element_width-width.ensures at r.ok in
     let outer = outer_of (levels c.args.self.now.nodes.now c.args.self.now.store.now) in
     let more = row_more c.args.shape i.so_far.0 c.in-Ok.digits c.args.start c.loop-meter.place outer i.so_far.3 in
-    let full = rw more at (c.in_err-push_packed-in-Ok.ensures.full c.args.self.now.nodes.now i.so_far.0 outer i.so_far.5) in
-    let lacks = lacks_these (same_room c.loop-meter.store) full in
+    let full = subst (Exceeds c.loop-meter.store.room) more (c.in_err-push_packed-in-Ok.ensures.full c.args.self.now.nodes.now i.so_far.0 outer i.so_far.5) in
+    let cannot = rw c.element_width-width.ensures at c.in_err-push_packed-in-Ok.ensures.lacks in
+    let lacks = lacks_these (same_room c.loop-meter.store) full cannot in
     let h = element_no_room {world = world_of (g.S.Space.view c.loop-meter.space) c.loop-meter.store c.push_packed.new.self} c.args.shape (8 * (g.S.Space.view c.args.space.now).len) (type_of c.args.self.now.nodes.now c.args.element) c.args.order (row_levels c.args.shape i.so_far.0 c.args.start (outer_of (levels c.args.self.now.nodes.now c.args.self.now.store.now))) c.loop-meter.place c.requires.shape.is i.inside c.in-Ok.digits r.limit r.steps r.made fits may lacks in
     let h = in_world (g.S.Space.view c.args.space.now) (g.S.Space.view c.loop-meter.space) i.frame.bytes i.frame.room c.in_err-push_packed-in-Ok.ensures.room h in
     rw (p.1, p.2) (follow_on (in_later i.frame.room c.in_err-push_packed-in-Ok.ensures.room i.so_far.6) (elements_stop _ _ _ _ _ _ _ (max 1 (least_width (type_of c.args.self.now.nodes.now c.args.element))) _ i.so_far.2 i.inside due (e.limit ∙ i.frame.limit) e.ok e.made Memory refl h))
@@ -81,8 +83,9 @@ loop-meter-preserved g c =
     let short = g.met.S.Space.short c.args.space.now in
     let place : c.loop-meter.place + element_width c.args.shape ≡ c.args.start + element_width c.args.shape * (length i.so_far.0 + 1) = omega (arith, i.so_far.3) in
     let levels = row_more c.args.shape i.so_far.0 c.in-Ok.digits c.args.start c.loop-meter.place outer i.so_far.3 in
-    let has = rw (levels, k.room.room) at (k.within c.args.self.now.nodes.now i.so_far.0 outer i.so_far.5 (omega (arith, place, fits, short))) in
-    let h = element_goes {world = world_of (g.S.Space.view c.loop-meter.space) c.loop-meter.store c.push_packed.new.self} c.args.shape (8 * (g.S.Space.view c.args.space.now).len) (type_of c.args.self.now.nodes.now c.args.element) c.args.order (row_levels c.args.shape i.so_far.0 c.args.start outer) c.loop-meter.place c.requires.shape.is i.inside c.in-Ok.digits r.limit r.steps r.made fits may has n.steps n.made in
+    let moves = rw width at k.moves in
+    let moves = moves_to (same_room c.loop-meter.store) (same_room c.push_packed.new.self) k.within moves in
+    let h = element_goes {world = world_of (g.S.Space.view c.loop-meter.space) c.loop-meter.store c.push_packed.new.self} c.args.shape (8 * (g.S.Space.view c.args.space.now).len) (type_of c.args.self.now.nodes.now c.args.element) c.args.order (row_levels c.args.shape i.so_far.0 c.args.start outer) c.loop-meter.place c.requires.shape.is i.inside c.in-Ok.digits r.limit r.steps r.made fits may moves n.steps n.made in
     let h = in_world (g.S.Space.view c.args.space.now) (g.S.Space.view c.loop-meter.space) i.frame.bytes i.frame.room k.room h in
     let some = some_bits c.args.shape c.requires.shape.packed in
     let least = least_is c.args.shape (type_of c.args.self.now.nodes.now c.args.element) c.requires.shape.is in

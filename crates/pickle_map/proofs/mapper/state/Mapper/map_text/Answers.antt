@@ -25,7 +25,7 @@ returns-clause-is g c =
     let o = c.open_text.ensures in
     let left = c.leave_level.ensures in
     let h = rw (o.levels c.args.self.now.nodes.now) at c.text_body-mapped.ensures.is in
-    left_keeps c.args.self.now.nodes.now o.room c.text_body-mapped.ensures.frame.left.room left.room (λ _ h. follow_tick e.limit e.ok e.made h) (λ end. end) _ left.left h
+    left_keeps c.args.self.now.nodes.now o.room c.text_body-mapped.ensures.frame.left.room left.room _ o.moves o.within (λ _ h. follow_tick e.limit e.ok e.made h) (λ end. end) _ left.left h
 
 pub returns-clause-level : goal.returns-clause-level
 returns-clause-level g c =

@@ -4,14 +4,14 @@ use Rattle.pickle_meaning.specs.Means.{integer_value}
 use Rattle.mapping_plans.specs.Mapping.{number_plan}
 use Rattle.value_store.proofs.Held.{regrown-levels, regrown-depth}
 use Rattle.pickle_map.proofs.Walks.{follow_made, follow_done, follow_no_room}
-use Rattle.pickle_map.proofs.Worlds.{same_room, holds_these, lacks_these}
+use Rattle.pickle_map.proofs.Worlds.{same_room, moves_to, lacks_these}
 use Rattle.pickle_map.proofs.mapper.state.Mapper.place_integer.Goals as goal
 
 pub returns-in_err-push_integer-clause-is : goal.returns-in_err-push_integer-clause-is
 unfolding number_plan
 returns-in_err-push_integer-clause-is g c =
     let p = err_from_is_err_and c.from_residual.result c.from_residual.ensures.1 in
-    rw (p.1, p.2) (λ known. follow_no_room (lacks_these (same_room c.args.self.now.store.now) (c.in_err-push_integer.ensures.full c.args.self.now.nodes.now)))
+    rw (p.1, p.2) (λ known. follow_no_room (lacks_these (same_room c.args.self.now.store.now) (c.in_err-push_integer.ensures.full c.args.self.now.nodes.now) c.in_err-push_integer.ensures.lacks))
 
 pub returns-in_err-push_integer-clause-level : goal.returns-in_err-push_integer-clause-level
 returns-in_err-push_integer-clause-level g c =
@@ -27,5 +27,5 @@ returns-clause-is g c =
       value = integer_value c.args.number c.args.digits c.args.start;
       kept = c.in_ok-push_integer.ensures.ok c.args.self.now.nodes.now;
       ends = refl;
-      follows = follow_made (holds_these c.args.self.now.nodes.now c.in_ok-push_integer.ensures.room c.in_ok-push_integer.ensures.within (c.in_ok-push_integer.ensures.ok c.args.self.now.nodes.now)) n.limit n.steps n.made follow_done;
+      follows = follow_made (moves_to (same_room c.args.self.now.store.now) (same_room c.push_integer.new.self) c.in_ok-push_integer.ensures.within c.in_ok-push_integer.ensures.moves) n.limit n.steps n.made follow_done;
     }

@@ -4,14 +4,14 @@ use Rattle.pickle_meaning.specs.Means.{offset_value}
 use Rattle.mapping_plans.specs.Mapping.{number_plan}
 use Rattle.value_store.proofs.Held.{regrown-levels, regrown-depth}
 use Rattle.pickle_map.proofs.Walks.{follow_made, follow_done, follow_no_room}
-use Rattle.pickle_map.proofs.Worlds.{same_room, holds_these, lacks_these}
+use Rattle.pickle_map.proofs.Worlds.{same_room, moves_to, lacks_these}
 use Rattle.pickle_map.proofs.mapper.state.Mapper.place_offset.Goals as goal
 
 pub returns-in_err-push_offset-clause-is : goal.returns-in_err-push_offset-clause-is
 unfolding number_plan
 returns-in_err-push_offset-clause-is g c =
     let p = err_from_is_err_and c.from_residual.result c.from_residual.ensures.1 in
-    rw (p.1, p.2) (λ known. follow_no_room (lacks_these (same_room c.args.self.now.store.now) (c.in_err-push_offset.ensures.full c.args.self.now.nodes.now)))
+    rw (p.1, p.2) (λ known. follow_no_room (lacks_these (same_room c.args.self.now.store.now) (c.in_err-push_offset.ensures.full c.args.self.now.nodes.now) c.in_err-push_offset.ensures.lacks))
 
 pub returns-in_err-push_offset-clause-level : goal.returns-in_err-push_offset-clause-level
 returns-in_err-push_offset-clause-level g c =
@@ -27,5 +27,5 @@ returns-clause-is g c =
       value = offset_value c.args.number c.args.unit c.args.digits c.args.start;
       kept = c.in_ok-push_offset.ensures.ok c.args.self.now.nodes.now;
       ends = refl;
-      follows = follow_made (holds_these c.args.self.now.nodes.now c.in_ok-push_offset.ensures.room c.in_ok-push_offset.ensures.within (c.in_ok-push_offset.ensures.ok c.args.self.now.nodes.now)) n.limit n.steps n.made follow_done;
+      follows = follow_made (moves_to (same_room c.args.self.now.store.now) (same_room c.push_offset.new.self) c.in_ok-push_offset.ensures.within c.in_ok-push_offset.ensures.moves) n.limit n.steps n.made follow_done;
     }

@@ -6,7 +6,7 @@ use Rattle.value_store.proofs.Writing.{writing-outer}
 use Rattle.pickle_map.proofs.Keeping.{regrown_stays}
 use Rattle.mapping_plans.proofs.Fitting.{longer}
 use Rattle.pickle_map.proofs.Walks.{follow_here, follow_on}
-use Rattle.pickle_map.proofs.Worlds.{room_then, in_later, holds_these, lacks_these}
+use Rattle.pickle_map.proofs.Worlds.{same_room, in_later, moves_to, lacks_these}
 use Rattle.pickle_map.proofs.Placing.{refusal_stops}
 use Rattle.pickle_map.proofs.Texts.{text_stops, text_not_closed, text_closed, text_no_room, text_goes, may_same}
 use Rattle.pickle_map.proofs.mapper.state.Mapper.text_body.Goals as goal
@@ -40,7 +40,7 @@ returns-in_err-close_text-in-Ok-clause-is g c =
     let full = c.in_err-close_text-in-Ok.ensures.full c.args.self.now.nodes.now i.so_far.0 (outer_of (levels c.args.self.now.nodes.now c.args.self.now.store.now)) i.so_far.4 in
     let end : c.args.start + 8 * (length i.so_far.0 + 1) ≡ c.loop-byte.place + 8 = omega (arith, i.so_far.3) in
     let full = rw end at full in
-    rw (p.1, p.2) (follow_on (in_later i.frame.room c.in_err-close_text-in-Ok.ensures.room i.so_far.5) (text_not_closed _ _ _ _ _ _ i.so_far.2 i.inside _ (r.limit ∙ i.frame.limit) r.steps r.made fits may c.if-byte-eq0.true (lacks_these i.frame.room full)))
+    rw (p.1, p.2) (follow_on (in_later i.frame.room c.in_err-close_text-in-Ok.ensures.room i.so_far.5) (text_not_closed _ _ _ _ _ _ i.so_far.2 i.inside _ (r.limit ∙ i.frame.limit) r.steps r.made fits may c.if-byte-eq0.true (lacks_these i.frame.room full c.in_err-close_text-in-Ok.ensures.lacks)))
 
 pub returns-in_err-close_text-in-Ok-clause-level : goal.returns-in_err-close_text-in-Ok-clause-level
 returns-in_err-close_text-in-Ok-clause-level g c =
@@ -58,12 +58,12 @@ returns-then-byte-eq0-clause-is g c =
     let end : c.args.start + 8 * (length i.so_far.0 + 1) ≡ c.loop-byte.place + 8 = omega (arith, i.so_far.3) in
     let keeps = rw end at keeps in
     let room = c.in_ok-close_text-in-Ok.ensures.room in
-    let has = holds_these c.args.self.now.nodes.now (room_then i.frame.room room) c.in_ok-close_text-in-Ok.ensures.within keeps in
+    let moves = moves_to i.frame.room (same_room c.close_text.new.self) c.in_ok-close_text-in-Ok.ensures.within c.in_ok-close_text-in-Ok.ensures.moves in
     record {
       value = text_value i.so_far.0 c.args.start (c.loop-byte.place + 8);
       kept = keeps;
       ends = refl;
-      follows = follow_on (in_later i.frame.room room i.so_far.5) (text_closed _ _ _ _ _ _ i.so_far.2 i.inside _ (r.limit ∙ i.frame.limit) r.steps r.made fits may has c.if-byte-eq0.true n.steps n.made);
+      follows = follow_on (in_later i.frame.room room i.so_far.5) (text_closed _ _ _ _ _ _ i.so_far.2 i.inside _ (r.limit ∙ i.frame.limit) r.steps r.made fits may moves c.if-byte-eq0.true n.steps n.made);
     }
 
 pub returns-in_err-push_byte-in-Ok-clause-is : goal.returns-in_err-push_byte-in-Ok-clause-is
@@ -74,7 +74,7 @@ returns-in_err-push_byte-in-Ok-clause-is g c =
     let fits = rw i.frame.len at r.inside in
     let may = may_same _ _ _ _ i.frame.bytes r.ok in
     let full = c.in_err-push_byte-in-Ok.ensures.full c.args.self.now.nodes.now i.so_far.0 (outer_of (levels c.args.self.now.nodes.now c.args.self.now.store.now)) i.so_far.4 in
-    rw (p.1, p.2) (follow_on (in_later i.frame.room c.in_err-push_byte-in-Ok.ensures.room i.so_far.5) (text_no_room _ _ _ _ _ _ i.so_far.2 i.inside _ (r.limit ∙ i.frame.limit) r.steps r.made fits may c.if-byte-eq0.false (lacks_these i.frame.room full)))
+    rw (p.1, p.2) (follow_on (in_later i.frame.room c.in_err-push_byte-in-Ok.ensures.room i.so_far.5) (text_no_room _ _ _ _ _ _ i.so_far.2 i.inside _ (r.limit ∙ i.frame.limit) r.steps r.made fits may c.if-byte-eq0.false (lacks_these i.frame.room full c.in_err-push_byte-in-Ok.ensures.lacks)))
 
 pub returns-in_err-push_byte-in-Ok-clause-level : goal.returns-in_err-push_byte-in-Ok-clause-level
 returns-in_err-push_byte-in-Ok-clause-level g c =
@@ -94,8 +94,8 @@ loop-byte-preserved g c =
     let outer = outer_of (levels c.args.self.now.nodes.now c.args.self.now.store.now) in
     let writes = c.in_ok-push_byte-in-Ok.ensures.writes c.args.self.now.nodes.now i.so_far.0 outer i.so_far.4 (omega (arith, i.so_far.3, fits, short)) in
     let shows = c.in_ok-push_byte-in-Ok.ensures.levels c.args.self.now.nodes.now i.so_far.0 outer i.so_far.4 (omega (arith, i.so_far.3, fits, short)) in
-    let has = holds_these c.args.self.now.nodes.now (room_then i.frame.room room) c.in_ok-push_byte-in-Ok.ensures.within shows in
-    let next = text_goes _ _ _ _ _ _ i.so_far.2 i.inside _ (r.limit ∙ i.frame.limit) r.steps r.made fits may c.if-byte-eq0.false has n.steps n.made in
+    let moves = moves_to i.frame.room (same_room c.push_byte.new.self) c.in_ok-push_byte-in-Ok.ensures.within c.in_ok-push_byte-in-Ok.ensures.moves in
+    let next = text_goes _ _ _ _ _ _ i.so_far.2 i.inside _ (r.limit ∙ i.frame.limit) r.steps r.made fits may c.if-byte-eq0.false moves n.steps n.made in
     record {
       frame = search rules;
       after = search rules;
