@@ -26,6 +26,7 @@ use poke_batch::mode::Mode;
 use poke_batch::outcome::Outcome;
 use poke_batch::status::Status;
 use poke_batch::terms::Terms;
+use poke_batch::type_run::TypeRun;
 use poke_batch::write::{WriteFault, put};
 use std::alloc::Global;
 use std::io::Write;
@@ -231,12 +232,20 @@ fn run_line<S: Space, A: Aside, O: Write>(
 {
     let FileRun { typed, name, ask } = run;
     let Typed {
+        alloc,
         table,
         id,
         terms,
         ..
     } = typed;
-    let status = run_file(table, id, &ask, terms, faults, kept, name, space, out)?;
+    let mapped = TypeRun {
+        alloc,
+        table,
+        id,
+        ask: &ask,
+        terms,
+    };
+    let status = run_file(&mapped, faults, kept, name, space, out)?;
     let lines = reasons_of(run, kept.outcome(), space);
     tell_reasons(typed, name, &lines, aside, out)?;
     Ok(status)
@@ -257,8 +266,21 @@ fn run_object<S: Space, O: Write>(
     ensures ok { IfOk result (AppendsOver (S.view space.old) (every_of run.entry.typed) run.entry.name.now
         (O.contents out.old) (O.contents out.new)) }
 {
-    let typed = run.typed;
-    map_file(typed.table, typed.id, &run.ask, typed.terms, kept, space);
+    let Typed {
+        alloc,
+        table,
+        id,
+        terms,
+        ..
+    } = run.typed;
+    let mapped = TypeRun {
+        alloc,
+        table,
+        id,
+        ask: &run.ask,
+        terms,
+    };
+    map_file(&mapped, kept, space);
     let lines = reasons_of(run, kept.outcome(), space);
     kept.put_object(out, run.name, &lines)
 }

@@ -40,20 +40,6 @@ has_answer bytes type order start limit most used answer k j same none means = r
   means = subst (λ left. Answer (bits_of bytes) type order start left answer k j) (omega (arith, same, none)) means;
 }
 
--- a fault that a type means, reported for a meter that took no step before
-stopped : (pickle : List ℕ) (ask : Ask) (before after : SpaceView) (type : PokeType) (at most used taken k j : ℕ) (kind : MapFaultKind)
-    → most ≡ ask.limit → used ≡ 0 → IsAsked pickle ask.name.now type
-    → ((bytes : List ℕ) → before.bytes ≡ Some bytes → Answer (bits_of bytes) type ask.order ask.start (most - used) (Err (kind, at)) k j)
-    → RunsToFault before type ask.order ask.start ask.limit kind at
-    → (kind ≡ fault.Limit → (taken ≡ most) × (most < used + cost type (8 * before.len))) → (EndsRun kind → at ≡ ask.start)
-    → kind ≢ fault.Device → kind ≢ fault.Memory
-    → MapsAs pickle ask before after (Line Fault (fault_at_line (fault_kind kind) at))
-stopped pickle ask before after type at most used taken k j kind same none a means run over place not_device not_memory =
-    stops a not_device not_memory
-    (λ bytes known. has_answer bytes type ask.order ask.start ask.limit most used (Err (kind, at)) k j same none (means bytes known))
-    run
-    (λ e. (place (subst EndsRun (sym e) tt), omega (arith, (over e).1, same, none)))
-
 -- the run of a mapping whose meter took no step and made no value before
 pub run_to_fault : (space : SpaceView) (type : PokeType) (order : Order) (start limit : ℕ) (meter meter' : Meter) (store store' : Held) (kind : MapFaultKind) (at : ℕ)
     → meter.limit ≡ limit → meter.steps ≡ 0 → meter.made ≡ 0
@@ -68,34 +54,33 @@ run_to_fault space type order start limit meter meter' store store' kind at same
   follows = rw (same, none, nothing) at run.follows;
 }
 
--- what a mapping says of its fault
-pub fault_says : (pickle : List ℕ) (ask : Ask) (before after : SpaceView) (type : PokeType) (at most used taken k j : ℕ) (kind : MapFaultKind)
-    → most ≡ ask.limit → used ≡ 0 → IsAsked pickle ask.name.now type
-    → ((bytes : List ℕ) → before.bytes ≡ Some bytes → FaultMeans (bits_of bytes) type ask.order ask.start (most - used) kind at k j)
-    → RunsToFault before type ask.order ask.start ask.limit kind at
-    → (kind ≡ fault.Limit → (taken ≡ most) × (most < used + cost type (8 * before.len))) → (EndsRun kind → at ≡ ask.start)
-    → (kind ≡ fault.Device → HasRisen before.failures after.failures)
-    → MapsAs pickle ask before after (fault_saying kind at)
-fault_says pickle ask before after type at most used taken k j fault.End same none a means run over place risen =
-    stopped pickle ask before after type at most used taken k j fault.End same none a means run over place (λ e. cc) (λ e. cc)
-fault_says pickle ask before after type at most used taken k j fault.Constraint same none a means run over place risen =
-    stopped pickle ask before after type at most used taken k j fault.Constraint same none a means run over place (λ e. cc) (λ e. cc)
-fault_says pickle ask before after type at most used taken k j fault.Bounds same none a means run over place risen =
-    stopped pickle ask before after type at most used taken k j fault.Bounds same none a means run over place (λ e. cc) (λ e. cc)
-fault_says pickle ask before after type at most used taken k j fault.NoBits same none a means run over place risen =
-    stopped pickle ask before after type at most used taken k j fault.NoBits same none a means run over place (λ e. cc) (λ e. cc)
-fault_says pickle ask before after type at most used taken k j fault.Zero same none a means run over place risen =
-    stopped pickle ask before after type at most used taken k j fault.Zero same none a means run over place (λ e. cc) (λ e. cc)
-fault_says pickle ask before after type at most used taken k j fault.Overflow same none a means run over place risen =
-    stopped pickle ask before after type at most used taken k j fault.Overflow same none a means run over place (λ e. cc) (λ e. cc)
-fault_says pickle ask before after type at most used taken k j fault.Absent same none a means run over place risen =
-    stopped pickle ask before after type at most used taken k j fault.Absent same none a means run over place (λ e. cc) (λ e. cc)
-fault_says pickle ask before after type at most used taken k j fault.Index same none a means run over place risen =
-    stopped pickle ask before after type at most used taken k j fault.Index same none a means run over place (λ e. cc) (λ e. cc)
-fault_says pickle ask before after type at most used taken k j fault.Limit same none a means run over place risen =
-    stopped pickle ask before after type at most used taken k j fault.Limit same none a means run over place (λ e. cc) (λ e. cc)
-fault_says pickle ask before after type at most used taken k j fault.Device same none a means run over place risen = device a (risen refl)
-fault_says pickle ask before after type at most used taken k j fault.Memory same none a means run over place risen = no_memory
+-- what a mapping says of its fault, with a meter that took no step before
+module _ (pickle : List ℕ) (ask : Ask) (before after : SpaceView) (type : PokeType) (at most used taken k j : ℕ) (same : most ≡ ask.limit) (none : used ≡ 0) (named : IsAsked pickle ask.name.now type) where
+  stopped : (kind : MapFaultKind) → ((bytes : List ℕ) → before.bytes ≡ Some bytes → Answer (bits_of bytes) type ask.order ask.start (most - used) (Err (kind, at)) k j)
+      → RunsToFault before type ask.order ask.start ask.limit kind at → (kind ≡ fault.Limit → (taken ≡ most) × (most < used + cost type (8 * before.len))) → (EndsRun kind → at ≡ ask.start)
+      → kind ≢ fault.Device → kind ≢ fault.Memory
+      → MapsAs pickle ask before after (Line Fault (fault_at_line (fault_kind kind) at))
+  stopped kind means run over place not_device not_memory =
+      stops named not_device not_memory
+      (λ bytes known. has_answer bytes type ask.order ask.start ask.limit most used (Err (kind, at)) k j same none (means bytes known))
+      run
+      (λ e. (place (subst EndsRun (sym e) tt), omega (arith, (over e).1, same, none)))
+
+  pub fault_says : (kind : MapFaultKind) → ((bytes : List ℕ) → before.bytes ≡ Some bytes → FaultMeans (bits_of bytes) type ask.order ask.start (most - used) kind at k j)
+      → RunsToFault before type ask.order ask.start ask.limit kind at → (kind ≡ fault.Limit → (taken ≡ most) × (most < used + cost type (8 * before.len))) → (EndsRun kind → at ≡ ask.start)
+      → (kind ≡ fault.Device → HasRisen before.failures after.failures)
+      → MapsAs pickle ask before after (fault_saying kind at)
+  fault_says fault.End means run over place risen = stopped fault.End means run over place (λ e. cc) (λ e. cc)
+  fault_says fault.Constraint means run over place risen = stopped fault.Constraint means run over place (λ e. cc) (λ e. cc)
+  fault_says fault.Bounds means run over place risen = stopped fault.Bounds means run over place (λ e. cc) (λ e. cc)
+  fault_says fault.NoBits means run over place risen = stopped fault.NoBits means run over place (λ e. cc) (λ e. cc)
+  fault_says fault.Zero means run over place risen = stopped fault.Zero means run over place (λ e. cc) (λ e. cc)
+  fault_says fault.Overflow means run over place risen = stopped fault.Overflow means run over place (λ e. cc) (λ e. cc)
+  fault_says fault.Absent means run over place risen = stopped fault.Absent means run over place (λ e. cc) (λ e. cc)
+  fault_says fault.Index means run over place risen = stopped fault.Index means run over place (λ e. cc) (λ e. cc)
+  fault_says fault.Limit means run over place risen = stopped fault.Limit means run over place (λ e. cc) (λ e. cc)
+  fault_says fault.Device means run over place risen = device named (risen refl)
+  fault_says fault.Memory means run over place risen = no_memory
 
 -- the value that a store gives, as the value that is shown at its root
 pub root_given : {nodes : List Node} {store : Held} {P : Value → Type 0} (g : Gives nodes store P) → value_at (levels nodes store) 0 0 ≡ Some g.value

@@ -1,12 +1,12 @@
 -- Laws of what a mapping says under terms.
-use Rattle.std.proofs.Common.{◌≡◌, ◌≢◌, ◌∙◌, ◌+◌, ◌*◌, ◌<◌, ◌≤◌, max, length, ℕ, Bool, true, false, List, Option, Some, None, refl, sym, ap, subst, inl, inr, arith}
+use Rattle.std.proofs.Common.{◌≡◌, ◌≢◌, ◌⊎◌, ◌∙◌, ◌+◌, ◌*◌, ◌<◌, ◌≤◌, max, length, ℕ, Bool, true, false, List, Option, Some, None, refl, sym, ap, subst, inl, inr, arith}
 use Rattle.std.specs.Prelude.{if◌then◌else◌, codes}
 use Rattle.std.proofs.lemmas.Bool.{le-leb, lt-leb}
 use Rattle.pickle_types.specs.Types.{PokeType, IntegerOf, OffsetOf, StringOf, ArrayOf, StructOf, IntegralOf, UnionOf, Fields, NoFields, FieldThen, Parts, NoParts, PartThen}
 use Rattle.pickle_meaning.specs.Fits.{ElementsFit, no_more_fit, one_more_fits, Fits, FitsNumber, FieldsFit, AlternativeFits}
 use Rattle.pickle_meaning.specs.Means.{Taken}
-use Rattle.value_store.specs.Slots.{Held, packs, emptied, fixed, each_of}
 use Rattle.value_store.specs.Moves.{IsWithin, no_state}
+use Rattle.value_store.specs.Slots.{Held, KeepsRoom, packs, emptied, fixed, each_of}
 use Rattle.value_store.specs.declared.store.room.Growth.TheVariants.{Never}
 use Rattle.bit_space.specs.Bits.{bits_of}
 use Rattle.mapping_plans.specs.Kept.{KeepsBy}
@@ -20,7 +20,10 @@ use Rattle.bit_space.specs.SpaceView.{SpaceView}
 use Rattle.pickle_meaning.specs.declared.faults.MapFaultKind.{MapFaultKind}
 use Rattle.pickle_meaning.specs.declared.faults.MapFaultKind.TheVariants as fault
 use Rattle.run_parts.specs.declared.accept.Refusal.{Refusal}
-use Rattle.run_parts.specs.declared.accept.Refusal.TheVariants as refusal
+use Rattle.run_parts.specs.declared.outcome.Outcome.{Outcome}
+use Rattle.run_parts.specs.declared.outcome.Outcome.TheVariants as outcome
+use Rattle.run_parts.specs.Outcomes.{outcome_saying}
+use Rattle.run_parts.proofs.Sayings.{outcome_lines}
 use Rattle.command_words.specs.declared.ask.Ask.{Ask}
 use Rattle.run_parts.specs.declared.status.Status.{Status}
 use Rattle.run_parts.specs.declared.status.Status.TheVariants.{Fault}
@@ -148,30 +151,25 @@ without_terms pickle ask before after saying (mapped_under {mapped = mapped} tab
 without_terms pickle ask before after saying (ended_under ends) = ends
 without_terms pickle ask before after saying (slots_under asked e less few) = absurd cc
 
--- a fault of a mapping is reported as without terms
+-- an outcome without a value is reported as without terms
+reported_under : {pickle : List ℕ} {ask : Ask} {terms : Terms} {before after : SpaceView} (ended : Outcome)
+    → MapsAs pickle ask before after (outcome_saying ended) → MapsUnder pickle ask terms before after (outcome_saying ended)
+reported_under {pickle} {ask} {terms} {before} {after} ended right =
+    let line = outcome_lines ended in
+    subst (MapsUnder pickle ask terms before after) (sym line) (ended_under (subst (MapsAs pickle ask before after) line right))
+
 pub fault_under : (pickle : List ℕ) (ask : Ask) (terms : Terms) (before after : SpaceView) (kind : MapFaultKind) (at : ℕ)
     → MapsAs pickle ask before after (fault_saying kind at) → MapsUnder pickle ask terms before after (fault_saying kind at)
-fault_under pickle ask terms before after fault.End at right = ended_under right
-fault_under pickle ask terms before after fault.Constraint at right = ended_under right
-fault_under pickle ask terms before after fault.Bounds at right = ended_under right
-fault_under pickle ask terms before after fault.NoBits at right = ended_under right
-fault_under pickle ask terms before after fault.Zero at right = ended_under right
-fault_under pickle ask terms before after fault.Overflow at right = ended_under right
-fault_under pickle ask terms before after fault.Absent at right = ended_under right
-fault_under pickle ask terms before after fault.Index at right = ended_under right
-fault_under pickle ask terms before after fault.Limit at right = ended_under right
-fault_under pickle ask terms before after fault.Device at right = ended_under right
-fault_under pickle ask terms before after fault.Memory at right = ended_under right
+fault_under pickle ask terms before after kind at right = reported_under (outcome.Fault (record { kind = kind; at = at })) right
 
--- a refusal is reported as without terms
 pub refused_under : {pickle : List ℕ} {ask : Ask} {terms : Terms} {before after : SpaceView} (why : Refusal)
     → Refuses pickle why → MapsUnder pickle ask terms before after (refusal_saying why)
-refused_under (refusal.Tokens kind at) refuses = ended_under (refused_map refuses)
-refused_under (refusal.Syntax at) refuses = ended_under (refused_map refuses)
-refused_under refusal.TooDeep refuses = ended_under (refused_map refuses)
-refused_under refusal.TooMany refuses = ended_under (refused_map refuses)
-refused_under (refusal.Types kind declaration) refuses = ended_under (refused_map refuses)
-refused_under refusal.Memory refuses = ended_under (refused_map refuses)
+refused_under why refuses = reported_under (outcome.Refused why) (refused_map refuses)
+
+-- what a store was made with stays
+pub store_stays : (most : Option ℕ) (old cleared new : Held) → IsStoreOf most old → cleared ≡ emptied old → KeepsRoom cleared new → IsStoreOf most new
+store_stays None old cleared new is same keeps = let room = keeps.room ∙ ap (λ (h : Held). h.room) same in ap (λ (r : Room). r.growth) room ∙ is
+store_stays (Some m) old cleared new is same keeps = keeps.room ∙ ap (λ (h : Held). h.room) same ∙ is
 
 -- a store of the most slots has exactly these
 pub least_of : (most : Option ℕ) (old cleared : Held) {bound : ℕ} → IsStoreOf most old → cleared ≡ emptied old → cleared.room.least < bound → (n : ℕ) → most ≡ Some n → n < bound
@@ -197,37 +195,33 @@ few_of (Some m) old cleared type ask before left is same exact full wants n e =
           (subst (λ steps. KeepsBy (λ state. IsWithin state (each_of n)) false (bits_of bytes) planned steps no_state) (sym full) kept)));
     }
 
+-- in a store of the most slots a fault is reported as in one that grows, but for an allocation failure
+fixed_or_memory : (start : ℕ) (kind : MapFaultKind) (at : ℕ) → (kind ≡ fault.Memory) ⊎ (fault_saying kind at ≡ fixed_saying start kind at)
+fixed_or_memory start fault.End at = inr refl
+fixed_or_memory start fault.Constraint at = inr refl
+fixed_or_memory start fault.Bounds at = inr refl
+fixed_or_memory start fault.NoBits at = inr refl
+fixed_or_memory start fault.Zero at = inr refl
+fixed_or_memory start fault.Overflow at = inr refl
+fixed_or_memory start fault.Absent at = inr refl
+fixed_or_memory start fault.Index at = inr refl
+fixed_or_memory start fault.Limit at = inr refl
+fixed_or_memory start fault.Device at = inr refl
+fixed_or_memory start fault.Memory at = inl refl
+
+pub fixed_as_fault : (start : ℕ) (kind : MapFaultKind) (at : ℕ) → kind ≢ fault.Memory → fault_saying kind at ≡ fixed_saying start kind at
+fixed_as_fault start kind at other = elim (fixed_or_memory start kind at) [ inl memory ↦ absurd (other memory) | inr same ↦ same ]
+
 end_by : (pickle : List ℕ) (ask : Ask) (terms : Terms) (before after : SpaceView) {type : PokeType} (most : Option ℕ) (kind : MapFaultKind) (at : ℕ)
     → terms.most_slots ≡ most → IsAsked pickle ask.name.now type
     → (kind ≡ fault.Memory → (n : ℕ) → most ≡ Some n → n < room type (8 * before.len))
     → (kind ≡ fault.Memory → (n : ℕ) → most ≡ Some n → AreTooFew n type ask before)
     → MapsUnder pickle ask terms before after (fault_saying kind at) → MapsUnder pickle ask terms before after (end_saying most ask.start kind at)
 end_by pickle ask terms before after None kind at e asked less few right = right
-end_by pickle ask terms before after (Some n) fault.End at e asked less few right = right
-end_by pickle ask terms before after (Some n) fault.Constraint at e asked less few right = right
-end_by pickle ask terms before after (Some n) fault.Bounds at e asked less few right = right
-end_by pickle ask terms before after (Some n) fault.NoBits at e asked less few right = right
-end_by pickle ask terms before after (Some n) fault.Zero at e asked less few right = right
-end_by pickle ask terms before after (Some n) fault.Overflow at e asked less few right = right
-end_by pickle ask terms before after (Some n) fault.Absent at e asked less few right = right
-end_by pickle ask terms before after (Some n) fault.Index at e asked less few right = right
-end_by pickle ask terms before after (Some n) fault.Limit at e asked less few right = right
-end_by pickle ask terms before after (Some n) fault.Device at e asked less few right = right
-end_by pickle ask terms before after (Some n) fault.Memory at e asked less few right = slots_under asked e (less refl n refl) (few refl n refl)
-
--- a fault in a store of the most slots, other than an allocation failure
-pub fixed_as_fault : (start : ℕ) (kind : MapFaultKind) (at : ℕ) → kind ≢ fault.Memory → fault_saying kind at ≡ fixed_saying start kind at
-fixed_as_fault start fault.End at other = refl
-fixed_as_fault start fault.Constraint at other = refl
-fixed_as_fault start fault.Bounds at other = refl
-fixed_as_fault start fault.NoBits at other = refl
-fixed_as_fault start fault.Zero at other = refl
-fixed_as_fault start fault.Overflow at other = refl
-fixed_as_fault start fault.Absent at other = refl
-fixed_as_fault start fault.Index at other = refl
-fixed_as_fault start fault.Limit at other = refl
-fixed_as_fault start fault.Device at other = refl
-fixed_as_fault start fault.Memory at other = absurd (other refl)
+end_by pickle ask terms before after (Some n) kind at e asked less few right = elim (fixed_or_memory ask.start kind at) [
+  | inl memory ↦ subst (λ k. MapsUnder pickle ask terms before after (fixed_saying ask.start k at)) (sym memory) (slots_under asked e (less memory n refl) (few memory n refl))
+  | inr same ↦ subst (MapsUnder pickle ask terms before after) same right
+]
 
 -- in a store of the most slots an allocation failure is the fault `Slots`
 pub end_under : (pickle : List ℕ) (ask : Ask) (terms : Terms) (before after : SpaceView) {type : PokeType} (kind : MapFaultKind) (at : ℕ)

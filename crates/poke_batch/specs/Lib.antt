@@ -12,6 +12,7 @@ pub mod ObjectLaws
 pub use Rattle.run_parts.specs.TypesText
 pub mod Runs
 pub mod RunsUnder
+pub mod TypeRuns
 pub use Rattle.run_parts.specs.Accepted
 pub mod RunLaws
 pub use Rattle.text_forms.specs.HexDigits

@@ -1,26 +1,23 @@
 //! A type of a pickle, mapped over one file after another, with a line or a JSON object for each.
 
-ghost use Rattle.std.specs.Prelude.{◌≡◌, ℕ, List, [], IfOk, OnOk, OnErr};
+ghost use Rattle.std.specs.Prelude.{◌≡◌, IfOk, OnOk, OnErr};
 ghost use Rattle.std.specs.Io.KnownBytes.{Appends};
 ghost use Rattle.bit_space.specs.SpaceView.{Keeps};
-ghost use Rattle.pickle_types.specs.TypeTable.{type_named, IsInTable};
 ghost use Rattle.poke_batch.specs.FileLine.{TellsFile, TellsKept, in_memory};
 ghost use Rattle.poke_batch.specs.FileObject.{HoldsRun, kept_object};
 ghost use Rattle.run_parts.specs.Outcomes.{outcome_status};
-ghost use Rattle.poke_batch.specs.Runs.{IsAsked};
-ghost use Rattle.poke_batch.specs.RunsUnder.{MapsUnder, IsStoreOf};
+ghost use Rattle.poke_batch.specs.RunsUnder.{IsStoreOf};
+ghost use Rattle.poke_batch.specs.TypeRuns.{ForPickles};
 ghost use Rattle.text_forms.specs.Written.{AppendsPart};
 ghost use Rattle.run_parts.specs.declared.status.Status.{Status};
 
 use crate::file_line::put_file_line;
 use crate::file_object::put_file_object;
 use crate::run::{map_stored, store_of};
+use crate::type_run::TypeRun;
 use bit_space::{Memory, Space};
-use command_words::ask::Ask;
 use command_words::fault_form::FaultForm;
-use command_words::terms::Terms;
 use pickle_map::Store;
-use pickle_types::table::{Table, TypeId};
 use run_parts::outcome::{Failure, Outcome};
 use run_parts::status::Status;
 use std::alloc::Global;
@@ -30,7 +27,6 @@ use text_forms::write::WriteFault;
 /// What is stored from file to file: the values, and what a run wrote. The next file uses the same memory.
 #[derive(Drop)]
 pub struct Kept {
-    alloc: Global,
     store: Store,
     text: Vec<u8>,
     outcome: Outcome,
@@ -43,7 +39,6 @@ impl Kept {
         ensures { IfOk result (λ kept. IsStoreOf most_slots kept.store) }
     {
         Ok(Kept {
-            alloc,
             store: store_of(alloc, most_slots)?,
             text: Vec::new(alloc),
             outcome: Outcome::Done,
@@ -57,8 +52,8 @@ impl Kept {
         self.outcome
     }
 
-    /// Writes the JSON object of the last run, on a line, and returns its exit status. The run was in JSON. Each line of
-    /// `reasons` is a string in it.
+    /// Writes the JSON object of the last run, on a line, and returns its exit status. The run was in JSON. Each line
+    /// of `reasons` is a string in it.
     pub fn put_object<W: Write>(
         &self,
         w: &mut W,
@@ -66,70 +61,52 @@ impl Kept {
         reasons: &[u8],
     ) -> Result<Status, WriteFault>
         ensures status { IfOk result (λ status. status ≡ outcome_status self.now.outcome) }
-        ensures ok { OnOk result (Appends (W.contents w.old) (W.contents w.new) (kept_object self.now name.now reasons.now)) }
-        ensures err { OnErr result (AppendsPart (W.contents w.old) (W.contents w.new) (kept_object self.now name.now reasons.now)) }
+        ensures ok { OnOk result (Appends (W.contents w.old) (W.contents w.new)
+            (kept_object self.now name.now reasons.now)) }
+        ensures err { OnErr result (AppendsPart (W.contents w.old) (W.contents w.new)
+            (kept_object self.now name.now reasons.now)) }
     {
         put_file_object(w, name, self.outcome, &self.text, reasons)?;
         Ok(self.outcome.status())
     }
 }
 
-/// Maps a type of a table over a file, and stores how the run ended, and what
+/// Maps the type of a run over a file, and stores how the run ended, and what
 /// [`run_map_under`](crate::run::run_map_under) writes to standard output for it.
-pub fn map_file<S: Space>(
-    table: &Table,
-    id: TypeId,
-    ask: &Ask<'_>,
-    terms: &Terms,
-    kept: &mut Kept,
-    space: &mut S,
-)
-    requires known { IsInTable table.now id }
-    requires store { IsStoreOf terms.now.most_slots kept.old.store }
-    ensures store { IsStoreOf terms.now.most_slots kept.new.store }
-    ensures holds { (pickle : List ℕ) → IsAsked pickle ask.now.name.now (type_named table.now id)
-        → HoldsRun (MapsUnder pickle ask.now terms.now (S.view space.old) (S.view space.new)) kept.new }
+pub fn map_file<S: Space>(run: &TypeRun<'_>, kept: &mut Kept, space: &mut S)
+    requires store { IsStoreOf run.now.terms.now.most_slots kept.old.store }
+    ensures store { IsStoreOf run.now.terms.now.most_slots kept.new.store }
+    ensures holds { ForPickles run.now (S.view space.old) (S.view space.new) (λ IsRight. HoldsRun IsRight kept.new) }
     ensures keeps { Keeps (S.view space.old) (S.view space.new) }
 {
     kept.text.clear();
-    let ended = map_stored(
-        kept.alloc,
-        table,
-        id,
-        ask,
-        terms,
-        &mut kept.store,
-        space,
-        &mut kept.text,
-    );
+    let ended = map_stored(run, &mut kept.store, space, &mut kept.text);
     kept.outcome = in_memory(ended);
 }
 
-/// Maps a type of a table over a file, and writes the file's line: its name, the exit status of its run, and what
-/// [`run_map_under`](crate::run::run_map_under) writes for it, with a refusal or fault in a form. Returns that status.
+/// Maps the type of a run over a file, and writes the file's line: its name, the exit status of its run, and what
+/// [`run_map_under`](crate::run::run_map_under) writes for it, with a refusal or fault in a form. Returns that status, or
+/// `WriteFault` if the writer fails.
 pub fn run_file<S: Space, W: Write>(
-    table: &Table,
-    id: TypeId,
-    ask: &Ask<'_>,
-    terms: &Terms,
+    run: &TypeRun<'_>,
     faults: FaultForm,
     kept: &mut Kept,
     name: &[u8],
     space: &mut S,
     w: &mut W,
 ) -> Result<Status, WriteFault>
-    requires known { IsInTable table.now id }
-    requires store { IsStoreOf terms.now.most_slots kept.old.store }
-    ensures store { IsStoreOf terms.now.most_slots kept.new.store }
-    ensures ok { (pickle : List ℕ) → IsAsked pickle ask.now.name.now (type_named table.now id)
-        → IfOk result (λ status. TellsFile faults (MapsUnder pickle ask.now terms.now (S.view space.old) (S.view space.new)) Appends name.now status (W.contents w.old) (W.contents w.new)) }
-    ensures err { (pickle : List ℕ) → IsAsked pickle ask.now.name.now (type_named table.now id)
-        → OnErr result ((status : Status) × TellsFile faults (MapsUnder pickle ask.now terms.now (S.view space.old) (S.view space.new)) AppendsPart name.now status (W.contents w.old) (W.contents w.new)) }
+    requires store { IsStoreOf run.now.terms.now.most_slots kept.old.store }
+    ensures store { IsStoreOf run.now.terms.now.most_slots kept.new.store }
+    ensures ok { ForPickles run.now (S.view space.old) (S.view space.new) (λ IsRight. IfOk result (λ status.
+        TellsFile faults IsRight Appends name.now status (W.contents w.old) (W.contents w.new))) }
+    ensures err { ForPickles run.now (S.view space.old) (S.view space.new) (λ IsRight. OnErr result ((status : Status)
+        × TellsFile faults IsRight AppendsPart name.now status (W.contents w.old) (W.contents w.new))) }
     // What is written is what is stored.
-    ensures kept { IfOk result (λ status. TellsKept faults kept.new name.now status (W.contents w.old) (W.contents w.new)) }
+    ensures kept { IfOk result (λ status.
+        TellsKept faults kept.new name.now status (W.contents w.old) (W.contents w.new)) }
     ensures keeps { Keeps (S.view space.old) (S.view space.new) }
 {
-    map_file(table, id, ask, terms, kept, space);
+    map_file(run, kept, space);
     put_file_line(w, name, kept.outcome, faults, &kept.text)?;
     Ok(kept.outcome.status())
 }

@@ -18,6 +18,7 @@ pub mod run_laws;
 pub mod selected;
 mod tell_value;
 pub mod type_paths;
+pub mod type_run;
 
 pub use command_words::ask::Ask;
 pub use command_words::offset_word::offset_word;

@@ -1,23 +1,23 @@
 //! The runs: from a pickle's bytes to a text or a line.
 
-ghost use Rattle.std.specs.Prelude.{◌≡◌, ℕ, ◌*◌, ◌≤◌, List, Some, IsSome, OnOk, OnErr, IfOk, Option};
+ghost use Rattle.std.specs.Prelude.{◌≡◌, ◌*◌, ◌≤◌, Some, IsSome, OnOk, OnErr, IfOk, Option};
 ghost use Rattle.std.specs.Io.KnownBytes.{Appends};
 ghost use Rattle.bit_space.specs.SpaceView.{Keeps};
-ghost use Rattle.pickle_types.specs.TypeTable.{nodes_of, type_named, IsInTable};
+ghost use Rattle.pickle_types.specs.TypeTable.{nodes_of};
 ghost use Rattle.pickle_meaning.specs.Values.{Value, value_at, start_of, end_of};
 ghost use Rattle.run_parts.specs.Outcomes.{EndsAs, outcome_saying};
 ghost use Rattle.run_parts.specs.Told.{Says};
-ghost use Rattle.poke_batch.specs.Runs.{ChecksAs, BoundsAs, IsAsked, MapsAs, types_text};
-ghost use Rattle.poke_batch.specs.RunsUnder.{MapsUnder, IsStoreOf, end_saying, fixed_saying, SaysIt, value_saying};
+ghost use Rattle.poke_batch.specs.Runs.{ChecksAs, BoundsAs, MapsAs, types_text};
+ghost use Rattle.poke_batch.specs.RunsUnder.{MapsUnder, IsStoreOf, end_saying, fixed_saying, SaysIt};
+ghost use Rattle.poke_batch.specs.TypeRuns.{EndsRun, run_saying};
 ghost use Rattle.text_forms.specs.Written.{AppendsPart};
 ghost use Rattle.value_store.specs.Slots.{levels};
 
-use crate::tell_value::tell_value;
+use crate::type_run::TypeRun;
 use bit_space::{Memory, Meter, Space};
 use command_words::ask::Ask;
 use command_words::terms::Terms;
 use pickle_map::{MapFault, MapFaultKind, Store, map};
-use pickle_types::table::{Table, TypeId};
 use run_parts::accept::accept;
 use run_parts::bound::{put_bounds, put_line};
 use run_parts::outcome::{Failure, Outcome};
@@ -163,30 +163,48 @@ pub fn map_outcome<S: Space, O: Write>(
         Err(refusal) => return Outcome::Refused(refusal),
     };
     match table.find(ask.name) {
-        Some(id) => map_new(alloc, &table, id, ask, terms, space, out),
+        Some(id) => {
+            let run = TypeRun {
+                alloc,
+                table: &table,
+                id,
+                ask,
+                terms,
+            };
+            run.map_new(space, out)
+        }
         None => Outcome::NoSuchType,
     }
 }
 
-// Maps a type of a table into a new store.
-fn map_new<S: Space, O: Write>(
-    alloc: Global,
-    table: &Table,
-    id: TypeId,
-    ask: &Ask<'_>,
-    terms: &Terms,
-    space: &mut S,
-    out: &mut O,
-) -> Outcome
-    requires known { IsInTable table.now id }
-    ensures ends { (pickle : List ℕ) → IsAsked pickle ask.now.name.now (type_named table.now id)
-        → EndsAs (MapsUnder pickle ask.now terms.now (S.view space.old) (S.view space.new)) result
-        (O.contents out.old) (O.contents out.new) }
-    ensures keeps { Keeps (S.view space.old) (S.view space.new) }
-{
-    match store_of(alloc, terms.most_slots) {
-        Ok(mut store) => map_stored(alloc, table, id, ask, terms, &mut store, space, out),
-        Err(Memory) => Outcome::Failed(Failure::Memory),
+impl TypeRun<'_> {
+    /// Maps into a new store.
+    fn map_new<S: Space, O: Write>(&self, space: &mut S, out: &mut O) -> Outcome
+        ensures ends { EndsRun self.now (S.view space.old) (S.view space.new) result
+            (O.contents out.old) (O.contents out.new) }
+        ensures keeps { Keeps (S.view space.old) (S.view space.new) }
+    {
+        match store_of(self.alloc, self.terms.most_slots) {
+            Ok(mut store) => map_stored(self, &mut store, space, out),
+            Err(Memory) => Outcome::Failed(Failure::Memory),
+        }
+    }
+
+    /// Writes the value that a store holds, mapped from a file of so many bytes.
+    fn tell_root<O: Write>(&self, store: &Store, bytes: u64, out: &mut O) -> Outcome
+        requires held { IsSome (value_at (levels (nodes_of self.now.table.now) store.now) 0 0) }
+        requires forward { (value : Value) → value_at (levels (nodes_of self.now.table.now) store.now) 0 0 ≡ Some value
+            → start_of value ≤ end_of value }
+        ensures { (value : Value) → value_at (levels (nodes_of self.now.table.now) store.now) 0 0 ≡ Some value
+            → EndsAs (SaysIt (run_saying self.now (8 * bytes) value)) result (O.contents out.old) (O.contents out.new) }
+    {
+        match store.root(self.table) {
+            Some(value) => {
+                let bits = 8 * u128::from(bytes);
+                self.tell_value(value, bits, out)
+            }
+            None => unreachable!(),
+        }
     }
 }
 
@@ -201,31 +219,32 @@ pub fn store_of(alloc: Global, most: Option<u64>) -> Result<Store, Memory>
     }
 }
 
-/// Maps a type of a table into a store, which is emptied first. Writes the printed value to `out`, if the mapping has
+/// Maps the type of a run into a store, which is emptied first. Writes the printed value to `out`, if the mapping has
 /// no fault.
 pub fn map_stored<S: Space, O: Write>(
-    alloc: Global,
-    table: &Table,
-    id: TypeId,
-    ask: &Ask<'_>,
-    terms: &Terms,
+    run: &TypeRun<'_>,
     store: &mut Store,
     space: &mut S,
     out: &mut O,
 ) -> Outcome
-    requires known { IsInTable table.now id }
-    requires store { IsStoreOf terms.now.most_slots store.old }
-    ensures store { IsStoreOf terms.now.most_slots store.new }
-    ensures ends { (pickle : List ℕ) → IsAsked pickle ask.now.name.now (type_named table.now id)
-        → EndsAs (MapsUnder pickle ask.now terms.now (S.view space.old) (S.view space.new)) result
+    requires store { IsStoreOf run.now.terms.now.most_slots store.old }
+    ensures store { IsStoreOf run.now.terms.now.most_slots store.new }
+    ensures ends { EndsRun run.now (S.view space.old) (S.view space.new) result
         (O.contents out.old) (O.contents out.new) }
     ensures keeps { Keeps (S.view space.old) (S.view space.new) }
 {
+    let TypeRun {
+        table,
+        id,
+        ask,
+        terms,
+        ..
+    } = *run;
     store.clear();
     let bytes = space.len();
     let mut meter = Meter::new(ask.limit);
     match map(table, id, ask.order, ask.start, space, &mut meter, store) {
-        Ok(()) => tell_root(alloc, store, table, id, ask, terms, bytes, out),
+        Ok(()) => run.tell_root(store, bytes, out),
         Err(fault) => end_outcome(fault, terms.most_slots, ask.start),
     }
 }
@@ -248,32 +267,5 @@ fn fixed_outcome(fault: MapFault, start: u64) -> Outcome
     match fault.kind {
         MapFaultKind::Memory => Outcome::Slots(start),
         _ => Outcome::Fault(fault),
-    }
-}
-
-// Writes the value that a store holds, mapped from a file of so many bytes.
-fn tell_root<O: Write>(
-    alloc: Global,
-    store: &Store,
-    table: &Table,
-    id: TypeId,
-    ask: &Ask<'_>,
-    terms: &Terms,
-    bytes: u64,
-    out: &mut O,
-) -> Outcome
-    requires held { IsSome (value_at (levels (nodes_of table.now) store.now) 0 0) }
-    requires forward { (value : Value) → value_at (levels (nodes_of table.now) store.now) 0 0 ≡ Some value
-        → start_of value ≤ end_of value }
-    ensures { (value : Value) → value_at (levels (nodes_of table.now) store.now) 0 0 ≡ Some value
-        → EndsAs (SaysIt (value_saying table.now id ask.now terms.now (8 * bytes) value)) result
-        (O.contents out.old) (O.contents out.new) }
-{
-    match store.root(table) {
-        Some(value) => {
-            let bits = 8 * u128::from(bytes);
-            tell_value(alloc, table, id, value, ask, terms, bits, out)
-        }
-        None => unreachable!(),
     }
 }

@@ -4,10 +4,11 @@ use Rattle.pickle_meaning.specs.Values.{end_of}
 use Rattle.run_parts.specs.declared.outcome.Outcome.TheVariants.{Left}
 use Rattle.run_parts.proofs.Sayings.{line_ends}
 use Rattle.poke_batch.proofs.UnderTerms.{left_saying}
-use Rattle.poke_batch.proofs.tell_value.tell_value.Goals as goal
+use Rattle.poke_batch.proofs.type_run.TypeRun.tell_value.Goals as goal
 
 pub returns-then-is_left : goal.returns-then-is_left
 returns-then-is_left g c =
+    let run = c.args.self.now in
     let start = c.start.ensures in
     let size = c.size.ensures in
     let from = c.from.ensures in
@@ -16,4 +17,4 @@ returns-then-is_left g c =
     let end = c.from.result + c.from-2.result in
     let same : end ≡ end_of (value_shown c.args.value) = omega (arith, start, size, from, over, forward) in
     line_ends _ (Left end) _
-    (left_saying c.args.table.now c.args.id c.args.ask.now c.args.terms.now c.args.bits (value_shown c.args.value) end same (sym c.is_left.ensures ∙ c.if-is_left.true))
+    (left_saying run.table.now run.id run.ask.now run.terms.now c.args.bits (value_shown c.args.value) end same (sym c.is_left.ensures ∙ c.if-is_left.true))
